@@ -1,0 +1,4 @@
+pub mod Record
+pub mod Maps
+pub mod Faults
+pub mod Keys

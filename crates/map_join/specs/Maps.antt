@@ -1,0 +1,50 @@
+-- Maps from blocks to keys, their order and join, and the map of a list of records.
+use Rattle.std.specs.Prelude.{◌≡◌, ◌↔◌, ℕ, ◌<◌, ◌≤◌, max, ◌==◌, if◌then◌else◌, List, map, Option, Some, unwrap_or, Contains}
+use Rattle.std.specs.Map.{lookup}
+use Rattle.std.specs.Ordering.{nat_cmp, is_eq}
+use Rattle.std.specs.List.Sorted.{IsStrictlyIncreasing}
+use Rattle.map_join.specs.declared.records.Record.{Record}
+use Rattle.map_join.specs.Record.{key_of, record_at}
+
+-- what a block map shows: its blocks in order, each with its key
+abbrev pub Entries : Type 0
+Entries = List (ℕ × ℕ)
+
+-- the key that a map has of a block, if any
+abbrev pub find : Entries → ℕ → Option ℕ
+find m block = lookup (λ b. is_eq (nat_cmp block b)) m
+
+-- a block map as a function: the block's key, or 0
+abbrev pub at : Entries → ℕ → ℕ
+at m block = unwrap_or (find m block) 0
+
+-- two maps give each block the same key
+abbrev pub IsSame : (ℕ → ℕ) → (ℕ → ℕ) → Type 0
+IsSame M N = (block : ℕ) → M block ≡ N block
+
+-- a map is below another where no block has a greater key
+abbrev pub IsBelow : (ℕ → ℕ) → (ℕ → ℕ) → Type 0
+IsBelow M N = (block : ℕ) → M block ≤ N block
+
+-- the join gives each block the greater of its two keys
+abbrev pub join : (ℕ → ℕ) → (ℕ → ℕ) → ℕ → ℕ
+join M N block = max (M block) (N block)
+
+-- the map that holds one record
+abbrev pub only : Record → ℕ → ℕ
+only r block = if block == r.block then key_of r else 0
+
+-- a map is that of a list of records where each key is told by a record of the list, and no record of the list has a
+-- greater one; neither order nor repeats are spoken of
+pub record IsMapOf (records : List Record) (M : ℕ → ℕ) : Type 0 where
+  pub told : (block : ℕ) → 0 < M block → (r : Record) × (Contains records r) × (r.block ≡ block) × (key_of r ≡ M block)
+  pub most : (r : Record) → Contains records r → key_of r ≤ M r.block
+
+-- two lists have the same records, in any order and with any repeats
+abbrev pub HasSameRecords : List Record → List Record → Type 0
+HasSameRecords xs ys = (r : Record) → Contains xs r ↔ Contains ys r
+
+-- the records of a map, one for each block that has one, in the blocks' order
+pub record IsListOf (M : ℕ → ℕ) (records : List Record) : Type 0 where
+  pub rising : IsStrictlyIncreasing (map (λ r. r.block) records)
+  pub each : (r : Record) → Contains records r ↔ (record_at r.block (M r.block) ≡ Some r)
