@@ -1,0 +1,643 @@
+-- A commit of what is seen of an array is the flat machine's case.
+use Rattle.std.proofs.Common.{◌≡◌, ◌≢◌, ℕ, ◌+◌, ◌*◌, ◌/◌, ◌%◌, ◌^◌, ◌<◌, ◌≤◌, Bool, true, false, not, ◌==◌, ◌&&◌, ◌||◌, cond, is_some, List, [], ◌∷◌, ◌++◌, length, get_or, Contains, refl, sym, ap, ◌∙◌, subst, arith, ◌⊎◌, inl, inr, Option, Some, None, nat_le}
+use Rattle.std.proofs.Math.ListN.{set}
+use Rattle.std.proofs.lemmas.List.{length-set, get_or-set_same, get_or-set_other}
+use Rattle.std.proofs.lemmas.List.Elements.{Contains-push_cases}
+use Rattle.std.proofs.lemmas.Bool.{cases_eq}
+use Rattle.std.proofs.lemmas.Bool.Decides.{nat_tests}
+use Rattle.std.proofs.lemmas.Option.{same_Some}
+use Rattle.map_join.specs.declared.records.Record.{Record}
+use Rattle.map_join.specs.Record.{key_of, record_of, record_at, IsRecord}
+use Rattle.map_join.specs.Maps.{IsMapOf}
+use Rattle.map_join.proofs.Joins.{took}
+use Rattle.step_core.specs.declared.refusal.Refusal.{Refusal}
+use Rattle.step_core.specs.declared.refusal.Refusal.TheVariants.{NoTicket, VersionSpent, LogFull}
+use Rattle.step_core.specs.Flat.{Flat, Write, Holder, Worker, Ticket, Block, Shut, Content, Fresh, Stored, same_holder, put, turned, last_write, IsNewest, class_of}
+use Rattle.step_core.specs.Steps.{FlatAnswer, Committed, Refused}
+use Rattle.step_core.specs.Cases.{CommitCase, CommitWith, committed, place_passed, stamped, next_version, last_version, longest_log}
+use Rattle.step_core.specs.Changes.{commit_view, commit_reason, commit_reason_of, spent_reason, passed, MayRefuse}
+use Rattle.step_core.specs.Views.{Kept, Nothing, Pending, Newest, ArrayView, kept_at, unit_at, key_at, group_at, is_kept, IsRoomy, IsWhole}
+use Rattle.step_core.specs.Represents.{FlatSlot, flat_at, ArraySlot, IsBlank, IsWritten, BlockStands, ShowsArray, is_newest, waiting}
+use Rattle.step_core.proofs.Pairs.{equal, equal_back, put_here, put_else, turned_here, turned_else}
+use Rattle.step_core.proofs.Pairs.{flip}
+use Rattle.step_core.proofs.Slots.{same_slot}
+use Rattle.step_core.proofs.Newest.{newest_told, told_again, told_at, untold_at, key_least}
+use Rattle.step_core.proofs.Writes.{last_here, last_else, next_above, key_set}
+
+-- the record that a commit emits
+abbrev pub emitted : ℕ → ℕ → Option Record → Record
+emitted b s found = record { block = b; version = next_version found; hop = 0; place = s }
+
+-- where a block's old place lies: not at the slot that waits, and kept for the block
+pub record IsOld (a : ArrayView) (s b : ℕ) (found : Option Record) : Type 0 where
+  pub apart : (r : Record) → found ≡ Some r → (r.place ≡ s → ⊥)
+  pub kept : (r : Record) → found ≡ Some r → kept_at a r.place ≡ Newest b
+
+pub some_is : {X : Type 0} (x y : X) → Some x ≡ Some y → x ≡ y
+some_is x y e = same_Some x y e
+
+-- the newest place of a block is kept for it
+pub old_place : (a : ArrayView) (s b : ℕ) → IsWhole a → kept_at a s ≡ Pending → IsOld a s b (record_at b (key_at a b))
+old_place a s b whole waits = record { apart = apart; kept = kept }
+  where
+    sizes : (k : ℕ) → (k < 2 ^ 32) ⊎ (2 ^ 32 ≤ k)
+    sizes k = grind arith
+
+    kept_so : (r : Record) → record_at b (key_at a b) ≡ Some r → (key_at a b < 2 ^ 32) ⊎ (2 ^ 32 ≤ key_at a b) → kept_at a r.place ≡ Newest b
+    kept_so r is (inl small) = let no : None ≡ Some r = sym (untold_at b (key_at a b) small) ∙ is in absurd (cc)
+    kept_so r is (inr big) =
+        let same : record_of b (key_at a b) ≡ r = some_is _ _ (sym (told_at b (key_at a b) big) ∙ is) in
+        ap (λ (q : Record). kept_at a q.place) (sym same) ∙ whole.newest b (omega arith)
+
+    kept : (r : Record) → record_at b (key_at a b) ≡ Some r → kept_at a r.place ≡ Newest b
+    kept r is = kept_so r is (sizes (key_at a b))
+
+    apart : (r : Record) → record_at b (key_at a b) ≡ Some r → r.place ≡ s → ⊥
+    apart r is e = let no : Newest b ≡ Pending = sym (kept r is) ∙ ap (kept_at a) e ∙ waits in cc
+
+-- what is kept after a commit
+pub kept_here : (a : ArrayView) (s b : ℕ) (found : Option Record) (r : Record) → s < length a.kept → kept_at (commit_view a s b found r) s ≡ Newest b
+kept_here a s b None r inside = get_or-set_same a.kept s (Newest b) Nothing inside
+kept_here a s b (Some old) r inside =
+    get_or-set_same (set a.kept old.place Nothing) s (Newest b) Nothing (subst (λ n. s < n) (sym (length-set a.kept old.place Nothing)) inside)
+
+pub kept_old : (a : ArrayView) (s b : ℕ) (old r : Record) → (old.place ≡ s → ⊥) → old.place < length a.kept → kept_at (commit_view a s b (Some old) r) old.place ≡ Nothing
+kept_old a s b old r ne inside =
+    get_or-set_other (set a.kept old.place Nothing) s old.place (Newest b) Nothing ne ∙ get_or-set_same a.kept old.place Nothing Nothing inside
+
+pub kept_else : (a : ArrayView) (s b : ℕ) (found : Option Record) (r : Record) (t : ℕ) → (t ≡ s → ⊥) → ((q : Record) → found ≡ Some q → t ≡ q.place → ⊥)
+    → kept_at (commit_view a s b found r) t ≡ kept_at a t
+kept_else a s b None r t ne other = get_or-set_other a.kept s t (Newest b) Nothing ne
+kept_else a s b (Some old) r t ne other =
+    get_or-set_other (set a.kept old.place Nothing) s t (Newest b) Nothing ne ∙ get_or-set_other a.kept old.place t Nothing Nothing (other old refl)
+
+-- who holds what after a commit
+abbrev pub passed_on : Flat → ℕ → ℕ → ℕ → Option Record → ℕ → Holder → Bool
+passed_on F w s b found = place_passed (turned F.held s (Ticket w) (Block b)) w b found
+
+pub held_here : (F : Flat) (w s b : ℕ) (found : Option Record) → ((q : Record) → found ≡ Some q → q.place ≡ s → ⊥) → (j : Holder)
+    → passed_on F w s b found s j ≡ ((F.held s j && not (same_holder j (Ticket w))) || same_holder j (Block b))
+held_here F w s b None apart j = turned_here F.held s (Ticket w) (Block b) j
+held_here F w s b (Some old) apart j =
+    ap (λ (h : Holder → Bool). h j) (turned_else (turned F.held s (Ticket w) (Block b)) old.place (Block b) (Worker w) s (λ e. apart old refl (sym e)))
+    ∙ turned_here F.held s (Ticket w) (Block b) j
+
+pub held_old : (F : Flat) (w s b : ℕ) (old : Record) → (old.place ≡ s → ⊥) → (j : Holder)
+    → passed_on F w s b (Some old) old.place j ≡ ((F.held old.place j && not (same_holder j (Block b))) || same_holder j (Worker w))
+held_old F w s b old ne j =
+    turned_here (turned F.held s (Ticket w) (Block b)) old.place (Block b) (Worker w) j
+    ∙ ap (λ (h : Holder → Bool). (h j && not (same_holder j (Block b))) || same_holder j (Worker w)) (turned_else F.held s (Ticket w) (Block b) old.place ne)
+
+pub held_else : (F : Flat) (w s b : ℕ) (found : Option Record) (t : ℕ) → (t ≡ s → ⊥) → ((q : Record) → found ≡ Some q → t ≡ q.place → ⊥)
+    → passed_on F w s b found t ≡ F.held t
+held_else F w s b None t ne other = turned_else F.held s (Ticket w) (Block b) t ne
+held_else F w s b (Some old) t ne other =
+    turned_else (turned F.held s (Ticket w) (Block b)) old.place (Block b) (Worker w) t (other old refl) ∙ turned_else F.held s (Ticket w) (Block b) t ne
+
+-- the slot that was committed
+slot_here : (u : Stored) (F G : Flat) (w s b : ℕ) (r : Record) → ArraySlot Pending (Some u) (flat_at F s) → F.held s (Ticket w) ≡ true
+    → ((j : Holder) → G.held s j ≡ ((F.held s j && not (same_holder j (Ticket w))) || same_holder j (Block b)))
+    → G.units s ≡ stamped (F.units s) r → G.tickets s ≡ None → class_of G s ≡ class_of F s
+    → ArraySlot (Newest b) (stamped (Some u) r) (flat_at G s)
+slot_here u F G w s b r is mine held unit ticket class = record {
+  blocks = λ c. held (Block c) ∙ ap (λ v. (v && true) || (c == b)) (is.blocks c) ∙ flip c b;
+  shut = λ g. held (Shut g) ∙ ap (λ v. (v && true) || false) (is.shut g);
+  unit = unit ∙ ap (λ o. stamped o r) is.unit;
+  there = ap is_some class ∙ is.there;
+  ticket = ticket;
+  blank = λ e. absurd (cc);
+  waits = λ e. absurd (cc);
+  tickets = λ none v. held (Ticket v) ∙ gone v (F.held s (Ticket v)) refl;
+  lone = λ v x one other. let no : true ≡ false = sym one ∙ held (Ticket v) ∙ gone v (F.held s (Ticket v)) refl in absurd (cc);
+}
+  where
+    gone : (v : ℕ) (q : Bool) → F.held s (Ticket v) ≡ q → ((q && not (v == w)) || false) ≡ false
+    gone v false e = refl
+    gone v true e = ap (λ z. (true && not z) || false) (equal v w (is.lone v w e mine))
+
+-- the old place of the block
+slot_old : (o : Option Stored) (F G : Flat) (w p b : ℕ) → ArraySlot (Newest b) o (flat_at F p)
+    → ((j : Holder) → G.held p j ≡ ((F.held p j && not (same_holder j (Block b))) || same_holder j (Worker w)))
+    → G.units p ≡ F.units p → G.tickets p ≡ F.tickets p → class_of G p ≡ class_of F p
+    → ArraySlot Nothing o (flat_at G p)
+slot_old o F G w p b is held unit ticket class = record {
+  blocks = λ c. held (Block c) ∙ ap (λ v. (v && not (c == b)) || false) (is.blocks c ∙ flip b c) ∙ gone (c == b);
+  shut = λ g. held (Shut g) ∙ ap (λ v. (v && true) || false) (is.shut g);
+  unit = unit ∙ is.unit;
+  there = ap is_some class ∙ is.there;
+  ticket = ticket ∙ is.ticket;
+  blank = λ e. absurd (cc);
+  waits = λ e. absurd (cc);
+  tickets = λ none v. held (Ticket v) ∙ ap (λ z. (z && true) || false) (is.tickets is.ticket v);
+  lone = λ v x one other.
+      let no : true ≡ false = sym one ∙ held (Ticket v) ∙ ap (λ z. (z && true) || false) (is.tickets is.ticket v) in absurd (cc);
+}
+  where
+    gone : (q : Bool) → ((q && not q) || false) ≡ false
+    gone true = refl
+    gone false = refl
+
+-- a list that grows keeps its length with one place changed
+passed_length : (kept : List Kept) (found : Option Record) → length (passed kept found) ≡ length kept
+passed_length kept None = refl
+passed_length kept (Some old) = length-set kept old.place Nothing
+
+-- all that a commit needs to be the flat machine's
+pub record IsReady (a : ArrayView) (F : Flat) (w s b : ℕ) (u : Stored) : Type 0 where
+  pub whole : IsWhole a
+  pub shows : ShowsArray a F
+  pub slot : s < 65536
+  pub block : b < a.sizes.blocks
+  pub narrow : a.sizes.blocks ≤ 65536
+  pub waits : kept_at a s ≡ Pending
+  pub unit : unit_at a s ≡ Some u
+  pub mine : F.held s (Ticket w) ≡ true
+  pub version : next_version (record_at b (key_at a b)) ≤ last_version
+
+-- the state after the commit
+abbrev pub after : ArrayView → Flat → ℕ → ℕ → ℕ → Stored → Flat
+after a F w s b u =
+    let found = record_at b (key_at a b) in
+    committed F w s b found (F.writes ++ record { block = b; version = next_version found; payload = u.payload } ∷ []) (emitted b s found)
+
+module _ (a : ArrayView) (F : Flat) (w s b : ℕ) (u : Stored) (ready : IsReady a F w s b u) where
+  found : Option Record
+  found = record_at b (key_at a b)
+
+  r : Record
+  r = emitted b s (record_at b (key_at a b))
+
+  ok : IsRecord (emitted b s (record_at b (key_at a b)))
+  ok = let n = ready.narrow in let m = ready.block in let v = ready.version in let i = ready.slot in record {
+    block = omega arith;
+    written = one (record_at b (key_at a b));
+    version = omega arith;
+    hop = omega arith;
+    place = omega arith;
+  }
+    where
+      one : (o : Option Record) → 0 < next_version o
+      one None = omega arith
+      one (Some q) = omega arith
+
+  old : IsOld a s b (record_at b (key_at a b))
+  old = old_place a s b ready.whole ready.waits
+
+  kept_room : s < length a.kept
+  kept_room = let e = ready.shows.room.kept in let i = ready.slot in omega arith
+
+  units_room : s < length a.units
+  units_room = let e = ready.shows.room.units in let i = ready.slot in omega arith
+
+  keys_room : b < length a.keys
+  keys_room = let e = ready.shows.room.keys in let i = ready.block in omega arith
+
+  key_or : (key_at a b ≡ 0) ⊎ (2 ^ 32 ≤ key_at a b)
+  key_or = go (zero_or (key_at a b))
+    where
+      zero_or : (k : ℕ) → (k ≡ 0) ⊎ (0 < k)
+      zero_or k = grind arith
+
+      go : (key_at a b ≡ 0) ⊎ (0 < key_at a b) → (key_at a b ≡ 0) ⊎ (2 ^ 32 ≤ key_at a b)
+      go (inl e) = inl e
+      go (inr h) = inr (ready.whole.keys b h)
+
+  above : key_at a b < key_of (emitted b s (record_at b (key_at a b)))
+  above = next_above (key_at a b) b s key_or
+
+  pub room_after : IsRoomy (commit_view a s b (record_at b (key_at a b)) (emitted b s (record_at b (key_at a b))))
+  room_after = record {
+    kept = length-set (passed a.kept (record_at b (key_at a b))) s (Newest b) ∙ passed_length a.kept (record_at b (key_at a b)) ∙ ready.shows.room.kept;
+    units = length-set a.units s _ ∙ ready.shows.room.units;
+    groups = ready.shows.room.groups;
+    keys = length-set a.keys b _ ∙ ready.shows.room.keys;
+  }
+
+  unit_here : unit_at (commit_view a s b (record_at b (key_at a b)) (emitted b s (record_at b (key_at a b)))) s
+      ≡ stamped (Some u) (emitted b s (record_at b (key_at a b)))
+  unit_here = get_or-set_same a.units s _ None units_room ∙ ap (λ o. stamped o (emitted b s (record_at b (key_at a b)))) ready.unit
+
+  unit_else : (t : ℕ) → (t ≡ s → ⊥) → unit_at (commit_view a s b (record_at b (key_at a b)) (emitted b s (record_at b (key_at a b)))) t ≡ unit_at a t
+  unit_else t ne = get_or-set_other a.units s t _ None ne
+
+  place_room : (q : Record) → record_at b (key_at a b) ≡ Some q → q.place < length a.kept
+  place_room q is = go (inside (key_at a b))
+    where
+      inside : (k : ℕ) → (k < 2 ^ 32) ⊎ (2 ^ 32 ≤ k)
+      inside k = grind arith
+
+      go : (key_at a b < 2 ^ 32) ⊎ (2 ^ 32 ≤ key_at a b) → q.place < length a.kept
+      go (inl small) = let no : None ≡ Some q = sym (untold_at b (key_at a b) small) ∙ is in absurd (cc)
+      go (inr big) =
+          let same : record_of b (key_at a b) ≡ q = some_is _ _ (sym (told_at b (key_at a b) big) ∙ is) in
+          let place : (record_of b (key_at a b)).place ≡ q.place = ap (λ (p : Record). p.place) same in
+          let e = ready.shows.room.kept in
+          omega arith
+
+  pub slots_after : (t : ℕ)
+      → ArraySlot (kept_at (commit_view a s b (record_at b (key_at a b)) (emitted b s (record_at b (key_at a b)))) t)
+      (unit_at (commit_view a s b (record_at b (key_at a b)) (emitted b s (record_at b (key_at a b)))) t) (flat_at (after a F w s b u) t)
+  slots_after t = go (cases_eq t s)
+    where
+      G : Flat
+      G = after a F w s b u
+
+      view : ArrayView
+      view = commit_view a s b (record_at b (key_at a b)) (emitted b s (record_at b (key_at a b)))
+
+      P : ℕ → Type 0
+      P n = ArraySlot (kept_at view n) (unit_at view n) (flat_at G n)
+
+      waiting_slot : ArraySlot Pending (Some u) (flat_at F s)
+      waiting_slot = subst (λ k. ArraySlot k (Some u) (flat_at F s)) ready.waits (subst (λ o. ArraySlot (kept_at a s) o (flat_at F s)) ready.unit (ready.shows.slots s))
+
+      here : P s
+      here = rw (kept_here a s b (record_at b (key_at a b)) (emitted b s (record_at b (key_at a b))) kept_room, unit_here)
+          (slot_here u F G w s b (emitted b s (record_at b (key_at a b))) waiting_slot ready.mine (held_here F w s b (record_at b (key_at a b)) old.apart)
+          (put_here F.units s _) (put_here F.tickets s None) refl)
+
+      same : (t ≡ s → ⊥) → ((q : Record) → record_at b (key_at a b) ≡ Some q → t ≡ q.place → ⊥) → P t
+      same ne other = rw (
+        kept_else a s b (record_at b (key_at a b)) (emitted b s (record_at b (key_at a b))) t ne other,
+        unit_else t ne,
+        same_slot (flat_at F t) (flat_at G t) (held_else F w s b (record_at b (key_at a b)) t ne other) (put_else F.tickets s None t ne) (put_else F.units s _ t ne) refl,
+      )
+          (ready.shows.slots t)
+
+      by_found : (o : Option Record) → record_at b (key_at a b) ≡ o → (t ≡ s → ⊥) → P t
+      by_found None none ne = same ne (λ q is. let no : None ≡ Some q = sym none ∙ is in absurd (cc))
+      by_found (Some q) is ne = at (cases_eq t q.place)
+        where
+          at : (t ≡ q.place) ⊎ (t ≡ q.place → ⊥) → P t
+          at (inl e) = subst P (sym e) (rw (kept_is, unit_else q.place (old.apart q is))
+              (slot_old (unit_at a q.place) F G w q.place b was
+              (λ j. ap (λ o. passed_on F w s b o q.place j) is ∙ held_old F w s b q (old.apart q is) j)
+              (put_else F.units s _ q.place (old.apart q is)) (put_else F.tickets s None q.place (old.apart q is)) refl))
+            where
+              kept_is : kept_at view q.place ≡ Nothing
+              kept_is = ap (λ o. kept_at (commit_view a s b o (emitted b s (record_at b (key_at a b)))) q.place) is
+                  ∙ kept_old a s b q (emitted b s (record_at b (key_at a b))) (old.apart q is) (place_room q is)
+
+              was : ArraySlot (Newest b) (unit_at a q.place) (flat_at F q.place)
+              was = subst (λ k. ArraySlot k (unit_at a q.place) (flat_at F q.place)) (old.kept q is) (ready.shows.slots q.place)
+          at (inr away) = same ne (λ p q_is e. away (e ∙ ap (λ (x : Record). x.place) (some_is p q (sym q_is ∙ is))))
+
+      go : (t ≡ s) ⊎ (t ≡ s → ⊥) → P t
+      go (inl e) = subst P (sym e) here
+      go (inr ne) = by_found (record_at b (key_at a b)) refl ne
+
+  record_again : record_of b (key_of (emitted b s (record_at b (key_at a b)))) ≡ emitted b s (record_at b (key_at a b))
+  record_again = told_again (emitted b s (record_at b (key_at a b))) ok
+
+  pub shows_after : ShowsArray (commit_view a s b (record_at b (key_at a b)) (emitted b s (record_at b (key_at a b)))) (after a F w s b u)
+  shows_after = record {
+    room = room_after;
+    sizes = ready.shows.sizes;
+    drives = ready.shows.drives;
+    log = ap (λ l. l ++ emitted b s (record_at b (key_at a b)) ∷ []) ready.shows.log;
+    records = records;
+    map = took F.emitted (emitted b s (record_at b (key_at a b))) (key_at a) _ (key_set a.keys (emitted b s (record_at b (key_at a b))) keys_room above) ready.shows.map;
+    groups = ready.shows.groups;
+    slots = slots_after;
+    written = λ c. written c (cases_eq c b);
+  }
+    where
+      e_r : Record
+      e_r = emitted b s (record_at b (key_at a b))
+
+      G : Flat
+      G = after a F w s b u
+
+      view : ArrayView
+      view = commit_view a s b (record_at b (key_at a b)) (emitted b s (record_at b (key_at a b)))
+
+      records : (q : Record) → Contains (F.emitted ++ e_r ∷ []) q → IsRecord q
+      records q has = go (Contains-push_cases F.emitted e_r q has)
+        where
+          go : Contains F.emitted q ⊎ (e_r ≡ q) → IsRecord q
+          go (inl there) = ready.shows.records q there
+          go (inr is) = subst IsRecord is ok
+
+      new_write : Write
+      new_write = record { block = b; version = next_version (record_at b (key_at a b)); payload = u.payload }
+
+      key_here : key_at view b ≡ key_of e_r
+      key_here = get_or-set_same a.keys b (key_of e_r) 0 keys_room
+
+      unit_stored : F.units s ≡ Some u
+      unit_stored = (ready.shows.slots s).unit ∙ ready.unit
+
+      here : BlockStands G b (key_at view b)
+      here = subst (BlockStands G b) (sym key_here) (
+        (λ zero. let big = key_least e_r ok in absurd (omega arith)),
+        (λ some. (
+          new_write,
+          last_here F.writes new_write,
+          record {
+            version = ap (λ (q : Record). q.version) (sym record_again);
+            unit = ap (λ (q : Record). G.units q.place) record_again ∙ put_here F.units s _ ∙ ap (λ o. stamped o e_r) unit_stored
+                ∙ ap (λ (q : Record). Some (record { header = Some q; payload = u.payload })) (sym record_again);
+            place = ap (λ (q : Record). G.held q.place (Block b)) record_again ∙ held_here F w s b (record_at b (key_at a b)) old.apart (Block b)
+                ∙ now (F.held s (Block b));
+          },
+        )),
+      )
+        where
+          now : (v : Bool) → ((v && true) || (b == b)) ≡ true
+          now true = refl
+          now false = equal b b refl
+
+      elsewhere : (c : ℕ) → (c ≡ b → ⊥) → BlockStands G c (key_at view c)
+      elsewhere c ne = subst (BlockStands G c) (sym same_key) (
+        (λ zero. last_else F.writes new_write c ne ∙ (ready.shows.written c).0 zero),
+        (λ some. let y = (ready.shows.written c).1 some in (
+          y.0,
+          last_else F.writes new_write c ne ∙ y.1,
+          record {
+            version = y.2.version;
+            unit = put_else F.units s _ (record_of c (key_at a c)).place (away y.2.place) ∙ y.2.unit;
+            place = ap (λ (h : Holder → Bool). h (Block c)) (held_else F w s b (record_at b (key_at a b)) (record_of c (key_at a c)).place (away y.2.place) (off y.2.place))
+                ∙ y.2.place;
+          },
+        )),
+      )
+        where
+          same_key : key_at view c ≡ key_at a c
+          same_key = get_or-set_other a.keys b c (key_of e_r) 0 ne
+
+          away : F.held (record_of c (key_at a c)).place (Block c) ≡ true → (record_of c (key_at a c)).place ≡ s → ⊥
+          away held e =
+              let waits : F.held s (Block c) ≡ false = (ready.shows.slots s).blocks c ∙ ap (λ k. is_newest k c) ready.waits in
+              let no : true ≡ false = sym held ∙ ap (λ n. F.held n (Block c)) e ∙ waits in cc
+
+          off : F.held (record_of c (key_at a c)).place (Block c) ≡ true → (q : Record) → record_at b (key_at a b) ≡ Some q → (record_of c (key_at a c)).place ≡ q.place → ⊥
+          off held q is e =
+              let kept : F.held q.place (Block c) ≡ (b == c) = (ready.shows.slots q.place).blocks c ∙ ap (λ k. is_newest k c) (old.kept q is) in
+              let both : (b == c) ≡ true = sym kept ∙ ap (λ n. F.held n (Block c)) (sym e) ∙ held in
+              ne (sym (equal_back b c both))
+
+      written : (c : ℕ) → (c ≡ b) ⊎ (c ≡ b → ⊥) → BlockStands G c (key_at view c)
+      written c (inl e) = subst (λ n. BlockStands G n (key_at view n)) (sym e) here
+      written c (inr ne) = elsewhere c ne
+
+-- why a commit is refused, case by case
+spent_cases : (a : ArrayView) (found : Option Record) → spent_reason a found ≡ None
+    → (next_version found ≢ last_version + 1) × (length a.log < longest_log)
+spent_cases a found none = go (next_version found == last_version + 1) refl (nat_le longest_log (length a.log)) refl none
+  where
+    go : (p : Bool) → (next_version found == last_version + 1) ≡ p → (q : Bool) → nat_le longest_log (length a.log) ≡ q
+        → cond p (Some VersionSpent) (cond q (Some LogFull) None) ≡ None → (next_version found ≢ last_version + 1) × (length a.log < longest_log)
+    go true is_p q is_q e = absurd (cc)
+    go false is_p true is_q e = absurd (cc)
+    go false is_p false is_q e = (λ same. let no : true ≡ false = sym (equal _ _ same) ∙ is_p in cc, over is_q)
+      where
+        over : nat_le longest_log (length a.log) ≡ false → length a.log < longest_log
+        over t = grind (arith, nat_tests)
+
+reason_waits : (a : ArrayView) (k : Kept) (found : Option Record) → commit_reason_of a k found ≡ None → (k ≡ Pending) × (spent_reason a found ≡ None)
+reason_waits a Pending found e = (refl, e)
+reason_waits a Nothing found e = absurd (cc)
+reason_waits a (Newest b) found e = absurd (cc)
+
+-- the slot waits where nothing speaks against its commit
+pub commit_waits : (a : ArrayView) (s : ℕ) (found : Option Record) → commit_reason a s found ≡ None → kept_at a s ≡ Pending
+commit_waits a s found none = (reason_waits a (kept_at a s) found none).0
+
+-- versions are at most the last
+version_bound : (b key : ℕ) → key < 2 ^ 64 → next_version (record_at b key) ≤ last_version + 1
+version_bound b key small = go (sizes key)
+  where
+    sizes : (k : ℕ) → (k < 2 ^ 32) ⊎ (2 ^ 32 ≤ k)
+    sizes k = grind arith
+
+    go : (key < 2 ^ 32) ⊎ (2 ^ 32 ≤ key) → next_version (record_at b key) ≤ last_version + 1
+    go (inl less) = let n : next_version (record_at b key) ≡ 1 = ap next_version (untold_at b key less) in omega arith
+    go (inr big) = let n : next_version (record_at b key) ≡ key / 2 ^ 32 + 1 = ap next_version (told_at b key big) in omega arith
+
+pub commit_version : (a : ArrayView) (s b : ℕ) → key_at a b < 2 ^ 64 → commit_reason a s (record_at b (key_at a b)) ≡ None
+    → (next_version (record_at b (key_at a b)) ≤ last_version) × (length a.log < longest_log)
+commit_version a s b small none =
+    let spent = spent_cases a (record_at b (key_at a b)) (reason_waits a (kept_at a s) (record_at b (key_at a b)) none).1 in
+    let most = version_bound b (key_at a b) small in
+    let apart = spent.0 in
+    (omega arith, spent.1)
+
+-- a unit that is there
+unit_of : (o : Option Stored) → is_some o ≡ true → (u : Stored) × (o ≡ Some u)
+unit_of (Some u) e = (u, refl)
+unit_of None e = absurd (cc)
+
+pub waits_unit : (a : ArrayView) (s : ℕ) → IsWhole a → kept_at a s ≡ Pending → (u : Stored) × (unit_at a s ≡ Some u)
+waits_unit a s whole waits = unit_of (unit_at a s) (whole.stored s (λ e. let no : Pending ≡ Nothing = sym waits ∙ e in cc))
+
+-- the ticket is the worker's where it is one
+ticket_mine : (a : ArrayView) (F : Flat) (w s : ℕ) (u : Stored) → ShowsArray a F → kept_at a s ≡ Pending → unit_at a s ≡ Some u
+    → (F.tickets s ≢ None → F.held s (Ticket w) ≡ true) → (F.tickets s ≡ Some (Fresh u.payload)) × (F.held s (Ticket w) ≡ true)
+ticket_mine a F w s u shows waits unit mine =
+    let is : F.tickets s ≡ Some (Fresh u.payload) = (shows.slots s).ticket ∙ ap (λ k. waiting k (unit_at a s)) waits ∙ ap (waiting Pending) unit in
+    (is, mine (λ none. let no : Some (Fresh u.payload) ≡ None = sym is ∙ none in cc))
+
+pub commit_case : (a : ArrayView) (F : Flat) (w s b : ℕ) → IsWhole a → s < 65536 → b < a.sizes.blocks
+    → commit_reason a s (record_at b (key_at a b)) ≡ None → ShowsArray a F → (F.tickets s ≢ None → F.held s (Ticket w) ≡ true)
+    → (G : Flat) × (CommitCase F w s b (Committed (emitted b s (record_at b (key_at a b)))) G)
+    × (ShowsArray (commit_view a s b (record_at b (key_at a b)) (emitted b s (record_at b (key_at a b)))) G)
+commit_case a F w s b whole inside block none shows mine =
+    let waits = commit_waits a s (record_at b (key_at a b)) none in
+    let u = waits_unit a s whole waits in
+    let ticket = ticket_mine a F w s u.0 shows waits u.1 mine in
+    let bounds = commit_version a s b (whole.fit b) none in
+    let ready : IsReady a F w s b u.0 = record {
+      whole = whole;
+      shows = shows;
+      slot = inside;
+      block = block;
+      narrow = whole.blocks;
+      waits = waits;
+      unit = u.1;
+      mine = ticket.1;
+      version = bounds.0;
+    } in
+    let short : length F.emitted < longest_log = subst (λ (l : List Record). length l < longest_log) (sym shows.log) bounds.1 in (
+      after a F w s b u.0,
+      (
+        ticket.1,
+        (
+          record_at b (key_at a b),
+          newest_told a F b shows,
+          subst (λ t. CommitWith F w s b (record_at b (key_at a b)) t (Committed (emitted b s (record_at b (key_at a b)))) (after a F w s b u.0)) (sym ticket.0)
+              (bounds.0, short, refl, refl),
+        ),
+      ),
+      shows_after a F w s b u.0 ready,
+    )
+
+pub commit_refused : (a : ArrayView) (F : Flat) (w s b : ℕ) (q : Refusal) → IsWhole a
+    → commit_reason a s (record_at b (key_at a b)) ≡ Some q → ShowsArray a F → (F.tickets s ≢ None → F.held s (Ticket w) ≡ true)
+    → MayRefuse q ((r : Record) × (G : Flat) × (CommitCase F w s b (Committed r) G)) (CommitCase F w s b (Refused q) F)
+commit_refused a F w s b q whole some shows mine = go (kept_at a s) refl some
+  where
+    P : Refusal → Type 0
+    P r = MayRefuse r ((x : Record) × (G : Flat) × (CommitCase F w s b (Committed x) G)) (CommitCase F w s b (Refused r) F)
+
+    no_ticket : (k : Kept) → kept_at a s ≡ k → waiting k (unit_at a s) ≡ None → Some NoTicket ≡ Some q → P q
+    no_ticket k is none e = subst P (some_is _ _ e) ((shows.slots s).tickets ((shows.slots s).ticket ∙ ap (λ j. waiting j (unit_at a s)) is ∙ none) w, refl)
+
+    spent : kept_at a s ≡ Pending → (p : Bool) → (next_version (record_at b (key_at a b)) == last_version + 1) ≡ p → (f : Bool) → nat_le longest_log (length a.log) ≡ f
+        → cond p (Some VersionSpent) (cond f (Some LogFull) None) ≡ Some q → P q
+    spent waits p is_p f is_f e = by p is_p f is_f e
+      where
+        u : (v : Stored) × (unit_at a s ≡ Some v)
+        u = waits_unit a s whole waits
+
+        ticket : (F.tickets s ≡ Some (Fresh u.0.payload)) × (F.held s (Ticket w) ≡ true)
+        ticket = ticket_mine a F w s u.0 shows waits u.1 mine
+
+        case : (r : Refusal) → CommitWith F w s b (record_at b (key_at a b)) (Some (Fresh u.0.payload)) (Refused r) F
+            → (F.held s (Ticket w) ≡ true) × ((found : Option Record) × (IsNewest F.emitted b found) × (CommitWith F w s b found (F.tickets s) (Refused r) F))
+        case r x = (
+          ticket.1,
+          (
+            record_at b (key_at a b),
+            newest_told a F b shows,
+            subst (λ t. CommitWith F w s b (record_at b (key_at a b)) t (Refused r) F) (sym ticket.0) x,
+          ),
+        )
+
+        most : next_version (record_at b (key_at a b)) ≤ last_version + 1
+        most = version_bound b (key_at a b) (whole.fit b)
+
+        by : (p : Bool) → (next_version (record_at b (key_at a b)) == last_version + 1) ≡ p → (f : Bool) → nat_le longest_log (length a.log) ≡ f
+            → cond p (Some VersionSpent) (cond f (Some LogFull) None) ≡ Some q → P q
+        by true is_p f is_f e = subst P (some_is _ _ e) (case VersionSpent (equal_back _ _ is_p, refl))
+        by false is_p true is_f e = subst P (some_is _ _ e) (case LogFull (under, long, refl))
+          where
+            apart : next_version (record_at b (key_at a b)) ≢ last_version + 1
+            apart same = let no : true ≡ false = sym (equal _ _ same) ∙ is_p in cc
+
+            under : next_version (record_at b (key_at a b)) ≤ last_version
+            under = let m = most in let n = apart in omega arith
+
+            long : longest_log ≤ length F.emitted
+            long = subst (λ (l : List Record). longest_log ≤ length l) (sym shows.log) (over is_f)
+              where
+                over : nat_le longest_log (length a.log) ≡ true → longest_log ≤ length a.log
+                over t = grind (arith, nat_tests)
+        by false is_p false is_f e = absurd (cc)
+
+    go : (k : Kept) → kept_at a s ≡ k → commit_reason_of a k (record_at b (key_at a b)) ≡ Some q → P q
+    go Nothing is e = no_ticket Nothing is refl e
+    go (Newest c) is e = no_ticket (Newest c) is refl e
+    go Pending is e = spent is _ refl _ refl e
+
+-- the record that a commit emits is in range
+emitted_ok : (a : ArrayView) (s b : ℕ) → IsWhole a → s < 65536 → b < a.sizes.blocks → next_version (record_at b (key_at a b)) ≤ last_version
+    → IsRecord (emitted b s (record_at b (key_at a b)))
+emitted_ok a s b whole inside block version =
+    let n = whole.blocks in
+    record { block = omega arith; written = one (record_at b (key_at a b)); version = omega arith; hop = omega arith; place = omega arith }
+  where
+    one : (o : Option Record) → 0 < next_version o
+    one None = omega arith
+    one (Some q) = omega arith
+
+-- an array is whole after a commit
+pub commit_whole : (a : ArrayView) (s b : ℕ) → IsWhole a → s < 65536 → b < a.sizes.blocks → commit_reason a s (record_at b (key_at a b)) ≡ None
+    → IsWhole (commit_view a s b (record_at b (key_at a b)) (emitted b s (record_at b (key_at a b))))
+commit_whole a s b whole inside block none = record {
+  room = record {
+    kept = length-set (passed a.kept (record_at b (key_at a b))) s (Newest b) ∙ passed_length a.kept (record_at b (key_at a b)) ∙ whole.room.kept;
+    units = length-set a.units s _ ∙ whole.room.units;
+    groups = whole.room.groups;
+    keys = length-set a.keys b _ ∙ whole.room.keys;
+  };
+  blocks = whole.blocks;
+  keys = λ c. keys c (cases_eq c b);
+  fit = λ c. fit c (cases_eq c b);
+  newest = λ c. newest c (cases_eq c b);
+  stored = λ t. stored t (cases_eq t s);
+  members = whole.members;
+}
+  where
+    r : Record
+    r = emitted b s (record_at b (key_at a b))
+
+    view : ArrayView
+    view = commit_view a s b (record_at b (key_at a b)) (emitted b s (record_at b (key_at a b)))
+
+    waits : kept_at a s ≡ Pending
+    waits = commit_waits a s (record_at b (key_at a b)) none
+
+    ok : IsRecord r
+    ok = emitted_ok a s b whole inside block (commit_version a s b (whole.fit b) none).0
+
+    old : IsOld a s b (record_at b (key_at a b))
+    old = old_place a s b whole waits
+
+    here : key_at view b ≡ key_of r
+    here = let e = whole.room.keys in get_or-set_same a.keys b (key_of r) 0 (omega arith)
+
+    other : (c : ℕ) → (c ≡ b → ⊥) → key_at view c ≡ key_at a c
+    other c ne = get_or-set_other a.keys b c (key_of r) 0 ne
+
+    keys : (c : ℕ) → (c ≡ b) ⊎ (c ≡ b → ⊥) → 0 < key_at view c → 2 ^ 32 ≤ key_at view c
+    keys c (inl e) some = let k : key_at view c ≡ key_of r = ap (key_at view) e ∙ here in let big = key_least r ok in omega arith
+    keys c (inr ne) some = let k = other c ne in let old_key = whole.keys c (omega arith) in omega arith
+
+    fit : (c : ℕ) → (c ≡ b) ⊎ (c ≡ b → ⊥) → key_at view c < 2 ^ 64
+    fit c (inl e) =
+        let k : key_at view c ≡ key_of r = ap (key_at view) e ∙ here in
+        let v = ok.version in let h = ok.hop in let p = ok.place in
+        omega arith
+    fit c (inr ne) = let k = other c ne in let f = whole.fit c in omega arith
+
+    kept_off : (c : ℕ) → (c ≡ b → ⊥) → (p : ℕ) → kept_at a p ≡ Newest c → kept_at view p ≡ Newest c
+    kept_off c ne p is = kept_else a s b (record_at b (key_at a b)) r p away off ∙ is
+      where
+        away : p ≡ s → ⊥
+        away e = let bad : Newest c ≡ Pending = sym is ∙ ap (kept_at a) e ∙ waits in cc
+
+        off : (q : Record) → record_at b (key_at a b) ≡ Some q → p ≡ q.place → ⊥
+        off q found e = let same : Newest c ≡ Newest b = sym is ∙ ap (kept_at a) e ∙ old.kept q found in ne (cc)
+
+    newest : (c : ℕ) → (c ≡ b) ⊎ (c ≡ b → ⊥) → 0 < key_at view c → kept_at view (record_of c (key_at view c)).place ≡ Newest c
+    newest c (inl e) some =
+        let place : (record_of c (key_at view c)).place ≡ s =
+        ap (λ n. (record_of n (key_at view n)).place) e ∙ ap (λ k. (record_of b k).place) here ∙ ap (λ (q : Record). q.place) (told_again r ok)
+        in
+        let room = whole.room.kept in
+        ap (kept_at view) place ∙ kept_here a s b (record_at b (key_at a b)) r (omega arith) ∙ ap (λ n. Newest n) (sym e)
+    newest c (inr ne) some =
+        let k = other c ne in
+        ap (λ n. kept_at view (record_of c n).place) k ∙ kept_off c ne (record_of c (key_at a c)).place (whole.newest c (omega arith))
+
+    stored : (t : ℕ) → (t ≡ s) ⊎ (t ≡ s → ⊥) → kept_at view t ≢ Nothing → is_some (unit_at view t) ≡ true
+    stored t (inl e) kept =
+        let u = waits_unit a s whole waits in
+        let room = whole.room.units in
+        let long : s < length a.units = omega arith in
+        ap (λ n. is_some (unit_at view n)) e ∙ ap is_some (get_or-set_same a.units s _ None long) ∙ ap (λ o. is_some (stamped o r)) u.1
+    stored t (inr ne) kept = ap is_some (get_or-set_other a.units s t _ None ne) ∙ whole.stored t before
+      where
+        before : kept_at a t ≡ Nothing → ⊥
+        before is = by_found (record_at b (key_at a b)) refl
+          where
+            by_found : (o : Option Record) → record_at b (key_at a b) ≡ o → ⊥
+            by_found o found = kept (kept_else a s b (record_at b (key_at a b)) r t ne off ∙ is)
+              where
+                off : (q : Record) → record_at b (key_at a b) ≡ Some q → t ≡ q.place → ⊥
+                off q place e = let bad : Newest b ≡ Nothing = sym (old.kept q place) ∙ ap (kept_at a) (sym e) ∙ is in cc
+
+-- a slot other than the old place is kept as before
+pub passed_apart : (kept : List Kept) (s : ℕ) (found : Option Record) → ((q : Record) → found ≡ Some q → q.place ≡ s → ⊥)
+    → get_or (passed kept found) s Nothing ≡ get_or kept s Nothing
+passed_apart kept s None apart = refl
+passed_apart kept s (Some old) apart = get_or-set_other kept old.place s Nothing Nothing (λ e. apart old refl (sym e))
+
+-- where a block's newest record, however it was found, says that its old place lies
+pub old_found : (a : ArrayView) (s b : ℕ) (o : Option Record) → o ≡ record_at b (key_at a b) → IsWhole a → kept_at a s ≡ Pending → IsOld a s b o
+old_found a s b o e whole waits = subst (IsOld a s b) (sym e) (old_place a s b whole waits)
+
+-- the record that was emitted, however it was made
+pub emitted_as : (a : ArrayView) (s b : ℕ) (o : Option Record) (r : Record) → o ≡ record_at b (key_at a b)
+    → r ≡ record { block = b; version = next_version o; hop = 0; place = s } → r ≡ emitted b s (record_at b (key_at a b))
+emitted_as a s b o r e is = is ∙ ap (λ (f : Option Record). emitted b s f) e

@@ -1,0 +1,193 @@
+-- A fill of what is seen of an array is the flat machine's case.
+use Rattle.std.proofs.Common.{◌≡◌, ◌≢◌, ℕ, ◌<◌, ◌/◌, ◌%◌, Bool, true, false, not, ◌==◌, ◌&&◌, ◌||◌, cond, is_some, List, length, get_or, refl, sym, ap, ◌∙◌, subst, arith, ◌⊎◌, inl, inr, Option, Some, None, nat_lt}
+use Rattle.std.proofs.Math.ListN.{set}
+use Rattle.std.proofs.lemmas.List.{length-set, get_or-set_same, get_or-set_other}
+use Rattle.std.proofs.lemmas.Bool.{cases_eq}
+use Rattle.std.proofs.lemmas.Option.{same_Some}
+use Rattle.map_join.specs.Record.{record_of}
+use Rattle.step_core.specs.declared.group.Class.{Class}
+use Rattle.step_core.specs.declared.group.Class.TheVariants.{Mirrored, Parity}
+use Rattle.step_core.specs.declared.refusal.Refusal.{Refusal}
+use Rattle.step_core.specs.declared.refusal.Refusal.TheVariants.{NoGroup, WrongClass, InUse}
+use Rattle.step_core.specs.Groups.{Made, class_in, class_at}
+use Rattle.step_core.specs.Flat.{Flat, Holder, Worker, Ticket, Block, Shut, Content, Fresh, Stored, same_holder, put, turned, IsArrays, for_ticket, IsKept, class_of}
+use Rattle.step_core.specs.Steps.{FlatAnswer, Filled, Refused}
+use Rattle.step_core.specs.Cases.{FillCase, filled}
+use Rattle.step_core.specs.Changes.{fill_view, fill_reason, fill_reason_of, MayRefuse}
+use Rattle.step_core.specs.Views.{Kept, Nothing, Pending, Newest, ArrayView, kept_at, unit_at, key_at, group_at, is_kept, IsRoomy, IsWhole}
+use Rattle.step_core.specs.Represents.{FlatSlot, flat_at, ArraySlot, IsWritten, BlockStands, ShowsArray, is_newest}
+use Rattle.step_core.proofs.Pairs.{equal, equal_back, put_here, put_else, turned_here, turned_else}
+use Rattle.step_core.proofs.Slots.{same_slot, one_slot}
+use Rattle.step_core.proofs.Kepts.{nothing_kept, kept_iff}
+
+-- the class of a slot is what is seen of it
+pub class_seen : (a : ArrayView) (F : Flat) (s : ℕ) → ShowsArray a F → class_of F s ≡ class_at a.sizes.segments (group_at a) s
+class_seen a F s shows =
+    ap (λ z. class_in z.segments (F.groups (s / 128)) (s % 128)) shows.sizes ∙ ap (λ o. class_in a.sizes.segments o (s % 128)) (shows.groups (s / 128))
+
+-- the slot that was filled
+filled_slot : (o : Option Stored) (F : Flat) (w s : ℕ) (x : List ℕ) → ArraySlot Nothing o (flat_at F s) → is_some (class_of F s) ≡ true
+    → ArraySlot Pending (Some (record { header = None; payload = x })) (flat_at (filled F w s x) s)
+filled_slot o F w s x is classed = record {
+  blocks = λ b. turned_here F.held s (Worker w) (Ticket w) (Block b) ∙ ap (λ v. (v && true) || false) (is.blocks b);
+  shut = λ g. turned_here F.held s (Worker w) (Ticket w) (Shut g) ∙ ap (λ v. (v && true) || false) (is.shut g);
+  unit = put_here F.units s _;
+  there = classed;
+  ticket = put_here F.tickets s _;
+  blank = λ _. refl;
+  waits = λ _. (w, turned_here F.held s (Worker w) (Ticket w) (Ticket w) ∙ held_now (F.held s (Ticket w)));
+  tickets = λ none v. absurd (some_none (sym (put_here F.tickets s _) ∙ none));
+  lone = λ u v one other. waits u one ∙ sym (waits v other);
+}
+  where
+    waits : (v : ℕ) → turned F.held s (Worker w) (Ticket w) s (Ticket v) ≡ true → v ≡ w
+    waits v e = equal_back v w (sym (turned_here F.held s (Worker w) (Ticket w) (Ticket v)
+        ∙ ap (λ b. (b && true) || (v == w)) (nothing_kept o (flat_at F s) is (Ticket v) (for_ticket v))) ∙ e)
+
+    held_now : (v : Bool) → ((v && true) || (w == w)) ≡ true
+    held_now true = refl
+    held_now false = equal w w refl
+
+    some_none : (Some (Fresh x)) ≡ None → ⊥
+    some_none e = cc
+
+pub fill_shows : (a : ArrayView) (F : Flat) (w s : ℕ) (x : List ℕ) → s < 65536 → kept_at a s ≡ Nothing → is_some (class_of F s) ≡ true
+    → ShowsArray a F → ShowsArray (fill_view a s x) (filled F w s x)
+fill_shows a F w s x inside free classed shows = record {
+  room = record {
+    kept = length-set a.kept s Pending ∙ shows.room.kept;
+    units = length-set a.units s _ ∙ shows.room.units;
+    groups = shows.room.groups;
+    keys = shows.room.keys;
+  };
+  sizes = shows.sizes;
+  drives = shows.drives;
+  log = shows.log;
+  records = shows.records;
+  map = shows.map;
+  groups = shows.groups;
+  slots = one_slot a (fill_view a s x) F (filled F w s x) s shows.slots
+      (λ t ne. get_or-set_other a.kept s t Pending Nothing ne)
+      (λ t ne. get_or-set_other a.units s t _ None ne)
+      (λ t ne. same_slot _ _ (turned_else F.held s (Worker w) (Ticket w) t ne) (put_else F.tickets s _ t ne) (put_else F.units s _ t ne) refl)
+      here;
+  written = written;
+}
+  where
+    kept_room : s < length a.kept
+    kept_room = let e = shows.room.kept in omega arith
+
+    units_room : s < length a.units
+    units_room = let e = shows.room.units in omega arith
+
+    old : ArraySlot Nothing (unit_at a s) (flat_at F s)
+    old = subst (λ k. ArraySlot k (unit_at a s) (flat_at F s)) free (shows.slots s)
+
+    here : ArraySlot (kept_at (fill_view a s x) s) (unit_at (fill_view a s x) s) (flat_at (filled F w s x) s)
+    here = rw (get_or-set_same a.kept s Pending Nothing kept_room, get_or-set_same a.units s (Some (record { header = None; payload = x })) None units_room)
+        (filled_slot (unit_at a s) F w s x old classed)
+
+    written : (b : ℕ) → BlockStands (filled F w s x) b (key_at a b)
+    written b = (λ none. (shows.written b).0 none, λ some. let y = (shows.written b).1 some in (y.0, y.1, moved y.2))
+      where
+        moved : {v : _} → IsWritten F b (key_at a b) v → IsWritten (filled F w s x) b (key_at a b) v
+        moved y =
+            let apart : (record_of b (key_at a b)).place ≢ s = λ e.
+            let held : true ≡ false = sym y.place ∙ ap (λ t. F.held t (Block b)) e ∙ old.blocks b in absurd (cc)
+            in
+            record {
+              version = y.version;
+              unit = put_else F.units s _ (record_of b (key_at a b)).place apart ∙ y.unit;
+              place = ap (λ (h : Holder → Bool). h (Block b)) (turned_else F.held s (Worker w) (Ticket w) (record_of b (key_at a b)).place apart) ∙ y.place;
+            }
+
+-- where nothing speaks against it, the fill is the flat machine's
+pub fill_case : (a : ArrayView) (F : Flat) (w s : ℕ) (x : List ℕ) → s < 65536 → fill_reason a s ≡ None → ShowsArray a F → F.held s (Worker w) ≡ true
+    → (G : Flat) × (FillCase F w s x (Filled s) G) × (ShowsArray (fill_view a s x) G)
+fill_case a F w s x inside none shows held = go (class_at a.sizes.segments (group_at a) s) refl (kept_at a s) refl
+  where
+    go : (c : Option Class) → class_at a.sizes.segments (group_at a) s ≡ c → (k : Kept) → kept_at a s ≡ k
+        → (G : Flat) × (FillCase F w s x (Filled s) G) × (ShowsArray (fill_view a s x) G)
+    go c is_c k is_k = by_cases c (class_seen a F s shows ∙ is_c) k is_k (sym (ap (λ o. fill_reason_of o (kept_at a s)) is_c ∙ ap (fill_reason_of c) is_k) ∙ none)
+      where
+        by_cases : (c : Option Class) → class_of F s ≡ c → (k : Kept) → kept_at a s ≡ k → fill_reason_of c k ≡ None
+            → (G : Flat) × (FillCase F w s x (Filled s) G) × (ShowsArray (fill_view a s x) G)
+        by_cases (Some Mirrored) is_c Nothing is_k e =
+            (filled F w s x, (refl, held, is_c, unkept, refl), fill_shows a F w s x inside is_k (ap is_some is_c) shows)
+          where
+            unkept : IsKept F s → ⊥
+            unkept kept = let t = (kept_iff a F s shows).1 kept in let no : false ≡ true = sym (ap is_kept is_k) ∙ t in absurd (cc)
+        by_cases (Some Mirrored) is_c Pending is_k e = absurd (cc)
+        by_cases (Some Mirrored) is_c (Newest b) is_k e = absurd (cc)
+        by_cases (Some Parity) is_c k is_k e = absurd (cc)
+        by_cases None is_c k is_k e = absurd (cc)
+
+-- and where something does, it is the flat machine's refusal
+pub fill_refused : (a : ArrayView) (F : Flat) (w s : ℕ) (x : List ℕ) (r : Refusal) → fill_reason a s ≡ Some r → ShowsArray a F → F.held s (Worker w) ≡ true
+    → MayRefuse r ((G : Flat) × (FillCase F w s x (Filled s) G)) (FillCase F w s x (Refused r) F)
+fill_refused a F w s x r some shows held = go (class_at a.sizes.segments (group_at a) s) refl (kept_at a s) refl
+  where
+    by_cases : (c : Option Class) → class_of F s ≡ c → (k : Kept) → kept_at a s ≡ k → fill_reason_of c k ≡ Some r → MayRefuse r ((G : Flat) × (FillCase F w s x (Filled s) G)) (FillCase F w s x (Refused r) F)
+    by_cases None is_c k is_k e = subst (λ q. MayRefuse q ((G : Flat) × (FillCase F w s x (Filled s) G)) (FillCase F w s x (Refused q) F)) (same_Some _ _ e) (held, is_c, refl)
+    by_cases (Some Parity) is_c k is_k e = subst (λ q. MayRefuse q ((G : Flat) × (FillCase F w s x (Filled s) G)) (FillCase F w s x (Refused q) F)) (same_Some _ _ e) (held, is_c, refl)
+    by_cases (Some Mirrored) is_c Nothing is_k e = absurd (cc)
+    by_cases (Some Mirrored) is_c Pending is_k e =
+        subst (λ q. MayRefuse q ((G : Flat) × (FillCase F w s x (Filled s) G)) (FillCase F w s x (Refused q) F)) (same_Some _ _ e) (held, is_c, (kept_iff a F s shows).0 (ap is_kept is_k), refl)
+    by_cases (Some Mirrored) is_c (Newest b) is_k e =
+        subst (λ q. MayRefuse q ((G : Flat) × (FillCase F w s x (Filled s) G)) (FillCase F w s x (Refused q) F)) (same_Some _ _ e) (held, is_c, (kept_iff a F s shows).0 (ap is_kept is_k), refl)
+
+    go : (c : Option Class) → class_at a.sizes.segments (group_at a) s ≡ c → (k : Kept) → kept_at a s ≡ k → MayRefuse r ((G : Flat) × (FillCase F w s x (Filled s) G)) (FillCase F w s x (Refused r) F)
+    go c is_c k is_k = by_cases c (class_seen a F s shows ∙ is_c) k is_k (sym (ap (λ o. fill_reason_of o (kept_at a s)) is_c ∙ ap (fill_reason_of c) is_k) ∙ some)
+
+free_of : (c : Option Class) (k : Kept) → fill_reason_of c k ≡ None → k ≡ Nothing
+free_of (Some Mirrored) Nothing e = refl
+free_of (Some Mirrored) Pending e = absurd (cc)
+free_of (Some Mirrored) (Newest b) e = absurd (cc)
+free_of (Some Parity) k e = absurd (cc)
+free_of None k e = absurd (cc)
+
+-- nothing is kept of a slot that can be filled
+pub fill_free : (a : ArrayView) (s : ℕ) → fill_reason a s ≡ None → kept_at a s ≡ Nothing
+fill_free a s none = free_of (class_at a.sizes.segments (group_at a) s) (kept_at a s) none
+
+-- a filled array is whole
+pub fill_whole : (a : ArrayView) (s : ℕ) (x : List ℕ) → s < 65536 → fill_reason a s ≡ None → IsWhole a → IsWhole (fill_view a s x)
+fill_whole a s x inside none whole = record {
+  room = record {
+    kept = length-set a.kept s Pending ∙ whole.room.kept;
+    units = length-set a.units s _ ∙ whole.room.units;
+    groups = whole.room.groups;
+    keys = whole.room.keys;
+  };
+  blocks = whole.blocks;
+  keys = whole.keys;
+  fit = whole.fit;
+  newest = newest;
+  stored = λ t kept. stored t kept (cases_eq t s);
+  members = whole.members;
+}
+  where
+    newest : (b : ℕ) → 0 < key_at a b → kept_at (fill_view a s x) (record_of b (key_at a b)).place ≡ Newest b
+    newest b some =
+        let at = whole.newest b some in
+        let apart : (record_of b (key_at a b)).place ≢ s = λ e.
+        let no : Newest b ≡ Nothing = sym at ∙ ap (kept_at a) e ∙ fill_free a s none in absurd (cc)
+        in
+        get_or-set_other a.kept s (record_of b (key_at a b)).place Pending Nothing apart ∙ at
+
+    stored : (t : ℕ) → kept_at (fill_view a s x) t ≢ Nothing → (t ≡ s) ⊎ (t ≡ s → ⊥) → is_some (unit_at (fill_view a s x) t) ≡ true
+    stored t kept (inl e) =
+        let room = whole.room.units in
+        let long : s < length a.units = omega arith in
+        rw (e, get_or-set_same a.units s (Some (record { header = None; payload = x })) None long) refl
+    stored t kept (inr ne) =
+        ap is_some (get_or-set_other a.units s t (Some (record { header = None; payload = x })) None ne)
+        ∙ whole.stored t (λ e. kept (get_or-set_other a.kept s t Pending Nothing ne ∙ e))
+
+-- equal arrays are whole together
+pub as_whole : (b a : ArrayView) → b ≡ a → IsWhole a → IsWhole b
+as_whole b a e whole = subst IsWhole (sym e) whole
+
+-- what holds of some state for one array does for an equal one
+pub as_shown : (P : Flat → Type 0) (b a : ArrayView) → b ≡ a → (G : Flat) × (P G) × (ShowsArray a G) → (G : Flat) × (P G) × (ShowsArray b G)
+as_shown P b a e x = (x.0, x.1, subst (λ (v : ArrayView). ShowsArray v x.0) (sym e) x.2)

@@ -1,0 +1,60 @@
+-- What a block holds is its last acknowledged write.
+use Rattle.std.proofs.Common.{◌≡◌, ℕ, ◌^◌, ◌<◌, ◌≤◌, refl, sym, ap, ◌∙◌, subst, arith, ◌⊎◌, inl, inr, is_some, true, Option, Some, None}
+use Rattle.std.proofs.lemmas.Option.{same_Some}
+use Rattle.map_join.specs.declared.records.Record.{Record}
+use Rattle.map_join.specs.Record.{record_of, record_at}
+use Rattle.step_core.specs.Flat.{Flat, Stored, Write, last_write}
+use Rattle.step_core.specs.Steps.{Version}
+use Rattle.step_core.specs.Cases.{found_of}
+use Rattle.step_core.specs.Views.{Nothing, Newest, ArrayView, kept_at, unit_at, key_at, IsWhole}
+use Rattle.step_core.specs.Represents.{ShowsArray, IsWritten}
+use Rattle.step_core.proofs.Newest.{told_at, untold_at}
+
+sizes : (k : ℕ) → (k < 2 ^ 32) ⊎ (2 ^ 32 ≤ k)
+sizes k = grind arith
+
+-- a block without a record was never written
+pub read_none : (a : ArrayView) (F : Flat) (b : ℕ) → IsWhole a → ShowsArray a F → record_at b (key_at a b) ≡ None → None ≡ found_of (last_write F.writes b)
+read_none a F b whole shows none = go (sizes (key_at a b))
+  where
+    go : (key_at a b < 2 ^ 32) ⊎ (2 ^ 32 ≤ key_at a b) → None ≡ found_of (last_write F.writes b)
+    go (inr big) = let bad : Some (record_of b (key_at a b)) ≡ None = sym (told_at b (key_at a b) big) ∙ none in absurd (cc)
+    go (inl small) = sym (ap found_of ((shows.written b).0 (zero (positive (key_at a b)))))
+      where
+        positive : (k : ℕ) → (k ≡ 0) ⊎ (0 < k)
+        positive k = grind arith
+
+        zero : (key_at a b ≡ 0) ⊎ (0 < key_at a b) → key_at a b ≡ 0
+        zero (inl e) = e
+        zero (inr some) = let big = whole.keys b some in absurd (omega arith)
+
+-- a block with a record holds what its unit does
+pub read_some : (a : ArrayView) (F : Flat) (b : ℕ) (r : Record) (u : Stored) → ShowsArray a F → record_at b (key_at a b) ≡ Some r → unit_at a r.place ≡ Some u
+    → Some (record { version = r.version; payload = u.payload }) ≡ found_of (last_write F.writes b)
+read_some a F b r u shows is unit = go (sizes (key_at a b))
+  where
+    P : Type 0
+    P = Some (record { version = r.version; payload = u.payload }) ≡ found_of (last_write F.writes b)
+
+    go : (key_at a b < 2 ^ 32) ⊎ (2 ^ 32 ≤ key_at a b) → P
+    go (inl small) = let bad : None ≡ Some r = sym (untold_at b (key_at a b) small) ∙ is in absurd (cc)
+    go (inr big) =
+        let y = (shows.written b).1 (omega arith) in
+        let same : record_of b (key_at a b) ≡ r = same_Some _ _ (sym (told_at b (key_at a b) big) ∙ is) in
+        let version : y.0.version ≡ r.version = y.2.version ∙ ap (λ (q : Record). q.version) same in
+        let stored : Some u ≡ Some (record { header = Some (record_of b (key_at a b)); payload = y.0.payload }) =
+        sym unit ∙ sym (shows.slots r.place).unit ∙ ap (λ (q : Record). F.units q.place) (sym same) ∙ y.2.unit
+        in
+        let payload : u.payload ≡ y.0.payload = ap (λ (v : Stored). v.payload) (same_Some _ _ stored) in
+        sym (ap found_of y.1 ∙ λ i. Some (record { version = version i; payload = (sym payload) i }))
+
+-- the newest place has a unit
+pub read_there : (a : ArrayView) (b : ℕ) (r : Record) → IsWhole a → record_at b (key_at a b) ≡ Some r → is_some (unit_at a r.place) ≡ true
+read_there a b r whole is = go (sizes (key_at a b))
+  where
+    go : (key_at a b < 2 ^ 32) ⊎ (2 ^ 32 ≤ key_at a b) → is_some (unit_at a r.place) ≡ true
+    go (inl small) = let bad : None ≡ Some r = sym (untold_at b (key_at a b) small) ∙ is in absurd (cc)
+    go (inr big) =
+        let same : record_of b (key_at a b) ≡ r = same_Some _ _ (sym (told_at b (key_at a b) big) ∙ is) in
+        let kept : kept_at a r.place ≡ Newest b = ap (λ (q : Record). kept_at a q.place) (sym same) ∙ whole.newest b (omega arith) in
+        whole.stored r.place (λ e. let bad : Newest b ≡ Nothing = sym kept ∙ e in cc)

@@ -1,0 +1,15 @@
+pub mod Tables
+pub mod Pairs
+pub mod Slots
+pub mod Newest
+pub mod Kepts
+pub mod Fills
+pub mod Hands
+pub mod News
+pub mod Writes
+pub mod Commits
+pub mod Finds
+pub mod Worlds
+pub mod Makes
+pub mod Makings
+pub mod Runnings

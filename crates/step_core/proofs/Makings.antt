@@ -1,0 +1,294 @@
+-- Making a group in what is seen of an array is the flat machine's case.
+use Rattle.std.proofs.Common.{◌≡◌, ◌≢◌, ℕ, ◌+◌, ◌-◌, ◌*◌, ◌/◌, ◌%◌, ◌<◌, ◌≤◌, ◌^◌, Bool, true, false, not, ◌==◌, ◌&&◌, ◌||◌, cond, nat_lt, nat_le, is_some, All, List, length, get_or, replicate, refl, sym, ap, ◌∙◌, subst, arith, ◌⊎◌, inl, inr, Option, Some, None}
+use Rattle.std.proofs.Math.ListN.{set}
+use Rattle.std.proofs.lemmas.List.{length-set, get_or-set_same, get_or-set_other}
+use Rattle.std.proofs.lemmas.Bool.{cases_eq}
+use Rattle.std.proofs.lemmas.Bool.Decides.{nat_tests}
+use Rattle.std.proofs.lemmas.Option.{same_Some}
+use Rattle.map_join.specs.Record.{record_of}
+use Rattle.step_core.specs.declared.group.Class.{Class}
+use Rattle.step_core.specs.declared.group.Class.TheVariants.{Mirrored, Parity}
+use Rattle.step_core.specs.declared.group.Member.{Member}
+use Rattle.step_core.specs.declared.refusal.Refusal.{Refusal}
+use Rattle.step_core.specs.declared.refusal.Refusal.TheVariants.{BadMember, SameDrive, ExtentTaken, Full}
+use Rattle.step_core.specs.Sizes.{Sizes}
+use Rattle.step_core.specs.Steps.{MadeGroup, Refused}
+use Rattle.step_core.specs.Changes.{MayRefuse}
+use Rattle.step_core.specs.Groups.{Made, slot_count, class_in, class_at, AreMembers, AreUnowned, IsLowestFree, IsFull}
+use Rattle.step_core.specs.Flat.{Flat, Holder, Worker, Ticket, Block, Shut, Stored, same_holder, put, class_of}
+use Rattle.step_core.specs.Cases.{made, wiped, MakeCase}
+use Rattle.step_core.specs.Making.{blank, placed, Entered, ArePlaced, IsBlankUnit, IsMakeReason}
+use Rattle.step_core.specs.declared.stored.StoredUnit.{StoredUnit}
+use Rattle.step_core.specs.Kept.{units_of}
+use Rattle.step_core.specs.Views.{Kept, Nothing, Pending, Newest, ArrayView, kept_at, unit_at, key_at, group_at, IsRoomy, IsWhole}
+use Rattle.step_core.specs.Represents.{FlatSlot, flat_at, ArraySlot, IsBlank, IsWritten, BlockStands, ShowsArray, waiting}
+use Rattle.step_core.proofs.Pairs.{equal, unequal, put_here, put_else}
+use Rattle.step_core.proofs.Fills.{class_seen}
+
+-- the slots of a group are those from 128 times its number on
+placed_wiped : (units : List (Option Stored)) (payload g count s : ℕ) → count ≤ 128
+    → placed units (128 * g) (128 * g + count) (blank payload) s ≡ wiped (λ t. get_or units t None) payload g count s
+placed_wiped units payload g count s small = go (side (s / 128)) (below (s % 128))
+  where
+    side : (n : ℕ) → (n < g) ⊎ (n ≡ g) ⊎ (g < n)
+    side n = grind arith
+
+    below : (n : ℕ) → (n < count) ⊎ (count ≤ n)
+    below n = grind arith
+
+    go : (s / 128 < g) ⊎ (s / 128 ≡ g) ⊎ (g < s / 128) → (s % 128 < count) ⊎ (count ≤ s % 128)
+        → placed units (128 * g) (128 * g + count) (blank payload) s ≡ wiped (λ t. get_or units t None) payload g count s
+    go (inl low) _ = let a : s < 128 * g = omega arith in let b : (s / 128 ≡ g) → ⊥ = omega arith in grind (arith, nat_tests)
+    go (inr (inl e)) (inl h) = let a : 128 * g ≤ s = omega arith in let b : s < 128 * g + count = omega arith in grind (arith, nat_tests)
+    go (inr (inl e)) (inr h) = let a : 128 * g ≤ s = omega arith in let b : 128 * g + count ≤ s = omega arith in grind (arith, nat_tests)
+    go (inr (inr high)) _ = let a : 128 * g + count ≤ s = omega arith in let b : (s / 128 ≡ g) → ⊥ = omega arith in grind (arith, nat_tests)
+
+-- a place that is blank or as it was has a unit if it had one
+placed_some : (units : List (Option Stored)) (from to : ℕ) (u : Stored) (s : ℕ) → is_some (get_or units s None) ≡ true → is_some (placed units from to u s) ≡ true
+placed_some units from to u s some = go (nat_le from s && nat_lt s to)
+  where
+    go : (q : Bool) → is_some (cond q (Some u) (get_or units s None)) ≡ true
+    go true = refl
+    go false = some
+
+-- the array with a group entered
+abbrev pub entered : ArrayView → List (Option Stored) → ℕ → Class → List Member → ArrayView
+entered a units g class members = record a { units = units; groups = set a.groups g (Some (record { class = class; members = members })) }
+
+group_here : (a : ArrayView) (units : List (Option Stored)) (g : ℕ) (class : Class) (members : List Member) → g < length a.groups
+    → group_at (entered a units g class members) g ≡ Some (record { class = class; members = members })
+group_here a units g class members inside = get_or-set_same a.groups g (Some (record { class = class; members = members })) None inside
+
+group_else : (a : ArrayView) (units : List (Option Stored)) (g : ℕ) (class : Class) (members : List Member) (h : ℕ) → (h ≡ g → ⊥)
+    → group_at (entered a units g class members) h ≡ group_at a h
+group_else a units g class members h ne = get_or-set_other a.groups g h (Some (record { class = class; members = members })) None ne
+
+pub entered_whole : (a b : ArrayView) (g : ℕ) (class : Class) (members : List Member) → IsWhole a → g < 512 → (3 ≤ length members) × (length members ≤ 8)
+    → Entered a g class members b → IsWhole b
+entered_whole a b g class members whole limit size e = subst IsWhole (sym e.rest) (record {
+  room = record {
+    kept = whole.room.kept;
+    units = e.room ∙ whole.room.units;
+    groups = length-set a.groups g _ ∙ whole.room.groups;
+    keys = whole.room.keys;
+  };
+  blocks = whole.blocks;
+  keys = whole.keys;
+  fit = whole.fit;
+  newest = whole.newest;
+  stored = λ s kept. ap is_some (e.units s) ∙ placed_some a.units _ _ (blank a.sizes.payload) s (whole.stored s kept);
+  members = λ h m is. sized h m is (cases_eq h g);
+})
+  where
+    sized : (h : ℕ) (m : Made) → group_at (entered a b.units g class members) h ≡ Some m → (h ≡ g) ⊎ (h ≡ g → ⊥) → (3 ≤ length m.members) × (length m.members ≤ 8)
+    sized h m is (inl same) =
+        let room = whole.room.groups in
+        let here : Some (record { class = class; members = members }) ≡ Some m =
+        sym (group_here a b.units g class members (omega arith)) ∙ ap (group_at (entered a b.units g class members)) (sym same) ∙ is
+        in
+        subst (λ (n : Made). (3 ≤ length n.members) × (length n.members ≤ 8)) (same_Some _ _ here) size
+    sized h m is (inr ne) = whole.members h m (sym (group_else a b.units g class members h ne) ∙ is)
+
+and_true : (b : Bool) → (b && true) ≡ b
+and_true true = refl
+and_true false = refl
+
+-- a slot whose group wasn't made has nothing
+bare_slot : (kept : Kept) (o : Option Stored) (f : FlatSlot) → ArraySlot kept o f → f.class ≡ None → o ≡ None
+bare_slot kept None f is none = refl
+bare_slot kept (Some u) f is none = let bad : false ≡ true = sym (ap is_some none) ∙ is.there in absurd (cc)
+
+bare_kept : (kept : Kept) → (kept ≢ Nothing → false ≡ true) → kept ≡ Nothing
+bare_kept Nothing stored = refl
+bare_kept Pending stored = let bad = stored (λ e. cc) in absurd (cc)
+bare_kept (Newest b) stored = let bad = stored (λ e. cc) in absurd (cc)
+
+pub entered_shows : (a b : ArrayView) (F : Flat) (g : ℕ) (class : Class) (members : List Member) → IsWhole a → g < 512 → group_at a g ≡ None
+    → Entered a g class members b → ShowsArray a F → ShowsArray b (made F class members g)
+entered_shows a b F g class members whole limit free e shows = subst (λ (v : ArrayView). ShowsArray v (made F class members g)) (sym e.rest) (record {
+  room = record {
+    kept = whole.room.kept;
+    units = e.room ∙ whole.room.units;
+    groups = length-set a.groups g _ ∙ whole.room.groups;
+    keys = whole.room.keys;
+  };
+  sizes = shows.sizes;
+  drives = shows.drives;
+  log = shows.log;
+  records = shows.records;
+  map = shows.map;
+  groups = λ h. groups h (cases_eq h g);
+  slots = λ s. slots s (cases_eq (s / 128) g);
+  written = written;
+})
+  where
+    G : Flat
+    G = made F class members g
+
+    view : ArrayView
+    view = entered a b.units g class members
+
+    count : ℕ
+    count = slot_count a.sizes.segments class (length members)
+
+    groups_room : g < length a.groups
+    groups_room = let r = whole.room.groups in omega arith
+
+    groups : (h : ℕ) → (h ≡ g) ⊎ (h ≡ g → ⊥) → G.groups h ≡ group_at view h
+    groups h (inl same) =
+        ap G.groups same ∙ put_here F.groups g _ ∙ sym (group_here a b.units g class members groups_room) ∙ ap (group_at view) (sym same)
+    groups h (inr ne) = put_else F.groups g _ h ne ∙ shows.groups h ∙ sym (group_else a b.units g class members h ne)
+
+    seen_unit : (s : ℕ) → unit_at view s ≡ wiped (unit_at a) a.sizes.payload g count s
+    seen_unit s = e.units s ∙ placed_wiped a.units a.sizes.payload g count s e.count
+
+    -- the flat units go the same way
+    flat_unit : (s : ℕ) → G.units s ≡ wiped (unit_at a) a.sizes.payload g count s
+    flat_unit s =
+        ap (λ z. wiped F.units z.payload g (slot_count z.segments class (length members)) s) shows.sizes
+        ∙ ap (λ o. cond ((s / 128 == g) && nat_lt (s % 128) count) (Some (blank a.sizes.payload)) o) (shows.slots s).unit
+
+    wiped_else : (s : ℕ) → (s / 128 ≡ g → ⊥) → wiped (unit_at a) a.sizes.payload g count s ≡ unit_at a s
+    wiped_else s ne = grind (arith, nat_tests)
+
+    class_now : (s : ℕ) → s / 128 ≡ g → class_of G s ≡ (cond (nat_lt (s % 128) count) (Some class) None)
+    class_now s same =
+        ap (λ o. class_in F.sizes.segments o (s % 128)) (ap G.groups same ∙ put_here F.groups g _)
+        ∙ ap (λ z. cond (nat_lt (s % 128) (slot_count z.segments class (length members))) (Some class) None) shows.sizes
+
+    class_was : (s : ℕ) → s / 128 ≡ g → class_of F s ≡ None
+    class_was s same = ap (λ o. class_in F.sizes.segments o (s % 128)) (ap F.groups same ∙ shows.groups g ∙ free)
+
+    class_else : (s : ℕ) → (s / 128 ≡ g → ⊥) → class_of G s ≡ class_of F s
+    class_else s ne = ap (λ o. class_in F.sizes.segments o (s % 128)) (put_else F.groups g _ (s / 128) ne)
+
+    -- what holds of any slot's holders and ticket
+    held_rest : (kept : Kept) (o p : Option Stored) (s : ℕ) → ArraySlot kept o (flat_at F s) → is_some (class_of G s) ≡ is_some p → G.units s ≡ p
+        → (kept ≡ Nothing) ⊎ (o ≡ p) → ArraySlot kept p (flat_at G s)
+    held_rest kept o p s is there unit or = record {
+      blocks = λ c. and_true (F.held s (Block c)) ∙ is.blocks c;
+      shut = λ h. ap (λ z. z && not (h == g)) (is.shut h);
+      unit = unit;
+      there = there;
+      ticket = ticket or;
+      blank = blank_now or;
+      waits = λ w. let v = is.waits w in (v.0, and_true (F.held s (Ticket v.0)) ∙ v.1);
+      tickets = λ none w. and_true (F.held s (Ticket w)) ∙ is.tickets none w;
+      lone = λ v w one other. is.lone v w (sym (and_true (F.held s (Ticket v))) ∙ one) (sym (and_true (F.held s (Ticket w))) ∙ other);
+    }
+      where
+        ticket : (kept ≡ Nothing) ⊎ (o ≡ p) → F.tickets s ≡ waiting kept p
+        ticket (inl none) = is.ticket ∙ ap (λ k. waiting k o) none ∙ ap (λ k. waiting k p) (sym none)
+        ticket (inr same) = is.ticket ∙ ap (waiting kept) same
+
+        blank_now : (kept ≡ Nothing) ⊎ (o ≡ p) → kept ≡ Pending → IsBlank p
+        blank_now (inl none) w = let bad : Nothing ≡ Pending = sym none ∙ w in absurd (cc)
+        blank_now (inr same) w = subst IsBlank same (is.blank w)
+
+    slots : (s : ℕ) → (s / 128 ≡ g) ⊎ (s / 128 ≡ g → ⊥) → ArraySlot (kept_at view s) (unit_at view s) (flat_at G s)
+    slots s (inl same) = held_rest (kept_at a s) (unit_at a s) (unit_at view s) s (shows.slots s) there (flat_unit s ∙ sym (seen_unit s)) (inl bare)
+      where
+        none : unit_at a s ≡ None
+        none = bare_slot (kept_at a s) (unit_at a s) (flat_at F s) (shows.slots s) (class_was s same)
+
+        bare : kept_at a s ≡ Nothing
+        bare = bare_kept (kept_at a s) (λ kept. ap is_some (sym none) ∙ whole.stored s kept)
+
+        there : is_some (class_of G s) ≡ is_some (unit_at view s)
+        there = ap is_some (class_now s same) ∙ by (nat_lt (s % 128) count)
+            ∙ sym (ap is_some (seen_unit s ∙ ap (λ z. cond (z && nat_lt (s % 128) count) (Some (blank a.sizes.payload)) (unit_at a s)) (equal (s / 128) g same)
+            ∙ ap (λ o. cond (nat_lt (s % 128) count) (Some (blank a.sizes.payload)) o) none))
+          where
+            by : (q : Bool) → is_some (cond q (Some class) None) ≡ is_some (cond q (Some (blank a.sizes.payload)) None)
+            by true = refl
+            by false = refl
+    slots s (inr ne) =
+        let unit : unit_at view s ≡ unit_at a s = seen_unit s ∙ wiped_else s ne in
+        held_rest (kept_at a s) (unit_at a s) (unit_at view s) s (shows.slots s) (ap is_some (class_else s ne) ∙ (shows.slots s).there ∙ ap is_some (sym unit))
+        (flat_unit s ∙ sym (seen_unit s)) (inr (sym unit))
+
+    written : (c : ℕ) → BlockStands G c (key_at a c)
+    written c = (
+      (shows.written c).0,
+      λ some. let y = (shows.written c).1 some in (
+        y.0,
+        y.1,
+        record {
+          version = y.2.version;
+          unit = flat_unit (record_of c (key_at a c)).place ∙ wiped_else (record_of c (key_at a c)).place (away y.2.unit)
+              ∙ sym (shows.slots (record_of c (key_at a c)).place).unit ∙ y.2.unit;
+          place = and_true (F.held (record_of c (key_at a c)).place (Block c)) ∙ y.2.place;
+        },
+      ),
+    )
+      where
+        away : {u : Stored} → F.units (record_of c (key_at a c)).place ≡ Some u → (record_of c (key_at a c)).place / 128 ≡ g → ⊥
+        away {u} has same =
+            let p = (record_of c (key_at a c)).place in
+            let none : unit_at a p ≡ None = bare_slot (kept_at a p) (unit_at a p) (flat_at F p) (shows.slots p) (class_was p same) in
+            let bad : Some u ≡ None = sym has ∙ (shows.slots p).unit ∙ none in
+            cc
+
+-- the units of an array after alike ones were put in from a group's first slot on
+pub entered_units : (a : ArrayView) (old new : List (Option StoredUnit)) (units : List StoredUnit) (from g payload : ℕ) (class : Class) (members : List Member)
+    → units_of old ≡ a.units → from ≡ 128 * g → length units ≡ slot_count a.sizes.segments class (length members) → payload ≡ a.sizes.payload
+    → ArePlaced old from units new (length units) → All (IsBlankUnit payload) units
+    → (s : ℕ) → get_or (units_of new) s None ≡ placed a.units (128 * g) (128 * g + slot_count a.sizes.segments class (length members)) (blank a.sizes.payload) s
+entered_units a old new units from g payload class members seen at count size placed_all all s =
+    placed_all (blank payload) all s
+    ∙ ap (λ us. placed us from (from + length units) (blank payload) s) seen
+    ∙ ap (λ f. placed a.units f (f + length units) (blank payload) s) at
+    ∙ ap (λ n. placed a.units (128 * g) (128 * g + n) (blank payload) s) count
+    ∙ ap (λ p. placed a.units (128 * g) (128 * g + slot_count a.sizes.segments class (length members)) (blank p) s) size
+
+-- the tests' words, told of the flat state
+members_as : (a : ArrayView) (F : Flat) (members : List Member) → ShowsArray a F → AreMembers a.sizes.extents a.drives members → AreMembers F.sizes.extents F.drives members
+members_as a F members shows are =
+    subst (λ (z : Sizes). AreMembers z.extents F.drives members) (sym shows.sizes) (subst (λ d. AreMembers a.sizes.extents d members) (sym shows.drives) are)
+
+members_back : (a : ArrayView) (F : Flat) (members : List Member) → ShowsArray a F → AreMembers F.sizes.extents F.drives members → AreMembers a.sizes.extents a.drives members
+members_back a F members shows are =
+    subst (λ (z : Sizes). AreMembers z.extents a.drives members) shows.sizes (subst (λ d. AreMembers F.sizes.extents d members) shows.drives are)
+
+unowned_as : (gs fs : ℕ → Option Made) (members : List Member) → ((g : ℕ) → fs g ≡ gs g) → AreUnowned gs members → AreUnowned fs members
+unowned_as gs fs members same unowned g made is = unowned g made (sym (same g) ∙ is)
+
+-- why a group can't be made is why the flat machine refuses it
+pub make_refused : (a : ArrayView) (F : Flat) (class : Class) (members : List Member) (r : Refusal) → IsMakeReason a members (Some r) → ShowsArray a F
+    → MayRefuse r ((g : ℕ) × (G : Flat) × (MakeCase F class members (MadeGroup g) G)) (MakeCase F class members (Refused r) F)
+make_refused a F class members BadMember reason shows = (λ are. reason (members_back a F members shows are), refl)
+make_refused a F class members SameDrive reason shows = (members_as a F members shows reason.0, reason.1, refl)
+make_refused a F class members ExtentTaken reason shows =
+    (members_as a F members shows reason.0, reason.1, λ unowned. reason.2 (unowned_as F.groups (group_at a) members (λ g. sym (shows.groups g)) unowned), refl)
+make_refused a F class members _ reason shows = absurd reason
+
+pub make_full : (a : ArrayView) (F : Flat) (class : Class) (members : List Member) → IsMakeReason a members None → IsFull (group_at a) → ShowsArray a F
+    → MakeCase F class members (Refused Full) F
+make_full a F class members reason full shows = (
+  members_as a F members shows reason.0,
+  reason.1,
+  unowned_as (group_at a) F.groups members shows.groups reason.2,
+  λ g limit none. full g limit (sym (shows.groups g) ∙ none),
+  refl,
+)
+
+-- where nothing speaks against a group, the flat machine makes it
+pub make_made : (a : ArrayView) (F : Flat) (class : Class) (members : List Member) (g : ℕ) → IsMakeReason a members None → IsLowestFree (group_at a) g → ShowsArray a F
+    → MakeCase F class members (MadeGroup g) (made F class members g)
+make_made a F class members g reason lowest shows = (
+  members_as a F members shows reason.0,
+  reason.1,
+  unowned_as (group_at a) F.groups members shows.groups reason.2,
+  record {
+    limit = lowest.limit;
+    free = shows.groups g ∙ lowest.free;
+    below = λ h low none. lowest.below h low (sym (shows.groups h) ∙ none);
+  },
+  refl,
+)
+
+pub make_case : (a b : ArrayView) (F : Flat) (class : Class) (members : List Member) (g : ℕ) → IsWhole a → IsMakeReason a members None → IsLowestFree (group_at a) g
+    → Entered a g class members b → ShowsArray a F
+    → (G : Flat) × (MakeCase F class members (MadeGroup g) G) × (ShowsArray b G)
+make_case a b F class members g whole reason lowest e shows =
+    (made F class members g, make_made a F class members g reason lowest shows, entered_shows a b F g class members whole lowest.limit lowest.free e shows)

@@ -1,0 +1,64 @@
+-- A new array stands for the new flat state.
+use Rattle.std.proofs.Common.{◌≡◌, ◌≢◌, ℕ, ◌<◌, ◌≤◌, ◌^◌, Bool, true, false, List, [], length, get_or, map, refl, sym, ap, ◌∙◌, subst, arith, Contains, Option, Some, None}
+use Rattle.std.proofs.Math.ListN.{get_or-map}
+use Rattle.std.specs.Option.{option_map}
+use Rattle.map_join.specs.declared.records.Record.{Record}
+use Rattle.map_join.specs.Maps.{IsMapOf}
+use Rattle.step_core.specs.declared.place.Place.{Place}
+use Rattle.step_core.specs.declared.place.Place.TheVariants as place
+use Rattle.step_core.specs.declared.stored.StoredUnit.{StoredUnit}
+use Rattle.step_core.specs.declared.group.Group.{Group}
+use Rattle.step_core.specs.Sizes.{Sizes}
+use Rattle.step_core.specs.Kept.{kept_of, kepts_of, stored_of, units_of, made_of, groups_of}
+use Rattle.step_core.specs.Flat.{Flat, Stored, Holder, new_flat}
+use Rattle.step_core.specs.Views.{Kept, Nothing, ArrayView, kept_at, unit_at, key_at, group_at, IsWhole, IsNew}
+use Rattle.step_core.specs.Represents.{FlatSlot, flat_at, ArraySlot, BlockStands, ShowsArray}
+
+pub none_kept : {C : Type 0} (places : List (Place C)) → ((s : ℕ) → get_or places s place.Free ≡ place.Free) → (s : ℕ) → get_or (kepts_of places) s Nothing ≡ Nothing
+none_kept places all s = get_or-map kept_of places s place.Free ∙ ap kept_of (all s)
+
+pub none_stored : (units : List (Option StoredUnit)) → ((s : ℕ) → get_or units s None ≡ None) → (s : ℕ) → get_or (units_of units) s None ≡ None
+none_stored units all s = get_or-map (option_map stored_of) units s None ∙ ap (option_map stored_of) (all s)
+
+pub none_made : (groups : List (Option Group)) → ((g : ℕ) → get_or groups g None ≡ None) → (g : ℕ) → get_or (groups_of groups) g None ≡ None
+none_made groups all g = get_or-map (option_map made_of) groups g None ∙ ap (option_map made_of) (all g)
+
+pub new_whole : (z : Sizes) (d : ℕ) (a : ArrayView) → IsNew z d a → z.blocks ≤ 65536 → IsWhole a
+new_whole z d a new narrow = record {
+  room = new.room;
+  blocks = subst (λ (y : Sizes). y.blocks ≤ 65536) (sym new.sizes_are) narrow;
+  fit = λ b. let e = new.keys b in omega arith;
+  keys = λ b some. let e = new.keys b in absurd (omega arith);
+  newest = λ b some. let e = new.keys b in absurd (omega arith);
+  stored = λ s kept. absurd (kept (new.kept s));
+  members = λ g made is. let e = new.groups g in absurd (cc);
+}
+
+not_there : (r : Record) → Contains [] r → ⊥
+not_there r has = let h = has.1 in omega arith
+
+blank_slot : (s : ℕ) (z : Sizes) (d : ℕ) → ArraySlot Nothing None (flat_at (new_flat z d) s)
+blank_slot s z d = record {
+  blocks = λ b. refl;
+  shut = λ g. refl;
+  unit = refl;
+  there = refl;
+  ticket = refl;
+  blank = λ is. absurd (cc);
+  waits = λ is. absurd (cc);
+  tickets = λ none w. refl;
+  lone = λ v w one. absurd (cc);
+}
+
+pub new_shows : (z : Sizes) (d : ℕ) (a : ArrayView) → IsNew z d a → ShowsArray a (new_flat z d)
+new_shows z d a new = record {
+  room = new.room;
+  sizes = sym new.sizes_are;
+  drives = sym new.drives_are;
+  log = sym new.log;
+  records = λ r has. absurd (not_there r has);
+  map = record { told = λ b some. let e = new.keys b in absurd (omega arith); most = λ r has. absurd (not_there r has) };
+  groups = λ g. sym (new.groups g);
+  slots = λ s. rw (new.kept s, new.units s) (blank_slot s z d);
+  written = λ b. (λ none. refl, λ some. let e = new.keys b in absurd (omega arith));
+}

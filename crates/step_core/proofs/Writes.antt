@@ -1,0 +1,55 @@
+-- The last write of a list that grows, and the keys of a table with one changed.
+use Rattle.std.proofs.Common.{◌≡◌, ◌≢◌, ℕ, ◌+◌, ◌*◌, ◌/◌, ◌^◌, ◌<◌, ◌≤◌, max, Bool, true, false, ◌==◌, cond, List, [], ◌∷◌, ◌++◌, length, get_or, refl, sym, ap, ◌∙◌, subst, arith, ◌⊎◌, inl, inr, Option, Some, None, nat_lt}
+use Rattle.std.proofs.Math.ListN.{set}
+use Rattle.std.proofs.lemmas.List.{get_or-set_same, get_or-set_other}
+use Rattle.std.proofs.lemmas.Bool.{cases_eq}
+use Rattle.std.proofs.lemmas.Bool.Decides.{nat_tests}
+use Rattle.map_join.specs.declared.records.Record.{Record}
+use Rattle.map_join.specs.Record.{key_of, record_of, record_at, IsRecord}
+use Rattle.map_join.specs.Maps.{IsSame, join, only}
+use Rattle.map_join.proofs.Joins.{only_here, only_else}
+use Rattle.step_core.specs.Flat.{Write, or_else, last_write}
+use Rattle.step_core.specs.Cases.{next_version}
+use Rattle.step_core.specs.Views.{ArrayView, key_at}
+use Rattle.step_core.proofs.Pairs.{equal, unequal}
+use Rattle.step_core.proofs.Newest.{told_at, untold_at}
+
+or_else_none : {X : Type 0} (o : Option X) → or_else o None ≡ o
+or_else_none (Some x) = refl
+or_else_none None = refl
+
+-- a write that is pushed is the last of its block, and no other block's
+pub last_here : (ws : List Write) (w : Write) → last_write (ws ++ w ∷ []) w.block ≡ Some w
+last_here [] w = ap (λ b. cond b (Some w) None) (equal w.block w.block refl)
+last_here (v ∷ ws) w = ap (λ o. or_else o (cond (v.block == w.block) (Some v) None)) (last_here ws w)
+
+pub last_else : (ws : List Write) (w : Write) (block : ℕ) → (block ≡ w.block → ⊥) → last_write (ws ++ w ∷ []) block ≡ last_write ws block
+last_else [] w block ne = ap (λ b. cond b (Some w) None) (unequal w.block block (λ e. ne (sym e)))
+last_else (v ∷ ws) w block ne = ap (λ o. or_else o (cond (v.block == block) (Some v) None)) (last_else ws w block ne)
+
+-- the key of the next version is above the key
+pub next_above : (key block place : ℕ) → (key ≡ 0) ⊎ (2 ^ 32 ≤ key)
+    → key < key_of (record { block = block; version = next_version (record_at block key); hop = 0; place = place })
+next_above key block place (inl e) =
+    let n : next_version (record_at block key) ≡ 1 = ap next_version (untold_at block key (omega arith)) in
+    omega arith
+next_above key block place (inr big) =
+    let told : record_at block key ≡ Some (record_of block key) = told_at block key big in
+    let n : next_version (record_at block key) ≡ key / 2 ^ 32 + 1 = ap next_version told in
+    omega arith
+
+-- the table with the key of a record at its block is the join with that record
+pub key_set : (keys : List ℕ) (r : Record) → r.block < length keys → get_or keys r.block 0 < key_of r
+    → IsSame (λ b. get_or (set keys r.block (key_of r)) b 0) (join (λ b. get_or keys b 0) (only r))
+key_set keys r inside above block = go (cases_eq block r.block)
+  where
+    go : (block ≡ r.block) ⊎ (block ≡ r.block → ⊥) → get_or (set keys r.block (key_of r)) block 0 ≡ max (get_or keys block 0) (only r block)
+    go (inl e) =
+        let here = only_here r block e in
+        let now : get_or (set keys r.block (key_of r)) block 0 ≡ key_of r = ap (λ b. get_or (set keys r.block (key_of r)) b 0) e ∙ get_or-set_same keys r.block (key_of r) 0 inside in
+        let was : get_or keys block 0 ≡ get_or keys r.block 0 = ap (λ b. get_or keys b 0) e in
+        omega arith
+    go (inr ne) =
+        let here = only_else r block ne in
+        let now : get_or (set keys r.block (key_of r)) block 0 ≡ get_or keys block 0 = get_or-set_other keys r.block block (key_of r) 0 ne in
+        omega arith

@@ -1,0 +1,10 @@
+use Rattle.std.proofs.Common.{◌≡◌, ℕ, ◌≤◌, vec_len, vec_capacity, get_or}
+use Rattle.step_core.specs.declared.place.Place.TheVariants.{Free}
+use Rattle.step_core.proofs.array.free_places.Given as goal
+
+abbrev pub invariant-loop-made : goal.invariant-loop-made
+invariant-loop-made g l = record {
+  count : vec_len l.places ≡ l._made;
+  room : l.count ≤ vec_capacity l.places;
+  same : (k : ℕ) → get_or l.places.items k Free ≡ Free;
+}

@@ -1,0 +1,51 @@
+use Rattle.std.proofs.Common.{◌≡◌, ◌+◌, ◌<◌, length, rules, arith, ap, subst, sym, refl, take, map, ◌∙◌, IsOk}
+use Rattle.step_core.specs.Flat.{Flat}
+use Rattle.step_core.specs.Cases.{Runs}
+use Rattle.step_core.specs.Views.{WorldView}
+use Rattle.step_core.specs.Represents.{Represents}
+use Rattle.step_core.specs.Told.{flat_step, flat_answer}
+use Rattle.step_core.proofs.Runnings.{stands, fits_at, runs_step, take_past, some_steps}
+use Rattle.step_core.proofs.run.run_steps.Goals as goal
+
+pub step-requires : goal.step-requires
+step-requires c =
+    fits_at c.args.steps.now c.loop-at.at c.index-steps-at.result c.loop-at-test.true c.index-steps-at.is _ _ c.loop-at.invariant.sizes c.requires
+
+pub loop-at-preserved : goal.loop-at-preserved
+loop-at-preserved c = record {
+  runs = λ F rep.
+      let x = c.loop-at.invariant.runs F rep in
+      let y = c.in-Ok-step.ensures.ok x.0 x.2 in (
+        y.0,
+        runs_step F x.0 y.0 c.args.steps.now c.loop-at.answers.items c.push_reserved.new.self.items c.loop-at.at c.index-steps-at.result c.in-Ok-step.answer
+            c.loop-at-test.true c.index-steps-at.is c.push_reserved.ensures.items x.1 y.1,
+        y.2,
+      );
+  sizes = search rules;
+  count = search rules;
+  room = search rules;
+}
+
+pub returns : goal.returns
+returns c F rep =
+    let x = c.loop-at.invariant.runs F rep in (
+      x.0,
+      subst (λ steps. Runs F (map flat_step steps) (map flat_answer c.loop-at.answers.items) x.0) (take_past c.args.steps.now c.loop-at.at c.loop-at-test.false) x.1,
+      x.2,
+      stands c.loop-at.world x.0 x.2,
+    )
+
+pub returns-in-Err : goal.returns-in-Err
+returns-in-Err c F rep = (
+  F,
+  subst (λ answers. Runs F (map flat_step (take 0 c.args.steps.now)) (map flat_answer answers) F) (sym c.new.ensures.items) refl,
+  rep,
+  stands c.args.world F rep,
+  some_steps (length c.args.steps.now) (λ none. let bad = c.in-Err.ensures.succeeds none in cc),
+)
+
+pub returns-in-Err-step : goal.returns-in-Err-step
+returns-in-Err-step c F rep =
+    let x = c.loop-at.invariant.runs F rep in
+    let now : Represents c.step.new.self x.0 = subst (λ (v : WorldView). Represents v x.0) (sym c.in-Err-step.ensures.err) x.2 in
+    (x.0, x.1, now, stands c.step.new.self x.0 now, c.loop-at-test.true)

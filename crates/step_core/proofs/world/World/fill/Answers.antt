@@ -1,0 +1,21 @@
+use Rattle.std.proofs.Common.{rules, subst, sym, ap, ◌≡◌, ◌∙◌, true}
+use Rattle.std.proofs.Math.ListN.{set}
+use Rattle.step_core.specs.declared.hand.Hand.TheVariants.{Waits}
+use Rattle.step_core.specs.Steps.{Filled}
+use Rattle.step_core.specs.Cases.{FillCase}
+use Rattle.step_core.specs.Views.{ArrayView, WorldView, hand_at}
+use Rattle.step_core.specs.Represents.{ShowsArray, is_claim}
+use Rattle.step_core.proofs.Hands.{as_world}
+use Rattle.step_core.proofs.Worlds.{fill_world}
+use Rattle.step_core.proofs.world.World.fill.Goals as goal
+
+pub returns-in-Ok-clause-ok : goal.returns-in-Ok-clause-ok
+returns-in-Ok-clause-ok c F rep =
+    let w = c.args.worker in
+    let s = c.args.slot in
+    let x = c.args.payload.now in
+    let held : is_claim (hand_at c.args.self.now.hands s) w ≡ true = search rules in
+    as_world (λ G. FillCase F w s x (Filled s) G) _ (record { array = c.fill.new.self; hands = set c.args.self.now.hands s (Waits w) }) (search rules)
+    (fill_world c.args.self.now F w s x c.fill.new.self (search rules) (search rules) rep held c.in-Ok._ticket (search rules)
+    (c.in-Ok.ensures.flat F w (subst (λ (a : ArrayView). ShowsArray a F) (sym (ap (λ (v : WorldView). v.array) c.self.view_is)) rep.array)
+    ((rep.hands s).claims w ∙ held)))

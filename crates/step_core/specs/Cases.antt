@@ -1,0 +1,145 @@
+-- The flat machine: which answer a step gives in a state, and which state it leaves. Each pair of step and answer has its
+-- case; what never comes is impossible.
+use Rattle.std.specs.Prelude.{◌≡◌, ◌≢◌, ℕ, ◌+◌, ◌-◌, ◌*◌, ◌/◌, ◌%◌, ◌^◌, ◌<◌, ◌≤◌, ◌==◌, ◌&&◌, not, nat_lt, Bool, true, false, if◌then◌else◌, List, [], ◌∷◌, ◌++◌, length, replicate, Option, Some, None}
+use Rattle.map_join.specs.declared.records.Record.{Record}
+use Rattle.step_core.specs.declared.group.Class.{Class}
+use Rattle.step_core.specs.declared.group.Class.TheVariants.{Mirrored, Parity}
+use Rattle.step_core.specs.declared.group.Member.{Member}
+use Rattle.step_core.specs.declared.refusal.Refusal.{Refusal}
+use Rattle.step_core.specs.declared.refusal.Refusal.TheVariants.{NoGroup, WrongClass, InUse, NoTicket, VersionSpent, ExtentTaken, SameDrive, LogFull, Full, BadMember}
+use Rattle.step_core.specs.Groups.{Made, slot_count, class_at, AreMembers, AreApart, AreUnowned, IsLowestFree, IsFull}
+use Rattle.step_core.specs.Flat.{Flat, Write, Holder, Worker, Ticket, Block, Shut, Content, Fresh, Moved, Stored, put, with_pair, without_pair, turned, same_holder, IsFree, IsKept, class_of, last_write, IsNewest}
+use Rattle.step_core.specs.Steps.{FlatStep, Claim, Release, Fill, Commit, Read, Make, Version, FlatAnswer, Claimed, Taken, Released, NotHeld, Filled, Committed, Found, MadeGroup, Refused}
+
+-- G is the state x
+abbrev pub Leaves : Flat → Flat → Type 0
+Leaves x G = G ≡ x
+
+-- the greatest version, and the longest log
+abbrev pub last_version : ℕ
+last_version = 4294967295
+
+abbrev pub longest_log : ℕ
+longest_log = 4294967295
+
+-- claim: where nobody holds the slot, the worker does
+abbrev pub ClaimCase : Flat → ℕ → ℕ → FlatAnswer → Flat → Type 0
+ClaimCase F w s (Claimed t) G = (t ≡ s) × (IsFree F s) × (Leaves (record F { held = with_pair F.held s (Worker w) }) G)
+ClaimCase F w s (Taken t) G = (t ≡ s) × ((k : Holder) × (F.held s k ≡ true)) × (Leaves F G)
+ClaimCase F w s _ G = ⊥
+
+-- release: where the worker holds the slot, nobody does
+abbrev pub ReleaseCase : Flat → ℕ → ℕ → FlatAnswer → Flat → Type 0
+ReleaseCase F w s (Released t) G = (t ≡ s) × (F.held s (Worker w) ≡ true) × (Leaves (record F { held = without_pair F.held s (Worker w) }) G)
+ReleaseCase F w s (NotHeld t) G = (t ≡ s) × (F.held s (Worker w) ≡ false) × (Leaves F G)
+ReleaseCase F w s _ G = ⊥
+
+-- the state in which a worker's slot waits with a fresh payload under a blank header
+abbrev pub filled : Flat → ℕ → ℕ → List ℕ → Flat
+filled F w s x = record F {
+  held = turned F.held s (Worker w) (Ticket w);
+  tickets = put F.tickets s (Some (Fresh x));
+  units = put F.units s (Some (record { header = None; payload = x }));
+}
+
+-- fill: a fresh payload into a mirrored slot that the worker holds
+abbrev pub FillCase : Flat → ℕ → ℕ → List ℕ → FlatAnswer → Flat → Type 0
+FillCase F w s x (NotHeld t) G = (t ≡ s) × (F.held s (Worker w) ≡ false) × (Leaves F G)
+FillCase F w s x (Refused NoGroup) G = (F.held s (Worker w) ≡ true) × (class_of F s ≡ None) × (Leaves F G)
+FillCase F w s x (Refused WrongClass) G = (F.held s (Worker w) ≡ true) × (class_of F s ≡ Some Parity) × (Leaves F G)
+FillCase F w s x (Refused InUse) G = (F.held s (Worker w) ≡ true) × (class_of F s ≡ Some Mirrored) × (IsKept F s) × (Leaves F G)
+FillCase F w s x (Filled t) G = (t ≡ s) × (F.held s (Worker w) ≡ true) × (class_of F s ≡ Some Mirrored) × (IsKept F s → ⊥) × (Leaves (filled F w s x) G)
+FillCase F w s x _ G = ⊥
+
+-- the version after the newest's, 1 where there is none
+abbrev pub next_version : Option Record → ℕ
+next_version None = 1
+next_version (Some r) = r.version + 1
+
+-- the slots' holders where the old place of a block, if any, goes from the block to the worker
+abbrev pub place_passed : (ℕ → Holder → Bool) → ℕ → ℕ → Option Record → ℕ → Holder → Bool
+place_passed held w b None = held
+place_passed held w b (Some old) = turned held old.place (Block b) (Worker w)
+
+-- the unit with the record in its header
+abbrev pub stamped : Option Stored → Record → Option Stored
+stamped None r = None
+stamped (Some u) r = Some (record u { header = Some r })
+
+-- the state after a commit that emits the record r: the slot goes to the block, its unit is stamped, the ticket ends, and
+-- the old place goes to the worker; `writes` are the acknowledged writes then
+abbrev pub committed : Flat → ℕ → ℕ → ℕ → Option Record → List Write → Record → Flat
+committed F w s b found writes r = record F {
+  writes = writes;
+  emitted = F.emitted ++ r ∷ [];
+  held = place_passed (turned F.held s (Ticket w) (Block b)) w b found;
+  tickets = put F.tickets s None;
+  units = put F.units s (stamped (F.units s) r);
+}
+
+-- commit of a ticket, given the newest record of the block
+abbrev pub CommitWith : Flat → ℕ → ℕ → ℕ → Option Record → Option Content → FlatAnswer → Flat → Type 0
+CommitWith F w s b found (Some (Fresh x)) (Refused VersionSpent) G = (next_version found ≡ last_version + 1) × (Leaves F G)
+CommitWith F w s b found (Some (Fresh x)) (Refused LogFull) G = (next_version found ≤ last_version) × (longest_log ≤ length F.emitted) × (Leaves F G)
+CommitWith F w s b found (Some (Fresh x)) (Committed r) G =
+    (next_version found ≤ last_version) × (length F.emitted < longest_log)
+    × (r ≡ record { block = b; version = next_version found; hop = 0; place = s })
+    × (Leaves (committed F w s b found (F.writes ++ record { block = b; version = next_version found; payload = x } ∷ []) r) G)
+CommitWith F w s b found _ _ G = ⊥
+
+-- commit: a worker's ticket becomes the newest place of the block
+abbrev pub CommitCase : Flat → ℕ → ℕ → ℕ → FlatAnswer → Flat → Type 0
+CommitCase F w s b (Refused NoTicket) G = (F.held s (Ticket w) ≡ false) × (Leaves F G)
+CommitCase F w s b answer G = (F.held s (Ticket w) ≡ true) × ((found : Option Record) × (IsNewest F.emitted b found) × (CommitWith F w s b found (F.tickets s) answer G))
+
+-- what a read finds
+abbrev pub found_of : Option Write → Option Version
+found_of None = None
+found_of (Some w) = Some (record { version = w.version; payload = w.payload })
+
+-- read: the last acknowledged write of the block
+abbrev pub ReadCase : Flat → ℕ → FlatAnswer → Flat → Type 0
+ReadCase F b (Found answer) G = (answer ≡ found_of (last_write F.writes b)) × (Leaves F G)
+ReadCase F b _ G = ⊥
+
+-- the units, those of a group's first slots blank with payload zero
+abbrev pub wiped : (ℕ → Option Stored) → ℕ → ℕ → ℕ → ℕ → Option Stored
+wiped units payload g count slot =
+    if (slot / 128 == g) && nat_lt (slot % 128) count then Some (record { header = None; payload = replicate payload 0 }) else units slot
+
+-- the state in which a group is made: its slots are blank with payload zero, and what was kept of its number is free
+abbrev pub made : Flat → Class → List Member → ℕ → Flat
+made F class members g = record F {
+  held = λ slot k. F.held slot k && not (same_holder k (Shut g));
+  groups = put F.groups g (Some (record { class = class; members = members }));
+  units = wiped F.units F.sizes.payload g (slot_count F.sizes.segments class (length members));
+}
+
+-- make: the lowest number that isn't made
+abbrev pub MakeCase : Flat → Class → List Member → FlatAnswer → Flat → Type 0
+MakeCase F class members (Refused BadMember) G = (AreMembers F.sizes.extents F.drives members → ⊥) × (Leaves F G)
+MakeCase F class members (Refused SameDrive) G =
+    (AreMembers F.sizes.extents F.drives members) × (AreApart members → ⊥) × (Leaves F G)
+MakeCase F class members (Refused ExtentTaken) G =
+    (AreMembers F.sizes.extents F.drives members) × (AreApart members) × (AreUnowned F.groups members → ⊥) × (Leaves F G)
+MakeCase F class members (Refused Full) G =
+    (AreMembers F.sizes.extents F.drives members) × (AreApart members) × (AreUnowned F.groups members) × (IsFull F.groups) × (Leaves F G)
+MakeCase F class members (MadeGroup g) G =
+    (AreMembers F.sizes.extents F.drives members) × (AreApart members) × (AreUnowned F.groups members) × (IsLowestFree F.groups g)
+    × (Leaves (made F class members g) G)
+MakeCase F class members _ G = ⊥
+
+-- the flat machine: the case of a step
+abbrev pub Case : Flat → FlatStep → FlatAnswer → Flat → Type 0
+Case F (Claim w s) answer G = ClaimCase F w s answer G
+Case F (Release w s) answer G = ReleaseCase F w s answer G
+Case F (Fill w s x) answer G = FillCase F w s x answer G
+Case F (Commit w s b) answer G = CommitCase F w s b answer G
+Case F (Read b) answer G = ReadCase F b answer G
+Case F (Make class members) answer G = MakeCase F class members answer G
+
+-- a run of the flat machine over a list of steps, with one answer for each
+abbrev pub Runs : Flat → List FlatStep → List FlatAnswer → Flat → Type 0
+Runs F [] [] G = Leaves F G
+Runs F (step ∷ steps) (answer ∷ answers) G = (M : Flat) × (Case F step answer M) × (Runs M steps answers G)
+Runs F _ _ G = ⊥

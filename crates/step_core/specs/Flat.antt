@@ -1,0 +1,115 @@
+-- The flat state: a list of acknowledged writes, a list of emitted records, a set of (slot, holder) pairs, and one unit
+-- for each slot. It has no running map, no free list and no parity.
+use Rattle.std.specs.Prelude.{◌≡◌, ℕ, ◌<◌, ◌≤◌, ◌==◌, ◌||◌, ◌&&◌, not, Bool, true, false, if◌then◌else◌, List, [], ◌∷◌, replicate, Contains, Option, Some, None}
+use Rattle.map_join.specs.declared.records.Record.{Record}
+use Rattle.map_join.specs.Record.{key_of}
+use Rattle.step_core.specs.declared.group.Class.{Class}
+use Rattle.step_core.specs.Sizes.{Sizes}
+use Rattle.step_core.specs.Groups.{Made, class_at}
+
+-- an acknowledged write: a version of a block, and what it holds
+pub record Write : Type 0 where
+  pub block : ℕ
+  pub version : ℕ
+  pub payload : List ℕ
+
+-- who holds a slot: a worker, a worker's ticket, the block whose newest place it is, or the number of an unmade group
+pub data Holder : Type 0 where
+  Worker : ℕ → Holder
+  Ticket : ℕ → Holder
+  Block : ℕ → Holder
+  Shut : ℕ → Holder
+
+-- what a ticket's slot waits to be: a fresh payload, or a copy of a block's version and hop with its payload
+pub data Content : Type 0 where
+  Fresh : List ℕ → Content
+  Moved : ℕ → ℕ → ℕ → List ℕ → Content
+
+-- a unit: the record in its header, none where that is blank, and its payload
+pub record Stored : Type 0 where
+  pub header : Option Record
+  pub payload : List ℕ
+
+-- the flat state
+pub record Flat : Type 0 where
+  pub sizes : Sizes
+  pub drives : ℕ
+  pub writes : List Write
+  pub emitted : List Record
+  pub held : ℕ → Holder → Bool
+  pub tickets : ℕ → Option Content
+  pub groups : ℕ → Option Made
+  pub units : ℕ → Option Stored
+
+-- a new array: nothing written, nothing held, no group made
+abbrev pub new_flat : Sizes → ℕ → Flat
+new_flat sizes drives = record {
+  sizes = sizes;
+  drives = drives;
+  writes = [];
+  emitted = [];
+  held = λ _ _. false;
+  tickets = λ _. None;
+  groups = λ _. None;
+  units = λ _. None;
+}
+
+-- the same holder
+abbrev pub same_holder : Holder → Holder → Bool
+same_holder (Worker v) (Worker w) = v == w
+same_holder (Ticket v) (Ticket w) = v == w
+same_holder (Block a) (Block b) = a == b
+same_holder (Shut g) (Shut h) = g == h
+same_holder _ _ = false
+
+-- a table with one place changed
+abbrev pub put : {X : Type 0} → (ℕ → X) → ℕ → X → ℕ → X
+put f place x other = if other == place then x else f other
+
+-- the set of pairs, and (slot, holder)
+abbrev pub with_pair : (ℕ → Holder → Bool) → ℕ → Holder → ℕ → Holder → Bool
+with_pair held slot holder = put held slot (λ k. held slot k || same_holder k holder)
+
+-- the set of pairs without (slot, holder)
+abbrev pub without_pair : (ℕ → Holder → Bool) → ℕ → Holder → ℕ → Holder → Bool
+without_pair held slot holder = put held slot (λ k. held slot k && not (same_holder k holder))
+
+-- the set of pairs in which the slot goes from one holder to another
+abbrev pub turned : (ℕ → Holder → Bool) → ℕ → Holder → Holder → ℕ → Holder → Bool
+turned held slot one other = with_pair (without_pair held slot one) slot other
+
+-- nobody holds the slot
+abbrev pub IsFree : Flat → ℕ → Type 0
+IsFree F slot = (k : Holder) → F.held slot k ≡ false
+
+-- the array itself holds the slot: for a ticket, a block or an unmade group
+pub data IsArrays : Holder → Type 0 where
+  for_ticket : (w : ℕ) → IsArrays (Ticket w)
+  for_block : (b : ℕ) → IsArrays (Block b)
+  for_shut : (g : ℕ) → IsArrays (Shut g)
+
+abbrev pub IsKept : Flat → ℕ → Type 0
+IsKept F slot = (k : Holder) × (IsArrays k) × (F.held slot k ≡ true)
+
+-- no slot has two holders
+abbrev pub HeldOnce : Flat → Type 0
+HeldOnce F = (slot : ℕ) (j k : Holder) → F.held slot j ≡ true → F.held slot k ≡ true → j ≡ k
+
+-- the class of a slot, none where no made group has it
+abbrev pub class_of : Flat → ℕ → Option Class
+class_of F slot = class_at F.sizes.segments F.groups slot
+
+-- the last acknowledged write of a block
+abbrev pub or_else : {X : Type 0} → Option X → Option X → Option X
+or_else (Some x) _ = Some x
+or_else None o = o
+
+abbrev pub last_write : List Write → ℕ → Option Write
+last_write [] block = None
+last_write (w ∷ ws) block = or_else (last_write ws block) (if w.block == block then Some w else None)
+
+-- the newest record of a block among the emitted: none where there is none of it, else one of them than which none has a
+-- greater key
+abbrev pub IsNewest : List Record → ℕ → Option Record → Type 0
+IsNewest emitted block None = (r : Record) → Contains emitted r → r.block ≡ block → ⊥
+IsNewest emitted block (Some r) = (Contains emitted r) × (r.block ≡ block) × ((q : Record) → Contains emitted q → q.block ≡ block → key_of q ≤ key_of r)

@@ -1,0 +1,44 @@
+-- What contracts see of the private parts of an array.
+use Rattle.std.specs.Prelude.{◌≡◌, ℕ, ◌<◌, List, slice_index_or, length, map, Option, Some, None}
+use Rattle.std.specs.Option.{option_map}
+use Rattle.step_core.specs.declared.place.Place.{Place}
+use Rattle.step_core.specs.declared.place.Place.TheVariants as place
+use Rattle.step_core.specs.declared.stored.StoredUnit.{StoredUnit}
+use Rattle.step_core.specs.declared.group.Group.{Group}
+use Rattle.step_core.specs.Groups.{Made}
+use Rattle.step_core.specs.Flat.{Stored}
+use Rattle.step_core.specs.Views.{Kept, Nothing, Pending, Newest, ArrayView}
+
+-- a place without its claim
+abbrev pub kept_of : {C : Type 0} → Place C → Kept
+kept_of place.Free = Nothing
+kept_of (place.Pending claim) = Pending
+kept_of (place.Newest block claim) = Newest block
+
+-- the claim of a place, if it has one, is of that slot
+abbrev pub IsOf : {C : Type 0} → (C → ℕ) → ℕ → Place C → Type 0
+IsOf names slot place.Free = (Unit {0})
+IsOf names slot (place.Pending claim) = names claim ≡ slot
+IsOf names slot (place.Newest block claim) = names claim ≡ slot
+
+-- each place's claim is of its slot
+abbrev pub AreOf : {C : Type 0} → (C → ℕ) → List (Place C) → Type 0
+AreOf names places = (slot : ℕ) → slot < length places → IsOf names slot (slice_index_or places slot place.Free)
+
+-- a unit as plain data
+abbrev pub stored_of : StoredUnit → Stored
+stored_of u = record { header = u.header; payload = u.payload.items }
+
+-- a group as plain data
+abbrev pub made_of : Group → Made
+made_of g = record { class = g.class; members = g.members.items }
+
+-- the parts of an array as plain data
+abbrev pub units_of : List (Option StoredUnit) → List (Option Stored)
+units_of units = map (option_map stored_of) units
+
+abbrev pub groups_of : List (Option Group) → List (Option Made)
+groups_of groups = map (option_map made_of) groups
+
+abbrev pub kepts_of : {C : Type 0} → List (Place C) → List Kept
+kepts_of places = map kept_of places

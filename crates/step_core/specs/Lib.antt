@@ -1,0 +1,14 @@
+pub mod Sizes
+pub mod Groups
+pub mod Flat
+pub mod Steps
+pub mod Cases
+pub mod Views
+pub mod Represents
+pub mod Kept
+pub mod Told
+pub mod Numbers
+pub mod Inside
+pub mod Changes
+pub mod Making
+pub mod Headline

@@ -1,0 +1,101 @@
+-- When an array or a world stands for a flat state.
+use Rattle.std.specs.Prelude.{◌≡◌, ℕ, ◌<◌, ◌≤◌, ◌==◌, Bool, true, false, is_some, if◌then◌else◌, List, slice_index, length, Contains, Option, Some, None}
+use Rattle.map_join.specs.declared.records.Record.{Record}
+use Rattle.map_join.specs.Record.{key_of, record_of, IsRecord}
+use Rattle.map_join.specs.Maps.{IsMapOf}
+use Rattle.step_core.specs.declared.group.Class.{Class}
+use Rattle.step_core.specs.declared.group.Class.TheVariants.{Mirrored, Parity}
+use Rattle.step_core.specs.Sizes.{Sizes}
+use Rattle.step_core.specs.Groups.{Made, class_at}
+use Rattle.step_core.specs.Flat.{Flat, Write, Holder, Worker, Ticket, Block, Shut, Content, Fresh, Moved, Stored, class_of, last_write}
+use Rattle.step_core.specs.declared.hand.Hand.{Hand}
+use Rattle.step_core.specs.declared.hand.Hand.TheVariants.{Empty, Holds, Waits}
+use Rattle.step_core.specs.Views.{Kept, Nothing, Pending, Newest, ArrayView, WorldView, kept_at, hand_at, group_at, unit_at, key_at, IsRoomy}
+
+-- what a flat state says of one slot
+pub record FlatSlot : Type 0 where
+  pub held : Holder → Bool
+  pub ticket : Option Content
+  pub unit : Option Stored
+  pub class : Option Class
+
+abbrev pub flat_at : Flat → ℕ → FlatSlot
+flat_at F s = record { held = F.held s; ticket = F.tickets s; unit = F.units s; class = class_of F s }
+
+-- what a ticket waits for, told from what is kept of its slot and from its unit
+abbrev pub waiting : Kept → Option Stored → Option Content
+waiting Pending (Some u) = Some (Fresh u.payload)
+waiting _ _ = None
+
+-- the slot is the newest place of the block
+abbrev pub is_newest : Kept → ℕ → Bool
+is_newest (Newest a) b = a == b
+is_newest _ b = false
+
+-- the unit is there with a blank header
+abbrev pub IsBlank : Option Stored → Type 0
+IsBlank None = ⊥
+IsBlank (Some u) = u.header ≡ None
+
+-- what the array says of one slot: the block whose newest place it is, its unit, and its ticket
+pub record ArraySlot (kept : Kept) (stored : Option Stored) (f : FlatSlot) : Type 0 where
+  pub blocks : (b : ℕ) → f.held (Block b) ≡ is_newest kept b
+  pub shut : (g : ℕ) → f.held (Shut g) ≡ false
+  pub unit : f.unit ≡ stored
+  pub there : is_some f.class ≡ is_some stored
+  pub ticket : f.ticket ≡ waiting kept stored
+  pub blank : kept ≡ Pending → IsBlank stored
+  pub waits : kept ≡ Pending → (w : ℕ) × (f.held (Ticket w) ≡ true)
+  pub tickets : f.ticket ≡ None → (w : ℕ) → f.held (Ticket w) ≡ false
+  pub lone : (v w : ℕ) → f.held (Ticket v) ≡ true → f.held (Ticket w) ≡ true → v ≡ w
+
+-- the block's last write lies at its newest place, under its record, and the array keeps that place for it
+pub record IsWritten (F : Flat) (b key : ℕ) (w : Write) : Type 0 where
+  pub version : w.version ≡ (record_of b key).version
+  pub unit : F.units (record_of b key).place ≡ Some (record { header = Some (record_of b key); payload = w.payload })
+  pub place : F.held (record_of b key).place (Block b) ≡ true
+
+-- a block that has no key was never written, and one that has a key was
+abbrev pub BlockStands : Flat → ℕ → ℕ → Type 0
+BlockStands F b key = (key ≡ 0 → last_write F.writes b ≡ None) × (0 < key → (w : Write) × (last_write F.writes b ≡ Some w) × (IsWritten F b key w))
+
+-- an array stands for a flat state
+pub record ShowsArray (a : ArrayView) (F : Flat) : Type 0 where
+  pub room : IsRoomy a
+  pub sizes : F.sizes ≡ a.sizes
+  pub drives : F.drives ≡ a.drives
+  pub log : F.emitted ≡ a.log
+  pub records : (r : Record) → Contains F.emitted r → IsRecord r
+  pub map : IsMapOf F.emitted (key_at a)
+  pub groups : (g : ℕ) → F.groups g ≡ group_at a g
+  pub slots : (s : ℕ) → ArraySlot (kept_at a s) (unit_at a s) (flat_at F s)
+  pub written : (b : ℕ) → BlockStands F b (key_at a b)
+
+-- worker w has a claim of the slot in hand, or a ticket
+abbrev pub is_claim : Hand → ℕ → Bool
+is_claim (Holds v) w = v == w
+is_claim _ w = false
+
+abbrev pub is_ticket : Hand → ℕ → Bool
+is_ticket (Waits v) w = v == w
+is_ticket _ w = false
+
+-- the array and the workers don't both have the slot, and each ticket is a worker's
+abbrev pub Agree : Kept → Hand → Type 0
+Agree Nothing Empty = Unit {0}
+Agree Nothing (Holds _) = Unit {0}
+Agree Pending (Waits _) = Unit {0}
+Agree (Newest _) Empty = Unit {0}
+Agree _ _ = ⊥
+
+-- what the workers' hands say of one slot
+pub record HandSlot (kept : Kept) (hand : Hand) (f : FlatSlot) : Type 0 where
+  pub claims : (w : ℕ) → f.held (Worker w) ≡ is_claim hand w
+  pub tickets : (w : ℕ) → f.held (Ticket w) ≡ is_ticket hand w
+  pub agree : Agree kept hand
+
+-- a world stands for a flat state
+pub record Represents (w : WorldView) (F : Flat) : Type 0 where
+  pub array : ShowsArray w.array F
+  pub room : length w.hands ≡ 65536
+  pub hands : (s : ℕ) → HandSlot (kept_at w.array s) (hand_at w.hands s) (flat_at F s)

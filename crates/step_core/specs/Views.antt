@@ -1,0 +1,91 @@
+-- What contracts see of an array and of a world: plain data, without claims.
+use Rattle.std.specs.Prelude.{◌≡◌, ◌≢◌, ℕ, ◌<◌, ◌≤◌, ◌^◌, Bool, true, false, is_some, not, List, [], slice_index, slice_index_or, length, Option, Some, None}
+use Rattle.map_join.specs.declared.records.Record.{Record}
+use Rattle.map_join.specs.Record.{record_of}
+use Rattle.step_core.specs.Sizes.{Sizes}
+use Rattle.step_core.specs.Groups.{Made}
+use Rattle.step_core.specs.Flat.{Stored}
+use Rattle.step_core.specs.declared.hand.Hand.{Hand}
+use Rattle.step_core.specs.declared.hand.Hand.TheVariants.{Empty, Holds, Waits}
+
+-- what the array itself keeps of a slot: nothing, a ticket's claim, or the claim of a block's newest place
+pub data Kept : Type 0 where
+  Nothing : Kept
+  Pending : Kept
+  Newest : ℕ → Kept
+
+-- the array keeps the slot
+abbrev pub is_kept : Kept → Bool
+is_kept Nothing = false
+is_kept Pending = true
+is_kept (Newest block) = true
+
+-- an array: its log, the key of each block (0 for none), of each slot what is kept and what its unit holds, and its groups
+pub record ArrayView : Type 0 where
+  pub sizes : Sizes
+  pub drives : ℕ
+  pub log : List Record
+  pub keys : List ℕ
+  pub kept : List Kept
+  pub units : List (Option Stored)
+  pub groups : List (Option Made)
+
+-- a world: an array and the workers' hands, by slot
+pub record WorldView : Type 0 where
+  pub array : ArrayView
+  pub hands : List Hand
+
+-- the tables at a slot, a group or a block; past their ends there is nothing
+abbrev pub kept_at : ArrayView → ℕ → Kept
+kept_at a slot = slice_index_or a.kept slot Nothing
+
+abbrev pub unit_at : ArrayView → ℕ → Option Stored
+unit_at a slot = slice_index_or a.units slot None
+
+abbrev pub group_at : ArrayView → ℕ → Option Made
+group_at a g = slice_index_or a.groups g None
+
+abbrev pub key_at : ArrayView → ℕ → ℕ
+key_at a block = slice_index a.keys block
+
+abbrev pub hand_at : List Hand → ℕ → Hand
+hand_at hands slot = slice_index_or hands slot Empty
+
+-- neither the array nor a worker has the slot
+abbrev pub has_no_holder : Kept → Hand → Bool
+has_no_holder kept Empty = not (is_kept kept)
+has_no_holder kept (Holds w) = false
+has_no_holder kept (Waits w) = false
+
+-- the tables have a place for each slot, group and block
+pub record IsRoomy (a : ArrayView) : Type 0 where
+  pub kept : length a.kept ≡ 65536
+  pub units : length a.units ≡ 65536
+  pub groups : length a.groups ≡ 512
+  pub keys : length a.keys ≡ a.sizes.blocks
+
+-- what every array keeps: each key is a record's, whose place is kept for that block; what is kept has a unit; and groups
+-- have three to eight members
+pub record IsWhole (a : ArrayView) : Type 0 where
+  pub room : IsRoomy a
+  pub blocks : a.sizes.blocks ≤ 65536
+  pub keys : (b : ℕ) → 0 < key_at a b → 2 ^ 32 ≤ key_at a b
+  pub fit : (b : ℕ) → key_at a b < 2 ^ 64
+  pub newest : (b : ℕ) → 0 < key_at a b → kept_at a (record_of b (key_at a b)).place ≡ Newest b
+  pub stored : (s : ℕ) → kept_at a s ≢ Nothing → is_some (unit_at a s) ≡ true
+  pub members : (g : ℕ) (made : Made) → group_at a g ≡ Some made → (3 ≤ length made.members) × (length made.members ≤ 8)
+
+-- an array to which nothing has happened
+pub record IsNew (sizes : Sizes) (drives : ℕ) (a : ArrayView) : Type 0 where
+  pub sizes_are : a.sizes ≡ sizes
+  pub drives_are : a.drives ≡ drives
+  pub log : a.log ≡ []
+  pub keys : (b : ℕ) → key_at a b ≡ 0
+  pub kept : (s : ℕ) → kept_at a s ≡ Nothing
+  pub units : (s : ℕ) → unit_at a s ≡ None
+  pub groups : (g : ℕ) → group_at a g ≡ None
+  pub room : IsRoomy a
+
+-- two worlds of the same sizes
+abbrev pub SameSizes : WorldView → WorldView → Type 0
+SameSizes old new = new.array.sizes ≡ old.array.sizes

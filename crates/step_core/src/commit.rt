@@ -1,0 +1,186 @@
+// A slot that waits becomes the newest place of a block.
+ghost use Rattle.std.specs.Prelude.{◌≡◌, ◌≢◌, ℕ, ◌+◌, ◌^◌, ◌<◌, ◌≤◌, List, [], ◌∷◌, ◌++◌, vec_len, slice_index_or, slice_set, MatchResult, IfOk, IfErr, true, Some, None};
+ghost use Rattle.std.specs.Option.{ForSome};
+ghost use Rattle.map_join.specs.Record.{key_of, record_at};
+ghost use Rattle.map_join.specs.declared.records.Record.{Record};
+ghost use Rattle.step_core.specs.Steps as say;
+ghost use Rattle.step_core.specs.Flat.{Flat, Ticket as ticket_of, IsNewest};
+ghost use Rattle.step_core.specs.Cases.{CommitCase, next_version, stamped};
+ghost use Rattle.step_core.specs.Views.{Nothing, Pending, Newest, ArrayView, key_at, kept_at};
+ghost use Rattle.step_core.specs.Kept.{kepts_of, units_of, AreOf};
+ghost use Rattle.step_core.specs.Changes.{commit_view, commit_reason, passed, IsPlaceOf, MayRefuse};
+ghost use Rattle.step_core.specs.Represents.{ShowsArray};
+
+use crate::array::Array;
+use crate::hold::{Hold, Ticket};
+use crate::place::{Place, put_in, take_out};
+use crate::refusal::Refusal;
+use crate::stored::StoredUnit;
+use map_join::Record;
+use std::alloc::Global;
+use std::marker::Model;
+
+/// The greatest version of a block, and the longest log.
+const LAST_VERSION: u32 = 4_294_967_295;
+
+const LONGEST_LOG: usize = 4_294_967_295;
+
+/// The record of a commit that was acknowledged. It can't be cloned, and a commit alone makes one.
+#[derive(Debug, Drop)]
+pub struct Emitted {
+    record: Record,
+}
+
+impl Model for Emitted {
+    ghost use Rattle.map_join.specs.declared.records.Record.{Record};
+
+    ghost Value = { Record };
+
+    ghost view = { λ emitted. emitted.record };
+}
+
+impl Emitted {
+    fn of(record: Record) -> Emitted
+        ensures { result ≡ «record» }
+    {
+        Emitted { record }
+    }
+
+    /// The record that was emitted.
+    pub fn record(&self) -> Record
+        ensures { result ≡ self.now }
+    {
+        self.record
+    }
+}
+
+/// A commit that was carried out: its record, and the claim of the block's last place, if it had one.
+#[derive(Debug, Drop)]
+pub struct Done<C: Hold> {
+    pub emitted: Emitted,
+    pub old: Option<C>,
+}
+
+impl<C: Hold> Array<C> {
+    /// Commits a slot that waits: it becomes the newest place of the block, under the next version.
+    pub fn commit(
+        &mut self,
+        alloc: Global,
+        ticket: Ticket,
+        block: u32,
+    ) -> Result<Done<C>, (Refusal, Ticket)>
+        requires { block < self.old.sizes.blocks }
+        ensures done { IfOk result (λ done.
+            (self.new ≡ commit_view self.old ticket block (record_at block (key_at self.old block)) done.emitted)
+            × IsPlaceOf C.names done.old (record_at block (key_at self.old block))) }
+        ensures err { IfErr result (λ e. (e.1 ≡ ticket) × (self.new ≡ self.old)) }
+        ensures flat { (F : Flat) (w : ℕ) → ShowsArray self.old F → (F.tickets ticket ≢ None → F.held ticket (ticket_of w) ≡ true)
+            → MatchResult result
+            (λ done. (G : Flat) × CommitCase F w ticket block (say.Committed done.emitted) G × ShowsArray self.new G)
+            (λ e. MayRefuse e.0
+            ((r : Record) × (G : Flat) × CommitCase F w ticket block (say.Committed r) G)
+            (CommitCase F w ticket block (say.Refused e.0) F)) }
+    {
+        let slot = ticket.slot();
+        let found = self.newest(block);
+        match self.commit_fault(slot, found) {
+            Some(refusal) => return Err((refusal, ticket)),
+            None => {}
+        }
+        let record = next_record(block, slot, found);
+        match self.log.push(record) {
+            Ok(()) => {}
+            Err(_) => return Err((Refusal::Memory, ticket)),
+        }
+        stamp(&mut self.units, slot, record);
+        self.keys[block as usize] = record.key();
+        let old = let_go(&mut self.places, block, found);
+        keep_newest(&mut self.places, slot, block);
+        Ok(Done {
+            emitted: Emitted::of(record),
+            old,
+        })
+    }
+
+    // Why a ticket of the slot can't be committed, given the newest record of the block.
+    fn commit_fault(&self, slot: u16, found: Option<Record>) -> Option<Refusal>
+        ensures { result ≡ commit_reason self.now slot found }
+    {
+        if !matches!(self.places[usize::from(slot)], Place::Pending(_)) {
+            return Some(Refusal::NoTicket);
+        }
+        if let Some(record) = found
+            && record.version == LAST_VERSION
+        {
+            return Some(Refusal::VersionSpent);
+        }
+        if self.log.len() >= LONGEST_LOG {
+            return Some(Refusal::LogFull);
+        }
+        None
+    }
+}
+
+// Writes the record into the header of the slot's unit.
+#[tactic(auto, using(crate::proofs::Tables::units_set, crate::proofs::Tables::unit_there))]
+fn stamp(units: &mut Vec<Option<StoredUnit>>, slot: u16, record: Record)
+    requires { slot < vec_len units.old }
+    ensures { units_of units.new.items ≡ slice_set (units_of units.old.items) slot (stamped (slice_index_or (units_of units.old.items) slot None) «record») }
+{
+    if let Some(unit) = &mut units[usize::from(slot)] {
+        unit.header = Some(record);
+    }
+}
+
+// The claim of a block's last place, which is kept no longer.
+fn let_go<C: Hold>(places: &mut Vec<Place<C>>, block: u32, found: Option<Record>) -> Option<C>
+    requires inside { 65536 ≤ vec_len places.old }
+    requires newest { ForSome found (λ r. slice_index_or (kepts_of places.old.items) r.place Nothing ≡ Newest block) }
+    requires claims { AreOf C.names places.old.items }
+    ensures kept { kepts_of places.new.items ≡ passed (kepts_of places.old.items) found }
+    ensures room { vec_len places.new ≡ vec_len places.old }
+    ensures old { IsPlaceOf C.names result found }
+    ensures claims { AreOf C.names places.new.items }
+{
+    let Some(record) = found else {
+        return None;
+    };
+    match take_out(places, record.place) {
+        Place::Newest(_, claim) => Some(claim),
+        Place::Free => unreachable!(),
+        Place::Pending(_claim) => unreachable!(),
+    }
+}
+
+// The claim that waited is kept for the block.
+#[tactic(auto, using(crate::proofs::Tables::set_twice))]
+fn keep_newest<C: Hold>(places: &mut Vec<Place<C>>, slot: u16, block: u32)
+    requires inside { slot < vec_len places.old }
+    requires waits { slice_index_or (kepts_of places.old.items) slot Nothing ≡ Pending }
+    requires claims { AreOf C.names places.old.items }
+    ensures kept { kepts_of places.new.items ≡ slice_set (kepts_of places.old.items) slot (Newest block) }
+    ensures claims { AreOf C.names places.new.items }
+{
+    match take_out(places, slot) {
+        Place::Pending(claim) => put_in(places, slot, Place::Newest(block, claim)),
+        Place::Free => unreachable!(),
+        Place::Newest(_, _claim) => unreachable!(),
+    }
+}
+
+// The record of a fresh write.
+fn next_record(block: u32, slot: u16, found: Option<Record>) -> Record
+    requires { next_version found < 2 ^ 32 }
+    ensures { result ≡ record { block = block; version = next_version found; hop = 0; place = slot } }
+{
+    let version = match found {
+        None => 1,
+        Some(record) => record.version + 1,
+    };
+    Record {
+        block,
+        version,
+        hop: 0,
+        place: slot,
+    }
+}

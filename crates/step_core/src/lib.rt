@@ -1,0 +1,31 @@
+//! The array: slots that are claimed, filled, committed and read, step by step of a flat machine.
+#![tactic(auto)]
+
+mod array;
+mod commit;
+mod fill;
+mod group;
+mod hand;
+mod hold;
+mod make;
+mod place;
+mod read;
+mod refusal;
+mod run;
+mod shape;
+mod step;
+mod stored;
+mod world;
+
+pub use array::Array;
+pub use commit::{Done, Emitted};
+pub use group::{Class, Member};
+pub use hold::{Hold, Plain, Ticket};
+pub use refusal::Refusal;
+pub use run::{Run, Stopped, run_steps};
+pub use shape::{Shape, ShapeRefusal};
+pub use step::{Answer, Step};
+pub use world::World;
+
+#[cfg(test)]
+mod tests;

@@ -1,0 +1,48 @@
+// What the array keeps of a slot, claims included. No claim can be lost: it goes in by `put_in`, and
+// comes out by `take_out`.
+ghost use Rattle.std.specs.Prelude.{◌≡◌, ℕ, ◌<◌, vec_len, slice_index_or, slice_set};
+ghost use Rattle.step_core.specs.Kept.{kept_of, kepts_of, IsOf, AreOf};
+ghost use Rattle.step_core.specs.Views.{Nothing};
+
+use crate::hold::Hold;
+use std::mem;
+
+/// Nothing, the claim of a slot that waits, or the claim of a block's newest place.
+#[derive(Debug, Drop)]
+pub(crate) enum Place<C: Hold> {
+    Free,
+    Pending(C),
+    Newest(u32, C),
+}
+
+// What is kept of a slot, which is free then.
+#[tactic(auto, using(crate::proofs::Tables::kepts_set))]
+pub(crate) fn take_out<C: Hold>(places: &mut Vec<Place<C>>, slot: u16) -> Place<C>
+    requires inside { slot < vec_len places.old }
+    requires claims { AreOf C.names places.old.items }
+    ensures taken { kept_of result ≡ slice_index_or (kepts_of places.old.items) slot Nothing }
+    ensures of { IsOf C.names slot result }
+    ensures left { kepts_of places.new.items ≡ slice_set (kepts_of places.old.items) slot Nothing }
+    ensures claims { AreOf C.names places.new.items }
+    ensures room { vec_len places.new ≡ vec_len places.old }
+{
+    mem::replace(&mut places[usize::from(slot)], Place::Free)
+}
+
+// Keeps something of a slot of which nothing is kept.
+#[tactic(auto, using(crate::proofs::Tables::kepts_set))]
+pub(crate) fn put_in<C: Hold>(places: &mut Vec<Place<C>>, slot: u16, place: Place<C>)
+    requires inside { slot < vec_len places.old }
+    requires free { slice_index_or (kepts_of places.old.items) slot Nothing ≡ Nothing }
+    requires of { IsOf C.names slot place }
+    requires claims { AreOf C.names places.old.items }
+    ensures kept { kepts_of places.new.items ≡ slice_set (kepts_of places.old.items) slot (kept_of place) }
+    ensures claims { AreOf C.names places.new.items }
+    ensures room { vec_len places.new ≡ vec_len places.old }
+{
+    match mem::replace(&mut places[usize::from(slot)], place) {
+        Place::Free => {}
+        Place::Pending(_claim) => unreachable!(),
+        Place::Newest(_, _claim) => unreachable!(),
+    }
+}

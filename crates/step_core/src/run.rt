@@ -1,0 +1,113 @@
+// Runs of a world over a list of steps.
+ghost use Rattle.std.specs.Prelude.{◌≡◌, ◌<◌, length, take, map, All, MatchResult, IsTrue, ◌↔◌, IfOk, OnErr};
+ghost use Rattle.step_core.specs.Flat.{Flat};
+ghost use Rattle.step_core.specs.Cases.{Case, Runs};
+ghost use Rattle.step_core.specs.Told.{flat_answer, flat_step, FitsStep};
+ghost use Rattle.step_core.specs.Views.{SameSizes};
+ghost use Rattle.step_core.specs.Represents.{Represents};
+ghost use Rattle.step_core.specs.Headline.{Stands};
+
+use crate::step::{Answer, Step};
+use crate::world::World;
+use std::alloc::{AllocError, Global};
+
+/// How many workers a world has.
+const WORKERS: u8 = 8;
+
+/// A run to its end: the world then, and one answer for each step.
+#[derive(Drop)]
+pub struct Run {
+    pub world: World,
+    pub answers: Vec<Answer>,
+}
+
+/// A run that stopped for want of memory: the step `at` changed nothing, and the answers are those of
+/// the steps before it.
+#[derive(Drop)]
+pub struct Stopped {
+    pub world: World,
+    pub answers: Vec<Answer>,
+    pub at: usize,
+}
+
+impl World {
+    /// Whether the step's worker, block and payload are of this world: a worker below 8, a block that
+    /// the array has, and a payload of its length.
+    pub fn fits(&self, step: &Step) -> bool
+        ensures { IsTrue result ↔ FitsStep self.now.array.sizes step.now }
+    {
+        let shape = self.array().shape();
+        match step {
+            Step::Claim { worker, slot: _ } => *worker < WORKERS,
+            Step::Release { worker, slot: _ } => *worker < WORKERS,
+            Step::Fill {
+                worker,
+                slot: _,
+                payload,
+            } => *worker < WORKERS && payload.len() == shape.payload() as usize,
+            Step::Commit {
+                worker,
+                slot: _,
+                block,
+            } => *worker < WORKERS && *block < shape.blocks(),
+            Step::Read { block } => *block < shape.blocks(),
+            Step::Make {
+                class: _,
+                members: _,
+            } => true,
+        }
+    }
+
+    /// Carries out a step that fits. Only want of memory stops it, and then nothing has changed.
+    pub fn step(&mut self, alloc: Global, step: &Step) -> Result<Answer, AllocError>
+        requires { FitsStep self.old.array.sizes step.now }
+        ensures ok { IfOk result (λ answer. (F : Flat) → Represents self.old F
+            → (G : Flat) × Case F (flat_step step.now) (flat_answer answer) G × Represents self.new G) }
+        ensures err { OnErr result (self.new ≡ self.old) }
+        ensures room { SameSizes self.old self.new }
+    {
+        match step {
+            Step::Claim { worker, slot } => Ok(self.claim(*worker, *slot)),
+            Step::Release { worker, slot } => Ok(self.release(*worker, *slot)),
+            Step::Fill {
+                worker,
+                slot,
+                payload,
+            } => self.fill(alloc, *worker, *slot, payload),
+            Step::Commit {
+                worker,
+                slot,
+                block,
+            } => self.commit(alloc, *worker, *slot, *block),
+            Step::Read { block } => self.read(alloc, *block),
+            Step::Make { class, members } => self.make(alloc, *class, members),
+        }
+    }
+}
+
+/// Runs a world over steps that fit it.
+pub fn run_steps(alloc: Global, mut world: World, steps: &[Step]) -> Result<Run, Stopped>
+    requires { All (FitsStep world.array.sizes) steps.now }
+    ensures { (F : Flat) → Represents world F → MatchResult result
+        (λ run. (G : Flat) × Runs F (map flat_step steps.now) (map flat_answer run.answers.items) G × Represents run.world G × Stands run.world G)
+        (λ stop. (G : Flat) × Runs F (map flat_step (take stop.at steps.now)) (map flat_answer stop.answers.items) G × Represents stop.world G × Stands stop.world G
+        × (stop.at < length steps.now)) }
+{
+    let mut answers = match Vec::with_capacity(alloc, steps.len()) {
+        Ok(answers) => answers,
+        Err(_) => {
+            return Err(Stopped {
+                world,
+                answers: Vec::new(alloc),
+                at: 0,
+            });
+        }
+    };
+    for (at, step) in steps.iter().enumerate() {
+        match world.step(alloc, step) {
+            Ok(answer) => answers.push_reserved(answer),
+            Err(_) => return Err(Stopped { world, answers, at }),
+        }
+    }
+    Ok(Run { world, answers })
+}

@@ -1,0 +1,53 @@
+// Steps of a world, and their answers.
+use crate::group::{Class, Member};
+use crate::refusal::Refusal;
+use map_join::Record;
+
+/// A step. Workers are numbered from 0 to 7.
+#[derive(Debug, Drop)]
+pub enum Step {
+    Claim {
+        worker: u8,
+        slot: u16,
+    },
+    Release {
+        worker: u8,
+        slot: u16,
+    },
+    Fill {
+        worker: u8,
+        slot: u16,
+        payload: Vec<u8>,
+    },
+    Commit {
+        worker: u8,
+        slot: u16,
+        block: u32,
+    },
+    Read {
+        block: u32,
+    },
+    Make {
+        class: Class,
+        members: Vec<Member>,
+    },
+}
+
+/// What a step answers.
+#[derive(Debug, Drop)]
+pub enum Answer {
+    Claimed(u16),
+    /// Somebody holds the slot.
+    Taken(u16),
+    Released(u16),
+    /// The worker has no claim of the slot.
+    NotHeld(u16),
+    Filled(u16),
+    Committed(Record),
+    /// The version and the payload of the block's last write, none where it was never written.
+    Read(Option<(u32, Vec<u8>)>),
+    /// The number of the group that was made.
+    Made(u16),
+    /// Never for want of memory, which stops a run.
+    Refused(Refusal),
+}

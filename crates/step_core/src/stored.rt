@@ -1,0 +1,9 @@
+// A unit: a header and a payload.
+use map_join::Record;
+
+/// The record in the header, none where it is blank, and the payload.
+#[derive(Debug, Drop)]
+pub(crate) struct StoredUnit {
+    pub(crate) header: Option<Record>,
+    pub(crate) payload: Vec<u8>,
+}

@@ -1,0 +1,230 @@
+// An array with eight workers, who hold plain claims.
+ghost use Rattle.std.specs.Prelude.{◌≡◌, ℕ, ◌<◌, ◌≤◌, length, IfOk, IfErr, OnErr};
+ghost use Rattle.map_join.specs.declared.records.Record.{Record};
+ghost use Rattle.step_core.specs.Steps as say;
+ghost use Rattle.step_core.specs.Flat.{Flat, new_flat};
+ghost use Rattle.step_core.specs.Cases.{Case};
+ghost use Rattle.step_core.specs.Told.{flat_answer};
+ghost use Rattle.step_core.specs.Views.{kept_at, hand_at, has_no_holder, SameSizes};
+ghost use Rattle.step_core.specs.Changes.{passed_hands};
+ghost use Rattle.step_core.specs.Represents.{Represents, is_claim, is_ticket};
+
+use crate::array::{Array, SLOTS};
+use crate::group::{Class, Member};
+use crate::hand::Hand;
+use crate::hold::{Plain, Ticket};
+use crate::refusal::Refusal;
+use crate::shape::Shape;
+use crate::step::Answer;
+use map_join::Record;
+use std::alloc::{AllocError, Global};
+use std::marker::Model;
+
+/// An array, and of each slot what a worker has in hand.
+#[derive(Drop)]
+pub struct World {
+    array: Array<Plain>,
+    hands: Vec<Hand>,
+}
+
+impl Model for World {
+    ghost use Rattle.std.specs.Prelude.{◌≡◌, length};
+    ghost use Rattle.step_core.specs.Views.{WorldView};
+
+    ghost Value = { WorldView };
+
+    ghost view = { λ w. record { array = w.array; hands = w.hands.items } };
+
+    ghost invariant = { λ w. length w.hands.items ≡ 65536 };
+}
+
+impl World {
+    /// A new world: a new array, and empty hands. There are 3 to 16 drives.
+    pub fn new(alloc: Global, shape: Shape, drives: u8) -> Result<World, Refusal>
+        requires { (3 ≤ drives) × (drives ≤ 16) }
+        ensures ok { IfOk result (λ world. Represents world (new_flat shape drives)) }
+        ensures sizes { IfOk result (λ world. world.array.sizes ≡ shape) }
+        ensures err { IfErr result (λ refusal. refusal ≡ Refusal.Memory) }
+    {
+        let array = Array::new(alloc, shape, drives)?;
+        match empty_hands(alloc, SLOTS) {
+            Ok(hands) => Ok(World { array, hands }),
+            Err(_) => Err(Refusal::Memory),
+        }
+    }
+
+    pub fn array(&self) -> &Array<Plain>
+        ensures { result.now ≡ self.now.array }
+    {
+        &self.array
+    }
+
+    // Nobody holds the slot.
+    fn is_free(&self, slot: u16) -> bool
+        ensures { result ≡ has_no_holder (kept_at self.now.array slot) (hand_at self.now.hands slot) }
+    {
+        match self.hands[usize::from(slot)] {
+            Hand::Empty => !self.array.is_held(slot),
+            Hand::Holds(_) => false,
+            Hand::Waits(_) => false,
+        }
+    }
+
+    // The worker has a claim of the slot.
+    fn holds(&self, worker: u8, slot: u16) -> bool
+        ensures { result ≡ is_claim (hand_at self.now.hands slot) worker }
+    {
+        match self.hands[usize::from(slot)] {
+            Hand::Holds(other) => other == worker,
+            Hand::Empty => false,
+            Hand::Waits(_) => false,
+        }
+    }
+
+    // The worker has a ticket of the slot.
+    fn waits(&self, worker: u8, slot: u16) -> bool
+        ensures { result ≡ is_ticket (hand_at self.now.hands slot) worker }
+    {
+        match self.hands[usize::from(slot)] {
+            Hand::Waits(other) => other == worker,
+            Hand::Empty => false,
+            Hand::Holds(_) => false,
+        }
+    }
+
+    /// Claims a slot that nobody holds.
+    pub fn claim(&mut self, worker: u8, slot: u16) -> Answer
+        ensures flat { (F : Flat) → Represents self.old F
+            → (G : Flat) × Case F (say.Claim worker slot) (flat_answer result) G × Represents self.new G }
+        ensures room { SameSizes self.old self.new }
+    {
+        if self.is_free(slot) {
+            self.hands[usize::from(slot)] = Hand::Holds(worker);
+            Answer::Claimed(slot)
+        } else {
+            Answer::Taken(slot)
+        }
+    }
+
+    /// Gives back a slot that the worker holds.
+    pub fn release(&mut self, worker: u8, slot: u16) -> Answer
+        ensures flat { (F : Flat) → Represents self.old F
+            → (G : Flat) × Case F (say.Release worker slot) (flat_answer result) G × Represents self.new G }
+        ensures room { SameSizes self.old self.new }
+    {
+        if self.holds(worker, slot) {
+            self.hands[usize::from(slot)] = Hand::Empty;
+            Answer::Released(slot)
+        } else {
+            Answer::NotHeld(slot)
+        }
+    }
+
+    /// Fills a slot that the worker holds.
+    pub fn fill(
+        &mut self,
+        alloc: Global,
+        worker: u8,
+        slot: u16,
+        payload: &[u8],
+    ) -> Result<Answer, AllocError>
+        requires { length payload.now ≡ self.old.array.sizes.payload }
+        ensures ok { IfOk result (λ answer. (F : Flat) → Represents self.old F
+            → (G : Flat) × Case F (say.Fill worker slot payload.now) (flat_answer answer) G × Represents self.new G) }
+        ensures err { OnErr result (self.new ≡ self.old) }
+        ensures wants { OnErr result ((F : Flat) → Represents self.old F → (G : Flat) × Case F (say.Fill worker slot payload.now) (say.Filled slot) G) }
+        ensures room { SameSizes self.old self.new }
+    {
+        if !self.holds(worker, slot) {
+            return Ok(Answer::NotHeld(slot));
+        }
+        match self.array.fill(alloc, Plain { slot }, payload) {
+            Ok(_ticket) => {
+                self.hands[usize::from(slot)] = Hand::Waits(worker);
+                Ok(Answer::Filled(slot))
+            }
+            Err((Refusal::Memory, _claim)) => Err(AllocError),
+            Err((refusal, _claim)) => Ok(Answer::Refused(refusal)),
+        }
+    }
+
+    /// Commits a slot that waits for the worker.
+    pub fn commit(
+        &mut self,
+        alloc: Global,
+        worker: u8,
+        slot: u16,
+        block: u32,
+    ) -> Result<Answer, AllocError>
+        requires { block < self.old.array.sizes.blocks }
+        ensures ok { IfOk result (λ answer. (F : Flat) → Represents self.old F
+            → (G : Flat) × Case F (say.Commit worker slot block) (flat_answer answer) G × Represents self.new G) }
+        ensures err { OnErr result (self.new ≡ self.old) }
+        ensures wants { OnErr result ((F : Flat) → Represents self.old F → (r : Record) × (G : Flat) × Case F (say.Commit worker slot block) (say.Committed r) G) }
+        ensures room { SameSizes self.old self.new }
+    {
+        if !self.waits(worker, slot) {
+            return Ok(Answer::Refused(Refusal::NoTicket));
+        }
+        let found = self.array.told(block);
+        match self.array.commit(alloc, Ticket::of(slot), block) {
+            Ok(done) => {
+                pass_hands(&mut self.hands, slot, worker, found);
+                Ok(Answer::Committed(done.emitted.record()))
+            }
+            Err((Refusal::Memory, _ticket)) => Err(AllocError),
+            Err((refusal, _ticket)) => Ok(Answer::Refused(refusal)),
+        }
+    }
+
+    /// Reads a block.
+    pub fn read(&self, alloc: Global, block: u32) -> Result<Answer, AllocError>
+        requires { block < self.now.array.sizes.blocks }
+        ensures { IfOk result (λ answer. (F : Flat) → Represents self.now F → Case F (say.Read block) (flat_answer answer) F) }
+    {
+        match self.array.read(alloc, block) {
+            Ok(found) => Ok(Answer::Read(found)),
+            Err(_) => Err(AllocError),
+        }
+    }
+
+    /// Makes a group.
+    pub fn make(
+        &mut self,
+        alloc: Global,
+        class: Class,
+        members: &[Member],
+    ) -> Result<Answer, AllocError>
+        ensures ok { IfOk result (λ answer. (F : Flat) → Represents self.old F
+            → (G : Flat) × Case F (say.Make class members.now) (flat_answer answer) G × Represents self.new G) }
+        ensures err { OnErr result (self.new ≡ self.old) }
+        ensures wants { OnErr result ((F : Flat) → Represents self.old F → (g : ℕ) × (G : Flat) × Case F (say.Make class members.now) (say.MadeGroup g) G) }
+        ensures room { SameSizes self.old self.new }
+    {
+        let (group, _claims) = match self.array.make_group(alloc, class, members) {
+            Ok(made) => made,
+            Err(Refusal::Memory) => return Err(AllocError),
+            Err(refusal) => return Ok(Answer::Refused(refusal)),
+        };
+        Ok(Answer::Made(group))
+    }
+}
+
+fn empty_hands(alloc: Global, count: usize) -> Result<Vec<Hand>, AllocError>
+    ensures len { IfOk result (λ hands. length hands.items ≡ count) }
+    ensures empty { IfOk result (λ hands. (s : ℕ) → hand_at hands.items s ≡ Hand.Empty) }
+{
+    vec![in alloc; Hand::Empty; count]
+}
+
+// After a commit nobody has the slot in hand, and the worker holds the old place.
+fn pass_hands(hands: &mut Vec<Hand>, slot: u16, worker: u8, found: Option<Record>)
+    requires { length hands.old.items ≡ 65536 }
+    ensures value { hands.new.items ≡ passed_hands hands.old.items slot worker found }
+    ensures room { length hands.new.items ≡ 65536 }
+{
+    hands[usize::from(slot)] = Hand::Empty;
+    if let Some(record) = found {
+        hands[usize::from(record.place)] = Hand::Holds(worker);
+    }
+}
