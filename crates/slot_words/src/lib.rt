@@ -15,4 +15,4 @@ pub use claim::{Claim, ClaimRefusal, NoneFree};
 pub use naming::Naming;
 pub use pass::Pass;
 pub use view::{Held, View};
-pub use words::{SlotWords, Unnamed};
+pub use words::{SlotWords, TableRefusal, Unnamed};

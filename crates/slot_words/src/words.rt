@@ -11,7 +11,7 @@ use crate::pass::Pass;
 use crate::rule::{Differs, Frees, Sitting, Takes, Words};
 use crate::steps::{merge, sit};
 use atomic_table::Table;
-use std::alloc::{AllocError, Global};
+use std::alloc::Global;
 use std::marker::{Brand, Model, PhantomData};
 use std::mem;
 
@@ -49,13 +49,24 @@ impl Model for Unnamed {
     ghost invariant = { λ t. (t.table.shared.table_id.words ≡ t.table.shared.key + 8) × (t.seat.table_id ≡ t.table.shared.table_id) × (t.seat.me.0.pairs ≡ []) × (t.seat.me.1 ≡ []) × (t.look.table_id ≡ t.table.shared.table_id) × (t.look.me.0.pairs ≡ []) × (t.look.me.1 ≡ []) };
 }
 
+/// Why a table was not made.
+#[derive(Clone, Copy, Debug, PartialEq, Eq)]
+pub enum TableRefusal {
+    /// There is no memory for its words.
+    Memory = 1,
+}
+
 impl SlotWords<Brand> {
     /// A table of so many slots, all free at generation 0, without a name. It alone takes memory.
-    pub fn new(alloc: Global, slots: u32) -> Result<Unnamed, AllocError>
+    pub fn new(alloc: Global, slots: u32) -> Result<Unnamed, TableRefusal>
         ensures { IfOk result (λ table. slots_of table ≡ slots) }
     {
-        let words = vec![in alloc; 0; slots as usize + FIRST]?;
-        let (table, seat): (Words, Sitting) = Table::of_words(alloc, &words, &u64::from(slots))?;
+        let Ok(words) = vec![in alloc; 0; slots as usize + FIRST] else {
+            return Err(TableRefusal::Memory);
+        };
+        let Ok((table, seat)) = Table::of_words(alloc, &words, &u64::from(slots)) else {
+            return Err(TableRefusal::Memory);
+        };
         let (_, look) = sit(&table, 0);
         Ok(Unnamed { table, seat, look })
     }
