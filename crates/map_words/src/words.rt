@@ -225,10 +225,10 @@ impl<N: Naming> MapWords<N> {
         ensures block { IfSome result (λ r. (r.block ≡ block) × (0 < r.version)) }
         ensures same { taker.new ≡ taker.old }
     {
-        let key = self
+        let last = self
             .table
             .shared
             .load::<Closes>(&mut taker.seat, place_of(block));
-        Record::of_key(block, key)
+        Record::of_key(block, last)
     }
 }

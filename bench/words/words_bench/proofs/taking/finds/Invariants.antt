@@ -1,0 +1,5 @@
+use Rattle.words_bench.proofs.taking.finds.Given as goal
+
+-- the table that was made has the name
+abbrev pub ghosts-steps : goal.ghosts-steps
+ghosts-steps g a = record { table = a.table }
