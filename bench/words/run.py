@@ -7,6 +7,7 @@ Usage: bench/words/run.py [FOLDER]. A ratio above 1 says that the proved program
 import os
 import pathlib
 import shutil
+import statistics
 import subprocess
 import sys
 import tempfile
@@ -16,7 +17,7 @@ HERE = pathlib.Path(__file__).resolve().parent
 TOP = HERE.parent.parent
 CRATES = ["map_join", "slot_words", "map_words"]
 WORKS = ["claims 1", "claims 4", "takes 1", "takes 4", "finds 1", "finds 4"]
-ROUNDS = 7
+ROUNDS = 25
 
 
 def lay_out(folder):
@@ -54,9 +55,9 @@ def main():
     folder = pathlib.Path(sys.argv[1] if len(sys.argv) > 1 else tempfile.mkdtemp(prefix="words_bench_"))
     lay_out(folder)
     proved, plain = build(folder)
-    print(f"{time.strftime('%Y-%m-%d')}, {os.cpu_count()} processors, best of {ROUNDS} runs each")
-    print("| Steps | proved (s) | plain Rust (s) | ratio of speeds |")
-    print("|---|---|---|---|")
+    print(f"{time.strftime('%Y-%m-%d')}, {os.cpu_count()} processors, {ROUNDS} runs each, in turn")
+    print("| Steps | proved, best (s) | plain Rust, best (s) | ratio of the best | ratio of the medians |")
+    print("|---|---|---|---|---|")
     for work in WORKS:
         ours, theirs = [], []
         for _ in range(ROUNDS):
@@ -65,7 +66,8 @@ def main():
             assert said == told, (said, told)
             ours.append(one)
             theirs.append(other)
-        print(f"| {work} | {min(ours):.3f} | {min(theirs):.3f} | {min(theirs) / min(ours):.2f} |", flush=True)
+        medians = statistics.median(theirs) / statistics.median(ours)
+        print(f"| {work} | {min(ours):.3f} | {min(theirs):.3f} | {min(theirs) / min(ours):.2f} | {medians:.2f} |", flush=True)
 
 
 if __name__ == "__main__":
