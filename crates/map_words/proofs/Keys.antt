@@ -1,0 +1,50 @@
+-- Records and the keys that tell them.
+use Rattle.std.proofs.Common.{◌≡◌, ℕ, ◌/◌, ◌^◌, ◌<◌, ◌≤◌, ◌≢◌, IfSome, nat_lt, Bool, true, false, sym, refl, arith}
+use Rattle.std.proofs.Math.Nat.{div-div-eq-div-mul}
+use Rattle.std.proofs.lemmas.Bool.Decides.{nat_tests}
+use mathlib.Core.Logic.{dite}
+use native.Mathlib.Decide.{ℕ_discrete}
+use Rattle.map_join.specs.declared.records.Record.{Record}
+use Rattle.map_join.specs.Record.{IsRecord, key_of, record_of, record_at}
+use Rattle.map_words.specs.TakeRule.{Tells}
+use Rattle.map_words.specs.Steps.{IsKeyOrNone}
+use Rattle.map_words.specs.Answers.{key_in}
+
+-- two records of one block with one key are one
+pub same_record : (p q : Record) → IsRecord p → IsRecord q → p.block ≡ q.block → key_of p ≡ key_of q → p ≡ q
+same_record p q ip iq same keys =
+    let pv = ip.version in let ph = ip.hop in let pp = ip.place in
+    let qv = iq.version in let qh = iq.hop in let qp = iq.place in
+    let versions : p.version ≡ q.version = omega arith in
+    let hops : p.hop ≡ q.hop = omega arith in
+    let places : p.place ≡ q.place = omega arith in
+    λ i. record { block = same i; version = versions i; hop = hops i; place = places i }
+
+-- a key that tells a record is at least 2^32
+pub told_key : (block key : ℕ) (r : Record) → Tells block key r → 2 ^ 32 ≤ key
+told_key block key r tells = let e = tells.key in let w = tells.written in omega arith
+
+-- the record that a key tells has that key
+key_back : (block key : ℕ) → key_of (record_of block key) ≡ key
+key_back block key = let halves : key / 2 ^ 16 / 2 ^ 16 ≡ key / 2 ^ 32 = div-div-eq-div-mul key (2 ^ 16) (2 ^ 16) in omega arith
+
+-- the key in what a key tells is that key
+pub key_told : (block key : ℕ) → IsKeyOrNone key → key_in (record_at block key) ≡ key
+key_told block key is = go (nat_lt key (2 ^ 32)) refl
+  where
+    go : (b : Bool) → nat_lt key (2 ^ 32) ≡ b → key_in (record_at block key) ≡ key
+    go true e = rw e (let low : key < 2 ^ 32 = grind (arith, nat_tests) in none_of low)
+      where
+        none_of : key < 2 ^ 32 → 0 ≡ key
+        none_of low = dite (ℕ_discrete key 0)
+            (λ (zero : key ≡ 0). sym zero)
+            (λ (ne : key ≢ 0). let high : 2 ^ 32 ≤ key = is (omega arith) in absurd (omega arith))
+    go false e = rw e (key_back block key)
+
+-- and a record there is of that block, and of a version
+pub block_told : (block key : ℕ) → IfSome (record_at block key) (λ r. (r.block ≡ block) × (0 < r.version))
+block_told block key = go (nat_lt key (2 ^ 32)) refl
+  where
+    go : (b : Bool) → nat_lt key (2 ^ 32) ≡ b → IfSome (record_at block key) (λ r. (r.block ≡ block) × (0 < r.version))
+    go true e = rw e tt
+    go false e = rw e (refl, let high : 2 ^ 32 ≤ key = grind (arith, nat_tests) in omega arith)

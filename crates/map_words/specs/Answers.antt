@@ -1,0 +1,22 @@
+-- What the answers of takes and finds have to do with what their Taker took and found.
+use Rattle.std.specs.Prelude.{◌≡◌, ℕ, ◌<◌, ◌≤◌, List, Option, Some, None, Contains}
+use Rattle.map_join.specs.declared.records.Record.{Record}
+use Rattle.map_join.specs.Record.{key_of}
+use Rattle.map_words.specs.declared.view.Found.{Found}
+use Rattle.map_words.specs.declared.view.View.{View}
+use Rattle.map_words.specs.TakeRule.{Tells}
+
+-- this key is at least that of every record of the block that the Taker took, and at least every key of it that it found
+pub record IsNewest (taker : View) (block key : ℕ) : Type 0 where
+  pub taken : (r : Record) → Contains taker.taken r → r.block ≡ block → key_of r ≤ key
+  pub found : (f : Found) → Contains taker.found f → f.block ≡ block → f.key ≤ key
+
+-- this number is the greatest key among the records of the block, or 0 where there is none
+pub record IsGreatest (records : List Record) (block key : ℕ) : Type 0 where
+  pub told : 0 < key → (r : Record) × Contains records r × Tells block key r
+  pub most : (r : Record) → Contains records r → r.block ≡ block → key_of r ≤ key
+
+-- the key of a record, or 0 of none
+abbrev pub key_in : Option Record → ℕ
+key_in None = 0
+key_in (Some r) = key_of r

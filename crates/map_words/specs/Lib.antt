@@ -1,0 +1,5 @@
+pub mod Places
+pub mod TakeRule
+pub mod Steps
+pub mod Answers
+pub mod Refused

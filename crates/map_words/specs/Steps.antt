@@ -1,0 +1,45 @@
+-- What each kind of atomic step tells: of the step, the seat before, the number found, and the seat after.
+use Rattle.std.specs.Prelude.{◌≡◌, ℕ, ◌+◌, ◌-◌, ◌/◌, ◌^◌, ◌<◌, ◌≤◌, [], ◌∷◌, ◌++◌}
+use Rattle.atomic_table.specs.Table.{Me, Step}
+use Rattle.map_join.specs.declared.records.Record.{Record}
+use Rattle.map_join.specs.Record.{IsRecord, key_of}
+use Rattle.map_words.specs.declared.view.View.{View}
+use Rattle.map_words.specs.Places.{word_of}
+use Rattle.map_words.specs.TakeRule.{knows, found_at, whole}
+use Rattle.map_words.specs.Answers.{IsNewest, IsGreatest}
+
+-- no number between is the key of a record
+abbrev pub IsKeyOrNone : ℕ → Type 0
+IsKeyOrNone key = 0 < key → 2 ^ 32 ≤ key
+
+-- a take: the record of this word's block and of this key is taken, and the old word is found and at least all before
+abbrev pub Took : {S : Type 0} → Step S → Me S View → ℕ → Me S View → Type 0
+Took s before found after = (r : Record) → IsRecord r → word_of r.block ≡ s.word → key_of r ≡ s.first
+    → IsNewest before.0 r.block found × (after ≡ (knows before.0.share (before.0.taken ++ r ∷ []) (before.0.found ++ found_at r.block found ∷ []), []))
+
+-- a find: the word is found, and at least all before
+abbrev pub Saw : {S : Type 0} → Step S → Me S View → ℕ → Me S View → Type 0
+Saw s before found after = (block : ℕ) → word_of block ≡ s.word
+    → IsNewest before.0 block found × IsKeyOrNone found × (after ≡ (knows before.0.share before.0.taken (before.0.found ++ found_at block found ∷ []), []))
+
+-- a load by who has the whole share: the word is the greatest key of its block among the records taken, and nothing
+-- found is above it
+abbrev pub Closed : {S : Type 0} → Step S → Me S View → ℕ → Me S View → Type 0
+Closed s before found after = (after ≡ before)
+    × ((block : ℕ) → word_of block ≡ s.word → IsGreatest before.0.taken block found × IsNewest before.0 block found × IsKeyOrNone found)
+
+-- no seat has more than the whole share
+abbrev pub Weighed : {S : Type 0} → Step S → Me S View → ℕ → Me S View → Type 0
+Weighed s before found after = before.0.share ≤ whole
+
+-- what a split leaves: all that is known, and the greater half of the share
+abbrev pub kept_half : View → View
+kept_half v = knows (v.share - v.share / 2) v.taken v.found
+
+-- what a split gives: half of the share, rounded down
+abbrev pub given_half : View → View
+given_half v = knows (v.share / 2) [] []
+
+-- two views added
+abbrev pub both_views : View → View → View
+both_views v w = knows (v.share + w.share) (v.taken ++ w.taken) (v.found ++ w.found)

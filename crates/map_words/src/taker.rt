@@ -1,0 +1,40 @@
+// What a Taker is, and what is refused to it.
+use crate::naming::Naming;
+use crate::rule::Sitting;
+use std::marker::{Model, PhantomData};
+
+/// Takes and finds in the table N, and has a share of it. A contract sees its share, and all that it took and found.
+#[derive(Drop)]
+pub struct Taker<N: Naming> {
+    pub(crate) share: u32,
+    pub(crate) seat: Sitting,
+    pub(crate) of: PhantomData<N>,
+}
+
+impl<N: Naming> Model for Taker<N> {
+    ghost use Rattle.std.specs.Prelude.{◌≡◌, ◌<◌, ◌≤◌, [], All};
+    ghost use Rattle.map_words.specs.declared.view.View.{View};
+    ghost use Rattle.map_words.specs.Places.{blocks_of};
+
+    ghost Value = { View };
+
+    ghost view = { λ t. t.seat.me.0 };
+
+    ghost invariant = { λ t. (t.seat.me.0.share ≡ t.share) × (0 < t.share) × (t.share ≤ 65536) × All (λ r. r.block < blocks_of N.table) t.seat.me.0.taken × All (λ f. f.block < blocks_of N.table) t.seat.me.0.found × (t.seat.table_id ≡ N.table) × (t.seat.me.1 ≡ []) };
+}
+
+/// Why a Taker was not split.
+#[derive(Clone, Copy, Debug, PartialEq, Eq)]
+pub enum SplitRefusal {
+    /// Its share is 1.
+    NoShare = 1,
+}
+
+/// Why a table was not closed.
+#[derive(Clone, Copy, Debug, PartialEq, Eq)]
+pub enum CloseRefusal {
+    /// The Taker has this share, and not the whole.
+    NotWhole(u32),
+    /// There is no memory for the map.
+    Memory,
+}

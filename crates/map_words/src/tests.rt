@@ -1,0 +1,232 @@
+ghost use Rattle.std.specs.Prelude.{◌≡◌, ◌<◌};
+ghost use Rattle.map_words.specs.Places.{blocks_of};
+
+use crate::{CloseRefusal, MapWords, Naming, SplitRefusal, Taker, Unnamed};
+use map_join::{BlockMap, Record};
+use std::alloc::Global;
+use std::marker::Brand;
+use std::process::Abort;
+use std::test::Fail;
+use std::thread;
+use std::thread::Threads;
+
+const NEWER: Record = Record {
+    block: 3,
+    version: 2,
+    hop: 0,
+    place: 5,
+};
+
+const OLDER: Record = Record {
+    block: 3,
+    version: 1,
+    hop: 1,
+    place: 128,
+};
+
+fn needs_send<T: Send>(_: &T) {}
+
+fn needs_sync<T: Sync>(_: &T) {}
+
+fn split_of<N: Naming, R: Abort>(rt: &R, words: &MapWords<N>, taker: &mut Taker<N>) -> Taker<N> {
+    match words.split(taker) {
+        Ok(other) => other,
+        Err(refusal) => panic!(rt; "there is a share, but {refusal:?}"),
+    }
+}
+
+// The words again, after a close that was refused for this share.
+fn not_whole<N: Naming, R: Abort>(
+    rt: &R,
+    words: MapWords<N>,
+    alloc: Global,
+    taker: Taker<N>,
+    share: u32,
+) -> (MapWords<N>, Taker<N>) {
+    match words.close(alloc, taker) {
+        Ok(_) => panic!(rt; "the share is not the whole"),
+        Err((refusal, words, taker)) => {
+            assert_eq!(rt; refusal, CloseRefusal::NotWhole(share));
+            (words, taker)
+        }
+    }
+}
+
+fn closed<N: Naming, R: Abort>(
+    rt: &R,
+    words: MapWords<N>,
+    alloc: Global,
+    taker: Taker<N>,
+) -> BlockMap {
+    match words.close(alloc, taker) {
+        Ok(map) => map,
+        Err((refusal, _, _)) => panic!(rt; "the share is whole, but {refusal:?}"),
+    }
+}
+
+fn splits_sixteen_times<N: Naming, R: Abort>(rt: &R, table: Unnamed, alloc: Global)
+    requires { table ≡ N.table }
+{
+    let (mut words, mut taker) = table.named::<N>();
+    for share in [
+        32768, 16384, 8192, 4096, 2048, 1024, 512, 256, 128, 64, 32, 16, 8, 4, 2, 1,
+    ] {
+        let other = split_of(rt, &words, &mut taker);
+        let (back, _) = not_whole(rt, words, alloc, other, share);
+        words = back;
+    }
+    match words.split(&mut taker) {
+        Ok(_) => panic!(rt; "the share is 1"),
+        Err(refusal) => assert_eq!(rt; refusal, SplitRefusal::NoShare),
+    }
+}
+
+#[test]
+fn a_share_is_halved_sixteen_times(rt: HostRuntime) -> Result<(), Fail> {
+    splits_sixteen_times::<Brand, HostRuntime>(&rt, MapWords::new(rt.alloc(), 4)?, rt.alloc());
+    Ok(())
+}
+
+fn closes_after_the_join<N: Naming + Send + Sync, R: Abort>(rt: &R, table: Unnamed, alloc: Global)
+    requires name { table ≡ N.table }
+    requires blocks { blocks_of table ≡ 16 }
+{
+    let (words, mut taker) = table.named::<N>();
+    needs_sync(&words);
+    needs_send(&taker);
+    assert_eq!(rt; words.take(&mut taker, OLDER), 0);
+    let other = split_of(rt, &words, &mut taker);
+    let (words, mut taker) = not_whole(rt, words, alloc, taker, 32768);
+    words.join(&mut taker, other);
+    let map = closed(rt, words, alloc, taker);
+    assert!(rt; map.get(3) == Some(OLDER));
+    assert!(rt; map.get(4).is_none());
+}
+
+#[test]
+fn a_table_is_closed_with_the_whole_share_alone(rt: HostRuntime) -> Result<(), Fail> {
+    closes_after_the_join::<Brand, HostRuntime>(&rt, MapWords::new(rt.alloc(), 16)?, rt.alloc());
+    Ok(())
+}
+
+fn takes_two<N: Naming, R: Abort>(
+    rt: &R,
+    table: Unnamed,
+    alloc: Global,
+    first: Record,
+    second: Record,
+    first_key: u64,
+) -> Result<(), Fail>
+    requires name { table ≡ N.table }
+    requires blocks { blocks_of table ≡ 16 }
+    requires first { (first.block ≡ 3) × (0 < first.version) }
+    requires second { (second.block ≡ 3) × (0 < second.version) }
+{
+    let (words, mut one) = table.named::<N>();
+    let mut other = split_of(rt, &words, &mut one);
+    assert!(rt; words.find(&mut other, 3).is_none());
+    assert_eq!(rt; words.take(&mut one, first), 0);
+    assert_eq!(rt; words.take(&mut other, second), first_key);
+    assert!(rt; words.find(&mut one, 3) == Some(NEWER));
+    assert!(rt; words.find(&mut other, 3) == Some(NEWER));
+    words.join(&mut one, other);
+    let map = closed(rt, words, alloc, one);
+    assert!(rt; map.get(3) == Some(NEWER));
+    assert_eq!(rt; map.to_list(alloc)?.len(), 1);
+    Ok(())
+}
+
+#[test]
+fn the_newer_record_wins_in_either_order(rt: HostRuntime) -> Result<(), Fail> {
+    let alloc = rt.alloc();
+    let table = MapWords::new(alloc, 16)?;
+    takes_two::<Brand, HostRuntime>(&rt, table, alloc, NEWER, OLDER, 8_589_934_597)?;
+    let table = MapWords::new(alloc, 16)?;
+    takes_two::<Brand, HostRuntime>(&rt, table, alloc, OLDER, NEWER, 4_295_032_960)
+}
+
+// Four records of each of sixteen blocks; those of version 4 are the newest.
+fn nth(n: u32) -> Record
+    requires { n < 64 }
+    ensures { (result.block < 16) × (0 < result.version) }
+{
+    Record {
+        block: n % 16,
+        version: 1 + n / 16,
+        hop: (n * 7 % 3) as u16,
+        place: n as u16,
+    }
+}
+
+// Takes all, in an order of its own, and says whether each was found from then on.
+fn take_all<N: Naming>(words: &MapWords<N>, taker: &mut Taker<N>, step: u8) -> bool
+    requires { blocks_of N.table ≡ 16 }
+{
+    let mut found = true;
+    for round in 0..6400u32 {
+        let taken = nth(round * u32::from(step) % 64);
+        words.take(taker, taken);
+        found &= match words.find(taker, taken.block) {
+            Some(newest) => newest.key() >= taken.key(),
+            None => false,
+        };
+    }
+    found
+}
+
+fn take_all_in_two<N: Naming + Send + Sync, R: Threads + Sync>(
+    rt: &R,
+    words: &MapWords<N>,
+    one: &mut Taker<N>,
+    other: &mut Taker<N>,
+    steps: (u8, u8),
+) -> (bool, bool)
+    requires { blocks_of N.table ≡ 16 }
+{
+    thread::join(
+        rt,
+        ||
+            requires { blocks_of N.table ≡ 16 }
+        { take_all(words, one, steps.0) },
+        ||
+            requires { blocks_of N.table ≡ 16 }
+        { take_all(words, other, steps.1) },
+    )
+}
+
+fn takes_in_four_threads<N: Naming + Send + Sync, R: Abort + Threads + Sync>(
+    rt: &R,
+    table: Unnamed,
+    alloc: Global,
+)
+    requires name { table ≡ N.table }
+    requires blocks { blocks_of table ≡ 16 }
+{
+    let (words, mut a) = table.named::<N>();
+    let mut b = split_of(rt, &words, &mut a);
+    let mut c = split_of(rt, &words, &mut a);
+    let mut d = split_of(rt, &words, &mut b);
+    let found = thread::join(
+        rt,
+        ||
+            requires { blocks_of N.table ≡ 16 }
+        { take_all_in_two(rt, &words, &mut a, &mut b, (1, 63)) },
+        ||
+            requires { blocks_of N.table ≡ 16 }
+        { take_all_in_two(rt, &words, &mut c, &mut d, (5, 37)) },
+    );
+    assert_eq!(rt; found, ((true, true), (true, true)));
+    words.join(&mut a, b);
+    words.join(&mut a, c);
+    words.join(&mut a, d);
+    let map = closed(rt, words, alloc, a);
+    for block in 0..16u32 {
+        assert!(rt; map.get(block) == Some(nth(48 + block)));
+    }
+}
+
+#[test]
+fn four_threads_leave_the_newest_record_of_each_block(rt: HostRuntime) -> Result<(), Fail> {
+    takes_in_four_threads::<Brand, HostRuntime>(&rt, MapWords::new(rt.alloc(), 16)?, rt.alloc());
+    Ok(())
+}

@@ -1,0 +1,7 @@
+use Rattle.std.proofs.Common.{◌≡◌, ◌↔◌, ◌-◌, slice_index, IfSome, None}
+use Rattle.slot_words.specs.Refused.{IsRefused}
+use Rattle.slot_words.proofs.words.SlotWords.claim_first.Given as goal
+
+-- the refusal so far is that of the slot before
+abbrev pub invariant-loop-slot : goal.invariant-loop-slot
+invariant-loop-slot g l = (l.last ≡ None ↔ l.slot-index ≡ 0) × IfSome l.last (IsRefused (slice_index l.slots (l.slot-index - 1)) l.pass)

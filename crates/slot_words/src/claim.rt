@@ -1,0 +1,58 @@
+// What a claim is, and why one is refused.
+ghost use Rattle.std.specs.Prelude.{◌≡◌, ◌<◌, ◌≤◌, [], ◌∷◌};
+
+use crate::naming::Naming;
+use crate::rule::Sitting;
+use std::marker::{Model, PhantomData};
+
+/// A slot of the table N that is held at this generation, and by no other claim. It can't be dropped, only released.
+pub struct Claim<N: Naming> {
+    pub(crate) slot: u16,
+    pub(crate) generation: u64,
+    pub(crate) seat: Sitting,
+    pub(crate) of: PhantomData<N>,
+}
+
+impl<N: Naming> Model for Claim<N> {
+    ghost use Rattle.std.specs.Prelude.{◌≡◌, ◌<◌, ◌≤◌, ◌^◌, [], ◌∷◌};
+    ghost use Rattle.slot_words.specs.declared.view.Held.{Held};
+    ghost use Rattle.slot_words.specs.ClaimRule.{held};
+    ghost use Rattle.slot_words.specs.Places.{slots_of};
+
+    ghost Value = { Held };
+
+    ghost view = { λ c. held c.slot c.generation };
+
+    ghost invariant = { λ c. (c.slot < slots_of N.table) × (0 < c.generation) × (c.generation ≤ 2 ^ 62) × (c.seat.table_id ≡ N.table) × (c.seat.me.0.pairs ≡ held c.slot c.generation ∷ []) × (c.seat.me.1 ≡ []) };
+}
+
+impl<N: Naming> Claim<N> {
+    /// The slot's number.
+    pub fn slot(&self) -> u16
+        ensures { result ≡ self.now.slot }
+    {
+        self.slot
+    }
+
+    /// How often the slot has been claimed, this claim counted.
+    pub fn generation(&self) -> u64
+        ensures { result ≡ self.now.generation }
+    {
+        self.generation
+    }
+}
+
+/// Why a slot was not claimed.
+#[derive(Clone, Copy, PartialEq, Eq, Debug)]
+pub enum ClaimRefusal {
+    /// The slot was held when this word was read there.
+    Taken(u64),
+    /// The slot is free at its last generation, 2^62, and is never claimed again.
+    Spent,
+    /// The slot was free at another generation than the look had found, when this word was read there.
+    Moved(u64),
+}
+
+/// No listed slot could be claimed: the refusal of the last try, or none where the list is empty.
+#[derive(Clone, Copy, PartialEq, Eq, Debug)]
+pub struct NoneFree(pub Option<ClaimRefusal>);

@@ -1,0 +1,18 @@
+//! Claims of slots without a lock: one word a slot, and a claim is a value that no second one is like.
+#![tactic(auto)]
+
+mod claim;
+mod naming;
+mod pass;
+mod rule;
+mod steps;
+#[cfg(test)]
+mod tests;
+mod view;
+mod words;
+
+pub use claim::{Claim, ClaimRefusal, NoneFree};
+pub use naming::Naming;
+pub use pass::Pass;
+pub use view::{Held, View};
+pub use words::{SlotWords, TableRefusal, Unnamed};

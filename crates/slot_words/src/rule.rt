@@ -1,0 +1,60 @@
+// The rule of the table, and what each kind of step tells.
+ghost use Rattle.std.specs.Prelude.{[]};
+ghost use Rattle.slot_words.specs.ClaimRule.{knows, ClaimRule};
+ghost use Rattle.slot_words.specs.Steps.{Sat, Taken, Freed, Differed, both_pairs};
+
+use crate::view::View;
+use atomic_table::{Join, Play, Seat, Table, TableRule};
+use std::alloc::Global;
+
+/// A table of words that has no place for values, under the rule of claims.
+pub type Words = Table<u8, View, u64, OnceHeld, Global>;
+
+/// A seat of such a table.
+pub type Sitting = Seat<u8, View>;
+
+/// The rule: a slot is held at most once, at the generation of its word.
+pub struct OnceHeld;
+
+impl TableRule<u8, View, u64> for OnceHeld {
+    ghost holds = { λ slots s. ClaimRule slots s.words s.views };
+
+    ghost first = { λ _. knows 0 0 [] };
+}
+
+/// A load that makes an empty seat.
+pub struct Sits;
+
+impl Play<u8, View> for Sits {
+    ghost then = { Sat };
+}
+
+/// The exchange of a claim.
+pub struct Takes;
+
+impl Play<u8, View> for Takes {
+    ghost then = { Taken };
+}
+
+/// The store of a release.
+pub struct Frees;
+
+impl Play<u8, View> for Frees {
+    ghost then = { Freed };
+}
+
+/// A load by a seat that has the pairs of two claims.
+pub struct Differs;
+
+impl Play<u8, View> for Differs {
+    ghost then = { Differed };
+}
+
+/// Two seats made one.
+pub struct Both;
+
+impl Join<View> for Both {
+    ghost both = { both_pairs };
+
+    ghost spent = { knows 0 0 [] };
+}

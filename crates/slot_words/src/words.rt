@@ -1,0 +1,231 @@
+// The table of words, and the steps on it.
+ghost use Rattle.std.specs.Prelude.{◌≡◌, ◌≢◌, ◌↔◌, ℕ, ◌+◌, ◌-◌, ◌*◌, ◌/◌, ◌%◌, ◌^◌, ◌<◌, ◌≤◌, [], ◌∷◌, length, slice_index, All, Contains, IfOk, IfErr, IfSome, None};
+ghost use Rattle.slot_words.specs.Places.{word_of, slots_of};
+ghost use Rattle.slot_words.specs.Sight.{sight, sight_of};
+ghost use Rattle.slot_words.specs.Refused.{IsRefused, IsMissed};
+ghost use Rattle.slot_words.specs.Idle.{IsIdle};
+
+use crate::claim::{Claim, ClaimRefusal, NoneFree};
+use crate::naming::Naming;
+use crate::pass::Pass;
+use crate::rule::{Differs, Frees, Sitting, Takes, Words};
+use crate::steps::{merge, sit};
+use atomic_table::Table;
+use std::alloc::Global;
+use std::marker::{Brand, Model, PhantomData};
+use std::mem;
+
+/// The words before the first slot's, so that it shares no cache line with word 0, on which seats are made.
+const FIRST: usize = 8;
+
+/// The word of a slot that is free at the last generation, 2^62.
+const SPENT: u64 = 1 << 63;
+
+/// One word for each slot of the table N: twice the slot's generation, and one more while it is held.
+#[derive(Drop)]
+pub struct SlotWords<N: Naming> {
+    table: Words,
+    of: PhantomData<N>,
+    ghost named: { table.shared.table_id ≡ N.table },
+    ghost counts: { N.table.words ≡ table.shared.key + 8 },
+}
+
+/// A table that has no name yet, with its first Pass. A contract sees which table it is.
+#[derive(Drop)]
+pub struct Unnamed {
+    table: Words,
+    seat: Sitting,
+    look: Sitting,
+}
+
+impl Model for Unnamed {
+    ghost use Rattle.std.specs.Prelude.{◌≡◌, ◌+◌, []};
+    ghost use Rattle.atomic_table.specs.Seated.{TableId};
+
+    ghost Value = { TableId };
+
+    ghost view = { λ t. t.table.shared.table_id };
+
+    ghost invariant = { λ t. (t.table.shared.table_id.words ≡ t.table.shared.key + 8) × (t.seat.table_id ≡ t.table.shared.table_id) × (t.seat.me.0.pairs ≡ []) × (t.seat.me.1 ≡ []) × (t.look.table_id ≡ t.table.shared.table_id) × (t.look.me.0.pairs ≡ []) × (t.look.me.1 ≡ []) };
+}
+
+/// Why a table was not made.
+#[derive(Clone, Copy, Debug, PartialEq, Eq)]
+pub enum TableRefusal {
+    /// There is no memory for its words.
+    Memory = 1,
+}
+
+impl SlotWords<Brand> {
+    /// A table of so many slots, all free at generation 0, without a name. It alone takes memory.
+    pub fn new(alloc: Global, slots: u32) -> Result<Unnamed, TableRefusal>
+        ensures { IfOk result (λ table. slots_of table ≡ slots) }
+    {
+        let Ok(words) = vec![in alloc; 0; slots as usize + FIRST] else {
+            return Err(TableRefusal::Memory);
+        };
+        let Ok((table, seat)) = Table::of_words(alloc, &words, &u64::from(slots)) else {
+            return Err(TableRefusal::Memory);
+        };
+        let (_, look) = sit(&table, 0);
+        Ok(Unnamed { table, seat, look })
+    }
+}
+
+impl Unnamed {
+    /// Gives the table its name.
+    pub fn named<N: Naming>(self) -> (SlotWords<N>, Pass<N>)
+        requires { self ≡ N.table }
+    {
+        let Unnamed { table, seat, look } = self;
+        let words = SlotWords {
+            table,
+            of: PhantomData,
+        };
+        let pass = Pass {
+            seat,
+            look,
+            of: PhantomData,
+        };
+        (words, pass)
+    }
+}
+
+// The place of a slot's word.
+fn place_of(slot: u16) -> usize
+    ensures { result ≡ word_of slot }
+{
+    usize::from(slot) + FIRST
+}
+
+impl<N: Naming> SlotWords<N> {
+    /// A second Pass, for another thread. The first stays as it was.
+    pub fn split(&self, pass: &mut Pass<N>) -> Pass<N>
+        ensures same { pass.new ≡ pass.old }
+    {
+        let _ = pass;
+        let (_, seat) = sit(&self.table, 0);
+        let (_, look) = sit(&self.table, 0);
+        Pass {
+            seat,
+            look,
+            of: PhantomData,
+        }
+    }
+
+    /// Takes the other Pass in. The first stays as it was.
+    pub fn join(&self, pass: &mut Pass<N>, other: Pass<N>)
+        ensures same { pass.new ≡ pass.old }
+    {
+        let Pass { seat, look, of: _ } = other;
+        merge(&self.table, &mut pass.seat, seat);
+        merge(&self.table, &mut pass.look, look);
+    }
+
+    /// Looks once, and where the slot is free tries one exchange to the next generation, held.
+    pub fn claim(&self, pass: &mut Pass<N>, slot: u16) -> Result<Claim<N>, ClaimRefusal>
+        requires { slot < slots_of N.table }
+        // the look was at this slot's word, and the claim has the generation after it
+        ensures looked { pass.new.looked ≡ sight slot pass.new.looked.word }
+        ensures ok { IfOk result (λ c. (c.slot ≡ slot) × (2 * c.generation ≡ pass.new.looked.word + 2)) }
+        ensures err { IfErr result (IsRefused slot pass.new) }
+    {
+        let (seen, look) = sit(&self.table, place_of(slot));
+        let spare = mem::replace(&mut pass.look, look);
+        if seen % 2 == 1 {
+            return Err(ClaimRefusal::Taken(seen));
+        }
+        if seen == SPENT {
+            return Err(ClaimRefusal::Spent);
+        }
+        self.exchange(&mut pass.seat, spare, slot, seen)
+    }
+
+    // Where the exchange wins the claim gets the seat, and `spare` stands in its place.
+    fn exchange(
+        &self,
+        seat: &mut Sitting,
+        spare: Sitting,
+        slot: u16,
+        seen: u64,
+    ) -> Result<Claim<N>, ClaimRefusal>
+        requires slot { slot < slots_of N.table }
+        requires free { seen % 2 ≡ 0 }
+        requires lasting { seen < 2 ^ 63 }
+        requires seat { IsIdle N.table seat.old }
+        requires spare { IsIdle N.table spare }
+        ensures ok { IfOk result (λ c. (c.slot ≡ slot) × (2 * c.generation ≡ seen + 2)) }
+        ensures err { IfErr result (IsMissed slot seen (sight_of seat.new.me.0)) }
+        ensures idle { IsIdle N.table seat.new }
+    {
+        let generation = seen / 2 + 1;
+        let held = 2 * generation + 1;
+        let found = self
+            .table
+            .shared
+            .compare_exchange::<Takes>(seat, place_of(slot), seen, held);
+        if found == seen {
+            let seat = mem::replace(seat, spare);
+            Ok(Claim {
+                slot,
+                generation,
+                seat,
+                of: PhantomData,
+            })
+        } else if found % 2 == 1 {
+            Err(ClaimRefusal::Taken(found))
+        } else {
+            Err(ClaimRefusal::Moved(found))
+        }
+    }
+
+    /// Tries each listed slot once, in order, and gives the first claim.
+    pub fn claim_first(&self, pass: &mut Pass<N>, slots: &[u16]) -> Result<Claim<N>, NoneFree>
+        requires { All (λ s. s < slots_of N.table) slots.now }
+        ensures ok { IfOk result (λ c. Contains slots.now c.slot) }
+        ensures empty { IfErr result (λ e. e.0 ≡ None ↔ slots.now ≡ []) }
+        // the refusal is of the last slot listed
+        ensures last { IfErr result (λ e. IfSome e.0 (IsRefused (slice_index slots.now (length slots.now - 1)) pass.new)) }
+    {
+        let mut last = None;
+        for slot in slots {
+            match self.claim(pass, *slot) {
+                Ok(claim) => return Ok(claim),
+                Err(refusal) => last = Some(refusal),
+            }
+        }
+        Err(NoneFree(last))
+    }
+
+    /// Frees the slot at the claim's generation, by one store. It always succeeds.
+    pub fn release(&self, pass: &mut Pass<N>, claim: Claim<N>)
+        ensures stored { pass.new.stepped ≡ sight claim.slot (2 * claim.generation) }
+        ensures same { pass.new.looked ≡ pass.old.looked }
+    {
+        let Claim {
+            slot,
+            generation,
+            mut seat,
+            of: _,
+        } = claim;
+        self.table
+            .shared
+            .store::<Frees>(&mut seat, place_of(slot), 2 * generation);
+        pass.seat = seat;
+    }
+
+    /// Promises that the two claims' slots differ.
+    pub fn apart(&self, one: &mut Claim<N>, other: &mut Claim<N>)
+        ensures differ { one.old.slot ≢ other.old.slot }
+        ensures same { (one.new ≡ one.old) × (other.new ≡ other.old) }
+    {
+        if one.slot == other.slot {
+            // No run comes in here: one seat with both pairs would break the rule.
+            let (_, empty) = sit(&self.table, 0);
+            let theirs = mem::replace(&mut other.seat, empty);
+            merge(&self.table, &mut one.seat, theirs);
+            self.table.shared.load::<Differs>(&mut one.seat, 0);
+            unreachable!()
+        }
+    }
+}
