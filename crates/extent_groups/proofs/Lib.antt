@@ -1,0 +1,5 @@
+pub mod GeometryLaws
+pub mod Places
+pub mod OwnersLemmas
+pub mod Bounds
+pub mod Fresh
