@@ -36,7 +36,7 @@ all_numbers_free shape kept n g e =
       | inr past ↦ ap (λ o. unwrap_or (option_map (option_map group_of) o) None) past ]
 
 -- a number without a group has no members
-no_members : (groups : Groups) (g k : ℕ) (m : Member) → group_at groups g ≡ None → slice_get (members_of groups g) k ≡ Some m → ⊥
+pub no_members : (groups : Groups) (g k : ℕ) (m : Member) → group_at groups g ≡ None → slice_get (members_of groups g) k ≡ Some m → ⊥
 no_members groups g k m free at = let none : slice_get (members_in None) k ≡ Some m = subst (λ o. slice_get (members_in o) k ≡ Some m) free at in cc
 
 -- a table without groups is well formed

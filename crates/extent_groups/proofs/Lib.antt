@@ -3,3 +3,7 @@ pub mod Places
 pub mod OwnersLemmas
 pub mod Bounds
 pub mod Fresh
+pub mod GroupsLemmas
+pub mod Agreement
+pub mod Swapping
+pub mod Keeping

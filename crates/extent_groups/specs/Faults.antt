@@ -1,5 +1,5 @@
 -- Why a change of the groups is refused: the first of its checks that fails.
-use Rattle.std.specs.Prelude.{◌≡◌, ℕ, ◌<◌, Bool, false, nat_lt, ◌==◌, ◌||◌, if◌then◌else◌, Option, Some, None, List, [], ◌∷◌, length, is_some}
+use Rattle.std.specs.Prelude.{◌≡◌, ℕ, Bool, false, nat_lt, ◌==◌, ◌||◌, if◌then◌else◌, Option, Some, None, List, [], ◌∷◌, length, is_some}
 use Rattle.std.specs.List.{list_any}
 use Rattle.extents.specs.Owners.{Owners, owner_of}
 use Rattle.extent_groups.specs.declared.class.Member.{Member}
@@ -29,10 +29,19 @@ put_fault owners members =
     else if list_any (is_owned owners) members then Some ExtentTaken
     else None
 
--- why a member isn't swapped for an extent: there is no group, one of its members is on the drive, or the extent is owned
-abbrev pub swap_fault : Owners → Option Group → Member → Option GroupRefusal
-swap_fault owners None to = Some NoGroup
-swap_fault owners (Some group) to =
-    if is_on to.drive group.members then Some SameDrive
+-- why a member isn't swapped for an extent: one of the group's members is on its drive, or the extent is owned
+abbrev pub swap_check_of : Owners → List Member → Member → Option GroupRefusal
+swap_check_of owners members to =
+    if is_on to.drive members then Some SameDrive
     else if is_owned owners to then Some ExtentTaken
     else None
+
+-- the same, where there may be no group
+abbrev pub swap_fault : Owners → Option Group → Member → Option GroupRefusal
+swap_fault owners None to = Some NoGroup
+swap_fault owners (Some group) to = swap_check_of owners group.members to
+
+-- a refusal is the one of the check that failed first, and the last one only where none failed
+abbrev pub FailsFor : GroupRefusal → Option GroupRefusal → GroupRefusal → Type 0
+FailsFor last None refusal = refusal ≡ last
+FailsFor last (Some fault) refusal = refusal ≡ fault

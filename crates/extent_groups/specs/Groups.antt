@@ -83,3 +83,20 @@ AreThere owners members = (k : ℕ) (m : Member) → slice_get members k ≡ Som
 abbrev pub with_owners : Owners → List Member → Option ℕ → Owners
 with_owners owners [] owner = owners
 with_owners owners (m ∷ ms) owner = with_owners (with_owner owners m.drive m.extent owner) ms owner
+
+-- a group with another extent as one of its members, which keeps its number
+abbrev pub with_member : Group → ℕ → Member → Group
+with_member group k to = record group { members = slice_set group.members k to }
+
+-- the group's member of this number is another extent now, and nothing else changed
+abbrev pub swapped_in : Option Group → ℕ → Member → Option Group
+swapped_in None k to = None
+swapped_in (Some group) k to = Some (with_member group k to)
+
+abbrev pub IsSwap : Groups → Groups → ℕ → ℕ → Member → Type 0
+IsSwap old new g k to = new ≡ with_group old g (swapped_in (group_at old g) k to)
+
+-- the extent of the group's member of this number is free now, and the other extent the group's
+abbrev pub IsMove : Groups → Owners → Owners → ℕ → ℕ → Member → Type 0
+IsMove groups old new g k to = (was : Member) → slice_get (members_of groups g) k ≡ Some was
+    → new ≡ with_owner (with_owner old was.drive was.extent None) to.drive to.extent (Some g)

@@ -1,5 +1,5 @@
 // The groups by number.
-ghost use Rattle.std.specs.Prelude.{◌≡◌, ℕ, ◌+◌, ◌<◌, ◌≤◌, Bool, length, Some, None, IfOk, OnOk, OnErr, IfErr, MatchOption, slice_get, replicate};
+ghost use Rattle.std.specs.Prelude.{◌≡◌, ℕ, ◌+◌, ◌<◌, ◌≤◌, Bool, length, Some, None, IfOk, OnOk, OnErr, IfErr, MatchOption, OnSome, slice_get, replicate};
 ghost use Rattle.extent_groups.specs.Geometry.{slot_count, copies_of, stripe_of, AreCopies, IsStripe};
 
 use crate::{Class, Copies, Member, Stripe, geometry};
@@ -87,8 +87,9 @@ impl GroupTable {
         self.shape
     }
 
-    fn find(&self, group: u16) -> Option<&Kept>
+    pub(crate) fn find(&self, group: u16) -> Option<&Kept>
         ensures made { MatchOption result (group_at self.now group ≡ None) (λ k. group_at self.now group ≡ Some (group_of k.now)) }
+        ensures within { OnSome result (group < length self.now.table) }
         ensures groups { AreGroups self.now }
     {
         let group = group as usize;
