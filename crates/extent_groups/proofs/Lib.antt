@@ -7,3 +7,4 @@ pub mod GroupsLemmas
 pub mod Agreement
 pub mod Swapping
 pub mod Keeping
+pub mod LayoutLaw

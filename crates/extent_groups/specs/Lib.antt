@@ -4,3 +4,4 @@ pub mod Faults
 pub mod Cells
 pub mod Units
 pub mod Kept
+pub mod Layout

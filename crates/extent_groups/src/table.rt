@@ -1,5 +1,5 @@
 // The groups by number.
-ghost use Rattle.std.specs.Prelude.{◌≡◌, ℕ, ◌+◌, ◌<◌, ◌≤◌, Bool, length, Some, None, IfOk, OnOk, OnErr, IfErr, MatchOption, OnSome, slice_get, replicate};
+ghost use Rattle.std.specs.Prelude.{◌≡◌, ◌↔◌, IsTrue, ℕ, ◌+◌, ◌<◌, ◌≤◌, Bool, length, Some, None, IfOk, OnOk, OnErr, IfErr, MatchOption, OnSome, slice_get, replicate};
 ghost use Rattle.extent_groups.specs.Geometry.{slot_count, copies_of, stripe_of, AreCopies, IsStripe};
 
 use crate::{Class, Copies, Member, Stripe, geometry};
@@ -49,7 +49,7 @@ fn free_numbers(alloc: Global, count: usize) -> Result<Vec<Option<Kept>>, AllocE
 }
 
 /// How many slots a group of so many members and segments has.
-fn count_slots(class: Class, members: u16, segments: u16) -> u16
+pub(crate) fn count_slots(class: Class, members: u16, segments: u16) -> u16
     requires some { 1 ≤ members }
     requires few { members ≤ 8 }
     requires short { segments ≤ 8 }
@@ -64,8 +64,9 @@ fn count_slots(class: Class, members: u16, segments: u16) -> u16
 impl GroupTable {
     ghost use Rattle.extents.specs.Shapes.{IsShapeOf};
     ghost use Rattle.extents.specs.Owners.{all_free};
-    ghost use Rattle.extent_groups.specs.Groups.{group_at, class_in, slots_in, members_of, AreGroups, Agree};
+    ghost use Rattle.extent_groups.specs.Groups.{group_at, class_in, slots_in, members_of, AreGroups, Agree, IsFree};
     ghost use Rattle.extent_groups.specs.Kept.{group_of};
+    ghost use Rattle.extent_groups.specs.Layout.{IsLayout};
     ghost use Rattle.extent_groups.specs.declared.class.Class.TheVariants.{Mirrored, Parity};
 
     /// A table of this shape, without groups; refused where memory is out.
@@ -99,6 +100,13 @@ impl GroupTable {
         self.groups[group].as_ref()
     }
 
+    /// Whether the number is one for groups, and free.
+    pub fn is_free(&self, group: u16) -> bool
+        ensures { IsTrue result ↔ IsFree self.now group }
+    {
+        (group as usize) < self.groups.len() && self.find(group).is_none()
+    }
+
     /// The class of a group, none where the number is free.
     pub fn class_of(&self, group: u16) -> Option<Class>
         ensures { result ≡ class_in (group_at self.now group) }
@@ -118,9 +126,10 @@ impl GroupTable {
         }
     }
 
-    /// How many slots a group has, none where the number is free.
+    /// How many slots a group has, none where the number is free; any two slots of the table lie apart.
     pub fn slots_of(&self, group: u16) -> u16
-        ensures { result ≡ slots_in self.now.segments (group_at self.now group) }
+        ensures count { result ≡ slots_in self.now.segments (group_at self.now group) }
+        ensures layout { IsLayout self.now }
     {
         match self.find(group) {
             Some(kept) => {

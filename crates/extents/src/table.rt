@@ -1,5 +1,5 @@
 // Who owns which extent.
-ghost use Rattle.std.specs.Prelude.{◌≡◌, ℕ, ◌+◌, ◌<◌, ◌≤◌, List, [], length, IfOk, IfSome, OnOk, OnErr, Option, None, Some, ◌∷◌, replicate, count_by, position, is_some, is_none, slice_set};
+ghost use Rattle.std.specs.Prelude.{◌≡◌, ◌↔◌, IsTrue, ℕ, ◌+◌, ◌<◌, ◌≤◌, List, [], length, IfOk, IfSome, OnOk, OnErr, Option, None, Some, ◌∷◌, replicate, count_by, position, is_some, is_none, slice_set};
 
 use crate::Shape;
 use std::alloc::{AllocError, Global};
@@ -96,6 +96,13 @@ impl ExtentTable {
         let row = Row::new(alloc, self.extents)?;
         self.rows.push(row)?;
         Ok(())
+    }
+
+    /// Whether there is such a drive, and such an extent on it.
+    pub fn has_extent(&self, drive: u8, extent: u16) -> bool
+        ensures { IsTrue result ↔ IsExtent self.now drive extent }
+    {
+        (drive as usize) < self.rows.len() && (extent as u32) < self.extents
     }
 
     /// The group that owns an extent, none where it is free.

@@ -129,6 +129,8 @@ fn an_extent_table_knows_owners_loads_and_the_lowest_free_extent(
     assert_eq!(rt; table.load(3), 2);
     assert_eq!(rt; table.load(0), 0);
     assert_eq!(rt; table.lowest_free(3), Some(1));
+    assert_eq!(rt; table.has_extent(3, 7), true);
+    assert_eq!(rt; table.has_extent(4, 0), false);
     table.set_owner(3, 0, None);
     assert_eq!(rt; table.load(3), 1);
     assert_eq!(rt; table.lowest_free(3), Some(0));

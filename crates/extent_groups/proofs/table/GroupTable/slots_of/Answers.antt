@@ -1,4 +1,5 @@
 use Rattle.std.proofs.Common.{◌≡◌, ap, arith, length}
+use Rattle.extent_groups.proofs.LayoutLaw.{layout_law}
 use Rattle.extent_groups.proofs.table.GroupTable.slots_of.Goals as goal
 
 pub overflow_cast-members : goal.overflow_cast-members
@@ -14,3 +15,9 @@ count_slots-requires c =
       few = omega (arith, form.few, ap length c.deref-members.ensures.value);
       short = omega (arith, c.self.invariant.segments)
     }
+
+pub returns-in-Some-clause-layout : goal.returns-in-Some-clause-layout
+returns-in-Some-clause-layout c = layout_law c.args.self.now c.find.ensures.groups
+
+pub returns-in-None-clause-layout : goal.returns-in-None-clause-layout
+returns-in-None-clause-layout c = layout_law c.args.self.now c.find.ensures.groups
