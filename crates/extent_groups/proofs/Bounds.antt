@@ -1,5 +1,5 @@
 -- A slot's group is formed, its number is small, and the laws of its geometry hold.
-use Rattle.std.proofs.Common.{◌≡◌, ◌≢◌, ℕ, ◌+◌, ◌-◌, ◌*◌, ◌/◌, ◌<◌, ◌≤◌, Option, Some, None, List, length, refl, sym, ◌∙◌, ap, subst, arith}
+use Rattle.std.proofs.Common.{◌≡◌, ℕ, ◌-◌, ◌<◌, ◌≤◌, Option, Some, None, length, refl, subst, arith}
 use Rattle.std.proofs.Math.Nat.{mul-le-mul}
 use Rattle.std.proofs.lemmas.Option.{same_Some}
 use Rattle.extent_groups.specs.declared.class.Class.{Class}
@@ -31,7 +31,7 @@ mirrored_slot s i (Some x) formed short class h =
       some = form.enough;
       few = form.few;
       low = omega (arith, slot_count_small x.class (length x.members) s form.few short);
-      law = copies_law (length x.members) s i two here
+      law = copies_law (length x.members) s i two here;
     }
 
 -- what is known of a slot of a parity group
@@ -52,5 +52,5 @@ parity_slot s i (Some x) formed short class h =
       some = form.enough;
       few = form.few;
       low = omega (arith, slot_count_small x.class (length x.members) s form.few short);
-      law = stripe_law (length x.members) s i two here
+      law = stripe_law (length x.members) s i two here;
     }

@@ -1,9 +1,9 @@
 -- The laws of the geometry: within the group, apart, and back from a unit to its index.
-use Rattle.std.proofs.Common.{◌≡◌, ◌≢◌, ℕ, zero, suc, ◌+◌, ◌-◌, ◌*◌, ◌/◌, ◌%◌, ◌<◌, ◌≤◌, ◌⊎◌, inl, inr, refl, sym, ◌∙◌, ap, subst, arith, Bool, true, false, cond, nat_lt}
+use Rattle.std.proofs.Common.{◌≡◌, ◌≢◌, ℕ, ◌+◌, ◌-◌, ◌*◌, ◌/◌, ◌%◌, ◌<◌, ◌≤◌, inl, inr, refl, sym, ap, arith, cond, nat_lt}
 use Rattle.std.proofs.Math.Nat.{mul-le-mul_left, div-lt_iff_lt-mul}
 use Rattle.std.proofs.lemmas.Bool.{cases_lt}
 use Rattle.std.proofs.lemmas.Bool.Decides.{nat_tests}
-use Rattle.extent_groups.specs.Geometry.{slot_count, spot_at, copies_of, parity_of, data_member, stripe_of, copy_index, stripe_index, AreCopies, IsStripe}
+use Rattle.extent_groups.specs.Geometry.{spot_at, copies_of, parity_of, data_member, stripe_of, copy_index, AreCopies, IsStripe}
 
 -- a position below n * s lies in a row below s
 row_below : (n s k : ℕ) → 0 < n → k < n * s → k / n < s
@@ -13,8 +13,9 @@ row_below n s k some h = let inside : k < s * n = omega arith in (div-lt_iff_lt-
 not_in_turn : (n p q a b : ℕ) → 2 ≤ n → a ≡ n * p → b ≡ n * q → b ≡ a + 1 → ⊥
 not_in_turn n p q a b two e f next =
     elim (cases_lt p q) [
-      inl below ↦ let more : p + 1 ≤ q = omega arith in let wide = mul-le-mul_left n more in omega (arith, wide)
-    | inr above ↦ let wide = mul-le-mul_left n above in omega (arith, wide) ]
+      | inl below ↦ let more : p + 1 ≤ q = omega arith in let wide = mul-le-mul_left n more in omega (arith, wide)
+      | inr above ↦ let wide = mul-le-mul_left n above in omega (arith, wide)
+    ]
 
 -- two positions in turn lie on different members
 members_differ : (n k : ℕ) → 2 ≤ n → k % n ≡ (k + 1) % n → ⊥
@@ -47,7 +48,7 @@ copies_law n s i two h =
       second_inside = (omega arith, omega (arith, high));
       apart = λ e. members_differ n (2 * (i / 2)) two e;
       first_back = spot_back n i (2 * (i / 2)) some (omega arith);
-      second_back = spot_back n i (2 * (i / 2) + 1) some (omega arith)
+      second_back = spot_back n i (2 * (i / 2) + 1) some (omega arith);
     }
 
 -- the member of a number of others: another than the parity's, and the number of others below it is that one
@@ -60,7 +61,7 @@ other_member : (n p q : ℕ) → p < n → q < n - 1 → IsOther n p q (data_mem
 other_member n p q h k = record {
   inside = grind (arith, nat_tests);
   apart = grind (arith, nat_tests);
-  counted = grind (arith, nat_tests)
+  counted = grind (arith, nat_tests);
 }
 
 pub stripe_law : (n s i : ℕ) → 2 ≤ n → i < 2 * s * (n - 1) → IsStripe n s i (stripe_of n i)
@@ -79,7 +80,7 @@ stripe_law n s i two h =
       apart = other.apart;
       one_parity = ap (parity_of n) row;
       back =
-        (let unit : (2 * (i / 2 / (n - 1)) + i % 2) % 2 ≡ i % 2 = omega arith in
-        let whole : i / 2 / (n - 1) * (n - 1) + i / 2 % (n - 1) ≡ i / 2 = omega arith in
-        rw (row, unit, other.counted, whole) (omega arith))
+          (let unit : (2 * (i / 2 / (n - 1)) + i % 2) % 2 ≡ i % 2 = omega arith in
+          let whole : i / 2 / (n - 1) * (n - 1) + i / 2 % (n - 1) ≡ i / 2 = omega arith in
+          rw (row, unit, other.counted, whole) (omega arith));
     }

@@ -1,6 +1,6 @@
 -- The groups with another one under a number; members that share no drive; and what agreement says of two groups.
-use Rattle.std.proofs.Common.{◌≡◌, ◌≢◌, ℕ, zero, suc, ◌+◌, ◌<◌, ◌≤◌, ◌⊎◌, inl, inr, Bool, true, false, ◌||◌, Option, Some, None, List, [], ◌∷◌, length, refl, sym, ◌∙◌, ap, subst, arith, get_or}
-use Rattle.std.specs.Prelude.{slice_get, slice_set, unwrap_or, ◌==◌, is_some}
+use Rattle.std.proofs.Common.{◌≡◌, ◌≢◌, ℕ, zero, suc, ◌<◌, Bool, true, false, Option, Some, None, List, [], ◌∷◌, length, refl, sym, ◌∙◌, ap, arith}
+use Rattle.std.specs.Prelude.{slice_get, unwrap_or, ◌==◌, is_some}
 use Rattle.std.specs.List.{list_any}
 use Rattle.std.proofs.lemmas.Bool.{eq-eqb, or_parts}
 use Rattle.std.proofs.lemmas.List.Folds.{list_any_at}
@@ -8,8 +8,8 @@ use Rattle.std.proofs.lemmas.Option.{same_Some, slice_get_within, get_or_from_sl
 use Rattle.extents.specs.Owners.{Owners, owner_of}
 use Rattle.extent_groups.specs.declared.class.Member.{Member}
 use Rattle.extent_groups.specs.Faults.{is_on, shares_drive, is_owned}
-use Rattle.extent_groups.specs.Groups.{Group, Groups, group_at, members_in, members_of, with_group, IsFormed, AreGroups, Agree}
-use Rattle.extent_groups.proofs.Places.{get-set_same, get-set_other, same_or_not}
+use Rattle.extent_groups.specs.Groups.{Group, Groups, group_at, members_of, with_group, Agree}
+use Rattle.extent_groups.proofs.Places.{get-set_same, get-set_other}
 
 -- the group under the number
 pub group_same : (t : Groups) (g : ℕ) (x : Option Group) → g < length t.table → group_at (with_group t g x) g ≡ x

@@ -1,6 +1,6 @@
 -- The table's groups after one number is written.
-use Rattle.std.proofs.Common.{◌≡◌, ℕ, ◌+◌, ◌<◌, ◌≤◌, Bool, true, false, Option, Some, None, List, Vec, Global, length, refl, sym, ◌∙◌, ap, subst, arith, get_or}
-use Rattle.std.specs.Prelude.{slice_get, slice_set, map, option_map, unwrap_or, IsSome, nat_lt, if◌then◌else◌}
+use Rattle.std.proofs.Common.{◌≡◌, ℕ, ◌<◌, ◌≤◌, Bool, true, false, Option, Some, None, List, Vec, Global, length, refl, sym, ◌∙◌, ap, subst, arith, get_or}
+use Rattle.std.specs.Prelude.{slice_get, slice_set, option_map, unwrap_or, IsSome, nat_lt, if◌then◌else◌}
 use Rattle.std.specs.List.{list_any}
 use Rattle.std.proofs.lemmas.List.{map-set, length-map}
 use Rattle.std.proofs.lemmas.Option.{same_Some, slice_get-map, slice_get_read, slice_get-get_or}
@@ -22,7 +22,7 @@ use Rattle.extent_groups.proofs.Swapping.{agree_swap, formed_swap}
 pub groups_in-set : (shape : Shape) (kept : List (Option Kept)) (g : ℕ) (x : Option Kept) → groups_in shape (slice_set kept g x) ≡ with_group (groups_in shape kept) g (option_map group_of x)
 groups_in-set shape kept g x =
     ap (λ (table : List (Option Group)). let t : Groups = record { extents = shape.extents; segments = shape.segments; payload = shape.payload; blocks = shape.blocks; table = table } in t)
-      (map-set (option_map group_of) kept g x)
+    (map-set (option_map group_of) kept g x)
 
 -- what has passed every check: members that form a group, of extents that no group owns
 pub record HasPassed (o : Owners) (ms : List Member) : Type 0 where
@@ -60,14 +60,14 @@ is_put shape kept t o g class v ms view items are agree free there fine =
     let ok = passed o ms fine in
     let group : Group = record { class = class; members = ms } in
     let shown : groups_in shape (slice_set kept g (Some (record { class = class; members = v }))) ≡ with_group t g (Some group) =
-        groups_in-set shape kept g (Some (record { class = class; members = v }))
-        ∙ ap (λ s. with_group s g (Some (record { class = class; members = v.items }))) view
-        ∙ ap (λ l. with_group t g (Some (record { class = class; members = l }))) items in
+    groups_in-set shape kept g (Some (record { class = class; members = v }))
+    ∙ ap (λ s. with_group s g (Some (record { class = class; members = v.items }))) view
+    ∙ ap (λ l. with_group t g (Some (record { class = class; members = l }))) items in
     let agree' = agree_put t o g group agree free there ok.free in
     record {
       shown = shown;
       agree = subst (λ s. Agree s (with_owners o ms (Some g))) (sym shown) agree';
-      groups = subst AreGroups (sym shown) (groups_with t (with_owners o ms (Some g)) g (Some group) are agree' free.within (λ x e. subst (λ (y : Group). IsFormed y.members) (same_Some group x e) ok.formed))
+      groups = subst AreGroups (sym shown) (groups_with t (with_owners o ms (Some g)) g (Some group) are agree' free.within (λ x e. subst (λ (y : Group). IsFormed y.members) (same_Some group x e) ok.formed));
     }
 
 -- unmaking a group
@@ -84,7 +84,7 @@ is_taken shape kept t o g group view are agree within made =
     record {
       shown = shown;
       agree = subst (λ s. Agree s (with_owners o group.members None)) (sym shown) agree';
-      groups = subst AreGroups (sym shown) (groups_with t (with_owners o group.members None) g None are agree' within (λ x e. absurd cc))
+      groups = subst AreGroups (sym shown) (groups_with t (with_owners o group.members None) g None are agree' within (λ x e. absurd cc));
     }
 
 -- swapping a member
@@ -102,14 +102,14 @@ is_swapped shape kept t o g k group x was to view are agree within made is at he
     let taken = check_passed (is_owned o to) ExtentTaken _ drives.1 in
     let formed = are.formed g group made in
     let shown : groups_in shape (slice_set kept g x) ≡ with_group t g (Some (with_member group k to)) =
-        groups_in-set shape kept g x ∙ ap (λ s. with_group s g (option_map group_of x)) view ∙ ap (λ y. with_group t g y) is in
+    groups_in-set shape kept g x ∙ ap (λ s. with_group s g (option_map group_of x)) view ∙ ap (λ y. with_group t g y) is in
     let agree' = agree_swap t o g k group was to agree within made formed at here (not_owned o to taken.0) in
     record {
       shown = shown;
       agree = subst (λ s. Agree s (with_owner (with_owner o was.drive was.extent None) to.drive to.extent (Some g))) (sym shown) agree';
       groups = subst AreGroups (sym shown)
-        (groups_with t (with_owner (with_owner o was.drive was.extent None) to.drive to.extent (Some g)) g (Some (with_member group k to)) are agree' within
-          (λ y e. subst (λ (z : Group). IsFormed z.members) (same_Some (with_member group k to) y e) (formed_swap group.members k to formed drives.0)))
+          (groups_with t (with_owner (with_owner o was.drive was.extent None) to.drive to.extent (Some g)) g (Some (with_member group k to)) are agree' within
+          (λ y e. subst (λ (z : Group). IsFormed z.members) (same_Some (with_member group k to) y e) (formed_swap group.members k to formed drives.0)));
     }
 
 -- what is kept under a number is the group of that number

@@ -1,5 +1,5 @@
 -- The owners with one extent's owner changed, and with that of several.
-use Rattle.std.proofs.Common.{◌≡◌, ◌≢◌, ℕ, zero, suc, ◌+◌, ◌<◌, ◌⊎◌, inl, inr, Option, Some, None, List, [], ◌∷◌, length, refl, sym, ◌∙◌, ap, subst, arith}
+use Rattle.std.proofs.Common.{◌≡◌, ◌≢◌, ℕ, zero, suc, ◌<◌, inl, inr, Option, Some, None, List, [], ◌∷◌, length, refl, ◌∙◌, ap, subst, arith}
 use Rattle.std.specs.Prelude.{slice_get, slice_set, unwrap_or}
 use Rattle.std.proofs.lemmas.List.{length-set}
 use Rattle.std.proofs.lemmas.Option.{same_Some}
@@ -26,10 +26,11 @@ owner_same o d e w wide there =
 -- another extent keeps its owner
 pub owner_other : (o : Owners) (d e x y : ℕ) (w : Option ℕ) → d < length o.rows → (x ≡ d → y ≡ e → ⊥) → owner_of (with_owner o d e w) x y ≡ owner_of o x y
 owner_other o d e x y w there h = elim (same_or_not x d) [
-    inl same ↦
+  | inl same ↦
       (let beside : y ≢ e = λ q. h same q in
       rw same (ap (λ r. unwrap_or (slice_get r y) None) (row_same o d e w there) ∙ ap (λ r. unwrap_or r None) (get-set_other (row_of o d) e y w beside)))
-  | inr apart ↦ ap (λ r. unwrap_or (slice_get r y) None) (row_other o d e x w apart) ]
+  | inr apart ↦ ap (λ r. unwrap_or (slice_get r y) None) (row_other o d e x w apart)
+]
 
 -- as many extents and drives are there
 pub extent_stays : (o : Owners) (d e x y : ℕ) (w : Option ℕ) → IsExtent o x y → IsExtent (with_owner o d e w) x y
@@ -40,8 +41,9 @@ pub wide_stays : (o : Owners) (d e : ℕ) (w : Option ℕ) → AreWide o → d <
 wide_stays o d e w wide there x h =
     let within : x < length o.rows = rw length-set at h in
     elim (same_or_not x d) [
-      inl same ↦ rw same (ap (λ r. length r) (row_same o d e w there) ∙ length-set (row_of o d) e w ∙ wide d there)
-    | inr apart ↦ ap (λ r. length r) (row_other o d e x w apart) ∙ wide x within ]
+      | inl same ↦ rw same (ap (λ r. length r) (row_same o d e w there) ∙ length-set (row_of o d) e w ∙ wide d there)
+      | inr apart ↦ ap (λ r. length r) (row_other o d e x w apart) ∙ wide x within
+    ]
 
 -- the premises of the rest of the members, once the first one has its owner
 rest_there : (o : Owners) (m : Member) (ms : List Member) (w : Option ℕ) → AreThere o (m ∷ ms) → AreThere (with_owner o m.drive m.extent w) ms
@@ -69,11 +71,13 @@ owner_kept o [] x y w wide there e = e
 owner_kept o (m ∷ ms) x y w wide there e =
     let one = there 0 m refl in
     let still : owner_of (with_owner o m.drive m.extent w) x y ≡ w =
-      elim (same_or_not x m.drive) [
-        inl p ↦ elim (same_or_not y m.extent) [
-            inl q ↦ rw (p, q) (owner_same o m.drive m.extent w wide one)
-          | inr q ↦ owner_other o m.drive m.extent x y w one.within (λ _ r. q r) ∙ e ]
-      | inr p ↦ owner_other o m.drive m.extent x y w one.within (λ r _. p r) ∙ e ] in
+    elim (same_or_not x m.drive) [
+      | inl p ↦ elim (same_or_not y m.extent) [
+        | inl q ↦ rw (p, q) (owner_same o m.drive m.extent w wide one)
+        | inr q ↦ owner_other o m.drive m.extent x y w one.within (λ _ r. q r) ∙ e
+      ]
+      | inr p ↦ owner_other o m.drive m.extent x y w one.within (λ r _. p r) ∙ e
+    ] in
     owner_kept (with_owner o m.drive m.extent w) ms x y w (wide_stays o m.drive m.extent w wide one.within) (rest_there o m ms w there) still
 
 -- each of the members has the owner
@@ -83,6 +87,6 @@ owner_in o (a ∷ ms) w zero m wide there at =
     let one = there 0 a refl in
     let same : a ≡ m = same_Some _ _ at in
     subst (λ (n : Member). owner_of (with_owners o (a ∷ ms) w) n.drive n.extent ≡ w) same
-      (owner_kept (with_owner o a.drive a.extent w) ms a.drive a.extent w (wide_stays o a.drive a.extent w wide one.within) (rest_there o a ms w there) (owner_same o a.drive a.extent w wide one))
+    (owner_kept (with_owner o a.drive a.extent w) ms a.drive a.extent w (wide_stays o a.drive a.extent w wide one.within) (rest_there o a ms w there) (owner_same o a.drive a.extent w wide one))
 owner_in o (a ∷ ms) w (suc k) m wide there at =
     owner_in (with_owner o a.drive a.extent w) ms w k m (wide_stays o a.drive a.extent w wide (there 0 a refl).within) (rest_there o a ms w there) at

@@ -1,5 +1,5 @@
 -- What the drives hold, as one function from drive and address to a unit; a lost drive holds none.
-use Rattle.std.specs.Prelude.{◌≡◌, ℕ, Bool, true, Option, Some, None, List, slice_get, if◌then◌else◌}
+use Rattle.std.specs.Prelude.{ℕ, Bool, Option, Some, None, List, slice_get, if◌then◌else◌}
 
 -- a unit, or none, for each drive and address
 abbrev pub Cells : Type 0

@@ -5,7 +5,7 @@ use Rattle.extents.specs.Owners.{Owners, owner_of}
 use Rattle.extent_groups.specs.declared.class.Member.{Member}
 use Rattle.extent_groups.specs.declared.refusal.GroupRefusal.{GroupRefusal}
 use Rattle.extent_groups.specs.declared.refusal.GroupRefusal.TheVariants.{NoGroup, TooFew, SameDrive, ExtentTaken, TooMany}
-use Rattle.extent_groups.specs.Groups.{Group, members_in}
+use Rattle.extent_groups.specs.Groups.{Group}
 
 -- one of the members is on the drive
 abbrev pub is_on : ℕ → List Member → Bool

@@ -1,5 +1,5 @@
 -- The groups: which numbers are made, with which class and members, and what is true of every table of them.
-use Rattle.std.specs.Prelude.{◌≡◌, ◌≢◌, ℕ, ◌<◌, ◌≤◌, ◌/◌, ◌%◌, ◌*◌, Bool, false, nat_lt, nat_eq, ◌||◌, if◌then◌else◌, Option, Some, None, List, [], ◌∷◌, length, slice_get, slice_set, unwrap_or, is_some}
+use Rattle.std.specs.Prelude.{◌≡◌, ℕ, ◌<◌, ◌≤◌, Option, Some, None, List, [], ◌∷◌, length, slice_get, slice_set, unwrap_or}
 use Rattle.extents.specs.Owners.{Owners, owner_of, with_owner, row_of, IsExtent}
 use Rattle.extent_groups.specs.declared.class.Class.{Class}
 use Rattle.extent_groups.specs.declared.class.Member.{Member}

@@ -1,5 +1,5 @@
 -- How the table keeps its groups.
-use Rattle.std.specs.Prelude.{ℕ, Option, Some, None, List, map, option_map}
+use Rattle.std.specs.Prelude.{Option, List, map, option_map}
 use Rattle.extents.specs.declared.shape.Shape.{Shape}
 use Rattle.extent_groups.specs.declared.table.Kept.{Kept}
 use Rattle.extent_groups.specs.Groups.{Group, Groups}
@@ -15,5 +15,5 @@ groups_in shape kept = record {
   segments = shape.segments;
   payload = shape.payload;
   blocks = shape.blocks;
-  table = map (option_map group_of) kept
+  table = map (option_map group_of) kept;
 }

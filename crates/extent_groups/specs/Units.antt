@@ -1,5 +1,5 @@
 -- What a slot holds, however its drives fare, and when its group's redundancy is as it should be.
-use Rattle.std.specs.Prelude.{◌≡◌, ◌≢◌, ℕ, zero, suc, ◌+◌, ◌*◌, ◌/◌, ◌%◌, ◌<◌, nat_lt, nat_eq, ◌==◌, bit_xor, if◌then◌else◌, Option, Some, None, List, [], ◌∷◌, length, map, slice_get, slice_index_or, replicate}
+use Rattle.std.specs.Prelude.{◌≡◌, ℕ, zero, suc, ◌/◌, ◌%◌, nat_lt, ◌==◌, bit_xor, if◌then◌else◌, Option, Some, None, List, length, map, slice_get, slice_index_or, replicate}
 use Rattle.std.specs.Simd.Lanes.{zip2}
 use Rattle.extents.specs.Sizes.{unit_address}
 use Rattle.extent_groups.specs.declared.class.Class.{Class}

@@ -101,7 +101,14 @@ fn replace(kept: &mut Option<Kept>, member: usize, to: Member)
 
 impl GroupTable {
     /// Makes a group under a free number; refused, with nothing changed, where the members make none or memory is out.
-    pub fn put_group(&mut self, alloc: Global, extents: &mut ExtentTable, group: u16, class: Class, members: &[Member]) -> Result<(), GroupRefusal>
+    pub fn put_group(
+        &mut self,
+        alloc: Global,
+        extents: &mut ExtentTable,
+        group: u16,
+        class: Class,
+        members: &[Member],
+    ) -> Result<(), GroupRefusal>
         requires free { IsFree self.old group }
         requires there { AreThere extents.old members.now }
         requires agree { Agree self.old extents.old }
@@ -145,7 +152,13 @@ impl GroupTable {
     }
 
     /// Puts another extent in the place of a member, which keeps its number; the extent of the member is free then.
-    pub fn swap_member(&mut self, extents: &mut ExtentTable, group: u16, member: u8, to: Member) -> Result<(), GroupRefusal>
+    pub fn swap_member(
+        &mut self,
+        extents: &mut ExtentTable,
+        group: u16,
+        member: u8,
+        to: Member,
+    ) -> Result<(), GroupRefusal>
         requires member { IsSome (group_at self.old group) → member < length (members_of self.old group) }
         requires there { IsExtent extents.old to.drive to.extent }
         requires agree { Agree self.old extents.old }

@@ -15,4 +15,3 @@ pub enum GroupRefusal {
     /// More than eight members.
     TooMany = 6,
 }
-

@@ -12,7 +12,16 @@ use std::test::Fail;
 
 /// Whether a row of the table is what the geometry says: class, members, segments, index, and two units.
 fn is_told(row: &[u8; 8]) -> bool {
-    let [class, members, _segments, index, member, offset, other, other_offset] = *row;
+    let [
+        class,
+        members,
+        _segments,
+        index,
+        member,
+        offset,
+        other,
+        other_offset,
+    ] = *row;
     if members < 3 || index >= 128 {
         return false;
     }
@@ -71,7 +80,13 @@ fn are_there(extents: &ExtentTable, members: &[Member]) -> bool
 }
 
 /// Makes group 0 of members that are seen to be there.
-fn put(rt: &impl Abort, alloc: Global, groups: &mut GroupTable, extents: &mut ExtentTable, members: &[Member]) -> Result<(), GroupRefusal>
+fn put(
+    rt: &impl Abort,
+    alloc: Global,
+    groups: &mut GroupTable,
+    extents: &mut ExtentTable,
+    members: &[Member],
+) -> Result<(), GroupRefusal>
     requires { Agree groups.old extents.old }
     ensures { Agree groups.new extents.new }
 {
@@ -81,7 +96,12 @@ fn put(rt: &impl Abort, alloc: Global, groups: &mut GroupTable, extents: &mut Ex
 }
 
 /// Swaps member 2 of group 0 for an extent that is seen to be there.
-fn swap(rt: &impl Abort, groups: &mut GroupTable, extents: &mut ExtentTable, to: Member) -> Result<(), GroupRefusal>
+fn swap(
+    rt: &impl Abort,
+    groups: &mut GroupTable,
+    extents: &mut ExtentTable,
+    to: Member,
+) -> Result<(), GroupRefusal>
     requires { Agree groups.old extents.old }
     ensures { Agree groups.new extents.new }
 {
@@ -95,21 +115,76 @@ fn a_group_is_made_swapped_and_unmade(rt: HostRuntime) -> Result<(), Fail> {
     let shape = shape(&rt);
     let mut extents = ExtentTable::new(rt.alloc(), 10, &shape)?;
     let mut groups = GroupTable::new(rt.alloc(), &shape)?;
-    assert_eq!(rt; put(&rt, rt.alloc(), &mut groups, &mut extents, &[on(0), on(1)]), Err(GroupRefusal::TooFew));
-    let nine = [on(0), on(1), on(2), on(3), on(4), on(5), on(6), on(7), on(7)];
-    assert_eq!(rt; put(&rt, rt.alloc(), &mut groups, &mut extents, &nine), Err(GroupRefusal::TooMany));
-    let same = [on(0), on(1), Member { drive: 0, extent: 1 }];
-    assert_eq!(rt; put(&rt, rt.alloc(), &mut groups, &mut extents, &same), Err(GroupRefusal::SameDrive));
-    assert_eq!(rt; put(&rt, rt.alloc(), &mut groups, &mut extents, &[on(0), on(1), on(2)]), Ok(()));
+    assert_eq!(rt;
+        put(&rt, rt.alloc(), &mut groups, &mut extents, &[on(0), on(1)]),
+        Err(GroupRefusal::TooFew)
+    );
+    let nine = [
+        on(0),
+        on(1),
+        on(2),
+        on(3),
+        on(4),
+        on(5),
+        on(6),
+        on(7),
+        on(7),
+    ];
+    assert_eq!(rt;
+        put(&rt, rt.alloc(), &mut groups, &mut extents, &nine),
+        Err(GroupRefusal::TooMany)
+    );
+    let same = [
+        on(0),
+        on(1),
+        Member {
+            drive: 0,
+            extent: 1,
+        },
+    ];
+    assert_eq!(rt;
+        put(&rt, rt.alloc(), &mut groups, &mut extents, &same),
+        Err(GroupRefusal::SameDrive)
+    );
+    assert_eq!(rt;
+        put(
+            &rt,
+            rt.alloc(),
+            &mut groups,
+            &mut extents,
+            &[on(0), on(1), on(2)]
+        ),
+        Ok(())
+    );
     assert_eq!(rt; groups.class_of(0), Some(Class::Mirrored));
     assert_eq!(rt; groups.slots_of(0), 6);
     assert_eq!(rt; groups.shape() == shape, true);
-    assert_eq!(rt; swap(&rt, &mut groups, &mut extents, Member { drive: 0, extent: 1 }), Err(GroupRefusal::SameDrive));
+    assert_eq!(rt;
+        swap(
+            &rt,
+            &mut groups,
+            &mut extents,
+            Member {
+                drive: 0,
+                extent: 1
+            }
+        ),
+        Err(GroupRefusal::SameDrive)
+    );
     assert_eq!(rt; swap(&rt, &mut groups, &mut extents, on(9)), Ok(()));
     assert_eq!(rt; groups.members(0).len(), 3);
-    assert_eq!(rt; extents.has_extent(2, 0) && extents.owner(2, 0).is_none(), true);
-    assert_eq!(rt; extents.has_extent(9, 0) && extents.owner(9, 0) == Some(0), true);
+    assert_eq!(rt;
+        extents.has_extent(2, 0) && extents.owner(2, 0).is_none(),
+        true
+    );
+    assert_eq!(rt;
+        extents.has_extent(9, 0) && extents.owner(9, 0) == Some(0),
+        true
+    );
     assert_eq!(rt; groups.take_group(&mut extents, 0), Ok(()));
-    assert_eq!(rt; groups.take_group(&mut extents, 0), Err(GroupRefusal::NoGroup));
+    assert_eq!(rt;
+        groups.take_group(&mut extents, 0),
+        Err(GroupRefusal::NoGroup)
+    );
     Ok(())
 }

@@ -1,4 +1,4 @@
-use Rattle.std.proofs.Common.{◌≡◌, drop, false}
+use Rattle.std.proofs.Common.{◌≡◌, drop}
 use Rattle.std.specs.List.{list_any}
 use Rattle.extent_groups.specs.Faults.{is_owned}
 use Rattle.extent_groups.proofs.change.is_any_owned.Given as goal

@@ -1,4 +1,4 @@
-use Rattle.std.proofs.Common.{◌≡◌, ap, arith, length}
+use Rattle.std.proofs.Common.{ap, arith, length}
 use Rattle.extent_groups.proofs.LayoutLaw.{layout_law}
 use Rattle.extent_groups.proofs.table.GroupTable.slots_of.Goals as goal
 
@@ -13,7 +13,7 @@ count_slots-requires c =
     record {
       some = omega (arith, form.enough, ap length c.deref-members.ensures.value);
       few = omega (arith, form.few, ap length c.deref-members.ensures.value);
-      short = omega (arith, c.self.invariant.segments)
+      short = omega (arith, c.self.invariant.segments);
     }
 
 pub returns-in-Some-clause-layout : goal.returns-in-Some-clause-layout

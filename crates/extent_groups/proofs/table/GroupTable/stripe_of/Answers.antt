@@ -1,4 +1,4 @@
-use Rattle.std.proofs.Common.{◌≡◌, ◌≤◌, ap, arith, sym, length}
+use Rattle.std.proofs.Common.{ap, arith, length}
 use Rattle.extent_groups.proofs.Bounds.{parity_slot}
 use Rattle.extent_groups.proofs.table.GroupTable.stripe_of.Goals as goal
 

@@ -1,5 +1,5 @@
-use Rattle.std.proofs.Common.{◌≡◌, ◌∙◌, None, sym, ap, subst}
-use Rattle.extent_groups.specs.Groups.{AreGroups, Agree, AreThere, members_in, with_owners}
+use Rattle.std.proofs.Common.{sym, subst}
+use Rattle.extent_groups.specs.Groups.{AreThere}
 use Rattle.extent_groups.proofs.Agreement.{members_there}
 use Rattle.extent_groups.proofs.Keeping.{is_taken}
 use Rattle.extent_groups.proofs.table.GroupTable.take_group.Goals as goal
@@ -19,4 +19,4 @@ returns-clause-taken c =
 pub returns-clause-agree : goal.returns-clause-agree
 returns-clause-agree c =
     rw (c.give.ensures, c.deref.ensures.value)
-      (is_taken c.self.inside.shape _ c.args.self.now c.args.extents.now c.args.group _ c.self.view_is c.in-Some.ensures.groups c.requires c.in-Some.ensures.within c.in-Some.ensures.made).agree
+    (is_taken c.self.inside.shape _ c.args.self.now c.args.extents.now c.args.group _ c.self.view_is c.in-Some.ensures.groups c.requires c.in-Some.ensures.within c.in-Some.ensures.made).agree
