@@ -1,0 +1,10 @@
+pub mod GeometryLaws
+pub mod Places
+pub mod OwnersLemmas
+pub mod Bounds
+pub mod Fresh
+pub mod GroupsLemmas
+pub mod Agreement
+pub mod Swapping
+pub mod Keeping
+pub mod LayoutLaw

@@ -1,0 +1,17 @@
+//! Groups of extents, the geometry of their slots, and what a slot holds however its drives fare.
+#![tactic(auto)]
+
+#[cfg(test)]
+mod cases;
+mod change;
+mod class;
+mod geometry;
+mod refusal;
+mod table;
+#[cfg(test)]
+mod tests;
+
+pub use class::{Class, Member};
+pub use geometry::{Copies, Spot, Stripe};
+pub use refusal::GroupRefusal;
+pub use table::{GROUPS, GroupTable};

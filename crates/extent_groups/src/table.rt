@@ -1,0 +1,162 @@
+// The groups by number.
+ghost use Rattle.std.specs.Prelude.{◌≡◌, ◌↔◌, IsTrue, ℕ, ◌+◌, ◌<◌, ◌≤◌, Bool, length, Some, None, IfOk, OnOk, OnErr, IfErr, MatchOption, OnSome, slice_get, replicate};
+ghost use Rattle.extent_groups.specs.Geometry.{slot_count, copies_of, stripe_of, AreCopies, IsStripe};
+
+use crate::{Class, Copies, Member, Stripe, geometry};
+use extents::Shape;
+use std::alloc::{AllocError, Global};
+use std::marker::Model;
+
+/// How many numbers there are for groups.
+pub const GROUPS: usize = 512;
+
+/// A group that is made.
+#[derive(Drop)]
+pub(crate) struct Kept {
+    pub(crate) class: Class,
+    pub(crate) members: Vec<Member>,
+}
+
+/// The groups of an array, by number: which are made, with which class and members.
+#[derive(Drop)]
+pub struct GroupTable {
+    pub(crate) shape: Shape,
+    pub(crate) groups: Vec<Option<Kept>>,
+}
+
+impl Model for GroupTable {
+    ghost use Rattle.extent_groups.specs.Groups.{Groups};
+
+    ghost Value = { Groups };
+
+    ghost use Rattle.extent_groups.specs.Groups.{AreGroups};
+    ghost use Rattle.extent_groups.specs.Kept.{groups_in};
+
+    ghost view = { λ t. groups_in t.shape t.groups.items };
+
+    ghost invariant = { λ t. AreGroups (groups_in t.shape t.groups.items) };
+}
+
+/// So many numbers that are free.
+fn free_numbers(alloc: Global, count: usize) -> Result<Vec<Option<Kept>>, AllocError>
+    ensures { IfOk result (λ v. v.items ≡ replicate count None) }
+{
+    let mut numbers = Vec::with_capacity(alloc, count)?;
+    for _number in 0..count {
+        numbers.push(None)?;
+    }
+    Ok(numbers)
+}
+
+/// How many slots a group of so many members and segments has.
+pub(crate) fn count_slots(class: Class, members: u16, segments: u16) -> u16
+    requires some { 1 ≤ members }
+    requires few { members ≤ 8 }
+    requires short { segments ≤ 8 }
+    ensures { result ≡ slot_count class members segments }
+{
+    match class {
+        Class::Mirrored => 2 * (members * segments / 2),
+        Class::Parity => 2 * segments * (members - 1),
+    }
+}
+
+impl GroupTable {
+    ghost use Rattle.extents.specs.Shapes.{IsShapeOf};
+    ghost use Rattle.extents.specs.Owners.{all_free};
+    ghost use Rattle.extent_groups.specs.Groups.{group_at, class_in, slots_in, members_of, AreGroups, Agree, IsFree};
+    ghost use Rattle.extent_groups.specs.Kept.{group_of};
+    ghost use Rattle.extent_groups.specs.Layout.{IsLayout};
+    ghost use Rattle.extent_groups.specs.declared.class.Class.TheVariants.{Mirrored, Parity};
+
+    /// A table of this shape, without groups; refused where memory is out.
+    pub fn new(alloc: Global, shape: &Shape) -> Result<GroupTable, AllocError>
+        ensures shape { IfOk result (λ t. IsShapeOf shape.now t.extents t.segments t.payload t.blocks) }
+        ensures free { IfOk result (λ t. (g : ℕ) → group_at t g ≡ None) }
+        ensures agree { IfOk result (λ t. (drives : ℕ) → Agree t (all_free drives shape.now.extents)) }
+    {
+        Ok(GroupTable {
+            shape: *shape,
+            groups: free_numbers(alloc, GROUPS)?,
+        })
+    }
+
+    /// The sizes of the array.
+    pub fn shape(&self) -> Shape
+        ensures { IsShapeOf result self.now.extents self.now.segments self.now.payload self.now.blocks }
+    {
+        self.shape
+    }
+
+    pub(crate) fn find(&self, group: u16) -> Option<&Kept>
+        ensures made { MatchOption result (group_at self.now group ≡ None) (λ k. group_at self.now group ≡ Some (group_of k.now)) }
+        ensures within { OnSome result (group < length self.now.table) }
+        ensures groups { AreGroups self.now }
+    {
+        let group = group as usize;
+        if group >= self.groups.len() {
+            return None;
+        }
+        self.groups[group].as_ref()
+    }
+
+    /// Whether the number is one for groups, and free.
+    pub fn is_free(&self, group: u16) -> bool
+        ensures { IsTrue result ↔ IsFree self.now group }
+    {
+        (group as usize) < self.groups.len() && self.find(group).is_none()
+    }
+
+    /// The class of a group, none where the number is free.
+    pub fn class_of(&self, group: u16) -> Option<Class>
+        ensures { result ≡ class_in (group_at self.now group) }
+    {
+        let kept = self.find(group)?;
+        Some(kept.class)
+    }
+
+    /// The members of a group in the order in which they were given, none where the number is free.
+    pub fn members(&self, group: u16) -> &[Member]
+        ensures members { result.now ≡ members_of self.now group }
+        ensures groups { AreGroups self.now }
+    {
+        match self.find(group) {
+            Some(kept) => &kept.members,
+            None => &[],
+        }
+    }
+
+    /// How many slots a group has, none where the number is free; any two slots of the table lie apart.
+    pub fn slots_of(&self, group: u16) -> u16
+        ensures count { result ≡ slots_in self.now.segments (group_at self.now group) }
+        ensures layout { IsLayout self.now }
+    {
+        match self.find(group) {
+            Some(kept) => {
+                let members: &[Member] = &kept.members;
+                count_slots(kept.class, members.len() as u16, self.shape.segments as u16)
+            }
+            None => 0,
+        }
+    }
+
+    /// The two copies of a mirrored slot.
+    pub fn copies(&self, group: u16, index: u16) -> Copies
+        requires mirrored { class_in (group_at self.now group) ≡ Some Mirrored }
+        requires slot { index < slots_in self.now.segments (group_at self.now group) }
+        ensures at { result ≡ copies_of (length (members_of self.now group)) index }
+        ensures law { AreCopies (length (members_of self.now group)) self.now.segments index result }
+    {
+        geometry::two_copies(self.members(group).len() as u8, index)
+    }
+
+    /// Where a parity slot lies, and the parity of its offset.
+    pub fn stripe_of(&self, group: u16, index: u16) -> Stripe
+        requires parity { class_in (group_at self.now group) ≡ Some Parity }
+        requires slot { index < slots_in self.now.segments (group_at self.now group) }
+        ensures at { result ≡ stripe_of (length (members_of self.now group)) index }
+        ensures law { IsStripe (length (members_of self.now group)) self.now.segments index result }
+    {
+        geometry::one_stripe(self.members(group).len() as u8, index)
+    }
+}

@@ -1,0 +1,3 @@
+pub mod UnitsIn
+pub mod Setting
+pub mod Stamps

@@ -1,0 +1,26 @@
+-- One extent gets another owner: in its row, and so in the table.
+use Rattle.std.proofs.Common.{◌≡◌, ℕ, ◌<◌, Option, List, [], length, refl, sym, ◌∙◌, ap, get_or}
+use Rattle.std.specs.Prelude.{map, slice_set, unwrap_or, option_map}
+use Rattle.std.proofs.lemmas.List.{map-set}
+use Rattle.std.proofs.lemmas.Option.{slice_get_read, slice_get-map}
+use Rattle.extents.specs.Owners.{Owners, row_of, with_owner}
+use Rattle.extents.specs.Rows.{owners_in}
+use Rattle.extents.specs.declared.table.Row.{Row}
+
+-- the row of a drive is what its row of the table holds
+row_of-owners_in : (extents drive : ℕ) (rows : List Row) (was : Row) → drive < length rows → was ≡ get_or rows drive was → row_of (owners_in extents rows) drive ≡ was.owners.items
+row_of-owners_in extents drive rows was h e =
+    ap (λ o. unwrap_or o [])
+    (slice_get-map (λ (row : Row). row.owners.items) rows drive
+    ∙ ap (option_map (λ (row : Row). row.owners.items)) (slice_get_read rows (length rows) drive was refl h e))
+
+-- the table with one row written is the owners with one extent set
+pub owners_in-set : (extents drive extent : ℕ) (owner : Option ℕ) (rows : List Row) (was now : Row) → drive < length rows → was ≡ get_or rows drive was
+    → now.owners.items ≡ slice_set was.owners.items extent owner → owners_in extents (slice_set rows drive now) ≡ with_owner (owners_in extents rows) drive extent owner
+owners_in-set extents drive extent owner rows was now h e set_row =
+    let f : Row → List (Option ℕ) = λ row. row.owners.items in
+    let row : now.owners.items ≡ slice_set (row_of (owners_in extents rows) drive) extent owner =
+    set_row ∙ ap (λ r. slice_set r extent owner) (sym (row_of-owners_in extents drive rows was h e)) in
+    let all : map f (slice_set rows drive now) ≡ slice_set (map f rows) drive (slice_set (row_of (owners_in extents rows) drive) extent owner) =
+    map-set f rows drive now ∙ ap (λ r. slice_set (map f rows) drive r) row in
+    ap (λ (rs : List (List (Option ℕ))). let o : Owners = record { extents = extents; rows = rs } in o) all

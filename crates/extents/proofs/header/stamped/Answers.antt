@@ -1,0 +1,7 @@
+use Rattle.std.proofs.Common.{refl}
+use Rattle.extents.proofs.Stamps.{spells_made}
+use Rattle.extents.proofs.header.stamped.Goals as goal
+
+pub returns-clause-spelled : goal.returns-clause-spelled
+returns-clause-spelled c =
+    spells_made _ c.to_bytes.result c.args.stamp.now (rw (c.copy_from_slice.ensures.after, c.copy_from_slice-2.ensures.after) refl) c.to_bytes.ensures.again

@@ -1,0 +1,20 @@
+-- What a drive holds: a list of units, each a list of bytes of one length.
+use Rattle.std.specs.Prelude.{◌≡◌, ℕ, zero, suc, Bool, true, false, Some, List, [], ◌∷◌, length, take, drop, slice_get, replicate}
+
+-- every unit has so many bytes
+abbrev pub IsSized : ℕ → List (List ℕ) → Type 0
+IsSized size units = (at : ℕ) (unit : List ℕ) → slice_get units at ≡ Some unit → length unit ≡ size
+
+-- the units that lie side by side in the bytes: so many of them, each of this size
+abbrev pub units_in : ℕ → ℕ → List ℕ → List (List ℕ)
+units_in size zero bytes = []
+units_in size (suc count) bytes = take size bytes ∷ units_in size count (drop size bytes)
+
+-- units that are zero throughout
+abbrev pub zero_units : ℕ → ℕ → List (List ℕ)
+zero_units size count = replicate count (replicate size 0)
+
+-- 1 where a drive that was there is lost now, else 0
+abbrev pub loss : Bool → Bool → ℕ
+loss false true = 1
+loss _ _ = 0

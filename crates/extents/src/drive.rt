@@ -1,0 +1,47 @@
+// What a drive promises.
+ghost use Rattle.std.specs.Prelude.{◌≡◌, ℕ, ◌+◌, ◌<◌, Bool, true, List, length, slice_get, slice_set, Some, OnOk, OnErr, is_err};
+ghost use Rattle.extents.specs.Units.{IsSized, loss};
+
+/// The drive answers no more, and never will again.
+#[derive(Clone, Copy, Debug, PartialEq, Eq)]
+pub struct DriveLost;
+
+/// A drive of numbered units: each reads as it was last written, or the drive is lost for good.
+pub trait Drive {
+    /// The units that the drive holds, by address.
+    ghost units: { Self → List (List ℕ) };
+
+    /// Whether the drive answers no more.
+    ghost lost: { Self → Bool };
+
+    /// How often the drive failed by itself.
+    ghost failures: { Self → ℕ };
+
+    /// How many units the drive has.
+    fn units(&self) -> u32
+        ensures { result ≡ length (units self.now) };
+
+    /// Whether the drive is lost.
+    fn is_lost(&self) -> bool
+        ensures { result ≡ lost self.now };
+
+    /// Reads the unit at an address; refused where the drive is lost or fails now, and then it is lost.
+    fn read_unit(&mut self, at: u32, unit: &mut [u8]) -> Result<(), DriveLost>
+        requires at { at < length (units self.old) }
+        requires size { IsSized (length unit.old) (units self.old) }
+        ensures read { OnOk result (slice_get (units self.old) at ≡ Some unit.new) }
+        ensures units { units self.new ≡ units self.old }
+        ensures lost { lost self.new ≡ is_err result }
+        ensures stays { lost self.old ≡ true → lost self.new ≡ true }
+        ensures count { failures self.new ≡ failures self.old + loss (lost self.old) (lost self.new) };
+
+    /// Writes the unit at an address, whole or not at all; refused where the drive is lost or fails now, and then it is lost.
+    fn write_unit(&mut self, at: u32, unit: &[u8]) -> Result<(), DriveLost>
+        requires at { at < length (units self.old) }
+        requires size { IsSized (length unit.now) (units self.old) }
+        ensures written { OnOk result (units self.new ≡ slice_set (units self.old) at unit.now) }
+        ensures unwritten { OnErr result (units self.new ≡ units self.old) }
+        ensures lost { lost self.new ≡ is_err result }
+        ensures stays { lost self.old ≡ true → lost self.new ≡ true }
+        ensures count { failures self.new ≡ failures self.old + loss (lost self.old) (lost self.new) };
+}

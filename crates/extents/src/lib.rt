@@ -1,0 +1,16 @@
+//! Drives and their units, the header of a unit, and the table of who owns which extent.
+#![tactic(auto)]
+
+mod drive;
+mod header;
+mod mem_drive;
+mod shape;
+mod table;
+#[cfg(test)]
+mod tests;
+
+pub use drive::{Drive, DriveLost};
+pub use header::{Header, HeaderFault};
+pub use mem_drive::MemDrive;
+pub use shape::{HEADER_BYTES, Shape, ShapeRefusal};
+pub use table::ExtentTable;

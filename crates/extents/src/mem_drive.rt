@@ -1,0 +1,180 @@
+// A drive in memory, which can be lost from outside or by a fuse.
+ghost use Rattle.std.specs.Prelude.{◌≡◌, ℕ, ◌+◌, ◌*◌, ◌-◌, ◌≤◌, ◌<◌, not, true, List, length, slice_get, slice_set, Some, take, drop, ◌++◌, IfOk, OnOk, OnErr, is_err, vec_len};
+ghost use Rattle.extents.specs.Units.{IsSized, loss, zero_units};
+ghost use Rattle.extents.specs.Condition.{is_gone, failures_of, after_call};
+ghost use Rattle.extents.specs.declared.shape.TheConstants.{HEADER_BYTES};
+
+use crate::{Drive, DriveLost, Shape};
+use std::alloc::{AllocError, Global};
+use std::marker::Model;
+
+/// What a drive in memory does with its next call.
+#[derive(Clone, Copy, Debug, PartialEq, Eq)]
+enum Condition {
+    /// It answers.
+    Present,
+    /// It answers all calls before the one of this number, counted from 1.
+    Fused(u64),
+    /// It was lost from outside.
+    Lost,
+    /// It was lost by its fuse.
+    Burnt,
+}
+
+/// A drive in memory, with its units side by side in one allocation.
+#[derive(Drop)]
+pub struct MemDrive {
+    size: usize,
+    count: u32,
+    bytes: Vec<u8>,
+    condition: Condition,
+}
+
+impl Model for MemDrive {
+    ghost use Rattle.std.specs.Prelude.{◌≡◌, ◌*◌, ◌≤◌, ℕ, length};
+    ghost use Rattle.extents.specs.Units.{units_in};
+    ghost use Rattle.extents.specs.Condition.{Held};
+
+    ghost Value = { Held };
+
+    ghost view = { λ m. record { units = units_in m.size m.count m.bytes.items; condition = m.condition } };
+
+    ghost invariant = { λ m. (length m.bytes.items ≡ m.count * m.size) × (m.size ≤ 131072) };
+}
+
+impl MemDrive {
+    ghost use Rattle.extents.specs.declared.mem_drive.Condition.TheVariants.{Present};
+    ghost use Rattle.extents.specs.Sizes.{extent_units};
+    ghost use Rattle.extents.specs.Condition.{after_loss, after_fuse};
+
+    /// A drive of this shape, all its units zero; refused where memory is out.
+    pub fn new(alloc: Global, shape: &Shape) -> Result<MemDrive, AllocError>
+        ensures units { IfOk result (λ m. m.units ≡ zero_units (HEADER_BYTES + shape.now.payload) (shape.now.extents * extent_units shape.now.segments)) }
+        ensures present { IfOk result (λ m. m.condition ≡ Present) }
+    {
+        let size = shape.unit_bytes();
+        let count = shape.drive_units();
+        let bytes = vec![in alloc; 0; count as usize * size]?;
+        Ok(MemDrive {
+            size,
+            count,
+            bytes,
+            condition: Condition::Present,
+        })
+    }
+
+    /// Bytes of each of the drive's units.
+    pub fn unit_bytes(&self) -> usize
+        ensures { IsSized result self.now.units }
+    {
+        self.size
+    }
+
+    /// Loses the drive, its units unread from then on.
+    pub fn lose(&mut self)
+        ensures units { self.new.units ≡ self.old.units }
+        ensures condition { self.new.condition ≡ after_loss self.old.condition }
+    {
+        if let Condition::Burnt = self.condition {
+            return;
+        }
+        self.condition = Condition::Lost;
+    }
+
+    /// Loses the drive at the given read or write from now on, counted from 1, and for all later ones.
+    pub fn fuse(&mut self, calls: u64)
+        requires { 1 ≤ calls }
+        ensures units { self.new.units ≡ self.old.units }
+        ensures condition { self.new.condition ≡ after_fuse self.old.condition calls }
+    {
+        match self.condition {
+            Condition::Present | Condition::Fused(_) => self.condition = Condition::Fused(calls),
+            Condition::Lost | Condition::Burnt => {}
+        }
+    }
+}
+
+/// Whether this call answers; the fuse has one call less afterwards.
+fn spend(condition: &mut Condition) -> bool
+    ensures answers { result ≡ not (is_gone condition.new) }
+    ensures spent { condition.new ≡ after_call condition.old }
+{
+    match *condition {
+        Condition::Present => true,
+        Condition::Fused(calls) if calls > 1 => {
+            *condition = Condition::Fused(calls - 1);
+            true
+        }
+        Condition::Fused(_) => {
+            *condition = Condition::Burnt;
+            false
+        }
+        Condition::Lost | Condition::Burnt => false,
+    }
+}
+
+/// Puts a unit over the bytes from a place on.
+fn store(bytes: &mut [u8], start: usize, unit: &[u8])
+    requires { start + length unit.now ≤ length bytes.old }
+    ensures { bytes.new ≡ take start bytes.old ++ (unit.now ++ drop (start + length unit.now) bytes.old) }
+{
+    bytes[start..start + unit.len()].copy_from_slice(unit);
+}
+
+/// Reads the bytes from a place on into a unit.
+fn load(bytes: &[u8], start: usize, unit: &mut [u8])
+    requires { start + length unit.old ≤ length bytes.now }
+    ensures { unit.new ≡ take (length unit.old) (drop start bytes.now) }
+{
+    unit.copy_from_slice(&bytes[start..start + unit.len()]);
+}
+
+impl Drive for MemDrive {
+    ghost units = { λ m. m.units };
+
+    ghost lost = { λ m. is_gone m.condition };
+
+    ghost failures = { λ m. failures_of m.condition };
+
+    fn units(&self) -> u32 {
+        self.count
+    }
+
+    fn is_lost(&self) -> bool {
+        matches!(self.condition, Condition::Lost | Condition::Burnt)
+    }
+
+    fn read_unit(&mut self, at: u32, unit: &mut [u8]) -> Result<(), DriveLost>
+        requires at { at < length self.old.units }
+        requires size { IsSized (length unit.old) self.old.units }
+        ensures read { OnOk result (slice_get self.old.units at ≡ Some unit.new) }
+        ensures units { self.new.units ≡ self.old.units }
+        ensures lost { is_gone self.new.condition ≡ is_err result }
+        ensures stays { is_gone self.old.condition ≡ true → is_gone self.new.condition ≡ true }
+        ensures count { failures_of self.new.condition ≡ failures_of self.old.condition + loss (is_gone self.old.condition) (is_gone self.new.condition) }
+        ensures condition { self.new.condition ≡ after_call self.old.condition }
+    {
+        if !spend(&mut self.condition) {
+            return Err(DriveLost);
+        }
+        load(&self.bytes, at as usize * self.size, unit);
+        Ok(())
+    }
+
+    fn write_unit(&mut self, at: u32, unit: &[u8]) -> Result<(), DriveLost>
+        requires at { at < length self.old.units }
+        requires size { IsSized (length unit.now) self.old.units }
+        ensures written { OnOk result (self.new.units ≡ slice_set self.old.units at unit.now) }
+        ensures unwritten { OnErr result (self.new.units ≡ self.old.units) }
+        ensures lost { is_gone self.new.condition ≡ is_err result }
+        ensures stays { is_gone self.old.condition ≡ true → is_gone self.new.condition ≡ true }
+        ensures count { failures_of self.new.condition ≡ failures_of self.old.condition + loss (is_gone self.old.condition) (is_gone self.new.condition) }
+        ensures condition { self.new.condition ≡ after_call self.old.condition }
+    {
+        if spend(&mut self.condition) {
+            store(&mut self.bytes, at as usize * self.size, unit);
+            return Ok(());
+        }
+        Err(DriveLost)
+    }
+}
