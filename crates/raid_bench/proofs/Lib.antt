@@ -1,0 +1,14 @@
+pub mod Carried
+pub mod Digits
+pub mod Ends
+pub mod Feeds
+pub mod Hexes
+pub mod Lines
+pub mod Members
+pub mod Numbers
+pub mod Opens
+pub mod Said
+pub mod Spellings
+pub mod Splits
+pub mod Verbs
+pub mod Writes

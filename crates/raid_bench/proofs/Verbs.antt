@@ -1,0 +1,39 @@
+-- Every verb stands in the table of verbs.
+use Rattle.std.proofs.Common.{◌≡◌, ℕ, ◌<◌, refl, arith, slice_index_or}
+use Rattle.raid_bench.specs.declared.verb.Verb.{Verb}
+use Rattle.raid_bench.specs.declared.verb.Verb.TheVariants.{Array, Make, Claim, Release, Fill, Commit, Read, Map, Log}
+use Rattle.raid_bench.specs.declared.verb.TheConstants.{VERBS}
+
+-- where a verb stands in the table
+abbrev pub place_of : Verb → ℕ
+place_of Claim = 0
+place_of Fill = 1
+place_of Commit = 2
+place_of Read = 3
+place_of Release = 4
+place_of Map = 5
+place_of Log = 6
+place_of Make = 7
+place_of Array = 8
+
+pub place_below : (verb : Verb) → place_of verb < 9
+place_below Claim = omega arith
+place_below Fill = omega arith
+place_below Commit = omega arith
+place_below Read = omega arith
+place_below Release = omega arith
+place_below Map = omega arith
+place_below Log = omega arith
+place_below Make = omega arith
+place_below Array = omega arith
+
+pub at_place : (verb d : Verb) → slice_index_or VERBS (place_of verb) d ≡ verb
+at_place Claim d = refl
+at_place Fill d = refl
+at_place Commit d = refl
+at_place Read d = refl
+at_place Release d = refl
+at_place Map d = refl
+at_place Log d = refl
+at_place Make d = refl
+at_place Array d = refl

@@ -1,0 +1,15 @@
+use Rattle.std.proofs.Common.{sym, ap, ◌∙◌, Some}
+use Rattle.step_core.specs.Steps as s
+use Rattle.raid_bench.specs.Order as o
+use Rattle.raid_bench.proofs.Carried.{told_step}
+use Rattle.raid_bench.proofs.carry.commit.Goals as goal
+
+pub returns-in-Ok : goal.returns-in-Ok
+returns-in-Ok c F shows =
+    let hand = c.in-Some.ensures.some in
+    let block = c.in-Some-block_of.ensures.some in
+    let took = rw (hand.0, hand.1, block.0) at (c.in-Ok.ensures.ok F shows) in
+    told_step c.tell.result F _ (o.Commit c.args.worker c.args.slot c.args.block)
+    (s.Commit c.args.worker c.args.slot c.args.block) _ _ _
+    c.tell.ensures.ok c.tell.ensures.err tt (hand.2, rw shows.array.sizes block.1) took
+    (λ text t steps. steps)

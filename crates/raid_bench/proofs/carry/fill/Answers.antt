@@ -1,0 +1,14 @@
+use Rattle.std.proofs.Common.{sym, ap, ◌∙◌, Some}
+use Rattle.step_core.specs.Steps as s
+use Rattle.raid_bench.specs.Order as o
+use Rattle.raid_bench.proofs.Carried.{told_step}
+use Rattle.raid_bench.proofs.carry.fill.Goals as goal
+
+pub returns-in-Ok : goal.returns-in-Ok
+returns-in-Ok c F shows =
+    let hand = c.in-Some.ensures.some in
+    let took = rw (hand.0, hand.1) at (c.in-Ok.ensures.ok F shows) in
+    told_step c.tell.result F _ (o.Fill c.args.worker c.args.slot c.args.payload.now)
+    (s.Fill c.args.worker c.args.slot c.args.payload.now) _ _ _
+    c.tell.ensures.ok c.tell.ensures.err (c.requires ∙ ap (λ sizes. sizes.payload) (sym shows.array.sizes)) hand.2 took
+    (λ text t steps. steps)

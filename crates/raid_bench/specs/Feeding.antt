@@ -1,0 +1,96 @@
+-- How a script is fed in pieces: whatever completes the rest completes the whole.
+use Rattle.std.specs.Prelude.{◌≡◌, ℕ, ◌+◌, ◌≤◌, ◌==◌, Bool, false, List, [], ◌∷◌, ◌++◌, length, Result, Ok, Err, Option}
+use Rattle.std.specs.List.{All}
+use Rattle.step_core.specs.Views.{WorldView}
+use Rattle.raid_bench.specs.Opens.{IsOpen}
+use Rattle.raid_bench.specs.State.{State}
+use Rattle.raid_bench.specs.Carrying.{Stands}
+use Rattle.raid_bench.specs.Meaning.{Tells, fault_line, lines_of}
+use Rattle.raid_bench.specs.declared.end.End.{End}
+use Rattle.raid_bench.specs.declared.end.End.TheVariants as end
+use Rattle.raid_bench.specs.declared.why.Stop.{Stop}
+use Rattle.raid_bench.specs.declared.why.Stop.TheVariants as stop
+use Rattle.raid_bench.specs.declared.why.Why.{Why}
+use Rattle.raid_bench.specs.declared.script.Script.{Script}
+
+-- a fault was told, unless there was no memory for it
+abbrev pub TellsFault : Result (Unit {0}) Stop → ℕ → Why → List ℕ → List ℕ → Type 0
+TellsFault (Ok _) number why old new = ⊥
+TellsFault (Err stop.Memory) number why old new = Unit {0}
+TellsFault (Err stop.Fault) number why old new = new ≡ old ++ fault_line number why
+
+-- line n was answered, and the world stands for a state behind it
+pub record IsLineTold (n : ℕ) (state : State) (world : Option WorldView) (line old new : List ℕ) : Type 0 where
+  pub next : State
+  pub stands : Stands world next
+  pub bytes : List ℕ
+  pub out : new ≡ old ++ bytes
+  pub told : (lines : List (List ℕ)) (more : List ℕ) (last : End) → Tells (n + 1) next lines more last
+      → Tells n state (line ∷ lines) (bytes ++ more) last
+
+-- line n is a fault, whatever comes behind it
+pub record IsLineWrong (n : ℕ) (state : State) (line old new : List ℕ) : Type 0 where
+  pub bytes : List ℕ
+  pub out : new ≡ old ++ bytes
+  pub told : (lines : List (List ℕ)) → Tells n state (line ∷ lines) bytes end.Fault
+
+-- what came of line n, by the outcome
+abbrev pub LineComes : Result (Unit {0}) Stop → ℕ → State → Option WorldView → List ℕ → List ℕ → List ℕ → Type 0
+LineComes (Ok _) n state world line old new = IsLineTold n state world line old new
+LineComes (Err stop.Memory) n state world line old new = Unit {0}
+LineComes (Err stop.Fault) n state world line old new = IsLineWrong n state line old new
+
+-- what is told of the open line, the bytes behind it and all later lines
+abbrev pub Left : ℕ → State → List ℕ → List ℕ → List ℕ → End → Type 0
+Left n state line rest out last = Tells n state (lines_of (line ++ rest)) out last
+
+-- what a script keeps: a line's number that can be counted on, a buffer for the longest payload, and an open line
+pub record IsScript (script : Script) : Type 0 where
+  pub number : script.number ≤ 1000001
+  pub room : 65536 ≤ length script.payload.items
+  pub short : length script.line.items ≤ 131200
+  pub open_line : IsOpen script.line.items
+
+-- of the chunk all but the rest was read: what the rest is told as completes what the chunk is told as
+pub record IsAlong (old : Script) (state : State) (new : Script) (chunk rest : List ℕ) : Type 0 where
+  pub next : State
+  pub stands : Stands new.world next
+  pub bytes : List ℕ
+  pub out : new.out.items ≡ old.out.items ++ bytes
+  pub told : (more later : List ℕ) (last : End) → Left new.number next new.line.items (rest ++ more) later last
+      → Left old.number state old.line.items (chunk ++ more) (bytes ++ later) last
+
+-- the chunk holds a fault, whatever comes behind it
+pub record IsStopped (old : Script) (state : State) (new : Script) (chunk : List ℕ) : Type 0 where
+  pub bytes : List ℕ
+  pub out : new.out.items ≡ old.out.items ++ bytes
+  pub told : (more : List ℕ) → Left old.number state old.line.items (chunk ++ more) bytes end.Fault
+
+-- what came of a chunk, by the outcome
+abbrev pub Feeds : Result (Unit {0}) Stop → Script → State → Script → List ℕ → Type 0
+Feeds (Ok _) old state new chunk = IsAlong old state new chunk []
+Feeds (Err stop.Memory) old state new chunk = Unit {0}
+Feeds (Err stop.Fault) old state new chunk = IsStopped old state new chunk
+
+-- nothing comes behind the open line
+pub record IsClosed (old : Script) (state : State) (new : Script) (last : End) : Type 0 where
+  pub bytes : List ℕ
+  pub out : new.out.items ≡ old.out.items ++ bytes
+  pub told : Left old.number state old.line.items [] bytes last
+
+abbrev pub Closes : Result (Unit {0}) Stop → Script → State → Script → Type 0
+Closes (Ok _) old state new = IsClosed old state new end.Whole
+Closes (Err stop.Memory) old state new = Unit {0}
+Closes (Err stop.Fault) old state new = IsClosed old state new end.Fault
+
+-- the open line was answered: a new one is open
+pub record IsAnswered (old : Script) (state : State) (new : Script) : Type 0 where
+  pub number : new.number ≡ old.number + 1
+  pub line : new.line.items ≡ []
+  pub told : IsLineTold old.number state new.world old.line.items old.out.items new.out.items
+
+-- what came of the open line, by the outcome
+abbrev pub Answered : Result (Unit {0}) Stop → Script → State → Script → Type 0
+Answered (Ok _) old state new = IsAnswered old state new
+Answered (Err stop.Memory) old state new = Unit {0}
+Answered (Err stop.Fault) old state new = IsLineWrong old.number state old.line.items old.out.items new.out.items

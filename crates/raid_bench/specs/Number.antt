@@ -1,0 +1,6 @@
+-- Numbers as a script writes them.
+use Rattle.std.specs.Prelude.{ℕ, ◌<◌, ◌^◌}
+
+-- a number of at most ten digits, which is how many a script may write
+abbrev pub IsShort : ℕ → Type 0
+IsShort n = n < 10 ^ 10

@@ -1,0 +1,44 @@
+-- A command as plain data: its numbers, and the payload of a fill.
+use Rattle.std.specs.Prelude.{ℕ, List}
+use Rattle.step_core.specs.declared.group.Class.{Class}
+use Rattle.raid_bench.specs.declared.command.Named.{Named}
+use Rattle.raid_bench.specs.declared.command.Command.{Command}
+use Rattle.raid_bench.specs.declared.command.Command.TheVariants as made
+use Rattle.raid_bench.specs.declared.verb.Verb.{Verb}
+use Rattle.raid_bench.specs.declared.verb.Verb.TheVariants as verb
+
+-- a command
+pub data Order : Type 0 where
+  Array : ℕ → ℕ → ℕ → ℕ → ℕ → Order
+  Make : Class → List Named → Order
+  Claim : ℕ → ℕ → Order
+  Release : ℕ → ℕ → Order
+  Fill : ℕ → ℕ → List ℕ → Order
+  Commit : ℕ → ℕ → ℕ → Order
+  Read : ℕ → Order
+  Map : Order
+  Log : Order
+
+-- what a command asks for
+abbrev pub verb_of : Order → Verb
+verb_of (Array drives extents segments payload blocks) = verb.Array
+verb_of (Make class members) = verb.Make
+verb_of (Claim worker slot) = verb.Claim
+verb_of (Release worker slot) = verb.Release
+verb_of (Fill worker slot payload) = verb.Fill
+verb_of (Commit worker slot block) = verb.Commit
+verb_of (Read block) = verb.Read
+verb_of Map = verb.Map
+verb_of Log = verb.Log
+
+-- a command of the program, with the payload that stands in the buffer
+abbrev pub order_of : Command → List ℕ → Order
+order_of (made.Array drives extents segments payload blocks) bytes = Array drives extents segments payload blocks
+order_of (made.Make class members) bytes = Make class members.items
+order_of (made.Claim worker slot) bytes = Claim worker slot
+order_of (made.Release worker slot) bytes = Release worker slot
+order_of (made.Fill worker slot) bytes = Fill worker slot bytes
+order_of (made.Commit worker slot block) bytes = Commit worker slot block
+order_of (made.Read block) bytes = Read block
+order_of made.Map bytes = Map
+order_of made.Log bytes = Log

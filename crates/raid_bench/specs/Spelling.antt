@@ -1,0 +1,77 @@
+-- How each command is spelled: the words of its line, with one space between.
+use Rattle.std.specs.Prelude.{◌≡◌, ℕ, ◌≤◌, List, [], ◌∷◌, ◌++◌, Ok, length, map, codes, decimal}
+use Rattle.std.specs.List.{AllByRecursion, join_with_byte}
+use Rattle.hex.specs.Hex.{decode_of}
+use Rattle.raid_bench.specs.Number.{IsShort}
+use Rattle.raid_bench.specs.Verb.{word_of}
+use Rattle.raid_bench.specs.Words.{AreNumbers}
+use Rattle.raid_bench.specs.Order.{Order, verb_of}
+use Rattle.raid_bench.specs.Order as o
+use Rattle.step_core.specs.declared.group.Class.{Class}
+use Rattle.step_core.specs.declared.group.Class.TheVariants as class
+use Rattle.raid_bench.specs.declared.command.Named.{Named}
+
+-- a member is written as its drive, a dot and its extent
+abbrev pub member_word : Named → List ℕ
+member_word member = decimal member.drive ++ (46 ∷ decimal member.extent)
+
+-- a member whose numbers can be written
+pub record IsShortMember (member : Named) : Type 0 where
+  pub drive : IsShort member.drive
+  pub extent : IsShort member.extent
+
+-- the word for a class of groups; a parity group can't be asked for yet
+abbrev pub IsClassWord : Class → List ℕ → Type 0
+IsClassWord class.Mirrored word = word ≡ codes "m"
+IsClassWord class.Parity word = ⊥
+
+-- a group is made of three to eight members
+pub record AreMembers (members : List Named) (ws : List (List ℕ)) : Type 0 where
+  pub short : AllByRecursion IsShortMember members
+  pub enough : 3 ≤ length members
+  pub few : length members ≤ 8
+  pub spelled : ws ≡ map member_word members
+
+-- a class and its members
+pub record Makes (class : Class) (members : List Named) (ws : List (List ℕ)) : Type 0 where
+  pub word : List ℕ
+  pub rest : List (List ℕ)
+  pub named : IsClassWord class word
+  pub listed : AreMembers members rest
+  pub spelled : ws ≡ word ∷ rest
+
+-- a worker, a slot, and a payload in hex digits of either case
+pub record Fills (worker slot : ℕ) (payload : List ℕ) (ws : List (List ℕ)) : Type 0 where
+  pub digits : List ℕ
+  pub worker_short : IsShort worker
+  pub slot_short : IsShort slot
+  pub decoded : decode_of digits ≡ Ok payload
+  pub spelled : ws ≡ decimal worker ∷ decimal slot ∷ digits ∷ []
+
+-- the words that follow the first one of a command
+abbrev pub Follows : Order → List (List ℕ) → Type 0
+Follows (o.Array drives extents segments payload blocks) ws =
+    AreNumbers (drives ∷ extents ∷ segments ∷ payload ∷ blocks ∷ []) ws
+Follows (o.Make class members) ws = Makes class members ws
+Follows (o.Claim worker slot) ws = AreNumbers (worker ∷ slot ∷ []) ws
+Follows (o.Release worker slot) ws = AreNumbers (worker ∷ slot ∷ []) ws
+Follows (o.Fill worker slot payload) ws = Fills worker slot payload ws
+Follows (o.Commit worker slot block) ws = AreNumbers (worker ∷ slot ∷ block ∷ []) ws
+Follows (o.Read block) ws = AreNumbers (block ∷ []) ws
+Follows o.Map ws = ws ≡ []
+Follows o.Log ws = ws ≡ []
+
+-- the line that words make, with one space between two of them
+abbrev pub line_of : List (List ℕ) → List ℕ
+line_of ws = join_with_byte 32 ws
+
+-- the command is written as the line
+pub record Spells (order : Order) (line : List ℕ) : Type 0 where
+  pub rest : List (List ℕ)
+  pub follows : Follows order rest
+  pub line_is : line ≡ line_of (word_of (verb_of order) ∷ rest)
+
+-- the payload has the length that is wanted of one
+abbrev pub IsSized : ℕ → Order → Type 0
+IsSized size (o.Fill worker slot payload) = length payload ≡ size
+IsSized size _ = Unit {0}

@@ -1,0 +1,54 @@
+-- The text of each answer, without its line's end.
+use Rattle.std.specs.Prelude.{ℕ, List, [], ◌∷◌, ◌++◌, length, codes, decimal, Option, Some, None}
+use Rattle.hex.specs.Hex.{encode_lower}
+use Rattle.map_join.specs.declared.records.Record.{Record}
+use Rattle.map_join.specs.Record.{bytes_of}
+use Rattle.step_core.specs.Steps.{Version, FlatAnswer}
+use Rattle.step_core.specs.Steps as s
+use Rattle.step_core.specs.Numbers.{number_of}
+use Rattle.step_core.specs.declared.refusal.Refusal.{Refusal}
+use Rattle.step_core.specs.declared.refusal.Refusal.TheVariants as refusal
+
+-- a record in hex digits
+abbrev pub record_text : Record → List ℕ
+record_text r = encode_lower (bytes_of r)
+
+-- a record, or the word for none
+abbrev pub record_or_none : Option Record → List ℕ
+record_or_none (Some r) = record_text r
+record_or_none None = codes "none"
+
+-- what follows a refusal's number: the record, the slot or the drive that it names
+abbrev pub detail : Refusal → List ℕ
+detail (refusal.Outrun r) = codes " " ++ record_text r
+detail (refusal.Gone slot) = codes " " ++ decimal slot
+detail (refusal.SlotsHeld slot) = codes " " ++ decimal slot
+detail (refusal.DriveLost drive) = codes " " ++ decimal drive
+detail (refusal.Ahead newest) = codes " " ++ record_or_none newest
+detail _ = []
+
+-- what is read of a block
+abbrev pub found_text : Option Version → List ℕ
+found_text (Some found) = codes "data " ++ (decimal found.version ++ (codes " " ++ encode_lower found.payload))
+found_text None = codes "none"
+
+-- the answer to a step
+abbrev pub answer_text : FlatAnswer → List ℕ
+answer_text (s.Claimed slot) = codes "claimed " ++ decimal slot
+answer_text (s.Taken slot) = codes "taken " ++ decimal slot
+answer_text (s.Released slot) = codes "released " ++ decimal slot
+answer_text (s.NotHeld slot) = codes "notheld " ++ decimal slot
+answer_text (s.Filled slot) = codes "filled " ++ decimal slot
+answer_text (s.Committed r) = codes "record " ++ record_text r
+answer_text (s.Found found) = found_text found
+answer_text (s.MadeGroup group) = codes "made " ++ decimal group
+answer_text (s.Refused r) = codes "refused " ++ (decimal (number_of r) ++ detail r)
+
+-- records one after the other, a space before each
+abbrev pub records_text : List Record → List ℕ
+records_text [] = []
+records_text (r ∷ rs) = 32 ∷ (record_text r ++ records_text rs)
+
+-- how many records, and the records
+abbrev pub listing : List Record → List ℕ
+listing rs = decimal (length rs) ++ records_text rs

@@ -1,0 +1,16 @@
+-- The word that each command begins with.
+use Rattle.std.specs.Prelude.{ℕ, List, codes}
+use Rattle.raid_bench.specs.declared.verb.Verb.{Verb}
+use Rattle.raid_bench.specs.declared.verb.Verb.TheVariants.{Array, Make, Claim, Release, Fill, Commit, Read, Map, Log}
+
+-- the word that a verb is written as
+abbrev pub word_of : Verb → List ℕ
+word_of Array = codes "array"
+word_of Make = codes "make"
+word_of Claim = codes "claim"
+word_of Release = codes "release"
+word_of Fill = codes "fill"
+word_of Commit = codes "commit"
+word_of Read = codes "read"
+word_of Map = codes "map"
+word_of Log = codes "log"

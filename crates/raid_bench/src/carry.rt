@@ -1,0 +1,173 @@
+//! Commands behind the first one, carried out by the world.
+ghost use Rattle.std.specs.Prelude.{◌≡◌, ◌++◌, OnOk, IfErr, OnErr, length};
+ghost use Rattle.step_core.specs.Told.{flat_answer};
+ghost use Rattle.raid_bench.specs.Carrying.{Carries};
+ghost use Rattle.raid_bench.specs.Order as o;
+ghost use Rattle.raid_bench.specs.Order.{order_of};
+ghost use Rattle.raid_bench.specs.Text.{answer_text};
+
+use crate::command::{Command, Named};
+use crate::limits::{block_of, hand_of, members_in_range};
+use crate::out::{put_answer, put_listing};
+use crate::why::{Failure, Why};
+use std::alloc::Global;
+use step_core::{Answer, Class, World};
+
+/// Carries out a command, and appends its answer.
+pub fn carry_out(
+    alloc: Global,
+    world: &mut World,
+    payload: &[u8],
+    command: Command,
+    out: &mut Vec<u8>,
+) -> Result<(), Failure>
+    requires { length payload.now ≡ world.old.array.sizes.payload }
+    ensures { Carries result world.old world.new (order_of command payload.now) out.old.items out.new.items }
+{
+    match command {
+        Command::Array { .. } => Err(Failure::Wrong(Why::Form)),
+        Command::Make { class, members } => make(alloc, world, class, &members, out),
+        Command::Claim { worker, slot } => claim(world, worker, slot, out),
+        Command::Release { worker, slot } => release(world, worker, slot, out),
+        Command::Fill { worker, slot } => fill(alloc, world, worker, slot, payload, out),
+        Command::Commit {
+            worker,
+            slot,
+            block,
+        } => commit(alloc, world, worker, slot, block, out),
+        Command::Read { block } => read(alloc, world, block, out),
+        Command::Map => map(alloc, world, out),
+        Command::Log => log(alloc, world, out),
+    }
+}
+
+// Appends the answer to a step.
+fn tell(out: &mut Vec<u8>, answer: &Answer) -> Result<(), Failure>
+    ensures ok { OnOk result (out.new.items ≡ out.old.items ++ answer_text (flat_answer answer.now)) }
+    ensures err { IfErr result (λ failure. failure ≡ Failure.Memory) }
+{
+    match put_answer(out, answer) {
+        Ok(()) => Ok(()),
+        Err(_) => Err(Failure::Memory),
+    }
+}
+
+fn claim(world: &mut World, worker: u64, slot: u64, out: &mut Vec<u8>) -> Result<(), Failure>
+    ensures { Carries result world.old world.new (o.Claim worker slot) out.old.items out.new.items }
+{
+    let Some((worker, slot)) = hand_of(worker, slot) else {
+        return Err(Failure::Wrong(Why::Range))
+    };
+    let answer = world.claim(worker, slot);
+    tell(out, &answer)
+}
+
+fn release(world: &mut World, worker: u64, slot: u64, out: &mut Vec<u8>) -> Result<(), Failure>
+    ensures { Carries result world.old world.new (o.Release worker slot) out.old.items out.new.items }
+{
+    let Some((worker, slot)) = hand_of(worker, slot) else {
+        return Err(Failure::Wrong(Why::Range))
+    };
+    let answer = world.release(worker, slot);
+    tell(out, &answer)
+}
+
+fn fill(
+    alloc: Global,
+    world: &mut World,
+    worker: u64,
+    slot: u64,
+    payload: &[u8],
+    out: &mut Vec<u8>,
+) -> Result<(), Failure>
+    requires { length payload.now ≡ world.old.array.sizes.payload }
+    ensures { Carries result world.old world.new (o.Fill worker slot payload.now) out.old.items out.new.items }
+{
+    let Some((worker, slot)) = hand_of(worker, slot) else {
+        return Err(Failure::Wrong(Why::Range))
+    };
+    match world.fill(alloc, worker, slot, payload) {
+        Ok(answer) => tell(out, &answer),
+        Err(_) => Err(Failure::Memory),
+    }
+}
+
+fn commit(
+    alloc: Global,
+    world: &mut World,
+    worker: u64,
+    slot: u64,
+    block: u64,
+    out: &mut Vec<u8>,
+) -> Result<(), Failure>
+    ensures { Carries result world.old world.new (o.Commit worker slot block) out.old.items out.new.items }
+{
+    let Some((worker, slot)) = hand_of(worker, slot) else {
+        return Err(Failure::Wrong(Why::Range))
+    };
+    let Some(block) = block_of(world, block) else {
+        return Err(Failure::Wrong(Why::Range))
+    };
+    match world.commit(alloc, worker, slot, block) {
+        Ok(answer) => tell(out, &answer),
+        Err(_) => Err(Failure::Memory),
+    }
+}
+
+fn read(alloc: Global, world: &mut World, block: u64, out: &mut Vec<u8>) -> Result<(), Failure>
+    ensures { Carries result world.old world.new (o.Read block) out.old.items out.new.items }
+{
+    let Some(block) = block_of(world, block) else {
+        return Err(Failure::Wrong(Why::Range))
+    };
+    match world.read(alloc, block) {
+        Ok(answer) => tell(out, &answer),
+        Err(_) => Err(Failure::Memory),
+    }
+}
+
+fn make(
+    alloc: Global,
+    world: &mut World,
+    class: Class,
+    named: &[Named],
+    out: &mut Vec<u8>,
+) -> Result<(), Failure>
+    ensures { Carries result world.old world.new (o.Make class named.now) out.old.items out.new.items }
+{
+    match members_in_range(alloc, named) {
+        Ok(Some(members)) => match world.make(alloc, class, &members) {
+            Ok(answer) => tell(out, &answer),
+            Err(_) => Err(Failure::Memory),
+        },
+        Ok(None) => Err(Failure::Wrong(Why::Range)),
+        Err(_) => Err(Failure::Memory),
+    }
+}
+
+fn map(alloc: Global, world: &mut World, out: &mut Vec<u8>) -> Result<(), Failure>
+    ensures { Carries result world.old world.new o.Map out.old.items out.new.items }
+{
+    let Ok(map) = world.array().map(alloc) else {
+        return Err(Failure::Memory)
+    };
+    let Ok(records) = map.to_list(alloc) else {
+        return Err(Failure::Memory)
+    };
+    match put_listing(out, b"map ", &records) {
+        Ok(()) => Ok(()),
+        Err(_) => Err(Failure::Memory),
+    }
+}
+
+fn log(alloc: Global, world: &mut World, out: &mut Vec<u8>) -> Result<(), Failure>
+    ensures { Carries result world.old world.new o.Log out.old.items out.new.items }
+{
+    let Ok(records) = world.array().records_from(alloc, 0) else {
+        return Err(Failure::Memory)
+    };
+    match put_listing(out, b"log ", &records) {
+        Ok(()) => Ok(()),
+        Err(_) => Err(Failure::Memory),
+    }
+}

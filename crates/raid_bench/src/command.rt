@@ -1,0 +1,47 @@
+//! The commands of a script, with their numbers as they are written.
+use step_core::Class;
+
+/// A member as it is named: numbers of up to ten digits, in range or not.
+#[derive(Clone, Copy, Debug)]
+pub struct Named {
+    pub drive: u64,
+    pub extent: u64,
+}
+
+/// A command of a script. The payload of a fill stands in the buffer that was lent for it.
+#[derive(Debug, Drop)]
+pub enum Command {
+    Array {
+        drives: u64,
+        extents: u64,
+        segments: u64,
+        payload: u64,
+        blocks: u64,
+    },
+    Make {
+        class: Class,
+        members: Vec<Named>,
+    },
+    Claim {
+        worker: u64,
+        slot: u64,
+    },
+    Release {
+        worker: u64,
+        slot: u64,
+    },
+    Fill {
+        worker: u64,
+        slot: u64,
+    },
+    Commit {
+        worker: u64,
+        slot: u64,
+        block: u64,
+    },
+    Read {
+        block: u64,
+    },
+    Map,
+    Log,
+}

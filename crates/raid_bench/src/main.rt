@@ -1,0 +1,60 @@
+//! Answers a script of array commands, a line for each.
+#![tactic(auto)]
+
+mod arguments;
+mod carry;
+mod command;
+mod end;
+mod limits;
+mod line;
+mod member;
+mod number;
+mod out;
+mod parse;
+mod parts;
+mod reply;
+mod run;
+mod script;
+mod task;
+#[cfg(test)]
+mod tests;
+mod verb;
+mod why;
+mod words;
+
+use end::End;
+use run::run_script;
+use std::process::ExitCode;
+use std::{env, io};
+use task::{Task, task_of};
+
+/// The status for a command line that asks for nothing that the program does.
+const NO_TASK: u8 = 2;
+
+fn main(rt: HostRuntime) -> ExitCode {
+    let words = match words_of(&rt) {
+        Ok(words) => words,
+        Err(error) => {
+            return ExitCode::from(match error.kind() {
+                io::ErrorKind::OutOfMemory => End::Memory.status(),
+                _ => NO_TASK,
+            });
+        }
+    };
+    ExitCode::from(match task_of(rt.alloc(), &words) {
+        Ok(Some(Task::Script)) => {
+            run_script(rt.alloc(), &mut rt.stdin(), &mut rt.stdout()).status()
+        }
+        Ok(None) => NO_TASK,
+        Err(_) => End::Memory.status(),
+    })
+}
+
+// The words of the command line behind the program's name.
+fn words_of(rt: &HostRuntime) -> io::Result<Vec<String>> {
+    let mut words = Vec::new(rt.alloc());
+    for word in env::args(rt)?.skip(1) {
+        words.push(word)?;
+    }
+    Ok(words)
+}

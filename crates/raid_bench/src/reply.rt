@@ -1,0 +1,105 @@
+//! A line that is read for its words, and the reply to it.
+ghost use Rattle.std.specs.Prelude.{◌≤◌, length, Some};
+ghost use Rattle.step_core.specs.Flat.{Flat};
+ghost use Rattle.raid_bench.specs.State.{State};
+ghost use Rattle.raid_bench.specs.Carrying.{Stands, Makes};
+ghost use Rattle.raid_bench.specs.Replies.{Replies, Starts};
+ghost use Rattle.raid_bench.specs.Order as o;
+
+use crate::carry::carry_out;
+use crate::command::Command;
+use crate::limits::array_in_range;
+use crate::out::put;
+use crate::parse::command_of;
+use crate::why::{Failure, Why};
+use std::alloc::Global;
+use step_core::World;
+
+/// Appends the answer to a line's command. The buffer holds the payload of a fill.
+pub fn reply(
+    alloc: Global,
+    world: &mut Option<World>,
+    payload: &mut [u8],
+    line: &[u8],
+    out: &mut Vec<u8>,
+) -> Result<(), Failure>
+    requires { 65536 ≤ length payload.old }
+    ensures { (state : State) → Stands world.old state →
+        Replies result state world.new line.now out.old.items out.new.items }
+{
+    match world {
+        Some(world) => later(alloc, world, payload, line, out),
+        None => match first(alloc, line, out) {
+            Ok(made) => {
+                *world = Some(made);
+                Ok(())
+            }
+            Err(failure) => Err(failure),
+        },
+    }
+}
+
+// The first command makes the world.
+fn first(alloc: Global, line: &[u8], out: &mut Vec<u8>) -> Result<World, Failure>
+    ensures { Starts result line.now out.old.items out.new.items }
+{
+    let command = match command_of(alloc, line, &mut []) {
+        Ok(Some(command)) => command,
+        Ok(None) => return Err(Failure::Wrong(Why::Form)),
+        Err(_) => return Err(Failure::Memory),
+    };
+    match command {
+        Command::Array {
+            drives,
+            extents,
+            segments,
+            payload,
+            blocks,
+        } => begin(alloc, drives, extents, segments, payload, blocks, out),
+        _ => Err(Failure::Wrong(Why::Form)),
+    }
+}
+
+// A new world with these sizes.
+fn begin(
+    alloc: Global,
+    drives: u64,
+    extents: u64,
+    segments: u64,
+    payload: u64,
+    blocks: u64,
+    out: &mut Vec<u8>,
+) -> Result<World, Failure>
+    ensures { Makes result (o.Array drives extents segments payload blocks) out.old.items out.new.items }
+{
+    let Some((drives, shape)) = array_in_range(drives, extents, segments, payload, blocks) else {
+        return Err(Failure::Wrong(Why::Range));
+    };
+    let Ok(world) = World::new(alloc, shape, drives) else {
+        return Err(Failure::Memory)
+    };
+    match put(out, b"array") {
+        Ok(()) => Ok(world),
+        Err(_) => Err(Failure::Memory),
+    }
+}
+
+// Every later command is for the world.
+fn later(
+    alloc: Global,
+    world: &mut World,
+    payload: &mut [u8],
+    line: &[u8],
+    out: &mut Vec<u8>,
+) -> Result<(), Failure>
+    requires { 65536 ≤ length payload.old }
+    ensures { (F : Flat) → Stands (Some world.old) (Some F) →
+        Replies result (Some F) (Some world.new) line.now out.old.items out.new.items }
+{
+    let size = world.array().shape().payload() as usize;
+    match command_of(alloc, line, &mut payload[..size]) {
+        Ok(Some(command)) => carry_out(alloc, world, &payload[..size], command, out),
+        Ok(None) => Err(Failure::Wrong(Why::Form)),
+        Err(_) => Err(Failure::Memory),
+    }
+}

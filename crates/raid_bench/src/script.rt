@@ -1,0 +1,141 @@
+//! A script that is fed in pieces.
+ghost use Rattle.std.specs.Prelude.{◌≡◌, ◌≤◌, [], ◌∷◌, ◌++◌, length, OnOk, IfSome, IfNone, None};
+ghost use Rattle.raid_bench.specs.Opens.{IsOpen};
+ghost use Rattle.raid_bench.specs.State.{State};
+ghost use Rattle.raid_bench.specs.Carrying.{Stands};
+
+use crate::line::{MOST_BYTES, MOST_LINES, answer_line, wrong};
+use crate::why::{Stop, Why};
+use memchr::memchr;
+use std::alloc::Global;
+use step_core::World;
+
+/// What ends a line.
+const LINE_END: u8 = b'\n';
+
+/// Where a script stands: the number of its open line, the world, a buffer for a payload, the bytes of
+/// the open line, and the answers that are not yet written.
+#[derive(Drop)]
+pub struct Script {
+    pub number: u64,
+    pub world: Option<World>,
+    pub payload: Vec<u8>,
+    pub line: Vec<u8>,
+    pub out: Vec<u8>,
+}
+
+impl Script {
+    ghost use Rattle.raid_bench.specs.Feeding.{Answered, Closes, Feeds, IsScript};
+
+    /// A script of which nothing was read. The buffer is for payloads.
+    pub fn new(alloc: Global, payload: Vec<u8>) -> Script
+        requires { 65536 ≤ length payload.items }
+        ensures good { IsScript result }
+        ensures number { result.number ≡ 1 }
+        ensures world { result.world ≡ None }
+        ensures line { result.line.items ≡ [] }
+        ensures out { result.out.items ≡ [] }
+    {
+        Script {
+            number: 1,
+            world: None,
+            payload,
+            line: Vec::new(alloc),
+            out: Vec::new(alloc),
+        }
+    }
+
+    /// Reads the next bytes, and answers the lines that end in them.
+    pub fn feed(&mut self, alloc: Global, chunk: &[u8]) -> Result<(), Stop>
+        requires { IsScript self.old }
+        ensures keeps { OnOk result (IsScript self.new) }
+        ensures fed { (state : State) → Stands self.old.world state → Feeds result self.old state self.new chunk.now }
+    {
+        let mut rest = chunk;
+        while let Some((part, behind)) = split_line(rest) {
+            match self.take_in(part) {
+                Ok(()) => {}
+                Err(stop) => return Err(stop),
+            }
+            match self.answer(alloc) {
+                Ok(()) => {}
+                Err(stop) => return Err(stop),
+            }
+            rest = behind;
+        }
+        self.take_in(rest)
+    }
+
+    /// Answers the last line, which has no end, where there is one.
+    pub fn finish(&mut self, alloc: Global) -> Result<(), Stop>
+        requires { IsScript self.old }
+        ensures { (state : State) → Stands self.old.world state → Closes result self.old state self.new }
+    {
+        if self.line.is_empty() {
+            return Ok(());
+        }
+        self.answer(alloc)
+    }
+
+    // More bytes of the open line.
+    fn take_in(&mut self, part: &[u8]) -> Result<(), Stop>
+        requires good { IsScript self.old }
+        requires part { IsOpen part.now }
+        ensures keeps { OnOk result (IsScript self.new) }
+        ensures fed { (state : State) → Stands self.old.world state → Feeds result self.old state self.new part.now }
+    {
+        if part.is_empty() {
+            return Ok(());
+        }
+        if self.number > MOST_LINES {
+            return wrong(&mut self.out, self.number, Why::Many);
+        }
+        if part.len() > MOST_BYTES - self.line.len() {
+            return wrong(&mut self.out, self.number, Why::Long);
+        }
+        match self.line.extend_from_slice(part) {
+            Ok(()) => Ok(()),
+            Err(_) => Err(Stop::Memory),
+        }
+    }
+
+    // Answers the open line, which ends here.
+    fn answer(&mut self, alloc: Global) -> Result<(), Stop>
+        requires { IsScript self.old }
+        ensures keeps { OnOk result (IsScript self.new) }
+        ensures told { (state : State) → Stands self.old.world state → Answered result self.old state self.new }
+    {
+        let start = self.out.len();
+        let told = answer_line(
+            alloc,
+            self.number,
+            &mut self.world,
+            &mut self.payload,
+            &self.line,
+            &mut self.out,
+        );
+        match told {
+            Ok(()) => {
+                self.number += 1;
+                self.line.clear();
+                Ok(())
+            }
+            Err(Stop::Fault) => Err(Stop::Fault),
+            Err(Stop::Memory) => {
+                self.out.truncate(start);
+                Err(Stop::Memory)
+            }
+        }
+    }
+}
+
+// The bytes before the first line's end, and those behind it.
+fn split_line(text: &[u8]) -> Option<(&[u8], &[u8])>
+    ensures some { IfSome result (λ parts. IsOpen parts.0.now × (text.now ≡ parts.0.now ++ 10 ∷ parts.1.now)) }
+    ensures none { IfNone result (IsOpen text.now) }
+{
+    match memchr(LINE_END, text) {
+        Some(at) => Some((&text[..at], &text[at + 1..])),
+        None => None,
+    }
+}

@@ -1,0 +1,32 @@
+//! Why a line is not answered.
+
+/// Why a line is wrong.
+#[derive(Clone, Copy, Debug, PartialEq, Eq)]
+pub enum Why {
+    /// There are lines enough before it.
+    Many,
+    /// It has too many bytes.
+    Long,
+    /// It spells no command that may come now.
+    Form,
+    /// A number is out of its limits.
+    Range,
+}
+
+/// Why a command was not answered.
+#[derive(Clone, Copy, Debug, PartialEq, Eq)]
+pub enum Failure {
+    /// There was no memory.
+    Memory,
+    /// The line is wrong.
+    Wrong(Why),
+}
+
+/// Why a script ended before its last line.
+#[derive(Clone, Copy, Debug, PartialEq, Eq)]
+pub enum Stop {
+    /// There was no memory.
+    Memory,
+    /// A line was wrong, and its fault was told.
+    Fault,
+}
