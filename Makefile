@@ -1,0 +1,17 @@
+# `make` proves and builds the program and answers the examples; `make test` is the gate.
+.PHONY: all run test bench
+
+all: run
+
+run:
+	@for script in one_write two_workers; do \
+	    echo "== examples/$$script"; \
+	    (cd crates/raid_bench && rt run -- script < ../../examples/$$script 2>/dev/null) \
+	        | tee /dev/stderr | cmp - examples/$$script.stdout || exit 1; \
+	done
+
+test:
+	bash .ci/run
+
+bench:
+	python3 bench/words/run.py
