@@ -79,7 +79,25 @@ fn are_there(extents: &ExtentTable, members: &[Member]) -> bool
     true
 }
 
-/// Makes group 0 of members that are seen to be there.
+/// Makes a group of members that are seen to be there.
+fn put_at(
+    rt: &impl Abort,
+    alloc: Global,
+    groups: &mut GroupTable,
+    extents: &mut ExtentTable,
+    group: u16,
+    class: Class,
+    members: &[Member],
+) -> Result<(), GroupRefusal>
+    requires { Agree groups.old extents.old }
+    ensures { Agree groups.new extents.new }
+{
+    assert!(rt; are_there(extents, members));
+    assert!(rt; groups.is_free(group));
+    groups.put_group(alloc, extents, group, class, members)
+}
+
+/// Makes mirrored group 0.
 fn put(
     rt: &impl Abort,
     alloc: Global,
@@ -90,9 +108,7 @@ fn put(
     requires { Agree groups.old extents.old }
     ensures { Agree groups.new extents.new }
 {
-    assert!(rt; are_there(extents, members));
-    assert!(rt; groups.is_free(0));
-    groups.put_group(alloc, extents, 0, Class::Mirrored, members)
+    put_at(rt, alloc, groups, extents, 0, Class::Mirrored, members)
 }
 
 /// Swaps member 2 of group 0 for an extent that is seen to be there.
@@ -186,5 +202,88 @@ fn a_group_is_made_swapped_and_unmade(rt: HostRuntime) -> Result<(), Fail> {
         groups.take_group(&mut extents, 0),
         Err(GroupRefusal::NoGroup)
     );
+    Ok(())
+}
+
+/// The copies of a slot that is seen to be a mirrored group's.
+fn copies_seen(groups: &GroupTable, group: u16, index: u16) -> Option<Copies> {
+    if index >= groups.slots_of(group) {
+        return None;
+    }
+    match groups.class_of(group) {
+        Some(Class::Mirrored) => Some(groups.copies(group, index)),
+        _ => None,
+    }
+}
+
+/// The stripe of a slot that is seen to be a parity group's.
+fn stripe_seen(groups: &GroupTable, group: u16, index: u16) -> Option<Stripe> {
+    if index >= groups.slots_of(group) {
+        return None;
+    }
+    match groups.class_of(group) {
+        Some(Class::Parity) => Some(groups.stripe_of(group, index)),
+        _ => None,
+    }
+}
+
+#[test]
+fn an_owned_extent_is_refused_and_slots_are_looked_up(rt: HostRuntime) -> Result<(), Fail> {
+    let shape = shape(&rt);
+    let mut extents = ExtentTable::new(rt.alloc(), 10, &shape)?;
+    let mut groups = GroupTable::new(rt.alloc(), &shape)?;
+    let mirrored = [on(0), on(1), on(2)];
+    assert_eq!(rt;
+        put(&rt, rt.alloc(), &mut groups, &mut extents, &mirrored),
+        Ok(())
+    );
+    let over = [on(2), on(3), on(4)];
+    assert_eq!(rt;
+        put_at(
+            &rt,
+            rt.alloc(),
+            &mut groups,
+            &mut extents,
+            1,
+            Class::Parity,
+            &over
+        ),
+        Err(GroupRefusal::ExtentTaken)
+    );
+    let parity = [on(3), on(4), on(5)];
+    assert_eq!(rt;
+        put_at(
+            &rt,
+            rt.alloc(),
+            &mut groups,
+            &mut extents,
+            1,
+            Class::Parity,
+            &parity
+        ),
+        Ok(())
+    );
+    assert_eq!(rt;
+        swap(&rt, &mut groups, &mut extents, on(3)),
+        Err(GroupRefusal::ExtentTaken)
+    );
+    let first = Spot {
+        member: 2,
+        offset: 0,
+    };
+    let second = Spot {
+        member: 0,
+        offset: 2,
+    };
+    assert_eq!(rt; copies_seen(&groups, 0, 2), Some(Copies { first, second }));
+    assert_eq!(rt; copies_seen(&groups, 0, 6), None);
+    let stripe = Stripe {
+        stripe: 1,
+        member: 0,
+        offset: 2,
+        parity: 1,
+    };
+    assert_eq!(rt; stripe_seen(&groups, 1, 4), Some(stripe));
+    assert_eq!(rt; stripe_seen(&groups, 0, 4), None);
     Ok(())
 }

@@ -8,7 +8,7 @@ ghost use Rattle.raid_bench.specs.Text.{answer_text};
 
 use crate::command::{Command, Named};
 use crate::limits::{block_of, hand_of, members_in_range};
-use crate::out::{put_answer, put_listing};
+use crate::texts::{put_answer, put_listing};
 use crate::why::{Failure, Why};
 use std::alloc::Global;
 use step_core::{Answer, Class, World};

@@ -5,8 +5,8 @@ ghost use Rattle.raid_bench.specs.Meaning.{is_skipped as is_passed, fault_line, 
 ghost use Rattle.raid_bench.specs.Carrying.{Stands};
 ghost use Rattle.raid_bench.specs.Feeding.{TellsFault, LineComes};
 
-use crate::out::{put, put_number};
 use crate::reply::reply;
+use crate::texts::{put, put_number};
 use crate::why::{Failure, Stop, Why};
 use std::alloc::{AllocError, Global};
 use step_core::World;

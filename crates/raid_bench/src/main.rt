@@ -9,7 +9,6 @@ mod limits;
 mod line;
 mod member;
 mod number;
-mod out;
 mod parse;
 mod parts;
 mod reply;
@@ -18,6 +17,7 @@ mod script;
 mod task;
 #[cfg(test)]
 mod tests;
+mod texts;
 mod verb;
 mod why;
 mod words;

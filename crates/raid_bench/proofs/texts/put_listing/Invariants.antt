@@ -1,6 +1,6 @@
 use Rattle.std.proofs.Common.{◌≡◌, ◌++◌, drop}
 use Rattle.raid_bench.specs.Text.{listing, records_text}
-use Rattle.raid_bench.proofs.out.put_listing.Given as goal
+use Rattle.raid_bench.proofs.texts.put_listing.Given as goal
 
 -- the text so far and that of the records that are left are all
 abbrev pub invariant-loop-record : goal.invariant-loop-record

@@ -1,6 +1,6 @@
 use Rattle.std.proofs.Common.{◌≤◌, length, arith}
 use Rattle.raid_bench.proofs.Hexes.{hex_step, hex_done}
-use Rattle.raid_bench.proofs.out.put_hex.Goals as goal
+use Rattle.raid_bench.proofs.texts.put_hex.Goals as goal
 
 pub loop-byte-preserved : goal.loop-byte-preserved
 loop-byte-preserved c =

@@ -1,6 +1,6 @@
 use Rattle.std.proofs.Common.{◌≡◌, ◌++◌, drop}
 use Rattle.hex.specs.Hex.{encode_lower}
-use Rattle.raid_bench.proofs.out.put_hex.Given as goal
+use Rattle.raid_bench.proofs.texts.put_hex.Given as goal
 
 -- the digits so far and those of the bytes that are left are all
 abbrev pub invariant-loop-byte : goal.invariant-loop-byte
