@@ -1,5 +1,5 @@
 -- A commit of what is seen of an array is the flat machine's case.
-use Rattle.std.proofs.Common.{◌≡◌, ◌≢◌, ℕ, ◌+◌, ◌*◌, ◌/◌, ◌%◌, ◌^◌, ◌<◌, ◌≤◌, Bool, true, false, not, ◌==◌, ◌&&◌, ◌||◌, cond, is_some, List, [], ◌∷◌, ◌++◌, length, get_or, Contains, refl, sym, ap, ◌∙◌, subst, arith, ◌⊎◌, inl, inr, Option, Some, None, nat_le}
+use Rattle.std.proofs.Common.{◌≡◌, ◌≢◌, ℕ, ◌+◌, ◌/◌, ◌^◌, ◌<◌, ◌≤◌, Bool, true, false, not, ◌==◌, ◌&&◌, ◌||◌, cond, is_some, List, [], ◌∷◌, ◌++◌, length, get_or, Contains, refl, sym, ap, ◌∙◌, subst, arith, ◌⊎◌, inl, inr, Option, Some, None, nat_le}
 use Rattle.std.proofs.Math.ListN.{set}
 use Rattle.std.proofs.lemmas.List.{length-set, get_or-set_same, get_or-set_other}
 use Rattle.std.proofs.lemmas.List.Elements.{Contains-push_cases}
@@ -8,16 +8,15 @@ use Rattle.std.proofs.lemmas.Bool.Decides.{nat_tests}
 use Rattle.std.proofs.lemmas.Option.{same_Some}
 use Rattle.map_join.specs.declared.records.Record.{Record}
 use Rattle.map_join.specs.Record.{key_of, record_of, record_at, IsRecord}
-use Rattle.map_join.specs.Maps.{IsMapOf}
 use Rattle.map_join.proofs.Joins.{took}
 use Rattle.step_core.specs.declared.refusal.Refusal.{Refusal}
 use Rattle.step_core.specs.declared.refusal.Refusal.TheVariants.{NoTicket, VersionSpent, LogFull}
-use Rattle.step_core.specs.Flat.{Flat, Write, Holder, Worker, Ticket, Block, Shut, Content, Fresh, Stored, same_holder, put, turned, last_write, IsNewest, class_of}
-use Rattle.step_core.specs.Steps.{FlatAnswer, Committed, Refused}
+use Rattle.step_core.specs.Flat.{Flat, Write, Holder, Worker, Ticket, Block, Shut, Fresh, Stored, same_holder, turned, IsNewest, class_of}
+use Rattle.step_core.specs.Steps.{Committed, Refused}
 use Rattle.step_core.specs.Cases.{CommitCase, CommitWith, committed, place_passed, stamped, next_version, last_version, longest_log}
 use Rattle.step_core.specs.Changes.{commit_view, commit_reason, commit_reason_of, spent_reason, passed, MayRefuse}
-use Rattle.step_core.specs.Views.{Kept, Nothing, Pending, Newest, ArrayView, kept_at, unit_at, key_at, group_at, is_kept, IsRoomy, IsWhole}
-use Rattle.step_core.specs.Represents.{FlatSlot, flat_at, ArraySlot, IsBlank, IsWritten, BlockStands, ShowsArray, is_newest, waiting}
+use Rattle.step_core.specs.Views.{Kept, Nothing, Pending, Newest, ArrayView, kept_at, unit_at, key_at, IsRoomy, IsWhole}
+use Rattle.step_core.specs.Represents.{flat_at, ArraySlot, BlockStands, ShowsArray, is_newest, waiting}
 use Rattle.step_core.proofs.Pairs.{equal, equal_back, put_here, put_else, turned_here, turned_else}
 use Rattle.step_core.proofs.Pairs.{flip}
 use Rattle.step_core.proofs.Slots.{same_slot}

@@ -1,6 +1,5 @@
 -- A fill of what is seen of an array is the flat machine's case.
-use Rattle.std.proofs.Common.{◌≡◌, ◌≢◌, ℕ, ◌<◌, ◌/◌, ◌%◌, Bool, true, false, not, ◌==◌, ◌&&◌, ◌||◌, cond, is_some, List, length, get_or, refl, sym, ap, ◌∙◌, subst, arith, ◌⊎◌, inl, inr, Option, Some, None, nat_lt}
-use Rattle.std.proofs.Math.ListN.{set}
+use Rattle.std.proofs.Common.{◌≡◌, ◌≢◌, ℕ, ◌<◌, ◌/◌, ◌%◌, Bool, true, false, ◌==◌, ◌&&◌, ◌||◌, is_some, List, length, refl, sym, ap, ◌∙◌, subst, arith, ◌⊎◌, inl, inr, Option, Some, None}
 use Rattle.std.proofs.lemmas.List.{length-set, get_or-set_same, get_or-set_other}
 use Rattle.std.proofs.lemmas.Bool.{cases_eq}
 use Rattle.std.proofs.lemmas.Option.{same_Some}
@@ -8,14 +7,13 @@ use Rattle.map_join.specs.Record.{record_of}
 use Rattle.step_core.specs.declared.group.Class.{Class}
 use Rattle.step_core.specs.declared.group.Class.TheVariants.{Mirrored, Parity}
 use Rattle.step_core.specs.declared.refusal.Refusal.{Refusal}
-use Rattle.step_core.specs.declared.refusal.Refusal.TheVariants.{NoGroup, WrongClass, InUse}
-use Rattle.step_core.specs.Groups.{Made, class_in, class_at}
-use Rattle.step_core.specs.Flat.{Flat, Holder, Worker, Ticket, Block, Shut, Content, Fresh, Stored, same_holder, put, turned, IsArrays, for_ticket, IsKept, class_of}
-use Rattle.step_core.specs.Steps.{FlatAnswer, Filled, Refused}
+use Rattle.step_core.specs.Groups.{class_in, class_at}
+use Rattle.step_core.specs.Flat.{Flat, Holder, Worker, Ticket, Block, Shut, Fresh, Stored, turned, for_ticket, IsKept, class_of}
+use Rattle.step_core.specs.Steps.{Filled, Refused}
 use Rattle.step_core.specs.Cases.{FillCase, filled}
 use Rattle.step_core.specs.Changes.{fill_view, fill_reason, fill_reason_of, MayRefuse}
-use Rattle.step_core.specs.Views.{Kept, Nothing, Pending, Newest, ArrayView, kept_at, unit_at, key_at, group_at, is_kept, IsRoomy, IsWhole}
-use Rattle.step_core.specs.Represents.{FlatSlot, flat_at, ArraySlot, IsWritten, BlockStands, ShowsArray, is_newest}
+use Rattle.step_core.specs.Views.{Kept, Nothing, Pending, Newest, ArrayView, kept_at, unit_at, key_at, group_at, is_kept, IsWhole}
+use Rattle.step_core.specs.Represents.{flat_at, ArraySlot, IsWritten, BlockStands, ShowsArray}
 use Rattle.step_core.proofs.Pairs.{equal, equal_back, put_here, put_else, turned_here, turned_else}
 use Rattle.step_core.proofs.Slots.{same_slot, one_slot}
 use Rattle.step_core.proofs.Kepts.{nothing_kept, kept_iff}

@@ -1,13 +1,12 @@
 -- What a block holds is its last acknowledged write.
-use Rattle.std.proofs.Common.{◌≡◌, ℕ, ◌^◌, ◌<◌, ◌≤◌, refl, sym, ap, ◌∙◌, subst, arith, ◌⊎◌, inl, inr, is_some, true, Option, Some, None}
+use Rattle.std.proofs.Common.{◌≡◌, ℕ, ◌^◌, ◌<◌, ◌≤◌, sym, ap, ◌∙◌, arith, ◌⊎◌, inl, inr, is_some, true, Some, None}
 use Rattle.std.proofs.lemmas.Option.{same_Some}
 use Rattle.map_join.specs.declared.records.Record.{Record}
 use Rattle.map_join.specs.Record.{record_of, record_at}
-use Rattle.step_core.specs.Flat.{Flat, Stored, Write, last_write}
-use Rattle.step_core.specs.Steps.{Version}
+use Rattle.step_core.specs.Flat.{Flat, Stored, last_write}
 use Rattle.step_core.specs.Cases.{found_of}
 use Rattle.step_core.specs.Views.{Nothing, Newest, ArrayView, kept_at, unit_at, key_at, IsWhole}
-use Rattle.step_core.specs.Represents.{ShowsArray, IsWritten}
+use Rattle.step_core.specs.Represents.{ShowsArray}
 use Rattle.step_core.proofs.Newest.{told_at, untold_at}
 
 sizes : (k : ℕ) → (k < 2 ^ 32) ⊎ (2 ^ 32 ≤ k)

@@ -1,18 +1,17 @@
 -- Workers claim and release, and the array stands for the state as before.
-use Rattle.std.proofs.Common.{◌≡◌, ℕ, ◌<◌, Bool, true, false, ◌==◌, ◌&&◌, ◌||◌, not, List, length, get_or, refl, sym, ap, ◌∙◌, subst, arith, ◌⊎◌, inl, inr, Option, Some, None}
+use Rattle.std.proofs.Common.{◌≡◌, ℕ, ◌<◌, Bool, true, false, ◌==◌, ◌&&◌, ◌||◌, not, List, length, refl, sym, ap, ◌∙◌, subst, arith, ◌⊎◌, inl, inr, Option}
 use Rattle.std.proofs.Math.ListN.{set}
 use Rattle.std.proofs.lemmas.List.{length-set, get_or-set_same, get_or-set_other}
 use Rattle.std.proofs.lemmas.Bool.{cases_eq}
-use Rattle.std.proofs.lemmas.Bool.Decides.{nat_tests}
 use Rattle.step_core.specs.declared.hand.Hand.{Hand}
 use Rattle.step_core.specs.declared.hand.Hand.TheVariants.{Empty, Holds, Waits}
-use Rattle.step_core.specs.Flat.{Flat, Holder, Worker, Ticket, Block, Shut, same_holder, with_pair, without_pair, IsArrays, for_ticket, for_block, for_shut, IsFree, Stored, class_of}
-use Rattle.step_core.specs.Steps.{Claim, Release, FlatAnswer, Claimed, Taken, Released, NotHeld}
+use Rattle.step_core.specs.Flat.{Flat, Holder, Worker, Ticket, Block, Shut, with_pair, without_pair, IsArrays, for_ticket, for_block, for_shut, IsFree, Stored}
+use Rattle.step_core.specs.Steps.{Claimed, Taken, Released, NotHeld}
 use Rattle.step_core.specs.Cases.{ClaimCase, ReleaseCase}
-use Rattle.step_core.specs.Views.{Kept, Nothing, Pending, Newest, ArrayView, WorldView, kept_at, unit_at, hand_at, key_at, is_kept, has_no_holder, IsRoomy}
+use Rattle.step_core.specs.Views.{Kept, Nothing, Pending, Newest, ArrayView, WorldView, kept_at, unit_at, hand_at, key_at, is_kept, has_no_holder}
 use Rattle.step_core.specs.Represents.{FlatSlot, flat_at, ArraySlot, HandSlot, ShowsArray, Represents, is_claim, is_ticket, Agree, BlockStands}
-use Rattle.step_core.proofs.Pairs.{flip, equal, unequal, equal_back, with_here, with_else, without_here, without_else}
-use Rattle.step_core.proofs.Kepts.{nothing_kept, kept_holder}
+use Rattle.step_core.proofs.Pairs.{flip, equal, equal_back, with_here, with_else, without_here, without_else}
+use Rattle.step_core.proofs.Kepts.{kept_holder}
 use Rattle.step_core.proofs.Slots.{same_slot}
 
 -- F with other holders

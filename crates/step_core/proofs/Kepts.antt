@@ -1,8 +1,8 @@
 -- What the array keeps is what the flat state's holders say.
-use Rattle.std.proofs.Common.{◌≡◌, ◌↔◌, ℕ, Bool, true, false, ◌==◌, IsTrue, refl, sym, ap, ◌∙◌, subst, Option, Some, None}
-use Rattle.step_core.specs.Flat.{Flat, Holder, Worker, Ticket, Block, Shut, IsArrays, for_ticket, for_block, for_shut, IsKept, Stored}
+use Rattle.std.proofs.Common.{◌≡◌, ◌↔◌, ℕ, true, false, IsTrue, refl, sym, ◌∙◌, Option}
+use Rattle.step_core.specs.Flat.{Flat, Holder, Ticket, Block, IsArrays, for_ticket, for_block, for_shut, IsKept, Stored}
 use Rattle.step_core.specs.Views.{Kept, Nothing, Pending, Newest, ArrayView, kept_at, unit_at, is_kept}
-use Rattle.step_core.specs.Represents.{FlatSlot, flat_at, ArraySlot, ShowsArray, is_newest}
+use Rattle.step_core.specs.Represents.{FlatSlot, flat_at, ArraySlot, ShowsArray}
 use Rattle.step_core.proofs.Pairs.{equal}
 
 -- a slot of which nothing is kept has no ticket and is no block's

@@ -1,5 +1,5 @@
 -- The tests that come before a group is made.
-use Rattle.std.proofs.Common.{◌≡◌, ◌≢◌, ℕ, ◌+◌, ◌-◌, ◌*◌, ◌/◌, ◌%◌, ◌<◌, ◌≤◌, ◌&&◌, nat_le, nat_lt, cond, Bool, true, false, IsTrue, List, [], ◌∷◌, ◌++◌, length, get_or, take, Any, All, Contains, refl, sym, ap, ◌∙◌, subst, arith, ◌⊎◌, inl, inr, Option, Some, None, is_some}
+use Rattle.std.proofs.Common.{◌≡◌, ◌≢◌, ℕ, ◌+◌, ◌<◌, ◌≤◌, true, List, length, get_or, take, Any, All, refl, sym, ap, ◌∙◌, subst, arith, ◌⊎◌, inl, inr, Option, Some, None, is_some}
 use Rattle.std.proofs.lemmas.List.{get_or-take, length-take-le}
 use Rattle.step_core.specs.declared.group.Member.{Member}
 use Rattle.std.proofs.lemmas.List.{length-map}

@@ -1,5 +1,5 @@
 -- Making a group in what is seen of an array is the flat machine's case.
-use Rattle.std.proofs.Common.{◌≡◌, ◌≢◌, ℕ, ◌+◌, ◌-◌, ◌*◌, ◌/◌, ◌%◌, ◌<◌, ◌≤◌, ◌^◌, Bool, true, false, not, ◌==◌, ◌&&◌, ◌||◌, cond, nat_lt, nat_le, is_some, All, List, length, get_or, replicate, refl, sym, ap, ◌∙◌, subst, arith, ◌⊎◌, inl, inr, Option, Some, None}
+use Rattle.std.proofs.Common.{◌≡◌, ◌≢◌, ℕ, ◌+◌, ◌*◌, ◌/◌, ◌%◌, ◌<◌, ◌≤◌, Bool, true, false, not, ◌==◌, ◌&&◌, cond, nat_lt, nat_le, is_some, All, List, length, get_or, refl, sym, ap, ◌∙◌, subst, arith, ◌⊎◌, inl, inr, Option, Some, None}
 use Rattle.std.proofs.Math.ListN.{set}
 use Rattle.std.proofs.lemmas.List.{length-set, get_or-set_same, get_or-set_other}
 use Rattle.std.proofs.lemmas.Bool.{cases_eq}
@@ -7,23 +7,21 @@ use Rattle.std.proofs.lemmas.Bool.Decides.{nat_tests}
 use Rattle.std.proofs.lemmas.Option.{same_Some}
 use Rattle.map_join.specs.Record.{record_of}
 use Rattle.step_core.specs.declared.group.Class.{Class}
-use Rattle.step_core.specs.declared.group.Class.TheVariants.{Mirrored, Parity}
 use Rattle.step_core.specs.declared.group.Member.{Member}
 use Rattle.step_core.specs.declared.refusal.Refusal.{Refusal}
 use Rattle.step_core.specs.declared.refusal.Refusal.TheVariants.{BadMember, SameDrive, ExtentTaken, Full}
 use Rattle.step_core.specs.Sizes.{Sizes}
 use Rattle.step_core.specs.Steps.{MadeGroup, Refused}
 use Rattle.step_core.specs.Changes.{MayRefuse}
-use Rattle.step_core.specs.Groups.{Made, slot_count, class_in, class_at, AreMembers, AreUnowned, IsLowestFree, IsFull}
-use Rattle.step_core.specs.Flat.{Flat, Holder, Worker, Ticket, Block, Shut, Stored, same_holder, put, class_of}
+use Rattle.step_core.specs.Groups.{Made, slot_count, class_in, AreMembers, AreUnowned, IsLowestFree, IsFull}
+use Rattle.step_core.specs.Flat.{Flat, Ticket, Block, Stored, class_of}
 use Rattle.step_core.specs.Cases.{made, wiped, MakeCase}
 use Rattle.step_core.specs.Making.{blank, placed, Entered, ArePlaced, IsBlankUnit, IsMakeReason}
 use Rattle.step_core.specs.declared.stored.StoredUnit.{StoredUnit}
 use Rattle.step_core.specs.Kept.{units_of}
-use Rattle.step_core.specs.Views.{Kept, Nothing, Pending, Newest, ArrayView, kept_at, unit_at, key_at, group_at, IsRoomy, IsWhole}
-use Rattle.step_core.specs.Represents.{FlatSlot, flat_at, ArraySlot, IsBlank, IsWritten, BlockStands, ShowsArray, waiting}
-use Rattle.step_core.proofs.Pairs.{equal, unequal, put_here, put_else}
-use Rattle.step_core.proofs.Fills.{class_seen}
+use Rattle.step_core.specs.Views.{Kept, Nothing, Pending, Newest, ArrayView, kept_at, unit_at, key_at, group_at, IsWhole}
+use Rattle.step_core.specs.Represents.{FlatSlot, flat_at, ArraySlot, IsBlank, BlockStands, ShowsArray, waiting}
+use Rattle.step_core.proofs.Pairs.{equal, put_here, put_else}
 
 -- the slots of a group are those from 128 times its number on
 placed_wiped : (units : List (Option Stored)) (payload g count s : ℕ) → count ≤ 128

@@ -1,18 +1,17 @@
 -- A new array stands for the new flat state.
-use Rattle.std.proofs.Common.{◌≡◌, ◌≢◌, ℕ, ◌<◌, ◌≤◌, ◌^◌, Bool, true, false, List, [], length, get_or, map, refl, sym, ap, ◌∙◌, subst, arith, Contains, Option, Some, None}
+use Rattle.std.proofs.Common.{◌≡◌, ℕ, ◌≤◌, List, [], get_or, refl, sym, ap, ◌∙◌, subst, arith, Contains, Option, None}
 use Rattle.std.proofs.Math.ListN.{get_or-map}
 use Rattle.std.specs.Option.{option_map}
 use Rattle.map_join.specs.declared.records.Record.{Record}
-use Rattle.map_join.specs.Maps.{IsMapOf}
 use Rattle.step_core.specs.declared.place.Place.{Place}
 use Rattle.step_core.specs.declared.place.Place.TheVariants as place
 use Rattle.step_core.specs.declared.stored.StoredUnit.{StoredUnit}
 use Rattle.step_core.specs.declared.group.Group.{Group}
 use Rattle.step_core.specs.Sizes.{Sizes}
 use Rattle.step_core.specs.Kept.{kept_of, kepts_of, stored_of, units_of, made_of, groups_of}
-use Rattle.step_core.specs.Flat.{Flat, Stored, Holder, new_flat}
-use Rattle.step_core.specs.Views.{Kept, Nothing, ArrayView, kept_at, unit_at, key_at, group_at, IsWhole, IsNew}
-use Rattle.step_core.specs.Represents.{FlatSlot, flat_at, ArraySlot, BlockStands, ShowsArray}
+use Rattle.step_core.specs.Flat.{new_flat}
+use Rattle.step_core.specs.Views.{Nothing, ArrayView, IsWhole, IsNew}
+use Rattle.step_core.specs.Represents.{flat_at, ArraySlot, ShowsArray}
 
 pub none_kept : {C : Type 0} (places : List (Place C)) → ((s : ℕ) → get_or places s place.Free ≡ place.Free) → (s : ℕ) → get_or (kepts_of places) s Nothing ≡ Nothing
 none_kept places all s = get_or-map kept_of places s place.Free ∙ ap kept_of (all s)

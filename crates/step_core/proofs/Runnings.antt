@@ -1,5 +1,5 @@
 -- Runs that grow by a step, and what stands of every state that is represented.
-use Rattle.std.proofs.Common.{◌≡◌, ℕ, zero, suc, ◌+◌, ◌<◌, ◌≤◌, Bool, true, false, ◌==◌, List, [], ◌∷◌, ◌++◌, length, take, get_or, map, All, Contains, refl, sym, ap, ◌∙◌, subst, arith, ◌⊎◌, inl, inr, Option, Some, None}
+use Rattle.std.proofs.Common.{◌≡◌, ℕ, zero, suc, ◌+◌, ◌<◌, ◌≤◌, true, false, List, [], ◌∷◌, ◌++◌, length, take, get_or, map, All, refl, sym, ap, ◌∙◌, subst, arith, ◌⊎◌, inl, inr, Option}
 use Rattle.std.proofs.lemmas.List.{map_more, map-append}
 use Rattle.std.proofs.lemmas.List.Elements.{All-get_or}
 use Rattle.step_core.specs.declared.step.Step.{Step}
@@ -7,15 +7,14 @@ use Rattle.step_core.specs.declared.step.Answer.{Answer}
 use Rattle.step_core.specs.Sizes.{Sizes}
 use Rattle.step_core.specs.Told.{flat_step, flat_answer, FitsStep}
 use Rattle.map_join.specs.declared.records.Record.{Record}
-use Rattle.map_join.specs.Record.{key_of}
 use Rattle.map_join.specs.Maps.{IsSame, IsMapOf, HasSameRecords}
 use Rattle.step_core.specs.declared.hand.Hand.{Hand}
 use Rattle.step_core.specs.declared.hand.Hand.TheVariants.{Empty, Holds, Waits}
-use Rattle.step_core.specs.Flat.{Flat, Holder, Worker, Ticket, Block, Shut, HeldOnce, Stored}
+use Rattle.step_core.specs.Flat.{Flat, Holder, Worker, Ticket, Block, Shut, Stored}
 use Rattle.step_core.specs.Steps.{FlatStep, FlatAnswer}
-use Rattle.step_core.specs.Cases.{Case, Runs, Leaves}
+use Rattle.step_core.specs.Cases.{Case, Runs}
 use Rattle.step_core.specs.Views.{Kept, Nothing, Pending, Newest, WorldView, kept_at, unit_at, hand_at, key_at}
-use Rattle.step_core.specs.Represents.{FlatSlot, flat_at, ArraySlot, HandSlot, ShowsArray, Represents, is_newest, is_claim, is_ticket, Agree}
+use Rattle.step_core.specs.Represents.{FlatSlot, flat_at, ArraySlot, HandSlot, Represents, is_newest, is_claim, is_ticket, Agree}
 use Rattle.step_core.specs.Headline.{Stands}
 use Rattle.step_core.proofs.Pairs.{equal_back}
 

@@ -1,30 +1,28 @@
 -- A world's steps on its array, with the hands that go with them.
-use Rattle.std.proofs.Common.{◌≡◌, ◌≢◌, ℕ, ◌<◌, Bool, true, false, ◌==◌, ◌&&◌, ◌||◌, not, List, length, get_or, refl, sym, ap, ◌∙◌, subst, arith, ◌⊎◌, inl, inr, Option, Some, None, Contains}
+use Rattle.std.proofs.Common.{◌≡◌, ℕ, ◌<◌, Bool, true, false, ◌==◌, ◌&&◌, ◌||◌, not, List, length, get_or, refl, sym, ap, ◌∙◌, subst, arith, ◌⊎◌, inl, inr, Option, Some, None, Contains}
 use Rattle.std.proofs.Math.ListN.{set}
 use Rattle.std.proofs.lemmas.List.{length-set, get_or-set_same, get_or-set_other}
 use Rattle.std.proofs.lemmas.Bool.{cases_eq}
-use Rattle.std.proofs.lemmas.Bool.Decides.{nat_tests}
-use Rattle.std.proofs.lemmas.Option.{same_Some}
 use Rattle.map_join.specs.declared.records.Record.{Record}
 use Rattle.map_join.specs.Record.{record_at, IsRecord}
 use Rattle.step_core.specs.declared.hand.Hand.{Hand}
 use Rattle.step_core.specs.declared.hand.Hand.TheVariants.{Empty, Holds, Waits}
-use Rattle.step_core.specs.Flat.{Flat, Holder, Worker, Ticket, Block, Shut, same_holder, turned, put, Stored, class_of}
-use Rattle.step_core.specs.Steps.{FlatAnswer, Filled, Committed, MadeGroup}
+use Rattle.step_core.specs.Flat.{Flat, Holder, Worker, Ticket, Block, same_holder, Stored}
+use Rattle.step_core.specs.Steps.{Filled, Committed, MadeGroup}
 use Rattle.step_core.specs.declared.group.Class.{Class}
 use Rattle.step_core.specs.declared.group.Member.{Member}
 use Rattle.step_core.specs.Cases.{FillCase, filled, CommitCase, MakeCase, made}
 use Rattle.step_core.specs.Changes.{fill_view, commit_view, passed_hands}
 use Rattle.step_core.specs.Views.{Kept, Nothing, Pending, Newest, ArrayView, WorldView, kept_at, hand_at}
-use Rattle.step_core.specs.Represents.{FlatSlot, flat_at, ArraySlot, HandSlot, ShowsArray, Represents, is_claim, is_ticket, Agree, waiting}
-use Rattle.step_core.proofs.Pairs.{flip, equal, unequal, equal_back, put_here, put_else, turned_here, turned_else}
+use Rattle.step_core.specs.Represents.{flat_at, HandSlot, ShowsArray, Represents, is_claim, is_ticket, Agree, waiting}
+use Rattle.step_core.proofs.Pairs.{flip, put_else, turned_here, turned_else}
 use Rattle.step_core.proofs.Slots.{same_slot}
-use Rattle.step_core.specs.Flat.{Write, Content, Fresh, IsNewest}
+use Rattle.step_core.specs.Flat.{Write, Fresh, IsNewest}
 use Rattle.step_core.specs.Cases.{CommitWith, committed}
 use Rattle.step_core.specs.Views.{key_at, unit_at, IsWhole}
 use Rattle.step_core.proofs.Newest.{newest_told, newest_unique, place_small}
 use Rattle.step_core.proofs.Commits.{IsOld, kept_here, kept_old, kept_else, held_here, held_old, held_else, old_found, waits_unit, some_is}
-use Rattle.step_core.proofs.Hands.{one_hand, agree_holds, claim_hand, ticket_hand}
+use Rattle.step_core.proofs.Hands.{one_hand, claim_hand, ticket_hand}
 
 -- not one worker's claim and another's
 other_claim : (u w : ℕ) → (((w == u) && not (u == w)) || false) ≡ false

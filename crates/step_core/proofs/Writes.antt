@@ -1,16 +1,14 @@
 -- The last write of a list that grows, and the keys of a table with one changed.
-use Rattle.std.proofs.Common.{◌≡◌, ◌≢◌, ℕ, ◌+◌, ◌*◌, ◌/◌, ◌^◌, ◌<◌, ◌≤◌, max, Bool, true, false, ◌==◌, cond, List, [], ◌∷◌, ◌++◌, length, get_or, refl, sym, ap, ◌∙◌, subst, arith, ◌⊎◌, inl, inr, Option, Some, None, nat_lt}
+use Rattle.std.proofs.Common.{◌≡◌, ℕ, ◌+◌, ◌/◌, ◌^◌, ◌<◌, ◌≤◌, max, ◌==◌, cond, List, [], ◌∷◌, ◌++◌, length, get_or, refl, sym, ap, ◌∙◌, arith, ◌⊎◌, inl, inr, Option, Some, None}
 use Rattle.std.proofs.Math.ListN.{set}
 use Rattle.std.proofs.lemmas.List.{get_or-set_same, get_or-set_other}
 use Rattle.std.proofs.lemmas.Bool.{cases_eq}
-use Rattle.std.proofs.lemmas.Bool.Decides.{nat_tests}
 use Rattle.map_join.specs.declared.records.Record.{Record}
-use Rattle.map_join.specs.Record.{key_of, record_of, record_at, IsRecord}
+use Rattle.map_join.specs.Record.{key_of, record_of, record_at}
 use Rattle.map_join.specs.Maps.{IsSame, join, only}
 use Rattle.map_join.proofs.Joins.{only_here, only_else}
 use Rattle.step_core.specs.Flat.{Write, or_else, last_write}
 use Rattle.step_core.specs.Cases.{next_version}
-use Rattle.step_core.specs.Views.{ArrayView, key_at}
 use Rattle.step_core.proofs.Pairs.{equal, unequal}
 use Rattle.step_core.proofs.Newest.{told_at, untold_at}
 

@@ -1,5 +1,5 @@
 -- What contracts see of the private parts of an array.
-use Rattle.std.specs.Prelude.{◌≡◌, ℕ, ◌<◌, List, slice_index_or, length, map, Option, Some, None}
+use Rattle.std.specs.Prelude.{◌≡◌, ℕ, ◌<◌, List, slice_index_or, length, map, Option}
 use Rattle.std.specs.Option.{option_map}
 use Rattle.step_core.specs.declared.place.Place.{Place}
 use Rattle.step_core.specs.declared.place.Place.TheVariants as place
@@ -7,7 +7,7 @@ use Rattle.step_core.specs.declared.stored.StoredUnit.{StoredUnit}
 use Rattle.step_core.specs.declared.group.Group.{Group}
 use Rattle.step_core.specs.Groups.{Made}
 use Rattle.step_core.specs.Flat.{Stored}
-use Rattle.step_core.specs.Views.{Kept, Nothing, Pending, Newest, ArrayView}
+use Rattle.step_core.specs.Views.{Kept, Nothing, Pending, Newest}
 
 -- a place without its claim
 abbrev pub kept_of : {C : Type 0} → Place C → Kept

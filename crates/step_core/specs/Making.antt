@@ -1,5 +1,5 @@
 -- What making a group changes in what is seen of an array.
-use Rattle.std.specs.Prelude.{◌≡◌, ℕ, ◌+◌, ◌*◌, ◌<◌, ◌≤◌, ◌&&◌, nat_lt, nat_le, if◌then◌else◌, List, All, length, replicate, slice_index_or, slice_set, Option, Some, None}
+use Rattle.std.specs.Prelude.{◌≡◌, ℕ, ◌+◌, ◌*◌, ◌≤◌, ◌&&◌, nat_lt, nat_le, if◌then◌else◌, List, All, length, replicate, slice_index_or, slice_set, Option, Some, None}
 use Rattle.step_core.specs.declared.group.Class.{Class}
 use Rattle.step_core.specs.declared.group.Member.{Member}
 use Rattle.step_core.specs.declared.refusal.Refusal.{Refusal}

@@ -1,4 +1,4 @@
-use Rattle.std.proofs.Common.{◌≡◌, ◌∙◌, length, rules}
+use Rattle.std.proofs.Common.{◌∙◌, rules}
 use Rattle.std.proofs.lemmas.List.{length-map}
 use Rattle.step_core.proofs.News.{none_kept, none_stored, none_made, new_whole}
 use Rattle.step_core.proofs.array.tables.Goals as goal

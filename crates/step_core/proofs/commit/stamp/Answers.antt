@@ -1,4 +1,4 @@
-use Rattle.std.proofs.Common.{◌≡◌, sym, ap, ◌∙◌, rules, get_or, Some}
+use Rattle.std.proofs.Common.{sym, ap, ◌∙◌, rules, get_or, Some}
 use Rattle.std.proofs.Math.ListN.{set}
 use Rattle.std.specs.Option.{option_map}
 use Rattle.step_core.specs.Kept.{stored_of, units_of}

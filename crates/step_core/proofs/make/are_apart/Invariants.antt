@@ -1,4 +1,4 @@
-use Rattle.std.proofs.Common.{◌≡◌, ◌≢◌, ℕ, ◌<◌, get_or}
+use Rattle.std.proofs.Common.{◌≢◌, ℕ, ◌<◌, get_or}
 use Rattle.step_core.specs.declared.group.Member.{Member}
 use Rattle.step_core.proofs.make.are_apart.Given as goal
 

@@ -1,4 +1,4 @@
-use Rattle.std.proofs.Common.{refl, ap, ◌∙◌, is_some}
+use Rattle.std.proofs.Common.{ap, is_some}
 use Rattle.step_core.proofs.Makes.{made_more, lowest_is}
 use Rattle.step_core.proofs.make.lowest_free.Goals as goal
 

@@ -1,4 +1,4 @@
-use Rattle.std.proofs.Common.{◌≡◌, ◌≢◌, ℕ, ◌<◌, get_or, None}
+use Rattle.std.proofs.Common.{◌≢◌, ℕ, ◌<◌, get_or, None}
 use Rattle.step_core.specs.Kept.{groups_of}
 use Rattle.step_core.proofs.make.lowest_free.Given as goal
 

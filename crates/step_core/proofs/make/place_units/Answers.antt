@@ -1,9 +1,8 @@
-use Rattle.std.proofs.Common.{◌≡◌, ◌+◌, rules, sym, ap, ◌∙◌, subst, length, IfSome}
+use Rattle.std.proofs.Common.{◌≡◌, rules, subst, length, IfSome}
 use Rattle.std.proofs.lemmas.List.Elements.{All-pop}
-use Rattle.step_core.specs.Flat.{Stored}
 use Rattle.step_core.specs.Kept.{stored_of}
 use Rattle.step_core.specs.Making.{ArePlaced}
-use Rattle.step_core.proofs.Makes.{placed_more, placed_none}
+use Rattle.step_core.proofs.Makes.{placed_more}
 use Rattle.step_core.proofs.make.place_units.Goals as goal
 
 pub loop-i-preserved : goal.loop-i-preserved

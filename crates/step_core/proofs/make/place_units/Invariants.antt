@@ -1,4 +1,4 @@
-use Rattle.std.proofs.Common.{◌≡◌, ◌+◌, length, All, vec_len}
+use Rattle.std.proofs.Common.{◌≡◌, ◌+◌, All, vec_len}
 use Rattle.step_core.specs.Flat.{Stored}
 use Rattle.step_core.specs.Kept.{stored_of}
 use Rattle.step_core.specs.Making.{ArePlaced}

@@ -1,5 +1,4 @@
-use Rattle.std.proofs.Common.{◌≡◌, ◌+◌, ◌<◌, length, rules, arith, ap, subst, sym, refl, take, map, ◌∙◌, IsOk}
-use Rattle.step_core.specs.Flat.{Flat}
+use Rattle.std.proofs.Common.{length, rules, subst, sym, refl, take, map}
 use Rattle.step_core.specs.Cases.{Runs}
 use Rattle.step_core.specs.Views.{WorldView}
 use Rattle.step_core.specs.Represents.{Represents}

@@ -1,4 +1,4 @@
-use Rattle.std.proofs.Common.{◌≡◌, ◌<◌, ◌≤◌, take, map, length, vec_len, vec_capacity}
+use Rattle.std.proofs.Common.{◌≡◌, ◌≤◌, take, map, length, vec_len, vec_capacity}
 use Rattle.step_core.specs.Flat.{Flat}
 use Rattle.step_core.specs.Cases.{Runs}
 use Rattle.step_core.specs.Told.{flat_answer, flat_step}

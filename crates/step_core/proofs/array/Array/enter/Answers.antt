@@ -1,9 +1,8 @@
-use Rattle.std.proofs.Common.{◌≡◌, ◌∙◌, length, ap, rules, subst, refl, sym}
+use Rattle.std.proofs.Common.{◌≡◌, ◌∙◌, length, ap, rules, subst, sym}
 use Rattle.std.proofs.lemmas.List.{length-map}
 use Rattle.std.specs.Option.{option_map}
 use Rattle.step_core.specs.Kept.{stored_of}
 use Rattle.step_core.specs.Views.{ArrayView, IsWhole}
-use Rattle.step_core.specs.Making.{Entered}
 use Rattle.step_core.proofs.Makings.{entered_whole, entered_units}
 use Rattle.step_core.proofs.array.Array.enter.Goals as goal
 

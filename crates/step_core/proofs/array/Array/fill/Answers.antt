@@ -1,4 +1,4 @@
-use Rattle.std.proofs.Common.{◌≡◌, rules, sym, ap, ◌∙◌, subst, true}
+use Rattle.std.proofs.Common.{◌≡◌, rules, ap, ◌∙◌, subst}
 use Rattle.step_core.specs.Flat.{Worker}
 use Rattle.step_core.specs.Steps.{Filled}
 use Rattle.step_core.specs.Cases.{FillCase}

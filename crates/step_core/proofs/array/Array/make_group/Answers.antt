@@ -1,4 +1,4 @@
-use Rattle.std.proofs.Common.{rules, subst, sym, ap, slice_index_or, None}
+use Rattle.std.proofs.Common.{rules, subst, slice_index_or, None}
 use Rattle.step_core.specs.Groups.{IsLowestFree, IsFull}
 use Rattle.step_core.specs.Kept.{groups_of}
 use Rattle.step_core.specs.Views.{ArrayView, group_at}

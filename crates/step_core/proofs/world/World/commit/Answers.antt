@@ -1,7 +1,6 @@
 use Rattle.std.proofs.Common.{rules, subst, sym, ap, ◌≡◌, ◌∙◌, true}
-use Rattle.map_join.specs.declared.records.Record.{Record}
 use Rattle.map_join.specs.Record.{record_at}
-use Rattle.step_core.specs.Flat.{Flat, Ticket}
+use Rattle.step_core.specs.Flat.{Ticket}
 use Rattle.step_core.specs.Steps.{Committed}
 use Rattle.step_core.specs.Cases.{CommitCase}
 use Rattle.step_core.specs.Changes.{passed_hands}
