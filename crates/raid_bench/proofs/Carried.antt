@@ -1,5 +1,5 @@
 -- A step that the world took is the answer to its command.
-use Rattle.std.proofs.Common.{◌≡◌, ℕ, ◌<◌, List, ◌++◌, Result, Ok, Err, Option, Some, None, refl, sym, ap, ◌∙◌}
+use Rattle.std.proofs.Common.{◌≡◌, ℕ, List, ◌++◌, Result, Ok, Err, Some, refl}
 use Rattle.std.specs.Prelude.{OnOk, IfErr}
 use Rattle.step_core.specs.Flat.{Flat}
 use Rattle.step_core.specs.Steps.{FlatStep, FlatAnswer}

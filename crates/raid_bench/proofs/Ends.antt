@@ -1,13 +1,13 @@
 -- How turns lead to a script's end.
-use Rattle.std.proofs.Common.{◌≡◌, ℕ, List, [], ◌∷◌, ◌++◌, length, take, drop, Option, Some, None, refl, sym, ap, ◌∙◌, append_assoc, append-nil}
+use Rattle.std.proofs.Common.{◌≡◌, ℕ, List, [], ◌++◌, take, Option, Some, None, sym, ap, ◌∙◌, append_assoc}
 use Rattle.std.specs.Prelude.{IfSome}
 use Rattle.std.specs.Io.KnownBytes.{Appends, Consumes, IsAtEnd, Keeps}
-use Rattle.std.proofs.KnownBytes.{Appends-nil, Appends-trans, Appends-kept}
+use Rattle.std.proofs.KnownBytes.{Appends-nil, Appends-trans}
 use Rattle.raid_bench.specs.State.{State}
 use Rattle.raid_bench.specs.Carrying.{Stands}
 use Rattle.raid_bench.specs.Meaning.{Says}
 use Rattle.raid_bench.specs.Feeding.{Left}
-use Rattle.raid_bench.specs.Turns.{AllSaid, Concludes, GoesOn, IsAllSaid, IsOn, IsPartSaid, PartSaid, SaysBy, TurnsTo}
+use Rattle.raid_bench.specs.Turns.{AllSaid, Concludes, GoesOn, IsAllSaid, IsPartSaid, PartSaid, SaysBy, TurnsTo}
 use Rattle.raid_bench.specs.declared.end.End.{End}
 use Rattle.raid_bench.specs.declared.end.End.TheVariants as end
 use Rattle.raid_bench.specs.declared.script.Script.{Script}

@@ -1,19 +1,18 @@
 -- What a script's pieces lead to, one after the other.
-use Rattle.std.proofs.Common.{◌≡◌, ℕ, ◌+◌, ◌<◌, ◌≤◌, ◌==◌, Bool, true, false, List, [], ◌∷◌, ◌++◌, length, Option, Some, None, Result, Ok, Err, refl, sym, ap, ◌∙◌, arith, append_assoc, append-nil, length-append, subst}
+use Rattle.std.proofs.Common.{◌≡◌, ℕ, ◌+◌, ◌<◌, ◌==◌, Bool, false, List, [], ◌∷◌, ◌++◌, length, Result, Ok, Err, refl, sym, ap, ◌∙◌, arith, append_assoc, append-nil, length-append}
 use Rattle.std.proofs.lemmas.List.Elements.{All-append}
 use Rattle.raid_bench.specs.Opens.{IsOpen}
 use Rattle.raid_bench.specs.State.{State}
 use Rattle.raid_bench.specs.Carrying.{Stands}
-use Rattle.raid_bench.specs.Meaning.{Means, Tells, Wrong, fault_line, lines_of, most_bytes, most_lines}
-use Rattle.raid_bench.specs.Feeding.{Answered, Closes, Feeds, IsAlong, IsAnswered, IsClosed, IsLineTold, IsLineWrong, IsStopped, Left, TellsFault}
+use Rattle.raid_bench.specs.Meaning.{Means, Tells, Wrong, fault_line, lines_of, most_bytes}
+use Rattle.raid_bench.specs.Feeding.{Answered, Closes, Feeds, IsAlong, IsAnswered, IsClosed, IsLineWrong, IsStopped, Left, TellsFault}
 use Rattle.raid_bench.specs.declared.end.End.{End}
 use Rattle.raid_bench.specs.declared.end.End.TheVariants as end
 use Rattle.raid_bench.specs.declared.script.Script.{Script}
 use Rattle.raid_bench.specs.declared.why.Stop.{Stop}
 use Rattle.raid_bench.specs.declared.why.Stop.TheVariants as stop
 use Rattle.raid_bench.specs.declared.why.Why.{Why}
-use Rattle.raid_bench.specs.declared.why.Why.TheVariants as why
-use Rattle.raid_bench.proofs.Opens.{IsFront, open_front, cut_line, last_line}
+use Rattle.raid_bench.proofs.Opens.{open_front, cut_line, last_line}
 
 -- the same text is left
 same_left : (n : ℕ) (state : State) (line rest line' rest' out out' : List ℕ) (last : End) → line' ++ rest' ≡ line ++ rest → out' ≡ out

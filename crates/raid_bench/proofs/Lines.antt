@@ -1,12 +1,10 @@
 -- What a line is, and what it leads to.
-use Rattle.std.proofs.Common.{◌≡◌, ℕ, ◌+◌, ◌<◌, ◌≤◌, ◌==◌, Bool, true, false, List, [], ◌∷◌, ◌++◌, length, Option, Some, None, Result, Ok, Err, refl, sym, ap, ◌∙◌, append_assoc, append-nil}
+use Rattle.std.proofs.Common.{◌≡◌, ℕ, List, [], ◌∷◌, ◌++◌, Option, Result, Ok, Err, refl, ap, ◌∙◌, append_assoc}
 use Rattle.std.specs.Prelude.{OnOk, OnErr}
 use Rattle.step_core.specs.Views.{WorldView}
-use Rattle.raid_bench.specs.Order.{Order}
 use Rattle.raid_bench.specs.State.{State}
-use Rattle.raid_bench.specs.Carrying.{Stands}
 use Rattle.raid_bench.specs.Replies.{IsReplied, Replies}
-use Rattle.raid_bench.specs.Meaning.{Counts, Do, Means, Tells, Wrong, fault_line}
+use Rattle.raid_bench.specs.Meaning.{Counts, Do, Means, Wrong, fault_line}
 use Rattle.raid_bench.specs.Feeding.{TellsFault, LineComes}
 use Rattle.raid_bench.specs.declared.why.Failure.TheVariants as failure
 use Rattle.raid_bench.specs.declared.why.Stop.{Stop}

@@ -1,12 +1,12 @@
 -- Members as words, read from the left.
-use Rattle.std.proofs.Common.{◌≡◌, ℕ, ◌+◌, ◌<◌, ◌≤◌, ◌==◌, Bool, true, false, List, [], ◌∷◌, ◌++◌, length, get_or, refl, sym, ap, ◌∙◌, arith, map, decimal, eqb-true, length-append, append_assoc}
+use Rattle.std.proofs.Common.{◌≡◌, ℕ, ◌+◌, ◌<◌, ◌==◌, List, [], ◌∷◌, ◌++◌, length, refl, sym, ap, ◌∙◌, arith, map, decimal, eqb-true, length-append}
 use Rattle.std.specs.List.{AllByRecursion, All, join_with_byte}
 use Rattle.std.proofs.lemmas.List.{length-map}
 use Rattle.std.proofs.lemmas.List.Elements.{All-from_get_or}
 use Rattle.std.proofs.lemmas.List.Splits.{join_with_byte-slice_split}
 use Rattle.raid_bench.specs.Number.{IsShort}
 use Rattle.raid_bench.specs.Parts.{parts}
-use Rattle.raid_bench.specs.Spelling.{member_word, IsShortMember, AreMembers}
+use Rattle.raid_bench.specs.Spelling.{member_word, IsShortMember}
 use Rattle.raid_bench.specs.declared.command.Named.{Named}
 use Rattle.raid_bench.proofs.Digits.{digit_of}
 use Rattle.raid_bench.proofs.Splits.{Differs, one_part, first_part, not_true}

@@ -1,11 +1,10 @@
 -- Numbers among words, read from the left.
-use Rattle.std.proofs.Common.{◌≡◌, ℕ, ◌+◌, ◌<◌, ◌==◌, Bool, true, false, List, [], ◌∷◌, length, refl, ap, not, is_some, arith, map, decimal, Option, None, Some}
+use Rattle.std.proofs.Common.{◌≡◌, ℕ, ◌==◌, Bool, true, false, List, [], ◌∷◌, length, refl, ap, not, is_some, arith, map, decimal, Option, None, Some}
 use Rattle.std.specs.Borrow.{Bor}
 use Rattle.std.specs.Bool.{IsTrue}
-use Rattle.std.specs.List.{AllByRecursion}
 use Rattle.std.proofs.lemmas.List.Splits.{length-slice_split}
 use Rattle.raid_bench.specs.Number.{IsShort}
-use Rattle.raid_bench.specs.Parts.{parts, parts_left, text_of}
+use Rattle.raid_bench.specs.Parts.{parts, text_of}
 use Rattle.raid_bench.specs.Words.{words_left, AreNumbers}
 
 -- a text always has a part

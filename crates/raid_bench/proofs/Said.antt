@@ -1,15 +1,13 @@
 -- Which commands a line may say.
-use Rattle.std.proofs.Common.{◌≡◌, ℕ, List, [], ◌∷◌, length, Option, Some, None, Result, Ok, Err, refl, sym, ap, ◌∙◌, ◌≤◌, take, length-take, arith}
+use Rattle.std.proofs.Common.{◌≡◌, ℕ, List, length, Option, Some, None, Result, Ok, Err, refl, sym, ◌∙◌, ◌≤◌, take, length-take, arith}
 use Rattle.step_core.specs.Flat.{Flat}
 use Rattle.step_core.specs.Views.{WorldView}
-use Rattle.raid_bench.specs.Verb.{word_of}
 use Rattle.raid_bench.specs.Order.{Order, verb_of}
 use Rattle.raid_bench.specs.Order as o
 use Rattle.raid_bench.specs.Spelling.{Spells, IsSized}
 use Rattle.raid_bench.specs.Reading.{IsRead}
-use Rattle.raid_bench.specs.State.{State, IsDue}
-use Rattle.raid_bench.specs.Meaning.{IsSaid}
-use Rattle.raid_bench.specs.Carrying.{Carries, Comes}
+use Rattle.raid_bench.specs.State.{IsDue}
+use Rattle.raid_bench.specs.Carrying.{Comes}
 use Rattle.raid_bench.specs.Replies.{IsUnsaid, Replies}
 use Rattle.raid_bench.specs.declared.why.Failure.{Failure}
 use Rattle.raid_bench.specs.declared.why.Failure.TheVariants as failure

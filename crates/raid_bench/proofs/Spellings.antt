@@ -1,7 +1,7 @@
 -- The words of a spelled line are the words that spell it.
-use Rattle.std.proofs.Common.{◌≡◌, ℕ, ◌+◌, ◌*◌, ◌<◌, ◌==◌, Bool, true, false, List, [], ◌∷◌, ◌++◌, Ok, Err, Result, length, get_or, slice_index, refl, sym, ap, ◌∙◌, arith, map, decimal, codes, rules, eqb-true, Option, Some, None}
+use Rattle.std.proofs.Common.{◌≡◌, ℕ, ◌==◌, true, List, [], ◌∷◌, Ok, Err, Result, length, get_or, refl, sym, ap, ◌∙◌, arith, map, decimal, codes, rules, eqb-true, Option, Some, None}
 use Rattle.std.specs.Prelude.{MatchResult, IfOk}
-use Rattle.std.specs.List.{AllByRecursion, All, AllPass, join_with_byte}
+use Rattle.std.specs.List.{AllByRecursion, All}
 use Rattle.std.proofs.lemmas.List.Elements.{All-from_get_or, All-from_recursion, All-append, All-cons}
 use Rattle.std.specs.Str.{bytes_eq}
 use Rattle.std.proofs.lemmas.Slice.Eq.{bytes_eq-Decides}
@@ -16,13 +16,13 @@ use Rattle.raid_bench.specs.Order as o
 use Rattle.raid_bench.specs.Order.{Order, verb_of}
 use Rattle.raid_bench.specs.Reading.{Finds, IsFound, IsRead, Reads}
 use Rattle.raid_bench.specs.declared.command.Command.{Command}
-use Rattle.raid_bench.specs.Spelling.{member_word, line_of, Fills, Follows, IsClassWord, IsShortMember, IsSized, Makes, Spells}
+use Rattle.raid_bench.specs.Spelling.{member_word, line_of, Follows, IsClassWord, IsShortMember, IsSized, Spells}
 use Rattle.step_core.specs.declared.group.Class.{Class}
 use Rattle.step_core.specs.declared.group.Class.TheVariants as class
 use Rattle.raid_bench.specs.declared.command.Named.{Named}
 use Rattle.raid_bench.specs.declared.verb.Verb.{Verb}
 use Rattle.raid_bench.specs.declared.verb.Verb.TheVariants as verb
-use Rattle.raid_bench.proofs.Members.{differs, digits_differ}
+use Rattle.raid_bench.proofs.Members.{digits_differ}
 use Rattle.raid_bench.proofs.Splits.{Differs, one_part, first_part, not_true}
 
 -- a word without a space

@@ -1,7 +1,7 @@
 -- Cutting a text at its first separator gives its first part.
 use Rattle.std.proofs.Common.{◌≡◌, ℕ, suc, ◌+◌, ◌-◌, ◌<◌, ◌≤◌, ◌==◌, Bool, true, false, List, [], ◌∷◌, ◌++◌, length, get_or, take, drop, refl, sym, ap, ◌∙◌, arith, add-one, eqb-true, rules, length-drop, length-take}
 use Rattle.std.proofs.Math.Seq.{split_at}
-use Rattle.std.specs.List.{slice_split, All}
+use Rattle.std.specs.List.{All}
 use Rattle.std.proofs.lemmas.List.{take_all, get_or-take}
 use Rattle.std.proofs.lemmas.List.Elements.{All-from_get_or}
 use Rattle.std.proofs.lemmas.List.Splits.{slice_split_at, slice_split_none}

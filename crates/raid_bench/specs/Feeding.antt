@@ -1,6 +1,5 @@
 -- How a script is fed in pieces: whatever completes the rest completes the whole.
-use Rattle.std.specs.Prelude.{◌≡◌, ℕ, ◌+◌, ◌≤◌, ◌==◌, Bool, false, List, [], ◌∷◌, ◌++◌, length, Result, Ok, Err, Option}
-use Rattle.std.specs.List.{All}
+use Rattle.std.specs.Prelude.{◌≡◌, ℕ, ◌+◌, ◌≤◌, List, [], ◌∷◌, ◌++◌, length, Result, Ok, Err, Option}
 use Rattle.step_core.specs.Views.{WorldView}
 use Rattle.raid_bench.specs.Opens.{IsOpen}
 use Rattle.raid_bench.specs.State.{State}

@@ -5,7 +5,7 @@ use Rattle.raid_bench.specs.Order.{Order}
 use Rattle.raid_bench.specs.Spelling.{Spells}
 use Rattle.raid_bench.specs.State.{State}
 use Rattle.raid_bench.specs.Meaning.{IsSaid}
-use Rattle.raid_bench.specs.Carrying.{IsAnswered, IsOut, Stands}
+use Rattle.raid_bench.specs.Carrying.{IsAnswered, IsOut}
 use Rattle.raid_bench.specs.declared.why.Failure.{Failure}
 use Rattle.raid_bench.specs.declared.why.Failure.TheVariants as failure
 use Rattle.raid_bench.specs.declared.why.Why.TheVariants as why

@@ -1,5 +1,5 @@
 -- Where a script stands: before its array is made, or at a flat state of it.
-use Rattle.std.specs.Prelude.{◌≡◌, ℕ, ◌<◌, ◌≤◌, List, length, Option, Some, None}
+use Rattle.std.specs.Prelude.{◌≡◌, ℕ, ◌<◌, ◌≤◌, length, Option, Some, None}
 use Rattle.std.specs.List.{All}
 use Rattle.step_core.specs.Flat.{Flat}
 use Rattle.step_core.specs.Sizes.{Sizes, AreSizes}

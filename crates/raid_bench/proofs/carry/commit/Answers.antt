@@ -1,4 +1,3 @@
-use Rattle.std.proofs.Common.{sym, ap, ◌∙◌, Some}
 use Rattle.step_core.specs.Steps as s
 use Rattle.raid_bench.specs.Order as o
 use Rattle.raid_bench.proofs.Carried.{told_step}

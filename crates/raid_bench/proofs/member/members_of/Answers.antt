@@ -1,4 +1,4 @@
-use Rattle.std.proofs.Common.{◌≡◌, ◌∙◌, ◌++◌, ◌∷◌, List, ℕ, ap, sym, map}
+use Rattle.std.proofs.Common.{◌∙◌, ◌++◌, ap, sym, map}
 use Rattle.raid_bench.specs.Spelling.{member_word}
 use Rattle.raid_bench.proofs.Members.{word_within}
 use Rattle.raid_bench.proofs.member.members_of.Goals as goal

@@ -1,4 +1,4 @@
-use Rattle.std.proofs.Common.{◌≡◌, ℕ, ◌<◌, ◌≤◌, get_or, length, arith, sym, ◌∙◌}
+use Rattle.std.proofs.Common.{◌≤◌, length, arith, sym, ◌∙◌}
 use Rattle.raid_bench.proofs.Digits.{digit_of, length_of, lead_of, told_number, read_all}
 use Rattle.raid_bench.proofs.number.number_of.Goals as goal
 

@@ -1,4 +1,4 @@
-use Rattle.std.proofs.Common.{◌<◌, ◌≤◌, ◌+◌, ◌++◌, length, arith, length-append}
+use Rattle.std.proofs.Common.{◌<◌, ◌+◌, length, arith}
 use Rattle.raid_bench.specs.declared.why.Why.TheVariants as why
 use Rattle.raid_bench.proofs.Feeds.{open_more, stopped_front, too_long}
 use Rattle.raid_bench.proofs.script.Script.take_in.Goals as goal
