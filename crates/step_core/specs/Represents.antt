@@ -59,10 +59,15 @@ BlockStands F b key = (key ≡ 0 → last_write F.writes b ≡ None) × (0 < key
 
 -- what a waiting copy rests on: its block was written, its version and hop are at most the newest's, and where they are
 -- the newest's its payload is the last write's
-pub record IsCopy (F : Flat) (b v h : ℕ) (x : List ℕ) (key : ℕ) : Type 0 where
+pub record IsCopy (writes : List Write) (b v h : ℕ) (x : List ℕ) (key : ℕ) : Type 0 where
   pub written : 0 < key
   pub most : v * 2 ^ 16 + h ≤ key / 2 ^ 16
-  pub payload : v * 2 ^ 16 + h ≡ key / 2 ^ 16 → (w : Write) × (last_write F.writes b ≡ Some w) × (w.payload ≡ x)
+  pub payload : v * 2 ^ 16 + h ≡ key / 2 ^ 16 → (w : Write) × (last_write writes b ≡ Some w) × (w.payload ≡ x)
+
+abbrev pub TicketStands : List Write → (ℕ → ℕ) → Option Content → Type 0
+TicketStands writes keys None = Unit {0}
+TicketStands writes keys (Some (Fresh x)) = Unit {0}
+TicketStands writes keys (Some (Moved b v h x)) = IsCopy writes b v h x (keys b)
 
 -- an array stands for a flat state
 pub record ShowsArray (a : ArrayView) (F : Flat) : Type 0 where
@@ -74,7 +79,7 @@ pub record ShowsArray (a : ArrayView) (F : Flat) : Type 0 where
   pub map : IsMapOf F.emitted (key_at a)
   pub groups : (g : ℕ) → F.groups g ≡ group_at a g
   pub slots : (s : ℕ) → ArraySlot (kept_at a s) (unit_at a s) (flat_at F s)
-  pub copies : (s b v h : ℕ) (x : List ℕ) → F.tickets s ≡ Some (Moved b v h x) → IsCopy F b v h x (key_at a b)
+  pub tickets : (s : ℕ) → TicketStands F.writes (key_at a) (F.tickets s)
   pub written : (b : ℕ) → BlockStands F b (key_at a b)
 
 -- worker w has a claim of the slot in hand, or a ticket

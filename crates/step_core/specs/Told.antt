@@ -1,6 +1,7 @@
 -- The answers of a world as those of the flat machine.
 use Rattle.std.specs.Prelude.{◌≡◌, ◌<◌, ℕ, List, length, Option, Some, None, Vec}
 use Rattle.std.specs.Global.{Global}
+use Rattle.map_join.specs.declared.records.Record.{Record}
 use Rattle.step_core.specs.declared.step.Answer.{Answer}
 use Rattle.step_core.specs.declared.step.Answer.TheVariants as answer
 use Rattle.step_core.specs.declared.step.Step.{Step}

@@ -1,5 +1,5 @@
 // What a block holds.
-ghost use Rattle.std.specs.Prelude.{◌≡◌, ◌<◌, ◌≤◌, IfOk, IfErr, MatchResult, is_some, true, Some};
+ghost use Rattle.std.specs.Prelude.{◌≡◌, ◌<◌, ◌≤◌, IfOk, IfErr, OnErr, MatchResult, is_some, true, Some};
 ghost use Rattle.map_join.specs.Record.{key_of, record_at};
 ghost use Rattle.step_core.specs.Steps as say;
 ghost use Rattle.step_core.specs.Steps.{Seen};
@@ -80,7 +80,8 @@ impl<C: Hold> Array<C> {
 
     // What lies at the record's place.
     pub(crate) fn see(&self, alloc: Global, asked: Record) -> Result<At, AllocError>
-        ensures { IfOk result (λ at. IsSeen (unit_at self.now asked.place) asked (seen_of at)) }
+        ensures ok { IfOk result (λ at. IsSeen (unit_at self.now asked.place) asked (seen_of at)) }
+        ensures wants { OnErr result ((u : Stored) × (unit_at self.now asked.place ≡ Some u) × (u.header ≡ Some asked)) }
     {
         let Some(unit) = &self.units[usize::from(asked.place)] else {
             return Ok(At::Stale(None));
@@ -88,7 +89,10 @@ impl<C: Hold> Array<C> {
         if unit.header != Some(asked) {
             return Ok(At::Stale(unit.header));
         }
-        Ok(At::Data(unit.payload.to_vec(alloc)?))
+        match unit.payload.to_vec(alloc) {
+            Ok(payload) => Ok(At::Data(payload)),
+            Err(refused) => Err(refused),
+        }
     }
 
     // The payload of a slot that has a unit.

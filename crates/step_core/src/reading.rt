@@ -1,11 +1,10 @@
 // What is learned of a record that may be stale.
-ghost use Rattle.std.specs.Prelude.{◌≡◌, ◌<◌, MatchResult, IfOk, IfErr, is_some, true, Some};
+ghost use Rattle.std.specs.Prelude.{◌≡◌, ◌<◌, MatchResult};
 ghost use Rattle.step_core.specs.Steps as say;
 ghost use Rattle.step_core.specs.Steps.{Seen};
-ghost use Rattle.step_core.specs.Flat.{Flat, Stored};
+ghost use Rattle.step_core.specs.Flat.{Flat};
 ghost use Rattle.step_core.specs.Cases.{ReadAtCase, IsLearned};
 ghost use Rattle.step_core.specs.Changes.{MayRefuse};
-ghost use Rattle.step_core.specs.Views.{unit_at};
 ghost use Rattle.step_core.specs.Represents.{ShowsArray};
 
 use crate::array::Array;
@@ -73,20 +72,10 @@ impl<C: Hold> Array<C> {
         };
         match self.see(alloc, asked) {
             Ok(At::Data(payload)) => Ok(Reading::of(asked, payload)),
-            Ok(At::Stale(_)) => self.learn(alloc, newest),
-            Err(_) => Err(Refusal::Memory),
-        }
-    }
-
-    // The newest record of a block with its payload.
-    fn learn(&self, alloc: Global, newest: Record) -> Result<Reading, Refusal>
-        requires { is_some (unit_at self.now newest.place) ≡ true }
-        ensures ok { IfOk result (λ reading. (reading.told ≡ newest)
-            × ((u : Stored) × (unit_at self.now newest.place ≡ Some u) × (reading.payload ≡ u.payload))) }
-        ensures err { IfErr result (λ refusal. refusal ≡ Refusal.Memory) }
-    {
-        match self.payload_at(alloc, newest.place) {
-            Ok(payload) => Ok(Reading::of(newest, payload)),
+            Ok(At::Stale(_header)) => match self.payload_at(alloc, newest.place) {
+                Ok(payload) => Ok(Reading::of(newest, payload)),
+                Err(_) => Err(Refusal::Memory),
+            },
             Err(_) => Err(Refusal::Memory),
         }
     }
