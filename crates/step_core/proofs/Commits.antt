@@ -1,7 +1,7 @@
 -- A slot that waits becomes a block's newest place: what is seen of the array then stands for the flat state after it.
 use Rattle.std.proofs.Common.{◌≡◌, ◌≢◌, ℕ, ◌+◌, ◌*◌, ◌/◌, ◌^◌, ◌<◌, ◌≤◌, Bool, true, false, not, ◌==◌, ◌&&◌, ◌||◌, cond, is_some, List, [], ◌∷◌, ◌++◌, length, get_or, Contains, refl, sym, ap, ◌∙◌, subst, arith, ◌⊎◌, inl, inr, Option, Some, None, nat_le}
 use Rattle.std.proofs.Math.ListN.{set}
-use Rattle.std.proofs.lemmas.List.{length-set, get_or-set_same, get_or-set_other}
+use Rattle.std.proofs.lemmas.List.{append-nil, append_assoc, length-set, get_or-set_same, get_or-set_other}
 use Rattle.std.proofs.lemmas.List.Elements.{Contains-push_cases}
 use Rattle.std.proofs.lemmas.Bool.{cases_eq}
 use Rattle.std.proofs.lemmas.Bool.Decides.{nat_tests}
@@ -9,16 +9,16 @@ use Rattle.std.proofs.lemmas.Option.{same_Some}
 use Rattle.map_join.specs.declared.records.Record.{Record}
 use Rattle.map_join.specs.Record.{key_of, record_of, record_at, IsRecord}
 use Rattle.map_join.proofs.Joins.{took}
-use Rattle.step_core.specs.Flat.{Flat, Write, Holder, Worker, Ticket, Block, Shut, Content, Fresh, Moved, Stored, put, same_holder, turned, last_write, class_of}
+use Rattle.step_core.specs.Flat.{Flat, Write, Holder, Worker, Ticket, Block, Shut, Content, Fresh, Moved, Stored, put, same_holder, turned, last_write, IsNewest, class_of}
 use Rattle.step_core.specs.Cases.{committed, place_passed, stamped}
 use Rattle.step_core.specs.Changes.{commit_view, passed}
-use Rattle.step_core.specs.Views.{Kept, Nothing, Moving, Newest, is_waiting, ArrayView, kept_at, unit_at, key_at, IsRoomy, IsWhole}
-use Rattle.step_core.specs.Represents.{flat_at, ArraySlot, BlockStands, IsCopy, TicketStands, ShowsArray, is_newest}
+use Rattle.step_core.specs.Views.{Kept, Nothing, Moving, Newest, is_waiting, ArrayView, kept_at, unit_at, key_at, IsWhole}
+use Rattle.step_core.specs.Represents.{flat_at, ArraySlot, BlockStands, IsCopy, TicketStands, ComesNext, IsChain, HeaderTells, HeaderStands, ShowsArray, is_newest}
 use Rattle.step_core.proofs.Pairs.{equal, equal_back, put_here, put_else, turned_here, turned_else}
 use Rattle.step_core.proofs.Pairs.{flip}
 use Rattle.step_core.proofs.Slots.{same_slot}
 use Rattle.step_core.proofs.Kepts.{waiting_none, waiting_kept, waiting_newest}
-use Rattle.step_core.proofs.Newest.{told_again, told_at, untold_at, key_least, place_small}
+use Rattle.step_core.proofs.Newest.{newest_told, newest_unique, told_again, told_at, untold_at, key_least, place_small}
 use Rattle.step_core.proofs.Writes.{key_set}
 
 -- the record that a commit emits
@@ -139,6 +139,177 @@ passed_length : (kept : List Kept) (found : Option Record) → length (passed ke
 passed_length kept None = refl
 passed_length kept (Some old) = length-set kept old.place Nothing
 
+-- a unit that is there
+pub unit_of : (o : Option Stored) → is_some o ≡ true → (u : Stored) × (o ≡ Some u)
+unit_of (Some u) e = (u, refl)
+unit_of None e = absurd (cc)
+
+pub waits_unit : (a : ArrayView) (s : ℕ) → IsWhole a → is_waiting (kept_at a s) ≡ true → (u : Stored) × (unit_at a s ≡ Some u)
+waits_unit a s whole waits = unit_of (unit_at a s) (whole.stored s (waiting_kept (kept_at a s) waits))
+
+-- an array is whole after a commit
+pub commit_whole : (a : ArrayView) (s b v h : ℕ) → IsWhole a → s < 65536 → b < a.sizes.blocks → is_waiting (kept_at a s) ≡ true → IsRecord (emitted b s v h)
+    → IsWhole (commit_view a s b (record_at b (key_at a b)) (emitted b s v h))
+commit_whole a s b v h whole inside block waits ok = record {
+  room = record {
+    kept = length-set (passed a.kept (record_at b (key_at a b))) s (Newest b) ∙ passed_length a.kept (record_at b (key_at a b)) ∙ whole.room.kept;
+    units = length-set a.units s _ ∙ whole.room.units;
+    groups = whole.room.groups;
+    keys = length-set a.keys b _ ∙ whole.room.keys;
+  };
+  blocks = whole.blocks;
+  keys = λ c. keys c (cases_eq c b);
+  fit = λ c. fit c (cases_eq c b);
+  newest = λ c. newest c (cases_eq c b);
+  only = λ t c is. only t c is (cases_eq t s);
+  moving = λ t q is. whole.moving t q (kept_same t (Moving q) is (λ e. cc) (λ e. cc) (cases_eq t s));
+  stored = λ t. stored t (cases_eq t s);
+  sized = λ t x is. sized t x is (cases_eq t s);
+  members = whole.members;
+  owned = whole.owned;
+}
+  where
+    r : Record
+    r = emitted b s v h
+
+    view : ArrayView
+    view = commit_view a s b (record_at b (key_at a b)) (emitted b s v h)
+
+    old : IsOld a s b (record_at b (key_at a b))
+    old = old_place a s b whole waits
+
+    here : key_at view b ≡ key_of r
+    here = let e = whole.room.keys in get_or-set_same a.keys b (key_of r) 0 (omega arith)
+
+    other : (c : ℕ) → (c ≡ b → ⊥) → key_at view c ≡ key_at a c
+    other c ne = get_or-set_other a.keys b c (key_of r) 0 ne
+
+    keys : (c : ℕ) → (c ≡ b) ⊎ (c ≡ b → ⊥) → 0 < key_at view c → 2 ^ 32 ≤ key_at view c
+    keys c (inl e) some = let k : key_at view c ≡ key_of r = ap (key_at view) e ∙ here in let big = key_least r ok in omega arith
+    keys c (inr ne) some = let k = other c ne in let old_key = whole.keys c (omega arith) in omega arith
+
+    fit : (c : ℕ) → (c ≡ b) ⊎ (c ≡ b → ⊥) → key_at view c < 2 ^ 64
+    fit c (inl e) =
+        let k : key_at view c ≡ key_of r = ap (key_at view) e ∙ here in
+        let v = ok.version in let h = ok.hop in let p = ok.place in
+        omega arith
+    fit c (inr ne) = let k = other c ne in let f = whole.fit c in omega arith
+
+    kept_off : (c : ℕ) → (c ≡ b → ⊥) → (p : ℕ) → kept_at a p ≡ Newest c → kept_at view p ≡ Newest c
+    kept_off c ne p is = kept_else a s b (record_at b (key_at a b)) r p away off ∙ is
+      where
+        away : p ≡ s → ⊥
+        away e = waiting_newest (kept_at a s) c waits (sym (ap (kept_at a) e) ∙ is)
+
+        off : (q : Record) → record_at b (key_at a b) ≡ Some q → p ≡ q.place → ⊥
+        off q found e = let same : Newest c ≡ Newest b = sym is ∙ ap (kept_at a) e ∙ old.kept q found in ne (cc)
+
+    newest : (c : ℕ) → (c ≡ b) ⊎ (c ≡ b → ⊥) → 0 < key_at view c → kept_at view (record_of c (key_at view c)).place ≡ Newest c
+    newest c (inl e) some =
+        let place : (record_of c (key_at view c)).place ≡ s =
+        ap (λ n. (record_of n (key_at view n)).place) e ∙ ap (λ k. (record_of b k).place) here ∙ ap (λ (q : Record). q.place) (told_again r ok)
+        in
+        let room = whole.room.kept in
+        ap (kept_at view) place ∙ kept_here a s b (record_at b (key_at a b)) r (omega arith) ∙ ap (λ n. Newest n) (sym e)
+    newest c (inr ne) some =
+        let k = other c ne in
+        ap (λ n. kept_at view (record_of c n).place) k ∙ kept_off c ne (record_of c (key_at a c)).place (whole.newest c (omega arith))
+
+    -- what is kept of a slot after the commit, but for the slot itself and the old place, was kept before
+    kept_off_old : (t : ℕ) (k : Kept) → kept_at view t ≡ k → (k ≡ Nothing → ⊥) → (t ≡ s → ⊥) → kept_at view t ≡ kept_at a t
+    kept_off_old t k is some ne = by_found (record_at b (key_at a b)) refl
+      where
+        same : ((p : Record) → record_at b (key_at a b) ≡ Some p → t ≡ p.place → ⊥) → kept_at view t ≡ kept_at a t
+        same off = kept_else a s b (record_at b (key_at a b)) r t ne off
+
+        by_found : (o : Option Record) → record_at b (key_at a b) ≡ o → kept_at view t ≡ kept_at a t
+        by_found None none = same (λ p found. let bad : None ≡ Some p = sym none ∙ found in absurd (cc))
+        by_found (Some p) found = by_place (cases_eq t p.place)
+          where
+            by_place : (t ≡ p.place) ⊎ (t ≡ p.place → ⊥) → kept_at view t ≡ kept_at a t
+            by_place (inr off) = same (λ x x_is e. off (e ∙ ap (λ (y : Record). y.place) (some_is x p (sym x_is ∙ found))))
+            by_place (inl e) =
+                let room = whole.room.kept in
+                let small = place_small b (key_at a b) p found in
+                let gone : kept_at view t ≡ Nothing =
+                ap (kept_at view) e ∙ ap (λ o. kept_at (commit_view a s b o r) p.place) found ∙ kept_old a s b p r (old.apart p found) (omega arith)
+                in
+                absurd (some (sym is ∙ gone))
+
+    kept_same : (t : ℕ) (k : Kept) → kept_at view t ≡ k → (k ≡ Newest b → ⊥) → (k ≡ Nothing → ⊥) → (t ≡ s) ⊎ (t ≡ s → ⊥) → kept_at a t ≡ k
+    kept_same t k is other some (inl e) =
+        let room = whole.room.kept in absurd (other (sym is ∙ ap (kept_at view) e ∙ kept_here a s b (record_at b (key_at a b)) r (omega arith)))
+    kept_same t k is other some (inr ne) = sym (kept_off_old t k is some ne) ∙ is
+
+    place_here : (record_of b (key_at view b)).place ≡ s
+    place_here = ap (λ k. (record_of b k).place) here ∙ ap (λ (q : Record). q.place) (told_again r ok)
+
+    only : (t c : ℕ) → kept_at view t ≡ Newest c → (t ≡ s) ⊎ (t ≡ s → ⊥) → (0 < key_at view c) × ((record_of c (key_at view c)).place ≡ t)
+    only t c is (inl e) =
+        let room = whole.room.kept in
+        let same : Newest c ≡ Newest b = sym is ∙ ap (kept_at view) e ∙ kept_here a s b (record_at b (key_at a b)) r (omega arith) in
+        let block : c ≡ b = cc in
+        let big = key_least r ok in
+        let k : key_at view c ≡ key_of r = ap (key_at view) block ∙ here in
+        (omega arith, ap (λ n. (record_of n (key_at view n)).place) block ∙ place_here ∙ sym e)
+    only t c is (inr ne) = at (cases_eq c b)
+      where
+        was : kept_at a t ≡ Newest c
+        was = sym (kept_off_old t (Newest c) is (λ e. cc) ne) ∙ is
+
+        before : (0 < key_at a c) × ((record_of c (key_at a c)).place ≡ t)
+        before = whole.only t c was
+
+        at : (c ≡ b) ⊎ (c ≡ b → ⊥) → (0 < key_at view c) × ((record_of c (key_at view c)).place ≡ t)
+        at (inr off) = let k = other c off in let some = before.0 in (omega arith, ap (λ n. (record_of c n).place) k ∙ before.1)
+        at (inl block) =
+            let key : key_at a c ≡ key_at a b = ap (key_at a) block in
+            let some = before.0 in
+            let big = whole.keys b (omega arith) in
+            let found : record_at b (key_at a b) ≡ Some (record_of b (key_at a b)) = told_at b (key_at a b) big in
+            let place : (record_of b (key_at a b)).place ≡ t = ap (λ n. (record_of n (key_at a n)).place) (sym block) ∙ before.1 in
+            let small = place_small b (key_at a b) (record_of b (key_at a b)) found in
+            let room = whole.room.kept in
+            let gone : kept_at view t ≡ Nothing =
+            ap (kept_at view) (sym place) ∙ ap (λ o. kept_at (commit_view a s b o r) (record_of b (key_at a b)).place) found
+            ∙ kept_old a s b (record_of b (key_at a b)) r (old.apart (record_of b (key_at a b)) found) (omega arith)
+            in
+            let bad : Newest c ≡ Nothing = sym is ∙ gone in absurd (cc)
+
+    sized : (t : ℕ) (x : Stored) → unit_at view t ≡ Some x → (t ≡ s) ⊎ (t ≡ s → ⊥) → length x.payload ≡ a.sizes.payload
+    sized t x is (inl e) =
+        let u = waits_unit a s whole waits in
+        let room = whole.room.units in
+        let now : Some (record { header = Some r; payload = u.0.payload }) ≡ Some x =
+        sym (ap (unit_at view) e ∙ get_or-set_same a.units s _ None (omega arith) ∙ ap (λ o. stamped o r) u.1) ∙ is
+        in
+        ap (λ (y : Stored). length y.payload) (sym (some_is _ _ now)) ∙ whole.sized s u.0 u.1
+    sized t x is (inr ne) = whole.sized t x (sym (get_or-set_other a.units s t _ None ne) ∙ is)
+
+    stored : (t : ℕ) → (t ≡ s) ⊎ (t ≡ s → ⊥) → kept_at view t ≢ Nothing → is_some (unit_at view t) ≡ true
+    stored t (inl e) kept =
+        let u = waits_unit a s whole waits in
+        let room = whole.room.units in
+        let long : s < length a.units = omega arith in
+        ap (λ n. is_some (unit_at view n)) e ∙ ap is_some (get_or-set_same a.units s _ None long) ∙ ap (λ o. is_some (stamped o r)) u.1
+    stored t (inr ne) kept = ap is_some (get_or-set_other a.units s t _ None ne) ∙ whole.stored t before
+      where
+        before : kept_at a t ≡ Nothing → ⊥
+        before is = by_found (record_at b (key_at a b)) refl
+          where
+            by_found : (o : Option Record) → record_at b (key_at a b) ≡ o → ⊥
+            by_found o found = kept (kept_else a s b (record_at b (key_at a b)) r t ne off ∙ is)
+              where
+                off : (q : Record) → record_at b (key_at a b) ≡ Some q → t ≡ q.place → ⊥
+                off q place e = let bad : Newest b ≡ Nothing = sym (old.kept q place) ∙ ap (kept_at a) (sym e) ∙ is in cc
+
+-- a chain that goes one record on, which comes next after those before it
+chained : (before log : List Record) (r : Record) → IsChain before log → ((n : Record) → IsNewest (before ++ log) r.block (Some n) → ComesNext n r)
+    → IsChain before (log ++ r ∷ [])
+chained before [] r is next = (λ n newest. next n (subst (λ xs. IsNewest xs r.block (Some n)) (sym (append-nil before)) newest), tt)
+chained before (q ∷ log) r is next =
+    (is.0, chained (before ++ q ∷ []) log r is.1 (λ n newest. next n (subst (λ xs. IsNewest xs r.block (Some n)) (append_assoc before (q ∷ []) log) newest)))
+
 -- all that a commit under version v and hop h needs to be the flat machine's, with the acknowledged writes then
 pub record IsReady (a : ArrayView) (F : Flat) (w s b : ℕ) (u : Stored) (v h : ℕ) (writes : List Write) : Type 0 where
   pub whole : IsWhole a
@@ -150,6 +321,7 @@ pub record IsReady (a : ArrayView) (F : Flat) (w s b : ℕ) (u : Stored) (v h : 
   pub mine : F.held s (Ticket w) ≡ true
   pub ok : IsRecord (emitted b s v h)
   pub above : key_at a b / 2 ^ 16 < v * 2 ^ 16 + h
+  pub next : (n : Record) → record_at b (key_at a b) ≡ Some n → ComesNext n (emitted b s v h)
   pub last : (x : Write) × (last_write writes b ≡ Some x) × (x.version ≡ v) × (x.payload ≡ u.payload)
   pub others : (c : ℕ) → (c ≡ b → ⊥) → last_write writes c ≡ last_write F.writes c
 
@@ -165,24 +337,16 @@ module _ (a : ArrayView) (F : Flat) (w s b : ℕ) (u : Stored) (v h : ℕ) (writ
   old = old_place a s b ready.whole ready.waits
 
   kept_room : s < length a.kept
-  kept_room = let e = ready.shows.room.kept in let i = ready.slot in omega arith
+  kept_room = let e = ready.whole.room.kept in let i = ready.slot in omega arith
 
   units_room : s < length a.units
-  units_room = let e = ready.shows.room.units in let i = ready.slot in omega arith
+  units_room = let e = ready.whole.room.units in let i = ready.slot in omega arith
 
   keys_room : b < length a.keys
-  keys_room = let e = ready.shows.room.keys in let i = ready.block in omega arith
+  keys_room = let e = ready.whole.room.keys in let i = ready.block in omega arith
 
   above : key_at a b < key_of (emitted b s v h)
   above = let e = ready.above in omega arith
-
-  pub room_after : IsRoomy (commit_view a s b (record_at b (key_at a b)) (emitted b s v h))
-  room_after = record {
-    kept = length-set (passed a.kept (record_at b (key_at a b))) s (Newest b) ∙ passed_length a.kept (record_at b (key_at a b)) ∙ ready.shows.room.kept;
-    units = length-set a.units s _ ∙ ready.shows.room.units;
-    groups = ready.shows.room.groups;
-    keys = length-set a.keys b _ ∙ ready.shows.room.keys;
-  }
 
   unit_here : unit_at (commit_view a s b (record_at b (key_at a b)) (emitted b s v h)) s
       ≡ stamped (Some u) (emitted b s v h)
@@ -202,7 +366,7 @@ module _ (a : ArrayView) (F : Flat) (w s b : ℕ) (u : Stored) (v h : ℕ) (writ
       go (inr big) =
           let same : record_of b (key_at a b) ≡ q = some_is _ _ (sym (told_at b (key_at a b) big) ∙ is) in
           let place : (record_of b (key_at a b)).place ≡ q.place = ap (λ (p : Record). p.place) same in
-          let e = ready.shows.room.kept in
+          let e = ready.whole.room.kept in
           omega arith
 
   pub slots_after : (t : ℕ)
@@ -262,14 +426,16 @@ module _ (a : ArrayView) (F : Flat) (w s b : ℕ) (u : Stored) (v h : ℕ) (writ
 
   pub shows_after : ShowsArray (commit_view a s b (record_at b (key_at a b)) (emitted b s v h)) (after a F w s b v h writes)
   shows_after = record {
-    room = room_after;
+    whole = commit_whole a s b v h ready.whole ready.slot ready.block ready.waits ready.ok;
     sizes = ready.shows.sizes;
     drives = ready.shows.drives;
     log = ap (λ l. l ++ emitted b s v h ∷ []) ready.shows.log;
     records = records;
+    chain = chained [] F.emitted e_r ready.shows.chain next;
     map = took F.emitted (emitted b s v h) (key_at a) _ (key_set a.keys (emitted b s v h) keys_room above) ready.shows.map;
     groups = ready.shows.groups;
     slots = slots_after;
+    headers = λ t. headers t (cases_eq t s);
     tickets = λ t. tickets t (cases_eq t s);
     written = λ c. written c (cases_eq c b);
   }
@@ -346,6 +512,38 @@ module _ (a : ArrayView) (F : Flat) (w s b : ℕ) (u : Stored) (v h : ℕ) (writ
               let both : (b == c) ≡ true = sym kept ∙ ap (λ n. F.held n (Block c)) (sym e) ∙ held in
               ne (sym (equal_back b c both))
 
+      next : (n : Record) → IsNewest F.emitted b (Some n) → ComesNext n e_r
+      next n newest = ready.next n (sym (newest_unique F.emitted b ready.shows.records _ _ newest (newest_told a F b ready.shows)))
+
+      -- keys only rise
+      rises : (c : ℕ) → key_at a c ≤ key_at view c
+      rises c = go (cases_eq c b)
+        where
+          go : (c ≡ b) ⊎ (c ≡ b → ⊥) → key_at a c ≤ key_at view c
+          go (inl e) =
+              let now : key_at view c ≡ key_of e_r = ap (key_at view) e ∙ key_here in
+              let old_key : key_at a c ≡ key_at a b = ap (key_at a) e in
+              let more = above in
+              omega arith
+          go (inr ne) = let now : key_at view c ≡ key_at a c = get_or-set_other a.keys b c (key_of e_r) 0 ne in omega arith
+
+      tells : (t : ℕ) (o : Option Record) → HeaderTells (key_at a) t o → HeaderTells (key_at view) t o
+      tells t None was = tt
+      tells t (Some q) was = let most = was.1 in let more = rises q.block in (was.0, omega arith)
+
+      stays : (t : ℕ) (o : Option Stored) → HeaderStands (key_at a) t o → HeaderStands (key_at view) t o
+      stays t None was = tt
+      stays t (Some x) was = tells t x.header was
+
+      headers : (t : ℕ) → (t ≡ s) ⊎ (t ≡ s → ⊥) → HeaderStands (key_at view) t (put F.units s (stamped (F.units s) e_r) t)
+      headers t (inl e) =
+          let now : put F.units s (stamped (F.units s) e_r) t ≡ Some (record { header = Some e_r; payload = u.payload }) =
+          ap (put F.units s (stamped (F.units s) e_r)) e ∙ put_here F.units s _ ∙ ap (λ o. stamped o e_r) unit_stored
+          in
+          let k = key_here in
+          subst (HeaderStands (key_at view) t) (sym now) (sym e, omega arith)
+      headers t (inr ne) = subst (HeaderStands (key_at view) t) (sym (put_else F.units s _ t ne)) (stays t (F.units t) (ready.shows.headers t))
+
       -- what the other tickets rest on: the newest stamp of the block has risen above theirs
       rests : (o : Option Content) → TicketStands F.writes (key_at a) o → TicketStands writes (key_at view) o
       rests None was = tt
@@ -380,120 +578,6 @@ module _ (a : ArrayView) (F : Flat) (w s b : ℕ) (u : Stored) (v h : ℕ) (writ
       written : (c : ℕ) → (c ≡ b) ⊎ (c ≡ b → ⊥) → BlockStands G c (key_at view c)
       written c (inl e) = subst (λ n. BlockStands G n (key_at view n)) (sym e) here
       written c (inr ne) = elsewhere c ne
-
--- a unit that is there
-pub unit_of : (o : Option Stored) → is_some o ≡ true → (u : Stored) × (o ≡ Some u)
-unit_of (Some u) e = (u, refl)
-unit_of None e = absurd (cc)
-
-pub waits_unit : (a : ArrayView) (s : ℕ) → IsWhole a → is_waiting (kept_at a s) ≡ true → (u : Stored) × (unit_at a s ≡ Some u)
-waits_unit a s whole waits = unit_of (unit_at a s) (whole.stored s (waiting_kept (kept_at a s) waits))
-
--- an array is whole after a commit
-pub commit_whole : (a : ArrayView) (s b v h : ℕ) → IsWhole a → s < 65536 → b < a.sizes.blocks → is_waiting (kept_at a s) ≡ true → IsRecord (emitted b s v h)
-    → IsWhole (commit_view a s b (record_at b (key_at a b)) (emitted b s v h))
-commit_whole a s b v h whole inside block waits ok = record {
-  room = record {
-    kept = length-set (passed a.kept (record_at b (key_at a b))) s (Newest b) ∙ passed_length a.kept (record_at b (key_at a b)) ∙ whole.room.kept;
-    units = length-set a.units s _ ∙ whole.room.units;
-    groups = whole.room.groups;
-    keys = length-set a.keys b _ ∙ whole.room.keys;
-  };
-  blocks = whole.blocks;
-  keys = λ c. keys c (cases_eq c b);
-  fit = λ c. fit c (cases_eq c b);
-  newest = λ c. newest c (cases_eq c b);
-  moving = λ t q is. whole.moving t q (kept_moving t q is (cases_eq t s));
-  stored = λ t. stored t (cases_eq t s);
-  members = whole.members;
-}
-  where
-    r : Record
-    r = emitted b s v h
-
-    view : ArrayView
-    view = commit_view a s b (record_at b (key_at a b)) (emitted b s v h)
-
-    old : IsOld a s b (record_at b (key_at a b))
-    old = old_place a s b whole waits
-
-    here : key_at view b ≡ key_of r
-    here = let e = whole.room.keys in get_or-set_same a.keys b (key_of r) 0 (omega arith)
-
-    other : (c : ℕ) → (c ≡ b → ⊥) → key_at view c ≡ key_at a c
-    other c ne = get_or-set_other a.keys b c (key_of r) 0 ne
-
-    keys : (c : ℕ) → (c ≡ b) ⊎ (c ≡ b → ⊥) → 0 < key_at view c → 2 ^ 32 ≤ key_at view c
-    keys c (inl e) some = let k : key_at view c ≡ key_of r = ap (key_at view) e ∙ here in let big = key_least r ok in omega arith
-    keys c (inr ne) some = let k = other c ne in let old_key = whole.keys c (omega arith) in omega arith
-
-    fit : (c : ℕ) → (c ≡ b) ⊎ (c ≡ b → ⊥) → key_at view c < 2 ^ 64
-    fit c (inl e) =
-        let k : key_at view c ≡ key_of r = ap (key_at view) e ∙ here in
-        let v = ok.version in let h = ok.hop in let p = ok.place in
-        omega arith
-    fit c (inr ne) = let k = other c ne in let f = whole.fit c in omega arith
-
-    kept_off : (c : ℕ) → (c ≡ b → ⊥) → (p : ℕ) → kept_at a p ≡ Newest c → kept_at view p ≡ Newest c
-    kept_off c ne p is = kept_else a s b (record_at b (key_at a b)) r p away off ∙ is
-      where
-        away : p ≡ s → ⊥
-        away e = waiting_newest (kept_at a s) c waits (sym (ap (kept_at a) e) ∙ is)
-
-        off : (q : Record) → record_at b (key_at a b) ≡ Some q → p ≡ q.place → ⊥
-        off q found e = let same : Newest c ≡ Newest b = sym is ∙ ap (kept_at a) e ∙ old.kept q found in ne (cc)
-
-    newest : (c : ℕ) → (c ≡ b) ⊎ (c ≡ b → ⊥) → 0 < key_at view c → kept_at view (record_of c (key_at view c)).place ≡ Newest c
-    newest c (inl e) some =
-        let place : (record_of c (key_at view c)).place ≡ s =
-        ap (λ n. (record_of n (key_at view n)).place) e ∙ ap (λ k. (record_of b k).place) here ∙ ap (λ (q : Record). q.place) (told_again r ok)
-        in
-        let room = whole.room.kept in
-        ap (kept_at view) place ∙ kept_here a s b (record_at b (key_at a b)) r (omega arith) ∙ ap (λ n. Newest n) (sym e)
-    newest c (inr ne) some =
-        let k = other c ne in
-        ap (λ n. kept_at view (record_of c n).place) k ∙ kept_off c ne (record_of c (key_at a c)).place (whole.newest c (omega arith))
-
-    -- a copy that waits after the commit did before
-    kept_moving : (t : ℕ) (q : Record) → kept_at view t ≡ Moving q → (t ≡ s) ⊎ (t ≡ s → ⊥) → kept_at a t ≡ Moving q
-    kept_moving t q is (inl e) =
-        let room = whole.room.kept in
-        let bad : Newest b ≡ Moving q = sym (ap (kept_at view) e ∙ kept_here a s b (record_at b (key_at a b)) r (omega arith)) ∙ is in absurd (cc)
-    kept_moving t q is (inr ne) = by_found (record_at b (key_at a b)) refl
-      where
-        same : ((p : Record) → record_at b (key_at a b) ≡ Some p → t ≡ p.place → ⊥) → kept_at a t ≡ Moving q
-        same off = sym (kept_else a s b (record_at b (key_at a b)) r t ne off) ∙ is
-
-        by_found : (o : Option Record) → record_at b (key_at a b) ≡ o → kept_at a t ≡ Moving q
-        by_found None none = same (λ p found. let bad : None ≡ Some p = sym none ∙ found in absurd (cc))
-        by_found (Some p) found = by_place (cases_eq t p.place)
-          where
-            by_place : (t ≡ p.place) ⊎ (t ≡ p.place → ⊥) → kept_at a t ≡ Moving q
-            by_place (inr off) = same (λ x x_is e. off (e ∙ ap (λ (y : Record). y.place) (some_is x p (sym x_is ∙ found))))
-            by_place (inl e) =
-                let room = whole.room.kept in
-                let small = place_small b (key_at a b) p found in
-                let gone : kept_at view t ≡ Nothing =
-                ap (kept_at view) e ∙ ap (λ o. kept_at (commit_view a s b o r) p.place) found ∙ kept_old a s b p r (old.apart p found) (omega arith)
-                in
-                let bad : Nothing ≡ Moving q = sym gone ∙ is in absurd (cc)
-
-    stored : (t : ℕ) → (t ≡ s) ⊎ (t ≡ s → ⊥) → kept_at view t ≢ Nothing → is_some (unit_at view t) ≡ true
-    stored t (inl e) kept =
-        let u = waits_unit a s whole waits in
-        let room = whole.room.units in
-        let long : s < length a.units = omega arith in
-        ap (λ n. is_some (unit_at view n)) e ∙ ap is_some (get_or-set_same a.units s _ None long) ∙ ap (λ o. is_some (stamped o r)) u.1
-    stored t (inr ne) kept = ap is_some (get_or-set_other a.units s t _ None ne) ∙ whole.stored t before
-      where
-        before : kept_at a t ≡ Nothing → ⊥
-        before is = by_found (record_at b (key_at a b)) refl
-          where
-            by_found : (o : Option Record) → record_at b (key_at a b) ≡ o → ⊥
-            by_found o found = kept (kept_else a s b (record_at b (key_at a b)) r t ne off ∙ is)
-              where
-                off : (q : Record) → record_at b (key_at a b) ≡ Some q → t ≡ q.place → ⊥
-                off q place e = let bad : Newest b ≡ Nothing = sym (old.kept q place) ∙ ap (kept_at a) (sym e) ∙ is in cc
 
 -- a slot other than the old place is kept as before
 pub passed_apart : (kept : List Kept) (s : ℕ) (found : Option Record) → ((q : Record) → found ≡ Some q → q.place ≡ s → ⊥)

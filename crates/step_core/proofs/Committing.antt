@@ -207,6 +207,7 @@ commit_fresh a F w s b whole inside block waits t left room shows = (
       mine = t.mine;
       ok = fresh_ok a s b whole inside block left;
       above = above (key_at a b) key_or;
+      next = λ n is. inl (ap next_version is, refl);
       last = (new, last_here F.writes new, refl, refl);
       others = λ c ne. last_else F.writes new c ne;
     }
@@ -266,6 +267,9 @@ commit_moved a F w s b q whole inside block waits t now room shows = (
       mine = t.mine;
       ok = moved_ok a s b q whole inside block waits now;
       above = let e = stamp in omega arith;
+      next = λ n is.
+          let same : n ≡ now.newest = same_Some _ _ (sym is ∙ now.found_is) in
+          inr (sym (ap (λ (x : Record). x.version) same ∙ now.version), ap (λ i. i + 1) (sym (ap (λ (x : Record). x.hop) same ∙ now.hop)));
       last = last;
       others = λ c ne. refl;
     }

@@ -47,6 +47,17 @@ some_class None some = absurd (some refl)
 unkept : (a : ArrayView) (F : Flat) (s : ℕ) → kept_at a s ≡ Nothing → ShowsArray a F → IsKept F s → ⊥
 unkept a F s free shows kept = let t = (kept_iff a F s shows).1 kept in let no : false ≡ true = sym (ap is_kept free) ∙ t in absurd (cc)
 
+-- an array is whole after a copy
+pub copy_whole : (a : ArrayView) (s : ℕ) (r : Record) (u : Stored) → s < 65536 → unit_at a r.place ≡ Some u → copy_reason a s (Some r) ≡ None → IsWhole a
+    → IsWhole (copy_view a s r u.payload)
+copy_whole a s r u inside unit none whole = wait_whole a s (Moving r) u.payload inside can.free refl moves (whole.sized r.place u unit) whole
+  where
+    can : CanCopy a s r
+    can = can_copy a s r none
+
+    moves : (q : Record) → Moving r ≡ Moving q → q.hop < 65535
+    moves q e = let hop : r.hop ≡ q.hop = cc in let small = can.hop in omega arith
+
 -- where nothing speaks against it, the copy is the flat machine's
 pub copy_case : (a : ArrayView) (F : Flat) (w s b : ℕ) (r : Record) (u : Stored) → s < 65536 → record_at b (key_at a b) ≡ Some r → unit_at a r.place ≡ Some u
     → copy_reason a s (Some r) ≡ None → ShowsArray a F → F.held s (Worker w) ≡ true
@@ -81,7 +92,8 @@ copy_case a F w s b r u inside found unit none shows held = (
 
     after : ShowsArray (copy_view a s r y.0.payload) (copied F w s r y.0.payload)
     after = wait_shows a F w s (Moving r) (Moved r.block r.version r.hop y.0.payload) y.0.payload inside can.free (some_class (class_of F s) class)
-        (waits_moving r y.0.payload) (subst (λ n. IsCopy F.writes n r.version r.hop y.0.payload (key_at a n)) block copy) shows
+        (waits_moving r y.0.payload) (subst (λ n. IsCopy F.writes n r.version r.hop y.0.payload (key_at a n)) block copy)
+        (subst (λ x. IsWhole (copy_view a s r x)) y.2 (copy_whole a s r u inside unit none shows.whole)) shows
 
 -- the copy that wants memory would be carried out
 pub copy_wants : (a : ArrayView) (F : Flat) (w s b : ℕ) (r : Record) → IsWhole a → s < 65536 → record_at b (key_at a b) ≡ Some r
@@ -126,13 +138,3 @@ copy_refused a F w s b q some shows held = go (class_at a.sizes.segments (group_
     go (Some c) is_c Pending is_k o is_o e = in_use c is_c (ap is_kept is_k) e
     go (Some c) is_c (Moving m) is_k o is_o e = in_use c is_c (ap is_kept is_k) e
     go (Some c) is_c (Newest d) is_k o is_o e = in_use c is_c (ap is_kept is_k) e
-
--- an array is whole after a copy
-pub copy_whole : (a : ArrayView) (s : ℕ) (r : Record) (x : List ℕ) → s < 65536 → copy_reason a s (Some r) ≡ None → IsWhole a → IsWhole (copy_view a s r x)
-copy_whole a s r x inside none whole = wait_whole a s (Moving r) x inside can.free moves whole
-  where
-    can : CanCopy a s r
-    can = can_copy a s r none
-
-    moves : (q : Record) → Moving r ≡ Moving q → q.hop < 65535
-    moves q e = let hop : r.hop ≡ q.hop = cc in let small = can.hop in omega arith

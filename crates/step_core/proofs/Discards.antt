@@ -37,19 +37,55 @@ free_slot kept o F w s waits is mine = record {
     gone : (v : ℕ) → (discarded F w s).held s (Ticket v) ≡ false
     gone v = turned_here F.held s (Ticket w) (Worker w) (Ticket v) ∙ off v (F.held s (Ticket v)) refl
 
+-- an array is whole after a ticket was given up
+pub discard_whole : (a : ArrayView) (s : ℕ) → s < 65536 → is_waiting (kept_at a s) ≡ true → IsWhole a → IsWhole (discard_view a s)
+discard_whole a s inside waits whole = record {
+  room = record {
+    kept = length-set a.kept s Nothing ∙ whole.room.kept;
+    units = whole.room.units;
+    groups = whole.room.groups;
+    keys = whole.room.keys;
+  };
+  blocks = whole.blocks;
+  keys = whole.keys;
+  fit = whole.fit;
+  newest = newest;
+  only = λ t b is. whole.only t b (before t (Newest b) (λ e. cc) is (cases_eq t s));
+  moving = λ t r is. whole.moving t r (before t (Moving r) (λ e. cc) is (cases_eq t s));
+  stored = λ t kept. whole.stored t (λ none. kept (nothing t none (cases_eq t s)));
+  sized = whole.sized;
+  members = whole.members;
+  owned = whole.owned;
+}
+  where
+    here : kept_at (discard_view a s) s ≡ Nothing
+    here = let e = whole.room.kept in get_or-set_same a.kept s Nothing Nothing (omega arith)
+
+    other : (t : ℕ) → (t ≡ s → ⊥) → kept_at (discard_view a s) t ≡ kept_at a t
+    other t ne = get_or-set_other a.kept s t Nothing Nothing ne
+
+    newest : (b : ℕ) → 0 < key_at a b → kept_at (discard_view a s) (record_of b (key_at a b)).place ≡ Newest b
+    newest b some =
+        let at = whole.newest b some in
+        other (record_of b (key_at a b)).place (λ e. waiting_newest (kept_at a s) b waits (sym (ap (kept_at a) e) ∙ at)) ∙ at
+
+    before : (t : ℕ) (k : Kept) → (k ≡ Nothing → ⊥) → kept_at (discard_view a s) t ≡ k → (t ≡ s) ⊎ (t ≡ s → ⊥) → kept_at a t ≡ k
+    before t k some is (inl e) = absurd (some (sym is ∙ ap (kept_at (discard_view a s)) e ∙ here))
+    before t k some is (inr ne) = sym (other t ne) ∙ is
+
+    nothing : (t : ℕ) → kept_at a t ≡ Nothing → (t ≡ s) ⊎ (t ≡ s → ⊥) → kept_at (discard_view a s) t ≡ Nothing
+    nothing t none (inl e) = ap (kept_at (discard_view a s)) e ∙ here
+    nothing t none (inr ne) = other t ne ∙ none
+
 pub discard_shows : (a : ArrayView) (F : Flat) (w s : ℕ) → s < 65536 → is_waiting (kept_at a s) ≡ true → F.held s (Ticket w) ≡ true
     → ShowsArray a F → ShowsArray (discard_view a s) (discarded F w s)
 discard_shows a F w s inside waits mine shows = record {
-  room = record {
-    kept = length-set a.kept s Nothing ∙ shows.room.kept;
-    units = shows.room.units;
-    groups = shows.room.groups;
-    keys = shows.room.keys;
-  };
+  whole = discard_whole a s inside waits shows.whole;
   sizes = shows.sizes;
   drives = shows.drives;
   log = shows.log;
   records = shows.records;
+  chain = shows.chain;
   map = shows.map;
   groups = shows.groups;
   slots = one_slot a (discard_view a s) F (discarded F w s) s shows.slots
@@ -57,12 +93,13 @@ discard_shows a F w s inside waits mine shows = record {
       (λ t ne. refl)
       (λ t ne. same_slot _ _ (turned_else F.held s (Ticket w) (Worker w) t ne) (put_else F.tickets s None t ne) refl refl)
       here;
+  headers = shows.headers;
   tickets = λ t. tickets t (cases_eq t s);
   written = written;
 }
   where
     kept_room : s < length a.kept
-    kept_room = let e = shows.room.kept in omega arith
+    kept_room = let e = shows.whole.room.kept in omega arith
 
     here : ArraySlot (kept_at (discard_view a s) s) (unit_at a s) (flat_at (discarded F w s) s)
     here = rw (get_or-set_same a.kept s Nothing Nothing kept_room) (free_slot (kept_at a s) (unit_at a s) F w s waits (shows.slots s) mine)
@@ -101,40 +138,3 @@ ticket_held a F w s waits shows mine =
 pub discard_refused : (a : ArrayView) (F : Flat) (w s : ℕ) → is_waiting (kept_at a s) ≡ false → ShowsArray a F → DiscardCase F w s (Refused NoTicket) F
 discard_refused a F w s waits shows =
     ((shows.slots s).tickets ((shows.slots s).ticket ∙ not_waiting (kept_at a s) (unit_at a s) waits) w, refl)
-
--- an array is whole after a ticket was given up
-pub discard_whole : (a : ArrayView) (s : ℕ) → s < 65536 → is_waiting (kept_at a s) ≡ true → IsWhole a → IsWhole (discard_view a s)
-discard_whole a s inside waits whole = record {
-  room = record {
-    kept = length-set a.kept s Nothing ∙ whole.room.kept;
-    units = whole.room.units;
-    groups = whole.room.groups;
-    keys = whole.room.keys;
-  };
-  blocks = whole.blocks;
-  keys = whole.keys;
-  fit = whole.fit;
-  newest = newest;
-  moving = λ t r is. whole.moving t r (before t r is (cases_eq t s));
-  stored = λ t kept. whole.stored t (λ none. kept (nothing t none (cases_eq t s)));
-  members = whole.members;
-}
-  where
-    here : kept_at (discard_view a s) s ≡ Nothing
-    here = let e = whole.room.kept in get_or-set_same a.kept s Nothing Nothing (omega arith)
-
-    other : (t : ℕ) → (t ≡ s → ⊥) → kept_at (discard_view a s) t ≡ kept_at a t
-    other t ne = get_or-set_other a.kept s t Nothing Nothing ne
-
-    newest : (b : ℕ) → 0 < key_at a b → kept_at (discard_view a s) (record_of b (key_at a b)).place ≡ Newest b
-    newest b some =
-        let at = whole.newest b some in
-        other (record_of b (key_at a b)).place (λ e. waiting_newest (kept_at a s) b waits (sym (ap (kept_at a) e) ∙ at)) ∙ at
-
-    before : (t : ℕ) (r : Record) → kept_at (discard_view a s) t ≡ Moving r → (t ≡ s) ⊎ (t ≡ s → ⊥) → kept_at a t ≡ Moving r
-    before t r is (inl e) = let bad : Nothing ≡ Moving r = sym (ap (kept_at (discard_view a s)) e ∙ here) ∙ is in absurd (cc)
-    before t r is (inr ne) = sym (other t ne) ∙ is
-
-    nothing : (t : ℕ) → kept_at a t ≡ Nothing → (t ≡ s) ⊎ (t ≡ s → ⊥) → kept_at (discard_view a s) t ≡ Nothing
-    nothing t none (inl e) = ap (kept_at (discard_view a s)) e ∙ here
-    nothing t none (inr ne) = other t ne ∙ none

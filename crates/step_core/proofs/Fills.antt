@@ -14,10 +14,10 @@ use Rattle.step_core.specs.Steps.{Filled, Refused}
 use Rattle.step_core.specs.Cases.{FillCase, filled, ticketed}
 use Rattle.step_core.specs.Changes.{wait_view, fill_view, fill_reason, fill_reason_of, MayRefuse}
 use Rattle.step_core.specs.Views.{Kept, Nothing, Pending, Moving, Newest, ArrayView, kept_at, unit_at, key_at, group_at, is_kept, is_waiting, IsWhole}
-use Rattle.step_core.specs.Represents.{flat_at, ArraySlot, IsWritten, BlockStands, TicketStands, ShowsArray, waiting}
+use Rattle.step_core.specs.Represents.{flat_at, ArraySlot, IsWritten, BlockStands, HeaderStands, TicketStands, ShowsArray, waiting}
 use Rattle.step_core.proofs.Pairs.{equal, equal_back, put_here, put_else, turned_here, turned_else}
 use Rattle.step_core.proofs.Slots.{same_slot, one_slot}
-use Rattle.step_core.proofs.Kepts.{nothing_kept, kept_iff, waiting_none}
+use Rattle.step_core.proofs.Kepts.{nothing_kept, kept_iff, waiting_none, waiting_newest}
 
 -- the class of a slot is what is seen of it
 pub class_seen : (a : ArrayView) (F : Flat) (s : ℕ) → ShowsArray a F → class_of F s ≡ class_at a.sizes.segments (group_at a) s
@@ -62,20 +62,75 @@ ticket_slot kept content o F w s x now is classed = record {
     some_none : (Some content) ≡ None → ⊥
     some_none e = cc
 
-pub wait_shows : (a : ArrayView) (F : Flat) (w s : ℕ) (kept : Kept) (content : Content) (x : List ℕ) → s < 65536 → kept_at a s ≡ Nothing
-    → is_some (class_of F s) ≡ true → Waits kept content x → TicketStands F.writes (key_at a) (Some content)
-    → ShowsArray a F → ShowsArray (wait_view a s kept x) (ticketed F w s content x)
-wait_shows a F w s kept content x inside free classed now stands shows = record {
+-- an array is whole after a slot was made to wait
+pub wait_whole : (a : ArrayView) (s : ℕ) (kept : Kept) (x : List ℕ) → s < 65536 → kept_at a s ≡ Nothing
+    → is_waiting kept ≡ true → ((r : Record) → kept ≡ Moving r → r.hop < 65535) → length x ≡ a.sizes.payload → IsWhole a → IsWhole (wait_view a s kept x)
+wait_whole a s kept x inside free waits moves long whole = record {
   room = record {
-    kept = length-set a.kept s kept ∙ shows.room.kept;
-    units = length-set a.units s _ ∙ shows.room.units;
-    groups = shows.room.groups;
-    keys = shows.room.keys;
+    kept = length-set a.kept s kept ∙ whole.room.kept;
+    units = length-set a.units s _ ∙ whole.room.units;
+    groups = whole.room.groups;
+    keys = whole.room.keys;
   };
+  blocks = whole.blocks;
+  keys = whole.keys;
+  fit = whole.fit;
+  newest = newest;
+  only = λ t b is. only t b is (cases_eq t s);
+  moving = λ t r is. moving t r is (cases_eq t s);
+  stored = λ t kept. stored t kept (cases_eq t s);
+  sized = λ t u is. sized t u is (cases_eq t s);
+  members = whole.members;
+  owned = whole.owned;
+}
+  where
+    newest : (b : ℕ) → 0 < key_at a b → kept_at (wait_view a s kept x) (record_of b (key_at a b)).place ≡ Newest b
+    newest b some =
+        let at = whole.newest b some in
+        let apart : (record_of b (key_at a b)).place ≢ s = λ e.
+        let no : Newest b ≡ Nothing = sym at ∙ ap (kept_at a) e ∙ free in absurd (cc)
+        in
+        get_or-set_other a.kept s (record_of b (key_at a b)).place kept Nothing apart ∙ at
+
+    kept_here : kept_at (wait_view a s kept x) s ≡ kept
+    kept_here = let room = whole.room.kept in get_or-set_same a.kept s kept Nothing (omega arith)
+
+    only : (t b : ℕ) → kept_at (wait_view a s kept x) t ≡ Newest b → (t ≡ s) ⊎ (t ≡ s → ⊥) → (0 < key_at a b) × ((record_of b (key_at a b)).place ≡ t)
+    only t b is (inl e) = absurd (waiting_newest kept b waits (sym (ap (kept_at (wait_view a s kept x)) e ∙ kept_here) ∙ is))
+    only t b is (inr ne) = whole.only t b (sym (get_or-set_other a.kept s t kept Nothing ne) ∙ is)
+
+    sized : (t : ℕ) (u : Stored) → unit_at (wait_view a s kept x) t ≡ Some u → (t ≡ s) ⊎ (t ≡ s → ⊥) → length u.payload ≡ a.sizes.payload
+    sized t u is (inl e) =
+        let room = whole.room.units in
+        let here : Some (record { header = None; payload = x }) ≡ Some u =
+        sym (ap (unit_at (wait_view a s kept x)) e ∙ get_or-set_same a.units s _ None (omega arith)) ∙ is
+        in
+        ap (λ (v : Stored). length v.payload) (sym (same_Some _ _ here)) ∙ long
+    sized t u is (inr ne) = whole.sized t u (sym (get_or-set_other a.units s t _ None ne) ∙ is)
+
+    moving : (t : ℕ) (r : Record) → kept_at (wait_view a s kept x) t ≡ Moving r → (t ≡ s) ⊎ (t ≡ s → ⊥) → r.hop < 65535
+    moving t r is (inl e) = moves r (sym (ap (kept_at (wait_view a s kept x)) e ∙ kept_here) ∙ is)
+    moving t r is (inr ne) = whole.moving t r (sym (get_or-set_other a.kept s t kept Nothing ne) ∙ is)
+
+    stored : (t : ℕ) → kept_at (wait_view a s kept x) t ≢ Nothing → (t ≡ s) ⊎ (t ≡ s → ⊥) → is_some (unit_at (wait_view a s kept x) t) ≡ true
+    stored t is (inl e) =
+        let room = whole.room.units in
+        let long : s < length a.units = omega arith in
+        rw (e, get_or-set_same a.units s (Some (record { header = None; payload = x })) None long) refl
+    stored t is (inr ne) =
+        ap is_some (get_or-set_other a.units s t (Some (record { header = None; payload = x })) None ne)
+        ∙ whole.stored t (λ e. is (get_or-set_other a.kept s t kept Nothing ne ∙ e))
+
+pub wait_shows : (a : ArrayView) (F : Flat) (w s : ℕ) (kept : Kept) (content : Content) (x : List ℕ) → s < 65536 → kept_at a s ≡ Nothing
+    → is_some (class_of F s) ≡ true → Waits kept content x → TicketStands F.writes (key_at a) (Some content) → IsWhole (wait_view a s kept x)
+    → ShowsArray a F → ShowsArray (wait_view a s kept x) (ticketed F w s content x)
+wait_shows a F w s kept content x inside free classed now stands whole shows = record {
+  whole = whole;
   sizes = shows.sizes;
   drives = shows.drives;
   log = shows.log;
   records = shows.records;
+  chain = shows.chain;
   map = shows.map;
   groups = shows.groups;
   slots = one_slot a (wait_view a s kept x) F (ticketed F w s content x) s shows.slots
@@ -83,15 +138,16 @@ wait_shows a F w s kept content x inside free classed now stands shows = record 
       (λ t ne. get_or-set_other a.units s t _ None ne)
       (λ t ne. same_slot _ _ (turned_else F.held s (Worker w) (Ticket w) t ne) (put_else F.tickets s _ t ne) (put_else F.units s _ t ne) refl)
       here;
+  headers = λ t. headers t (cases_eq t s);
   tickets = λ t. tickets t (cases_eq t s);
   written = written;
 }
   where
     kept_room : s < length a.kept
-    kept_room = let e = shows.room.kept in omega arith
+    kept_room = let e = shows.whole.room.kept in omega arith
 
     units_room : s < length a.units
-    units_room = let e = shows.room.units in omega arith
+    units_room = let e = shows.whole.room.units in omega arith
 
     old : ArraySlot Nothing (unit_at a s) (flat_at F s)
     old = subst (λ k. ArraySlot k (unit_at a s) (flat_at F s)) free (shows.slots s)
@@ -99,6 +155,10 @@ wait_shows a F w s kept content x inside free classed now stands shows = record 
     here : ArraySlot (kept_at (wait_view a s kept x) s) (unit_at (wait_view a s kept x) s) (flat_at (ticketed F w s content x) s)
     here = rw (get_or-set_same a.kept s kept Nothing kept_room, get_or-set_same a.units s (Some (record { header = None; payload = x })) None units_room)
         (ticket_slot kept content (unit_at a s) F w s x now old classed)
+
+    headers : (t : ℕ) → (t ≡ s) ⊎ (t ≡ s → ⊥) → HeaderStands (key_at a) t (put F.units s (Some (record { header = None; payload = x })) t)
+    headers t (inl e) = subst (HeaderStands (key_at a) t) (sym (ap (put F.units s (Some (record { header = None; payload = x }))) e ∙ put_here F.units s _)) tt
+    headers t (inr ne) = subst (HeaderStands (key_at a) t) (sym (put_else F.units s _ t ne)) (shows.headers t)
 
     tickets : (t : ℕ) → (t ≡ s) ⊎ (t ≡ s → ⊥) → TicketStands F.writes (key_at a) (put F.tickets s (Some content) t)
     tickets t (inl e) = subst (TicketStands F.writes (key_at a)) (sym (ap (put F.tickets s (Some content)) e ∙ put_here F.tickets s (Some content))) stands
@@ -118,10 +178,26 @@ wait_shows a F w s kept content x inside free classed now stands shows = record 
               place = ap (λ (h : Holder → Bool). h (Block b)) (turned_else F.held s (Worker w) (Ticket w) (record_of b (key_at a b)).place apart) ∙ y.place;
             }
 
+free_of : (c : Option Class) (k : Kept) → fill_reason_of c k ≡ None → k ≡ Nothing
+free_of (Some Mirrored) Nothing e = refl
+free_of (Some Mirrored) Pending e = absurd (cc)
+free_of (Some Mirrored) (Moving r) e = absurd (cc)
+free_of (Some Mirrored) (Newest b) e = absurd (cc)
+free_of (Some Parity) k e = absurd (cc)
+free_of None k e = absurd (cc)
+
+-- nothing is kept of a slot that can be filled
+pub fill_free : (a : ArrayView) (s : ℕ) → fill_reason a s ≡ None → kept_at a s ≡ Nothing
+fill_free a s none = free_of (class_at a.sizes.segments (group_at a) s) (kept_at a s) none
+
+-- and whole after a fill
+pub fill_whole : (a : ArrayView) (s : ℕ) (x : List ℕ) → s < 65536 → fill_reason a s ≡ None → length x ≡ a.sizes.payload → IsWhole a → IsWhole (fill_view a s x)
+fill_whole a s x inside none long whole = wait_whole a s Pending x inside (fill_free a s none) refl (λ r e. absurd (cc)) long whole
+
 -- where nothing speaks against it, the fill is the flat machine's
-pub fill_case : (a : ArrayView) (F : Flat) (w s : ℕ) (x : List ℕ) → s < 65536 → fill_reason a s ≡ None → ShowsArray a F → F.held s (Worker w) ≡ true
-    → (G : Flat) × (FillCase F w s x (Filled s) G) × (ShowsArray (fill_view a s x) G)
-fill_case a F w s x inside none shows held = go (class_at a.sizes.segments (group_at a) s) refl (kept_at a s) refl
+pub fill_case : (a : ArrayView) (F : Flat) (w s : ℕ) (x : List ℕ) → s < 65536 → fill_reason a s ≡ None → length x ≡ a.sizes.payload → ShowsArray a F
+    → F.held s (Worker w) ≡ true → (G : Flat) × (FillCase F w s x (Filled s) G) × (ShowsArray (fill_view a s x) G)
+fill_case a F w s x inside none long shows held = go (class_at a.sizes.segments (group_at a) s) refl (kept_at a s) refl
   where
     go : (c : Option Class) → class_at a.sizes.segments (group_at a) s ≡ c → (k : Kept) → kept_at a s ≡ k
         → (G : Flat) × (FillCase F w s x (Filled s) G) × (ShowsArray (fill_view a s x) G)
@@ -129,8 +205,12 @@ fill_case a F w s x inside none shows held = go (class_at a.sizes.segments (grou
       where
         by_cases : (c : Option Class) → class_of F s ≡ c → (k : Kept) → kept_at a s ≡ k → fill_reason_of c k ≡ None
             → (G : Flat) × (FillCase F w s x (Filled s) G) × (ShowsArray (fill_view a s x) G)
-        by_cases (Some Mirrored) is_c Nothing is_k e =
-            (filled F w s x, (refl, held, is_c, unkept, refl), wait_shows a F w s Pending (Fresh x) x inside is_k (ap is_some is_c) (waits_fresh x) tt shows)
+        by_cases (Some Mirrored) is_c Nothing is_k e = (
+          filled F w s x,
+          (refl, held, is_c, unkept, refl),
+          wait_shows a F w s Pending (Fresh x) x inside is_k (ap is_some is_c) (waits_fresh x) tt
+              (fill_whole a s x inside none long shows.whole) shows,
+        )
           where
             unkept : IsKept F s → ⊥
             unkept kept = let t = (kept_iff a F s shows).1 kept in let no : false ≡ true = sym (ap is_kept is_k) ∙ t in absurd (cc)
@@ -158,65 +238,6 @@ fill_refused a F w s x r some shows held = go (class_at a.sizes.segments (group_
 
     go : (c : Option Class) → class_at a.sizes.segments (group_at a) s ≡ c → (k : Kept) → kept_at a s ≡ k → MayRefuse r ((G : Flat) × (FillCase F w s x (Filled s) G)) (FillCase F w s x (Refused r) F)
     go c is_c k is_k = by_cases c (class_seen a F s shows ∙ is_c) k is_k (sym (ap (λ o. fill_reason_of o (kept_at a s)) is_c ∙ ap (fill_reason_of c) is_k) ∙ some)
-
-free_of : (c : Option Class) (k : Kept) → fill_reason_of c k ≡ None → k ≡ Nothing
-free_of (Some Mirrored) Nothing e = refl
-free_of (Some Mirrored) Pending e = absurd (cc)
-free_of (Some Mirrored) (Moving r) e = absurd (cc)
-free_of (Some Mirrored) (Newest b) e = absurd (cc)
-free_of (Some Parity) k e = absurd (cc)
-free_of None k e = absurd (cc)
-
--- nothing is kept of a slot that can be filled
-pub fill_free : (a : ArrayView) (s : ℕ) → fill_reason a s ≡ None → kept_at a s ≡ Nothing
-fill_free a s none = free_of (class_at a.sizes.segments (group_at a) s) (kept_at a s) none
-
--- an array is whole after a slot was made to wait
-pub wait_whole : (a : ArrayView) (s : ℕ) (kept : Kept) (x : List ℕ) → s < 65536 → kept_at a s ≡ Nothing
-    → ((r : Record) → kept ≡ Moving r → r.hop < 65535) → IsWhole a → IsWhole (wait_view a s kept x)
-wait_whole a s kept x inside free moves whole = record {
-  room = record {
-    kept = length-set a.kept s kept ∙ whole.room.kept;
-    units = length-set a.units s _ ∙ whole.room.units;
-    groups = whole.room.groups;
-    keys = whole.room.keys;
-  };
-  blocks = whole.blocks;
-  keys = whole.keys;
-  fit = whole.fit;
-  newest = newest;
-  moving = λ t r is. moving t r is (cases_eq t s);
-  stored = λ t kept. stored t kept (cases_eq t s);
-  members = whole.members;
-}
-  where
-    newest : (b : ℕ) → 0 < key_at a b → kept_at (wait_view a s kept x) (record_of b (key_at a b)).place ≡ Newest b
-    newest b some =
-        let at = whole.newest b some in
-        let apart : (record_of b (key_at a b)).place ≢ s = λ e.
-        let no : Newest b ≡ Nothing = sym at ∙ ap (kept_at a) e ∙ free in absurd (cc)
-        in
-        get_or-set_other a.kept s (record_of b (key_at a b)).place kept Nothing apart ∙ at
-
-    moving : (t : ℕ) (r : Record) → kept_at (wait_view a s kept x) t ≡ Moving r → (t ≡ s) ⊎ (t ≡ s → ⊥) → r.hop < 65535
-    moving t r is (inl e) =
-        let room = whole.room.kept in
-        let long : s < length a.kept = omega arith in
-        moves r (sym (ap (kept_at (wait_view a s kept x)) e ∙ get_or-set_same a.kept s kept Nothing long) ∙ is)
-    moving t r is (inr ne) = whole.moving t r (sym (get_or-set_other a.kept s t kept Nothing ne) ∙ is)
-
-    stored : (t : ℕ) → kept_at (wait_view a s kept x) t ≢ Nothing → (t ≡ s) ⊎ (t ≡ s → ⊥) → is_some (unit_at (wait_view a s kept x) t) ≡ true
-    stored t is (inl e) =
-        let room = whole.room.units in
-        let long : s < length a.units = omega arith in
-        rw (e, get_or-set_same a.units s (Some (record { header = None; payload = x })) None long) refl
-    stored t is (inr ne) =
-        ap is_some (get_or-set_other a.units s t (Some (record { header = None; payload = x })) None ne)
-        ∙ whole.stored t (λ e. is (get_or-set_other a.kept s t kept Nothing ne ∙ e))
-
--- and whole after a fill
-pub fill_whole : (a : ArrayView) (s : ℕ) (x : List ℕ) → s < 65536 → fill_reason a s ≡ None → IsWhole a → IsWhole (fill_view a s x)
-fill_whole a s x inside none whole = wait_whole a s Pending x inside (fill_free a s none) (λ r e. absurd (cc)) whole
 
 -- equal arrays are whole together
 pub as_whole : (b a : ArrayView) → b ≡ a → IsWhole a → IsWhole b

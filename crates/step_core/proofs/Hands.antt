@@ -22,14 +22,16 @@ with_held F held = record F { held = held }
 pub hands_move : (a : ArrayView) (F : Flat) (H : ℕ → Holder → Bool) → ((t : ℕ) (k : Holder) → IsArrays k → H t k ≡ F.held t k)
     → ShowsArray a F → ShowsArray a (with_held F H)
 hands_move a F H same shows = record {
-  room = shows.room;
+  whole = shows.whole;
   sizes = shows.sizes;
   drives = shows.drives;
   log = shows.log;
   records = shows.records;
+  chain = shows.chain;
   map = shows.map;
   groups = shows.groups;
   slots = slots;
+  headers = shows.headers;
   tickets = shows.tickets;
   written = written;
 }

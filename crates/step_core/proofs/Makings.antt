@@ -1,7 +1,7 @@
 -- Making a group in what is seen of an array is the flat machine's case.
-use Rattle.std.proofs.Common.{◌≡◌, ◌≢◌, ℕ, ◌+◌, ◌*◌, ◌/◌, ◌%◌, ◌<◌, ◌≤◌, Bool, true, false, not, ◌==◌, ◌&&◌, cond, nat_lt, nat_le, is_some, All, List, length, get_or, refl, sym, ap, ◌∙◌, subst, arith, ◌⊎◌, inl, inr, Option, Some, None}
+use Rattle.std.proofs.Common.{◌≡◌, ◌≢◌, ℕ, ◌+◌, ◌*◌, ◌/◌, ◌%◌, ◌<◌, ◌≤◌, Bool, true, false, not, ◌==◌, ◌&&◌, cond, nat_lt, nat_le, is_some, All, List, length, replicate, get_or, refl, sym, ap, ◌∙◌, subst, arith, ◌⊎◌, inl, inr, Option, Some, None}
 use Rattle.std.proofs.Math.ListN.{set}
-use Rattle.std.proofs.lemmas.List.{length-set, get_or-set_same, get_or-set_other}
+use Rattle.std.proofs.lemmas.List.{length-replicate, length-set, get_or-set_same, get_or-set_other}
 use Rattle.std.proofs.lemmas.Bool.{cases_eq}
 use Rattle.std.proofs.lemmas.Bool.Decides.{nat_tests}
 use Rattle.std.proofs.lemmas.Option.{same_Some}
@@ -13,14 +13,14 @@ use Rattle.step_core.specs.declared.refusal.Refusal.TheVariants.{BadMember, Same
 use Rattle.step_core.specs.Sizes.{Sizes}
 use Rattle.step_core.specs.Steps.{MadeGroup, Refused}
 use Rattle.step_core.specs.Changes.{MayRefuse}
-use Rattle.step_core.specs.Groups.{Made, slot_count, class_in, AreMembers, AreUnowned, IsLowestFree, IsFull}
+use Rattle.step_core.specs.Groups.{Made, slot_count, class_in, AreMembers, AreApart, AreUnowned, HaveCommon, IsLowestFree, IsFull}
 use Rattle.step_core.specs.Flat.{Flat, Ticket, Block, Stored, class_of}
 use Rattle.step_core.specs.Cases.{made, wiped, MakeCase}
 use Rattle.step_core.specs.Making.{blank, placed, Entered, ArePlaced, IsBlankUnit, IsMakeReason}
 use Rattle.step_core.specs.declared.stored.StoredUnit.{StoredUnit}
 use Rattle.step_core.specs.Kept.{units_of}
 use Rattle.step_core.specs.Views.{Kept, Nothing, Pending, Moving, Newest, ArrayView, kept_at, unit_at, key_at, group_at, is_waiting, IsWhole}
-use Rattle.step_core.specs.Represents.{FlatSlot, flat_at, ArraySlot, IsBlank, BlockStands, ShowsArray, waiting}
+use Rattle.step_core.specs.Represents.{FlatSlot, flat_at, ArraySlot, IsBlank, BlockStands, HeaderStands, ShowsArray, waiting}
 use Rattle.step_core.proofs.Pairs.{equal, put_here, put_else}
 
 -- the slots of a group are those from 128 times its number on
@@ -49,6 +49,20 @@ placed_some units from to u s some = go (nat_le from s && nat_lt s to)
     go true = refl
     go false = some
 
+-- a place that is blank or as it was has the blank's length or the length that it had
+placed_sized : (units : List (Option Stored)) (from to : ℕ) (u : Stored) (size s : ℕ) → length u.payload ≡ size
+    → ((x : Stored) → get_or units s None ≡ Some x → length x.payload ≡ size)
+    → (x : Stored) → placed units from to u s ≡ Some x → length x.payload ≡ size
+placed_sized units from to u size s new old x is = go (nat_le from s && nat_lt s to) is
+  where
+    go : (q : Bool) → cond q (Some u) (get_or units s None) ≡ Some x → length x.payload ≡ size
+    go true e = ap (λ (y : Stored). length y.payload) (sym (same_Some _ _ e)) ∙ new
+    go false e = old x e
+
+-- an extent of two lists is one of the second and the first
+common_flip : (ms ns : List Member) → HaveCommon ms ns → HaveCommon ns ms
+common_flip ms ns (k, x, short, at, (j, low, is)) = (j, x, low, is, (k, short, at))
+
 -- the array with a group entered
 abbrev pub entered : ArrayView → List (Option Stored) → ℕ → Class → List Member → ArrayView
 entered a units g class members = record a { units = units; groups = set a.groups g (Some (record { class = class; members = members })) }
@@ -61,9 +75,9 @@ group_else : (a : ArrayView) (units : List (Option Stored)) (g : ℕ) (class : C
     → group_at (entered a units g class members) h ≡ group_at a h
 group_else a units g class members h ne = get_or-set_other a.groups g h (Some (record { class = class; members = members })) None ne
 
-pub entered_whole : (a b : ArrayView) (g : ℕ) (class : Class) (members : List Member) → IsWhole a → g < 512 → (3 ≤ length members) × (length members ≤ 8)
+pub entered_whole : (a b : ArrayView) (g : ℕ) (class : Class) (members : List Member) → IsWhole a → g < 512 → IsMakeReason a members None
     → Entered a g class members b → IsWhole b
-entered_whole a b g class members whole limit size e = subst IsWhole (sym e.rest) (record {
+entered_whole a b g class members whole limit reason e = subst IsWhole (sym e.rest) (record {
   room = record {
     kept = whole.room.kept;
     units = e.room ∙ whole.room.units;
@@ -74,19 +88,46 @@ entered_whole a b g class members whole limit size e = subst IsWhole (sym e.rest
   keys = whole.keys;
   fit = whole.fit;
   newest = whole.newest;
+  only = whole.only;
   moving = whole.moving;
   stored = λ s kept. ap is_some (e.units s) ∙ placed_some a.units _ _ (blank a.sizes.payload) s (whole.stored s kept);
-  members = λ h m is. sized h m is (cases_eq h g);
+  sized = λ s u is. placed_sized a.units _ _ (blank a.sizes.payload) a.sizes.payload s (length-replicate a.sizes.payload 0) (whole.sized s) u (sym (e.units s) ∙ is);
+  members = λ h m is. members_now h m is (cases_eq h g);
+  owned = λ h i m n h_is i_is common. owned h i m n h_is i_is common (cases_eq h g) (cases_eq i g);
 })
   where
-    sized : (h : ℕ) (m : Made) → group_at (entered a b.units g class members) h ≡ Some m → (h ≡ g) ⊎ (h ≡ g → ⊥) → (3 ≤ length m.members) × (length m.members ≤ 8)
-    sized h m is (inl same) =
+    view : ArrayView
+    view = entered a b.units g class members
+
+    here : (h : ℕ) (m : Made) → group_at view h ≡ Some m → h ≡ g → members ≡ m.members
+    here h m is same =
         let room = whole.room.groups in
-        let here : Some (record { class = class; members = members }) ≡ Some m =
-        sym (group_here a b.units g class members (omega arith)) ∙ ap (group_at (entered a b.units g class members)) (sym same) ∙ is
+        let now : Some (record { class = class; members = members }) ≡ Some m =
+        sym (group_here a b.units g class members (omega arith)) ∙ ap (group_at view) (sym same) ∙ is
         in
-        subst (λ (n : Made). (3 ≤ length n.members) × (length n.members ≤ 8)) (same_Some _ _ here) size
-    sized h m is (inr ne) = whole.members h m (sym (group_else a b.units g class members h ne) ∙ is)
+        ap (λ (n : Made). n.members) (same_Some _ _ now)
+
+    was : (h : ℕ) (m : Made) → group_at view h ≡ Some m → (h ≡ g → ⊥) → group_at a h ≡ Some m
+    was h m is ne = sym (group_else a b.units g class members h ne) ∙ is
+
+    members_now : (h : ℕ) (m : Made) → group_at view h ≡ Some m → (h ≡ g) ⊎ (h ≡ g → ⊥)
+        → (AreMembers a.sizes.extents a.drives m.members) × (AreApart m.members)
+    members_now h m is (inl same) =
+        subst (λ (ms : List Member). (AreMembers a.sizes.extents a.drives ms) × (AreApart ms)) (here h m is same) (reason.0, reason.1)
+    members_now h m is (inr ne) = whole.members h m (was h m is ne)
+
+    -- what one list has in common with another, that has in common with it
+    common_back : (ms ns : List Member) → HaveCommon ms ns → members ≡ ms → HaveCommon ns members
+    common_back ms ns common same = subst (λ xs. HaveCommon ns xs) (sym same) (common_flip ms ns common)
+
+    owned : (h i : ℕ) (m n : Made) → group_at view h ≡ Some m → group_at view i ≡ Some n → HaveCommon m.members n.members
+        → (h ≡ g) ⊎ (h ≡ g → ⊥) → (i ≡ g) ⊎ (i ≡ g → ⊥) → h ≡ i
+    owned h i m n h_is i_is common (inl p) (inl q) = p ∙ sym q
+    owned h i m n h_is i_is common (inr p) (inl q) =
+        absurd (reason.2 h m (was h m h_is p) (subst (λ ms. HaveCommon m.members ms) (sym (here i n i_is q)) common))
+    owned h i m n h_is i_is common (inl p) (inr q) =
+        absurd (reason.2 i n (was i n i_is q) (common_back m.members n.members common (here h m h_is p)))
+    owned h i m n h_is i_is common (inr p) (inr q) = whole.owned h i m n (was h m h_is p) (was i n i_is q) common
 
 and_true : (b : Bool) → (b && true) ≡ b
 and_true true = refl
@@ -104,21 +145,18 @@ bare_kept (Moving r) stored = let bad = stored (λ e. cc) in absurd (cc)
 bare_kept (Newest b) stored = let bad = stored (λ e. cc) in absurd (cc)
 
 pub entered_shows : (a b : ArrayView) (F : Flat) (g : ℕ) (class : Class) (members : List Member) → IsWhole a → g < 512 → group_at a g ≡ None
-    → Entered a g class members b → ShowsArray a F → ShowsArray b (made F class members g)
-entered_shows a b F g class members whole limit free e shows = subst (λ (v : ArrayView). ShowsArray v (made F class members g)) (sym e.rest) (record {
-  room = record {
-    kept = whole.room.kept;
-    units = e.room ∙ whole.room.units;
-    groups = length-set a.groups g _ ∙ whole.room.groups;
-    keys = whole.room.keys;
-  };
+    → IsMakeReason a members None → Entered a g class members b → ShowsArray a F → ShowsArray b (made F class members g)
+entered_shows a b F g class members whole limit free reason e shows = subst (λ (v : ArrayView). ShowsArray v (made F class members g)) (sym e.rest) (record {
+  whole = subst IsWhole e.rest (entered_whole a b g class members whole limit reason e);
   sizes = shows.sizes;
   drives = shows.drives;
   log = shows.log;
   records = shows.records;
+  chain = shows.chain;
   map = shows.map;
   groups = λ h. groups h (cases_eq h g);
   slots = λ s. slots s (cases_eq (s / 128) g);
+  headers = λ s. headers s;
   tickets = shows.tickets;
   written = written;
 })
@@ -208,6 +246,13 @@ entered_shows a b F g class members whole limit free e shows = subst (λ (v : Ar
         held_rest (kept_at a s) (unit_at a s) (unit_at view s) s (shows.slots s) (ap is_some (class_else s ne) ∙ (shows.slots s).there ∙ ap is_some (sym unit))
         (flat_unit s ∙ sym (seen_unit s)) (inr (sym unit))
 
+    headers : (s : ℕ) → HeaderStands (key_at a) s (G.units s)
+    headers s = go ((s / 128 == g) && nat_lt (s % 128) (slot_count F.sizes.segments class (length members)))
+      where
+        go : (q : Bool) → HeaderStands (key_at a) s (cond q (Some (record { header = None; payload = replicate F.sizes.payload 0 })) (F.units s))
+        go true = tt
+        go false = shows.headers s
+
     written : (c : ℕ) → BlockStands G c (key_at a c)
     written c = (
       (shows.written c).0,
@@ -292,4 +337,4 @@ pub make_case : (a b : ArrayView) (F : Flat) (class : Class) (members : List Mem
     → Entered a g class members b → ShowsArray a F
     → (G : Flat) × (MakeCase F class members (MadeGroup g) G) × (ShowsArray b G)
 make_case a b F class members g whole reason lowest e shows =
-    (made F class members g, make_made a F class members g reason lowest shows, entered_shows a b F g class members whole lowest.limit lowest.free e shows)
+    (made F class members g, make_made a F class members g reason lowest shows, entered_shows a b F g class members whole lowest.limit lowest.free reason e shows)

@@ -10,7 +10,7 @@ use Rattle.step_core.specs.declared.group.Group.{Group}
 use Rattle.step_core.specs.Sizes.{Sizes}
 use Rattle.step_core.specs.Kept.{kept_of, kepts_of, stored_of, units_of, made_of, groups_of}
 use Rattle.step_core.specs.Flat.{new_flat}
-use Rattle.step_core.specs.Views.{Nothing, Moving, ArrayView, IsWhole, IsNew}
+use Rattle.step_core.specs.Views.{Nothing, Moving, Newest, ArrayView, IsWhole, IsNew}
 use Rattle.step_core.specs.Represents.{flat_at, ArraySlot, ShowsArray}
 
 pub none_kept : {C : Type 0} (places : List (Place C)) → ((s : ℕ) → get_or places s place.Free ≡ place.Free) → (s : ℕ) → get_or (kepts_of places) s Nothing ≡ Nothing
@@ -29,9 +29,12 @@ new_whole z d a new narrow = record {
   fit = λ b. let e = new.keys b in omega arith;
   keys = λ b some. let e = new.keys b in absurd (omega arith);
   newest = λ b some. let e = new.keys b in absurd (omega arith);
+  only = λ s b is. let bad : Nothing ≡ Newest b = sym (new.kept s) ∙ is in absurd (cc);
   moving = λ s r is. let bad : Nothing ≡ Moving r = sym (new.kept s) ∙ is in absurd (cc);
   stored = λ s kept. absurd (kept (new.kept s));
+  sized = λ s u is. let e = new.units s in absurd (cc);
   members = λ g made is. let e = new.groups g in absurd (cc);
+  owned = λ g h m n is. let e = new.groups g in absurd (cc);
 }
 
 not_there : (r : Record) → Contains [] r → ⊥
@@ -50,16 +53,18 @@ blank_slot s z d = record {
   lone = λ v w one. absurd (cc);
 }
 
-pub new_shows : (z : Sizes) (d : ℕ) (a : ArrayView) → IsNew z d a → ShowsArray a (new_flat z d)
-new_shows z d a new = record {
-  room = new.room;
+pub new_shows : (z : Sizes) (d : ℕ) (a : ArrayView) → IsNew z d a → z.blocks ≤ 65536 → ShowsArray a (new_flat z d)
+new_shows z d a new narrow = record {
+  whole = new_whole z d a new narrow;
   sizes = sym new.sizes_are;
   drives = sym new.drives_are;
   log = sym new.log;
   records = λ r has. absurd (not_there r has);
+  chain = tt;
   map = record { told = λ b some. let e = new.keys b in absurd (omega arith); most = λ r has. absurd (not_there r has) };
   groups = λ g. sym (new.groups g);
   slots = λ s. rw (new.kept s, new.units s) (blank_slot s z d);
+  headers = λ s. tt;
   tickets = λ s. tt;
   written = λ b. (λ none. refl, λ some. let e = new.keys b in absurd (omega arith));
 }

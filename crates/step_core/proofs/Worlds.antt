@@ -58,7 +58,7 @@ ticket_world v F G w s kept content x y b inside waits is leaves rep held shows 
 
     here : HandSlot (kept_at (wait_view v.array s kept x) s) (hand_at (set v.hands s (Waits w)) s) (flat_at (ticketed F w s content y) s)
     here =
-        let long = rep.array.room.kept in
+        let long = rep.array.whole.room.kept in
         let room : s < length v.array.kept = omega arith in
         let e = rep.room in
         let hands : s < length v.hands = omega arith in
@@ -110,7 +110,7 @@ discard_world v F w s b inside is rep held t same z =
 
     here : HandSlot (kept_at (discard_view v.array s) s) (hand_at (set v.hands s (Holds w)) s) (flat_at (discarded F w s) s)
     here =
-        let long = rep.array.room.kept in
+        let long = rep.array.whole.room.kept in
         let room : s < length v.array.kept = omega arith in
         let e = rep.room in
         let hands : s < length v.hands = omega arith in
@@ -173,7 +173,7 @@ commit_hands v F w s b found r writes inside small rep held old t = go (cases_eq
     hands_room = let e = rep.room in omega arith
 
     kept_room : s < length v.array.kept
-    kept_room = let e = rep.array.room.kept in omega arith
+    kept_room = let e = rep.array.whole.room.kept in omega arith
 
     empty_here : (o : Option Record) → ((q : Record) → o ≡ Some q → q.place ≡ s → ⊥) → hand_at (passed_hands v.hands s w o) s ≡ Empty
     empty_here None apart = get_or-set_same v.hands s Empty Empty hands_room
@@ -213,7 +213,7 @@ commit_hands v F w s b found r writes inside small rep held old t = go (cases_eq
 
         kept_is : kept_at (commit_view v.array s b found r) q.place ≡ Nothing
         kept_is = ap (λ o. kept_at (commit_view v.array s b o r) q.place) is
-            ∙ kept_old v.array s b q r (old.apart q is) (let e = rep.array.room.kept in let p = small q is in omega arith)
+            ∙ kept_old v.array s b q r (old.apart q is) (let e = rep.array.whole.room.kept in let p = small q is in omega arith)
 
         hand_is : hand_at (passed_hands v.hands s w found) q.place ≡ Holds w
         hand_is = ap (λ o. hand_at (passed_hands v.hands s w o) q.place) is ∙ get_or-set_same (set v.hands s Empty) q.place (Holds w) Empty long

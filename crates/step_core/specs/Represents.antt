@@ -1,13 +1,13 @@
 -- When an array or a world stands for a flat state.
-use Rattle.std.specs.Prelude.{◌≡◌, ℕ, ◌+◌, ◌*◌, ◌/◌, ◌^◌, ◌<◌, ◌≤◌, ◌==◌, Bool, true, false, is_some, List, length, Contains, Option, Some, None}
+use Rattle.std.specs.Prelude.{◌≡◌, ◌⊎◌, ℕ, ◌+◌, ◌*◌, ◌/◌, ◌^◌, ◌<◌, ◌≤◌, ◌==◌, Bool, true, false, is_some, List, [], ◌∷◌, ◌++◌, length, Contains, Option, Some, None}
 use Rattle.map_join.specs.declared.records.Record.{Record}
-use Rattle.map_join.specs.Record.{record_of, IsRecord}
+use Rattle.map_join.specs.Record.{key_of, record_of, IsRecord}
 use Rattle.map_join.specs.Maps.{IsMapOf}
 use Rattle.step_core.specs.declared.group.Class.{Class}
-use Rattle.step_core.specs.Flat.{Flat, Write, Holder, Worker, Ticket, Block, Shut, Content, Fresh, Moved, Stored, class_of, last_write}
+use Rattle.step_core.specs.Flat.{Flat, Write, Holder, Worker, Ticket, Block, Shut, Content, Fresh, Moved, Stored, class_of, last_write, IsNewest}
 use Rattle.step_core.specs.declared.hand.Hand.{Hand}
 use Rattle.step_core.specs.declared.hand.Hand.TheVariants.{Empty, Holds, Waits}
-use Rattle.step_core.specs.Views.{Kept, Nothing, Pending, Moving, Newest, is_waiting, ArrayView, WorldView, kept_at, hand_at, group_at, unit_at, key_at, IsRoomy}
+use Rattle.step_core.specs.Views.{Kept, Nothing, Pending, Moving, Newest, is_waiting, ArrayView, WorldView, kept_at, hand_at, group_at, unit_at, key_at, IsWhole}
 
 -- what a flat state says of one slot
 pub record FlatSlot : Type 0 where
@@ -69,16 +69,36 @@ TicketStands writes keys None = Unit {0}
 TicketStands writes keys (Some (Fresh x)) = Unit {0}
 TicketStands writes keys (Some (Moved b v h x)) = IsCopy writes b v h x (keys b)
 
+-- each record of a block that has a newest comes next after it: the next version with hop 0, or the same version one hop on
+abbrev pub ComesNext : Record → Record → Type 0
+ComesNext n r = ((r.version ≡ n.version + 1) × (r.hop ≡ 0)) ⊎ ((r.version ≡ n.version) × (r.hop ≡ n.hop + 1))
+
+-- each record of a log comes next after those before it
+abbrev pub IsChain : List Record → List Record → Type 0
+IsChain before [] = Unit {0}
+IsChain before (r ∷ log) = ((n : Record) → IsNewest before r.block (Some n) → ComesNext n r) × IsChain (before ++ r ∷ []) log
+
+-- the header of a unit, where it isn't blank, tells of that very slot, and nothing newer than the newest of its block
+abbrev pub HeaderTells : (ℕ → ℕ) → ℕ → Option Record → Type 0
+HeaderTells keys s None = Unit {0}
+HeaderTells keys s (Some r) = (r.place ≡ s) × (key_of r ≤ keys r.block)
+
+abbrev pub HeaderStands : (ℕ → ℕ) → ℕ → Option Stored → Type 0
+HeaderStands keys s None = Unit {0}
+HeaderStands keys s (Some u) = HeaderTells keys s u.header
+
 -- an array stands for a flat state
 pub record ShowsArray (a : ArrayView) (F : Flat) : Type 0 where
-  pub room : IsRoomy a
+  pub whole : IsWhole a
   pub sizes : F.sizes ≡ a.sizes
   pub drives : F.drives ≡ a.drives
   pub log : F.emitted ≡ a.log
   pub records : (r : Record) → Contains F.emitted r → IsRecord r
+  pub chain : IsChain [] F.emitted
   pub map : IsMapOf F.emitted (key_at a)
   pub groups : (g : ℕ) → F.groups g ≡ group_at a g
   pub slots : (s : ℕ) → ArraySlot (kept_at a s) (unit_at a s) (flat_at F s)
+  pub headers : (s : ℕ) → HeaderStands (key_at a) s (F.units s)
   pub tickets : (s : ℕ) → TicketStands F.writes (key_at a) (F.tickets s)
   pub written : (b : ℕ) → BlockStands F b (key_at a b)
 

@@ -3,7 +3,7 @@ use Rattle.std.specs.Prelude.{◌≡◌, ◌≢◌, ℕ, ◌<◌, ◌≤◌, ◌
 use Rattle.map_join.specs.declared.records.Record.{Record}
 use Rattle.map_join.specs.Record.{record_of}
 use Rattle.step_core.specs.Sizes.{Sizes}
-use Rattle.step_core.specs.Groups.{Made}
+use Rattle.step_core.specs.Groups.{Made, AreMembers, AreApart, HaveCommon}
 use Rattle.step_core.specs.Flat.{Stored}
 use Rattle.step_core.specs.declared.hand.Hand.{Hand}
 use Rattle.step_core.specs.declared.hand.Hand.TheVariants.{Empty, Holds, Waits}
@@ -74,17 +74,20 @@ pub record IsRoomy (a : ArrayView) : Type 0 where
   pub groups : length a.groups ≡ 512
   pub keys : length a.keys ≡ a.sizes.blocks
 
--- what every array keeps: each key is a record's, whose place is kept for that block; what is copied can move on; what is
--- kept has a unit; and groups have three to eight members
+-- what every array keeps: each key is a record's, whose place and no other is kept for that block; what is copied can move
+-- on; what is kept has a unit; units have the payload's length; and groups have members that can be one, no two the same
 pub record IsWhole (a : ArrayView) : Type 0 where
   pub room : IsRoomy a
   pub blocks : a.sizes.blocks ≤ 65536
   pub keys : (b : ℕ) → 0 < key_at a b → 2 ^ 32 ≤ key_at a b
   pub fit : (b : ℕ) → key_at a b < 2 ^ 64
   pub newest : (b : ℕ) → 0 < key_at a b → kept_at a (record_of b (key_at a b)).place ≡ Newest b
+  pub only : (s b : ℕ) → kept_at a s ≡ Newest b → (0 < key_at a b) × ((record_of b (key_at a b)).place ≡ s)
   pub moving : (s : ℕ) (r : Record) → kept_at a s ≡ Moving r → r.hop < 65535
   pub stored : (s : ℕ) → kept_at a s ≢ Nothing → is_some (unit_at a s) ≡ true
-  pub members : (g : ℕ) (made : Made) → group_at a g ≡ Some made → (3 ≤ length made.members) × (length made.members ≤ 8)
+  pub sized : (s : ℕ) (u : Stored) → unit_at a s ≡ Some u → length u.payload ≡ a.sizes.payload
+  pub members : (g : ℕ) (made : Made) → group_at a g ≡ Some made → (AreMembers a.sizes.extents a.drives made.members) × (AreApart made.members)
+  pub owned : (g h : ℕ) (m n : Made) → group_at a g ≡ Some m → group_at a h ≡ Some n → HaveCommon m.members n.members → g ≡ h
 
 -- an array to which nothing has happened
 pub record IsNew (sizes : Sizes) (drives : ℕ) (a : ArrayView) : Type 0 where

@@ -75,7 +75,7 @@ impl<C: Hold> Array<C> {
     ) -> Result<(), AllocError>
         requires free { group_at self.old number ≡ None }
         requires limit { number < 512 }
-        requires members { (3 ≤ length members.now) × (length members.now ≤ 8) }
+        requires reason { IsMakeReason self.old members.now None }
         ensures ok { OnOk result (Entered self.old number class members.now self.new) }
         ensures err { OnErr result (self.new ≡ self.old) }
     {

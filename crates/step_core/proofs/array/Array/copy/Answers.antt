@@ -26,7 +26,7 @@ returns-in-Err-payload_at-clause-flat g c F w shows held =
 pub invariant_of-self : goal.invariant_of-self
 invariant_of-self g c = (
   as_whole _ _ (search rules)
-      (copy_whole c.args.self.now c.slot-slot.result c.in-Ok.source c.in-Ok-payload_at.payload.items (search rules) (search rules) (subst IsWhole c.self.view_is c.self.invariant.0)),
+      (copy_whole c.args.self.now c.slot-slot.result c.in-Ok.source c.in-Ok-payload_at.ensures.0 (search rules) c.in-Ok-payload_at.ensures.1 (search rules) (subst IsWhole c.self.view_is c.self.invariant.0)),
   search rules,
 )
 

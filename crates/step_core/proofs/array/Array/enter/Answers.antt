@@ -19,7 +19,7 @@ returns-clause-ok g c = let long : length c.place_units.new.units.items ≡ leng
 
 pub invariant_of-self : goal.invariant_of-self
 invariant_of-self g c = (
-  entered_whole c.args.self.now _ c.args.number c.args.class c.args.members.now (subst IsWhole c.self.view_is c.self.invariant.0) c.requires.limit c.requires.members
+  entered_whole c.args.self.now _ c.args.number c.args.class c.args.members.now (subst IsWhole c.self.view_is c.self.invariant.0) c.requires.limit c.requires.reason
       (returns-clause-ok g c),
   search rules,
 )

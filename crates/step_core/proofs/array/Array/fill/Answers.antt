@@ -14,7 +14,7 @@ returns-in-Some-clause-flat g c F w shows held =
 pub invariant_of-self : goal.invariant_of-self
 invariant_of-self g c = (
   as_whole _ _ (search rules)
-      (fill_whole c.args.self.now c.slot-slot.result c.args.payload.now (search rules) (search rules) (subst IsWhole c.self.view_is c.self.invariant.0)),
+      (fill_whole c.args.self.now c.slot-slot.result c.args.payload.now (search rules) (search rules) (search rules) (subst IsWhole c.self.view_is c.self.invariant.0)),
   search rules,
 )
 
@@ -23,9 +23,9 @@ returns-clause-flat g c F w shows held =
     let slot = c.of.result in
     let is : slot ≡ g.C.Hold.names c.args.claim = c.of.ensures ∙ c.slot-slot.ensures in
     as_shown (λ G. FillCase F w slot c.args.payload.now (Filled slot) G) _ (fill_view c.args.self.now slot c.args.payload.now) (search rules)
-    (fill_case c.args.self.now F w slot c.args.payload.now (search rules) (search rules) shows (ap (λ s. F.held s (Worker w)) is ∙ held))
+    (fill_case c.args.self.now F w slot c.args.payload.now (search rules) (search rules) (search rules) shows (ap (λ s. F.held s (Worker w)) is ∙ held))
 
 pub returns-in-Err-clause-flat : goal.returns-in-Err-clause-flat
 returns-in-Err-clause-flat g c F w shows held =
-    let x = fill_case c.args.self.now F w (g.C.Hold.names c.args.claim) c.args.payload.now (search rules) (search rules) shows held in
+    let x = fill_case c.args.self.now F w (g.C.Hold.names c.args.claim) c.args.payload.now (search rules) (search rules) (search rules) shows held in
     (x.0, x.1)
