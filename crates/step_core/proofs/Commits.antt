@@ -515,21 +515,29 @@ module _ (a : ArrayView) (F : Flat) (w s b : ℕ) (u : Stored) (v h : ℕ) (writ
       next : (n : Record) → IsNewest F.emitted b (Some n) → ComesNext n e_r
       next n newest = ready.next n (sym (newest_unique F.emitted b ready.shows.records _ _ newest (newest_told a F b ready.shows)))
 
-      -- keys only rise
-      rises : (c : ℕ) → key_at a c ≤ key_at view c
-      rises c = go (cases_eq c b)
-        where
-          go : (c ≡ b) ⊎ (c ≡ b → ⊥) → key_at a c ≤ key_at view c
-          go (inl e) =
-              let now : key_at view c ≡ key_of e_r = ap (key_at view) e ∙ key_here in
-              let old_key : key_at a c ≡ key_at a b = ap (key_at a) e in
-              let more = above in
-              omega arith
-          go (inr ne) = let now : key_at view c ≡ key_at a c = get_or-set_other a.keys b c (key_of e_r) 0 ne in omega arith
-
+      -- the newest version and hop of a block only rise
       tells : (t : ℕ) (o : Option Record) → HeaderTells (key_at a) t o → HeaderTells (key_at view) t o
       tells t None was = tt
-      tells t (Some q) was = let most = was.1 in let more = rises q.block in (was.0, omega arith)
+      tells t (Some q) was = (was.0, was.1, at (cases_eq q.block b) was.2)
+        where
+          at : (q.block ≡ b) ⊎ (q.block ≡ b → ⊥) → (key_of q ≡ key_at a q.block) ⊎ (key_of q / 2 ^ 16 < key_at a q.block / 2 ^ 16)
+              → (key_of q ≡ key_at view q.block) ⊎ (key_of q / 2 ^ 16 < key_at view q.block / 2 ^ 16)
+          at (inr ne) (inl e) = inl (e ∙ sym (get_or-set_other a.keys b q.block (key_of e_r) 0 ne))
+          at (inr ne) (inr below) = let now : key_at view q.block ≡ key_at a q.block = get_or-set_other a.keys b q.block (key_of e_r) 0 ne in inr (omega arith)
+          at (inl same) or = inr (under or)
+            where
+              now : key_at view q.block ≡ key_of e_r
+              now = ap (key_at view) same ∙ key_here
+
+              was_key : key_at a q.block ≡ key_at a b
+              was_key = ap (key_at a) same
+
+              slot : s < 2 ^ 16
+              slot = let i = ready.slot in omega arith
+
+              under : (key_of q ≡ key_at a q.block) ⊎ (key_of q / 2 ^ 16 < key_at a q.block / 2 ^ 16) → key_of q / 2 ^ 16 < key_at view q.block / 2 ^ 16
+              under (inl e) = let n = now in let k = was_key in let up = ready.above in let i = slot in omega arith
+              under (inr below) = let n = now in let k = was_key in let up = ready.above in let i = slot in omega arith
 
       stays : (t : ℕ) (o : Option Stored) → HeaderStands (key_at a) t o → HeaderStands (key_at view) t o
       stays t None was = tt
@@ -540,8 +548,7 @@ module _ (a : ArrayView) (F : Flat) (w s b : ℕ) (u : Stored) (v h : ℕ) (writ
           let now : put F.units s (stamped (F.units s) e_r) t ≡ Some (record { header = Some e_r; payload = u.payload }) =
           ap (put F.units s (stamped (F.units s) e_r)) e ∙ put_here F.units s _ ∙ ap (λ o. stamped o e_r) unit_stored
           in
-          let k = key_here in
-          subst (HeaderStands (key_at view) t) (sym now) (sym e, omega arith)
+          subst (HeaderStands (key_at view) t) (sym now) (ok, sym e, inl (sym key_here))
       headers t (inr ne) = subst (HeaderStands (key_at view) t) (sym (put_else F.units s _ t ne)) (stays t (F.units t) (ready.shows.headers t))
 
       -- what the other tickets rest on: the newest stamp of the block has risen above theirs

@@ -13,11 +13,11 @@ use Rattle.step_core.specs.Represents.{ShowsArray}
 use Rattle.step_core.proofs.Newest.{newest_told, newest_is}
 
 -- a record that is ahead of the newest is refused
-pub ahead_case : (a : ArrayView) (F : Flat) (r : Record) (q : Refusal) → ShowsArray a F → q ≡ Ahead (record_at r.block (key_at a r.block))
+pub ahead_case : (W : Type 0) (a : ArrayView) (F : Flat) (r : Record) (q : Refusal) → ShowsArray a F → q ≡ Ahead (record_at r.block (key_at a r.block))
     → IsAhead r (record_at r.block (key_at a r.block))
-    → MayRefuse q ((seen : Seen) × (ReadAtCase F r (FoundAt seen) F)) (ReadAtCase F r (Refused q) F)
-ahead_case a F r q shows is ahead =
-    subst (λ p. MayRefuse p ((seen : Seen) × (ReadAtCase F r (FoundAt seen) F)) (ReadAtCase F r (Refused p) F)) (sym is)
+    → MayRefuse q W (ReadAtCase F r (Refused q) F)
+ahead_case W a F r q shows is ahead =
+    subst (λ p. MayRefuse p W (ReadAtCase F r (Refused p) F)) (sym is)
     (newest_told a F r.block shows, ahead, refl)
 
 -- of any other, what lies at its place is seen
@@ -28,6 +28,6 @@ seen_case a F r n seen shows found most is =
 
 -- also where memory is wanted for its payload
 pub wanted_case : (a : ArrayView) (F : Flat) (r n : Record) (u : Stored) → ShowsArray a F → record_at r.block (key_at a r.block) ≡ Some n
-    → key_of r ≤ key_of n → unit_at a r.place ≡ Some u → u.header ≡ Some r → (seen : Seen) × (ReadAtCase F r (FoundAt seen) F)
+    → key_of r ≤ key_of n → unit_at a r.place ≡ Some u → u.header ≡ Some r → (x : List ℕ) × (ReadAtCase F r (FoundAt (Data x)) F)
 wanted_case a F r n u shows found most unit header =
-    (Data u.payload, seen_case a F r n (Data u.payload) shows found most (subst (λ o. IsSeen o r (Data u.payload)) (sym unit) (header, refl)))
+    (u.payload, seen_case a F r n (Data u.payload) shows found most (subst (λ o. IsSeen o r (Data u.payload)) (sym unit) (header, refl)))

@@ -227,6 +227,20 @@ Case F (Read b) answer G = ReadCase F b answer G
 Case F (ReadAt r) answer G = ReadAtCase F r answer G
 Case F (Make class members) answer G = MakeCase F class members answer G
 
+-- an answer that takes memory: for a unit's payload, a log's entry or a group
+abbrev pub TakesMemory : FlatAnswer → Type 0
+TakesMemory (Filled s) = Unit {0}
+TakesMemory (Copied s) = Unit {0}
+TakesMemory (Committed r) = Unit {0}
+TakesMemory (Found (Some v)) = Unit {0}
+TakesMemory (FoundAt (Data x)) = Unit {0}
+TakesMemory (MadeGroup g) = Unit {0}
+TakesMemory _ = ⊥
+
+-- a step wants memory: the flat machine would have given it an answer that takes some
+abbrev pub IsWanted : Flat → FlatStep → Type 0
+IsWanted F step = (answer : FlatAnswer) × (G : Flat) × (Case F step answer G) × (TakesMemory answer)
+
 -- a run of the flat machine over a list of steps, with one answer for each
 abbrev pub Runs : Flat → List FlatStep → List FlatAnswer → Flat → Type 0
 Runs F [] [] G = Leaves F G

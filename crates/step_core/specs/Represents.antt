@@ -69,19 +69,20 @@ TicketStands writes keys None = Unit {0}
 TicketStands writes keys (Some (Fresh x)) = Unit {0}
 TicketStands writes keys (Some (Moved b v h x)) = IsCopy writes b v h x (keys b)
 
--- each record of a block that has a newest comes next after it: the next version with hop 0, or the same version one hop on
+-- a later record of a block comes next after its newest: the next version with hop 0, or the same version one hop on
 abbrev pub ComesNext : Record → Record → Type 0
 ComesNext n r = ((r.version ≡ n.version + 1) × (r.hop ≡ 0)) ⊎ ((r.version ≡ n.version) × (r.hop ≡ n.hop + 1))
 
--- each record of a log comes next after those before it
+-- each record of a log comes next after those before it; a block's first may be any
 abbrev pub IsChain : List Record → List Record → Type 0
 IsChain before [] = Unit {0}
 IsChain before (r ∷ log) = ((n : Record) → IsNewest before r.block (Some n) → ComesNext n r) × IsChain (before ++ r ∷ []) log
 
--- the header of a unit, where it isn't blank, tells of that very slot, and nothing newer than the newest of its block
+-- the header of a unit, where it isn't blank, is a record of that very slot: the newest of its block, or one of a version
+-- and hop below the newest's
 abbrev pub HeaderTells : (ℕ → ℕ) → ℕ → Option Record → Type 0
 HeaderTells keys s None = Unit {0}
-HeaderTells keys s (Some r) = (r.place ≡ s) × (key_of r ≤ keys r.block)
+HeaderTells keys s (Some r) = (IsRecord r) × (r.place ≡ s) × ((key_of r ≡ keys r.block) ⊎ (key_of r / 2 ^ 16 < keys r.block / 2 ^ 16))
 
 abbrev pub HeaderStands : (ℕ → ℕ) → ℕ → Option Stored → Type 0
 HeaderStands keys s None = Unit {0}

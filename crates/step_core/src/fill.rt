@@ -1,4 +1,4 @@
-// A payload into a slot that a worker holds: a fresh one, or a copy of a block's newest.
+// A fresh payload into a slot that a worker holds.
 ghost use Rattle.std.specs.Prelude.{◌≡◌, ℕ, ◌<◌, List, length, vec_len, slice_set, MatchResult, IfOk, IfErr, true, Some, None};
 ghost use Rattle.step_core.specs.Steps as say;
 ghost use Rattle.step_core.specs.Flat.{Flat, Worker};

@@ -1,8 +1,9 @@
 // Runs of a world over a list of steps.
-ghost use Rattle.std.specs.Prelude.{◌≡◌, ◌<◌, length, take, map, All, MatchResult, IsTrue, ◌↔◌, IfOk, OnErr};
+ghost use Rattle.std.specs.Prelude.{◌≡◌, ◌⊎◌, ◌<◌, length, take, map, slice_get, All, MatchResult, IsTrue, ◌↔◌, IfOk, OnErr, Some};
 ghost use Rattle.step_core.specs.Flat.{Flat};
-ghost use Rattle.step_core.specs.Cases.{Case, Runs};
+ghost use Rattle.step_core.specs.Cases.{Case, Runs, IsWanted};
 ghost use Rattle.step_core.specs.Told.{flat_answer, flat_step, FitsStep};
+ghost use Rattle.step_core.specs.declared.step.Step.{Step};
 ghost use Rattle.step_core.specs.Views.{SameSizes};
 ghost use Rattle.step_core.specs.Represents.{Represents};
 ghost use Rattle.step_core.specs.Headline.{Stands};
@@ -71,6 +72,7 @@ impl World {
         ensures ok { IfOk result (λ answer. (F : Flat) → Represents self.old F
             → (G : Flat) × Case F (flat_step step.now) (flat_answer answer) G × Represents self.new G) }
         ensures err { OnErr result (self.new ≡ self.old) }
+        ensures wants { OnErr result ((F : Flat) → Represents self.old F → IsWanted F (flat_step step.now)) }
         ensures room { SameSizes self.old self.new }
     {
         match step {
@@ -105,7 +107,8 @@ pub fn run_steps(alloc: Global, mut world: World, steps: &[Step]) -> Result<Run,
     ensures { (F : Flat) → Represents world F → MatchResult result
         (λ run. (G : Flat) × Runs F (map flat_step steps.now) (map flat_answer run.answers.items) G × Represents run.world G × Stands run.world G)
         (λ stop. (G : Flat) × Runs F (map flat_step (take stop.at steps.now)) (map flat_answer stop.answers.items) G × Represents stop.world G × Stands stop.world G
-        × (stop.at < length steps.now)) }
+        × (stop.at < length steps.now)
+        × ((stop.at ≡ 0) ⊎ ((step : Step) × (slice_get steps.now stop.at ≡ Some step) × IsWanted G (flat_step step)))) }
 {
     let mut answers = match Vec::with_capacity(alloc, steps.len()) {
         Ok(answers) => answers,

@@ -1,7 +1,11 @@
 // The array and its world against values from outside.
+ghost use Rattle.std.specs.Prelude.{◌≡◌};
+
 use crate::{
-    Answer, Array, Class, Member, Plain, Refusal, Shape, ShapeRefusal, Step, World, run_steps,
+    Answer, Array, At, Class, Member, Plain, Refusal, Shape, ShapeRefusal, Step, World, run_steps,
 };
+use map_join::Record;
+use std::alloc::{AllocError, Global};
 use std::test::Fail;
 
 fn member(drive: u8, extent: u16) -> Member {
@@ -112,5 +116,153 @@ fn a_run_answers_each_step(rt: HostRuntime) -> Result<(), Fail> {
         panic!(rt; "stopped")
     };
     assert_eq!(rt; run.answers.len(), 1);
+    Ok(())
+}
+
+fn record(block: u32, version: u32, hop: u16, place: u16) -> Record
+    ensures { result.block ≡ block }
+{
+    Record {
+        block,
+        version,
+        hop,
+        place,
+    }
+}
+
+// A mirrored group with slots 0 to 5 and a parity group with slots 128 to 135; block 3 is written at
+// slot 0 by worker 0, and copied to slot 128 by worker 1 and to slot 129 by worker 2.
+fn two_copies(alloc: Global) -> Result<Vec<Step>, AllocError> {
+    let mirrored = [member(0, 0), member(1, 0), member(2, 0)].to_vec(alloc)?;
+    let parity = [member(1, 1), member(2, 1), member(3, 1)].to_vec(alloc)?;
+    let payload = [0x11u8; 8].to_vec(alloc)?;
+    let mut steps = Vec::new(alloc);
+    steps.push(Step::Make {
+        class: Class::Mirrored,
+        members: mirrored,
+    })?;
+    steps.push(Step::Make {
+        class: Class::Parity,
+        members: parity,
+    })?;
+    steps.push(Step::Claim { worker: 0, slot: 0 })?;
+    steps.push(Step::Fill {
+        worker: 0,
+        slot: 0,
+        payload,
+    })?;
+    steps.push(Step::Commit {
+        worker: 0,
+        slot: 0,
+        block: 3,
+    })?;
+    steps.push(Step::Claim {
+        worker: 1,
+        slot: 128,
+    })?;
+    steps.push(Step::Copy {
+        worker: 1,
+        slot: 128,
+        block: 3,
+    })?;
+    steps.push(Step::Claim {
+        worker: 2,
+        slot: 129,
+    })?;
+    steps.push(Step::Copy {
+        worker: 2,
+        slot: 129,
+        block: 3,
+    })?;
+    Ok(steps)
+}
+
+#[test]
+fn the_second_of_two_copies_is_outrun(rt: HostRuntime) -> Result<(), Fail> {
+    let alloc = rt.alloc();
+    let world = World::new(alloc, Shape::new(8, 2, 8, 16)?, 4)?;
+    let mut steps = two_copies(alloc)?;
+    steps.push(Step::Commit {
+        worker: 1,
+        slot: 128,
+        block: 3,
+    })?;
+    steps.push(Step::Commit {
+        worker: 2,
+        slot: 129,
+        block: 3,
+    })?;
+    steps.push(Step::Discard {
+        worker: 2,
+        slot: 129,
+    })?;
+    steps.push(Step::Discard {
+        worker: 2,
+        slot: 129,
+    })?;
+    steps.push(Step::Read { block: 3 })?;
+    steps.push(Step::ReadAt {
+        record: record(3, 3, 0, 0),
+    })?;
+    assert!(rt; steps.iter().all(|step| world.fits(step)));
+    let Ok(run) = run_steps(alloc, world, &steps) else {
+        panic!(rt; "stopped")
+    };
+    assert_eq!(rt; run.answers.len(), 15);
+    let moved = record(3, 1, 1, 128);
+    assert!(rt; matches!(run.answers[6], Answer::Copied(128)));
+    assert!(rt; matches!(run.answers[9], Answer::Committed(told) if told == moved));
+    assert!(rt;
+        matches!(run.answers[10], Answer::Refused(Refusal::Outrun(newest)) if newest == moved)
+    );
+    assert!(rt; matches!(run.answers[11], Answer::Discarded(129)));
+    assert!(rt; matches!(run.answers[12], Answer::Refused(Refusal::NoTicket)));
+    assert!(rt;
+        matches!(&run.answers[13], Answer::Read(Some((1, payload))) if payload.as_slice() == [0x11u8; 8].as_slice())
+    );
+    assert!(rt;
+        matches!(run.answers[14], Answer::Refused(Refusal::Ahead(Some(newest))) if newest == moved)
+    );
+    Ok(())
+}
+
+#[test]
+fn a_stale_record_is_told_and_learned(rt: HostRuntime) -> Result<(), Fail> {
+    let alloc = rt.alloc();
+    let world = World::new(alloc, Shape::new(8, 2, 8, 16)?, 4)?;
+    let steps = two_copies(alloc)?;
+    assert!(rt; steps.iter().all(|step| world.fits(step)));
+    let Ok(run) = run_steps(alloc, world, &steps) else {
+        panic!(rt; "stopped")
+    };
+    let mut world = run.world;
+    assert!(rt; world.array().shape().blocks() == 16 && world.array().shape().payload() == 8);
+    world.commit(alloc, 1, 128, 3)?;
+    let Answer::Found(At::Data(payload)) = world.read_at(alloc, record(3, 1, 0, 0))? else {
+        panic!(rt; "nothing at the old place")
+    };
+    assert_eq!(rt; payload.as_slice(), [0x11u8; 8].as_slice());
+    assert!(rt; matches!(world.release(1, 0), Answer::Released(0)));
+    world.claim(2, 0);
+    world.fill(alloc, 2, 0, &[0x33u8; 8])?;
+    assert!(rt;
+        matches!(
+            world.read_at(alloc, record(3, 1, 0, 0))?,
+            Answer::Found(At::Stale(None))
+        )
+    );
+    world.commit(alloc, 2, 0, 4)?;
+    let Answer::Found(At::Stale(Some(header))) = world.read_at(alloc, record(3, 1, 0, 0))? else {
+        panic!(rt; "no header")
+    };
+    assert_eq!(rt; header, record(4, 1, 0, 0));
+    let reading = world.array().read_or_learn(alloc, record(3, 1, 0, 0))?;
+    assert_eq!(rt; reading.record(), record(3, 1, 1, 128));
+    assert_eq!(rt; reading.payload(), [0x11u8; 8].as_slice());
+    let Err(Refusal::Ahead(Some(newest))) = world.array().read_or_learn(alloc, record(3, 3, 0, 0))
+    else {
+        panic!(rt; "not ahead")
+    };
+    assert_eq!(rt; newest, record(3, 1, 1, 128));
     Ok(())
 }

@@ -1,8 +1,8 @@
 // An array with eight workers, who hold plain claims.
-ghost use Rattle.std.specs.Prelude.{◌≡◌, ℕ, ◌<◌, ◌≤◌, length, IfOk, IfErr, OnErr};
+ghost use Rattle.std.specs.Prelude.{◌≡◌, ℕ, ◌<◌, ◌≤◌, List, length, IfOk, IfErr, OnErr, Some};
 ghost use Rattle.map_join.specs.declared.records.Record.{Record};
 ghost use Rattle.step_core.specs.Steps as say;
-ghost use Rattle.step_core.specs.Steps.{Seen};
+ghost use Rattle.step_core.specs.Steps.{Version};
 ghost use Rattle.step_core.specs.Flat.{Flat, new_flat};
 ghost use Rattle.step_core.specs.Cases.{Case};
 ghost use Rattle.step_core.specs.Told.{flat_answer};
@@ -228,7 +228,7 @@ impl World {
     pub fn read_at(&self, alloc: Global, asked: Record) -> Result<Answer, AllocError>
         requires { asked.block < self.now.array.sizes.blocks }
         ensures ok { IfOk result (λ answer. (F : Flat) → Represents self.now F → Case F (say.ReadAt asked) (flat_answer answer) F) }
-        ensures wants { OnErr result ((F : Flat) → Represents self.now F → (seen : Seen) × Case F (say.ReadAt asked) (say.FoundAt seen) F) }
+        ensures wants { OnErr result ((F : Flat) → Represents self.now F → (x : List ℕ) × Case F (say.ReadAt asked) (say.FoundAt (say.Data x)) F) }
     {
         match self.array.read_at(alloc, asked) {
             Ok(at) => Ok(Answer::Found(at)),
@@ -240,7 +240,8 @@ impl World {
     /// Reads a block.
     pub fn read(&self, alloc: Global, block: u32) -> Result<Answer, AllocError>
         requires { block < self.now.array.sizes.blocks }
-        ensures { IfOk result (λ answer. (F : Flat) → Represents self.now F → Case F (say.Read block) (flat_answer answer) F) }
+        ensures ok { IfOk result (λ answer. (F : Flat) → Represents self.now F → Case F (say.Read block) (flat_answer answer) F) }
+        ensures wants { OnErr result ((F : Flat) → Represents self.now F → (v : Version) × Case F (say.Read block) (say.Found (Some v)) F) }
     {
         match self.array.read(alloc, block) {
             Ok(found) => Ok(Answer::Read(found)),

@@ -1,4 +1,5 @@
-use Rattle.std.proofs.Common.{length, rules, subst, sym, refl, take, map}
+use Rattle.std.proofs.Common.{length, rules, subst, sym, ap, ◌∙◌, refl, take, map, inl, inr, Some}
+use Rattle.std.proofs.lemmas.Option.{slice_get-get_or}
 use Rattle.step_core.specs.Cases.{Runs}
 use Rattle.step_core.specs.Views.{WorldView}
 use Rattle.step_core.specs.Represents.{Represents}
@@ -41,10 +42,21 @@ returns-in-Err c F rep = (
   rep,
   stands c.args.world F rep,
   some_steps (length c.args.steps.now) (λ none. let bad = c.in-Err.ensures.succeeds none in cc),
+  inl refl,
 )
 
 pub returns-in-Err-step : goal.returns-in-Err-step
 returns-in-Err-step c F rep =
     let x = c.loop-at.invariant.runs F rep in
-    let now : Represents c.step.new.self x.0 = subst (λ (v : WorldView). Represents v x.0) (sym c.in-Err-step.ensures.err) x.2 in
-    (x.0, x.1, now, stands c.step.new.self x.0 now, c.loop-at-test.true)
+    let now : Represents c.step.new.self x.0 = subst (λ (v : WorldView). Represents v x.0) (sym c.in-Err-step.ensures.err) x.2 in (
+      x.0,
+      x.1,
+      now,
+      stands c.step.new.self x.0 now,
+      c.loop-at-test.true,
+      inr (
+        c.index-steps-at.result,
+        slice_get-get_or c.args.steps.now c.loop-at.at c.index-steps-at.result c.loop-at-test.true ∙ ap (λ s. Some s) (sym c.index-steps-at.is),
+        c.in-Err-step.ensures.wants x.0 x.2,
+      ),
+    )

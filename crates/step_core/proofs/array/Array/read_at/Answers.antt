@@ -5,7 +5,7 @@ use Rattle.step_core.proofs.array.Array.read_at.Goals as goal
 
 pub returns-in-Err : goal.returns-in-Err
 returns-in-Err g c = record {
-  flat = λ F shows. let e = c.in-Err.ensures.err in ahead_case c.args.self.now F c.args.asked c.in-Err.refusal shows e.0 e.1;
+  flat = λ F shows. let e = c.in-Err.ensures.err in ahead_case _ c.args.self.now F c.args.asked c.in-Err.refusal shows e.0 e.1;
 }
 
 pub returns-in-Ok-see : goal.returns-in-Ok-see

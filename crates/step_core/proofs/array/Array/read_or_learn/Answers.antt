@@ -11,7 +11,7 @@ use Rattle.step_core.proofs.array.Array.read_or_learn.Goals as goal
 
 pub returns-in-Err : goal.returns-in-Err
 returns-in-Err g c = record {
-  flat = λ F shows. let e = c.in-Err.ensures.err in ahead_case c.args.self.now F c.args.asked c.in-Err.refusal shows e.0 e.1;
+  flat = λ F shows. let e = c.in-Err.ensures.err in ahead_case _ c.args.self.now F c.args.asked c.in-Err.refusal shows e.0 e.1;
 }
 
 pub returns-in-Ok-Data : goal.returns-in-Ok-Data
@@ -57,5 +57,5 @@ returns-in-Err-payload_at g c = record {
 pub returns-in-Err-see : goal.returns-in-Err-see
 returns-in-Err-see g c = record {
   flat = λ F shows. let newest = c.in-Ok.ensures.ok in let u = c.in-Err-see.ensures.wants in
-      wanted_case c.args.self.now F c.args.asked c.in-Ok.newest u.0 shows newest.0 newest.1 u.1 u.2;
+      let x = wanted_case c.args.self.now F c.args.asked c.in-Ok.newest u.0 shows newest.0 newest.1 u.1 u.2 in (Data x.0, x.1);
 }

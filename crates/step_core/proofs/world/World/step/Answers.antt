@@ -1,0 +1,38 @@
+use Rattle.std.proofs.Common.{subst, sym, ap, OnErr, Some}
+use Rattle.step_core.specs.Flat.{Flat}
+use Rattle.step_core.specs.Steps.{Data, Filled, Copied, Committed, Found, FoundAt, MadeGroup}
+use Rattle.step_core.specs.Cases.{FillCase, MakeCase, IsWanted}
+use Rattle.step_core.specs.Told.{flat_step}
+use Rattle.step_core.specs.Represents.{Represents}
+use Rattle.step_core.proofs.Runnings.{on_err}
+use Rattle.step_core.proofs.world.World.step.Goals as goal
+
+pub returns-in-Fill-clause-wants : goal.returns-in-Fill-clause-wants
+returns-in-Fill-clause-wants c =
+    subst (λ s. OnErr c.fill.result ((F : Flat) → Represents c.args.self.now F → IsWanted F (flat_step s))) (sym c.in-Fill.is)
+    (on_err c.fill.result c.fill.ensures.wants (λ wants F rep. let x = wants F rep in (Filled c.in-Fill.slot, x.0, subst (λ p. FillCase F c.in-Fill.worker c.in-Fill.slot p (Filled c.in-Fill.slot) x.0) c.deref.ensures.value x.1, tt)))
+
+pub returns-in-Copy-clause-wants : goal.returns-in-Copy-clause-wants
+returns-in-Copy-clause-wants c =
+    subst (λ s. OnErr c.copy.result ((F : Flat) → Represents c.args.self.now F → IsWanted F (flat_step s))) (sym c.in-Copy.is)
+    (on_err c.copy.result c.copy.ensures.wants (λ wants F rep. let x = wants F rep in (Copied c.in-Copy.slot, x.0, x.1, tt)))
+
+pub returns-in-Commit-clause-wants : goal.returns-in-Commit-clause-wants
+returns-in-Commit-clause-wants c =
+    subst (λ s. OnErr c.commit.result ((F : Flat) → Represents c.args.self.now F → IsWanted F (flat_step s))) (sym c.in-Commit.is)
+    (on_err c.commit.result c.commit.ensures.wants (λ wants F rep. let x = wants F rep in (Committed x.0, x.1, x.2, tt)))
+
+pub returns-in-Read-clause-wants : goal.returns-in-Read-clause-wants
+returns-in-Read-clause-wants c =
+    subst (λ s. OnErr c.read.result ((F : Flat) → Represents c.args.self.now F → IsWanted F (flat_step s))) (sym c.in-Read.is)
+    (on_err c.read.result c.read.ensures.wants (λ wants F rep. let x = wants F rep in (Found (Some x.0), F, x.1, tt)))
+
+pub returns-in-ReadAt-clause-wants : goal.returns-in-ReadAt-clause-wants
+returns-in-ReadAt-clause-wants c =
+    subst (λ s. OnErr c.read_at.result ((F : Flat) → Represents c.args.self.now F → IsWanted F (flat_step s))) (sym c.in-ReadAt.is)
+    (on_err c.read_at.result c.read_at.ensures.wants (λ wants F rep. let x = wants F rep in (FoundAt (Data x.0), F, x.1, tt)))
+
+pub returns-in-Make-clause-wants : goal.returns-in-Make-clause-wants
+returns-in-Make-clause-wants c =
+    subst (λ s. OnErr c.make.result ((F : Flat) → Represents c.args.self.now F → IsWanted F (flat_step s))) (sym c.in-Make.is)
+    (on_err c.make.result c.make.ensures.wants (λ wants F rep. let x = wants F rep in (MadeGroup x.0, x.1, subst (λ ms. MakeCase F c.in-Make.class ms (MadeGroup x.0) x.1) c.deref-in-Make.ensures.value x.2, tt)))
