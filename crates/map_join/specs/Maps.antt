@@ -1,5 +1,5 @@
 -- Maps from blocks to keys, their order and join, and the map of a list of records.
-use Rattle.std.specs.Prelude.{◌≡◌, ◌≢◌, ◌↔◌, ℕ, ◌<◌, ◌≤◌, max, ◌==◌, if◌then◌else◌, List, map, Option, Some, unwrap_or, Contains}
+use Rattle.std.specs.Prelude.{◌≡◌, ◌≢◌, ◌↔◌, ℕ, ◌<◌, ◌≤◌, max, ◌==◌, if◌then◌else◌, List, map, Option, Some, None, unwrap_or, Contains}
 use Rattle.std.specs.Map.{lookup}
 use Rattle.std.specs.Ordering.{nat_cmp, is_eq}
 use Rattle.std.specs.List.Sorted.{IsStrictlyIncreasing}
@@ -58,6 +58,11 @@ pub record IsLowestAbove (M N : ℕ → ℕ) (block : ℕ) : Type 0 where
 pub record IsLowestDifference (M N : ℕ → ℕ) (block : ℕ) : Type 0 where
   pub differs : M block ≢ N block
   pub lowest : (lower : ℕ) → lower < block → M lower ≡ N lower
+
+-- that block, or none where they have the same keys
+abbrev pub IsDifference : (ℕ → ℕ) → (ℕ → ℕ) → Option ℕ → Type 0
+IsDifference M N None = IsSame M N
+IsDifference M N (Some block) = IsLowestDifference M N block
 
 -- a map is that of a list of records where each key is told by a record of the list, and no record of the list has a
 -- greater one; neither order nor repeats are spoken of

@@ -1,7 +1,7 @@
 // A block map: of each block the greatest key that it took.
 ghost use Rattle.std.specs.Prelude.{◌≡◌, ◌≢◌, ℕ, ◌<◌, ◌≤◌, ◌^◌, List, [], ◌∷◌, ◌++◌, IsOk, IfOk, IfSome, IfNone, OnOk, OnErr, IsTrue, ◌↔◌};
 ghost use Rattle.map_join.specs.Record.{record_at};
-ghost use Rattle.map_join.specs.Maps.{at, IsSame, IsBelow, join, lone, only, IsMapOf, IsListOf, IsPartlyJoined, IsLowestAbove, IsLowestDifference};
+ghost use Rattle.map_join.specs.Maps.{at, IsSame, IsBelow, join, lone, only, IsMapOf, IsListOf, IsPartlyJoined, IsLowestAbove, IsDifference};
 ghost use Rattle.std.specs.List.{filter_map};
 ghost use Rattle.std.specs.Ordering.{nat_cmp};
 ghost use Rattle.std.specs.BTreeMap.{IsOrdered};
@@ -126,10 +126,9 @@ impl BlockMap {
         self.lowest_above(other).is_none()
     }
 
-    /// The lowest block of which the maps have different keys.
+    /// The lowest block of which the maps have different keys, none where they agree.
     pub fn lowest_difference(&self, other: &BlockMap) -> Option<u32>
-        ensures some { IfSome result (IsLowestDifference (at self.now) (at other.now)) }
-        ensures none { IfNone result (IsSame (at self.now) (at other.now)) }
+        ensures { IsDifference (at self.now) (at other.now) result }
     {
         match (self.lowest_above(other), other.lowest_above(self)) {
             (Some(theirs), Some(ours)) => Some(theirs.min(ours)),
