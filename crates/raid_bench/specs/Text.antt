@@ -44,6 +44,11 @@ answer_text (s.Found found) = found_text found
 answer_text (s.MadeGroup group) = codes "made " ++ decimal group
 answer_text (s.Refused r) = codes "refused " ++ (decimal (number_of r) ++ detail r)
 
+-- the lowest block of which two maps differ, if they do
+abbrev pub difference_text : Option ℕ → List ℕ
+difference_text None = codes "same"
+difference_text (Some block) = codes "differs " ++ decimal block
+
 -- records one after the other, a space before each
 abbrev pub records_text : List Record → List ℕ
 records_text [] = []

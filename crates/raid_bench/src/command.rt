@@ -1,4 +1,5 @@
 //! The commands of a script, with their numbers as they are written.
+use map_join::Record;
 use step_core::Class;
 
 /// A member as it is named: numbers of up to ten digits, in range or not.
@@ -41,6 +42,21 @@ pub enum Command {
     },
     Read {
         block: u64,
+    },
+    Take {
+        map: u64,
+        record: Record,
+    },
+    Merge {
+        into: u64,
+        from: u64,
+    },
+    Same {
+        left: u64,
+        right: u64,
+    },
+    Show {
+        map: u64,
     },
     Map,
     Log,

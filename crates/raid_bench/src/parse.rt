@@ -5,7 +5,8 @@ ghost use Rattle.raid_bench.specs.Words.{words_left};
 ghost use Rattle.raid_bench.specs.Reading.{Finds, Reads};
 
 use crate::arguments::{
-    array_of, claim_of, commit_of, fill_of, log_of, make_of, map_of, read_of, release_of,
+    array_of, claim_of, commit_of, fill_of, log_of, make_of, map_of, merge_of, read_of, release_of,
+    same_of, show_of, take_of,
 };
 use crate::command::Command;
 use crate::parts::{SPACE, cut};
@@ -45,6 +46,10 @@ fn follow(
         Verb::Fill => Ok(fill_of(rest, payload)),
         Verb::Commit => Ok(commit_of(rest)),
         Verb::Read => Ok(read_of(rest)),
+        Verb::Take => Ok(take_of(rest)),
+        Verb::Merge => Ok(merge_of(rest)),
+        Verb::Same => Ok(same_of(rest)),
+        Verb::Show => Ok(show_of(rest)),
         Verb::Map => Ok(map_of(rest)),
         Verb::Log => Ok(log_of(rest)),
     }

@@ -2,7 +2,7 @@
 ghost use Rattle.std.specs.Prelude.{◌≡◌, ◌∷◌, ◌++◌, [], OnOk, decimal, Some, None};
 ghost use Rattle.hex.specs.Hex.{encode_lower};
 ghost use Rattle.step_core.specs.Told.{flat_answer};
-ghost use Rattle.raid_bench.specs.Text.{answer_text, detail, found_text, listing, record_or_none, record_text, records_text};
+ghost use Rattle.raid_bench.specs.Text.{answer_text, detail, difference_text, found_text, listing, record_or_none, record_text, records_text};
 ghost use Rattle.step_core.specs.Steps as s;
 
 use itoa::Buffer;
@@ -100,6 +100,16 @@ fn put_detail(out: &mut Vec<u8>, refusal: &Refusal) -> Result<(), AllocError>
         Refusal::Gone(slot) | Refusal::SlotsHeld(slot) => put_numbered(out, b" ", u64::from(*slot)),
         Refusal::DriveLost(drive) => put_numbered(out, b" ", u64::from(*drive)),
         _ => Ok(()),
+    }
+}
+
+/// The lowest block of which two maps differ, if they do.
+pub fn put_difference(out: &mut Vec<u8>, lowest: Option<u32>) -> Result<(), AllocError>
+    ensures { OnOk result (out.new.items ≡ out.old.items ++ difference_text lowest) }
+{
+    match lowest {
+        None => put(out, b"same"),
+        Some(block) => put_numbered(out, b"differs ", u64::from(block)),
     }
 }
 

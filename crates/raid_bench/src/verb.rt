@@ -12,17 +12,25 @@ pub enum Verb {
     Fill,
     Commit,
     Read,
+    Take,
+    Merge,
+    Same,
+    Show,
     Map,
     Log,
 }
 
 /// Every verb, the most frequent ones first.
-const VERBS: [Verb; 9] = [
+const VERBS: [Verb; 13] = [
     Verb::Claim,
     Verb::Fill,
     Verb::Commit,
     Verb::Read,
     Verb::Release,
+    Verb::Take,
+    Verb::Merge,
+    Verb::Same,
+    Verb::Show,
     Verb::Map,
     Verb::Log,
     Verb::Make,
@@ -42,6 +50,10 @@ impl Verb {
             Verb::Fill => b"fill",
             Verb::Commit => b"commit",
             Verb::Read => b"read",
+            Verb::Take => b"take",
+            Verb::Merge => b"merge",
+            Verb::Same => b"same",
+            Verb::Show => b"show",
             Verb::Map => b"map",
             Verb::Log => b"log",
         }

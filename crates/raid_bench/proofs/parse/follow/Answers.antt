@@ -15,6 +15,18 @@ returns-in-Commit c = rw c.in-Commit.is (c.commit_of.ensures _ _)
 pub returns-in-Read : goal.returns-in-Read
 returns-in-Read c = rw c.in-Read.is (c.read_of.ensures _ _)
 
+pub returns-in-Take : goal.returns-in-Take
+returns-in-Take c = rw c.in-Take.is (c.take_of.ensures _ _)
+
+pub returns-in-Merge : goal.returns-in-Merge
+returns-in-Merge c = rw c.in-Merge.is (c.merge_of.ensures _ _)
+
+pub returns-in-Same : goal.returns-in-Same
+returns-in-Same c = rw c.in-Same.is (c.same_of.ensures _ _)
+
+pub returns-in-Show : goal.returns-in-Show
+returns-in-Show c = rw c.in-Show.is (c.show_of.ensures _ _)
+
 pub returns-in-Map : goal.returns-in-Map
 returns-in-Map c = rw c.in-Map.is (c.map_of.ensures _ _)
 
