@@ -1,5 +1,5 @@
--- A commit of what is seen of an array is the flat machine's case.
-use Rattle.std.proofs.Common.{◌≡◌, ◌≢◌, ℕ, ◌+◌, ◌/◌, ◌^◌, ◌<◌, ◌≤◌, Bool, true, false, not, ◌==◌, ◌&&◌, ◌||◌, cond, is_some, List, [], ◌∷◌, ◌++◌, length, get_or, Contains, refl, sym, ap, ◌∙◌, subst, arith, ◌⊎◌, inl, inr, Option, Some, None, nat_le}
+-- A slot that waits becomes a block's newest place: what is seen of the array then stands for the flat state after it.
+use Rattle.std.proofs.Common.{◌≡◌, ◌≢◌, ℕ, ◌+◌, ◌*◌, ◌/◌, ◌^◌, ◌<◌, ◌≤◌, Bool, true, false, not, ◌==◌, ◌&&◌, ◌||◌, cond, is_some, List, [], ◌∷◌, ◌++◌, length, get_or, Contains, refl, sym, ap, ◌∙◌, subst, arith, ◌⊎◌, inl, inr, Option, Some, None, nat_le}
 use Rattle.std.proofs.Math.ListN.{set}
 use Rattle.std.proofs.lemmas.List.{length-set, get_or-set_same, get_or-set_other}
 use Rattle.std.proofs.lemmas.List.Elements.{Contains-push_cases}
@@ -9,23 +9,21 @@ use Rattle.std.proofs.lemmas.Option.{same_Some}
 use Rattle.map_join.specs.declared.records.Record.{Record}
 use Rattle.map_join.specs.Record.{key_of, record_of, record_at, IsRecord}
 use Rattle.map_join.proofs.Joins.{took}
-use Rattle.step_core.specs.declared.refusal.Refusal.{Refusal}
-use Rattle.step_core.specs.declared.refusal.Refusal.TheVariants.{NoTicket, VersionSpent, LogFull}
-use Rattle.step_core.specs.Flat.{Flat, Write, Holder, Worker, Ticket, Block, Shut, Fresh, Stored, same_holder, turned, IsNewest, class_of}
-use Rattle.step_core.specs.Steps.{Committed, Refused}
-use Rattle.step_core.specs.Cases.{CommitCase, CommitWith, committed, place_passed, stamped, next_version, last_version, longest_log}
-use Rattle.step_core.specs.Changes.{commit_view, commit_reason, commit_reason_of, spent_reason, passed, MayRefuse}
-use Rattle.step_core.specs.Views.{Kept, Nothing, Pending, Newest, ArrayView, kept_at, unit_at, key_at, IsRoomy, IsWhole}
-use Rattle.step_core.specs.Represents.{flat_at, ArraySlot, BlockStands, ShowsArray, is_newest, waiting}
+use Rattle.step_core.specs.Flat.{Flat, Write, Holder, Worker, Ticket, Block, Shut, Content, Fresh, Moved, Stored, put, same_holder, turned, last_write, class_of}
+use Rattle.step_core.specs.Cases.{committed, place_passed, stamped}
+use Rattle.step_core.specs.Changes.{commit_view, passed}
+use Rattle.step_core.specs.Views.{Kept, Nothing, Moving, Newest, is_waiting, ArrayView, kept_at, unit_at, key_at, IsRoomy, IsWhole}
+use Rattle.step_core.specs.Represents.{flat_at, ArraySlot, BlockStands, IsCopy, TicketStands, ShowsArray, is_newest}
 use Rattle.step_core.proofs.Pairs.{equal, equal_back, put_here, put_else, turned_here, turned_else}
 use Rattle.step_core.proofs.Pairs.{flip}
 use Rattle.step_core.proofs.Slots.{same_slot}
-use Rattle.step_core.proofs.Newest.{newest_told, told_again, told_at, untold_at, key_least}
-use Rattle.step_core.proofs.Writes.{last_here, last_else, next_above, key_set}
+use Rattle.step_core.proofs.Kepts.{waiting_none, waiting_kept, waiting_newest}
+use Rattle.step_core.proofs.Newest.{told_again, told_at, untold_at, key_least, place_small}
+use Rattle.step_core.proofs.Writes.{key_set}
 
 -- the record that a commit emits
-abbrev pub emitted : ℕ → ℕ → Option Record → Record
-emitted b s found = record { block = b; version = next_version found; hop = 0; place = s }
+abbrev pub emitted : ℕ → ℕ → ℕ → ℕ → Record
+emitted b s v h = record { block = b; version = v; hop = h; place = s }
 
 -- where a block's old place lies: not at the slot that waits, and kept for the block
 pub record IsOld (a : ArrayView) (s b : ℕ) (found : Option Record) : Type 0 where
@@ -36,7 +34,7 @@ pub some_is : {X : Type 0} (x y : X) → Some x ≡ Some y → x ≡ y
 some_is x y e = same_Some x y e
 
 -- the newest place of a block is kept for it
-pub old_place : (a : ArrayView) (s b : ℕ) → IsWhole a → kept_at a s ≡ Pending → IsOld a s b (record_at b (key_at a b))
+pub old_place : (a : ArrayView) (s b : ℕ) → IsWhole a → is_waiting (kept_at a s) ≡ true → IsOld a s b (record_at b (key_at a b))
 old_place a s b whole waits = record { apart = apart; kept = kept }
   where
     sizes : (k : ℕ) → (k < 2 ^ 32) ⊎ (2 ^ 32 ≤ k)
@@ -52,7 +50,7 @@ old_place a s b whole waits = record { apart = apart; kept = kept }
     kept r is = kept_so r is (sizes (key_at a b))
 
     apart : (r : Record) → record_at b (key_at a b) ≡ Some r → r.place ≡ s → ⊥
-    apart r is e = let no : Newest b ≡ Pending = sym (kept r is) ∙ ap (kept_at a) e ∙ waits in cc
+    apart r is e = waiting_newest (kept_at a s) b waits (sym (ap (kept_at a) e) ∙ kept r is)
 
 -- what is kept after a commit
 pub kept_here : (a : ArrayView) (s b : ℕ) (found : Option Record) (r : Record) → s < length a.kept → kept_at (commit_view a s b found r) s ≡ Newest b
@@ -94,12 +92,12 @@ held_else F w s b (Some old) t ne other =
     turned_else (turned F.held s (Ticket w) (Block b)) old.place (Block b) (Worker w) t (other old refl) ∙ turned_else F.held s (Ticket w) (Block b) t ne
 
 -- the slot that was committed
-slot_here : (u : Stored) (F G : Flat) (w s b : ℕ) (r : Record) → ArraySlot Pending (Some u) (flat_at F s) → F.held s (Ticket w) ≡ true
+slot_here : (kept : Kept) (u : Stored) (F G : Flat) (w s b : ℕ) (r : Record) → is_waiting kept ≡ true → ArraySlot kept (Some u) (flat_at F s) → F.held s (Ticket w) ≡ true
     → ((j : Holder) → G.held s j ≡ ((F.held s j && not (same_holder j (Ticket w))) || same_holder j (Block b)))
     → G.units s ≡ stamped (F.units s) r → G.tickets s ≡ None → class_of G s ≡ class_of F s
     → ArraySlot (Newest b) (stamped (Some u) r) (flat_at G s)
-slot_here u F G w s b r is mine held unit ticket class = record {
-  blocks = λ c. held (Block c) ∙ ap (λ v. (v && true) || (c == b)) (is.blocks c) ∙ flip c b;
+slot_here kept u F G w s b r waits is mine held unit ticket class = record {
+  blocks = λ c. held (Block c) ∙ ap (λ v. (v && true) || (c == b)) (is.blocks c ∙ waiting_none kept waits c) ∙ flip c b;
   shut = λ g. held (Shut g) ∙ ap (λ v. (v && true) || false) (is.shut g);
   unit = unit ∙ ap (λ o. stamped o r) is.unit;
   there = ap is_some class ∙ is.there;
@@ -141,43 +139,27 @@ passed_length : (kept : List Kept) (found : Option Record) → length (passed ke
 passed_length kept None = refl
 passed_length kept (Some old) = length-set kept old.place Nothing
 
--- all that a commit needs to be the flat machine's
-pub record IsReady (a : ArrayView) (F : Flat) (w s b : ℕ) (u : Stored) : Type 0 where
+-- all that a commit under version v and hop h needs to be the flat machine's, with the acknowledged writes then
+pub record IsReady (a : ArrayView) (F : Flat) (w s b : ℕ) (u : Stored) (v h : ℕ) (writes : List Write) : Type 0 where
   pub whole : IsWhole a
   pub shows : ShowsArray a F
   pub slot : s < 65536
   pub block : b < a.sizes.blocks
-  pub narrow : a.sizes.blocks ≤ 65536
-  pub waits : kept_at a s ≡ Pending
+  pub waits : is_waiting (kept_at a s) ≡ true
   pub unit : unit_at a s ≡ Some u
   pub mine : F.held s (Ticket w) ≡ true
-  pub version : next_version (record_at b (key_at a b)) ≤ last_version
+  pub ok : IsRecord (emitted b s v h)
+  pub above : key_at a b / 2 ^ 16 < v * 2 ^ 16 + h
+  pub last : (x : Write) × (last_write writes b ≡ Some x) × (x.version ≡ v) × (x.payload ≡ u.payload)
+  pub others : (c : ℕ) → (c ≡ b → ⊥) → last_write writes c ≡ last_write F.writes c
 
 -- the state after the commit
-abbrev pub after : ArrayView → Flat → ℕ → ℕ → ℕ → Stored → Flat
-after a F w s b u =
-    let found = record_at b (key_at a b) in
-    committed F w s b found (F.writes ++ record { block = b; version = next_version found; payload = u.payload } ∷ []) (emitted b s found)
+abbrev pub after : ArrayView → Flat → ℕ → ℕ → ℕ → ℕ → ℕ → List Write → Flat
+after a F w s b v h writes = committed F w s b (record_at b (key_at a b)) writes (emitted b s v h)
 
-module _ (a : ArrayView) (F : Flat) (w s b : ℕ) (u : Stored) (ready : IsReady a F w s b u) where
-  found : Option Record
-  found = record_at b (key_at a b)
-
-  r : Record
-  r = emitted b s (record_at b (key_at a b))
-
-  ok : IsRecord (emitted b s (record_at b (key_at a b)))
-  ok = let n = ready.narrow in let m = ready.block in let v = ready.version in let i = ready.slot in record {
-    block = omega arith;
-    written = one (record_at b (key_at a b));
-    version = omega arith;
-    hop = omega arith;
-    place = omega arith;
-  }
-    where
-      one : (o : Option Record) → 0 < next_version o
-      one None = omega arith
-      one (Some q) = omega arith
+module _ (a : ArrayView) (F : Flat) (w s b : ℕ) (u : Stored) (v h : ℕ) (writes : List Write) (ready : IsReady a F w s b u v h writes) where
+  ok : IsRecord (emitted b s v h)
+  ok = ready.ok
 
   old : IsOld a s b (record_at b (key_at a b))
   old = old_place a s b ready.whole ready.waits
@@ -191,20 +173,10 @@ module _ (a : ArrayView) (F : Flat) (w s b : ℕ) (u : Stored) (ready : IsReady 
   keys_room : b < length a.keys
   keys_room = let e = ready.shows.room.keys in let i = ready.block in omega arith
 
-  key_or : (key_at a b ≡ 0) ⊎ (2 ^ 32 ≤ key_at a b)
-  key_or = go (zero_or (key_at a b))
-    where
-      zero_or : (k : ℕ) → (k ≡ 0) ⊎ (0 < k)
-      zero_or k = grind arith
+  above : key_at a b < key_of (emitted b s v h)
+  above = let e = ready.above in omega arith
 
-      go : (key_at a b ≡ 0) ⊎ (0 < key_at a b) → (key_at a b ≡ 0) ⊎ (2 ^ 32 ≤ key_at a b)
-      go (inl e) = inl e
-      go (inr h) = inr (ready.whole.keys b h)
-
-  above : key_at a b < key_of (emitted b s (record_at b (key_at a b)))
-  above = next_above (key_at a b) b s key_or
-
-  pub room_after : IsRoomy (commit_view a s b (record_at b (key_at a b)) (emitted b s (record_at b (key_at a b))))
+  pub room_after : IsRoomy (commit_view a s b (record_at b (key_at a b)) (emitted b s v h))
   room_after = record {
     kept = length-set (passed a.kept (record_at b (key_at a b))) s (Newest b) ∙ passed_length a.kept (record_at b (key_at a b)) ∙ ready.shows.room.kept;
     units = length-set a.units s _ ∙ ready.shows.room.units;
@@ -212,11 +184,11 @@ module _ (a : ArrayView) (F : Flat) (w s b : ℕ) (u : Stored) (ready : IsReady 
     keys = length-set a.keys b _ ∙ ready.shows.room.keys;
   }
 
-  unit_here : unit_at (commit_view a s b (record_at b (key_at a b)) (emitted b s (record_at b (key_at a b)))) s
-      ≡ stamped (Some u) (emitted b s (record_at b (key_at a b)))
-  unit_here = get_or-set_same a.units s _ None units_room ∙ ap (λ o. stamped o (emitted b s (record_at b (key_at a b)))) ready.unit
+  unit_here : unit_at (commit_view a s b (record_at b (key_at a b)) (emitted b s v h)) s
+      ≡ stamped (Some u) (emitted b s v h)
+  unit_here = get_or-set_same a.units s _ None units_room ∙ ap (λ o. stamped o (emitted b s v h)) ready.unit
 
-  unit_else : (t : ℕ) → (t ≡ s → ⊥) → unit_at (commit_view a s b (record_at b (key_at a b)) (emitted b s (record_at b (key_at a b)))) t ≡ unit_at a t
+  unit_else : (t : ℕ) → (t ≡ s → ⊥) → unit_at (commit_view a s b (record_at b (key_at a b)) (emitted b s v h)) t ≡ unit_at a t
   unit_else t ne = get_or-set_other a.units s t _ None ne
 
   place_room : (q : Record) → record_at b (key_at a b) ≡ Some q → q.place < length a.kept
@@ -234,30 +206,30 @@ module _ (a : ArrayView) (F : Flat) (w s b : ℕ) (u : Stored) (ready : IsReady 
           omega arith
 
   pub slots_after : (t : ℕ)
-      → ArraySlot (kept_at (commit_view a s b (record_at b (key_at a b)) (emitted b s (record_at b (key_at a b)))) t)
-      (unit_at (commit_view a s b (record_at b (key_at a b)) (emitted b s (record_at b (key_at a b)))) t) (flat_at (after a F w s b u) t)
+      → ArraySlot (kept_at (commit_view a s b (record_at b (key_at a b)) (emitted b s v h)) t)
+      (unit_at (commit_view a s b (record_at b (key_at a b)) (emitted b s v h)) t) (flat_at (after a F w s b v h writes) t)
   slots_after t = go (cases_eq t s)
     where
       G : Flat
-      G = after a F w s b u
+      G = after a F w s b v h writes
 
       view : ArrayView
-      view = commit_view a s b (record_at b (key_at a b)) (emitted b s (record_at b (key_at a b)))
+      view = commit_view a s b (record_at b (key_at a b)) (emitted b s v h)
 
       P : ℕ → Type 0
       P n = ArraySlot (kept_at view n) (unit_at view n) (flat_at G n)
 
-      waiting_slot : ArraySlot Pending (Some u) (flat_at F s)
-      waiting_slot = subst (λ k. ArraySlot k (Some u) (flat_at F s)) ready.waits (subst (λ o. ArraySlot (kept_at a s) o (flat_at F s)) ready.unit (ready.shows.slots s))
+      waiting_slot : ArraySlot (kept_at a s) (Some u) (flat_at F s)
+      waiting_slot = subst (λ o. ArraySlot (kept_at a s) o (flat_at F s)) ready.unit (ready.shows.slots s)
 
       here : P s
-      here = rw (kept_here a s b (record_at b (key_at a b)) (emitted b s (record_at b (key_at a b))) kept_room, unit_here)
-          (slot_here u F G w s b (emitted b s (record_at b (key_at a b))) waiting_slot ready.mine (held_here F w s b (record_at b (key_at a b)) old.apart)
+      here = rw (kept_here a s b (record_at b (key_at a b)) (emitted b s v h) kept_room, unit_here)
+          (slot_here (kept_at a s) u F G w s b (emitted b s v h) ready.waits waiting_slot ready.mine (held_here F w s b (record_at b (key_at a b)) old.apart)
           (put_here F.units s _) (put_here F.tickets s None) refl)
 
       same : (t ≡ s → ⊥) → ((q : Record) → record_at b (key_at a b) ≡ Some q → t ≡ q.place → ⊥) → P t
       same ne other = rw (
-        kept_else a s b (record_at b (key_at a b)) (emitted b s (record_at b (key_at a b))) t ne other,
+        kept_else a s b (record_at b (key_at a b)) (emitted b s v h) t ne other,
         unit_else t ne,
         same_slot (flat_at F t) (flat_at G t) (held_else F w s b (record_at b (key_at a b)) t ne other) (put_else F.tickets s None t ne) (put_else F.units s _ t ne) refl,
       )
@@ -274,8 +246,8 @@ module _ (a : ArrayView) (F : Flat) (w s b : ℕ) (u : Stored) (ready : IsReady 
               (put_else F.units s _ q.place (old.apart q is)) (put_else F.tickets s None q.place (old.apart q is)) refl))
             where
               kept_is : kept_at view q.place ≡ Nothing
-              kept_is = ap (λ o. kept_at (commit_view a s b o (emitted b s (record_at b (key_at a b)))) q.place) is
-                  ∙ kept_old a s b q (emitted b s (record_at b (key_at a b))) (old.apart q is) (place_room q is)
+              kept_is = ap (λ o. kept_at (commit_view a s b o (emitted b s v h)) q.place) is
+                  ∙ kept_old a s b q (emitted b s v h) (old.apart q is) (place_room q is)
 
               was : ArraySlot (Newest b) (unit_at a q.place) (flat_at F q.place)
               was = subst (λ k. ArraySlot k (unit_at a q.place) (flat_at F q.place)) (old.kept q is) (ready.shows.slots q.place)
@@ -285,30 +257,31 @@ module _ (a : ArrayView) (F : Flat) (w s b : ℕ) (u : Stored) (ready : IsReady 
       go (inl e) = subst P (sym e) here
       go (inr ne) = by_found (record_at b (key_at a b)) refl ne
 
-  record_again : record_of b (key_of (emitted b s (record_at b (key_at a b)))) ≡ emitted b s (record_at b (key_at a b))
-  record_again = told_again (emitted b s (record_at b (key_at a b))) ok
+  record_again : record_of b (key_of (emitted b s v h)) ≡ emitted b s v h
+  record_again = told_again (emitted b s v h) ok
 
-  pub shows_after : ShowsArray (commit_view a s b (record_at b (key_at a b)) (emitted b s (record_at b (key_at a b)))) (after a F w s b u)
+  pub shows_after : ShowsArray (commit_view a s b (record_at b (key_at a b)) (emitted b s v h)) (after a F w s b v h writes)
   shows_after = record {
     room = room_after;
     sizes = ready.shows.sizes;
     drives = ready.shows.drives;
-    log = ap (λ l. l ++ emitted b s (record_at b (key_at a b)) ∷ []) ready.shows.log;
+    log = ap (λ l. l ++ emitted b s v h ∷ []) ready.shows.log;
     records = records;
-    map = took F.emitted (emitted b s (record_at b (key_at a b))) (key_at a) _ (key_set a.keys (emitted b s (record_at b (key_at a b))) keys_room above) ready.shows.map;
+    map = took F.emitted (emitted b s v h) (key_at a) _ (key_set a.keys (emitted b s v h) keys_room above) ready.shows.map;
     groups = ready.shows.groups;
     slots = slots_after;
+    tickets = λ t. tickets t (cases_eq t s);
     written = λ c. written c (cases_eq c b);
   }
     where
       e_r : Record
-      e_r = emitted b s (record_at b (key_at a b))
+      e_r = emitted b s v h
 
       G : Flat
-      G = after a F w s b u
+      G = after a F w s b v h writes
 
       view : ArrayView
-      view = commit_view a s b (record_at b (key_at a b)) (emitted b s (record_at b (key_at a b)))
+      view = commit_view a s b (record_at b (key_at a b)) (emitted b s v h)
 
       records : (q : Record) → Contains (F.emitted ++ e_r ∷ []) q → IsRecord q
       records q has = go (Contains-push_cases F.emitted e_r q has)
@@ -316,9 +289,6 @@ module _ (a : ArrayView) (F : Flat) (w s b : ℕ) (u : Stored) (ready : IsReady 
           go : Contains F.emitted q ⊎ (e_r ≡ q) → IsRecord q
           go (inl there) = ready.shows.records q there
           go (inr is) = subst IsRecord is ok
-
-      new_write : Write
-      new_write = record { block = b; version = next_version (record_at b (key_at a b)); payload = u.payload }
 
       key_here : key_at view b ≡ key_of e_r
       key_here = get_or-set_same a.keys b (key_of e_r) 0 keys_room
@@ -330,12 +300,13 @@ module _ (a : ArrayView) (F : Flat) (w s b : ℕ) (u : Stored) (ready : IsReady 
       here = subst (BlockStands G b) (sym key_here) (
         (λ zero. let big = key_least e_r ok in absurd (omega arith)),
         (λ some. (
-          new_write,
-          last_here F.writes new_write,
+          ready.last.0,
+          ready.last.1,
           record {
-            version = ap (λ (q : Record). q.version) (sym record_again);
+            version = ready.last.2 ∙ ap (λ (q : Record). q.version) (sym record_again);
             unit = ap (λ (q : Record). G.units q.place) record_again ∙ put_here F.units s _ ∙ ap (λ o. stamped o e_r) unit_stored
-                ∙ ap (λ (q : Record). Some (record { header = Some q; payload = u.payload })) (sym record_again);
+                ∙ ap (λ (q : Record). Some (record { header = Some q; payload = u.payload })) (sym record_again)
+                ∙ ap (λ x. Some (record { header = Some (record_of b (key_of (emitted b s v h))); payload = x })) (sym ready.last.3);
             place = ap (λ (q : Record). G.held q.place (Block b)) record_again ∙ held_here F w s b (record_at b (key_at a b)) old.apart (Block b)
                 ∙ now (F.held s (Block b));
           },
@@ -348,10 +319,10 @@ module _ (a : ArrayView) (F : Flat) (w s b : ℕ) (u : Stored) (ready : IsReady 
 
       elsewhere : (c : ℕ) → (c ≡ b → ⊥) → BlockStands G c (key_at view c)
       elsewhere c ne = subst (BlockStands G c) (sym same_key) (
-        (λ zero. last_else F.writes new_write c ne ∙ (ready.shows.written c).0 zero),
+        (λ zero. ready.others c ne ∙ (ready.shows.written c).0 zero),
         (λ some. let y = (ready.shows.written c).1 some in (
           y.0,
-          last_else F.writes new_write c ne ∙ y.1,
+          ready.others c ne ∙ y.1,
           record {
             version = y.2.version;
             unit = put_else F.units s _ (record_of c (key_at a c)).place (away y.2.place) ∙ y.2.unit;
@@ -366,7 +337,7 @@ module _ (a : ArrayView) (F : Flat) (w s b : ℕ) (u : Stored) (ready : IsReady 
 
           away : F.held (record_of c (key_at a c)).place (Block c) ≡ true → (record_of c (key_at a c)).place ≡ s → ⊥
           away held e =
-              let waits : F.held s (Block c) ≡ false = (ready.shows.slots s).blocks c ∙ ap (λ k. is_newest k c) ready.waits in
+              let waits : F.held s (Block c) ≡ false = (ready.shows.slots s).blocks c ∙ waiting_none (kept_at a s) ready.waits c in
               let no : true ≡ false = sym held ∙ ap (λ n. F.held n (Block c)) e ∙ waits in cc
 
           off : F.held (record_of c (key_at a c)).place (Block c) ≡ true → (q : Record) → record_at b (key_at a b) ≡ Some q → (record_of c (key_at a c)).place ≡ q.place → ⊥
@@ -375,174 +346,53 @@ module _ (a : ArrayView) (F : Flat) (w s b : ℕ) (u : Stored) (ready : IsReady 
               let both : (b == c) ≡ true = sym kept ∙ ap (λ n. F.held n (Block c)) (sym e) ∙ held in
               ne (sym (equal_back b c both))
 
+      -- what the other tickets rest on: the newest stamp of the block has risen above theirs
+      rests : (o : Option Content) → TicketStands F.writes (key_at a) o → TicketStands writes (key_at view) o
+      rests None was = tt
+      rests (Some (Fresh x)) was = tt
+      rests (Some (Moved c i g x)) was = copy (cases_eq c b)
+        where
+          copy : (c ≡ b) ⊎ (c ≡ b → ⊥) → IsCopy writes c i g x (key_at view c)
+          copy (inl e) =
+              let now : key_at view c ≡ key_of e_r = ap (key_at view) e ∙ key_here in
+              let old_key : key_at a c ≡ key_at a b = ap (key_at a) e in
+              let most = was.most in
+              let rises = ready.above in
+              let slot = ready.slot in
+              let big = key_least e_r ok in record {
+                written = omega arith;
+                most = omega arith;
+                payload = λ same. absurd (omega arith);
+              }
+          copy (inr ne) =
+              let now : key_at view c ≡ key_at a c = get_or-set_other a.keys b c (key_of e_r) 0 ne in
+              let most = was.most in
+              let some = was.written in record {
+                written = omega arith;
+                most = omega arith;
+                payload = λ same. let y = was.payload (omega arith) in (y.0, ready.others c ne ∙ y.1, y.2);
+              }
+
+      tickets : (t : ℕ) → (t ≡ s) ⊎ (t ≡ s → ⊥) → TicketStands writes (key_at view) (put F.tickets s None t)
+      tickets t (inl e) = subst (TicketStands writes (key_at view)) (sym (ap (put F.tickets s None) e ∙ put_here F.tickets s None)) tt
+      tickets t (inr ne) = subst (TicketStands writes (key_at view)) (sym (put_else F.tickets s None t ne)) (rests (F.tickets t) (ready.shows.tickets t))
+
       written : (c : ℕ) → (c ≡ b) ⊎ (c ≡ b → ⊥) → BlockStands G c (key_at view c)
       written c (inl e) = subst (λ n. BlockStands G n (key_at view n)) (sym e) here
       written c (inr ne) = elsewhere c ne
 
--- why a commit is refused, case by case
-spent_cases : (a : ArrayView) (found : Option Record) → spent_reason a found ≡ None
-    → (next_version found ≢ last_version + 1) × (length a.log < longest_log)
-spent_cases a found none = go (next_version found == last_version + 1) refl (nat_le longest_log (length a.log)) refl none
-  where
-    go : (p : Bool) → (next_version found == last_version + 1) ≡ p → (q : Bool) → nat_le longest_log (length a.log) ≡ q
-        → cond p (Some VersionSpent) (cond q (Some LogFull) None) ≡ None → (next_version found ≢ last_version + 1) × (length a.log < longest_log)
-    go true is_p q is_q e = absurd (cc)
-    go false is_p true is_q e = absurd (cc)
-    go false is_p false is_q e = (λ same. let no : true ≡ false = sym (equal _ _ same) ∙ is_p in cc, over is_q)
-      where
-        over : nat_le longest_log (length a.log) ≡ false → length a.log < longest_log
-        over t = grind (arith, nat_tests)
-
-reason_waits : (a : ArrayView) (k : Kept) (found : Option Record) → commit_reason_of a k found ≡ None → (k ≡ Pending) × (spent_reason a found ≡ None)
-reason_waits a Pending found e = (refl, e)
-reason_waits a Nothing found e = absurd (cc)
-reason_waits a (Newest b) found e = absurd (cc)
-
--- the slot waits where nothing speaks against its commit
-pub commit_waits : (a : ArrayView) (s : ℕ) (found : Option Record) → commit_reason a s found ≡ None → kept_at a s ≡ Pending
-commit_waits a s found none = (reason_waits a (kept_at a s) found none).0
-
--- versions are at most the last
-version_bound : (b key : ℕ) → key < 2 ^ 64 → next_version (record_at b key) ≤ last_version + 1
-version_bound b key small = go (sizes key)
-  where
-    sizes : (k : ℕ) → (k < 2 ^ 32) ⊎ (2 ^ 32 ≤ k)
-    sizes k = grind arith
-
-    go : (key < 2 ^ 32) ⊎ (2 ^ 32 ≤ key) → next_version (record_at b key) ≤ last_version + 1
-    go (inl less) = let n : next_version (record_at b key) ≡ 1 = ap next_version (untold_at b key less) in omega arith
-    go (inr big) = let n : next_version (record_at b key) ≡ key / 2 ^ 32 + 1 = ap next_version (told_at b key big) in omega arith
-
-pub commit_version : (a : ArrayView) (s b : ℕ) → key_at a b < 2 ^ 64 → commit_reason a s (record_at b (key_at a b)) ≡ None
-    → (next_version (record_at b (key_at a b)) ≤ last_version) × (length a.log < longest_log)
-commit_version a s b small none =
-    let spent = spent_cases a (record_at b (key_at a b)) (reason_waits a (kept_at a s) (record_at b (key_at a b)) none).1 in
-    let most = version_bound b (key_at a b) small in
-    let apart = spent.0 in
-    (omega arith, spent.1)
-
 -- a unit that is there
-unit_of : (o : Option Stored) → is_some o ≡ true → (u : Stored) × (o ≡ Some u)
+pub unit_of : (o : Option Stored) → is_some o ≡ true → (u : Stored) × (o ≡ Some u)
 unit_of (Some u) e = (u, refl)
 unit_of None e = absurd (cc)
 
-pub waits_unit : (a : ArrayView) (s : ℕ) → IsWhole a → kept_at a s ≡ Pending → (u : Stored) × (unit_at a s ≡ Some u)
-waits_unit a s whole waits = unit_of (unit_at a s) (whole.stored s (λ e. let no : Pending ≡ Nothing = sym waits ∙ e in cc))
-
--- the ticket is the worker's where it is one
-ticket_mine : (a : ArrayView) (F : Flat) (w s : ℕ) (u : Stored) → ShowsArray a F → kept_at a s ≡ Pending → unit_at a s ≡ Some u
-    → (F.tickets s ≢ None → F.held s (Ticket w) ≡ true) → (F.tickets s ≡ Some (Fresh u.payload)) × (F.held s (Ticket w) ≡ true)
-ticket_mine a F w s u shows waits unit mine =
-    let is : F.tickets s ≡ Some (Fresh u.payload) = (shows.slots s).ticket ∙ ap (λ k. waiting k (unit_at a s)) waits ∙ ap (waiting Pending) unit in
-    (is, mine (λ none. let no : Some (Fresh u.payload) ≡ None = sym is ∙ none in cc))
-
-pub commit_case : (a : ArrayView) (F : Flat) (w s b : ℕ) → IsWhole a → s < 65536 → b < a.sizes.blocks
-    → commit_reason a s (record_at b (key_at a b)) ≡ None → ShowsArray a F → (F.tickets s ≢ None → F.held s (Ticket w) ≡ true)
-    → (G : Flat) × (CommitCase F w s b (Committed (emitted b s (record_at b (key_at a b)))) G)
-    × (ShowsArray (commit_view a s b (record_at b (key_at a b)) (emitted b s (record_at b (key_at a b)))) G)
-commit_case a F w s b whole inside block none shows mine =
-    let waits = commit_waits a s (record_at b (key_at a b)) none in
-    let u = waits_unit a s whole waits in
-    let ticket = ticket_mine a F w s u.0 shows waits u.1 mine in
-    let bounds = commit_version a s b (whole.fit b) none in
-    let ready : IsReady a F w s b u.0 = record {
-      whole = whole;
-      shows = shows;
-      slot = inside;
-      block = block;
-      narrow = whole.blocks;
-      waits = waits;
-      unit = u.1;
-      mine = ticket.1;
-      version = bounds.0;
-    } in
-    let short : length F.emitted < longest_log = subst (λ (l : List Record). length l < longest_log) (sym shows.log) bounds.1 in (
-      after a F w s b u.0,
-      (
-        ticket.1,
-        (
-          record_at b (key_at a b),
-          newest_told a F b shows,
-          subst (λ t. CommitWith F w s b (record_at b (key_at a b)) t (Committed (emitted b s (record_at b (key_at a b)))) (after a F w s b u.0)) (sym ticket.0)
-              (bounds.0, short, refl, refl),
-        ),
-      ),
-      shows_after a F w s b u.0 ready,
-    )
-
-pub commit_refused : (a : ArrayView) (F : Flat) (w s b : ℕ) (q : Refusal) → IsWhole a
-    → commit_reason a s (record_at b (key_at a b)) ≡ Some q → ShowsArray a F → (F.tickets s ≢ None → F.held s (Ticket w) ≡ true)
-    → MayRefuse q ((r : Record) × (G : Flat) × (CommitCase F w s b (Committed r) G)) (CommitCase F w s b (Refused q) F)
-commit_refused a F w s b q whole some shows mine = go (kept_at a s) refl some
-  where
-    P : Refusal → Type 0
-    P r = MayRefuse r ((x : Record) × (G : Flat) × (CommitCase F w s b (Committed x) G)) (CommitCase F w s b (Refused r) F)
-
-    no_ticket : (k : Kept) → kept_at a s ≡ k → waiting k (unit_at a s) ≡ None → Some NoTicket ≡ Some q → P q
-    no_ticket k is none e = subst P (some_is _ _ e) ((shows.slots s).tickets ((shows.slots s).ticket ∙ ap (λ j. waiting j (unit_at a s)) is ∙ none) w, refl)
-
-    spent : kept_at a s ≡ Pending → (p : Bool) → (next_version (record_at b (key_at a b)) == last_version + 1) ≡ p → (f : Bool) → nat_le longest_log (length a.log) ≡ f
-        → cond p (Some VersionSpent) (cond f (Some LogFull) None) ≡ Some q → P q
-    spent waits p is_p f is_f e = by p is_p f is_f e
-      where
-        u : (v : Stored) × (unit_at a s ≡ Some v)
-        u = waits_unit a s whole waits
-
-        ticket : (F.tickets s ≡ Some (Fresh u.0.payload)) × (F.held s (Ticket w) ≡ true)
-        ticket = ticket_mine a F w s u.0 shows waits u.1 mine
-
-        case : (r : Refusal) → CommitWith F w s b (record_at b (key_at a b)) (Some (Fresh u.0.payload)) (Refused r) F
-            → (F.held s (Ticket w) ≡ true) × ((found : Option Record) × (IsNewest F.emitted b found) × (CommitWith F w s b found (F.tickets s) (Refused r) F))
-        case r x = (
-          ticket.1,
-          (
-            record_at b (key_at a b),
-            newest_told a F b shows,
-            subst (λ t. CommitWith F w s b (record_at b (key_at a b)) t (Refused r) F) (sym ticket.0) x,
-          ),
-        )
-
-        most : next_version (record_at b (key_at a b)) ≤ last_version + 1
-        most = version_bound b (key_at a b) (whole.fit b)
-
-        by : (p : Bool) → (next_version (record_at b (key_at a b)) == last_version + 1) ≡ p → (f : Bool) → nat_le longest_log (length a.log) ≡ f
-            → cond p (Some VersionSpent) (cond f (Some LogFull) None) ≡ Some q → P q
-        by true is_p f is_f e = subst P (some_is _ _ e) (case VersionSpent (equal_back _ _ is_p, refl))
-        by false is_p true is_f e = subst P (some_is _ _ e) (case LogFull (under, long, refl))
-          where
-            apart : next_version (record_at b (key_at a b)) ≢ last_version + 1
-            apart same = let no : true ≡ false = sym (equal _ _ same) ∙ is_p in cc
-
-            under : next_version (record_at b (key_at a b)) ≤ last_version
-            under = let m = most in let n = apart in omega arith
-
-            long : longest_log ≤ length F.emitted
-            long = subst (λ (l : List Record). longest_log ≤ length l) (sym shows.log) (over is_f)
-              where
-                over : nat_le longest_log (length a.log) ≡ true → longest_log ≤ length a.log
-                over t = grind (arith, nat_tests)
-        by false is_p false is_f e = absurd (cc)
-
-    go : (k : Kept) → kept_at a s ≡ k → commit_reason_of a k (record_at b (key_at a b)) ≡ Some q → P q
-    go Nothing is e = no_ticket Nothing is refl e
-    go (Newest c) is e = no_ticket (Newest c) is refl e
-    go Pending is e = spent is _ refl _ refl e
-
--- the record that a commit emits is in range
-emitted_ok : (a : ArrayView) (s b : ℕ) → IsWhole a → s < 65536 → b < a.sizes.blocks → next_version (record_at b (key_at a b)) ≤ last_version
-    → IsRecord (emitted b s (record_at b (key_at a b)))
-emitted_ok a s b whole inside block version =
-    let n = whole.blocks in
-    record { block = omega arith; written = one (record_at b (key_at a b)); version = omega arith; hop = omega arith; place = omega arith }
-  where
-    one : (o : Option Record) → 0 < next_version o
-    one None = omega arith
-    one (Some q) = omega arith
+pub waits_unit : (a : ArrayView) (s : ℕ) → IsWhole a → is_waiting (kept_at a s) ≡ true → (u : Stored) × (unit_at a s ≡ Some u)
+waits_unit a s whole waits = unit_of (unit_at a s) (whole.stored s (waiting_kept (kept_at a s) waits))
 
 -- an array is whole after a commit
-pub commit_whole : (a : ArrayView) (s b : ℕ) → IsWhole a → s < 65536 → b < a.sizes.blocks → commit_reason a s (record_at b (key_at a b)) ≡ None
-    → IsWhole (commit_view a s b (record_at b (key_at a b)) (emitted b s (record_at b (key_at a b))))
-commit_whole a s b whole inside block none = record {
+pub commit_whole : (a : ArrayView) (s b v h : ℕ) → IsWhole a → s < 65536 → b < a.sizes.blocks → is_waiting (kept_at a s) ≡ true → IsRecord (emitted b s v h)
+    → IsWhole (commit_view a s b (record_at b (key_at a b)) (emitted b s v h))
+commit_whole a s b v h whole inside block waits ok = record {
   room = record {
     kept = length-set (passed a.kept (record_at b (key_at a b))) s (Newest b) ∙ passed_length a.kept (record_at b (key_at a b)) ∙ whole.room.kept;
     units = length-set a.units s _ ∙ whole.room.units;
@@ -553,21 +403,16 @@ commit_whole a s b whole inside block none = record {
   keys = λ c. keys c (cases_eq c b);
   fit = λ c. fit c (cases_eq c b);
   newest = λ c. newest c (cases_eq c b);
+  moving = λ t q is. whole.moving t q (kept_moving t q is (cases_eq t s));
   stored = λ t. stored t (cases_eq t s);
   members = whole.members;
 }
   where
     r : Record
-    r = emitted b s (record_at b (key_at a b))
+    r = emitted b s v h
 
     view : ArrayView
-    view = commit_view a s b (record_at b (key_at a b)) (emitted b s (record_at b (key_at a b)))
-
-    waits : kept_at a s ≡ Pending
-    waits = commit_waits a s (record_at b (key_at a b)) none
-
-    ok : IsRecord r
-    ok = emitted_ok a s b whole inside block (commit_version a s b (whole.fit b) none).0
+    view = commit_view a s b (record_at b (key_at a b)) (emitted b s v h)
 
     old : IsOld a s b (record_at b (key_at a b))
     old = old_place a s b whole waits
@@ -593,7 +438,7 @@ commit_whole a s b whole inside block none = record {
     kept_off c ne p is = kept_else a s b (record_at b (key_at a b)) r p away off ∙ is
       where
         away : p ≡ s → ⊥
-        away e = let bad : Newest c ≡ Pending = sym is ∙ ap (kept_at a) e ∙ waits in cc
+        away e = waiting_newest (kept_at a s) c waits (sym (ap (kept_at a) e) ∙ is)
 
         off : (q : Record) → record_at b (key_at a b) ≡ Some q → p ≡ q.place → ⊥
         off q found e = let same : Newest c ≡ Newest b = sym is ∙ ap (kept_at a) e ∙ old.kept q found in ne (cc)
@@ -608,6 +453,30 @@ commit_whole a s b whole inside block none = record {
     newest c (inr ne) some =
         let k = other c ne in
         ap (λ n. kept_at view (record_of c n).place) k ∙ kept_off c ne (record_of c (key_at a c)).place (whole.newest c (omega arith))
+
+    -- a copy that waits after the commit did before
+    kept_moving : (t : ℕ) (q : Record) → kept_at view t ≡ Moving q → (t ≡ s) ⊎ (t ≡ s → ⊥) → kept_at a t ≡ Moving q
+    kept_moving t q is (inl e) =
+        let room = whole.room.kept in
+        let bad : Newest b ≡ Moving q = sym (ap (kept_at view) e ∙ kept_here a s b (record_at b (key_at a b)) r (omega arith)) ∙ is in absurd (cc)
+    kept_moving t q is (inr ne) = by_found (record_at b (key_at a b)) refl
+      where
+        same : ((p : Record) → record_at b (key_at a b) ≡ Some p → t ≡ p.place → ⊥) → kept_at a t ≡ Moving q
+        same off = sym (kept_else a s b (record_at b (key_at a b)) r t ne off) ∙ is
+
+        by_found : (o : Option Record) → record_at b (key_at a b) ≡ o → kept_at a t ≡ Moving q
+        by_found None none = same (λ p found. let bad : None ≡ Some p = sym none ∙ found in absurd (cc))
+        by_found (Some p) found = by_place (cases_eq t p.place)
+          where
+            by_place : (t ≡ p.place) ⊎ (t ≡ p.place → ⊥) → kept_at a t ≡ Moving q
+            by_place (inr off) = same (λ x x_is e. off (e ∙ ap (λ (y : Record). y.place) (some_is x p (sym x_is ∙ found))))
+            by_place (inl e) =
+                let room = whole.room.kept in
+                let small = place_small b (key_at a b) p found in
+                let gone : kept_at view t ≡ Nothing =
+                ap (kept_at view) e ∙ ap (λ o. kept_at (commit_view a s b o r) p.place) found ∙ kept_old a s b p r (old.apart p found) (omega arith)
+                in
+                let bad : Nothing ≡ Moving q = sym gone ∙ is in absurd (cc)
 
     stored : (t : ℕ) → (t ≡ s) ⊎ (t ≡ s → ⊥) → kept_at view t ≢ Nothing → is_some (unit_at view t) ≡ true
     stored t (inl e) kept =
@@ -633,10 +502,5 @@ passed_apart kept s None apart = refl
 passed_apart kept s (Some old) apart = get_or-set_other kept old.place s Nothing Nothing (λ e. apart old refl (sym e))
 
 -- where a block's newest record, however it was found, says that its old place lies
-pub old_found : (a : ArrayView) (s b : ℕ) (o : Option Record) → o ≡ record_at b (key_at a b) → IsWhole a → kept_at a s ≡ Pending → IsOld a s b o
+pub old_found : (a : ArrayView) (s b : ℕ) (o : Option Record) → o ≡ record_at b (key_at a b) → IsWhole a → is_waiting (kept_at a s) ≡ true → IsOld a s b o
 old_found a s b o e whole waits = subst (IsOld a s b) (sym e) (old_place a s b whole waits)
-
--- the record that was emitted, however it was made
-pub emitted_as : (a : ArrayView) (s b : ℕ) (o : Option Record) (r : Record) → o ≡ record_at b (key_at a b)
-    → r ≡ record { block = b; version = next_version o; hop = 0; place = s } → r ≡ emitted b s (record_at b (key_at a b))
-emitted_as a s b o r e is = is ∙ ap (λ (f : Option Record). emitted b s f) e

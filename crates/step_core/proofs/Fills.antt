@@ -1,37 +1,50 @@
--- A fill of what is seen of an array is the flat machine's case.
+-- A slot is made to wait, and a fill of what is seen of an array is the flat machine's case.
 use Rattle.std.proofs.Common.{◌≡◌, ◌≢◌, ℕ, ◌<◌, ◌/◌, ◌%◌, Bool, true, false, ◌==◌, ◌&&◌, ◌||◌, is_some, List, length, refl, sym, ap, ◌∙◌, subst, arith, ◌⊎◌, inl, inr, Option, Some, None}
 use Rattle.std.proofs.lemmas.List.{length-set, get_or-set_same, get_or-set_other}
 use Rattle.std.proofs.lemmas.Bool.{cases_eq}
 use Rattle.std.proofs.lemmas.Option.{same_Some}
+use Rattle.map_join.specs.declared.records.Record.{Record}
 use Rattle.map_join.specs.Record.{record_of}
 use Rattle.step_core.specs.declared.group.Class.{Class}
 use Rattle.step_core.specs.declared.group.Class.TheVariants.{Mirrored, Parity}
 use Rattle.step_core.specs.declared.refusal.Refusal.{Refusal}
 use Rattle.step_core.specs.Groups.{class_in, class_at}
-use Rattle.step_core.specs.Flat.{Flat, Holder, Worker, Ticket, Block, Shut, Fresh, Stored, turned, for_ticket, IsKept, class_of}
+use Rattle.step_core.specs.Flat.{Flat, Holder, Worker, Ticket, Block, Shut, Content, Fresh, Moved, Stored, put, turned, for_ticket, IsKept, class_of}
 use Rattle.step_core.specs.Steps.{Filled, Refused}
-use Rattle.step_core.specs.Cases.{FillCase, filled}
-use Rattle.step_core.specs.Changes.{fill_view, fill_reason, fill_reason_of, MayRefuse}
-use Rattle.step_core.specs.Views.{Kept, Nothing, Pending, Newest, ArrayView, kept_at, unit_at, key_at, group_at, is_kept, IsWhole}
-use Rattle.step_core.specs.Represents.{flat_at, ArraySlot, IsWritten, BlockStands, ShowsArray}
+use Rattle.step_core.specs.Cases.{FillCase, filled, ticketed}
+use Rattle.step_core.specs.Changes.{wait_view, fill_view, fill_reason, fill_reason_of, MayRefuse}
+use Rattle.step_core.specs.Views.{Kept, Nothing, Pending, Moving, Newest, ArrayView, kept_at, unit_at, key_at, group_at, is_kept, is_waiting, IsWhole}
+use Rattle.step_core.specs.Represents.{flat_at, ArraySlot, IsWritten, BlockStands, TicketStands, ShowsArray, waiting}
 use Rattle.step_core.proofs.Pairs.{equal, equal_back, put_here, put_else, turned_here, turned_else}
 use Rattle.step_core.proofs.Slots.{same_slot, one_slot}
-use Rattle.step_core.proofs.Kepts.{nothing_kept, kept_iff}
+use Rattle.step_core.proofs.Kepts.{nothing_kept, kept_iff, waiting_none}
 
 -- the class of a slot is what is seen of it
 pub class_seen : (a : ArrayView) (F : Flat) (s : ℕ) → ShowsArray a F → class_of F s ≡ class_at a.sizes.segments (group_at a) s
 class_seen a F s shows =
     ap (λ z. class_in z.segments (F.groups (s / 128)) (s % 128)) shows.sizes ∙ ap (λ o. class_in a.sizes.segments o (s % 128)) (shows.groups (s / 128))
 
--- the slot that was filled
-filled_slot : (o : Option Stored) (F : Flat) (w s : ℕ) (x : List ℕ) → ArraySlot Nothing o (flat_at F s) → is_some (class_of F s) ≡ true
-    → ArraySlot Pending (Some (record { header = None; payload = x })) (flat_at (filled F w s x) s)
-filled_slot o F w s x is classed = record {
-  blocks = λ b. turned_here F.held s (Worker w) (Ticket w) (Block b) ∙ ap (λ v. (v && true) || false) (is.blocks b);
+-- what is kept of a slot that waits, with its ticket
+pub record Waits (kept : Kept) (content : Content) (x : List ℕ) : Type 0 where
+  pub waits : is_waiting kept ≡ true
+  pub ticket : waiting kept (Some (record { header = None; payload = x })) ≡ Some content
+
+pub waits_fresh : (x : List ℕ) → Waits Pending (Fresh x) x
+waits_fresh x = record { waits = refl; ticket = refl }
+
+pub waits_moving : (r : Record) (x : List ℕ) → Waits (Moving r) (Moved r.block r.version r.hop x) x
+waits_moving r x = record { waits = refl; ticket = refl }
+
+-- the slot that waits now
+ticket_slot : (kept : Kept) (content : Content) (o : Option Stored) (F : Flat) (w s : ℕ) (x : List ℕ) → Waits kept content x
+    → ArraySlot Nothing o (flat_at F s) → is_some (class_of F s) ≡ true
+    → ArraySlot kept (Some (record { header = None; payload = x })) (flat_at (ticketed F w s content x) s)
+ticket_slot kept content o F w s x now is classed = record {
+  blocks = λ b. turned_here F.held s (Worker w) (Ticket w) (Block b) ∙ ap (λ v. (v && true) || false) (is.blocks b) ∙ sym (waiting_none kept now.waits b);
   shut = λ g. turned_here F.held s (Worker w) (Ticket w) (Shut g) ∙ ap (λ v. (v && true) || false) (is.shut g);
   unit = put_here F.units s _;
   there = classed;
-  ticket = put_here F.tickets s _;
+  ticket = put_here F.tickets s _ ∙ sym now.ticket;
   blank = λ _. refl;
   waits = λ _. (w, turned_here F.held s (Worker w) (Ticket w) (Ticket w) ∙ held_now (F.held s (Ticket w)));
   tickets = λ none v. absurd (some_none (sym (put_here F.tickets s _) ∙ none));
@@ -46,14 +59,15 @@ filled_slot o F w s x is classed = record {
     held_now true = refl
     held_now false = equal w w refl
 
-    some_none : (Some (Fresh x)) ≡ None → ⊥
+    some_none : (Some content) ≡ None → ⊥
     some_none e = cc
 
-pub fill_shows : (a : ArrayView) (F : Flat) (w s : ℕ) (x : List ℕ) → s < 65536 → kept_at a s ≡ Nothing → is_some (class_of F s) ≡ true
-    → ShowsArray a F → ShowsArray (fill_view a s x) (filled F w s x)
-fill_shows a F w s x inside free classed shows = record {
+pub wait_shows : (a : ArrayView) (F : Flat) (w s : ℕ) (kept : Kept) (content : Content) (x : List ℕ) → s < 65536 → kept_at a s ≡ Nothing
+    → is_some (class_of F s) ≡ true → Waits kept content x → TicketStands F.writes (key_at a) (Some content)
+    → ShowsArray a F → ShowsArray (wait_view a s kept x) (ticketed F w s content x)
+wait_shows a F w s kept content x inside free classed now stands shows = record {
   room = record {
-    kept = length-set a.kept s Pending ∙ shows.room.kept;
+    kept = length-set a.kept s kept ∙ shows.room.kept;
     units = length-set a.units s _ ∙ shows.room.units;
     groups = shows.room.groups;
     keys = shows.room.keys;
@@ -64,11 +78,12 @@ fill_shows a F w s x inside free classed shows = record {
   records = shows.records;
   map = shows.map;
   groups = shows.groups;
-  slots = one_slot a (fill_view a s x) F (filled F w s x) s shows.slots
-      (λ t ne. get_or-set_other a.kept s t Pending Nothing ne)
+  slots = one_slot a (wait_view a s kept x) F (ticketed F w s content x) s shows.slots
+      (λ t ne. get_or-set_other a.kept s t kept Nothing ne)
       (λ t ne. get_or-set_other a.units s t _ None ne)
       (λ t ne. same_slot _ _ (turned_else F.held s (Worker w) (Ticket w) t ne) (put_else F.tickets s _ t ne) (put_else F.units s _ t ne) refl)
       here;
+  tickets = λ t. tickets t (cases_eq t s);
   written = written;
 }
   where
@@ -81,14 +96,18 @@ fill_shows a F w s x inside free classed shows = record {
     old : ArraySlot Nothing (unit_at a s) (flat_at F s)
     old = subst (λ k. ArraySlot k (unit_at a s) (flat_at F s)) free (shows.slots s)
 
-    here : ArraySlot (kept_at (fill_view a s x) s) (unit_at (fill_view a s x) s) (flat_at (filled F w s x) s)
-    here = rw (get_or-set_same a.kept s Pending Nothing kept_room, get_or-set_same a.units s (Some (record { header = None; payload = x })) None units_room)
-        (filled_slot (unit_at a s) F w s x old classed)
+    here : ArraySlot (kept_at (wait_view a s kept x) s) (unit_at (wait_view a s kept x) s) (flat_at (ticketed F w s content x) s)
+    here = rw (get_or-set_same a.kept s kept Nothing kept_room, get_or-set_same a.units s (Some (record { header = None; payload = x })) None units_room)
+        (ticket_slot kept content (unit_at a s) F w s x now old classed)
 
-    written : (b : ℕ) → BlockStands (filled F w s x) b (key_at a b)
+    tickets : (t : ℕ) → (t ≡ s) ⊎ (t ≡ s → ⊥) → TicketStands F.writes (key_at a) (put F.tickets s (Some content) t)
+    tickets t (inl e) = subst (TicketStands F.writes (key_at a)) (sym (ap (put F.tickets s (Some content)) e ∙ put_here F.tickets s (Some content))) stands
+    tickets t (inr ne) = subst (TicketStands F.writes (key_at a)) (sym (put_else F.tickets s (Some content) t ne)) (shows.tickets t)
+
+    written : (b : ℕ) → BlockStands (ticketed F w s content x) b (key_at a b)
     written b = (λ none. (shows.written b).0 none, λ some. let y = (shows.written b).1 some in (y.0, y.1, moved y.2))
       where
-        moved : {v : _} → IsWritten F b (key_at a b) v → IsWritten (filled F w s x) b (key_at a b) v
+        moved : {v : _} → IsWritten F b (key_at a b) v → IsWritten (ticketed F w s content x) b (key_at a b) v
         moved y =
             let apart : (record_of b (key_at a b)).place ≢ s = λ e.
             let held : true ≡ false = sym y.place ∙ ap (λ t. F.held t (Block b)) e ∙ old.blocks b in absurd (cc)
@@ -111,11 +130,12 @@ fill_case a F w s x inside none shows held = go (class_at a.sizes.segments (grou
         by_cases : (c : Option Class) → class_of F s ≡ c → (k : Kept) → kept_at a s ≡ k → fill_reason_of c k ≡ None
             → (G : Flat) × (FillCase F w s x (Filled s) G) × (ShowsArray (fill_view a s x) G)
         by_cases (Some Mirrored) is_c Nothing is_k e =
-            (filled F w s x, (refl, held, is_c, unkept, refl), fill_shows a F w s x inside is_k (ap is_some is_c) shows)
+            (filled F w s x, (refl, held, is_c, unkept, refl), wait_shows a F w s Pending (Fresh x) x inside is_k (ap is_some is_c) (waits_fresh x) tt shows)
           where
             unkept : IsKept F s → ⊥
             unkept kept = let t = (kept_iff a F s shows).1 kept in let no : false ≡ true = sym (ap is_kept is_k) ∙ t in absurd (cc)
         by_cases (Some Mirrored) is_c Pending is_k e = absurd (cc)
+        by_cases (Some Mirrored) is_c (Moving r) is_k e = absurd (cc)
         by_cases (Some Mirrored) is_c (Newest b) is_k e = absurd (cc)
         by_cases (Some Parity) is_c k is_k e = absurd (cc)
         by_cases None is_c k is_k e = absurd (cc)
@@ -131,6 +151,8 @@ fill_refused a F w s x r some shows held = go (class_at a.sizes.segments (group_
     by_cases (Some Mirrored) is_c Nothing is_k e = absurd (cc)
     by_cases (Some Mirrored) is_c Pending is_k e =
         subst (λ q. MayRefuse q ((G : Flat) × (FillCase F w s x (Filled s) G)) (FillCase F w s x (Refused q) F)) (same_Some _ _ e) (held, is_c, (kept_iff a F s shows).0 (ap is_kept is_k), refl)
+    by_cases (Some Mirrored) is_c (Moving m) is_k e =
+        subst (λ q. MayRefuse q ((G : Flat) × (FillCase F w s x (Filled s) G)) (FillCase F w s x (Refused q) F)) (same_Some _ _ e) (held, is_c, (kept_iff a F s shows).0 (ap is_kept is_k), refl)
     by_cases (Some Mirrored) is_c (Newest b) is_k e =
         subst (λ q. MayRefuse q ((G : Flat) × (FillCase F w s x (Filled s) G)) (FillCase F w s x (Refused q) F)) (same_Some _ _ e) (held, is_c, (kept_iff a F s shows).0 (ap is_kept is_k), refl)
 
@@ -140,6 +162,7 @@ fill_refused a F w s x r some shows held = go (class_at a.sizes.segments (group_
 free_of : (c : Option Class) (k : Kept) → fill_reason_of c k ≡ None → k ≡ Nothing
 free_of (Some Mirrored) Nothing e = refl
 free_of (Some Mirrored) Pending e = absurd (cc)
+free_of (Some Mirrored) (Moving r) e = absurd (cc)
 free_of (Some Mirrored) (Newest b) e = absurd (cc)
 free_of (Some Parity) k e = absurd (cc)
 free_of None k e = absurd (cc)
@@ -148,11 +171,12 @@ free_of None k e = absurd (cc)
 pub fill_free : (a : ArrayView) (s : ℕ) → fill_reason a s ≡ None → kept_at a s ≡ Nothing
 fill_free a s none = free_of (class_at a.sizes.segments (group_at a) s) (kept_at a s) none
 
--- a filled array is whole
-pub fill_whole : (a : ArrayView) (s : ℕ) (x : List ℕ) → s < 65536 → fill_reason a s ≡ None → IsWhole a → IsWhole (fill_view a s x)
-fill_whole a s x inside none whole = record {
+-- an array is whole after a slot was made to wait
+pub wait_whole : (a : ArrayView) (s : ℕ) (kept : Kept) (x : List ℕ) → s < 65536 → kept_at a s ≡ Nothing
+    → ((r : Record) → kept ≡ Moving r → r.hop < 65535) → IsWhole a → IsWhole (wait_view a s kept x)
+wait_whole a s kept x inside free moves whole = record {
   room = record {
-    kept = length-set a.kept s Pending ∙ whole.room.kept;
+    kept = length-set a.kept s kept ∙ whole.room.kept;
     units = length-set a.units s _ ∙ whole.room.units;
     groups = whole.room.groups;
     keys = whole.room.keys;
@@ -161,26 +185,38 @@ fill_whole a s x inside none whole = record {
   keys = whole.keys;
   fit = whole.fit;
   newest = newest;
+  moving = λ t r is. moving t r is (cases_eq t s);
   stored = λ t kept. stored t kept (cases_eq t s);
   members = whole.members;
 }
   where
-    newest : (b : ℕ) → 0 < key_at a b → kept_at (fill_view a s x) (record_of b (key_at a b)).place ≡ Newest b
+    newest : (b : ℕ) → 0 < key_at a b → kept_at (wait_view a s kept x) (record_of b (key_at a b)).place ≡ Newest b
     newest b some =
         let at = whole.newest b some in
         let apart : (record_of b (key_at a b)).place ≢ s = λ e.
-        let no : Newest b ≡ Nothing = sym at ∙ ap (kept_at a) e ∙ fill_free a s none in absurd (cc)
+        let no : Newest b ≡ Nothing = sym at ∙ ap (kept_at a) e ∙ free in absurd (cc)
         in
-        get_or-set_other a.kept s (record_of b (key_at a b)).place Pending Nothing apart ∙ at
+        get_or-set_other a.kept s (record_of b (key_at a b)).place kept Nothing apart ∙ at
 
-    stored : (t : ℕ) → kept_at (fill_view a s x) t ≢ Nothing → (t ≡ s) ⊎ (t ≡ s → ⊥) → is_some (unit_at (fill_view a s x) t) ≡ true
-    stored t kept (inl e) =
+    moving : (t : ℕ) (r : Record) → kept_at (wait_view a s kept x) t ≡ Moving r → (t ≡ s) ⊎ (t ≡ s → ⊥) → r.hop < 65535
+    moving t r is (inl e) =
+        let room = whole.room.kept in
+        let long : s < length a.kept = omega arith in
+        moves r (sym (ap (kept_at (wait_view a s kept x)) e ∙ get_or-set_same a.kept s kept Nothing long) ∙ is)
+    moving t r is (inr ne) = whole.moving t r (sym (get_or-set_other a.kept s t kept Nothing ne) ∙ is)
+
+    stored : (t : ℕ) → kept_at (wait_view a s kept x) t ≢ Nothing → (t ≡ s) ⊎ (t ≡ s → ⊥) → is_some (unit_at (wait_view a s kept x) t) ≡ true
+    stored t is (inl e) =
         let room = whole.room.units in
         let long : s < length a.units = omega arith in
         rw (e, get_or-set_same a.units s (Some (record { header = None; payload = x })) None long) refl
-    stored t kept (inr ne) =
+    stored t is (inr ne) =
         ap is_some (get_or-set_other a.units s t (Some (record { header = None; payload = x })) None ne)
-        ∙ whole.stored t (λ e. kept (get_or-set_other a.kept s t Pending Nothing ne ∙ e))
+        ∙ whole.stored t (λ e. is (get_or-set_other a.kept s t kept Nothing ne ∙ e))
+
+-- and whole after a fill
+pub fill_whole : (a : ArrayView) (s : ℕ) (x : List ℕ) → s < 65536 → fill_reason a s ≡ None → IsWhole a → IsWhole (fill_view a s x)
+fill_whole a s x inside none whole = wait_whole a s Pending x inside (fill_free a s none) (λ r e. absurd (cc)) whole
 
 -- equal arrays are whole together
 pub as_whole : (b a : ArrayView) → b ≡ a → IsWhole a → IsWhole b

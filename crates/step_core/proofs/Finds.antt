@@ -3,11 +3,11 @@ use Rattle.std.proofs.Common.{◌≡◌, ℕ, ◌^◌, ◌<◌, ◌≤◌, sym, 
 use Rattle.std.proofs.lemmas.Option.{same_Some}
 use Rattle.map_join.specs.declared.records.Record.{Record}
 use Rattle.map_join.specs.Record.{record_of, record_at}
-use Rattle.step_core.specs.Flat.{Flat, Stored, last_write}
+use Rattle.step_core.specs.Flat.{Flat, Write, Stored, last_write}
 use Rattle.step_core.specs.Cases.{found_of}
 use Rattle.step_core.specs.Views.{Nothing, Newest, ArrayView, kept_at, unit_at, key_at, IsWhole}
 use Rattle.step_core.specs.Represents.{ShowsArray}
-use Rattle.step_core.proofs.Newest.{told_at, untold_at}
+use Rattle.step_core.proofs.Newest.{told_at, untold_at, told_key}
 
 sizes : (k : ℕ) → (k < 2 ^ 32) ⊎ (2 ^ 32 ≤ k)
 sizes k = grind arith
@@ -27,25 +27,29 @@ read_none a F b whole shows none = go (sizes (key_at a b))
         zero (inl e) = e
         zero (inr some) = let big = whole.keys b some in absurd (omega arith)
 
+-- the unit at a block's newest place has the payload of its last write
+pub newest_write : (a : ArrayView) (F : Flat) (b : ℕ) (r : Record) (u : Stored) → ShowsArray a F → record_at b (key_at a b) ≡ Some r → unit_at a r.place ≡ Some u
+    → (w : Write) × (last_write F.writes b ≡ Some w) × (u.payload ≡ w.payload)
+newest_write a F b r u shows found unit =
+    let told = told_key b (key_at a b) r found in
+    let big = told.0 in
+    let y = (shows.written b).1 (omega arith) in
+    let stored : Some u ≡ Some (record { header = Some (record_of b (key_at a b)); payload = y.0.payload }) =
+    sym unit ∙ sym (shows.slots r.place).unit ∙ ap (λ (q : Record). F.units q.place) (sym told.1) ∙ y.2.unit
+    in
+    (y.0, y.1, ap (λ (v : Stored). v.payload) (same_Some _ _ stored))
+
 -- a block with a record holds what its unit does
 pub read_some : (a : ArrayView) (F : Flat) (b : ℕ) (r : Record) (u : Stored) → ShowsArray a F → record_at b (key_at a b) ≡ Some r → unit_at a r.place ≡ Some u
     → Some (record { version = r.version; payload = u.payload }) ≡ found_of (last_write F.writes b)
-read_some a F b r u shows is unit = go (sizes (key_at a b))
-  where
-    P : Type 0
-    P = Some (record { version = r.version; payload = u.payload }) ≡ found_of (last_write F.writes b)
-
-    go : (key_at a b < 2 ^ 32) ⊎ (2 ^ 32 ≤ key_at a b) → P
-    go (inl small) = let bad : None ≡ Some r = sym (untold_at b (key_at a b) small) ∙ is in absurd (cc)
-    go (inr big) =
-        let y = (shows.written b).1 (omega arith) in
-        let same : record_of b (key_at a b) ≡ r = same_Some _ _ (sym (told_at b (key_at a b) big) ∙ is) in
-        let version : y.0.version ≡ r.version = y.2.version ∙ ap (λ (q : Record). q.version) same in
-        let stored : Some u ≡ Some (record { header = Some (record_of b (key_at a b)); payload = y.0.payload }) =
-        sym unit ∙ sym (shows.slots r.place).unit ∙ ap (λ (q : Record). F.units q.place) (sym same) ∙ y.2.unit
-        in
-        let payload : u.payload ≡ y.0.payload = ap (λ (v : Stored). v.payload) (same_Some _ _ stored) in
-        sym (ap found_of y.1 ∙ λ i. Some (record { version = version i; payload = (sym payload) i }))
+read_some a F b r u shows is unit =
+    let told = told_key b (key_at a b) r is in
+    let big = told.0 in
+    let y = (shows.written b).1 (omega arith) in
+    let x = newest_write a F b r u shows is unit in
+    let same : y.0 ≡ x.0 = same_Some _ _ (sym y.1 ∙ x.1) in
+    let version : x.0.version ≡ r.version = ap (λ (w : Write). w.version) (sym same) ∙ y.2.version ∙ ap (λ (q : Record). q.version) told.1 in
+    sym (ap found_of x.1 ∙ λ i. Some (record { version = version i; payload = (sym x.2) i }))
 
 -- the newest place has a unit
 pub read_there : (a : ArrayView) (b : ℕ) (r : Record) → IsWhole a → record_at b (key_at a b) ≡ Some r → is_some (unit_at a r.place) ≡ true

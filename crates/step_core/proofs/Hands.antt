@@ -8,7 +8,7 @@ use Rattle.step_core.specs.declared.hand.Hand.TheVariants.{Empty, Holds, Waits}
 use Rattle.step_core.specs.Flat.{Flat, Holder, Worker, Ticket, Block, Shut, with_pair, without_pair, IsArrays, for_ticket, for_block, for_shut, IsFree, Stored}
 use Rattle.step_core.specs.Steps.{Claimed, Taken, Released, NotHeld}
 use Rattle.step_core.specs.Cases.{ClaimCase, ReleaseCase}
-use Rattle.step_core.specs.Views.{Kept, Nothing, Pending, Newest, ArrayView, WorldView, kept_at, unit_at, hand_at, key_at, is_kept, has_no_holder}
+use Rattle.step_core.specs.Views.{Kept, Nothing, Pending, Moving, Newest, ArrayView, WorldView, kept_at, unit_at, hand_at, key_at, is_kept, has_no_holder}
 use Rattle.step_core.specs.Represents.{FlatSlot, flat_at, ArraySlot, HandSlot, ShowsArray, Represents, is_claim, is_ticket, Agree, BlockStands}
 use Rattle.step_core.proofs.Pairs.{flip, equal, equal_back, with_here, with_else, without_here, without_else}
 use Rattle.step_core.proofs.Kepts.{kept_holder}
@@ -30,6 +30,7 @@ hands_move a F H same shows = record {
   map = shows.map;
   groups = shows.groups;
   slots = slots;
+  tickets = shows.tickets;
   written = written;
 }
   where
@@ -78,6 +79,7 @@ one_hand a b hs js F G s old kept hand flat here t = go (cases_eq t s)
 nothing_of : (k : Kept) → not (is_kept k) ≡ true → k ≡ Nothing
 nothing_of Nothing e = refl
 nothing_of Pending e = absurd (cc)
+nothing_of (Moving r) e = absurd (cc)
 nothing_of (Newest b) e = absurd (cc)
 
 no_hand : (k : Kept) (h : Hand) → has_no_holder k h ≡ true → (k ≡ Nothing) × (h ≡ Empty)
@@ -160,6 +162,7 @@ taken_case v F w s held rep = (refl, holder (hand_at v.hands s) refl, refl)
     kept_of_not : (k : Kept) → not (is_kept k) ≡ false → is_kept k ≡ true
     kept_of_not Nothing e = absurd (cc)
     kept_of_not Pending e = refl
+    kept_of_not (Moving r) e = refl
     kept_of_not (Newest b) e = refl
 
     holder : (h : Hand) → hand_at v.hands s ≡ h → (k : Holder) × (F.held s k ≡ true)
@@ -190,6 +193,7 @@ and_true false = refl
 pub agree_holds : (k : Kept) (w : ℕ) → Agree k (Holds w) → k ≡ Nothing
 agree_holds Nothing w e = refl
 agree_holds Pending w e = absurd e
+agree_holds (Moving r) w e = absurd e
 agree_holds (Newest b) w e = absurd e
 
 -- not one worker and another

@@ -8,7 +8,11 @@ pub mod Hands
 pub mod News
 pub mod Writes
 pub mod Commits
+pub mod Committing
+pub mod Copies
+pub mod Discards
 pub mod Finds
+pub mod Seeing
 pub mod Worlds
 pub mod Makes
 pub mod Makings

@@ -19,7 +19,7 @@ use Rattle.step_core.specs.Cases.{made, wiped, MakeCase}
 use Rattle.step_core.specs.Making.{blank, placed, Entered, ArePlaced, IsBlankUnit, IsMakeReason}
 use Rattle.step_core.specs.declared.stored.StoredUnit.{StoredUnit}
 use Rattle.step_core.specs.Kept.{units_of}
-use Rattle.step_core.specs.Views.{Kept, Nothing, Pending, Newest, ArrayView, kept_at, unit_at, key_at, group_at, IsWhole}
+use Rattle.step_core.specs.Views.{Kept, Nothing, Pending, Moving, Newest, ArrayView, kept_at, unit_at, key_at, group_at, is_waiting, IsWhole}
 use Rattle.step_core.specs.Represents.{FlatSlot, flat_at, ArraySlot, IsBlank, BlockStands, ShowsArray, waiting}
 use Rattle.step_core.proofs.Pairs.{equal, put_here, put_else}
 
@@ -74,6 +74,7 @@ entered_whole a b g class members whole limit size e = subst IsWhole (sym e.rest
   keys = whole.keys;
   fit = whole.fit;
   newest = whole.newest;
+  moving = whole.moving;
   stored = λ s kept. ap is_some (e.units s) ∙ placed_some a.units _ _ (blank a.sizes.payload) s (whole.stored s kept);
   members = λ h m is. sized h m is (cases_eq h g);
 })
@@ -99,6 +100,7 @@ bare_slot kept (Some u) f is none = let bad : false ≡ true = sym (ap is_some n
 bare_kept : (kept : Kept) → (kept ≢ Nothing → false ≡ true) → kept ≡ Nothing
 bare_kept Nothing stored = refl
 bare_kept Pending stored = let bad = stored (λ e. cc) in absurd (cc)
+bare_kept (Moving r) stored = let bad = stored (λ e. cc) in absurd (cc)
 bare_kept (Newest b) stored = let bad = stored (λ e. cc) in absurd (cc)
 
 pub entered_shows : (a b : ArrayView) (F : Flat) (g : ℕ) (class : Class) (members : List Member) → IsWhole a → g < 512 → group_at a g ≡ None
@@ -117,6 +119,7 @@ entered_shows a b F g class members whole limit free e shows = subst (λ (v : Ar
   map = shows.map;
   groups = λ h. groups h (cases_eq h g);
   slots = λ s. slots s (cases_eq (s / 128) g);
+  tickets = shows.tickets;
   written = written;
 })
   where
@@ -179,8 +182,8 @@ entered_shows a b F g class members whole limit free e shows = subst (λ (v : Ar
         ticket (inl none) = is.ticket ∙ ap (λ k. waiting k o) none ∙ ap (λ k. waiting k p) (sym none)
         ticket (inr same) = is.ticket ∙ ap (waiting kept) same
 
-        blank_now : (kept ≡ Nothing) ⊎ (o ≡ p) → kept ≡ Pending → IsBlank p
-        blank_now (inl none) w = let bad : Nothing ≡ Pending = sym none ∙ w in absurd (cc)
+        blank_now : (kept ≡ Nothing) ⊎ (o ≡ p) → is_waiting kept ≡ true → IsBlank p
+        blank_now (inl none) w = let bad : true ≡ false = sym w ∙ ap is_waiting none in absurd (cc)
         blank_now (inr same) w = subst IsBlank same (is.blank w)
 
     slots : (s : ℕ) → (s / 128 ≡ g) ⊎ (s / 128 ≡ g → ⊥) → ArraySlot (kept_at view s) (unit_at view s) (flat_at G s)

@@ -33,6 +33,17 @@ told_at block key h = grind (arith, nat_tests)
 pub untold_at : (block key : ℕ) → key < 2 ^ 32 → record_at block key ≡ None
 untold_at block key h = grind (arith, nat_tests)
 
+-- a block with a newest record has its key
+pub told_key : (b key : ℕ) (n : Record) → record_at b key ≡ Some n → (2 ^ 32 ≤ key) × (record_of b key ≡ n)
+told_key b key n is = go (sizes key)
+  where
+    sizes : (k : ℕ) → (k < 2 ^ 32) ⊎ (2 ^ 32 ≤ k)
+    sizes k = grind arith
+
+    go : (key < 2 ^ 32) ⊎ (2 ^ 32 ≤ key) → (2 ^ 32 ≤ key) × (record_of b key ≡ n)
+    go (inl small) = let bad : None ≡ Some n = sym (untold_at b key small) ∙ is in absurd (cc)
+    go (inr big) = (big, same_Some _ _ (sym (told_at b key big) ∙ is))
+
 -- the block's key tells its newest record
 pub newest_told : (a : ArrayView) (F : Flat) (block : ℕ) → ShowsArray a F → IsNewest F.emitted block (record_at block (key_at a block))
 newest_told a F block shows = go (least (key_at a block))
@@ -53,6 +64,9 @@ newest_told a F block shows = go (least (key_at a block))
         let found : record_at block (key_at a block) ≡ Some t.0 = told_at block (key_at a block) (omega arith) ∙ ap (λ (r : Record). Some r) same in
         subst (IsNewest F.emitted block) (sym found)
         (t.1, t.2, λ q has at. let most = shows.map.most q has in let e = ap (key_at a) at in let k = t.3 in omega arith)
+
+pub newest_is : (a : ArrayView) (F : Flat) (block : ℕ) (r : Record) → ShowsArray a F → record_at block (key_at a block) ≡ Some r → IsNewest F.emitted block (Some r)
+newest_is a F block r shows found = subst (IsNewest F.emitted block) found (newest_told a F block shows)
 
 -- a block has one newest record
 pub newest_unique : (emitted : List Record) (block : ℕ) → ((r : Record) → Contains emitted r → IsRecord r) → (o p : Option Record)

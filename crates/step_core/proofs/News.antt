@@ -10,7 +10,7 @@ use Rattle.step_core.specs.declared.group.Group.{Group}
 use Rattle.step_core.specs.Sizes.{Sizes}
 use Rattle.step_core.specs.Kept.{kept_of, kepts_of, stored_of, units_of, made_of, groups_of}
 use Rattle.step_core.specs.Flat.{new_flat}
-use Rattle.step_core.specs.Views.{Nothing, ArrayView, IsWhole, IsNew}
+use Rattle.step_core.specs.Views.{Nothing, Moving, ArrayView, IsWhole, IsNew}
 use Rattle.step_core.specs.Represents.{flat_at, ArraySlot, ShowsArray}
 
 pub none_kept : {C : Type 0} (places : List (Place C)) → ((s : ℕ) → get_or places s place.Free ≡ place.Free) → (s : ℕ) → get_or (kepts_of places) s Nothing ≡ Nothing
@@ -29,6 +29,7 @@ new_whole z d a new narrow = record {
   fit = λ b. let e = new.keys b in omega arith;
   keys = λ b some. let e = new.keys b in absurd (omega arith);
   newest = λ b some. let e = new.keys b in absurd (omega arith);
+  moving = λ s r is. let bad : Nothing ≡ Moving r = sym (new.kept s) ∙ is in absurd (cc);
   stored = λ s kept. absurd (kept (new.kept s));
   members = λ g made is. let e = new.groups g in absurd (cc);
 }
@@ -59,5 +60,6 @@ new_shows z d a new = record {
   map = record { told = λ b some. let e = new.keys b in absurd (omega arith); most = λ r has. absurd (not_there r has) };
   groups = λ g. sym (new.groups g);
   slots = λ s. rw (new.kept s, new.units s) (blank_slot s z d);
+  tickets = λ s. tt;
   written = λ b. (λ none. refl, λ some. let e = new.keys b in absurd (omega arith));
 }

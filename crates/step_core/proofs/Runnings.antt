@@ -13,7 +13,7 @@ use Rattle.step_core.specs.declared.hand.Hand.TheVariants.{Empty, Holds, Waits}
 use Rattle.step_core.specs.Flat.{Flat, Holder, Worker, Ticket, Block, Shut, Stored}
 use Rattle.step_core.specs.Steps.{FlatStep, FlatAnswer}
 use Rattle.step_core.specs.Cases.{Case, Runs}
-use Rattle.step_core.specs.Views.{Kept, Nothing, Pending, Newest, WorldView, kept_at, unit_at, hand_at, key_at}
+use Rattle.step_core.specs.Views.{Kept, Nothing, Pending, Moving, Newest, WorldView, kept_at, unit_at, hand_at, key_at}
 use Rattle.step_core.specs.Represents.{FlatSlot, flat_at, ArraySlot, HandSlot, Represents, is_newest, is_claim, is_ticket, Agree}
 use Rattle.step_core.specs.Headline.{Stands}
 use Rattle.step_core.proofs.Pairs.{equal_back}
@@ -70,6 +70,7 @@ same_newest : (k : Kept) (a b : ℕ) → is_newest k a ≡ true → is_newest k 
 same_newest (Newest c) a b x y = sym (equal_back c a x) ∙ equal_back c b y
 same_newest Nothing a b x y = absurd (cc)
 same_newest Pending a b x y = absurd (cc)
+same_newest (Moving r) a b x y = absurd (cc)
 
 -- not a worker's claim and a ticket, nor either beside a block's newest place
 claim_or_ticket : (h : Hand) (v w : ℕ) → is_claim h v ≡ true → is_ticket h w ≡ true → ⊥
@@ -80,6 +81,7 @@ claim_or_ticket (Waits u) v w a b = cc
 claim_or_newest : (k : Kept) (h : Hand) (v b : ℕ) → Agree k h → is_claim h v ≡ true → is_newest k b ≡ true → ⊥
 claim_or_newest Nothing h v b e x y = cc
 claim_or_newest Pending h v b e x y = cc
+claim_or_newest (Moving r) h v b e x y = cc
 claim_or_newest (Newest c) Empty v b e x y = cc
 claim_or_newest (Newest c) (Holds u) v b e x y = e
 claim_or_newest (Newest c) (Waits u) v b e x y = e
@@ -87,6 +89,7 @@ claim_or_newest (Newest c) (Waits u) v b e x y = e
 ticket_or_newest : (k : Kept) (h : Hand) (v b : ℕ) → Agree k h → is_ticket h v ≡ true → is_newest k b ≡ true → ⊥
 ticket_or_newest Nothing h v b e x y = cc
 ticket_or_newest Pending h v b e x y = cc
+ticket_or_newest (Moving r) h v b e x y = cc
 ticket_or_newest (Newest c) Empty v b e x y = cc
 ticket_or_newest (Newest c) (Holds u) v b e x y = e
 ticket_or_newest (Newest c) (Waits u) v b e x y = e

@@ -8,20 +8,20 @@ use Rattle.map_join.specs.Record.{record_at, IsRecord}
 use Rattle.step_core.specs.declared.hand.Hand.{Hand}
 use Rattle.step_core.specs.declared.hand.Hand.TheVariants.{Empty, Holds, Waits}
 use Rattle.step_core.specs.Flat.{Flat, Holder, Worker, Ticket, Block, same_holder, Stored}
-use Rattle.step_core.specs.Steps.{Filled, Committed, MadeGroup}
+use Rattle.step_core.specs.Steps.{Filled, Copied, Committed, Discarded, MadeGroup}
 use Rattle.step_core.specs.declared.group.Class.{Class}
 use Rattle.step_core.specs.declared.group.Member.{Member}
-use Rattle.step_core.specs.Cases.{FillCase, filled, CommitCase, MakeCase, made}
-use Rattle.step_core.specs.Changes.{fill_view, commit_view, passed_hands}
-use Rattle.step_core.specs.Views.{Kept, Nothing, Pending, Newest, ArrayView, WorldView, kept_at, hand_at}
-use Rattle.step_core.specs.Represents.{flat_at, HandSlot, ShowsArray, Represents, is_claim, is_ticket, Agree, waiting}
+use Rattle.step_core.specs.Cases.{FillCase, CopyCase, ticketed, CommitCase, DiscardCase, discarded, MakeCase, made}
+use Rattle.step_core.specs.Changes.{wait_view, fill_view, copy_view, discard_view, commit_view, passed_hands}
+use Rattle.step_core.specs.Views.{Kept, Nothing, Pending, Moving, Newest, is_waiting, ArrayView, WorldView, kept_at, hand_at}
+use Rattle.step_core.specs.Represents.{flat_at, HandSlot, ShowsArray, Represents, is_claim, is_ticket, Agree}
 use Rattle.step_core.proofs.Pairs.{flip, put_else, turned_here, turned_else}
 use Rattle.step_core.proofs.Slots.{same_slot}
-use Rattle.step_core.specs.Flat.{Write, Fresh, IsNewest}
+use Rattle.step_core.specs.Flat.{Write, Content, Fresh, Moved, IsNewest}
 use Rattle.step_core.specs.Cases.{CommitWith, committed}
-use Rattle.step_core.specs.Views.{key_at, unit_at, IsWhole}
+use Rattle.step_core.specs.Views.{key_at, IsWhole}
 use Rattle.step_core.proofs.Newest.{newest_told, newest_unique, place_small}
-use Rattle.step_core.proofs.Commits.{IsOld, kept_here, kept_old, kept_else, held_here, held_old, held_else, old_found, waits_unit, some_is}
+use Rattle.step_core.proofs.Commits.{IsOld, kept_here, kept_old, kept_else, held_here, held_old, held_else, old_found, some_is}
 use Rattle.step_core.proofs.Hands.{one_hand, claim_hand, ticket_hand}
 
 -- not one worker's claim and another's
@@ -32,15 +32,23 @@ other_claim u w = subst (λ b. ((b && not (u == w)) || false) ≡ false) (flip u
     go true = refl
     go false = refl
 
--- the hands of a world whose worker filled a slot
-pub fill_hands : (v : WorldView) (F : Flat) (w s : ℕ) (x : List ℕ) → s < 65536 → length v.array.kept ≡ 65536 → Represents v F → is_claim (hand_at v.hands s) w ≡ true
-    → (t : ℕ) → HandSlot (kept_at (fill_view v.array s x) t) (hand_at (set v.hands s (Waits w)) t) (flat_at (filled F w s x) t)
-fill_hands v F w s x inside long rep held =
-    one_hand v.array (fill_view v.array s x) v.hands (set v.hands s (Waits w)) F (filled F w s x) s rep.hands
-    (λ t ne. get_or-set_other v.array.kept s t Pending Nothing ne)
-    (λ t ne. get_or-set_other v.hands s t (Waits w) Empty ne)
-    (λ t ne. same_slot _ _ (turned_else F.held s (Worker w) (Ticket w) t ne) (put_else F.tickets s _ t ne) (put_else F.units s _ t ne) refl)
-    here
+-- a slot that waits is in its worker's hand
+agree_waiting : (k : Kept) (w : ℕ) → is_waiting k ≡ true → Agree k (Waits w)
+agree_waiting Pending w e = tt
+agree_waiting (Moving r) w e = tt
+agree_waiting Nothing w e = absurd (cc)
+agree_waiting (Newest b) w e = absurd (cc)
+
+-- a world whose worker made a slot wait stands for the state after it
+pub ticket_world : (v : WorldView) (F G : Flat) (w s : ℕ) (kept : Kept) (content : Content) (x y : List ℕ) (b : ArrayView) → s < 65536
+    → is_waiting kept ≡ true → b ≡ wait_view v.array s kept x → G ≡ ticketed F w s content y → Represents v F → is_claim (hand_at v.hands s) w ≡ true
+    → ShowsArray b G → Represents (record { array = b; hands = set v.hands s (Waits w) }) G
+ticket_world v F G w s kept content x y b inside waits is leaves rep held shows = record {
+  array = shows;
+  room = length-set v.hands s (Waits w) ∙ rep.room;
+  hands = λ t. subst (λ (E : Flat). HandSlot (kept_at b t) (hand_at (set v.hands s (Waits w)) t) (flat_at E t)) (sym leaves)
+      (subst (λ (a : ArrayView). HandSlot (kept_at a t) (hand_at (set v.hands s (Waits w)) t) (flat_at (ticketed F w s content y) t)) (sym is) (hands t));
+}
   where
     hand : hand_at v.hands s ≡ Holds w
     hand = claim_hand (hand_at v.hands s) w held
@@ -48,20 +56,27 @@ fill_hands v F w s x inside long rep held =
     old : HandSlot (kept_at v.array s) (Holds w) (flat_at F s)
     old = subst (λ h. HandSlot (kept_at v.array s) h (flat_at F s)) hand (rep.hands s)
 
-    here : HandSlot (kept_at (fill_view v.array s x) s) (hand_at (set v.hands s (Waits w)) s) (flat_at (filled F w s x) s)
+    here : HandSlot (kept_at (wait_view v.array s kept x) s) (hand_at (set v.hands s (Waits w)) s) (flat_at (ticketed F w s content y) s)
     here =
+        let long = rep.array.room.kept in
         let room : s < length v.array.kept = omega arith in
         let e = rep.room in
         let hands : s < length v.hands = omega arith in
-        rw (get_or-set_same v.array.kept s Pending Nothing room, get_or-set_same v.hands s (Waits w) Empty hands) (record {
+        rw (get_or-set_same v.array.kept s kept Nothing room, get_or-set_same v.hands s (Waits w) Empty hands) (record {
           claims = λ u. turned_here F.held s (Worker w) (Ticket w) (Worker u)
               ∙ ap (λ b. (b && not (u == w)) || false) (old.claims u) ∙ other_claim u w;
           tickets = λ u. turned_here F.held s (Worker w) (Ticket w) (Ticket u)
               ∙ ap (λ b. (b && true) || (u == w)) (old.tickets u) ∙ flip u w;
-          agree = tt;
+          agree = agree_waiting kept w waits;
         })
 
--- a world whose worker filled a slot stands for the state after it
+    hands : (t : ℕ) → HandSlot (kept_at (wait_view v.array s kept x) t) (hand_at (set v.hands s (Waits w)) t) (flat_at (ticketed F w s content y) t)
+    hands = one_hand v.array (wait_view v.array s kept x) v.hands (set v.hands s (Waits w)) F (ticketed F w s content y) s rep.hands
+        (λ t ne. get_or-set_other v.array.kept s t kept Nothing ne)
+        (λ t ne. get_or-set_other v.hands s t (Waits w) Empty ne)
+        (λ t ne. same_slot _ _ (turned_else F.held s (Worker w) (Ticket w) t ne) (put_else F.tickets s _ t ne) (put_else F.units s _ t ne) refl)
+        here
+
 pub fill_world : (v : WorldView) (F : Flat) (w s : ℕ) (x : List ℕ) (b : ArrayView) → s < 65536 → b ≡ fill_view v.array s x → Represents v F
     → is_claim (hand_at v.hands s) w ≡ true → (t : ℕ) → t ≡ s → (G : Flat) × (FillCase F w t x (Filled t) G) × (ShowsArray b G)
     → (G : Flat) × (FillCase F w s x (Filled s) G) × (Represents (record { array = b; hands = set v.hands s (Waits w) }) G)
@@ -69,17 +84,52 @@ fill_world v F w s x b inside is rep held t same z =
     let y : (G : Flat) × (FillCase F w s x (Filled s) G) × (ShowsArray b G) =
     subst (λ n. (G : Flat) × (FillCase F w n x (Filled n) G) × (ShowsArray b G)) same z
     in
-    let leaves : y.0 ≡ filled F w s x = y.1.4 in (
-      y.0,
-      y.1,
-      record {
-        array = y.2;
-        room = length-set v.hands s (Waits w) ∙ rep.room;
-        hands = λ t. subst (λ (G : Flat). HandSlot (kept_at b t) (hand_at (set v.hands s (Waits w)) t) (flat_at G t)) (sym leaves)
-            (subst (λ (a : ArrayView). HandSlot (kept_at a t) (hand_at (set v.hands s (Waits w)) t) (flat_at (filled F w s x) t)) (sym is)
-            (fill_hands v F w s x inside rep.array.room.kept rep held t));
-      },
-    )
+    (y.0, y.1, ticket_world v F y.0 w s Pending (Fresh x) x x b inside refl is y.1.4 rep held y.2)
+
+pub copy_world : (v : WorldView) (F : Flat) (w s c : ℕ) (r : Record) (x : List ℕ) (b : ArrayView) → s < 65536 → b ≡ copy_view v.array s r x → Represents v F
+    → is_claim (hand_at v.hands s) w ≡ true → (t : ℕ) → t ≡ s → (G : Flat) × (CopyCase F w t c (Copied t) G) × (ShowsArray b G)
+    → (G : Flat) × (CopyCase F w s c (Copied s) G) × (Represents (record { array = b; hands = set v.hands s (Waits w) }) G)
+copy_world v F w s c r x b inside is rep held t same z =
+    let y : (G : Flat) × (CopyCase F w s c (Copied s) G) × (ShowsArray b G) =
+    subst (λ n. (G : Flat) × (CopyCase F w n c (Copied n) G) × (ShowsArray b G)) same z
+    in
+    (y.0, y.1, ticket_world v F y.0 w s (Moving r) _ x _ b inside refl is y.1.4.5 rep held y.2)
+
+-- a world whose worker gave up a ticket stands for the state after it
+pub discard_world : (v : WorldView) (F : Flat) (w s : ℕ) (b : ArrayView) → s < 65536 → b ≡ discard_view v.array s → Represents v F
+    → is_ticket (hand_at v.hands s) w ≡ true → (t : ℕ) → t ≡ s → (G : Flat) × (DiscardCase F w t (Discarded t) G) × (ShowsArray b G)
+    → (G : Flat) × (DiscardCase F w s (Discarded s) G) × (Represents (record { array = b; hands = set v.hands s (Holds w) }) G)
+discard_world v F w s b inside is rep held t same z =
+    (y.0, y.1, record { array = y.2; room = length-set v.hands s (Holds w) ∙ rep.room; hands = hands })
+  where
+    y : (G : Flat) × (DiscardCase F w s (Discarded s) G) × (ShowsArray b G)
+    y = subst (λ n. (G : Flat) × (DiscardCase F w n (Discarded n) G) × (ShowsArray b G)) same z
+
+    old : HandSlot (kept_at v.array s) (Waits w) (flat_at F s)
+    old = subst (λ h. HandSlot (kept_at v.array s) h (flat_at F s)) (ticket_hand (hand_at v.hands s) w held) (rep.hands s)
+
+    here : HandSlot (kept_at (discard_view v.array s) s) (hand_at (set v.hands s (Holds w)) s) (flat_at (discarded F w s) s)
+    here =
+        let long = rep.array.room.kept in
+        let room : s < length v.array.kept = omega arith in
+        let e = rep.room in
+        let hands : s < length v.hands = omega arith in
+        rw (get_or-set_same v.array.kept s Nothing Nothing room, get_or-set_same v.hands s (Holds w) Empty hands) (record {
+          claims = λ u. turned_here F.held s (Ticket w) (Worker w) (Worker u) ∙ ap (λ b. (b && true) || (u == w)) (old.claims u) ∙ flip u w;
+          tickets = λ u. turned_here F.held s (Ticket w) (Worker w) (Ticket u) ∙ ap (λ b. (b && not (u == w)) || false) (old.tickets u) ∙ other_claim u w;
+          agree = tt;
+        })
+
+    all : (u : ℕ) → HandSlot (kept_at (discard_view v.array s) u) (hand_at (set v.hands s (Holds w)) u) (flat_at (discarded F w s) u)
+    all = one_hand v.array (discard_view v.array s) v.hands (set v.hands s (Holds w)) F (discarded F w s) s rep.hands
+        (λ u ne. get_or-set_other v.array.kept s u Nothing Nothing ne)
+        (λ u ne. get_or-set_other v.hands s u (Holds w) Empty ne)
+        (λ u ne. same_slot _ _ (turned_else F.held s (Ticket w) (Worker w) u ne) (put_else F.tickets s None u ne) refl refl)
+        here
+
+    hands : (u : ℕ) → HandSlot (kept_at b u) (hand_at (set v.hands s (Holds w)) u) (flat_at y.0 u)
+    hands u = subst (λ (G : Flat). HandSlot (kept_at b u) (hand_at (set v.hands s (Holds w)) u) (flat_at G u)) (sym y.1.2)
+        (subst (λ (a : ArrayView). HandSlot (kept_at a u) (hand_at (set v.hands s (Holds w)) u) (flat_at (discarded F w s) u)) (sym is) (all u))
 
 passed_hands_length : (hands : List Hand) (s w : ℕ) (found : Option Record) → length (passed_hands hands s w found) ≡ length hands
 passed_hands_length hands s w None = length-set hands s Empty
@@ -91,13 +141,14 @@ agree_newest b Empty e = refl
 agree_newest b (Holds w) e = absurd e
 agree_newest b (Waits w) e = absurd e
 
-agree_waits : (k : Kept) (w : ℕ) → Agree k (Waits w) → k ≡ Pending
+agree_waits : (k : Kept) (w : ℕ) → Agree k (Waits w) → is_waiting k ≡ true
 agree_waits Pending w e = refl
+agree_waits (Moving r) w e = refl
 agree_waits Nothing w e = absurd e
 agree_waits (Newest b) w e = absurd e
 
 -- a ticket in a worker's hand is pending in the array
-pub hand_pending : (v : WorldView) (F : Flat) (w s : ℕ) → Represents v F → is_ticket (hand_at v.hands s) w ≡ true → kept_at v.array s ≡ Pending
+pub hand_pending : (v : WorldView) (F : Flat) (w s : ℕ) → Represents v F → is_ticket (hand_at v.hands s) w ≡ true → is_waiting (kept_at v.array s) ≡ true
 hand_pending v F w s rep held =
     agree_waits (kept_at v.array s) w (subst (Agree (kept_at v.array s)) (ticket_hand (hand_at v.hands s) w held) (rep.hands s).agree)
 
@@ -182,15 +233,16 @@ commit_hands v F w s b found r writes inside small rep held old t = go (cases_eq
     go (inl e) = subst P (sym e) here
     go (inr ne) = by_found found refl ne
 
--- the state that a commit of a fresh ticket leaves, told by the newest record
-commit_leaves : (F G : Flat) (w s b : ℕ) (found : Option Record) (r : Record) (u : Stored) → ((q : Record) → Contains F.emitted q → IsRecord q)
-    → IsNewest F.emitted b found → F.tickets s ≡ Some (Fresh u.payload) → CommitCase F w s b (Committed r) G
-    → (writes : List Write) × (G ≡ committed F w s b found writes r)
-commit_leaves F G w s b found r u all newest ticket y =
-    let n : y.1.0 ≡ found = newest_unique F.emitted b all y.1.0 found y.1.1 newest in
-    let x : CommitWith F w s b y.1.0 (Some (Fresh u.payload)) (Committed r) G = subst (λ t. CommitWith F w s b y.1.0 t (Committed r) G) ticket y.1.2 in
-    let z : CommitWith F w s b found (Some (Fresh u.payload)) (Committed r) G = subst (λ o. CommitWith F w s b o (Some (Fresh u.payload)) (Committed r) G) n x in
-    (_, z.3)
+-- the state that a commit leaves, told by the newest record
+commit_leaves : (F G : Flat) (w s b : ℕ) (found : Option Record) (r : Record) → ((q : Record) → Contains F.emitted q → IsRecord q)
+    → IsNewest F.emitted b found → CommitCase F w s b (Committed r) G → (writes : List Write) × (G ≡ committed F w s b found writes r)
+commit_leaves F G w s b found r all newest y =
+    of (F.tickets s) (subst (λ o. CommitWith F w s b o (F.tickets s) (Committed r) G) (newest_unique F.emitted b all y.2.0 found y.2.1 newest) y.2.2)
+  where
+    of : (c : Option Content) → CommitWith F w s b found c (Committed r) G → (writes : List Write) × (G ≡ committed F w s b found writes r)
+    of None z = absurd z
+    of (Some (Fresh x)) z = (_, z.3)
+    of (Some (Moved d i h x)) z = (_, z.3)
 
 pub commit_world : (v : WorldView) (F : Flat) (w s b : ℕ) (r : Record) (a : ArrayView) → s < 65536 → IsWhole v.array
     → a ≡ commit_view v.array s b (record_at b (key_at v.array b)) r → Represents v F → is_ticket (hand_at v.hands s) w ≡ true
@@ -198,12 +250,8 @@ pub commit_world : (v : WorldView) (F : Flat) (w s b : ℕ) (r : Record) (a : Ar
     → (G : Flat) × (CommitCase F w s b (Committed r) G) × (Represents (record { array = a; hands = passed_hands v.hands s w (record_at b (key_at v.array b)) }) G)
 commit_world v F w s b r a inside whole is rep held y =
     let waits = hand_pending v F w s rep held in
-    let u = waits_unit v.array s whole waits in
-    let ticket : F.tickets s ≡ Some (Fresh u.0.payload) =
-    (rep.array.slots s).ticket ∙ ap (λ k. waiting k (unit_at v.array s)) waits ∙ ap (waiting Pending) u.1
-    in
     let found = record_at b (key_at v.array b) in
-    let leaves = commit_leaves F y.0 w s b found r u.0 rep.array.records (newest_told v.array F b rep.array) ticket y.1 in (
+    let leaves = commit_leaves F y.0 w s b found r rep.array.records (newest_told v.array F b rep.array) y.1 in (
       y.0,
       y.1,
       record {

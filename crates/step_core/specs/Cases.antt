@@ -1,22 +1,26 @@
 -- The flat machine: which answer a step gives in a state, and which state it leaves. Each pair of step and answer has its
 -- case; what never comes is impossible.
-use Rattle.std.specs.Prelude.{◌≡◌, ℕ, ◌+◌, ◌/◌, ◌%◌, ◌<◌, ◌≤◌, ◌==◌, ◌&&◌, not, nat_lt, Bool, true, false, if◌then◌else◌, List, [], ◌∷◌, ◌++◌, length, replicate, Option, Some, None}
+use Rattle.std.specs.Prelude.{◌≡◌, ◌≢◌, ◌⊎◌, ℕ, ◌+◌, ◌/◌, ◌%◌, ◌<◌, ◌≤◌, ◌==◌, ◌&&◌, not, nat_lt, Bool, true, false, if◌then◌else◌, List, [], ◌∷◌, ◌++◌, length, replicate, Option, Some, None}
 use Rattle.map_join.specs.declared.records.Record.{Record}
 use Rattle.step_core.specs.declared.group.Class.{Class}
 use Rattle.step_core.specs.declared.group.Class.TheVariants.{Mirrored, Parity}
 use Rattle.step_core.specs.declared.group.Member.{Member}
-use Rattle.step_core.specs.declared.refusal.Refusal.TheVariants.{NoGroup, WrongClass, InUse, NoTicket, VersionSpent, ExtentTaken, SameDrive, LogFull, Full, BadMember}
+use Rattle.step_core.specs.declared.refusal.Refusal.TheVariants.{NoGroup, WrongClass, InUse, NoTicket, Outrun, VersionSpent, HopsSpent, Unwritten, Ahead, ExtentTaken, SameDrive, LogFull, Full, BadMember}
 use Rattle.step_core.specs.Groups.{slot_count, AreMembers, AreApart, AreUnowned, IsLowestFree, IsFull}
-use Rattle.step_core.specs.Flat.{Flat, Write, Holder, Worker, Ticket, Block, Shut, Content, Fresh, Stored, put, with_pair, without_pair, turned, same_holder, IsFree, IsKept, class_of, last_write, IsNewest}
-use Rattle.step_core.specs.Steps.{FlatStep, Claim, Release, Fill, Commit, Read, Make, Version, FlatAnswer, Claimed, Taken, Released, NotHeld, Filled, Committed, Found, MadeGroup, Refused}
+use Rattle.step_core.specs.Flat.{Flat, Write, Holder, Worker, Ticket, Block, Shut, Content, Fresh, Moved, Stored, put, with_pair, without_pair, turned, same_holder, IsFree, IsKept, class_of, last_write, IsNewest}
+use Rattle.map_join.specs.Record.{key_of}
+use Rattle.step_core.specs.Steps.{FlatStep, Claim, Release, Fill, Copy, Commit, Discard, Read, ReadAt, Make, Version, Seen, Data, Stale, FlatAnswer, Claimed, Taken, Released, NotHeld, Filled, Copied, Committed, Discarded, Found, FoundAt, MadeGroup, Refused}
 
 -- G is the state x
 abbrev pub Leaves : Flat → Flat → Type 0
 Leaves x G = G ≡ x
 
--- the greatest version, and the longest log
+-- the greatest version, the greatest hop of a version, and the longest log
 abbrev pub last_version : ℕ
 last_version = 4294967295
+
+abbrev pub last_hop : ℕ
+last_hop = 65535
 
 abbrev pub longest_log : ℕ
 longest_log = 4294967295
@@ -33,13 +37,17 @@ ReleaseCase F w s (Released t) G = (t ≡ s) × (F.held s (Worker w) ≡ true) �
 ReleaseCase F w s (NotHeld t) G = (t ≡ s) × (F.held s (Worker w) ≡ false) × (Leaves F G)
 ReleaseCase F w s _ G = ⊥
 
--- the state in which a worker's slot waits with a fresh payload under a blank header
-abbrev pub filled : Flat → ℕ → ℕ → List ℕ → Flat
-filled F w s x = record F {
+-- the state in which a worker's slot waits with a payload under a blank header
+abbrev pub ticketed : Flat → ℕ → ℕ → Content → List ℕ → Flat
+ticketed F w s content x = record F {
   held = turned F.held s (Worker w) (Ticket w);
-  tickets = put F.tickets s (Some (Fresh x));
+  tickets = put F.tickets s (Some content);
   units = put F.units s (Some (record { header = None; payload = x }));
 }
+
+-- the state in which it waits with a fresh payload
+abbrev pub filled : Flat → ℕ → ℕ → List ℕ → Flat
+filled F w s x = ticketed F w s (Fresh x) x
 
 -- fill: a fresh payload into a mirrored slot that the worker holds
 abbrev pub FillCase : Flat → ℕ → ℕ → List ℕ → FlatAnswer → Flat → Type 0
@@ -49,6 +57,26 @@ FillCase F w s x (Refused WrongClass) G = (F.held s (Worker w) ≡ true) × (cla
 FillCase F w s x (Refused InUse) G = (F.held s (Worker w) ≡ true) × (class_of F s ≡ Some Mirrored) × (IsKept F s) × (Leaves F G)
 FillCase F w s x (Filled t) G = (t ≡ s) × (F.held s (Worker w) ≡ true) × (class_of F s ≡ Some Mirrored) × (IsKept F s → ⊥) × (Leaves (filled F w s x) G)
 FillCase F w s x _ G = ⊥
+
+-- the state in which a worker's slot waits with a copy of the payload of a block's newest record
+abbrev pub copied : Flat → ℕ → ℕ → Record → List ℕ → Flat
+copied F w s r x = ticketed F w s (Moved r.block r.version r.hop x) x
+
+-- copy: the payload of a block's last write into a slot that the worker holds, in a group of either class
+abbrev pub CopyCase : Flat → ℕ → ℕ → ℕ → FlatAnswer → Flat → Type 0
+CopyCase F w s b (NotHeld t) G = (t ≡ s) × (F.held s (Worker w) ≡ false) × (Leaves F G)
+CopyCase F w s b (Refused NoGroup) G = (F.held s (Worker w) ≡ true) × (class_of F s ≡ None) × (Leaves F G)
+CopyCase F w s b (Refused InUse) G = (F.held s (Worker w) ≡ true) × (class_of F s ≢ None) × (IsKept F s) × (Leaves F G)
+CopyCase F w s b (Refused Unwritten) G =
+    (F.held s (Worker w) ≡ true) × (class_of F s ≢ None) × (IsKept F s → ⊥) × (IsNewest F.emitted b None) × (Leaves F G)
+CopyCase F w s b (Refused HopsSpent) G =
+    (F.held s (Worker w) ≡ true) × (class_of F s ≢ None) × (IsKept F s → ⊥)
+    × ((r : Record) × (IsNewest F.emitted b (Some r)) × (last_hop ≤ r.hop)) × (Leaves F G)
+CopyCase F w s b (Copied t) G =
+    (t ≡ s) × (F.held s (Worker w) ≡ true) × (class_of F s ≢ None) × (IsKept F s → ⊥)
+    × ((r : Record) × (x : Write) × (IsNewest F.emitted b (Some r)) × (r.hop < last_hop) × (last_write F.writes b ≡ Some x)
+    × (Leaves (copied F w s r x.payload) G))
+CopyCase F w s b _ G = ⊥
 
 -- the version after the newest's, 1 where there is none
 abbrev pub next_version : Option Record → ℕ
@@ -76,7 +104,19 @@ committed F w s b found writes r = record F {
   units = put F.units s (stamped (F.units s) r);
 }
 
--- commit of a ticket, given the newest record of the block
+-- the newest record has the version and the hop that were copied
+abbrev pub HasStamp : Option Record → ℕ → ℕ → Type 0
+HasStamp None v h = ⊥
+HasStamp (Some n) v h = (n.version ≡ v) × (n.hop ≡ h)
+
+-- what waits can be committed to the block: a fresh payload to any, a copy to the block that it is of
+abbrev pub IsFor : Option Content → ℕ → Type 0
+IsFor None b = ⊥
+IsFor (Some (Fresh x)) b = Unit {0}
+IsFor (Some (Moved c v h x)) b = c ≡ b
+
+-- commit of a ticket, given the newest record of the block: a fresh payload is its next version, and a copy the same
+-- version one hop on, where nothing newer was emitted since
 abbrev pub CommitWith : Flat → ℕ → ℕ → ℕ → Option Record → Option Content → FlatAnswer → Flat → Type 0
 CommitWith F w s b found (Some (Fresh x)) (Refused VersionSpent) G = (next_version found ≡ last_version + 1) × (Leaves F G)
 CommitWith F w s b found (Some (Fresh x)) (Refused LogFull) G = (next_version found ≤ last_version) × (longest_log ≤ length F.emitted) × (Leaves F G)
@@ -84,12 +124,33 @@ CommitWith F w s b found (Some (Fresh x)) (Committed r) G =
     (next_version found ≤ last_version) × (length F.emitted < longest_log)
     × (r ≡ record { block = b; version = next_version found; hop = 0; place = s })
     × (Leaves (committed F w s b found (F.writes ++ record { block = b; version = next_version found; payload = x } ∷ []) r) G)
+CommitWith F w s b found (Some (Moved c v h x)) (Refused (Outrun n)) G = (found ≡ Some n) × (HasStamp found v h → ⊥) × (Leaves F G)
+CommitWith F w s b found (Some (Moved c v h x)) (Refused LogFull) G = (HasStamp found v h) × (longest_log ≤ length F.emitted) × (Leaves F G)
+CommitWith F w s b found (Some (Moved c v h x)) (Committed r) G =
+    (HasStamp found v h) × (length F.emitted < longest_log)
+    × (r ≡ record { block = b; version = v; hop = h + 1; place = s })
+    × (Leaves (committed F w s b found F.writes r) G)
 CommitWith F w s b found _ _ G = ⊥
 
 -- commit: a worker's ticket becomes the newest place of the block
 abbrev pub CommitCase : Flat → ℕ → ℕ → ℕ → FlatAnswer → Flat → Type 0
-CommitCase F w s b (Refused NoTicket) G = (F.held s (Ticket w) ≡ false) × (Leaves F G)
-CommitCase F w s b answer G = (F.held s (Ticket w) ≡ true) × ((found : Option Record) × (IsNewest F.emitted b found) × (CommitWith F w s b found (F.tickets s) answer G))
+CommitCase F w s b (Refused NoTicket) G = ((F.held s (Ticket w) ≡ false) ⊎ (IsFor (F.tickets s) b → ⊥)) × (Leaves F G)
+CommitCase F w s b answer G =
+    (F.held s (Ticket w) ≡ true) × (IsFor (F.tickets s) b)
+    × ((found : Option Record) × (IsNewest F.emitted b found) × (CommitWith F w s b found (F.tickets s) answer G))
+
+-- the state after a ticket was given up: the worker holds the slot again, and its unit stays
+abbrev pub discarded : Flat → ℕ → ℕ → Flat
+discarded F w s = record F {
+  held = turned F.held s (Ticket w) (Worker w);
+  tickets = put F.tickets s None;
+}
+
+-- discard: the worker holds the slot of its ticket again
+abbrev pub DiscardCase : Flat → ℕ → ℕ → FlatAnswer → Flat → Type 0
+DiscardCase F w s (Refused NoTicket) G = (F.held s (Ticket w) ≡ false) × (Leaves F G)
+DiscardCase F w s (Discarded t) G = (t ≡ s) × (F.held s (Ticket w) ≡ true) × (Leaves (discarded F w s) G)
+DiscardCase F w s _ G = ⊥
 
 -- what a read finds
 abbrev pub found_of : Option Write → Option Version
@@ -100,6 +161,32 @@ found_of (Some w) = Some (record { version = w.version; payload = w.payload })
 abbrev pub ReadCase : Flat → ℕ → FlatAnswer → Flat → Type 0
 ReadCase F b (Found answer) G = (answer ≡ found_of (last_write F.writes b)) × (Leaves F G)
 ReadCase F b _ G = ⊥
+
+-- what is seen at the place of a record: the payload where the unit's header is exactly the record, else that header
+abbrev pub IsSeen : Option Stored → Record → Seen → Type 0
+IsSeen None r (Stale header) = header ≡ None
+IsSeen (Some u) r (Data x) = (u.header ≡ Some r) × (x ≡ u.payload)
+IsSeen (Some u) r (Stale header) = (u.header ≢ Some r) × (header ≡ u.header)
+IsSeen _ r _ = ⊥
+
+-- a record is greater than the newest of its block, as any is where there is none
+abbrev pub IsAhead : Record → Option Record → Type 0
+IsAhead r None = Unit {0}
+IsAhead r (Some n) = key_of n < key_of r
+
+-- read at a record's place: what is seen there, where the record isn't ahead of the newest
+abbrev pub ReadAtCase : Flat → Record → FlatAnswer → Flat → Type 0
+ReadAtCase F r (Refused (Ahead found)) G = (IsNewest F.emitted r.block found) × (IsAhead r found) × (Leaves F G)
+ReadAtCase F r (FoundAt seen) G =
+    ((n : Record) × (IsNewest F.emitted r.block (Some n)) × (key_of r ≤ key_of n)) × (IsSeen (F.units r.place) r seen) × (Leaves F G)
+ReadAtCase F r _ G = ⊥
+
+-- what is learned of a record whose place was seen: the record with its payload, or where that is stale the newest record
+-- of the block with the payload of its last write
+abbrev pub IsLearned : Flat → Record → Seen → Record → List ℕ → Type 0
+IsLearned F r (Data x) told payload = (told ≡ r) × (payload ≡ x)
+IsLearned F r (Stale header) told payload =
+    (IsNewest F.emitted r.block (Some told)) × ((w : Write) × (last_write F.writes r.block ≡ Some w) × (payload ≡ w.payload))
 
 -- the units, those of a group's first slots blank with payload zero
 abbrev pub wiped : (ℕ → Option Stored) → ℕ → ℕ → ℕ → ℕ → Option Stored
@@ -133,8 +220,11 @@ abbrev pub Case : Flat → FlatStep → FlatAnswer → Flat → Type 0
 Case F (Claim w s) answer G = ClaimCase F w s answer G
 Case F (Release w s) answer G = ReleaseCase F w s answer G
 Case F (Fill w s x) answer G = FillCase F w s x answer G
+Case F (Copy w s b) answer G = CopyCase F w s b answer G
 Case F (Commit w s b) answer G = CommitCase F w s b answer G
+Case F (Discard w s) answer G = DiscardCase F w s answer G
 Case F (Read b) answer G = ReadCase F b answer G
+Case F (ReadAt r) answer G = ReadAtCase F r answer G
 Case F (Make class members) answer G = MakeCase F class members answer G
 
 -- a run of the flat machine over a list of steps, with one answer for each

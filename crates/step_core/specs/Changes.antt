@@ -1,28 +1,36 @@
 -- What a call changes in what is seen of an array, and why it is refused.
-use Rattle.std.specs.Prelude.{◌≡◌, ℕ, ◌+◌, ◌==◌, nat_le, List, [], ◌∷◌, ◌++◌, length, slice_set, if◌then◌else◌, Option, Some, None}
+use Rattle.std.specs.Prelude.{◌≡◌, ℕ, ◌+◌, ◌==◌, ◌&&◌, Bool, nat_le, List, [], ◌∷◌, ◌++◌, length, slice_set, if◌then◌else◌, Option, Some, None}
 use Rattle.map_join.specs.declared.records.Record.{Record}
 use Rattle.map_join.specs.Record.{key_of}
 use Rattle.step_core.specs.declared.group.Class.{Class}
 use Rattle.step_core.specs.declared.group.Class.TheVariants.{Mirrored, Parity}
 use Rattle.step_core.specs.declared.refusal.Refusal.{Refusal}
-use Rattle.step_core.specs.declared.refusal.Refusal.TheVariants.{Memory, NoGroup, WrongClass, InUse, NoTicket, VersionSpent, LogFull}
+use Rattle.step_core.specs.declared.refusal.Refusal.TheVariants.{Memory, NoGroup, WrongClass, InUse, NoTicket, Outrun, VersionSpent, HopsSpent, Unwritten, LogFull}
 use Rattle.step_core.specs.declared.hand.Hand.{Hand}
 use Rattle.step_core.specs.declared.hand.Hand.TheVariants.{Empty, Holds}
 use Rattle.step_core.specs.Groups.{class_at}
-use Rattle.step_core.specs.Cases.{stamped, next_version, last_version, longest_log}
-use Rattle.step_core.specs.Views.{Kept, Nothing, Pending, Newest, ArrayView, kept_at, unit_at, group_at}
+use Rattle.step_core.specs.Flat.{or_else}
+use Rattle.step_core.specs.Cases.{stamped, next_version, last_version, last_hop, longest_log}
+use Rattle.step_core.specs.Views.{Kept, Nothing, Pending, Moving, Newest, ArrayView, kept_at, unit_at, group_at}
 
 -- memory is wanted only where the step would be carried out, and any other refusal is the case p
 abbrev pub MayRefuse : Refusal → Type 0 → Type 0 → Type 0
 MayRefuse Memory done p = done
 MayRefuse _ done p = p
 
--- the array after a fill
-abbrev pub fill_view : ArrayView → ℕ → List ℕ → ArrayView
-fill_view a slot payload = record a {
-  kept = slice_set a.kept slot Pending;
+-- the array after a slot was made to wait, with a payload under a blank header
+abbrev pub wait_view : ArrayView → ℕ → Kept → List ℕ → ArrayView
+wait_view a slot kept payload = record a {
+  kept = slice_set a.kept slot kept;
   units = slice_set a.units slot (Some (record { header = None; payload = payload }));
 }
+
+-- the array after a fill, and after a copy of a record's payload
+abbrev pub fill_view : ArrayView → ℕ → List ℕ → ArrayView
+fill_view a slot payload = wait_view a slot Pending payload
+
+abbrev pub copy_view : ArrayView → ℕ → Record → List ℕ → ArrayView
+copy_view a slot r payload = wait_view a slot (Moving r) payload
 
 -- why a fresh payload can't go into the slot
 abbrev pub fill_reason_of : Option Class → Kept → Option Refusal
@@ -33,6 +41,20 @@ fill_reason_of (Some Mirrored) _ = Some InUse
 
 abbrev pub fill_reason : ArrayView → ℕ → Option Refusal
 fill_reason a slot = fill_reason_of (class_at a.sizes.segments (group_at a) slot) (kept_at a slot)
+
+-- why a block's newest payload can't be copied into the slot
+abbrev pub copy_reason_of : Option Class → Kept → Option Record → Option Refusal
+copy_reason_of None _ _ = Some NoGroup
+copy_reason_of (Some class) Nothing None = Some Unwritten
+copy_reason_of (Some class) Nothing (Some r) = if nat_le last_hop r.hop then Some HopsSpent else None
+copy_reason_of (Some class) _ _ = Some InUse
+
+abbrev pub copy_reason : ArrayView → ℕ → Option Record → Option Refusal
+copy_reason a slot found = copy_reason_of (class_at a.sizes.segments (group_at a) slot) (kept_at a slot) found
+
+-- the array after a ticket was given up
+abbrev pub discard_view : ArrayView → ℕ → ArrayView
+discard_view a slot = record a { kept = slice_set a.kept slot Nothing }
 
 -- what is kept, without the old place of a block
 abbrev pub passed : List Kept → Option Record → List Kept
@@ -48,17 +70,46 @@ commit_view a slot block found r = record a {
   units = slice_set a.units slot (stamped (unit_at a slot) r);
 }
 
--- why a ticket of the slot can't be committed, given the newest record of the block
-abbrev pub spent_reason : ArrayView → Option Record → Option Refusal
-spent_reason a found =
-    if next_version found == last_version + 1 then Some VersionSpent else (if nat_le longest_log (length a.log) then Some LogFull else None)
+-- why what is kept of a slot can't be committed to a block, given the newest record of the block: last of all the log is full
+abbrev pub full_reason : ArrayView → Option Refusal
+full_reason a = if nat_le longest_log (length a.log) then Some LogFull else None
 
-abbrev pub commit_reason_of : ArrayView → Kept → Option Record → Option Refusal
-commit_reason_of a Pending found = spent_reason a found
-commit_reason_of a _ found = Some NoTicket
+-- a fresh payload: the block's versions are spent
+abbrev pub version_reason : Option Record → Option Refusal
+version_reason found = if next_version found == last_version + 1 then Some VersionSpent else None
 
-abbrev pub commit_reason : ArrayView → ℕ → Option Record → Option Refusal
-commit_reason a slot found = commit_reason_of a (kept_at a slot) found
+-- a copy: it is of another block, or the newest record has another version or hop
+abbrev pub has_stamp : Record → Record → Bool
+has_stamp n r = (n.version == r.version) && (n.hop == r.hop)
+
+abbrev pub stamp_reason : Record → ℕ → Option Record → Option Refusal
+stamp_reason r block None = Some NoTicket
+stamp_reason r block (Some n) = if r.block == block then (if has_stamp n r then None else Some (Outrun n)) else Some NoTicket
+
+abbrev pub ticket_reason : Kept → ℕ → Option Record → Option Refusal
+ticket_reason Pending block found = version_reason found
+ticket_reason (Moving r) block found = stamp_reason r block found
+ticket_reason _ block found = Some NoTicket
+
+abbrev pub commit_reason_of : ArrayView → Kept → ℕ → Option Record → Option Refusal
+commit_reason_of a kept block found = or_else (ticket_reason kept block found) (full_reason a)
+
+abbrev pub commit_reason : ArrayView → ℕ → ℕ → Option Record → Option Refusal
+commit_reason a slot block found = commit_reason_of a (kept_at a slot) block found
+
+-- the version and the hop that a commit of what is kept gives
+abbrev pub version_given : Kept → Option Record → ℕ
+version_given (Moving r) found = r.version
+version_given _ found = next_version found
+
+abbrev pub hop_given : Kept → ℕ
+hop_given (Moving r) = r.hop + 1
+hop_given _ = 0
+
+-- the record that a commit emits
+abbrev pub commit_record : ArrayView → ℕ → ℕ → Option Record → Record
+commit_record a slot block found =
+    record { block = block; version = version_given (kept_at a slot) found; hop = hop_given (kept_at a slot); place = slot }
 
 -- the claim of the old place, where there is one
 abbrev pub IsPlaceOf : {C : Type 0} → (C → ℕ) → Option C → Option Record → Type 0

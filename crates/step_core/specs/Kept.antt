@@ -7,18 +7,20 @@ use Rattle.step_core.specs.declared.stored.StoredUnit.{StoredUnit}
 use Rattle.step_core.specs.declared.group.Group.{Group}
 use Rattle.step_core.specs.Groups.{Made}
 use Rattle.step_core.specs.Flat.{Stored}
-use Rattle.step_core.specs.Views.{Kept, Nothing, Pending, Newest}
+use Rattle.step_core.specs.Views.{Kept, Nothing, Pending, Moving, Newest}
 
 -- a place without its claim
 abbrev pub kept_of : {C : Type 0} → Place C → Kept
 kept_of place.Free = Nothing
 kept_of (place.Pending claim) = Pending
+kept_of (place.Moving r claim) = Moving r
 kept_of (place.Newest block claim) = Newest block
 
 -- the claim of a place, if it has one, is of that slot
 abbrev pub IsOf : {C : Type 0} → (C → ℕ) → ℕ → Place C → Type 0
 IsOf names slot place.Free = (Unit {0})
 IsOf names slot (place.Pending claim) = names claim ≡ slot
+IsOf names slot (place.Moving r claim) = names claim ≡ slot
 IsOf names slot (place.Newest block claim) = names claim ≡ slot
 
 -- each place's claim is of its slot

@@ -1,13 +1,13 @@
 -- When an array or a world stands for a flat state.
-use Rattle.std.specs.Prelude.{◌≡◌, ℕ, ◌<◌, ◌==◌, Bool, true, false, is_some, length, Contains, Option, Some, None}
+use Rattle.std.specs.Prelude.{◌≡◌, ℕ, ◌+◌, ◌*◌, ◌/◌, ◌^◌, ◌<◌, ◌≤◌, ◌==◌, Bool, true, false, is_some, List, length, Contains, Option, Some, None}
 use Rattle.map_join.specs.declared.records.Record.{Record}
 use Rattle.map_join.specs.Record.{record_of, IsRecord}
 use Rattle.map_join.specs.Maps.{IsMapOf}
 use Rattle.step_core.specs.declared.group.Class.{Class}
-use Rattle.step_core.specs.Flat.{Flat, Write, Holder, Worker, Ticket, Block, Shut, Content, Fresh, Stored, class_of, last_write}
+use Rattle.step_core.specs.Flat.{Flat, Write, Holder, Worker, Ticket, Block, Shut, Content, Fresh, Moved, Stored, class_of, last_write}
 use Rattle.step_core.specs.declared.hand.Hand.{Hand}
 use Rattle.step_core.specs.declared.hand.Hand.TheVariants.{Empty, Holds, Waits}
-use Rattle.step_core.specs.Views.{Kept, Nothing, Pending, Newest, ArrayView, WorldView, kept_at, hand_at, group_at, unit_at, key_at, IsRoomy}
+use Rattle.step_core.specs.Views.{Kept, Nothing, Pending, Moving, Newest, is_waiting, ArrayView, WorldView, kept_at, hand_at, group_at, unit_at, key_at, IsRoomy}
 
 -- what a flat state says of one slot
 pub record FlatSlot : Type 0 where
@@ -22,6 +22,7 @@ flat_at F s = record { held = F.held s; ticket = F.tickets s; unit = F.units s; 
 -- what a ticket waits for, told from what is kept of its slot and from its unit
 abbrev pub waiting : Kept → Option Stored → Option Content
 waiting Pending (Some u) = Some (Fresh u.payload)
+waiting (Moving r) (Some u) = Some (Moved r.block r.version r.hop u.payload)
 waiting _ _ = None
 
 -- the slot is the newest place of the block
@@ -41,8 +42,8 @@ pub record ArraySlot (kept : Kept) (stored : Option Stored) (f : FlatSlot) : Typ
   pub unit : f.unit ≡ stored
   pub there : is_some f.class ≡ is_some stored
   pub ticket : f.ticket ≡ waiting kept stored
-  pub blank : kept ≡ Pending → IsBlank stored
-  pub waits : kept ≡ Pending → (w : ℕ) × (f.held (Ticket w) ≡ true)
+  pub blank : is_waiting kept ≡ true → IsBlank stored
+  pub waits : is_waiting kept ≡ true → (w : ℕ) × (f.held (Ticket w) ≡ true)
   pub tickets : f.ticket ≡ None → (w : ℕ) → f.held (Ticket w) ≡ false
   pub lone : (v w : ℕ) → f.held (Ticket v) ≡ true → f.held (Ticket w) ≡ true → v ≡ w
 
@@ -56,6 +57,18 @@ pub record IsWritten (F : Flat) (b key : ℕ) (w : Write) : Type 0 where
 abbrev pub BlockStands : Flat → ℕ → ℕ → Type 0
 BlockStands F b key = (key ≡ 0 → last_write F.writes b ≡ None) × (0 < key → (w : Write) × (last_write F.writes b ≡ Some w) × (IsWritten F b key w))
 
+-- what a waiting copy rests on: its block was written, its version and hop are at most the newest's, and where they are
+-- the newest's its payload is the last write's
+pub record IsCopy (writes : List Write) (b v h : ℕ) (x : List ℕ) (key : ℕ) : Type 0 where
+  pub written : 0 < key
+  pub most : v * 2 ^ 16 + h ≤ key / 2 ^ 16
+  pub payload : v * 2 ^ 16 + h ≡ key / 2 ^ 16 → (w : Write) × (last_write writes b ≡ Some w) × (w.payload ≡ x)
+
+abbrev pub TicketStands : List Write → (ℕ → ℕ) → Option Content → Type 0
+TicketStands writes keys None = Unit {0}
+TicketStands writes keys (Some (Fresh x)) = Unit {0}
+TicketStands writes keys (Some (Moved b v h x)) = IsCopy writes b v h x (keys b)
+
 -- an array stands for a flat state
 pub record ShowsArray (a : ArrayView) (F : Flat) : Type 0 where
   pub room : IsRoomy a
@@ -66,6 +79,7 @@ pub record ShowsArray (a : ArrayView) (F : Flat) : Type 0 where
   pub map : IsMapOf F.emitted (key_at a)
   pub groups : (g : ℕ) → F.groups g ≡ group_at a g
   pub slots : (s : ℕ) → ArraySlot (kept_at a s) (unit_at a s) (flat_at F s)
+  pub tickets : (s : ℕ) → TicketStands F.writes (key_at a) (F.tickets s)
   pub written : (b : ℕ) → BlockStands F b (key_at a b)
 
 -- worker w has a claim of the slot in hand, or a ticket
@@ -82,6 +96,7 @@ abbrev pub Agree : Kept → Hand → Type 0
 Agree Nothing Empty = Unit {0}
 Agree Nothing (Holds _) = Unit {0}
 Agree Pending (Waits _) = Unit {0}
+Agree (Moving _) (Waits _) = Unit {0}
 Agree (Newest _) Empty = Unit {0}
 Agree _ _ = ⊥
 

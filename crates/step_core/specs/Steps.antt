@@ -10,14 +10,23 @@ pub data FlatStep : Type 0 where
   Claim : ℕ → ℕ → FlatStep
   Release : ℕ → ℕ → FlatStep
   Fill : ℕ → ℕ → List ℕ → FlatStep
+  Copy : ℕ → ℕ → ℕ → FlatStep
   Commit : ℕ → ℕ → ℕ → FlatStep
+  Discard : ℕ → ℕ → FlatStep
   Read : ℕ → FlatStep
+  ReadAt : Record → FlatStep
   Make : Class → List Member → FlatStep
 
 -- what is read of a block: its version and payload
 pub record Version : Type 0 where
   pub version : ℕ
   pub payload : List ℕ
+
+-- what is seen at a record's place: the payload that lies there under exactly that record, or the header found in its stead,
+-- none where that is blank or the place is in no group
+pub data Seen : Type 0 where
+  Data : List ℕ → Seen
+  Stale : Option Record → Seen
 
 -- an answer
 pub data FlatAnswer : Type 0 where
@@ -26,7 +35,10 @@ pub data FlatAnswer : Type 0 where
   Released : ℕ → FlatAnswer
   NotHeld : ℕ → FlatAnswer
   Filled : ℕ → FlatAnswer
+  Copied : ℕ → FlatAnswer
   Committed : Record → FlatAnswer
+  Discarded : ℕ → FlatAnswer
   Found : Option Version → FlatAnswer
+  FoundAt : Seen → FlatAnswer
   MadeGroup : ℕ → FlatAnswer
   Refused : Refusal → FlatAnswer

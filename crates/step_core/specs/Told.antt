@@ -1,17 +1,25 @@
 -- The answers of a world as those of the flat machine.
-use Rattle.std.specs.Prelude.{◌≡◌, ◌<◌, ℕ, length, Option, Some, None, Vec}
+use Rattle.std.specs.Prelude.{◌≡◌, ◌<◌, ℕ, List, length, Option, Some, None, Vec}
 use Rattle.std.specs.Global.{Global}
+use Rattle.map_join.specs.declared.records.Record.{Record}
 use Rattle.step_core.specs.declared.step.Answer.{Answer}
 use Rattle.step_core.specs.declared.step.Answer.TheVariants as answer
 use Rattle.step_core.specs.declared.step.Step.{Step}
 use Rattle.step_core.specs.declared.step.Step.TheVariants as step
 use Rattle.step_core.specs.Sizes.{Sizes}
-use Rattle.step_core.specs.Steps.{Version, FlatStep, Claim, Release, Fill, Commit, Read, Make, FlatAnswer, Claimed, Taken, Released, NotHeld, Filled, Committed, Found, MadeGroup, Refused}
+use Rattle.step_core.specs.declared.read.At.{At}
+use Rattle.step_core.specs.declared.read.At.TheVariants as at
+use Rattle.step_core.specs.Steps.{Version, Seen, Data, Stale, FlatStep, Claim, Release, Fill, Copy, Commit, Discard, Read, ReadAt, Make, FlatAnswer, Claimed, Taken, Released, NotHeld, Filled, Copied, Committed, Discarded, Found, FoundAt, MadeGroup, Refused}
 
 -- a version and payload that were read, as plain data
 abbrev pub version_of : Option (ℕ × Vec ℕ Global) → Option Version
 version_of None = None
 version_of (Some found) = Some (record { version = found.0; payload = found.1.items })
+
+-- what was seen at a place, as plain data
+abbrev pub seen_of : At → Seen
+seen_of (at.Data payload) = Data payload.items
+seen_of (at.Stale header) = Stale header
 
 abbrev pub flat_answer : Answer → FlatAnswer
 flat_answer (answer.Claimed s) = Claimed s
@@ -19,18 +27,29 @@ flat_answer (answer.Taken s) = Taken s
 flat_answer (answer.Released s) = Released s
 flat_answer (answer.NotHeld s) = NotHeld s
 flat_answer (answer.Filled s) = Filled s
+flat_answer (answer.Copied s) = Copied s
 flat_answer (answer.Committed r) = Committed r
+flat_answer (answer.Discarded s) = Discarded s
 flat_answer (answer.Read found) = Found (version_of found)
+flat_answer (answer.Found seen) = FoundAt (seen_of seen)
 flat_answer (answer.Made g) = MadeGroup g
 flat_answer (answer.Refused r) = Refused r
+
+-- what is learned of a record: the record that is told, and its payload
+pub record Lesson : Type 0 where
+  pub told : Record
+  pub payload : List ℕ
 
 -- a step as plain data
 abbrev pub flat_step : Step → FlatStep
 flat_step (step.Claim w s) = Claim w s
 flat_step (step.Release w s) = Release w s
 flat_step (step.Fill w s payload) = Fill w s payload.items
+flat_step (step.Copy w s b) = Copy w s b
 flat_step (step.Commit w s b) = Commit w s b
+flat_step (step.Discard w s) = Discard w s
 flat_step (step.Read b) = Read b
+flat_step (step.ReadAt r) = ReadAt r
 flat_step (step.Make class members) = Make class members.items
 
 -- a step of eight workers, over blocks and payloads of these sizes
@@ -38,6 +57,9 @@ abbrev pub FitsStep : Sizes → Step → Type 0
 FitsStep z (step.Claim w s) = w < 8
 FitsStep z (step.Release w s) = w < 8
 FitsStep z (step.Fill w s payload) = (w < 8) × (length payload.items ≡ z.payload)
+FitsStep z (step.Copy w s b) = (w < 8) × (b < z.blocks)
 FitsStep z (step.Commit w s b) = (w < 8) × (b < z.blocks)
+FitsStep z (step.Discard w s) = w < 8
 FitsStep z (step.Read b) = b < z.blocks
+FitsStep z (step.ReadAt r) = r.block < z.blocks
 FitsStep z (step.Make class members) = (Unit {0})

@@ -8,17 +8,27 @@ use Rattle.step_core.specs.Flat.{Stored}
 use Rattle.step_core.specs.declared.hand.Hand.{Hand}
 use Rattle.step_core.specs.declared.hand.Hand.TheVariants.{Empty, Holds, Waits}
 
--- what the array itself keeps of a slot: nothing, a ticket's claim, or the claim of a block's newest place
+-- what the array itself keeps of a slot: nothing, the claim of a ticket with a fresh payload or with a copy of a record's,
+-- or the claim of a block's newest place
 pub data Kept : Type 0 where
   Nothing : Kept
   Pending : Kept
+  Moving : Record → Kept
   Newest : ℕ → Kept
 
 -- the array keeps the slot
 abbrev pub is_kept : Kept → Bool
 is_kept Nothing = false
 is_kept Pending = true
+is_kept (Moving r) = true
 is_kept (Newest block) = true
+
+-- a ticket waits at the slot
+abbrev pub is_waiting : Kept → Bool
+is_waiting Nothing = false
+is_waiting Pending = true
+is_waiting (Moving r) = true
+is_waiting (Newest block) = false
 
 -- an array: its log, the key of each block (0 for none), of each slot what is kept and what its unit holds, and its groups
 pub record ArrayView : Type 0 where
@@ -64,14 +74,15 @@ pub record IsRoomy (a : ArrayView) : Type 0 where
   pub groups : length a.groups ≡ 512
   pub keys : length a.keys ≡ a.sizes.blocks
 
--- what every array keeps: each key is a record's, whose place is kept for that block; what is kept has a unit; and groups
--- have three to eight members
+-- what every array keeps: each key is a record's, whose place is kept for that block; what is copied can move on; what is
+-- kept has a unit; and groups have three to eight members
 pub record IsWhole (a : ArrayView) : Type 0 where
   pub room : IsRoomy a
   pub blocks : a.sizes.blocks ≤ 65536
   pub keys : (b : ℕ) → 0 < key_at a b → 2 ^ 32 ≤ key_at a b
   pub fit : (b : ℕ) → key_at a b < 2 ^ 64
   pub newest : (b : ℕ) → 0 < key_at a b → kept_at a (record_of b (key_at a b)).place ≡ Newest b
+  pub moving : (s : ℕ) (r : Record) → kept_at a s ≡ Moving r → r.hop < 65535
   pub stored : (s : ℕ) → kept_at a s ≢ Nothing → is_some (unit_at a s) ≡ true
   pub members : (g : ℕ) (made : Made) → group_at a g ≡ Some made → (3 ≤ length made.members) × (length made.members ≤ 8)
 

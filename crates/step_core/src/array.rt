@@ -6,7 +6,7 @@ ghost use Rattle.step_core.specs.Groups.{class_at, class_in};
 ghost use Rattle.std.specs.Option.{ForSome, option_map};
 ghost use Rattle.step_core.specs.Kept.{made_of};
 ghost use Rattle.step_core.specs.Flat.{Flat, new_flat, put, IsKept, IsNewest};
-ghost use Rattle.step_core.specs.Views.{kept_at, key_at, group_at, is_kept, IsNew, IsWhole};
+ghost use Rattle.step_core.specs.Views.{kept_at, key_at, group_at, is_kept, is_waiting, IsNew, IsWhole};
 ghost use Rattle.step_core.specs.Represents.{ShowsArray};
 
 use crate::group::{Class, Group, slot_count};
@@ -93,7 +93,20 @@ impl<C: Hold> Array<C> {
         match &self.places[usize::from(slot)] {
             Place::Free => false,
             Place::Pending(_) => true,
+            Place::Moving(_, _) => true,
             Place::Newest(_, _) => true,
+        }
+    }
+
+    // A ticket waits at the slot.
+    pub(crate) fn waits(&self, slot: u16) -> bool
+        ensures { result ≡ is_waiting (kept_at self.now slot) }
+    {
+        match &self.places[usize::from(slot)] {
+            Place::Free => false,
+            Place::Pending(_) => true,
+            Place::Moving(_, _) => true,
+            Place::Newest(_, _) => false,
         }
     }
 

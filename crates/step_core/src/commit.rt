@@ -1,19 +1,19 @@
 // A slot that waits becomes the newest place of a block.
-ghost use Rattle.std.specs.Prelude.{◌≡◌, ◌≢◌, ℕ, ◌+◌, ◌^◌, ◌<◌, ◌≤◌, List, [], ◌∷◌, ◌++◌, vec_len, slice_index_or, slice_set, MatchResult, IfOk, IfErr, true, Some, None};
+ghost use Rattle.std.specs.Prelude.{◌≡◌, ◌≢◌, ℕ, ◌+◌, ◌<◌, ◌≤◌, List, [], ◌∷◌, ◌++◌, vec_len, slice_index_or, slice_set, MatchResult, IfOk, IfErr, true, Some, None};
 ghost use Rattle.std.specs.Option.{ForSome};
 ghost use Rattle.map_join.specs.Record.{key_of, record_at};
 ghost use Rattle.map_join.specs.declared.records.Record.{Record};
 ghost use Rattle.step_core.specs.Steps as say;
 ghost use Rattle.step_core.specs.Flat.{Flat, Ticket as ticket_of, IsNewest};
 ghost use Rattle.step_core.specs.Cases.{CommitCase, next_version, stamped};
-ghost use Rattle.step_core.specs.Views.{Nothing, Pending, Newest, ArrayView, key_at, kept_at};
+ghost use Rattle.step_core.specs.Views.{Nothing, Newest, is_waiting, key_at};
 ghost use Rattle.step_core.specs.Kept.{kepts_of, units_of, AreOf};
-ghost use Rattle.step_core.specs.Changes.{commit_view, commit_reason, passed, IsPlaceOf, MayRefuse};
+ghost use Rattle.step_core.specs.Changes.{commit_view, commit_reason, commit_record, version_reason, stamp_reason, passed, IsPlaceOf, MayRefuse};
 ghost use Rattle.step_core.specs.Represents.{ShowsArray};
 
 use crate::array::Array;
 use crate::hold::{Hold, Ticket};
-use crate::place::{Place, put_in, take_out};
+use crate::place::{Place, put_in, take_out, take_waiting};
 use crate::refusal::Refusal;
 use crate::stored::StoredUnit;
 use map_join::Record;
@@ -62,7 +62,9 @@ pub struct Done<C: Hold> {
 }
 
 impl<C: Hold> Array<C> {
-    /// Commits a slot that waits: it becomes the newest place of the block, under the next version.
+    /// Commits a slot that waits: it becomes the newest place of the block, a fresh payload under the
+    /// next version, a copy under the same version one hop on. A copy that a newer record outran stays
+    /// a ticket, to be discarded.
     pub fn commit(
         &mut self,
         alloc: Global,
@@ -72,6 +74,7 @@ impl<C: Hold> Array<C> {
         requires { block < self.old.sizes.blocks }
         ensures done { IfOk result (λ done.
             (self.new ≡ commit_view self.old ticket block (record_at block (key_at self.old block)) done.emitted)
+            × (done.emitted ≡ commit_record self.old ticket block (record_at block (key_at self.old block)))
             × IsPlaceOf C.names done.old (record_at block (key_at self.old block))) }
         ensures err { IfErr result (λ e. (e.1 ≡ ticket) × (self.new ≡ self.old)) }
         ensures flat { (F : Flat) (w : ℕ) → ShowsArray self.old F → (F.tickets ticket ≢ None → F.held ticket (ticket_of w) ≡ true)
@@ -83,11 +86,10 @@ impl<C: Hold> Array<C> {
     {
         let slot = ticket.slot();
         let found = self.newest(block);
-        match self.commit_fault(slot, found) {
-            Some(refusal) => return Err((refusal, ticket)),
-            None => {}
-        }
-        let record = next_record(block, slot, found);
+        let record = match self.next_record(slot, block, found) {
+            Ok(record) => record,
+            Err(refusal) => return Err((refusal, ticket)),
+        };
         match self.log.push(record) {
             Ok(()) => {}
             Err(_) => return Err((Refusal::Memory, ticket)),
@@ -102,22 +104,21 @@ impl<C: Hold> Array<C> {
         })
     }
 
-    // Why a ticket of the slot can't be committed, given the newest record of the block.
-    fn commit_fault(&self, slot: u16, found: Option<Record>) -> Option<Refusal>
-        ensures { result ≡ commit_reason self.now slot found }
+    // The record that a commit of the slot's ticket emits, given the newest of the block.
+    fn next_record(&self, slot: u16, block: u32, found: Option<Record>) -> Result<Record, Refusal>
+        ensures ok { IfOk result (λ next. (commit_reason self.now slot block found ≡ None) × (next ≡ commit_record self.now slot block found)) }
+        ensures err { IfErr result (λ refusal. commit_reason self.now slot block found ≡ Some refusal) }
     {
-        if !matches!(self.places[usize::from(slot)], Place::Pending(_)) {
-            return Some(Refusal::NoTicket);
+        let next = match &self.places[usize::from(slot)] {
+            Place::Pending(_) => written(block, slot, found),
+            Place::Moving(source, _) => moved(*source, block, slot, found),
+            Place::Free => Err(Refusal::NoTicket),
+            Place::Newest(_, _) => Err(Refusal::NoTicket),
+        };
+        if next.is_ok() && self.log.len() >= LONGEST_LOG {
+            return Err(Refusal::LogFull);
         }
-        if let Some(record) = found
-            && record.version == LAST_VERSION
-        {
-            return Some(Refusal::VersionSpent);
-        }
-        if self.log.len() >= LONGEST_LOG {
-            return Some(Refusal::LogFull);
-        }
-        None
+        next
     }
 }
 
@@ -149,6 +150,7 @@ fn let_go<C: Hold>(places: &mut Vec<Place<C>>, block: u32, found: Option<Record>
         Place::Newest(_, claim) => Some(claim),
         Place::Free => unreachable!(),
         Place::Pending(_claim) => unreachable!(),
+        Place::Moving(_, _claim) => unreachable!(),
     }
 }
 
@@ -156,31 +158,58 @@ fn let_go<C: Hold>(places: &mut Vec<Place<C>>, block: u32, found: Option<Record>
 #[tactic(auto, using(crate::proofs::Tables::set_twice))]
 fn keep_newest<C: Hold>(places: &mut Vec<Place<C>>, slot: u16, block: u32)
     requires inside { slot < vec_len places.old }
-    requires waits { slice_index_or (kepts_of places.old.items) slot Nothing ≡ Pending }
+    requires waits { is_waiting (slice_index_or (kepts_of places.old.items) slot Nothing) ≡ true }
     requires claims { AreOf C.names places.old.items }
     ensures kept { kepts_of places.new.items ≡ slice_set (kepts_of places.old.items) slot (Newest block) }
     ensures claims { AreOf C.names places.new.items }
 {
-    match take_out(places, slot) {
-        Place::Pending(claim) => put_in(places, slot, Place::Newest(block, claim)),
-        Place::Free => unreachable!(),
-        Place::Newest(_, _claim) => unreachable!(),
-    }
+    let claim = take_waiting(places, slot);
+    put_in(places, slot, Place::Newest(block, claim));
 }
 
-// The record of a fresh write.
-fn next_record(block: u32, slot: u16, found: Option<Record>) -> Record
-    requires { next_version found < 2 ^ 32 }
-    ensures { result ≡ record { block = block; version = next_version found; hop = 0; place = slot } }
+// The record of a fresh write: the next version of the block.
+fn written(block: u32, slot: u16, found: Option<Record>) -> Result<Record, Refusal>
+    ensures ok { IfOk result (λ next. (version_reason found ≡ None)
+        × (next ≡ record { block = block; version = next_version found; hop = 0; place = slot })) }
+    ensures err { IfErr result (λ refusal. version_reason found ≡ Some refusal) }
 {
     let version = match found {
         None => 1,
-        Some(record) => record.version + 1,
+        Some(newest) => {
+            if newest.version == LAST_VERSION {
+                return Err(Refusal::VersionSpent);
+            }
+            newest.version + 1
+        }
     };
-    Record {
+    Ok(Record {
         block,
         version,
         hop: 0,
         place: slot,
+    })
+}
+
+// The record of a copy: the version that was copied, one hop on, where it is still the newest.
+fn moved(source: Record, block: u32, slot: u16, found: Option<Record>) -> Result<Record, Refusal>
+    requires { source.hop < 65535 }
+    ensures ok { IfOk result (λ next. (stamp_reason source block found ≡ None)
+        × (next ≡ record { block = block; version = source.version; hop = source.hop + 1; place = slot })) }
+    ensures err { IfErr result (λ refusal. stamp_reason source block found ≡ Some refusal) }
+{
+    let Some(newest) = found else {
+        return Err(Refusal::NoTicket);
+    };
+    if source.block != block {
+        return Err(Refusal::NoTicket);
     }
+    if newest.version != source.version || newest.hop != source.hop {
+        return Err(Refusal::Outrun(newest));
+    }
+    Ok(Record {
+        block,
+        version: source.version,
+        hop: source.hop + 1,
+        place: slot,
+    })
 }

@@ -1,4 +1,4 @@
-// A fresh payload into a slot that a worker holds.
+// A payload into a slot that a worker holds: a fresh one, or a copy of a block's newest.
 ghost use Rattle.std.specs.Prelude.{◌≡◌, ℕ, ◌<◌, List, length, vec_len, slice_set, MatchResult, IfOk, IfErr, true, Some, None};
 ghost use Rattle.step_core.specs.Steps as say;
 ghost use Rattle.step_core.specs.Flat.{Flat, Worker};
@@ -62,7 +62,7 @@ impl<C: Hold> Array<C> {
 
 // Puts a payload under a blank header into the slot's unit.
 #[tactic(auto, using(crate::proofs::Tables::units_set))]
-fn put_unit(units: &mut Vec<Option<StoredUnit>>, slot: u16, payload: Vec<u8>)
+pub(crate) fn put_unit(units: &mut Vec<Option<StoredUnit>>, slot: u16, payload: Vec<u8>)
     requires { slot < vec_len units.old }
     ensures { units_of units.new.items ≡ slice_set (units_of units.old.items) slot (Some (record { header = None; payload = payload.items })) }
 {

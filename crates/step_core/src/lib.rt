@@ -3,6 +3,8 @@
 
 mod array;
 mod commit;
+mod copy;
+mod discard;
 mod fill;
 mod group;
 mod hand;
@@ -10,6 +12,7 @@ mod hold;
 mod make;
 mod place;
 mod read;
+mod reading;
 mod refusal;
 mod run;
 mod shape;
@@ -21,6 +24,8 @@ pub use array::Array;
 pub use commit::{Done, Emitted};
 pub use group::{Class, Member};
 pub use hold::{Hold, Plain, Ticket};
+pub use read::At;
+pub use reading::Reading;
 pub use refusal::Refusal;
 pub use run::{Run, Stopped, run_steps};
 pub use shape::{Shape, ShapeRefusal};

@@ -45,12 +45,19 @@ impl World {
                 slot: _,
                 payload,
             } => *worker < WORKERS && payload.len() == shape.payload() as usize,
+            Step::Copy {
+                worker,
+                slot: _,
+                block,
+            } => *worker < WORKERS && *block < shape.blocks(),
             Step::Commit {
                 worker,
                 slot: _,
                 block,
             } => *worker < WORKERS && *block < shape.blocks(),
+            Step::Discard { worker, slot: _ } => *worker < WORKERS,
             Step::Read { block } => *block < shape.blocks(),
+            Step::ReadAt { record } => record.block < shape.blocks(),
             Step::Make {
                 class: _,
                 members: _,
@@ -74,12 +81,19 @@ impl World {
                 slot,
                 payload,
             } => self.fill(alloc, *worker, *slot, payload),
+            Step::Copy {
+                worker,
+                slot,
+                block,
+            } => self.copy(alloc, *worker, *slot, *block),
             Step::Commit {
                 worker,
                 slot,
                 block,
             } => self.commit(alloc, *worker, *slot, *block),
+            Step::Discard { worker, slot } => Ok(self.discard(*worker, *slot)),
             Step::Read { block } => self.read(alloc, *block),
+            Step::ReadAt { record } => self.read_at(alloc, *record),
             Step::Make { class, members } => self.make(alloc, *class, members),
         }
     }

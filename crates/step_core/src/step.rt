@@ -1,5 +1,6 @@
 // Steps of a world, and their answers.
 use crate::group::{Class, Member};
+use crate::read::At;
 use crate::refusal::Refusal;
 use map_join::Record;
 
@@ -19,13 +20,25 @@ pub enum Step {
         slot: u16,
         payload: Vec<u8>,
     },
+    Copy {
+        worker: u8,
+        slot: u16,
+        block: u32,
+    },
     Commit {
         worker: u8,
         slot: u16,
         block: u32,
     },
+    Discard {
+        worker: u8,
+        slot: u16,
+    },
     Read {
         block: u32,
+    },
+    ReadAt {
+        record: Record,
     },
     Make {
         class: Class,
@@ -43,9 +56,13 @@ pub enum Answer {
     /// The worker has no claim of the slot.
     NotHeld(u16),
     Filled(u16),
+    Copied(u16),
     Committed(Record),
+    Discarded(u16),
     /// The version and the payload of the block's last write, none where it was never written.
     Read(Option<(u32, Vec<u8>)>),
+    /// What lies at a record's place.
+    Found(At),
     /// The number of the group that was made.
     Made(u16),
     /// Never for want of memory, which stops a run.

@@ -2,6 +2,7 @@
 ghost use Rattle.std.specs.Prelude.{◌≡◌, ℕ, ◌<◌, ◌≤◌, length, IfOk, IfErr, OnErr};
 ghost use Rattle.map_join.specs.declared.records.Record.{Record};
 ghost use Rattle.step_core.specs.Steps as say;
+ghost use Rattle.step_core.specs.Steps.{Seen};
 ghost use Rattle.step_core.specs.Flat.{Flat, new_flat};
 ghost use Rattle.step_core.specs.Cases.{Case};
 ghost use Rattle.step_core.specs.Told.{flat_answer};
@@ -148,6 +149,34 @@ impl World {
         }
     }
 
+    /// Copies a block's newest payload into a slot that the worker holds.
+    pub fn copy(
+        &mut self,
+        alloc: Global,
+        worker: u8,
+        slot: u16,
+        block: u32,
+    ) -> Result<Answer, AllocError>
+        requires { block < self.old.array.sizes.blocks }
+        ensures ok { IfOk result (λ answer. (F : Flat) → Represents self.old F
+            → (G : Flat) × Case F (say.Copy worker slot block) (flat_answer answer) G × Represents self.new G) }
+        ensures err { OnErr result (self.new ≡ self.old) }
+        ensures wants { OnErr result ((F : Flat) → Represents self.old F → (G : Flat) × Case F (say.Copy worker slot block) (say.Copied slot) G) }
+        ensures room { SameSizes self.old self.new }
+    {
+        if !self.holds(worker, slot) {
+            return Ok(Answer::NotHeld(slot));
+        }
+        match self.array.copy(alloc, Plain { slot }, block) {
+            Ok(_ticket) => {
+                self.hands[usize::from(slot)] = Hand::Waits(worker);
+                Ok(Answer::Copied(slot))
+            }
+            Err((Refusal::Memory, _claim)) => Err(AllocError),
+            Err((refusal, _claim)) => Ok(Answer::Refused(refusal)),
+        }
+    }
+
     /// Commits a slot that waits for the worker.
     pub fn commit(
         &mut self,
@@ -174,6 +203,37 @@ impl World {
             }
             Err((Refusal::Memory, _ticket)) => Err(AllocError),
             Err((refusal, _ticket)) => Ok(Answer::Refused(refusal)),
+        }
+    }
+
+    /// Gives up the worker's ticket of a slot.
+    pub fn discard(&mut self, worker: u8, slot: u16) -> Answer
+        ensures flat { (F : Flat) → Represents self.old F
+            → (G : Flat) × Case F (say.Discard worker slot) (flat_answer result) G × Represents self.new G }
+        ensures room { SameSizes self.old self.new }
+    {
+        if !self.waits(worker, slot) {
+            return Answer::Refused(Refusal::NoTicket);
+        }
+        match self.array.discard(Ticket::of(slot)) {
+            Ok(_claim) => {
+                self.hands[usize::from(slot)] = Hand::Holds(worker);
+                Answer::Discarded(slot)
+            }
+            Err((refusal, _ticket)) => Answer::Refused(refusal),
+        }
+    }
+
+    /// Reads at a record's place.
+    pub fn read_at(&self, alloc: Global, asked: Record) -> Result<Answer, AllocError>
+        requires { asked.block < self.now.array.sizes.blocks }
+        ensures ok { IfOk result (λ answer. (F : Flat) → Represents self.now F → Case F (say.ReadAt asked) (flat_answer answer) F) }
+        ensures wants { OnErr result ((F : Flat) → Represents self.now F → (seen : Seen) × Case F (say.ReadAt asked) (say.FoundAt seen) F) }
+    {
+        match self.array.read_at(alloc, asked) {
+            Ok(at) => Ok(Answer::Found(at)),
+            Err(Refusal::Memory) => Err(AllocError),
+            Err(refusal) => Ok(Answer::Refused(refusal)),
         }
     }
 

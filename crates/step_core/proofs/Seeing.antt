@@ -1,0 +1,33 @@
+-- What lies at a record's place, and what is learned there, is the flat machine's case.
+use Rattle.std.proofs.Common.{◌≡◌, ◌≤◌, refl, sym, subst, Some, None, Option, ℕ, List}
+use Rattle.map_join.specs.declared.records.Record.{Record}
+use Rattle.map_join.specs.Record.{key_of, record_at}
+use Rattle.step_core.specs.declared.refusal.Refusal.{Refusal}
+use Rattle.step_core.specs.declared.refusal.Refusal.TheVariants.{Ahead}
+use Rattle.step_core.specs.Flat.{Flat, Stored}
+use Rattle.step_core.specs.Steps.{Seen, Data, FoundAt, Refused}
+use Rattle.step_core.specs.Cases.{ReadAtCase, IsSeen, IsAhead}
+use Rattle.step_core.specs.Changes.{MayRefuse}
+use Rattle.step_core.specs.Views.{ArrayView, unit_at, key_at}
+use Rattle.step_core.specs.Represents.{ShowsArray}
+use Rattle.step_core.proofs.Newest.{newest_told, newest_is}
+
+-- a record that is ahead of the newest is refused
+pub ahead_case : (a : ArrayView) (F : Flat) (r : Record) (q : Refusal) → ShowsArray a F → q ≡ Ahead (record_at r.block (key_at a r.block))
+    → IsAhead r (record_at r.block (key_at a r.block))
+    → MayRefuse q ((seen : Seen) × (ReadAtCase F r (FoundAt seen) F)) (ReadAtCase F r (Refused q) F)
+ahead_case a F r q shows is ahead =
+    subst (λ p. MayRefuse p ((seen : Seen) × (ReadAtCase F r (FoundAt seen) F)) (ReadAtCase F r (Refused p) F)) (sym is)
+    (newest_told a F r.block shows, ahead, refl)
+
+-- of any other, what lies at its place is seen
+pub seen_case : (a : ArrayView) (F : Flat) (r n : Record) (seen : Seen) → ShowsArray a F → record_at r.block (key_at a r.block) ≡ Some n
+    → key_of r ≤ key_of n → IsSeen (unit_at a r.place) r seen → ReadAtCase F r (FoundAt seen) F
+seen_case a F r n seen shows found most is =
+    ((n, newest_is a F r.block n shows found, most), subst (λ o. IsSeen o r seen) (sym (shows.slots r.place).unit) is, refl)
+
+-- also where memory is wanted for its payload
+pub wanted_case : (a : ArrayView) (F : Flat) (r n : Record) (u : Stored) → ShowsArray a F → record_at r.block (key_at a r.block) ≡ Some n
+    → key_of r ≤ key_of n → unit_at a r.place ≡ Some u → u.header ≡ Some r → (seen : Seen) × (ReadAtCase F r (FoundAt seen) F)
+wanted_case a F r n u shows found most unit header =
+    (Data u.payload, seen_case a F r n (Data u.payload) shows found most (subst (λ o. IsSeen o r (Data u.payload)) (sym unit) (header, refl)))

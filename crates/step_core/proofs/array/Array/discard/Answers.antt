@@ -1,0 +1,20 @@
+use Rattle.std.proofs.Common.{rules, subst}
+use Rattle.step_core.specs.Steps.{Discarded}
+use Rattle.step_core.specs.Cases.{DiscardCase}
+use Rattle.step_core.specs.Changes.{discard_view}
+use Rattle.step_core.specs.Views.{IsWhole}
+use Rattle.step_core.proofs.Fills.{as_whole, as_shown}
+use Rattle.step_core.proofs.Discards.{discard_case, discard_refused, discard_whole, ticket_held}
+use Rattle.step_core.proofs.array.Array.discard.Goals as goal
+
+pub invariant_of-self : goal.invariant_of-self
+invariant_of-self g c = (
+  as_whole _ _ (search rules) (discard_whole c.args.self.now c.slot-slot.result (search rules) (search rules) (subst IsWhole c.self.view_is c.self.invariant.0)),
+  search rules,
+)
+
+pub returns-clause-flat : goal.returns-clause-flat
+returns-clause-flat g c F w shows mine =
+    as_shown (λ G. DiscardCase F w c.args.ticket (Discarded c.args.ticket) G) _ (discard_view c.args.self.now c.args.ticket) (search rules)
+    (discard_case c.args.self.now F w c.args.ticket (search rules) (search rules) shows
+    (ticket_held c.args.self.now F w c.args.ticket (search rules) shows mine))
