@@ -6,6 +6,7 @@ use Rattle.map_join.specs.Record.{record_at}
 use Rattle.map_join.specs.Maps.{Entries, at, IsDifference}
 use Rattle.step_core.specs.Flat.{Flat, put}
 use Rattle.step_core.specs.Steps.{FlatStep, FlatAnswer}
+use Rattle.step_core.specs.Steps as s
 use Rattle.step_core.specs.Cases.{Case}
 use Rattle.step_core.specs.Views.{WorldView}
 use Rattle.step_core.specs.Represents.{Represents}
@@ -13,7 +14,7 @@ use Rattle.raid_bench.specs.Order.{Order}
 use Rattle.raid_bench.specs.Order as o
 use Rattle.raid_bench.specs.State.{Position, State, IsDue, IsInRange, IsMap, block_count}
 use Rattle.raid_bench.specs.Meaning.{Answers, Steps, with_taken}
-use Rattle.raid_bench.specs.Text.{answer_text, difference_text, record_text}
+use Rattle.raid_bench.specs.Text.{answer_text, asked_version, difference_text, record_text}
 use Rattle.raid_bench.specs.Carrying.{AreMapsOf, Comes, IsAnswered, StandsAt}
 use Rattle.raid_bench.specs.declared.bench.Bench.{Bench}
 use Rattle.raid_bench.proofs.Benches.{put_here}
@@ -26,16 +27,16 @@ Took F step answer after = (G : Flat) × (Case F step answer G) × (Represents a
 
 -- a step that was told is the answer to its command
 pub told_step : (r : Result (Unit {0}) Failure) (P : Position) (after : Bench) (order : Order) (step : FlatStep) (answer : FlatAnswer)
-    (old new : List ℕ) → OnOk r (new ≡ old ++ answer_text answer) → IfErr r (λ f. f ≡ failure.Memory)
+    (old new : List ℕ) → OnOk r (new ≡ old ++ answer_text (asked_version step) answer) → IfErr r (λ f. f ≡ failure.Memory)
     → IsDue (Some P) order → IsInRange (block_count (Some P)) order → Took P.flat step answer after.world → AreMapsOf after.maps P.taken
     → ((text : List ℕ) (t : State) → Steps P step text t → Answers (Some P) order text t)
     → Comes r (Some P) (Some after) order old new
 told_step (Ok u) P after order step answer old new ok err due range took maps answers = record {
   due = due;
   range = range;
-  text = answer_text answer;
+  text = answer_text (asked_version step) answer;
   next = Some (record P { flat = took.0 });
-  answers = answers (answer_text answer) (Some (record P { flat = took.0 }))
+  answers = answers (answer_text (asked_version step) answer) (Some (record P { flat = took.0 }))
       (record { answer = answer; next = took.0; case = took.1; text_is = refl; state_is = refl });
   stands = record { world = took.2; maps = maps };
   out = ok;
@@ -101,6 +102,20 @@ compared_maps P bench left right lowest old new is_left is_right stands differs 
     },
     refl,
   );
+  stands = stands;
+  out = out;
+}
+
+-- what was read at a record's place
+pub told_at : (P : Position) (bench : Bench) (r : Record) (answer : FlatAnswer) (old new : List ℕ) → r.block < P.flat.sizes.blocks
+    → StandsAt bench P → Case P.flat (s.ReadAt r) answer P.flat → new ≡ old ++ answer_text r.version answer
+    → IsAnswered (Some P) (Some bench) (o.At r) old new
+told_at P bench r answer old new is_block stands case out = record {
+  due = tt;
+  range = is_block;
+  text = answer_text r.version answer;
+  next = Some P;
+  answers = record { answer = answer; next = P.flat; case = case; text_is = refl; state_is = refl };
   stands = stands;
   out = out;
 }

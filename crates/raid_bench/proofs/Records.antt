@@ -32,3 +32,12 @@ no_take size ws map word spelled none (o.Take m r) found =
     let named : IsRecordWord r word = rw (← same) f.named in
     none r named
 no_take size ws map word spelled none _ found = let asked = found.asked in cc asked
+
+pub no_at : (size : ℕ) (ws : List (List ℕ)) (word : List ℕ) → ws ≡ word ∷ []
+    → ((r : Record) → IsRecordWord r word → ⊥) → (order : Order) → IsFound verb.At size ws order → ⊥
+no_at size ws word spelled none (o.At r) found =
+    let f = found.follows in
+    let same : f.word ≡ word = let told = sym f.spelled ∙ spelled in cc in
+    let named : IsRecordWord r word = rw (← same) f.named in
+    none r named
+no_at size ws word spelled none _ found = let asked = found.asked in cc asked

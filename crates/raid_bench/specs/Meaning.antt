@@ -13,7 +13,7 @@ use Rattle.raid_bench.specs.Order.{Order}
 use Rattle.raid_bench.specs.Order as o
 use Rattle.raid_bench.specs.Spelling.{Spells}
 use Rattle.raid_bench.specs.State.{Position, State, IsDue, IsInRange, block_count, nothing_taken, sizes_of}
-use Rattle.raid_bench.specs.Text.{answer_text, difference_text, listing, record_text}
+use Rattle.raid_bench.specs.Text.{answer_text, asked_version, difference_text, listing, record_text}
 use Rattle.raid_bench.specs.declared.command.Named.{Named}
 use Rattle.raid_bench.specs.declared.why.Why.{Why}
 use Rattle.raid_bench.specs.declared.why.Why.TheVariants.{Many, Long, Form, Range}
@@ -25,7 +25,7 @@ pub record Steps (P : Position) (step : FlatStep) (text : List ℕ) (t : State) 
   pub answer : FlatAnswer
   pub next : Flat
   pub case : Case P.flat step answer next
-  pub text_is : text ≡ answer_text answer
+  pub text_is : text ≡ answer_text (asked_version step) answer
   pub state_is : t ≡ Some (record P { flat = next })
 
 -- the newest record of each block among some records, in the blocks' order
@@ -86,8 +86,11 @@ Answers (Some P) (o.Make class members) text t = Steps P (s.Make class (members_
 Answers (Some P) (o.Claim worker slot) text t = Steps P (s.Claim worker slot) text t
 Answers (Some P) (o.Release worker slot) text t = Steps P (s.Release worker slot) text t
 Answers (Some P) (o.Fill worker slot payload) text t = Steps P (s.Fill worker slot payload) text t
+Answers (Some P) (o.Copy worker slot block) text t = Steps P (s.Copy worker slot block) text t
 Answers (Some P) (o.Commit worker slot block) text t = Steps P (s.Commit worker slot block) text t
+Answers (Some P) (o.Discard worker slot) text t = Steps P (s.Discard worker slot) text t
 Answers (Some P) (o.Read block) text t = Steps P (s.Read block) text t
+Answers (Some P) (o.At r) text t = Steps P (s.ReadAt r) text t
 Answers (Some P) (o.Take map r) text t = Takes P map r text t
 Answers (Some P) (o.Merge into from) text t = Merges P into from text t
 Answers (Some P) (o.Same left right) text t = Compares (P.taken left) (P.taken right) text × (t ≡ Some P)

@@ -57,6 +57,12 @@ pub record IsRecordWord (r : Record) (word : List ℕ) : Type 0 where
   pub spells : RecordSpells bytes r
   pub written : 0 < r.version
 
+-- a record alone
+pub record Names (r : Record) (ws : List (List ℕ)) : Type 0 where
+  pub word : List ℕ
+  pub named : IsRecordWord r word
+  pub spelled : ws ≡ word ∷ []
+
 -- a map and a record
 pub record Takes (map : ℕ) (r : Record) (ws : List (List ℕ)) : Type 0 where
   pub word : List ℕ
@@ -72,8 +78,11 @@ Follows (o.Make class members) ws = Makes class members ws
 Follows (o.Claim worker slot) ws = AreNumbers (worker ∷ slot ∷ []) ws
 Follows (o.Release worker slot) ws = AreNumbers (worker ∷ slot ∷ []) ws
 Follows (o.Fill worker slot payload) ws = Fills worker slot payload ws
+Follows (o.Copy worker slot block) ws = AreNumbers (worker ∷ slot ∷ block ∷ []) ws
 Follows (o.Commit worker slot block) ws = AreNumbers (worker ∷ slot ∷ block ∷ []) ws
+Follows (o.Discard worker slot) ws = AreNumbers (worker ∷ slot ∷ []) ws
 Follows (o.Read block) ws = AreNumbers (block ∷ []) ws
+Follows (o.At r) ws = Names r ws
 Follows (o.Take map r) ws = Takes map r ws
 Follows (o.Merge into from) ws = AreNumbers (into ∷ from ∷ []) ws
 Follows (o.Same left right) ws = AreNumbers (left ∷ right ∷ []) ws

@@ -11,7 +11,7 @@ use crate::parts::{SPACE, cut};
 use crate::record::record_of;
 use crate::verb::Verb;
 use crate::words::{
-    five_numbers, is_end, number_and_word, one_number, three_numbers, two_numbers,
+    five_numbers, is_end, last_word, number_and_word, one_number, three_numbers, two_numbers,
     two_numbers_and_word,
 };
 use hex::decode_to_slice;
@@ -52,6 +52,43 @@ pub fn release_of(rest: Option<&[u8]>) -> Option<Command>
         return None
     };
     Some(Command::Release { worker, slot })
+}
+
+/// A worker, a slot and a block.
+pub fn copy_of(rest: Option<&[u8]>) -> Option<Command>
+    ensures { (size : ℕ) (bytes : List ℕ) → Finds Verb.Copy size (words_left (text_of rest.entry)) bytes result }
+{
+    let Some((worker, slot, block)) = three_numbers(rest) else {
+        return None
+    };
+    Some(Command::Copy {
+        worker,
+        slot,
+        block,
+    })
+}
+
+/// A worker and a slot.
+pub fn discard_of(rest: Option<&[u8]>) -> Option<Command>
+    ensures { (size : ℕ) (bytes : List ℕ) → Finds Verb.Discard size (words_left (text_of rest.entry)) bytes result }
+{
+    let Some((worker, slot)) = two_numbers(rest) else {
+        return None
+    };
+    Some(Command::Discard { worker, slot })
+}
+
+/// A record.
+pub fn at_of(rest: Option<&[u8]>) -> Option<Command>
+    ensures { (size : ℕ) (bytes : List ℕ) → Finds Verb.At size (words_left (text_of rest.entry)) bytes result }
+{
+    let Some(word) = last_word(rest) else {
+        return None
+    };
+    let Some(record) = record_of(word) else {
+        return None
+    };
+    Some(Command::At { record })
 }
 
 /// A worker, a slot and a block.

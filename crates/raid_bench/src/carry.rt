@@ -13,6 +13,7 @@ use crate::limits::{block_of, hand_of, members_in_range};
 use crate::maps::{merge, same, show, take};
 use crate::texts::{put_answer, put_listing};
 use crate::why::{Failure, Why};
+use map_join::Record;
 use std::alloc::Global;
 use step_core::{Answer, Class};
 
@@ -34,11 +35,18 @@ pub fn carry_out(
         Command::Claim { worker, slot } => claim(bench, worker, slot, out),
         Command::Release { worker, slot } => release(bench, worker, slot, out),
         Command::Fill { worker, slot } => fill(alloc, bench, worker, slot, payload, out),
+        Command::Copy {
+            worker,
+            slot,
+            block,
+        } => copy(alloc, bench, worker, slot, block, out),
         Command::Commit {
             worker,
             slot,
             block,
         } => commit(alloc, bench, worker, slot, block, out),
+        Command::Discard { worker, slot } => discard(bench, worker, slot, out),
+        Command::At { record } => read_at(alloc, bench, record, out),
         Command::Read { block } => read(alloc, bench, block, out),
         Command::Take { map, record } => take(alloc, bench, map, record, out),
         Command::Merge { into, from } => merge(alloc, bench, into, from, out),
@@ -51,10 +59,10 @@ pub fn carry_out(
 
 // Appends the answer to a step.
 fn tell(out: &mut Vec<u8>, answer: &Answer) -> Result<(), Failure>
-    ensures ok { OnOk result (out.new.items ≡ out.old.items ++ answer_text (flat_answer answer.now)) }
+    ensures ok { OnOk result (out.new.items ≡ out.old.items ++ answer_text 0 (flat_answer answer.now)) }
     ensures err { IfErr result (λ failure. failure ≡ Failure.Memory) }
 {
-    match put_answer(out, answer) {
+    match put_answer(out, answer, 0) {
         Ok(()) => Ok(()),
         Err(_) => Err(Failure::Memory),
     }
@@ -100,6 +108,28 @@ fn fill(
     }
 }
 
+fn copy(
+    alloc: Global,
+    bench: &mut Bench,
+    worker: u64,
+    slot: u64,
+    block: u64,
+    out: &mut Vec<u8>,
+) -> Result<(), Failure>
+    ensures { Carries result bench.old bench.new (o.Copy worker slot block) out.old.items out.new.items }
+{
+    let Some((worker, slot)) = hand_of(worker, slot) else {
+        return Err(Failure::Wrong(Why::Range))
+    };
+    let Some(block) = block_of(&bench.world, block) else {
+        return Err(Failure::Wrong(Why::Range))
+    };
+    match bench.world.copy(alloc, worker, slot, block) {
+        Ok(answer) => tell(out, &answer),
+        Err(_) => Err(Failure::Memory),
+    }
+}
+
 fn commit(
     alloc: Global,
     bench: &mut Bench,
@@ -118,6 +148,36 @@ fn commit(
     };
     match bench.world.commit(alloc, worker, slot, block) {
         Ok(answer) => tell(out, &answer),
+        Err(_) => Err(Failure::Memory),
+    }
+}
+
+fn discard(bench: &mut Bench, worker: u64, slot: u64, out: &mut Vec<u8>) -> Result<(), Failure>
+    ensures { Carries result bench.old bench.new (o.Discard worker slot) out.old.items out.new.items }
+{
+    let Some((worker, slot)) = hand_of(worker, slot) else {
+        return Err(Failure::Wrong(Why::Range))
+    };
+    let answer = bench.world.discard(worker, slot);
+    tell(out, &answer)
+}
+
+fn read_at(
+    alloc: Global,
+    bench: &mut Bench,
+    record: Record,
+    out: &mut Vec<u8>,
+) -> Result<(), Failure>
+    ensures { Carries result bench.old bench.new (o.At «record») out.old.items out.new.items }
+{
+    let Some(_) = block_of(&bench.world, u64::from(record.block)) else {
+        return Err(Failure::Wrong(Why::Range));
+    };
+    let Ok(answer) = bench.world.read_at(alloc, record) else {
+        return Err(Failure::Memory)
+    };
+    match put_answer(out, &answer, record.version) {
+        Ok(()) => Ok(()),
         Err(_) => Err(Failure::Memory),
     }
 }

@@ -35,13 +35,25 @@ pub enum Command {
         worker: u64,
         slot: u64,
     },
+    Copy {
+        worker: u64,
+        slot: u64,
+        block: u64,
+    },
     Commit {
         worker: u64,
         slot: u64,
         block: u64,
     },
+    Discard {
+        worker: u64,
+        slot: u64,
+    },
     Read {
         block: u64,
+    },
+    At {
+        record: Record,
     },
     Take {
         map: u64,

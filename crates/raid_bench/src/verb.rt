@@ -10,8 +10,11 @@ pub enum Verb {
     Claim,
     Release,
     Fill,
+    Copy,
     Commit,
+    Discard,
     Read,
+    At,
     Take,
     Merge,
     Same,
@@ -21,12 +24,15 @@ pub enum Verb {
 }
 
 /// Every verb, the most frequent ones first.
-const VERBS: [Verb; 13] = [
+const VERBS: [Verb; 16] = [
     Verb::Claim,
     Verb::Fill,
     Verb::Commit,
     Verb::Read,
     Verb::Release,
+    Verb::Copy,
+    Verb::Discard,
+    Verb::At,
     Verb::Take,
     Verb::Merge,
     Verb::Same,
@@ -48,8 +54,11 @@ impl Verb {
             Verb::Claim => b"claim",
             Verb::Release => b"release",
             Verb::Fill => b"fill",
+            Verb::Copy => b"copy",
             Verb::Commit => b"commit",
+            Verb::Discard => b"discard",
             Verb::Read => b"read",
+            Verb::At => b"at",
             Verb::Take => b"take",
             Verb::Merge => b"merge",
             Verb::Same => b"same",

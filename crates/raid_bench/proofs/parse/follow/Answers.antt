@@ -27,6 +27,15 @@ returns-in-Same c = rw c.in-Same.is (c.same_of.ensures _ _)
 pub returns-in-Show : goal.returns-in-Show
 returns-in-Show c = rw c.in-Show.is (c.show_of.ensures _ _)
 
+pub returns-in-Copy : goal.returns-in-Copy
+returns-in-Copy c = rw c.in-Copy.is (c.copy_of.ensures _ _)
+
+pub returns-in-Discard : goal.returns-in-Discard
+returns-in-Discard c = rw c.in-Discard.is (c.discard_of.ensures _ _)
+
+pub returns-in-At : goal.returns-in-At
+returns-in-At c = rw c.in-At.is (c.at_of.ensures _ _)
+
 pub returns-in-Map : goal.returns-in-Map
 returns-in-Map c = rw c.in-Map.is (c.map_of.ensures _ _)
 
