@@ -1,21 +1,29 @@
 -- The map of a list that grows by one record.
-use Rattle.std.proofs.Common.{◌≡◌, ℕ, ◌<◌, ◌≤◌, max, true, false, cond, List, [], ◌∷◌, ◌++◌, Contains, ◌⊎◌, inl, inr, sym, ap, ◌∙◌, arith, ◌^◌, Some, unwrap_or}
-use Rattle.std.proofs.lemmas.List.Elements.{Contains-append_left, Contains-push_cases, Contains-push}
+use Rattle.std.proofs.Common.{◌≡◌, ℕ, ◌<◌, ◌≤◌, max, true, false, cond, List, [], ◌∷◌, ◌++◌, Contains, ◌⊎◌, inl, inr, sym, ap, ◌∙◌, arith, ◌^◌, Some, unwrap_or, subst, Result, Ok, Err, OnOk}
+use Rattle.std.proofs.lemmas.List.Elements.{Contains-append_left, Contains-append_right, Contains-append_cases, Contains-push_cases, Contains-push}
 use Rattle.std.proofs.lemmas.Bool.{cases_eq}
 use Rattle.std.proofs.lemmas.Bool.Decides.{nat_tests}
 use Rattle.std.proofs.lemmas.Option.{same_Some}
 use Rattle.std.specs.Ordering.{nat_cmp, is_eq}
 use Rattle.map_join.specs.Keys.{AreKeys}
 use Rattle.map_join.specs.declared.records.Record.{Record}
+use Rattle.map_join.specs.declared.block_map.MapRefusal.{MapRefusal}
 use Rattle.map_join.specs.Record.{key_of}
-use Rattle.map_join.specs.Maps.{Entries, find, at, IsSame, join, only, IsMapOf}
+use Rattle.map_join.specs.Maps.{Entries, find, at, IsSame, join, lone, only, IsMapOf}
 
 -- two numbers compare as equal where they are one, and else not
-tied : (a b : ℕ) → a ≡ b → is_eq (nat_cmp a b) ≡ true
+pub tied : (a b : ℕ) → a ≡ b → is_eq (nat_cmp a b) ≡ true
 tied a b e = grind (arith, nat_tests)
 
-apart : (a b : ℕ) → (a ≡ b → ⊥) → is_eq (nat_cmp a b) ≡ false
+pub apart : (a b : ℕ) → (a ≡ b → ⊥) → is_eq (nat_cmp a b) ≡ false
 apart a b ne = grind (arith, nat_tests)
+
+-- a lone key's map has it at its block, and nothing elsewhere
+pub lone_here : (here key block : ℕ) → block ≡ here → lone here key block ≡ key
+lone_here here key block e = grind (arith, nat_tests)
+
+pub lone_else : (here key block : ℕ) → (block ≡ here → ⊥) → lone here key block ≡ 0
+lone_else here key block ne = grind (arith, nat_tests)
 
 -- a record's own map has its key at its block, and nothing elsewhere
 pub only_here : (r : Record) (block : ℕ) → block ≡ r.block → only r block ≡ key_of r
@@ -59,46 +67,81 @@ took xs r M N joined was = record { told = told; most = most }
             let same : key_of r ≡ key_of q = ap (λ (x : Record). key_of x) is in
             omega arith
 
--- where the record's key is not above the block's, the map is the join already
-pub kept : (m : Entries) (r : Record) → key_of r ≤ at m r.block → IsSame (at m) (join (at m) (only r))
-kept m r low block = go (cases_eq block r.block)
+-- the same where a call took the record
+pub taken : (result : Result (Unit {0}) MapRefusal) (r : Record) (key : ℕ) (M N : ℕ → ℕ) → key ≡ key_of r
+    → OnOk result (IsSame N (join M (lone r.block key)))
+    → OnOk result ((records : List Record) → IsMapOf records M → IsMapOf (records ++ r ∷ []) N)
+taken (Ok _) r key M N is joined =
+    λ records was. took records r M N (subst (λ k. IsSame N (join M (lone r.block k))) is joined) was
+taken (Err _) r key M N is joined = tt
+
+-- the maps of two lists, joined, are the map of both lists together
+pub together : (xs ys : List Record) (M N joined : ℕ → ℕ) → IsSame joined (join M N) → IsMapOf xs M → IsMapOf ys N → IsMapOf (xs ++ ys) joined
+together xs ys M N joined is ours theirs = record { told = told; most = most }
   where
-    go : (block ≡ r.block) ⊎ (block ≡ r.block → ⊥) → at m block ≡ max (at m block) (only r block)
+    Tells : ℕ → Type 0
+    Tells block = (q : Record) × (Contains (xs ++ ys) q) × (q.block ≡ block) × (key_of q ≡ joined block)
+
+    told : (block : ℕ) → 0 < joined block → Tells block
+    told block above = go (either (M block) (N block))
+      where
+        go : ((max (M block) (N block) ≡ M block) ⊎ (max (M block) (N block) ≡ N block)) → Tells block
+        go (inl e) =
+            let same : joined block ≡ M block = is block ∙ e in
+            let q = ours.told block (omega arith) in
+            (q.0, Contains-append_left xs ys q.0 q.1, q.2, q.3 ∙ sym same)
+        go (inr e) =
+            let same : joined block ≡ N block = is block ∙ e in
+            let q = theirs.told block (omega arith) in
+            (q.0, Contains-append_right xs ys q.0 q.1, q.2, q.3 ∙ sym same)
+
+    most : (q : Record) → Contains (xs ++ ys) q → key_of q ≤ joined q.block
+    most q has = go (Contains-append_cases xs ys q has)
+      where
+        go : Contains xs q ⊎ Contains ys q → key_of q ≤ joined q.block
+        go (inl there) = let e = is q.block in let below = ours.most q there in omega arith
+        go (inr there) = let e = is q.block in let below = theirs.most q there in omega arith
+
+-- where the key is not above the block's, the map is the join already
+pub kept : (m : Entries) (here key : ℕ) → key ≤ at m here → IsSame (at m) (join (at m) (lone here key))
+kept m here key low block = go (cases_eq block here)
+  where
+    go : (block ≡ here) ⊎ (block ≡ here → ⊥) → at m block ≡ max (at m block) (lone here key block)
     go (inl is) =
-        let e = only_here r block is in
-        let same : at m block ≡ at m r.block = ap (at m) is in
+        let e = lone_here here key block is in
+        let same : at m block ≡ at m here = ap (at m) is in
         grind arith
-    go (inr ne) = let e = only_else r block ne in grind arith
+    go (inr ne) = let e = lone_else here key block ne in grind arith
 
--- a map of which one record's key was set at its block, the rest being as before
-abbrev pub HasSet : Entries → Entries → Record → ℕ → Type 0
-HasSet m n r key = (q : ℕ) → find n q ≡ cond (is_eq (nat_cmp r.block q)) (Some key) (find m q)
+-- a map of which one block's key was set, the rest being as before
+abbrev pub HasSet : Entries → Entries → ℕ → ℕ → Type 0
+HasSet m n here key = (q : ℕ) → find n q ≡ cond (is_eq (nat_cmp here q)) (Some key) (find m q)
 
-set_here : (m n : Entries) (r : Record) (key : ℕ) → HasSet m n r key → (block : ℕ) → block ≡ r.block → find n block ≡ Some key
-set_here m n r key new block is = new block ∙ ap (λ b. cond b (Some key) (find m block)) (tied r.block block (sym is))
+set_here : (m n : Entries) (here key : ℕ) → HasSet m n here key → (block : ℕ) → block ≡ here → find n block ≡ Some key
+set_here m n here key new block is = new block ∙ ap (λ b. cond b (Some key) (find m block)) (tied here block (sym is))
 
-set_else : (m n : Entries) (r : Record) (key : ℕ) → HasSet m n r key → (block : ℕ) → (block ≡ r.block → ⊥) → find n block ≡ find m block
-set_else m n r key new block ne = new block ∙ ap (λ b. cond b (Some key) (find m block)) (apart r.block block (λ p. ne (sym p)))
+set_else : (m n : Entries) (here key : ℕ) → HasSet m n here key → (block : ℕ) → (block ≡ here → ⊥) → find n block ≡ find m block
+set_else m n here key new block ne = new block ∙ ap (λ b. cond b (Some key) (find m block)) (apart here block (λ p. ne (sym p)))
 
 -- it is the join where that key is above the old one
-pub inserted : (m n : Entries) (r : Record) (key : ℕ) → key ≡ key_of r → at m r.block < key → HasSet m n r key → IsSame (at n) (join (at m) (only r))
-inserted m n r key is_key above new block = go (cases_eq block r.block)
+pub inserted : (m n : Entries) (here key : ℕ) → at m here < key → HasSet m n here key → IsSame (at n) (join (at m) (lone here key))
+inserted m n here key above new block = go (cases_eq block here)
   where
-    go : (block ≡ r.block) ⊎ (block ≡ r.block → ⊥) → at n block ≡ max (at m block) (only r block)
+    go : (block ≡ here) ⊎ (block ≡ here → ⊥) → at n block ≡ max (at m block) (lone here key block)
     go (inl is) =
-        let e = only_here r block is in
-        let same : at m block ≡ at m r.block = ap (at m) is in
-        let there : at n block ≡ key = ap (λ o. unwrap_or o 0) (set_here m n r key new block is) in
+        let e = lone_here here key block is in
+        let same : at m block ≡ at m here = ap (at m) is in
+        let there : at n block ≡ key = ap (λ o. unwrap_or o 0) (set_here m n here key new block is) in
         grind arith
     go (inr ne) =
-        let e = only_else r block ne in
-        let there : at n block ≡ at m block = ap (λ o. unwrap_or o 0) (set_else m n r key new block ne) in
+        let e = lone_else here key block ne in
+        let there : at n block ≡ at m block = ap (λ o. unwrap_or o 0) (set_else m n here key new block ne) in
         grind arith
 
 -- and its numbers are keys of records as before
-pub insert_keys : (m n : Entries) (r : Record) (key : ℕ) → key ≡ key_of r → 0 < r.version → AreKeys m → HasSet m n r key → AreKeys n
-insert_keys m n r key is_key written keys new block had has = go (cases_eq block r.block)
+pub insert_keys : (m n : Entries) (here key : ℕ) → 2 ^ 32 ≤ key → AreKeys m → HasSet m n here key → AreKeys n
+insert_keys m n here key big keys new block had has = go (cases_eq block here)
   where
-    go : (block ≡ r.block) ⊎ (block ≡ r.block → ⊥) → 2 ^ 32 ≤ had
-    go (inl is) = let same : key ≡ had = same_Some _ _ (sym (set_here m n r key new block is) ∙ has) in omega arith
-    go (inr ne) = keys block had (sym (set_else m n r key new block ne) ∙ has)
+    go : (block ≡ here) ⊎ (block ≡ here → ⊥) → 2 ^ 32 ≤ had
+    go (inl is) = let same : key ≡ had = same_Some _ _ (sym (set_here m n here key new block is) ∙ has) in omega arith
+    go (inr ne) = keys block had (sym (set_else m n here key new block ne) ∙ has)

@@ -1,3 +1,5 @@
+pub mod Fronts
 pub mod Joins
 pub mod Listing
+pub mod Merging
 pub mod Spelling

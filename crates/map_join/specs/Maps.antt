@@ -1,5 +1,5 @@
 -- Maps from blocks to keys, their order and join, and the map of a list of records.
-use Rattle.std.specs.Prelude.{◌≡◌, ◌↔◌, ℕ, ◌<◌, ◌≤◌, max, ◌==◌, if◌then◌else◌, List, map, Option, Some, unwrap_or, Contains}
+use Rattle.std.specs.Prelude.{◌≡◌, ◌≢◌, ◌↔◌, ℕ, ◌<◌, ◌≤◌, max, ◌==◌, if◌then◌else◌, List, map, Option, Some, None, unwrap_or, Contains}
 use Rattle.std.specs.Map.{lookup}
 use Rattle.std.specs.Ordering.{nat_cmp, is_eq}
 use Rattle.std.specs.List.Sorted.{IsStrictlyIncreasing}
@@ -30,9 +30,39 @@ IsBelow M N = (block : ℕ) → M block ≤ N block
 abbrev pub join : (ℕ → ℕ) → (ℕ → ℕ) → ℕ → ℕ
 join M N block = max (M block) (N block)
 
+-- the map that has one block's key and no other
+abbrev pub lone : ℕ → ℕ → ℕ → ℕ
+lone here key block = if block == here then key else 0
+
 -- the map that holds one record
 abbrev pub only : Record → ℕ → ℕ
 only r block = if block == r.block then key_of r else 0
+
+-- a map joined with another's blocks below one: from that block on, which it didn't have and the other has, it is as before
+pub record IsJoinedBelow (bound : ℕ) (M N joined : ℕ → ℕ) : Type 0 where
+  pub below : (block : ℕ) → block < bound → joined block ≡ join M N block
+  pub rest : (block : ℕ) → bound ≤ block → joined block ≡ M block
+  pub missing : M bound ≡ 0
+  pub there : 0 < N bound
+
+-- a map joined with a part of another, in the blocks' order, and not with all of it
+abbrev pub IsPartlyJoined : (ℕ → ℕ) → (ℕ → ℕ) → (ℕ → ℕ) → Type 0
+IsPartlyJoined M N joined = (bound : ℕ) × IsJoinedBelow bound M N joined
+
+-- the lowest block of which the second map has a greater key
+pub record IsLowestAbove (M N : ℕ → ℕ) (block : ℕ) : Type 0 where
+  pub above : M block < N block
+  pub lowest : (lower : ℕ) → lower < block → N lower ≤ M lower
+
+-- the lowest block of which two maps have different keys
+pub record IsLowestDifference (M N : ℕ → ℕ) (block : ℕ) : Type 0 where
+  pub differs : M block ≢ N block
+  pub lowest : (lower : ℕ) → lower < block → M lower ≡ N lower
+
+-- that block, or none where they have the same keys
+abbrev pub IsDifference : (ℕ → ℕ) → (ℕ → ℕ) → Option ℕ → Type 0
+IsDifference M N None = IsSame M N
+IsDifference M N (Some block) = IsLowestDifference M N block
 
 -- a map is that of a list of records where each key is told by a record of the list, and no record of the list has a
 -- greater one; neither order nor repeats are spoken of

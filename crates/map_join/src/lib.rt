@@ -2,9 +2,11 @@
 #![tactic(auto)]
 
 mod block_map;
+mod laws;
 mod records;
 
 pub use block_map::{BlockMap, MapRefusal};
+pub use laws::{join_laws, list_laws};
 pub use records::{Record, RecordFault};
 
 #[cfg(test)]

@@ -1,5 +1,6 @@
 // Records and maps against values from outside.
-use crate::{BlockMap, Record, RecordFault};
+use crate::{BlockMap, MapRefusal, Record, RecordFault};
+use std::alloc::Global;
 use std::test::Fail;
 
 fn record(version: u32, hop: u16, place: u16) -> Record {
@@ -55,6 +56,93 @@ fn three_records_in_any_order_and_twice_leave_the_newest(rt: HostRuntime) -> Res
         assert_eq!(rt; map.get(4), None);
     }
     Ok(())
+}
+
+#[test]
+fn a_write_is_newer_than_the_last_move_before_it(rt: HostRuntime) -> Result<(), Fail> {
+    let moved = record(1, 65_535, 65_535);
+    let written = record(2, 0, 0);
+    assert_eq!(rt; written.key(), 8_589_934_592);
+    for (first, second) in [(moved, written), (written, moved)] {
+        let map = map_of(rt.alloc(), &[first, second])?;
+        assert_eq!(rt; map.get(3), Some(written));
+    }
+    Ok(())
+}
+
+#[test]
+fn two_maps_agree_once_the_older_one_is_merged(rt: HostRuntime) -> Result<(), Fail> {
+    let alloc = rt.alloc();
+    let newer = map_of(alloc, &[record(2, 0, 5), record(1, 0, 0)])?;
+    let mut older = map_of(alloc, &[record(1, 0, 0)])?;
+    assert_eq!(rt; older.lowest_difference(&newer), Some(3));
+    assert_eq!(rt; newer.lowest_difference(&older), Some(3));
+    assert!(rt; !older.agrees(&newer));
+    assert!(rt; newer.covers(&older) && !older.covers(&newer));
+    older.merge(alloc, &newer)?;
+    assert_eq!(rt; older.get(3), Some(record(2, 0, 5)));
+    assert_eq!(rt; older.lowest_difference(&newer), None);
+    assert!(rt; older.agrees(&newer));
+    assert!(rt; newer.covers(&older) && older.covers(&newer));
+
+    let mut none = BlockMap::new(alloc);
+    none.merge(alloc, &BlockMap::new(alloc))?;
+    assert_eq!(rt; none.to_list(alloc)?.len(), 0);
+    assert!(rt; newer.covers(&none) && !none.agrees(&newer));
+    Ok(())
+}
+
+// Each growth may be refused here, one in a run: then the first blocks are merged, and merging again ends it.
+#[test]
+fn a_refused_merge_has_the_first_blocks_and_goes_on(rt: HostRuntime) -> Result<(), Fail> {
+    for blocks in [2u32, 100] {
+        let mut from = BlockMap::new(rt.alloc());
+        for block in 1..blocks + 1 {
+            let taken = first_of(block);
+            assert!(rt; taken.version > 0);
+            if from.take(rt.alloc(), taken) == Err(MapRefusal::Memory) {
+                assert_eq!(rt; from.get(block), None);
+                from.take(rt.alloc(), taken)?;
+            }
+        }
+        let mut to = BlockMap::new(rt.alloc());
+        if to.merge(rt.alloc(), &from) == Err(MapRefusal::Memory) {
+            let merged = (1..blocks + 1)
+                .filter(|block| to.get(*block).is_some())
+                .count();
+            let first = (1..blocks + 1)
+                .take_while(|block| to.get(*block).is_some())
+                .count();
+            assert_eq!(rt; merged, first);
+            assert!(rt; !to.covers(&from) && from.covers(&to));
+            to.merge(rt.alloc(), &from)?;
+        }
+        assert_eq!(rt; to.get(1), Some(first_of(1)));
+        assert_eq!(rt; to.get(blocks), Some(first_of(blocks)));
+        assert!(rt; to.agrees(&from));
+    }
+    Ok(())
+}
+
+// The first write of a block, into the slot before the block's number.
+fn first_of(block: u32) -> Record {
+    Record {
+        block,
+        version: 1,
+        hop: 0,
+        place: block.saturating_sub(1).min(65_535) as u16,
+    }
+}
+
+fn map_of(alloc: Global, records: &[Record]) -> Result<BlockMap, Fail> {
+    let mut map = BlockMap::new(alloc);
+    for record in records {
+        if record.version == 0 {
+            return Err("version 0".into());
+        }
+        map.take(alloc, *record)?;
+    }
+    Ok(map)
 }
 
 #[test]

@@ -58,7 +58,7 @@ turn_on (Some end.WriteFault) before after chunk old state new held now consumed
 
 -- nothing was read nor written
 pub part_none : (before after : Option (List ℕ)) (script : Script) (state : State) (held : Option (List ℕ)) → Keeps before after
-    → Stands script.world state → PartSaid before after script state script held held
+    → Stands script.bench state → PartSaid before after script state script held held
 part_none None after script state held kept stands = (state, stands)
 part_none (Some xs) None script state held kept stands = absurd kept
 part_none (Some xs) (Some ys) script state held kept stands = record {
@@ -98,7 +98,7 @@ join_all xs ys old state mid held wrote now last a b = record {
 -- parts behind a part
 parts_join : (before mid_in after : Option (List ℕ)) (old : Script) (state : State) (mid new : Script) (held wrote now : Option (List ℕ))
     → PartSaid before mid_in old state mid held wrote
-    → ((s : State) → Stands mid.world s → PartSaid mid_in after mid s new wrote now) → PartSaid before after old state new held now
+    → ((s : State) → Stands mid.bench s → PartSaid mid_in after mid s new wrote now) → PartSaid before after old state new held now
 parts_join None None after old state mid new held wrote now a b = let c = b a.0 a.1 in (c.0, c.1)
 parts_join None (Some ys) None old state mid new held wrote now a b = absurd (b a.0 a.1)
 parts_join None (Some ys) (Some zs) old state mid new held wrote now a b = let c = b a.0 a.1 in (c.next, c.stands)
@@ -109,7 +109,7 @@ parts_join (Some xs) (Some ys) (Some zs) old state mid new held wrote now a b =
 
 all_join : (before mid_in : Option (List ℕ)) (old : Script) (state : State) (mid : Script) (held wrote now : Option (List ℕ)) (last : End)
     → PartSaid before mid_in old state mid held wrote
-    → ((s : State) → Stands mid.world s → AllSaid mid_in mid s wrote now last) → AllSaid before old state held now last
+    → ((s : State) → Stands mid.bench s → AllSaid mid_in mid s wrote now last) → AllSaid before old state held now last
 all_join None mid_in old state mid held wrote now last a b = tt
 all_join (Some xs) None old state mid held wrote now last a b = absurd a
 all_join (Some xs) (Some ys) old state mid held wrote now last a b =
@@ -118,7 +118,7 @@ all_join (Some xs) (Some ys) old state mid held wrote now last a b =
 -- a turn behind turns
 pub turn_after : (result : Option End) (before mid_in after : Option (List ℕ)) (old : Script) (state : State) (mid new : Script)
     (held wrote now : Option (List ℕ)) → PartSaid before mid_in old state mid held wrote
-    → ((s : State) → Stands mid.world s → TurnsTo result mid_in after mid s new wrote now) → TurnsTo result before after old state new held now
+    → ((s : State) → Stands mid.bench s → TurnsTo result mid_in after mid s new wrote now) → TurnsTo result before after old state new held now
 turn_after None before mid_in after old state mid new held wrote now a b = parts_join before mid_in after old state mid new held wrote now a b
 turn_after (Some end.ReadFault) before mid_in after old state mid new held wrote now a b =
     parts_join before mid_in after old state mid new held wrote now a b

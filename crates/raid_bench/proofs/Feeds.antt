@@ -20,7 +20,7 @@ same_left : (n : ℕ) (state : State) (line rest line' rest' out out' : List ℕ
 same_left n state line rest line' rest' out out' last text same left = rw (text, same) left
 
 -- nothing was read yet
-pub along_start : (script : Script) (state : State) (chunk : List ℕ) → Stands script.world state → IsAlong script state script chunk chunk
+pub along_start : (script : Script) (state : State) (chunk : List ℕ) → Stands script.bench state → IsAlong script state script chunk chunk
 along_start script state chunk stands = record {
   next = state;
   stands = stands;
@@ -59,7 +59,7 @@ along_stopped old state mid new chunk part rest a b = record {
 }
 
 -- the open line grew
-pub along_open : (old : Script) (state : State) (new : Script) (part : List ℕ) → Stands new.world state → new.number ≡ old.number
+pub along_open : (old : Script) (state : State) (new : Script) (part : List ℕ) → Stands new.bench state → new.number ≡ old.number
     → new.line.items ≡ old.line.items ++ part → new.out.items ≡ old.out.items → IsAlong old state new part []
 along_open old state new part stands number line out = record {
   next = state;
@@ -140,7 +140,7 @@ closed_answered (Err stop.Fault) old state new none some answered = record {
 -- one turn: a part that isn't taken in
 pub turn_refused : (reason : Stop) (old : Script) (state : State) (mid new : Script) (chunk rest part back : List ℕ)
     → rest ≡ part ++ 10 ∷ back → IsAlong old state mid chunk rest
-    → ((s : State) → Stands mid.world s → Feeds (Err reason) mid s new part) → Feeds (Err reason) old state new chunk
+    → ((s : State) → Stands mid.bench s → Feeds (Err reason) mid s new part) → Feeds (Err reason) old state new chunk
 turn_refused stop.Memory old state mid new chunk rest part back cut along fed = tt
 turn_refused stop.Fault old state mid new chunk rest part back cut along fed =
     let a : IsAlong old state mid chunk (part ++ 10 ∷ back) = rw cut at along in
@@ -149,7 +149,7 @@ turn_refused stop.Fault old state mid new chunk rest part back cut along fed =
 -- one turn up to the line's end
 turn_taken : (old : Script) (state : State) (mid full : Script) (chunk rest part back : List ℕ)
     → rest ≡ part ++ 10 ∷ back → IsAlong old state mid chunk rest
-    → ((s : State) → Stands mid.world s → IsAlong mid s full part []) → IsAlong old state full chunk ((10 ∷ []) ++ back)
+    → ((s : State) → Stands mid.bench s → IsAlong mid s full part []) → IsAlong old state full chunk ((10 ∷ []) ++ back)
 turn_taken old state mid full chunk rest part back cut along fed =
     let a : IsAlong old state mid chunk (part ++ 10 ∷ back) = rw cut at along in
     along_more old state mid full chunk part (10 ∷ back) a (fed a.next a.stands)
@@ -157,8 +157,8 @@ turn_taken old state mid full chunk rest part back cut along fed =
 -- one turn: a line that isn't answered
 pub turn_stopped : (reason : Stop) (old : Script) (state : State) (mid full new : Script) (chunk rest part back : List ℕ)
     → rest ≡ part ++ 10 ∷ back → IsAlong old state mid chunk rest
-    → ((s : State) → Stands mid.world s → IsAlong mid s full part []) → IsOpen full.line.items
-    → ((s : State) → Stands full.world s → Answered (Err reason) full s new) → Feeds (Err reason) old state new chunk
+    → ((s : State) → Stands mid.bench s → IsAlong mid s full part []) → IsOpen full.line.items
+    → ((s : State) → Stands full.bench s → Answered (Err reason) full s new) → Feeds (Err reason) old state new chunk
 turn_stopped stop.Memory old state mid full new chunk rest part back cut along fed none answered = tt
 turn_stopped stop.Fault old state mid full new chunk rest part back cut along fed none answered =
     let a = turn_taken old state mid full chunk rest part back cut along fed in
@@ -168,8 +168,8 @@ turn_stopped stop.Fault old state mid full new chunk rest part back cut along fe
 -- one whole turn
 pub turn_done : (old : Script) (state : State) (mid full new : Script) (chunk rest part back : List ℕ)
     → rest ≡ part ++ 10 ∷ back → IsAlong old state mid chunk rest
-    → ((s : State) → Stands mid.world s → IsAlong mid s full part []) → IsOpen full.line.items
-    → ((s : State) → Stands full.world s → IsAnswered full s new) → IsAlong old state new chunk back
+    → ((s : State) → Stands mid.bench s → IsAlong mid s full part []) → IsOpen full.line.items
+    → ((s : State) → Stands full.bench s → IsAnswered full s new) → IsAlong old state new chunk back
 turn_done old state mid full new chunk rest part back cut along fed none answered =
     let a = turn_taken old state mid full chunk rest part back cut along fed in
     along_more old state full new chunk (10 ∷ []) back a
@@ -177,7 +177,7 @@ turn_done old state mid full new chunk rest part back cut along fed none answere
 
 -- the last part of the chunk
 pub last_part : (r : Result (Unit {0}) Stop) (old : Script) (state : State) (mid new : Script) (chunk rest : List ℕ)
-    → IsAlong old state mid chunk rest → ((s : State) → Stands mid.world s → Feeds r mid s new rest) → Feeds r old state new chunk
+    → IsAlong old state mid chunk rest → ((s : State) → Stands mid.bench s → Feeds r mid s new rest) → Feeds r old state new chunk
 last_part (Ok u) old state mid new chunk rest along fed =
     let a : IsAlong old state mid chunk (rest ++ []) = rw (append-nil rest) along in
     along_more old state mid new chunk rest [] a (fed a.next a.stands)

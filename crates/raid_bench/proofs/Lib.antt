@@ -1,3 +1,4 @@
+pub mod Benches
 pub mod Carried
 pub mod Digits
 pub mod Ends
@@ -7,6 +8,7 @@ pub mod Lines
 pub mod Members
 pub mod Numbers
 pub mod Opens
+pub mod Records
 pub mod Said
 pub mod Spellings
 pub mod Splits

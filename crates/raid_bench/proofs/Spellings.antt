@@ -45,6 +45,13 @@ verb_word verb.Release = All-from_recursion (Differs 32) (codes "release") (sear
 verb_word verb.Fill = All-from_recursion (Differs 32) (codes "fill") (search rules)
 verb_word verb.Commit = All-from_recursion (Differs 32) (codes "commit") (search rules)
 verb_word verb.Read = All-from_recursion (Differs 32) (codes "read") (search rules)
+verb_word verb.Copy = All-from_recursion (Differs 32) (codes "copy") (search rules)
+verb_word verb.Discard = All-from_recursion (Differs 32) (codes "discard") (search rules)
+verb_word verb.At = All-from_recursion (Differs 32) (codes "at") (search rules)
+verb_word verb.Take = All-from_recursion (Differs 32) (codes "take") (search rules)
+verb_word verb.Merge = All-from_recursion (Differs 32) (codes "merge") (search rules)
+verb_word verb.Same = All-from_recursion (Differs 32) (codes "same") (search rules)
+verb_word verb.Show = All-from_recursion (Differs 32) (codes "show") (search rules)
 verb_word verb.Map = All-from_recursion (Differs 32) (codes "map") (search rules)
 verb_word verb.Log = All-from_recursion (Differs 32) (codes "log") (search rules)
 
@@ -64,6 +71,20 @@ same_verb verb.Commit verb.Commit e = refl
 same_verb verb.Commit _ e = cc e
 same_verb verb.Read verb.Read e = refl
 same_verb verb.Read _ e = cc e
+same_verb verb.Copy verb.Copy e = refl
+same_verb verb.Copy _ e = cc e
+same_verb verb.Discard verb.Discard e = refl
+same_verb verb.Discard _ e = cc e
+same_verb verb.At verb.At e = refl
+same_verb verb.At _ e = cc e
+same_verb verb.Take verb.Take e = refl
+same_verb verb.Take _ e = cc e
+same_verb verb.Merge verb.Merge e = refl
+same_verb verb.Merge _ e = cc e
+same_verb verb.Same verb.Same e = refl
+same_verb verb.Same _ e = cc e
+same_verb verb.Show verb.Show e = refl
+same_verb verb.Show _ e = cc e
 same_verb verb.Map verb.Map e = refl
 same_verb verb.Map _ e = cc e
 same_verb verb.Log verb.Log e = refl
@@ -93,7 +114,7 @@ member_words (m ∷ members) short = (member_is_word m short.0, member_words mem
 
 class_word : (class : Class) (word : List ℕ) → IsClassWord class word → IsWord word
 class_word class.Mirrored word named = rw named (All-from_recursion (Differs 32) (codes "m") (search rules))
-class_word class.Parity word named = absurd named
+class_word class.Parity word named = rw named (All-from_recursion (Differs 32) (codes "p") (search rules))
 
 -- nor hex digits
 no_space_digit : (c : ℕ) → is_hex_digit c ≡ true → Differs 32 c
@@ -121,6 +142,14 @@ follow_words (o.Fill w s payload) ws f =
     )
 follow_words (o.Commit a b c) ws f = numbers_words _ ws f
 follow_words (o.Read a) ws f = numbers_words _ ws f
+follow_words (o.Copy a b c) ws f = numbers_words _ ws f
+follow_words (o.Discard a b) ws f = numbers_words _ ws f
+follow_words (o.At r) ws f = rw f.spelled (hex_word f.word f.named.bytes f.named.decoded, tt)
+follow_words (o.Take map r) ws f =
+    rw f.spelled (digits_differ 32 map (omega arith) f.map_short, (hex_word f.word f.named.bytes f.named.decoded, tt))
+follow_words (o.Merge a b) ws f = numbers_words _ ws f
+follow_words (o.Same a b) ws f = numbers_words _ ws f
+follow_words (o.Show a) ws f = numbers_words _ ws f
 follow_words o.Map ws f = rw f tt
 follow_words o.Log ws f = rw f tt
 

@@ -1,6 +1,6 @@
 -- How a script is fed in pieces: whatever completes the rest completes the whole.
 use Rattle.std.specs.Prelude.{◌≡◌, ℕ, ◌+◌, ◌≤◌, List, [], ◌∷◌, ◌++◌, length, Result, Ok, Err, Option}
-use Rattle.step_core.specs.Views.{WorldView}
+use Rattle.raid_bench.specs.declared.bench.Bench.{Bench}
 use Rattle.raid_bench.specs.Opens.{IsOpen}
 use Rattle.raid_bench.specs.State.{State}
 use Rattle.raid_bench.specs.Carrying.{Stands}
@@ -18,10 +18,10 @@ TellsFault (Ok _) number why old new = ⊥
 TellsFault (Err stop.Memory) number why old new = Unit {0}
 TellsFault (Err stop.Fault) number why old new = new ≡ old ++ fault_line number why
 
--- line n was answered, and the world stands for a state behind it
-pub record IsLineTold (n : ℕ) (state : State) (world : Option WorldView) (line old new : List ℕ) : Type 0 where
+-- line n was answered, and the bench stands for a state behind it
+pub record IsLineTold (n : ℕ) (state : State) (bench : Option Bench) (line old new : List ℕ) : Type 0 where
   pub next : State
-  pub stands : Stands world next
+  pub stands : Stands bench next
   pub bytes : List ℕ
   pub out : new ≡ old ++ bytes
   pub told : (lines : List (List ℕ)) (more : List ℕ) (last : End) → Tells (n + 1) next lines more last
@@ -34,10 +34,10 @@ pub record IsLineWrong (n : ℕ) (state : State) (line old new : List ℕ) : Typ
   pub told : (lines : List (List ℕ)) → Tells n state (line ∷ lines) bytes end.Fault
 
 -- what came of line n, by the outcome
-abbrev pub LineComes : Result (Unit {0}) Stop → ℕ → State → Option WorldView → List ℕ → List ℕ → List ℕ → Type 0
-LineComes (Ok _) n state world line old new = IsLineTold n state world line old new
-LineComes (Err stop.Memory) n state world line old new = Unit {0}
-LineComes (Err stop.Fault) n state world line old new = IsLineWrong n state line old new
+abbrev pub LineComes : Result (Unit {0}) Stop → ℕ → State → Option Bench → List ℕ → List ℕ → List ℕ → Type 0
+LineComes (Ok _) n state bench line old new = IsLineTold n state bench line old new
+LineComes (Err stop.Memory) n state bench line old new = Unit {0}
+LineComes (Err stop.Fault) n state bench line old new = IsLineWrong n state line old new
 
 -- what is told of the open line, the bytes behind it and all later lines
 abbrev pub Left : ℕ → State → List ℕ → List ℕ → List ℕ → End → Type 0
@@ -53,7 +53,7 @@ pub record IsScript (script : Script) : Type 0 where
 -- of the chunk all but the rest was read: what the rest is told as completes what the chunk is told as
 pub record IsAlong (old : Script) (state : State) (new : Script) (chunk rest : List ℕ) : Type 0 where
   pub next : State
-  pub stands : Stands new.world next
+  pub stands : Stands new.bench next
   pub bytes : List ℕ
   pub out : new.out.items ≡ old.out.items ++ bytes
   pub told : (more later : List ℕ) (last : End) → Left new.number next new.line.items (rest ++ more) later last
@@ -86,7 +86,7 @@ Closes (Err stop.Fault) old state new = IsClosed old state new end.Fault
 pub record IsAnswered (old : Script) (state : State) (new : Script) : Type 0 where
   pub number : new.number ≡ old.number + 1
   pub line : new.line.items ≡ []
-  pub told : IsLineTold old.number state new.world old.line.items old.out.items new.out.items
+  pub told : IsLineTold old.number state new.bench old.line.items old.out.items new.out.items
 
 -- what came of the open line, by the outcome
 abbrev pub Answered : Result (Unit {0}) Stop → Script → State → Script → Type 0

@@ -1,6 +1,6 @@
 -- What is replied to a line that is read for its words.
 use Rattle.std.specs.Prelude.{◌≡◌, ℕ, List, Result, Ok, Err, Option, Some, None}
-use Rattle.step_core.specs.Views.{WorldView}
+use Rattle.raid_bench.specs.declared.bench.Bench.{Bench}
 use Rattle.raid_bench.specs.Order.{Order}
 use Rattle.raid_bench.specs.Spelling.{Spells}
 use Rattle.raid_bench.specs.State.{State}
@@ -11,10 +11,10 @@ use Rattle.raid_bench.specs.declared.why.Failure.TheVariants as failure
 use Rattle.raid_bench.specs.declared.why.Why.TheVariants as why
 
 -- the line's command was answered
-pub record IsReplied (state : State) (world : Option WorldView) (line old new : List ℕ) : Type 0 where
+pub record IsReplied (state : State) (bench : Option Bench) (line old new : List ℕ) : Type 0 where
   pub order : Order
   pub spells : Spells order line
-  pub answered : IsAnswered state world order old new
+  pub answered : IsAnswered state bench order old new
 
 -- a number of the line's command is out of its limits
 pub record IsBeyond (state : State) (line old new : List ℕ) : Type 0 where
@@ -28,14 +28,14 @@ pub record IsUnsaid (state : State) (line old new : List ℕ) : Type 0 where
   pub out : new ≡ old
 
 -- what is replied in a state, by the outcome
-abbrev pub Replies : Result (Unit {0}) Failure → State → Option WorldView → List ℕ → List ℕ → List ℕ → Type 0
-Replies (Ok _) state world line old new = IsReplied state world line old new
-Replies (Err failure.Memory) state world line old new = Unit {0}
-Replies (Err (failure.Wrong why.Range)) state world line old new = IsBeyond state line old new
-Replies (Err (failure.Wrong why.Form)) state world line old new = IsUnsaid state line old new
-Replies (Err (failure.Wrong _)) state world line old new = ⊥
+abbrev pub Replies : Result (Unit {0}) Failure → State → Option Bench → List ℕ → List ℕ → List ℕ → Type 0
+Replies (Ok _) state bench line old new = IsReplied state bench line old new
+Replies (Err failure.Memory) state bench line old new = Unit {0}
+Replies (Err (failure.Wrong why.Range)) state bench line old new = IsBeyond state line old new
+Replies (Err (failure.Wrong why.Form)) state bench line old new = IsUnsaid state line old new
+Replies (Err (failure.Wrong _)) state bench line old new = ⊥
 
--- the same where the first world is made
-abbrev pub Starts : Result WorldView Failure → List ℕ → List ℕ → List ℕ → Type 0
-Starts (Ok world) line old new = IsReplied None (Some world) line old new
+-- the same where the first bench is made
+abbrev pub Starts : Result Bench Failure → List ℕ → List ℕ → List ℕ → Type 0
+Starts (Ok bench) line old new = IsReplied None (Some bench) line old new
 Starts (Err f) line old new = Replies (Err f) None None line old new

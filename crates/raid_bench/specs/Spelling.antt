@@ -1,7 +1,9 @@
 -- How each command is spelled: the words of its line, with one space between.
-use Rattle.std.specs.Prelude.{◌≡◌, ℕ, ◌≤◌, List, [], ◌∷◌, ◌++◌, Ok, length, map, codes, decimal}
+use Rattle.std.specs.Prelude.{◌≡◌, ℕ, ◌<◌, ◌≤◌, List, [], ◌∷◌, ◌++◌, Ok, length, map, codes, decimal}
 use Rattle.std.specs.List.{AllByRecursion, join_with_byte}
 use Rattle.hex.specs.Hex.{decode_of}
+use Rattle.map_join.specs.Record.{Spells as RecordSpells}
+use Rattle.map_join.specs.declared.records.Record.{Record}
 use Rattle.raid_bench.specs.Number.{IsShort}
 use Rattle.raid_bench.specs.Verb.{word_of}
 use Rattle.raid_bench.specs.Words.{AreNumbers}
@@ -20,10 +22,10 @@ pub record IsShortMember (member : Named) : Type 0 where
   pub drive : IsShort member.drive
   pub extent : IsShort member.extent
 
--- the word for a class of groups; a parity group can't be asked for yet
+-- the word for a class of groups
 abbrev pub IsClassWord : Class → List ℕ → Type 0
 IsClassWord class.Mirrored word = word ≡ codes "m"
-IsClassWord class.Parity word = ⊥
+IsClassWord class.Parity word = word ≡ codes "p"
 
 -- a group is made of three to eight members
 pub record AreMembers (members : List Named) (ws : List (List ℕ)) : Type 0 where
@@ -48,6 +50,26 @@ pub record Fills (worker slot : ℕ) (payload : List ℕ) (ws : List (List ℕ))
   pub decoded : decode_of digits ≡ Ok payload
   pub spelled : ws ≡ decimal worker ∷ decimal slot ∷ digits ∷ []
 
+-- a record in 24 hex digits of either case, the version of which isn't 0
+pub record IsRecordWord (r : Record) (word : List ℕ) : Type 0 where
+  pub bytes : List ℕ
+  pub decoded : decode_of word ≡ Ok bytes
+  pub spells : RecordSpells bytes r
+  pub written : 0 < r.version
+
+-- a record alone
+pub record Names (r : Record) (ws : List (List ℕ)) : Type 0 where
+  pub word : List ℕ
+  pub named : IsRecordWord r word
+  pub spelled : ws ≡ word ∷ []
+
+-- a map and a record
+pub record Takes (map : ℕ) (r : Record) (ws : List (List ℕ)) : Type 0 where
+  pub word : List ℕ
+  pub map_short : IsShort map
+  pub named : IsRecordWord r word
+  pub spelled : ws ≡ decimal map ∷ word ∷ []
+
 -- the words that follow the first one of a command
 abbrev pub Follows : Order → List (List ℕ) → Type 0
 Follows (o.Array drives extents segments payload blocks) ws =
@@ -56,10 +78,22 @@ Follows (o.Make class members) ws = Makes class members ws
 Follows (o.Claim worker slot) ws = AreNumbers (worker ∷ slot ∷ []) ws
 Follows (o.Release worker slot) ws = AreNumbers (worker ∷ slot ∷ []) ws
 Follows (o.Fill worker slot payload) ws = Fills worker slot payload ws
+Follows (o.Copy worker slot block) ws = AreNumbers (worker ∷ slot ∷ block ∷ []) ws
 Follows (o.Commit worker slot block) ws = AreNumbers (worker ∷ slot ∷ block ∷ []) ws
+Follows (o.Discard worker slot) ws = AreNumbers (worker ∷ slot ∷ []) ws
 Follows (o.Read block) ws = AreNumbers (block ∷ []) ws
+Follows (o.At r) ws = Names r ws
+Follows (o.Take map r) ws = Takes map r ws
+Follows (o.Merge into from) ws = AreNumbers (into ∷ from ∷ []) ws
+Follows (o.Same left right) ws = AreNumbers (left ∷ right ∷ []) ws
+Follows (o.Show map) ws = AreNumbers (map ∷ []) ws
 Follows o.Map ws = ws ≡ []
 Follows o.Log ws = ws ≡ []
+
+-- a record that a command names is one of a write
+abbrev pub IsWritten : Order → Type 0
+IsWritten (o.Take map r) = 0 < r.version
+IsWritten _ = Unit {0}
 
 -- the line that words make, with one space between two of them
 abbrev pub line_of : List (List ℕ) → List ℕ

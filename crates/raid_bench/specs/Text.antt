@@ -3,7 +3,7 @@ use Rattle.std.specs.Prelude.{ℕ, List, [], ◌∷◌, ◌++◌, length, codes,
 use Rattle.hex.specs.Hex.{encode_lower}
 use Rattle.map_join.specs.declared.records.Record.{Record}
 use Rattle.map_join.specs.Record.{bytes_of}
-use Rattle.step_core.specs.Steps.{Version, FlatAnswer}
+use Rattle.step_core.specs.Steps.{Version, Seen, FlatStep, FlatAnswer}
 use Rattle.step_core.specs.Steps as s
 use Rattle.step_core.specs.Numbers.{number_of}
 use Rattle.step_core.specs.declared.refusal.Refusal.{Refusal}
@@ -27,22 +27,50 @@ detail (refusal.DriveLost drive) = codes " " ++ decimal drive
 detail (refusal.Ahead newest) = codes " " ++ record_or_none newest
 detail _ = []
 
+-- a version and its payload
+abbrev pub data_text : ℕ → List ℕ → List ℕ
+data_text version payload = codes "data " ++ (decimal version ++ (codes " " ++ encode_lower payload))
+
 -- what is read of a block
 abbrev pub found_text : Option Version → List ℕ
-found_text (Some found) = codes "data " ++ (decimal found.version ++ (codes " " ++ encode_lower found.payload))
+found_text (Some found) = data_text found.version found.payload
 found_text None = codes "none"
 
--- the answer to a step
-abbrev pub answer_text : FlatAnswer → List ℕ
-answer_text (s.Claimed slot) = codes "claimed " ++ decimal slot
-answer_text (s.Taken slot) = codes "taken " ++ decimal slot
-answer_text (s.Released slot) = codes "released " ++ decimal slot
-answer_text (s.NotHeld slot) = codes "notheld " ++ decimal slot
-answer_text (s.Filled slot) = codes "filled " ++ decimal slot
-answer_text (s.Committed r) = codes "record " ++ record_text r
-answer_text (s.Found found) = found_text found
-answer_text (s.MadeGroup group) = codes "made " ++ decimal group
-answer_text (s.Refused r) = codes "refused " ++ (decimal (number_of r) ++ detail r)
+-- a header in decimal numbers: block, version, hop and slot
+abbrev pub header_text : Record → List ℕ
+header_text r =
+    decimal r.block ++ (codes " " ++ (decimal r.version ++ (codes " " ++ (decimal r.hop ++ (codes " " ++ decimal r.place)))))
+
+-- what is seen at a record's place: the payload with the version that was asked for, or the header that is there
+abbrev pub seen_text : ℕ → Seen → List ℕ
+seen_text version (s.Data payload) = data_text version payload
+seen_text version (s.Stale (Some r)) = codes "stale " ++ header_text r
+seen_text version (s.Stale None) = codes "stale none"
+
+-- the version that a read at a record's place asks for; no other step asks for one
+abbrev pub asked_version : FlatStep → ℕ
+asked_version (s.ReadAt r) = r.version
+asked_version _ = 0
+
+-- the answer to a step that asked for a version
+abbrev pub answer_text : ℕ → FlatAnswer → List ℕ
+answer_text asked (s.Claimed slot) = codes "claimed " ++ decimal slot
+answer_text asked (s.Taken slot) = codes "taken " ++ decimal slot
+answer_text asked (s.Released slot) = codes "released " ++ decimal slot
+answer_text asked (s.NotHeld slot) = codes "notheld " ++ decimal slot
+answer_text asked (s.Filled slot) = codes "filled " ++ decimal slot
+answer_text asked (s.Copied slot) = codes "copied " ++ decimal slot
+answer_text asked (s.Committed r) = codes "record " ++ record_text r
+answer_text asked (s.Discarded slot) = codes "discarded " ++ decimal slot
+answer_text asked (s.Found found) = found_text found
+answer_text asked (s.FoundAt seen) = seen_text asked seen
+answer_text asked (s.MadeGroup group) = codes "made " ++ decimal group
+answer_text asked (s.Refused r) = codes "refused " ++ (decimal (number_of r) ++ detail r)
+
+-- the lowest block of which two maps differ, if they do
+abbrev pub difference_text : Option ℕ → List ℕ
+difference_text None = codes "same"
+difference_text (Some block) = codes "differs " ++ decimal block
 
 -- records one after the other, a space before each
 abbrev pub records_text : List Record → List ℕ

@@ -12,7 +12,7 @@ use Rattle.raid_bench.specs.declared.script.Script.{Script}
 -- a chunk was answered and written: what is told behind it completes what the chunk is told as
 pub record IsOn (old : Script) (state : State) (new : Script) (chunk : List ℕ) (held now : Option (List ℕ)) : Type 0 where
   pub next : State
-  pub stands : Stands new.world next
+  pub stands : Stands new.bench next
   pub bytes : List ℕ
   pub wrote : Appends held now bytes
   pub told : (more later : List ℕ) (last : End) → Left new.number next new.line.items more later last
@@ -48,7 +48,7 @@ Concludes _ old state held now = Unit {0}
 -- some of the input was answered and written: what is told of the rest completes what is told of all
 pub record IsPartSaid (old : Script) (state : State) (new : Script) (input rest : List ℕ) (held now : Option (List ℕ)) : Type 0 where
   pub next : State
-  pub stands : Stands new.world next
+  pub stands : Stands new.bench next
   pub read : List ℕ
   pub input_is : input ≡ read ++ rest
   pub bytes : List ℕ
@@ -58,7 +58,7 @@ pub record IsPartSaid (old : Script) (state : State) (new : Script) (input rest 
 
 -- the same where it is known what the reader has
 abbrev pub PartSaid : Option (List ℕ) → Option (List ℕ) → Script → State → Script → Option (List ℕ) → Option (List ℕ) → Type 0
-PartSaid None rest old state new held now = (next : State) × Stands new.world next
+PartSaid None rest old state new held now = (next : State) × Stands new.bench next
 PartSaid (Some input) None old state new held now = ⊥
 PartSaid (Some input) (Some rest) old state new held now = IsPartSaid old state new input rest held now
 

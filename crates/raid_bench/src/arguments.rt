@@ -8,9 +8,11 @@ ghost use Rattle.raid_bench.specs.Spelling.{IsClassWord};
 use crate::command::Command;
 use crate::member::members_of;
 use crate::parts::{SPACE, cut};
+use crate::record::record_of;
 use crate::verb::Verb;
 use crate::words::{
-    five_numbers, is_end, one_number, three_numbers, two_numbers, two_numbers_and_word,
+    five_numbers, is_end, last_word, number_and_word, one_number, three_numbers, two_numbers,
+    two_numbers_and_word,
 };
 use hex::decode_to_slice;
 use std::alloc::{AllocError, Global};
@@ -53,6 +55,43 @@ pub fn release_of(rest: Option<&[u8]>) -> Option<Command>
 }
 
 /// A worker, a slot and a block.
+pub fn copy_of(rest: Option<&[u8]>) -> Option<Command>
+    ensures { (size : ℕ) (bytes : List ℕ) → Finds Verb.Copy size (words_left (text_of rest.entry)) bytes result }
+{
+    let Some((worker, slot, block)) = three_numbers(rest) else {
+        return None
+    };
+    Some(Command::Copy {
+        worker,
+        slot,
+        block,
+    })
+}
+
+/// A worker and a slot.
+pub fn discard_of(rest: Option<&[u8]>) -> Option<Command>
+    ensures { (size : ℕ) (bytes : List ℕ) → Finds Verb.Discard size (words_left (text_of rest.entry)) bytes result }
+{
+    let Some((worker, slot)) = two_numbers(rest) else {
+        return None
+    };
+    Some(Command::Discard { worker, slot })
+}
+
+/// A record.
+pub fn at_of(rest: Option<&[u8]>) -> Option<Command>
+    ensures { (size : ℕ) (bytes : List ℕ) → Finds Verb.At size (words_left (text_of rest.entry)) bytes result }
+{
+    let Some(word) = last_word(rest) else {
+        return None
+    };
+    let Some(record) = record_of(word) else {
+        return None
+    };
+    Some(Command::At { record })
+}
+
+/// A worker, a slot and a block.
 pub fn commit_of(rest: Option<&[u8]>) -> Option<Command>
     ensures { (size : ℕ) (bytes : List ℕ) → Finds Verb.Commit size (words_left (text_of rest.entry)) bytes result }
 {
@@ -74,6 +113,49 @@ pub fn read_of(rest: Option<&[u8]>) -> Option<Command>
         return None
     };
     Some(Command::Read { block })
+}
+
+/// A map and a record.
+pub fn take_of(rest: Option<&[u8]>) -> Option<Command>
+    ensures { (size : ℕ) (bytes : List ℕ) → Finds Verb.Take size (words_left (text_of rest.entry)) bytes result }
+{
+    let Some((map, word)) = number_and_word(rest) else {
+        return None
+    };
+    let Some(record) = record_of(word) else {
+        return None
+    };
+    Some(Command::Take { map, record })
+}
+
+/// The map that grows, and the one that it is joined with.
+pub fn merge_of(rest: Option<&[u8]>) -> Option<Command>
+    ensures { (size : ℕ) (bytes : List ℕ) → Finds Verb.Merge size (words_left (text_of rest.entry)) bytes result }
+{
+    let Some((into, from)) = two_numbers(rest) else {
+        return None
+    };
+    Some(Command::Merge { into, from })
+}
+
+/// Two maps.
+pub fn same_of(rest: Option<&[u8]>) -> Option<Command>
+    ensures { (size : ℕ) (bytes : List ℕ) → Finds Verb.Same size (words_left (text_of rest.entry)) bytes result }
+{
+    let Some((left, right)) = two_numbers(rest) else {
+        return None
+    };
+    Some(Command::Same { left, right })
+}
+
+/// A map.
+pub fn show_of(rest: Option<&[u8]>) -> Option<Command>
+    ensures { (size : ℕ) (bytes : List ℕ) → Finds Verb.Show size (words_left (text_of rest.entry)) bytes result }
+{
+    let Some(map) = one_number(rest) else {
+        return None
+    };
+    Some(Command::Show { map })
 }
 
 /// Nothing more.
@@ -132,6 +214,9 @@ fn class_of(word: &[u8]) -> Option<Class>
 {
     if word == b"m".as_slice() {
         return Some(Class::Mirrored);
+    }
+    if word == b"p".as_slice() {
+        return Some(Class::Parity);
     }
     None
 }

@@ -1,92 +1,130 @@
-//! Commands behind the first one, carried out by the world.
+//! Commands behind the first one.
 ghost use Rattle.std.specs.Prelude.{◌≡◌, ◌++◌, OnOk, IfErr, OnErr, length};
 ghost use Rattle.step_core.specs.Told.{flat_answer};
 ghost use Rattle.raid_bench.specs.Carrying.{Carries};
 ghost use Rattle.raid_bench.specs.Order as o;
 ghost use Rattle.raid_bench.specs.Order.{order_of};
+ghost use Rattle.raid_bench.specs.Spelling.{IsWritten};
 ghost use Rattle.raid_bench.specs.Text.{answer_text};
 
+use crate::bench::Bench;
 use crate::command::{Command, Named};
 use crate::limits::{block_of, hand_of, members_in_range};
+use crate::maps::{merge, same, show, take};
 use crate::texts::{put_answer, put_listing};
 use crate::why::{Failure, Why};
+use map_join::Record;
 use std::alloc::Global;
-use step_core::{Answer, Class, World};
+use step_core::{Answer, Class};
 
 /// Carries out a command, and appends its answer.
 pub fn carry_out(
     alloc: Global,
-    world: &mut World,
+    bench: &mut Bench,
     payload: &[u8],
     command: Command,
     out: &mut Vec<u8>,
 ) -> Result<(), Failure>
-    requires { length payload.now ≡ world.old.array.sizes.payload }
-    ensures { Carries result world.old world.new (order_of command payload.now) out.old.items out.new.items }
+    requires payload { length payload.now ≡ bench.old.world.array.sizes.payload }
+    requires written { IsWritten (order_of command payload.now) }
+    ensures { Carries result bench.old bench.new (order_of command payload.now) out.old.items out.new.items }
 {
     match command {
         Command::Array { .. } => Err(Failure::Wrong(Why::Form)),
-        Command::Make { class, members } => make(alloc, world, class, &members, out),
-        Command::Claim { worker, slot } => claim(world, worker, slot, out),
-        Command::Release { worker, slot } => release(world, worker, slot, out),
-        Command::Fill { worker, slot } => fill(alloc, world, worker, slot, payload, out),
+        Command::Make { class, members } => make(alloc, bench, class, &members, out),
+        Command::Claim { worker, slot } => claim(bench, worker, slot, out),
+        Command::Release { worker, slot } => release(bench, worker, slot, out),
+        Command::Fill { worker, slot } => fill(alloc, bench, worker, slot, payload, out),
+        Command::Copy {
+            worker,
+            slot,
+            block,
+        } => copy(alloc, bench, worker, slot, block, out),
         Command::Commit {
             worker,
             slot,
             block,
-        } => commit(alloc, world, worker, slot, block, out),
-        Command::Read { block } => read(alloc, world, block, out),
-        Command::Map => map(alloc, world, out),
-        Command::Log => log(alloc, world, out),
+        } => commit(alloc, bench, worker, slot, block, out),
+        Command::Discard { worker, slot } => discard(bench, worker, slot, out),
+        Command::At { record } => read_at(alloc, bench, record, out),
+        Command::Read { block } => read(alloc, bench, block, out),
+        Command::Take { map, record } => take(alloc, bench, map, record, out),
+        Command::Merge { into, from } => merge(alloc, bench, into, from, out),
+        Command::Same { left, right } => same(bench, left, right, out),
+        Command::Show { map } => show(alloc, bench, map, out),
+        Command::Map => map(alloc, bench, out),
+        Command::Log => log(alloc, bench, out),
     }
 }
 
 // Appends the answer to a step.
 fn tell(out: &mut Vec<u8>, answer: &Answer) -> Result<(), Failure>
-    ensures ok { OnOk result (out.new.items ≡ out.old.items ++ answer_text (flat_answer answer.now)) }
+    ensures ok { OnOk result (out.new.items ≡ out.old.items ++ answer_text 0 (flat_answer answer.now)) }
     ensures err { IfErr result (λ failure. failure ≡ Failure.Memory) }
 {
-    match put_answer(out, answer) {
+    match put_answer(out, answer, 0) {
         Ok(()) => Ok(()),
         Err(_) => Err(Failure::Memory),
     }
 }
 
-fn claim(world: &mut World, worker: u64, slot: u64, out: &mut Vec<u8>) -> Result<(), Failure>
-    ensures { Carries result world.old world.new (o.Claim worker slot) out.old.items out.new.items }
+fn claim(bench: &mut Bench, worker: u64, slot: u64, out: &mut Vec<u8>) -> Result<(), Failure>
+    ensures { Carries result bench.old bench.new (o.Claim worker slot) out.old.items out.new.items }
 {
     let Some((worker, slot)) = hand_of(worker, slot) else {
         return Err(Failure::Wrong(Why::Range))
     };
-    let answer = world.claim(worker, slot);
+    let answer = bench.world.claim(worker, slot);
     tell(out, &answer)
 }
 
-fn release(world: &mut World, worker: u64, slot: u64, out: &mut Vec<u8>) -> Result<(), Failure>
-    ensures { Carries result world.old world.new (o.Release worker slot) out.old.items out.new.items }
+fn release(bench: &mut Bench, worker: u64, slot: u64, out: &mut Vec<u8>) -> Result<(), Failure>
+    ensures { Carries result bench.old bench.new (o.Release worker slot) out.old.items out.new.items }
 {
     let Some((worker, slot)) = hand_of(worker, slot) else {
         return Err(Failure::Wrong(Why::Range))
     };
-    let answer = world.release(worker, slot);
+    let answer = bench.world.release(worker, slot);
     tell(out, &answer)
 }
 
 fn fill(
     alloc: Global,
-    world: &mut World,
+    bench: &mut Bench,
     worker: u64,
     slot: u64,
     payload: &[u8],
     out: &mut Vec<u8>,
 ) -> Result<(), Failure>
-    requires { length payload.now ≡ world.old.array.sizes.payload }
-    ensures { Carries result world.old world.new (o.Fill worker slot payload.now) out.old.items out.new.items }
+    requires { length payload.now ≡ bench.old.world.array.sizes.payload }
+    ensures { Carries result bench.old bench.new (o.Fill worker slot payload.now) out.old.items out.new.items }
 {
     let Some((worker, slot)) = hand_of(worker, slot) else {
         return Err(Failure::Wrong(Why::Range))
     };
-    match world.fill(alloc, worker, slot, payload) {
+    match bench.world.fill(alloc, worker, slot, payload) {
+        Ok(answer) => tell(out, &answer),
+        Err(_) => Err(Failure::Memory),
+    }
+}
+
+fn copy(
+    alloc: Global,
+    bench: &mut Bench,
+    worker: u64,
+    slot: u64,
+    block: u64,
+    out: &mut Vec<u8>,
+) -> Result<(), Failure>
+    ensures { Carries result bench.old bench.new (o.Copy worker slot block) out.old.items out.new.items }
+{
+    let Some((worker, slot)) = hand_of(worker, slot) else {
+        return Err(Failure::Wrong(Why::Range))
+    };
+    let Some(block) = block_of(&bench.world, block) else {
+        return Err(Failure::Wrong(Why::Range))
+    };
+    match bench.world.copy(alloc, worker, slot, block) {
         Ok(answer) => tell(out, &answer),
         Err(_) => Err(Failure::Memory),
     }
@@ -94,33 +132,63 @@ fn fill(
 
 fn commit(
     alloc: Global,
-    world: &mut World,
+    bench: &mut Bench,
     worker: u64,
     slot: u64,
     block: u64,
     out: &mut Vec<u8>,
 ) -> Result<(), Failure>
-    ensures { Carries result world.old world.new (o.Commit worker slot block) out.old.items out.new.items }
+    ensures { Carries result bench.old bench.new (o.Commit worker slot block) out.old.items out.new.items }
 {
     let Some((worker, slot)) = hand_of(worker, slot) else {
         return Err(Failure::Wrong(Why::Range))
     };
-    let Some(block) = block_of(world, block) else {
+    let Some(block) = block_of(&bench.world, block) else {
         return Err(Failure::Wrong(Why::Range))
     };
-    match world.commit(alloc, worker, slot, block) {
+    match bench.world.commit(alloc, worker, slot, block) {
         Ok(answer) => tell(out, &answer),
         Err(_) => Err(Failure::Memory),
     }
 }
 
-fn read(alloc: Global, world: &mut World, block: u64, out: &mut Vec<u8>) -> Result<(), Failure>
-    ensures { Carries result world.old world.new (o.Read block) out.old.items out.new.items }
+fn discard(bench: &mut Bench, worker: u64, slot: u64, out: &mut Vec<u8>) -> Result<(), Failure>
+    ensures { Carries result bench.old bench.new (o.Discard worker slot) out.old.items out.new.items }
 {
-    let Some(block) = block_of(world, block) else {
+    let Some((worker, slot)) = hand_of(worker, slot) else {
         return Err(Failure::Wrong(Why::Range))
     };
-    match world.read(alloc, block) {
+    let answer = bench.world.discard(worker, slot);
+    tell(out, &answer)
+}
+
+fn read_at(
+    alloc: Global,
+    bench: &mut Bench,
+    record: Record,
+    out: &mut Vec<u8>,
+) -> Result<(), Failure>
+    ensures { Carries result bench.old bench.new (o.At «record») out.old.items out.new.items }
+{
+    let Some(_) = block_of(&bench.world, u64::from(record.block)) else {
+        return Err(Failure::Wrong(Why::Range));
+    };
+    let Ok(answer) = bench.world.read_at(alloc, record) else {
+        return Err(Failure::Memory)
+    };
+    match put_answer(out, &answer, record.version) {
+        Ok(()) => Ok(()),
+        Err(_) => Err(Failure::Memory),
+    }
+}
+
+fn read(alloc: Global, bench: &mut Bench, block: u64, out: &mut Vec<u8>) -> Result<(), Failure>
+    ensures { Carries result bench.old bench.new (o.Read block) out.old.items out.new.items }
+{
+    let Some(block) = block_of(&bench.world, block) else {
+        return Err(Failure::Wrong(Why::Range))
+    };
+    match bench.world.read(alloc, block) {
         Ok(answer) => tell(out, &answer),
         Err(_) => Err(Failure::Memory),
     }
@@ -128,15 +196,15 @@ fn read(alloc: Global, world: &mut World, block: u64, out: &mut Vec<u8>) -> Resu
 
 fn make(
     alloc: Global,
-    world: &mut World,
+    bench: &mut Bench,
     class: Class,
     named: &[Named],
     out: &mut Vec<u8>,
 ) -> Result<(), Failure>
-    ensures { Carries result world.old world.new (o.Make class named.now) out.old.items out.new.items }
+    ensures { Carries result bench.old bench.new (o.Make class named.now) out.old.items out.new.items }
 {
     match members_in_range(alloc, named) {
-        Ok(Some(members)) => match world.make(alloc, class, &members) {
+        Ok(Some(members)) => match bench.world.make(alloc, class, &members) {
             Ok(answer) => tell(out, &answer),
             Err(_) => Err(Failure::Memory),
         },
@@ -145,10 +213,10 @@ fn make(
     }
 }
 
-fn map(alloc: Global, world: &mut World, out: &mut Vec<u8>) -> Result<(), Failure>
-    ensures { Carries result world.old world.new o.Map out.old.items out.new.items }
+fn map(alloc: Global, bench: &mut Bench, out: &mut Vec<u8>) -> Result<(), Failure>
+    ensures { Carries result bench.old bench.new o.Map out.old.items out.new.items }
 {
-    let Ok(map) = world.array().map(alloc) else {
+    let Ok(map) = bench.world.array().map(alloc) else {
         return Err(Failure::Memory)
     };
     let Ok(records) = map.to_list(alloc) else {
@@ -160,10 +228,10 @@ fn map(alloc: Global, world: &mut World, out: &mut Vec<u8>) -> Result<(), Failur
     }
 }
 
-fn log(alloc: Global, world: &mut World, out: &mut Vec<u8>) -> Result<(), Failure>
-    ensures { Carries result world.old world.new o.Log out.old.items out.new.items }
+fn log(alloc: Global, bench: &mut Bench, out: &mut Vec<u8>) -> Result<(), Failure>
+    ensures { Carries result bench.old bench.new o.Log out.old.items out.new.items }
 {
-    let Ok(records) = world.array().records_from(alloc, 0) else {
+    let Ok(records) = bench.world.array().records_from(alloc, 0) else {
         return Err(Failure::Memory)
     };
     match put_listing(out, b"log ", &records) {

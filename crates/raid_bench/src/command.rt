@@ -1,4 +1,5 @@
 //! The commands of a script, with their numbers as they are written.
+use map_join::Record;
 use step_core::Class;
 
 /// A member as it is named: numbers of up to ten digits, in range or not.
@@ -34,13 +35,40 @@ pub enum Command {
         worker: u64,
         slot: u64,
     },
+    Copy {
+        worker: u64,
+        slot: u64,
+        block: u64,
+    },
     Commit {
         worker: u64,
         slot: u64,
         block: u64,
     },
+    Discard {
+        worker: u64,
+        slot: u64,
+    },
     Read {
         block: u64,
+    },
+    At {
+        record: Record,
+    },
+    Take {
+        map: u64,
+        record: Record,
+    },
+    Merge {
+        into: u64,
+        from: u64,
+    },
+    Same {
+        left: u64,
+        right: u64,
+    },
+    Show {
+        map: u64,
     },
     Map,
     Log,

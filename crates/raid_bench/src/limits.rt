@@ -1,7 +1,7 @@
 //! Numbers as they are written, and within their limits.
 ghost use Rattle.std.specs.Prelude.{◌≡◌, ◌<◌, ◌≤◌, IfSome, IfNone, IfOk};
 ghost use Rattle.std.specs.List.{All};
-ghost use Rattle.raid_bench.specs.State.{IsArrayInRange, IsHandInRange, IsMemberInRange, sizes_of};
+ghost use Rattle.raid_bench.specs.State.{IsArrayInRange, IsHandInRange, IsMap, IsMemberInRange, sizes_of};
 ghost use Rattle.raid_bench.specs.Meaning.{members_named};
 ghost use Rattle.step_core.specs.Sizes.{AreSizes};
 
@@ -14,6 +14,9 @@ const LAST_WORKER: u64 = 7;
 
 /// The greatest number of a slot.
 const LAST_SLOT: u64 = 65_535;
+
+/// The greatest number of a map.
+const LAST_MAP: u64 = 3;
 
 /// The greatest number of a drive.
 const LAST_DRIVE: u64 = 15;
@@ -51,6 +54,17 @@ pub fn block_of(world: &World, block: u64) -> Option<u32>
         return None;
     }
     Some(block as u32)
+}
+
+/// One of the four maps.
+pub fn map_of(map: u64) -> Option<usize>
+    ensures some { IfSome result (λ m. (m ≡ map) × IsMap map) }
+    ensures none { IfNone result (IsMap map → ⊥) }
+{
+    if map > LAST_MAP {
+        return None;
+    }
+    Some(map as usize)
 }
 
 /// The members, where each is within the limits.

@@ -5,11 +5,11 @@ ghost use Rattle.raid_bench.specs.Meaning.{is_skipped as is_passed, fault_line, 
 ghost use Rattle.raid_bench.specs.Carrying.{Stands};
 ghost use Rattle.raid_bench.specs.Feeding.{TellsFault, LineComes};
 
+use crate::bench::Bench;
 use crate::reply::reply;
 use crate::texts::{put, put_number};
 use crate::why::{Failure, Stop, Why};
 use std::alloc::{AllocError, Global};
-use step_core::World;
 
 /// The most lines of a script.
 pub const MOST_LINES: u64 = 1_000_000;
@@ -21,15 +21,15 @@ pub const MOST_BYTES: usize = 131_200;
 pub fn answer_line(
     alloc: Global,
     number: u64,
-    world: &mut Option<World>,
+    bench: &mut Option<Bench>,
     payload: &mut [u8],
     line: &[u8],
     out: &mut Vec<u8>,
 ) -> Result<(), Stop>
     requires { 65536 ≤ length payload.old }
     ensures soon { OnOk result (number ≤ 1000000) }
-    ensures told { (state : State) → Stands world.old state →
-        LineComes result number state world.new line.now out.old.items out.new.items }
+    ensures told { (state : State) → Stands bench.old state →
+        LineComes result number state bench.new line.now out.old.items out.new.items }
 {
     if number > MOST_LINES {
         return wrong(out, number, Why::Many);
@@ -40,7 +40,7 @@ pub fn answer_line(
     if is_skipped(line) {
         return Ok(());
     }
-    match reply(alloc, world, payload, line, out) {
+    match reply(alloc, bench, payload, line, out) {
         Ok(()) => end_line(out),
         Err(Failure::Wrong(why)) => wrong(out, number, why),
         Err(Failure::Memory) => Err(Stop::Memory),

@@ -2,15 +2,18 @@
 #![tactic(auto)]
 
 mod arguments;
+mod bench;
 mod carry;
 mod command;
 mod end;
 mod limits;
 mod line;
+mod maps;
 mod member;
 mod number;
 mod parse;
 mod parts;
+mod record;
 mod reply;
 mod run;
 mod script;

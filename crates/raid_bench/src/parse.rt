@@ -5,7 +5,8 @@ ghost use Rattle.raid_bench.specs.Words.{words_left};
 ghost use Rattle.raid_bench.specs.Reading.{Finds, Reads};
 
 use crate::arguments::{
-    array_of, claim_of, commit_of, fill_of, log_of, make_of, map_of, read_of, release_of,
+    array_of, at_of, claim_of, commit_of, copy_of, discard_of, fill_of, log_of, make_of, map_of,
+    merge_of, read_of, release_of, same_of, show_of, take_of,
 };
 use crate::command::Command;
 use crate::parts::{SPACE, cut};
@@ -43,8 +44,15 @@ fn follow(
         Verb::Claim => Ok(claim_of(rest)),
         Verb::Release => Ok(release_of(rest)),
         Verb::Fill => Ok(fill_of(rest, payload)),
+        Verb::Copy => Ok(copy_of(rest)),
         Verb::Commit => Ok(commit_of(rest)),
+        Verb::Discard => Ok(discard_of(rest)),
         Verb::Read => Ok(read_of(rest)),
+        Verb::At => Ok(at_of(rest)),
+        Verb::Take => Ok(take_of(rest)),
+        Verb::Merge => Ok(merge_of(rest)),
+        Verb::Same => Ok(same_of(rest)),
+        Verb::Show => Ok(show_of(rest)),
         Verb::Map => Ok(map_of(rest)),
         Verb::Log => Ok(log_of(rest)),
     }

@@ -1,11 +1,11 @@
 //! A line that is read for its words, and the reply to it.
 ghost use Rattle.std.specs.Prelude.{◌≤◌, length, Some};
-ghost use Rattle.step_core.specs.Flat.{Flat};
-ghost use Rattle.raid_bench.specs.State.{State};
+ghost use Rattle.raid_bench.specs.State.{Position, State};
 ghost use Rattle.raid_bench.specs.Carrying.{Stands, Makes};
 ghost use Rattle.raid_bench.specs.Replies.{Replies, Starts};
 ghost use Rattle.raid_bench.specs.Order as o;
 
+use crate::bench::Bench;
 use crate::carry::carry_out;
 use crate::command::Command;
 use crate::limits::array_in_range;
@@ -18,20 +18,20 @@ use step_core::World;
 /// Appends the answer to a line's command. The buffer holds the payload of a fill.
 pub fn reply(
     alloc: Global,
-    world: &mut Option<World>,
+    bench: &mut Option<Bench>,
     payload: &mut [u8],
     line: &[u8],
     out: &mut Vec<u8>,
 ) -> Result<(), Failure>
     requires { 65536 ≤ length payload.old }
-    ensures { (state : State) → Stands world.old state →
-        Replies result state world.new line.now out.old.items out.new.items }
+    ensures { (state : State) → Stands bench.old state →
+        Replies result state bench.new line.now out.old.items out.new.items }
 {
-    match world {
-        Some(world) => later(alloc, world, payload, line, out),
+    match bench {
+        Some(bench) => later(alloc, bench, payload, line, out),
         None => match first(alloc, line, out) {
             Ok(made) => {
-                *world = Some(made);
+                *bench = Some(made);
                 Ok(())
             }
             Err(failure) => Err(failure),
@@ -39,8 +39,8 @@ pub fn reply(
     }
 }
 
-// The first command makes the world.
-fn first(alloc: Global, line: &[u8], out: &mut Vec<u8>) -> Result<World, Failure>
+// The first command makes the array.
+fn first(alloc: Global, line: &[u8], out: &mut Vec<u8>) -> Result<Bench, Failure>
     ensures { Starts result line.now out.old.items out.new.items }
 {
     let command = match command_of(alloc, line, &mut []) {
@@ -60,7 +60,7 @@ fn first(alloc: Global, line: &[u8], out: &mut Vec<u8>) -> Result<World, Failure
     }
 }
 
-// A new world with these sizes.
+// A new array with these sizes.
 fn begin(
     alloc: Global,
     drives: u64,
@@ -69,7 +69,7 @@ fn begin(
     payload: u64,
     blocks: u64,
     out: &mut Vec<u8>,
-) -> Result<World, Failure>
+) -> Result<Bench, Failure>
     ensures { Makes result (o.Array drives extents segments payload blocks) out.old.items out.new.items }
 {
     let Some((drives, shape)) = array_in_range(drives, extents, segments, payload, blocks) else {
@@ -79,26 +79,26 @@ fn begin(
         return Err(Failure::Memory)
     };
     match put(out, b"array") {
-        Ok(()) => Ok(world),
+        Ok(()) => Ok(Bench::new(alloc, world)),
         Err(_) => Err(Failure::Memory),
     }
 }
 
-// Every later command is for the world.
+// Every later command is for the array and the maps.
 fn later(
     alloc: Global,
-    world: &mut World,
+    bench: &mut Bench,
     payload: &mut [u8],
     line: &[u8],
     out: &mut Vec<u8>,
 ) -> Result<(), Failure>
     requires { 65536 ≤ length payload.old }
-    ensures { (F : Flat) → Stands (Some world.old) (Some F) →
-        Replies result (Some F) (Some world.new) line.now out.old.items out.new.items }
+    ensures { (P : Position) → Stands (Some bench.old) (Some P) →
+        Replies result (Some P) (Some bench.new) line.now out.old.items out.new.items }
 {
-    let size = world.array().shape().payload() as usize;
+    let size = bench.world.array().shape().payload() as usize;
     match command_of(alloc, line, &mut payload[..size]) {
-        Ok(Some(command)) => carry_out(alloc, world, &payload[..size], command, out),
+        Ok(Some(command)) => carry_out(alloc, bench, &payload[..size], command, out),
         Ok(None) => Err(Failure::Wrong(Why::Form)),
         Err(_) => Err(Failure::Memory),
     }

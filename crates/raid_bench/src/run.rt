@@ -44,7 +44,7 @@ fn turns<R: Read, W: Write>(
     requires room { 0 < length chunk.old }
     requires good { IsScript script.old }
     requires written { script.old.out.items ≡ [] }
-    ensures { (state : State) → Stands script.old.world state →
+    ensures { (state : State) → Stands script.old.bench state →
         TurnsTo (Some result) (R.remaining reader.old) (R.remaining reader.new) script.old state script.new
         (W.contents writer.old) (W.contents writer.new) }
 {
@@ -69,7 +69,7 @@ fn turn<R: Read, W: Write>(
     requires written { script.old.out.items ≡ [] }
     ensures stays { IsNone result → IsScript script.new }
     ensures written { IsNone result → script.new.out.items ≡ [] }
-    ensures said { (state : State) → Stands script.old.world state →
+    ensures said { (state : State) → Stands script.old.bench state →
         TurnsTo result (R.remaining reader.old) (R.remaining reader.new) script.old state script.new
         (W.contents writer.old) (W.contents writer.new) }
 {
@@ -86,7 +86,7 @@ fn go_on<W: Write>(alloc: Global, writer: &mut W, script: &mut Script, chunk: &[
     requires written { script.old.out.items ≡ [] }
     ensures stays { IsNone result → IsScript script.new }
     ensures written { IsNone result → script.new.out.items ≡ [] }
-    ensures said { (state : State) → Stands script.old.world state →
+    ensures said { (state : State) → Stands script.old.bench state →
         GoesOn result script.old state script.new chunk.now (W.contents writer.old) (W.contents writer.new) }
 {
     let fed = script.feed(alloc, chunk);
@@ -107,7 +107,7 @@ fn go_on<W: Write>(alloc: Global, writer: &mut W, script: &mut Script, chunk: &[
 fn close<W: Write>(alloc: Global, writer: &mut W, script: &mut Script) -> End
     requires good { IsScript script.old }
     requires written { script.old.out.items ≡ [] }
-    ensures { (state : State) → Stands script.old.world state →
+    ensures { (state : State) → Stands script.old.bench state →
         Concludes result script.old state (W.contents writer.old) (W.contents writer.new) }
 {
     let finished = script.finish(alloc);

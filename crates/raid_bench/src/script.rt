@@ -4,21 +4,21 @@ ghost use Rattle.raid_bench.specs.Opens.{IsOpen};
 ghost use Rattle.raid_bench.specs.State.{State};
 ghost use Rattle.raid_bench.specs.Carrying.{Stands};
 
+use crate::bench::Bench;
 use crate::line::{MOST_BYTES, MOST_LINES, answer_line, wrong};
 use crate::why::{Stop, Why};
 use memchr::memchr;
 use std::alloc::Global;
-use step_core::World;
 
 /// What ends a line.
 const LINE_END: u8 = b'\n';
 
-/// Where a script stands: the number of its open line, the world, a buffer for a payload, the bytes of
+/// Where a script stands: the number of its open line, the bench, a buffer for a payload, the bytes of
 /// the open line, and the answers that are not yet written.
 #[derive(Drop)]
 pub struct Script {
     pub number: u64,
-    pub world: Option<World>,
+    pub bench: Option<Bench>,
     pub payload: Vec<u8>,
     pub line: Vec<u8>,
     pub out: Vec<u8>,
@@ -32,13 +32,13 @@ impl Script {
         requires { 65536 ≤ length payload.items }
         ensures good { IsScript result }
         ensures number { result.number ≡ 1 }
-        ensures world { result.world ≡ None }
+        ensures bench { result.bench ≡ None }
         ensures line { result.line.items ≡ [] }
         ensures out { result.out.items ≡ [] }
     {
         Script {
             number: 1,
-            world: None,
+            bench: None,
             payload,
             line: Vec::new(alloc),
             out: Vec::new(alloc),
@@ -49,7 +49,7 @@ impl Script {
     pub fn feed(&mut self, alloc: Global, chunk: &[u8]) -> Result<(), Stop>
         requires { IsScript self.old }
         ensures keeps { OnOk result (IsScript self.new) }
-        ensures fed { (state : State) → Stands self.old.world state → Feeds result self.old state self.new chunk.now }
+        ensures fed { (state : State) → Stands self.old.bench state → Feeds result self.old state self.new chunk.now }
     {
         let mut rest = chunk;
         while let Some((part, behind)) = split_line(rest) {
@@ -69,7 +69,7 @@ impl Script {
     /// Answers the last line, which has no end, where there is one.
     pub fn finish(&mut self, alloc: Global) -> Result<(), Stop>
         requires { IsScript self.old }
-        ensures { (state : State) → Stands self.old.world state → Closes result self.old state self.new }
+        ensures { (state : State) → Stands self.old.bench state → Closes result self.old state self.new }
     {
         if self.line.is_empty() {
             return Ok(());
@@ -82,7 +82,7 @@ impl Script {
         requires good { IsScript self.old }
         requires part { IsOpen part.now }
         ensures keeps { OnOk result (IsScript self.new) }
-        ensures fed { (state : State) → Stands self.old.world state → Feeds result self.old state self.new part.now }
+        ensures fed { (state : State) → Stands self.old.bench state → Feeds result self.old state self.new part.now }
     {
         if part.is_empty() {
             return Ok(());
@@ -103,13 +103,13 @@ impl Script {
     fn answer(&mut self, alloc: Global) -> Result<(), Stop>
         requires { IsScript self.old }
         ensures keeps { OnOk result (IsScript self.new) }
-        ensures told { (state : State) → Stands self.old.world state → Answered result self.old state self.new }
+        ensures told { (state : State) → Stands self.old.bench state → Answered result self.old state self.new }
     {
         let start = self.out.len();
         let told = answer_line(
             alloc,
             self.number,
-            &mut self.world,
+            &mut self.bench,
             &mut self.payload,
             &self.line,
             &mut self.out,

@@ -1,14 +1,14 @@
 //! The texts of answers, appended to a buffer.
-ghost use Rattle.std.specs.Prelude.{◌≡◌, ◌∷◌, ◌++◌, [], OnOk, decimal, Some, None};
+ghost use Rattle.std.specs.Prelude.{◌≡◌, ◌∷◌, ◌++◌, [], OnOk, codes, decimal, Some, None};
 ghost use Rattle.hex.specs.Hex.{encode_lower};
-ghost use Rattle.step_core.specs.Told.{flat_answer};
-ghost use Rattle.raid_bench.specs.Text.{answer_text, detail, found_text, listing, record_or_none, record_text, records_text};
+ghost use Rattle.step_core.specs.Told.{flat_answer, seen_of};
+ghost use Rattle.raid_bench.specs.Text.{answer_text, data_text, detail, difference_text, found_text, header_text, seen_text, listing, record_or_none, record_text, records_text};
 ghost use Rattle.step_core.specs.Steps as s;
 
 use itoa::Buffer;
 use map_join::Record;
 use std::alloc::AllocError;
-use step_core::{Answer, Refusal};
+use step_core::{Answer, At, Refusal};
 
 /// The digits of a half byte.
 const DIGITS: [u8; 16] = *b"0123456789abcdef";
@@ -54,9 +54,39 @@ fn put_numbered(out: &mut Vec<u8>, word: &[u8], number: u64) -> Result<(), Alloc
     put_number(out, number)
 }
 
-/// The answer to a step.
-pub fn put_answer(out: &mut Vec<u8>, answer: &Answer) -> Result<(), AllocError>
-    ensures { OnOk result (out.new.items ≡ out.old.items ++ answer_text (flat_answer answer.now)) }
+// A version and its payload.
+fn put_data(out: &mut Vec<u8>, version: u32, payload: &[u8]) -> Result<(), AllocError>
+    ensures { OnOk result (out.new.items ≡ out.old.items ++ data_text version payload.now) }
+{
+    put_numbered(out, b"data ", u64::from(version))?;
+    put(out, b" ")?;
+    put_hex(out, payload)
+}
+
+// What is seen at the place of a record of this version.
+fn put_seen(out: &mut Vec<u8>, version: u32, seen: &At) -> Result<(), AllocError>
+    ensures { OnOk result (out.new.items ≡ out.old.items ++ seen_text version (seen_of seen.now)) }
+{
+    match seen {
+        At::Data(payload) => put_data(out, version, payload),
+        At::Stale(Some(header)) => put_header(out, header),
+        At::Stale(None) => put(out, b"stale none"),
+    }
+}
+
+// A header that is found in another one's place.
+fn put_header(out: &mut Vec<u8>, header: &Record) -> Result<(), AllocError>
+    ensures { OnOk result (out.new.items ≡ out.old.items ++ (codes "stale " ++ header_text header.now)) }
+{
+    put_numbered(out, b"stale ", u64::from(header.block))?;
+    put_numbered(out, b" ", u64::from(header.version))?;
+    put_numbered(out, b" ", u64::from(header.hop))?;
+    put_numbered(out, b" ", u64::from(header.place))
+}
+
+/// The answer to a step. What is read at a record's place has the version that was asked for.
+pub fn put_answer(out: &mut Vec<u8>, answer: &Answer, asked: u32) -> Result<(), AllocError>
+    ensures { OnOk result (out.new.items ≡ out.old.items ++ answer_text asked (flat_answer answer.now)) }
 {
     match answer {
         Answer::Claimed(slot) => put_numbered(out, b"claimed ", u64::from(*slot)),
@@ -64,16 +94,15 @@ pub fn put_answer(out: &mut Vec<u8>, answer: &Answer) -> Result<(), AllocError>
         Answer::Released(slot) => put_numbered(out, b"released ", u64::from(*slot)),
         Answer::NotHeld(slot) => put_numbered(out, b"notheld ", u64::from(*slot)),
         Answer::Filled(slot) => put_numbered(out, b"filled ", u64::from(*slot)),
+        Answer::Copied(slot) => put_numbered(out, b"copied ", u64::from(*slot)),
         Answer::Committed(record) => {
             put(out, b"record ")?;
             put_record(out, record)
         }
-        Answer::Read(Some((version, payload))) => {
-            put_numbered(out, b"data ", u64::from(*version))?;
-            put(out, b" ")?;
-            put_hex(out, payload)
-        }
+        Answer::Discarded(slot) => put_numbered(out, b"discarded ", u64::from(*slot)),
+        Answer::Read(Some((version, payload))) => put_data(out, *version, payload),
         Answer::Read(None) => put(out, b"none"),
+        Answer::Found(seen) => put_seen(out, asked, seen),
         Answer::Made(group) => put_numbered(out, b"made ", u64::from(*group)),
         Answer::Refused(refusal) => put_refusal(out, refusal),
     }
@@ -81,7 +110,7 @@ pub fn put_answer(out: &mut Vec<u8>, answer: &Answer) -> Result<(), AllocError>
 
 /// A refusal: its number, and what it names.
 fn put_refusal(out: &mut Vec<u8>, refusal: &Refusal) -> Result<(), AllocError>
-    ensures { OnOk result (out.new.items ≡ out.old.items ++ answer_text (s.Refused refusal.now)) }
+    ensures { OnOk result (out.new.items ≡ out.old.items ++ answer_text 0 (s.Refused refusal.now)) }
 {
     put_numbered(out, b"refused ", u64::from(refusal.number()))?;
     put_detail(out, refusal)
@@ -100,6 +129,16 @@ fn put_detail(out: &mut Vec<u8>, refusal: &Refusal) -> Result<(), AllocError>
         Refusal::Gone(slot) | Refusal::SlotsHeld(slot) => put_numbered(out, b" ", u64::from(*slot)),
         Refusal::DriveLost(drive) => put_numbered(out, b" ", u64::from(*drive)),
         _ => Ok(()),
+    }
+}
+
+/// The lowest block of which two maps differ, if they do.
+pub fn put_difference(out: &mut Vec<u8>, lowest: Option<u32>) -> Result<(), AllocError>
+    ensures { OnOk result (out.new.items ≡ out.old.items ++ difference_text lowest) }
+{
+    match lowest {
+        None => put(out, b"same"),
+        Some(block) => put_numbered(out, b"differs ", u64::from(block)),
     }
 }
 

@@ -12,6 +12,6 @@ invariant-loop g l =
     let contents = g.W.Write.contents in record {
       good : IsScript l.script;
       written : l.script.out.items ≡ [];
-      said : (state : State) → Stands l.fn.script.world state → PartSaid (remaining l.fn.reader) (remaining l.reader)
+      said : (state : State) → Stands l.fn.script.bench state → PartSaid (remaining l.fn.reader) (remaining l.reader)
           l.fn.script state l.script (contents l.fn.writer) (contents l.writer);
     }

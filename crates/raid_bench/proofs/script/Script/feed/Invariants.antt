@@ -8,7 +8,7 @@ use Rattle.raid_bench.proofs.script.Script.feed.Given as goal
 abbrev pub invariant-loop-part : goal.invariant-loop-part
 invariant-loop-part l = record {
   good : IsScript l.self;
-  along : (state : State) → Stands l.fn.self.world state → IsAlong l.fn.self state l.self l.fn.chunk l.rest;
+  along : (state : State) → Stands l.fn.self.bench state → IsAlong l.fn.self state l.self l.fn.chunk l.rest;
 }
 
 abbrev pub decreases-loop-part : goal.decreases-loop-part
