@@ -11,9 +11,13 @@ pub fn join_laws()
     ensures idempotent { (M : ℕ → ℕ) → IsSame (join M M) M }
     ensures above { (M N : ℕ → ℕ) → IsBelow M (join M N) × IsBelow N (join M N) }
     ensures least { (L M N : ℕ → ℕ) → IsBelow M L → IsBelow N L → IsBelow (join M N) L }
-{}
+{
+    // The laws are the contract: there is nothing to do.
+}
 
 /// The map of two lists together is the join of theirs.
 pub fn list_laws()
     ensures { (xs ys : List Record) (M N : ℕ → ℕ) → IsMapOf xs M → IsMapOf ys N → IsMapOf (xs ++ ys) (join M N) }
-{}
+{
+    // As above.
+}

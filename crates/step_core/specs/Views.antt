@@ -75,7 +75,7 @@ pub record IsRoomy (a : ArrayView) : Type 0 where
   pub keys : length a.keys ≡ a.sizes.blocks
 
 -- what every array keeps: each key is a record's, whose place and no other is kept for that block; what is copied can move
--- on; what is kept has a unit; units have the payload's length; and groups have members that can be one, no two the same
+-- on; what is kept has a unit; units have the payload's length; and groups have members that can be one, and share none
 pub record IsWhole (a : ArrayView) : Type 0 where
   pub room : IsRoomy a
   pub blocks : a.sizes.blocks ≤ 65536

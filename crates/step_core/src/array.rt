@@ -19,11 +19,13 @@ use map_join::{BlockMap, MapRefusal, Record};
 use std::alloc::{AllocError, Global};
 use std::marker::Model;
 
-/// Slot numbers of a group, and groups.
+/// Slot numbers that a group takes up, of which it has the first ones.
 pub(crate) const SLOTS_OF_A_GROUP: u16 = 128;
 
+/// Group numbers.
 pub(crate) const GROUPS: usize = 512;
 
+/// Slot numbers of an array.
 pub(crate) const SLOTS: usize = 65_536;
 
 /// The array: drives and groups, the log of emitted records, and of each slot what the array keeps.

@@ -40,10 +40,10 @@ impl Model for Emitted {
 }
 
 impl Emitted {
-    fn of(record: Record) -> Emitted
-        ensures { result ≡ «record» }
+    fn of(told: Record) -> Emitted
+        ensures { result ≡ told }
     {
-        Emitted { record }
+        Emitted { record: told }
     }
 
     /// The record that was emitted.
@@ -124,12 +124,12 @@ impl<C: Hold> Array<C> {
 
 // Writes the record into the header of the slot's unit.
 #[tactic(auto, using(crate::proofs::Tables::units_set, crate::proofs::Tables::unit_there))]
-fn stamp(units: &mut Vec<Option<StoredUnit>>, slot: u16, record: Record)
+fn stamp(units: &mut Vec<Option<StoredUnit>>, slot: u16, told: Record)
     requires { slot < vec_len units.old }
-    ensures { units_of units.new.items ≡ slice_set (units_of units.old.items) slot (stamped (slice_index_or (units_of units.old.items) slot None) «record») }
+    ensures { units_of units.new.items ≡ slice_set (units_of units.old.items) slot (stamped (slice_index_or (units_of units.old.items) slot None) told) }
 {
     if let Some(unit) = &mut units[usize::from(slot)] {
-        unit.header = Some(record);
+        unit.header = Some(told);
     }
 }
 

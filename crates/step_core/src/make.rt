@@ -18,7 +18,8 @@ use crate::stored::StoredUnit;
 use std::alloc::{AllocError, Global};
 
 impl<C: Hold> Array<C> {
-    /// Makes a group under the lowest number that isn't made, and blanks its slots.
+    /// Makes a group under the lowest number that isn't made, and blanks its slots. The list is of claims
+    /// kept for that number, none so far.
     pub fn make_group(
         &mut self,
         alloc: Global,

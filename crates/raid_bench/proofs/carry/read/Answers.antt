@@ -6,7 +6,7 @@ use Rattle.raid_bench.proofs.carry.read.Goals as goal
 pub returns-in-Ok : goal.returns-in-Ok
 returns-in-Ok c P stands =
     let block = c.in-Some.ensures.some in
-    let case = rw block.0 at (c.in-Ok.ensures P.flat stands.world) in
+    let case = rw block.0 at (c.in-Ok.ensures.ok P.flat stands.world) in
     told_step c.tell.result P _ (o.Read c.args.block) (s.Read c.args.block) _ _ _
     c.tell.ensures.ok c.tell.ensures.err tt (rw stands.world.array.sizes block.1) (P.flat, case, stands.world)
     stands.maps (λ text t steps. steps)
