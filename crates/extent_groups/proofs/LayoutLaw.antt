@@ -12,7 +12,7 @@ use Rattle.extent_groups.specs.declared.class.Member.{Member}
 use Rattle.extent_groups.specs.declared.geometry.Spot.{Spot}
 use Rattle.extent_groups.specs.Geometry.{slot_count, copies_of, stripe_of, copy_index, stripe_index, parity_of}
 use Rattle.extent_groups.specs.Groups.{Group, Groups, group_at, members_in, IsFormed, AreGroups}
-use Rattle.extent_groups.specs.Cells.{Place}
+use Rattle.extent_groups.specs.declared.place.Place.{Place}
 use Rattle.extent_groups.specs.Units.{Site, place_of, place_at, site_in, site_of_index}
 use Rattle.extent_groups.specs.Layout.{IsOf, IsApart, AreBeside, IsWhole, IsLayout}
 use Rattle.extent_groups.proofs.Places.{same_or_not}

@@ -8,3 +8,6 @@ pub mod Agreement
 pub mod Swapping
 pub mod Keeping
 pub mod LayoutLaw
+pub mod ExclusiveOr
+pub mod Totals
+pub mod DriveCalls

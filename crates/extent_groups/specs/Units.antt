@@ -7,7 +7,8 @@ use Rattle.extent_groups.specs.declared.class.Class.TheVariants.{Mirrored, Parit
 use Rattle.extent_groups.specs.declared.class.Member.{Member}
 use Rattle.extent_groups.specs.Geometry.{slot_count, copies_of, stripe_of}
 use Rattle.extent_groups.specs.Groups.{Group, Groups, group_at}
-use Rattle.extent_groups.specs.Cells.{Cells, Place, held}
+use Rattle.extent_groups.specs.declared.place.Place.{Place}
+use Rattle.extent_groups.specs.Cells.{Cells, held}
 
 -- where a slot lies: in two places, or on one member of a row whose parity is on another
 pub data Site : Type 0 where
