@@ -11,3 +11,5 @@ pub mod LayoutLaw
 pub mod ExclusiveOr
 pub mod Totals
 pub mod DriveCalls
+pub mod Fading
+pub mod RowWrites
