@@ -1,12 +1,12 @@
 -- A read and a write of one drive, as what all drives hold; and that what calls leave adds up.
-use Rattle.std.proofs.Common.{◌≡◌, ◌≢◌, ℕ, zero, suc, ◌+◌, ◌<◌, ◌⊎◌, inl, inr, Bool, true, false, not, Option, Some, None, List, [], ◌∷◌, length, refl, sym, ◌∙◌, ap, subst, arith, get_or, if◌then◌else◌}
+use Rattle.std.proofs.Common.{◌≡◌, ◌≢◌, ℕ, ◌+◌, ◌<◌, ◌⊎◌, inl, inr, Bool, true, false, not, Option, Some, None, List, [], ◌∷◌, length, refl, sym, ◌∙◌, ap, subst, arith, get_or, if◌then◌else◌}
 use Rattle.std.specs.Prelude.{slice_get, slice_set, Result, Ok, Err, OnOk, OnErr, is_ok, is_err}
 use Rattle.std.proofs.lemmas.List.{length-set}
 use Rattle.std.proofs.lemmas.Option.{same_Some, none-some, slice_get-get_or, slice_get_within}
 use Rattle.extents.specs.Units.{IsSized, loss}
 use Rattle.extent_groups.specs.declared.place.Place.{Place}
-use Rattle.extent_groups.specs.Cells.{Cells, cell, cells, held}
-use Rattle.extent_groups.specs.Calls.{AreSized, IsPlace, Fades, FadesAt, if_ok, DidRead, DidWrite, NoPlace, Only, KeepsDrive, KeepsDrives}
+use Rattle.extent_groups.specs.Cells.{cell, cells, held}
+use Rattle.extent_groups.specs.Calls.{AreSized, IsPlace, DidRead, DidWrite, NoPlace, Only, KeepsDrive, KeepsDrives}
 use Rattle.extent_groups.proofs.Places.{get-set_same, get-set_other, same_or_not, written_or_not}
 
 either : (b : Bool) → (b ≡ true) ⊎ (b ≡ false)

@@ -1,10 +1,10 @@
 -- Losses alone: a sound site's effective unit that exists afterwards is what it was, and the site stays sound.
-use Rattle.std.proofs.Common.{◌≡◌, ◌≢◌, ℕ, zero, suc, ◌<◌, ◌≤◌, ◌⊎◌, inl, inr, Option, Some, None, List, length, refl, sym, ◌∙◌, ap, subst, arith}
+use Rattle.std.proofs.Common.{◌≡◌, ℕ, zero, suc, ◌<◌, inl, inr, Option, Some, None, List, length, refl, sym, ◌∙◌, ap, subst}
 use Rattle.std.specs.Prelude.{replicate, slice_get}
-use Rattle.std.proofs.lemmas.Option.{same_Some, none-some, slice_get_cases, slice_get_past}
+use Rattle.std.proofs.lemmas.Option.{none-some}
 use Rattle.extent_groups.specs.declared.place.Place.{Place}
 use Rattle.extent_groups.specs.Cells.{Cells, held}
-use Rattle.extent_groups.specs.Units.{Site, Pair, InStripe, plus, add, total, put, others, or_else, held_in, row_of, unit_at, IsSoundAt}
+use Rattle.extent_groups.specs.Units.{Site, Pair, InStripe, plus, add, total, put, others, or_else, held_in, row_of, IsSoundAt}
 use Rattle.extent_groups.specs.Calls.{Fades, FadesAt}
 use Rattle.extent_groups.specs.Layout.{IsOf, IsWhole}
 use Rattle.extent_groups.specs.Stores.{KeepsAt}

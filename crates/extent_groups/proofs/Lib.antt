@@ -13,3 +13,5 @@ pub mod Totals
 pub mod DriveCalls
 pub mod Fading
 pub mod RowWrites
+pub mod Sites
+pub mod SlotWrites

@@ -1,12 +1,11 @@
 -- A member of a row is written: with the parity by difference, alone, or as the parity alone.
-use Rattle.std.proofs.Common.{◌≡◌, ◌≢◌, ℕ, ◌<◌, ◌≤◌, ◌⊎◌, inl, inr, Option, Some, None, List, length, refl, sym, ◌∙◌, ap, subst, arith}
+use Rattle.std.proofs.Common.{◌≡◌, ◌≢◌, ℕ, ◌<◌, ◌≤◌, Option, Some, None, List, length, refl, sym, ◌∙◌, ap, arith}
 use Rattle.std.specs.Prelude.{replicate}
-use Rattle.std.proofs.lemmas.Option.{same_Some, none-some}
+use Rattle.std.proofs.lemmas.Option.{none-some}
 use Rattle.extent_groups.specs.Units.{plus, add, total, put, others, or_else}
 use Rattle.extent_groups.specs.Calls.{Fades}
-use Rattle.extent_groups.proofs.Places.{same_or_not}
-use Rattle.extent_groups.proofs.ExclusiveOr.{plus-assoc, plus-comm, plus_difference, plus_twice, add-none}
-use Rattle.extent_groups.proofs.Totals.{Row, put_same, put_other, total_two, total_split, others_split, rest_of, rest_same, total_missing, others_missing, length-total, put_agrees, total_same}
+use Rattle.extent_groups.proofs.ExclusiveOr.{plus-comm, plus_difference, plus_twice}
+use Rattle.extent_groups.proofs.Totals.{Row, put_other, total_two, others_split, rest_of, rest_same, total_missing, others_missing, length-total, put_agrees}
 use Rattle.extent_groups.proofs.Fading.{RowFades, IsSoundRow, effective, faded, fade_effective, fade_sound}
 
 -- what a write of member i, whose parity is member p, leaves of a row: the unit is its effective one, every other member's that exists afterwards is what it was, and a sound row is sound

@@ -1,12 +1,12 @@
 -- The exclusive or of a row: one member or two taken out, a member that is missing, rows that agree.
-use Rattle.std.proofs.Common.{◌≡◌, ◌≢◌, ℕ, zero, suc, ◌<◌, ◌≤◌, ◌⊎◌, inl, inr, Option, Some, None, List, length, refl, sym, ◌∙◌, ap, subst, arith, if◌then◌else◌}
+use Rattle.std.proofs.Common.{◌≡◌, ◌≢◌, ℕ, zero, suc, ◌<◌, ◌≤◌, inl, inr, Option, Some, None, List, length, refl, sym, ◌∙◌, ap, arith, if◌then◌else◌}
 use Rattle.std.specs.Prelude.{replicate}
 use Rattle.std.proofs.lemmas.Bool.{eq-eqb, ne_eqb}
 use Rattle.std.proofs.lemmas.List.{length-replicate}
 use Rattle.std.proofs.lemmas.Option.{same_Some, none-some}
 use Rattle.extent_groups.specs.Units.{plus, add, total, put, others}
 use Rattle.extent_groups.proofs.Places.{same_or_not}
-use Rattle.extent_groups.proofs.ExclusiveOr.{length-plus, add-comm, add_swap, add-zeros}
+use Rattle.extent_groups.proofs.ExclusiveOr.{length-plus, add_swap, add-zeros}
 
 -- a row: what each member holds
 abbrev pub Row : Type 0

@@ -1,5 +1,5 @@
 -- What both stores say: when a call may come, what it leaves of every slot, and what it may touch of the drives.
-use Rattle.std.specs.Prelude.{◌≡◌, ◌≢◌, ℕ, ◌+◌, ◌*◌, ◌/◌, ◌%◌, ◌<◌, ◌⊎◌, Bool, Option, Some, None, List, length, slice_get}
+use Rattle.std.specs.Prelude.{◌≡◌, ◌≢◌, ℕ, ◌+◌, ◌*◌, ◌/◌, ◌%◌, ◌<◌, ◌⊎◌, Option, Some, None, List, length, slice_get}
 use Rattle.extents.specs.Sizes.{extent_units}
 use Rattle.extents.specs.declared.shape.TheConstants.{HEADER_BYTES}
 use Rattle.extent_groups.specs.declared.class.Class.{Class}
@@ -8,8 +8,8 @@ use Rattle.extent_groups.specs.declared.place.Place.{Place}
 use Rattle.extent_groups.specs.declared.refusal.StoreRefusal.{StoreRefusal}
 use Rattle.extent_groups.specs.declared.refusal.StoreRefusal.TheVariants.{Gone}
 use Rattle.extent_groups.specs.Groups.{Groups, group_at, class_in, slots_in, members_of}
-use Rattle.extent_groups.specs.Cells.{Cells, cells}
-use Rattle.extent_groups.specs.Calls.{AreSized, FadesAt, KeepsDrives}
+use Rattle.extent_groups.specs.Cells.{Cells}
+use Rattle.extent_groups.specs.Calls.{AreSized}
 use Rattle.extent_groups.specs.Units.{Site, Pair, InStripe, site_of, unit_at, effective_unit, IsSoundAt, IsSound}
 use Rattle.extent_groups.specs.Layout.{IsApart, AreBeside, IsWhole}
 

@@ -66,6 +66,10 @@ IsSoundAt bytes c (InStripe places parity i) = (v : List ℕ) → total bytes (l
 abbrev pub place_of : ℕ → ℕ → Member → Place
 place_of segments offset m = record { drive = m.drive; address = unit_address segments m.extent offset }
 
+-- the places at an offset of all members
+abbrev pub places_of : ℕ → List Member → ℕ → List Place
+places_of segments members offset = map (place_of segments offset) members
+
 -- the place at an offset of a member, by its number; any one where there is no such member
 abbrev pub place_at : ℕ → List Member → ℕ → ℕ → Place
 place_at segments members k offset = slice_index_or (map (place_of segments offset) members) k (record { drive = 0; address = 0 })
@@ -77,7 +81,7 @@ site_in segments Mirrored members i =
     Pair (place_at segments members copies.first.member copies.first.offset) (place_at segments members copies.second.member copies.second.offset)
 site_in segments Parity members i =
     let at = stripe_of (length members) i in
-    InStripe (map (place_of segments at.offset) members) at.parity at.member
+    InStripe (places_of segments members at.offset) at.parity at.member
 
 -- where an index of what may be a group lies, if it is one of its slots
 abbrev pub site_of_index : ℕ → Option Group → ℕ → Option Site

@@ -16,4 +16,4 @@ pub use class::{Class, Member};
 pub use geometry::{Copies, Spot, Stripe};
 pub use place::{Place, read_place, write_place};
 pub use refusal::{GroupRefusal, StoreRefusal};
-pub use table::{GROUPS, GroupTable};
+pub use table::{GROUPS, GroupTable, SLOTS};

@@ -1,5 +1,5 @@
-use Rattle.std.proofs.Common.{arith, slice_index_or, ◌≡◌, ap, ◌∙◌, subst, sym, length, slice_set}
-use Rattle.std.specs.Prelude.{not, is_ok}
+use Rattle.std.proofs.Common.{ap, ◌∙◌, sym}
+use Rattle.std.specs.Prelude.{not}
 use Rattle.std.proofs.lemmas.Option.{slice_get-get_or}
 use Rattle.extent_groups.proofs.DriveCalls.{told_ok, is_err-not, did_read, keeps_one, kept_read}
 use Rattle.extent_groups.proofs.place.read_place.Goals as goal
