@@ -15,3 +15,4 @@ pub mod Fading
 pub mod RowWrites
 pub mod Sites
 pub mod SlotWrites
+pub mod StoreCalls
