@@ -1,11 +1,11 @@
 -- What both stores promise, from what a read or a write of the slot's site leaves.
-use Rattle.std.proofs.Common.{◌≡◌, ◌≢◌, ℕ, ◌<◌, ◌⊎◌, inl, inr, Bool, true, false, Option, Some, None, List, length, refl, sym, ◌∙◌, ap, subst, arith, get_or}
+use Rattle.std.proofs.Common.{◌≡◌, ℕ, ◌<◌, Bool, Option, Some, List, length, sym, ◌∙◌, ap, subst, arith, get_or}
 use Rattle.std.proofs.lemmas.Option.{slice_get-get_or, slice_get_within}
 use Rattle.extent_groups.specs.declared.place.Place.{Place}
 use Rattle.extent_groups.specs.Groups.{Groups, AreGroups}
-use Rattle.extent_groups.specs.Cells.{Cells, cells, held}
-use Rattle.extent_groups.specs.Units.{Site, unit_at, site_of}
-use Rattle.extent_groups.specs.Calls.{AreSized, FadesAt, if_ok, NoPlace, KeepsDrives}
+use Rattle.extent_groups.specs.Cells.{Cells, cells}
+use Rattle.extent_groups.specs.Units.{Site, unit_at, site_of, IsSoundAt}
+use Rattle.extent_groups.specs.Calls.{AreSized, FadesAt, NoPlace, KeepsDrives}
 use Rattle.extent_groups.specs.Layout.{IsWhole}
 use Rattle.extent_groups.specs.Stores.{unit_bytes, unit_of, AreSound, AreDrives, KeepsUnits, KeepsOthers, LeavesSites, IsOwn, IsOwnOf}
 use Rattle.extent_groups.proofs.LayoutLaw.{layout_law}
@@ -73,3 +73,7 @@ write_keeps {units = units} {lost = lost} t slot site n old new are drives sound
 -- the unit of the slot, by that of its site
 pub slot_unit : (t : Groups) (c : Cells) (slot : ℕ) (site : Site) (n : ℕ) (a : Option (List ℕ)) → site_of t slot ≡ Some site → n ≡ unit_bytes t → unit_at n c site ≡ a → unit_of t c slot ≡ a
 slot_unit t c slot site n a at size e = unit_at_site t c slot site at ∙ ap (λ m. unit_at m c site) (sym size) ∙ e
+
+-- a slot's site is sound, for units of this length
+pub sound_site : (t : Groups) (c : Cells) (slot : ℕ) (site : Site) (n : ℕ) → site_of t slot ≡ Some site → n ≡ unit_bytes t → AreSound t c → IsSoundAt n c site
+sound_site t c slot site n at size sound = subst (λ m. IsSoundAt m c site) (sym size) (sound slot site at)

@@ -1,6 +1,7 @@
 -- The exclusive or of a row: one member or two taken out, a member that is missing, rows that agree.
 use Rattle.std.proofs.Common.{◌≡◌, ◌≢◌, ℕ, zero, suc, ◌<◌, ◌≤◌, inl, inr, Option, Some, None, List, length, refl, sym, ◌∙◌, ap, arith, if◌then◌else◌}
-use Rattle.std.specs.Prelude.{replicate}
+use Rattle.std.specs.Prelude.{replicate, bit_xor}
+use Rattle.std.proofs.lemmas.Simd.{length-zip2}
 use Rattle.std.proofs.lemmas.Bool.{eq-eqb, ne_eqb}
 use Rattle.std.proofs.lemmas.List.{length-replicate}
 use Rattle.std.proofs.lemmas.Option.{same_Some, none-some}
@@ -77,3 +78,22 @@ pub rest_same : (n m i p : ℕ) (r s : Row) → ((k : ℕ) → k < m → k ≢ i
 rest_same n m i p r s h =
     total_same n m _ _ (λ k lt. put_agrees (put r i (Some (replicate n 0))) (put s i (Some (replicate n 0))) p (Some (replicate n 0)) k
     (λ np. put_agrees r s i (Some (replicate n 0)) k (λ ni. h k lt ni np)))
+
+-- of units that all have so many bytes it has so many too
+add_sized : (a b : Option (List ℕ)) (n : ℕ) (v : List ℕ) → ((u : List ℕ) → a ≡ Some u → length u ≡ n) → ((w : List ℕ) → b ≡ Some w → length w ≡ n) → add a b ≡ Some v → length v ≡ n
+add_sized None b n v h k e = absurd (none-some v e)
+add_sized (Some u) None n v h k e = absurd (none-some v e)
+add_sized (Some u) (Some w) n v h k e =
+    let same : length u ≡ length w = h u refl ∙ sym (k w refl) in
+    ap length (sym (same_Some (plus u w) v e)) ∙ length-zip2 bit_xor u w same ∙ h u refl
+
+pub total_sized : (n m : ℕ) (r : Row) → ((k : ℕ) (u : List ℕ) → r k ≡ Some u → length u ≡ n) → (v : List ℕ) → total n m r ≡ Some v → length v ≡ n
+total_sized n zero r sized v e = ap length (sym (same_Some (replicate n 0) v e)) ∙ length-replicate {A = ℕ} n 0
+total_sized n (suc m) r sized v e = add_sized (r m) (total n m r) n v (sized m) (total_sized n m r sized) e
+
+-- a row with zeros for one member
+pub put_sized : (n i : ℕ) (r : Row) → ((k : ℕ) (u : List ℕ) → r k ≡ Some u → length u ≡ n) → (k : ℕ) (u : List ℕ) → put r i (Some (replicate n 0)) k ≡ Some u → length u ≡ n
+put_sized n i r sized k u e = elim (same_or_not k i) [
+  | inl q ↦ ap length (sym (same_Some (replicate n 0) u (sym (put_same r i (Some (replicate n 0))) ∙ ap (put r i (Some (replicate n 0))) (sym q) ∙ e))) ∙ length-replicate {A = ℕ} n 0
+  | inr ne ↦ sized k u (sym (put_other r i k (Some (replicate n 0)) ne) ∙ e)
+]

@@ -1,4 +1,4 @@
-use Rattle.std.proofs.Common.{length, ◌≡◌, inl, inr, refl}
+use Rattle.std.proofs.Common.{inl, inr, refl}
 use Rattle.extent_groups.proofs.Sites.{site_places}
 use Rattle.extent_groups.proofs.StoreCalls.{read_keeps}
 use Rattle.mirrored_store.proofs.read.Goals as goal

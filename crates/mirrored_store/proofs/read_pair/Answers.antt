@@ -1,4 +1,4 @@
-use Rattle.std.proofs.Common.{length, ◌≡◌, subst, sym}
+use Rattle.std.proofs.Common.{subst, sym}
 use Rattle.extent_groups.specs.Calls.{AreSized}
 use Rattle.extent_groups.proofs.DriveCalls.{keeps_sizes, keeps_trans}
 use Rattle.mirrored_store.proofs.read_pair.Goals as goal

@@ -1,5 +1,4 @@
-use Rattle.std.proofs.Common.{length, ◌≡◌, inl, inr, refl}
-use Rattle.extent_groups.specs.Units.{Pair}
+use Rattle.std.proofs.Common.{inl, inr, refl}
 use Rattle.extent_groups.proofs.Sites.{site_places}
 use Rattle.extent_groups.proofs.StoreCalls.{write_keeps, site_whole}
 use Rattle.mirrored_store.proofs.write.Goals as goal

@@ -1,4 +1,4 @@
-use Rattle.std.proofs.Common.{length, ◌≡◌, inl, inr}
+use Rattle.std.proofs.Common.{inl, inr}
 use Rattle.extent_groups.proofs.DriveCalls.{keeps_sizes, keeps_trans, keeps_more, cells_sized}
 use Rattle.extent_groups.proofs.SlotWrites.{pair_leaves}
 use Rattle.mirrored_store.proofs.write_pair.Goals as goal
