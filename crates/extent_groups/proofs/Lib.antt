@@ -16,3 +16,4 @@ pub mod RowWrites
 pub mod Sites
 pub mod SlotWrites
 pub mod StoreCalls
+pub mod Readiness

@@ -1,5 +1,5 @@
 -- What both stores say: when a call may come, what it leaves of every slot, and what it may touch of the drives.
-use Rattle.std.specs.Prelude.{◌≡◌, ◌≢◌, ℕ, ◌+◌, ◌*◌, ◌/◌, ◌%◌, ◌<◌, ◌⊎◌, Option, Some, None, List, length, slice_get}
+use Rattle.std.specs.Prelude.{Bool, ◌≡◌, ◌≢◌, ℕ, ◌+◌, ◌*◌, ◌/◌, ◌%◌, ◌<◌, ◌⊎◌, Option, Some, None, List, length, slice_get}
 use Rattle.extents.specs.Sizes.{extent_units}
 use Rattle.extents.specs.declared.shape.TheConstants.{HEADER_BYTES}
 use Rattle.extent_groups.specs.declared.class.Class.{Class}
@@ -8,7 +8,7 @@ use Rattle.extent_groups.specs.declared.place.Place.{Place}
 use Rattle.extent_groups.specs.declared.refusal.StoreRefusal.{StoreRefusal}
 use Rattle.extent_groups.specs.declared.refusal.StoreRefusal.TheVariants.{Gone}
 use Rattle.extent_groups.specs.Groups.{Groups, group_at, class_in, slots_in, members_of}
-use Rattle.extent_groups.specs.Cells.{Cells}
+use Rattle.extent_groups.specs.Cells.{Cells, cells}
 use Rattle.extent_groups.specs.Calls.{AreSized}
 use Rattle.extent_groups.specs.Units.{Site, Pair, InStripe, site_of, unit_at, effective_unit, IsSoundAt, IsSound}
 use Rattle.extent_groups.specs.Layout.{IsApart, AreBeside, IsWhole}
@@ -35,6 +35,11 @@ pub record AreDrives {D : Type 0} (units : D → List (List ℕ)) (groups : Grou
   pub many : (d : ℕ) (x : D) → slice_get drives d ≡ Some x → length (units x) ≡ groups.extents * extent_units groups.segments
   pub sized : AreSized units (unit_bytes groups) drives
   pub there : (g k : ℕ) (m : Member) → slice_get (members_of groups g) k ≡ Some m → (m.drive < length drives) × (m.extent < groups.extents)
+
+-- the stores may be called: the drives are those of the groups, and every slot is sound
+pub record IsReady {D : Type 0} (units : D → List (List ℕ)) (lost : D → Bool) (groups : Groups) (drives : List D) : Type 0 where
+  pub drives_are : AreDrives units groups drives
+  pub sound : AreSound groups (cells units lost drives)
 
 -- each slot's effective unit that exists afterwards is what it was
 abbrev pub KeepsUnits : Groups → Cells → Cells → Type 0

@@ -5,6 +5,8 @@ mod difference;
 mod exclusive_or;
 mod others;
 mod stripe;
+#[cfg(test)]
+mod tests;
 
 ghost use Rattle.std.specs.Prelude.{◌≡◌, ◌*◌, length, Some, OnOk, IfErr};
 ghost use Rattle.extent_groups.specs.declared.class.Class.TheVariants.{Parity};
