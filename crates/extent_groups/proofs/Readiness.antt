@@ -1,8 +1,11 @@
 -- New drives are ready for the stores under any groups that agree with the owners, and losses from outside keep them so.
-use Rattle.std.proofs.Common.{◌≡◌, ◌≢◌, ℕ, zero, suc, ◌+◌, ◌*◌, ◌<◌, ◌≤◌, ◌⊎◌, inl, inr, Bool, true, false, Option, Some, None, List, [], ◌∷◌, ◌++◌, length, refl, sym, ◌∙◌, ap, subst, arith, get_or, if◌then◌else◌}
+use Rattle.std.proofs.Common.{◌≡◌, ℕ, zero, suc, ◌*◌, ◌<◌, ◌≤◌, ◌⊎◌, inl, inr, Bool, true, false, Option, Some, None, List, [], ◌∷◌, ◌++◌, length, refl, sym, ◌∙◌, ap, subst, arith, if◌then◌else◌}
 use Rattle.std.specs.Prelude.{slice_get, slice_set, replicate}
 use Rattle.std.proofs.lemmas.List.{length-set, length-replicate}
-use Rattle.std.proofs.lemmas.Option.{same_Some, none-some, slice_get-get_or, slice_get_within}
+use Rattle.std.proofs.lemmas.Option.{same_Some, none-some}
+use Rattle.extents.specs.declared.mem_drive.Condition.{Condition}
+use Rattle.extents.specs.declared.mem_drive.Condition.TheVariants.{Present, Fused, Lost, Burnt}
+use Rattle.extents.specs.Condition.{is_gone, after_fuse, after_loss}
 use Rattle.extents.specs.Owners.{Owners, with_owner}
 use Rattle.extents.specs.Sizes.{extent_units}
 use Rattle.extents.specs.Units.{IsSized, zero_units}
@@ -13,12 +16,11 @@ use Rattle.extent_groups.specs.Cells.{Cells, cell, cells, held}
 use Rattle.extent_groups.specs.Units.{Site, Pair, InStripe, plus, add, total, row_of, held_in, IsSoundAt}
 use Rattle.extent_groups.specs.Calls.{FadesAt}
 use Rattle.extent_groups.specs.Layout.{IsLayout}
-use Rattle.extent_groups.specs.Stores.{unit_bytes, AreSound, AreDrives, IsReady}
+use Rattle.extent_groups.specs.Stores.{unit_bytes, IsReady}
 use Rattle.extent_groups.proofs.Places.{get-set_same, get-set_other, same_or_not}
 use Rattle.extent_groups.proofs.Fresh.{or_none}
 use Rattle.extent_groups.proofs.ExclusiveOr.{plus-zeros}
 use Rattle.extent_groups.proofs.Totals.{Row}
-use Rattle.extent_groups.proofs.DriveCalls.{cells_sized}
 use Rattle.extent_groups.proofs.SlotWrites.{slots_fade}
 use Rattle.extent_groups.proofs.StoreCalls.{sized_cells}
 
@@ -37,7 +39,6 @@ zero_unit size count at u e = elim (or_none count (replicate size 0) at) [
   | inl is ↦ same_Some u (replicate size 0) (sym e ∙ is)
   | inr past ↦ absurd (none-some u (sym past ∙ e))
 ]
-
 
 lost_blank : {D : Type 0} (units : D → List (List ℕ)) (n : ℕ) (b : Bool) (x : D) (at : ℕ) → ((u : List ℕ) → slice_get (units x) at ≡ Some u → u ≡ replicate n 0)
     → (u : List ℕ) → (if b then None else slice_get (units x) at) ≡ Some u → u ≡ replicate n 0
@@ -134,3 +135,16 @@ each_more P [] y h p zero x e = subst P (same_Some y x e) p
 each_more P [] y h p (suc d) x e = absurd (none-some x e)
 each_more P (z ∷ xs) y h p zero x e = h 0 x e
 each_more P (z ∷ xs) y h p (suc d) x e = each_more P xs y (λ k w f. h (suc k) w f) p d x e
+
+-- a fuse and a loss from outside bring no drive back
+pub fused_stays : (c : Condition) (n : ℕ) → is_gone c ≡ true → is_gone (after_fuse c n) ≡ true
+fused_stays Present n e = absurd (let both : false ≡ true = e in cc)
+fused_stays (Fused k) n e = absurd (let both : false ≡ true = e in cc)
+fused_stays Lost n e = refl
+fused_stays Burnt n e = refl
+
+pub lost_stays : (c : Condition) → is_gone c ≡ true → is_gone (after_loss c) ≡ true
+lost_stays Present e = refl
+lost_stays (Fused k) e = refl
+lost_stays Lost e = refl
+lost_stays Burnt e = refl

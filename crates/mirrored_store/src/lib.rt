@@ -1,6 +1,9 @@
 //! Reads and writes of mirrored slots: each lies in two copies, on two drives.
 #![tactic(auto)]
 
+#[cfg(test)]
+mod tests;
+
 ghost use Rattle.std.specs.Prelude.{◌≡◌, ◌≢◌, ◌*◌, length, Some, OnOk, IfErr};
 ghost use Rattle.extent_groups.specs.declared.class.Class.TheVariants.{Mirrored};
 ghost use Rattle.extent_groups.specs.Cells.{cells};
