@@ -17,7 +17,7 @@ get-replicate (suc n) x zero h = refl
 get-replicate (suc n) x (suc i) h = get-replicate n x i (omega arith)
 
 -- one of several copies or none
-or_none : {X : Type 0} (n : ℕ) (x : X) (i : ℕ) → (slice_get (replicate n x) i ≡ Some x) ⊎ (slice_get (replicate n x) i ≡ None)
+pub or_none : {X : Type 0} (n : ℕ) (x : X) (i : ℕ) → (slice_get (replicate n x) i ≡ Some x) ⊎ (slice_get (replicate n x) i ≡ None)
 or_none zero x i = inr refl
 or_none (suc n) x zero = inl refl
 or_none (suc n) x (suc i) = or_none n x i

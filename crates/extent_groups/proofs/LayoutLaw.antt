@@ -12,26 +12,26 @@ use Rattle.extent_groups.specs.declared.class.Member.{Member}
 use Rattle.extent_groups.specs.declared.geometry.Spot.{Spot}
 use Rattle.extent_groups.specs.Geometry.{slot_count, copies_of, stripe_of, copy_index, stripe_index, parity_of}
 use Rattle.extent_groups.specs.Groups.{Group, Groups, group_at, members_in, IsFormed, AreGroups}
-use Rattle.extent_groups.specs.Cells.{Place}
+use Rattle.extent_groups.specs.declared.place.Place.{Place}
 use Rattle.extent_groups.specs.Units.{Site, place_of, place_at, site_in, site_of_index}
 use Rattle.extent_groups.specs.Layout.{IsOf, IsApart, AreBeside, IsWhole, IsLayout}
 use Rattle.extent_groups.proofs.Places.{same_or_not}
 use Rattle.extent_groups.proofs.GeometryLaws.{copies_law, stripe_law}
 
 -- what the number and the offset of one of a site's places tell of the index: all of it, or the offset of its stripe
-Tie : Class → ℕ → ℕ → ℕ → ℕ → Type 0
+pub Tie : Class → ℕ → ℕ → ℕ → ℕ → Type 0
 Tie Mirrored n i k o = copy_index n (record { member = k; offset = o }) ≡ i
 Tie Parity n i k o = o ≡ (stripe_of n i).offset
 
 -- a place is that of an offset of one of the members
-record Lies (s : ℕ) (class : Class) (ms : List Member) (i : ℕ) (x : Place) : Type 0 where
-  number : ℕ
-  offset : ℕ
-  member : Member
-  there : slice_get ms number ≡ Some member
-  low : offset < 2 * s
-  is : x ≡ place_of s offset member
-  tie : Tie class (length ms) i number offset
+pub record Lies (s : ℕ) (class : Class) (ms : List Member) (i : ℕ) (x : Place) : Type 0 where
+  pub number : ℕ
+  pub offset : ℕ
+  pub member : Member
+  pub there : slice_get ms number ≡ Some member
+  pub low : offset < 2 * s
+  pub is : x ≡ place_of s offset member
+  pub tie : Tie class (length ms) i number offset
 
 any_member : Member
 any_member = record { drive = 0; extent = 0 }
@@ -42,7 +42,7 @@ place_is s ms k o h =
     get_or_from_slice_get (map (place_of s o) ms) k (place_of s o (get_or ms k any_member)) _
     (slice_get-map (place_of s o) ms k ∙ ap (option_map (place_of s o)) (slice_get-get_or ms k any_member h))
 
-lies : (s : ℕ) (class : Class) (ms : List Member) (i : ℕ) (x : Place) → 2 ≤ length ms → i < slot_count class (length ms) s → IsOf (site_in s class ms i) x → Lies s class ms i x
+pub lies : (s : ℕ) (class : Class) (ms : List Member) (i : ℕ) (x : Place) → 2 ≤ length ms → i < slot_count class (length ms) s → IsOf (site_in s class ms i) x → Lies s class ms i x
 unfolding Tie
 lies s Mirrored ms i x two h (inl e) =
     let law = copies_law (length ms) s i two h in
@@ -132,11 +132,11 @@ in_group s Parity ms i j formed ne hi hj =
     ]
 
 -- what a slot with a site is: an index of a group that is made
-record IsSlot (s : ℕ) (o : Option Group) (i : ℕ) (a : Site) : Type 0 where
-  group : Group
-  made : o ≡ Some group
-  below : i < slot_count group.class (length group.members) s
-  site : site_in s group.class group.members i ≡ a
+pub record IsSlot (s : ℕ) (o : Option Group) (i : ℕ) (a : Site) : Type 0 where
+  pub group : Group
+  pub made : o ≡ Some group
+  pub below : i < slot_count group.class (length group.members) s
+  pub site : site_in s group.class group.members i ≡ a
 
 chosen : {X : Type 0} (b : Bool) (x y : X) → (if b then Some x else None) ≡ Some y → (b ≡ true) × (x ≡ y)
 chosen true x y e = (refl, same_Some x y e)
@@ -145,7 +145,7 @@ chosen false x y e = absurd (let both : None ≡ Some y = e in cc)
 is_below : (a b : ℕ) → nat_lt a b ≡ true → a < b
 is_below a b e = grind (arith, nat_tests)
 
-slot_of : (s : ℕ) (o : Option Group) (i : ℕ) (a : Site) → site_of_index s o i ≡ Some a → IsSlot s o i a
+pub slot_of : (s : ℕ) (o : Option Group) (i : ℕ) (a : Site) → site_of_index s o i ≡ Some a → IsSlot s o i a
 slot_of s None i a e = absurd (let both : None ≡ Some a = e in cc)
 slot_of s (Some group) i a e =
     let both = chosen (nat_lt i (slot_count group.class (length group.members) s)) (site_in s group.class group.members i) a e in

@@ -8,3 +8,12 @@ pub mod Agreement
 pub mod Swapping
 pub mod Keeping
 pub mod LayoutLaw
+pub mod ExclusiveOr
+pub mod Totals
+pub mod DriveCalls
+pub mod Fading
+pub mod RowWrites
+pub mod Sites
+pub mod SlotWrites
+pub mod StoreCalls
+pub mod Readiness

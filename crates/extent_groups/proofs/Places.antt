@@ -17,6 +17,12 @@ get-set_other (y ∷ ys) zero (suc j) x h = refl
 get-set_other (y ∷ ys) (suc i) zero x h = refl
 get-set_other (y ∷ ys) (suc i) (suc j) x h = get-set_other ys i j x (λ e. h (ap (λ n. suc n) e))
 
+-- a place that is written is there, or the list is as it was
+pub written_or_not : {X : Type 0} (xs : List X) (i : ℕ) (x : X) → (slice_get (slice_set xs i x) i ≡ Some x) ⊎ (slice_set xs i x ≡ xs)
+written_or_not [] i x = inr refl
+written_or_not (y ∷ ys) zero x = inl refl
+written_or_not (y ∷ ys) (suc i) x = elim (written_or_not ys i x) [ inl e ↦ inl e | inr e ↦ inr (ap (λ zs. y ∷ zs) e) ]
+
 -- two numbers are one or not
 pub same_or_not : (i j : ℕ) → (i ≡ j) ⊎ (i ≢ j)
 same_or_not i j = elim (cases_order i j) [ inl e ↦ inl e | inr o ↦ inr (elim o [ inl below ↦ λ e. omega arith | inr above ↦ λ e. omega arith ]) ]

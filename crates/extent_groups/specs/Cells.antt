@@ -1,5 +1,6 @@
 -- What the drives hold, as one function from drive and address to a unit; a lost drive holds none.
 use Rattle.std.specs.Prelude.{ℕ, Bool, Option, Some, None, List, slice_get, if◌then◌else◌}
+use Rattle.extent_groups.specs.declared.place.Place.{Place}
 
 -- a unit, or none, for each drive and address
 abbrev pub Cells : Type 0
@@ -13,11 +14,6 @@ cell units lost (Some drive) at = if lost drive then None else slice_get (units 
 -- what the drives hold
 abbrev pub cells : {D : Type 0} → (D → List (List ℕ)) → (D → Bool) → List D → Cells
 cells units lost drives drive at = cell units lost (slice_get drives drive) at
-
--- an address on a drive
-pub record Place : Type 0 where
-  pub drive : ℕ
-  pub address : ℕ
 
 -- what a place holds
 abbrev pub held : Cells → Place → Option (List ℕ)

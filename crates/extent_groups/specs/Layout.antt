@@ -1,6 +1,6 @@
 -- Which places a site has, and that the sites of different slots keep apart.
 use Rattle.std.specs.Prelude.{◌≡◌, ◌≢◌, ℕ, ◌<◌, ◌⊎◌, Some, length, slice_get}
-use Rattle.extent_groups.specs.Cells.{Place}
+use Rattle.extent_groups.specs.declared.place.Place.{Place}
 use Rattle.extent_groups.specs.Groups.{Groups}
 use Rattle.extent_groups.specs.Units.{Site, Pair, InStripe, site_of}
 

@@ -5,3 +5,5 @@ pub mod Cells
 pub mod Units
 pub mod Kept
 pub mod Layout
+pub mod Calls
+pub mod Stores

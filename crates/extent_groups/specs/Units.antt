@@ -7,7 +7,8 @@ use Rattle.extent_groups.specs.declared.class.Class.TheVariants.{Mirrored, Parit
 use Rattle.extent_groups.specs.declared.class.Member.{Member}
 use Rattle.extent_groups.specs.Geometry.{slot_count, copies_of, stripe_of}
 use Rattle.extent_groups.specs.Groups.{Group, Groups, group_at}
-use Rattle.extent_groups.specs.Cells.{Cells, Place, held}
+use Rattle.extent_groups.specs.declared.place.Place.{Place}
+use Rattle.extent_groups.specs.Cells.{Cells, held}
 
 -- where a slot lies: in two places, or on one member of a row whose parity is on another
 pub data Site : Type 0 where
@@ -65,6 +66,10 @@ IsSoundAt bytes c (InStripe places parity i) = (v : List ℕ) → total bytes (l
 abbrev pub place_of : ℕ → ℕ → Member → Place
 place_of segments offset m = record { drive = m.drive; address = unit_address segments m.extent offset }
 
+-- the places at an offset of all members
+abbrev pub places_of : ℕ → List Member → ℕ → List Place
+places_of segments members offset = map (place_of segments offset) members
+
 -- the place at an offset of a member, by its number; any one where there is no such member
 abbrev pub place_at : ℕ → List Member → ℕ → ℕ → Place
 place_at segments members k offset = slice_index_or (map (place_of segments offset) members) k (record { drive = 0; address = 0 })
@@ -76,7 +81,7 @@ site_in segments Mirrored members i =
     Pair (place_at segments members copies.first.member copies.first.offset) (place_at segments members copies.second.member copies.second.offset)
 site_in segments Parity members i =
     let at = stripe_of (length members) i in
-    InStripe (map (place_of segments at.offset) members) at.parity at.member
+    InStripe (places_of segments members at.offset) at.parity at.member
 
 -- where an index of what may be a group lies, if it is one of its slots
 abbrev pub site_of_index : ℕ → Option Group → ℕ → Option Site

@@ -6,6 +6,7 @@ mod cases;
 mod change;
 mod class;
 mod geometry;
+mod place;
 mod refusal;
 mod table;
 #[cfg(test)]
@@ -13,5 +14,6 @@ mod tests;
 
 pub use class::{Class, Member};
 pub use geometry::{Copies, Spot, Stripe};
-pub use refusal::GroupRefusal;
-pub use table::{GROUPS, GroupTable};
+pub use place::{Place, read_place, write_place};
+pub use refusal::{GroupRefusal, StoreRefusal};
+pub use table::{GROUPS, GroupTable, SLOTS};

@@ -15,3 +15,10 @@ pub enum GroupRefusal {
     /// More than eight members.
     TooMany = 6,
 }
+
+/// Why a store couldn't read or write a slot.
+#[derive(Clone, Copy, Debug, PartialEq, Eq)]
+pub enum StoreRefusal {
+    /// The slot's unit can't be had or kept: too many drives of its group are lost.
+    Gone(u16),
+}

@@ -1,14 +1,17 @@
 // The groups by number.
-ghost use Rattle.std.specs.Prelude.{◌≡◌, ◌↔◌, IsTrue, ℕ, ◌+◌, ◌<◌, ◌≤◌, Bool, length, Some, None, IfOk, OnOk, OnErr, IfErr, MatchOption, OnSome, slice_get, replicate};
+ghost use Rattle.std.specs.Prelude.{◌≡◌, ◌↔◌, IsTrue, ℕ, ◌+◌, ◌/◌, ◌<◌, ◌≤◌, Bool, length, Some, None, IfOk, OnOk, OnErr, IfErr, MatchOption, OnSome, slice_get, replicate};
 ghost use Rattle.extent_groups.specs.Geometry.{slot_count, copies_of, stripe_of, AreCopies, IsStripe};
 
-use crate::{Class, Copies, Member, Stripe, geometry};
+use crate::{Class, Copies, Member, Place, Stripe, geometry};
 use extents::Shape;
 use std::alloc::{AllocError, Global};
 use std::marker::Model;
 
 /// How many numbers there are for groups.
 pub const GROUPS: usize = 512;
+
+/// Slot numbers of each group.
+pub const SLOTS: u16 = 128;
 
 /// A group that is made.
 #[derive(Drop)]
@@ -66,7 +69,10 @@ impl GroupTable {
     ghost use Rattle.extents.specs.Owners.{all_free};
     ghost use Rattle.extent_groups.specs.Groups.{group_at, class_in, slots_in, members_of, AreGroups, Agree, IsFree};
     ghost use Rattle.extent_groups.specs.Kept.{group_of};
+    ghost use Rattle.extents.specs.Sizes.{extent_units};
     ghost use Rattle.extent_groups.specs.Layout.{IsLayout};
+    ghost use Rattle.extent_groups.specs.Units.{Pair, InStripe, site_of, places_of};
+    ghost use Rattle.extent_groups.specs.Stores.{IsSlotOf};
     ghost use Rattle.extent_groups.specs.declared.class.Class.TheVariants.{Mirrored, Parity};
 
     /// A table of this shape, without groups; refused where memory is out.
@@ -148,6 +154,44 @@ impl GroupTable {
         ensures law { AreCopies (length (members_of self.now group)) self.now.segments index result }
     {
         geometry::two_copies(self.members(group).len() as u8, index)
+    }
+
+    /// The place at an offset of a group's member.
+    pub fn place(&self, group: u16, member: u8, offset: u16) -> Place
+        requires member { member < length (members_of self.now group) }
+        requires offset { offset < extent_units self.now.segments }
+        ensures place { slice_get (places_of self.now.segments (members_of self.now group) offset) member ≡ Some result }
+        ensures groups { AreGroups self.now }
+    {
+        let member = self.members(group)[member as usize];
+        Place {
+            drive: member.drive,
+            address: self.shape.unit_address(member.extent, offset),
+        }
+    }
+
+    /// The two places of a mirrored slot.
+    pub fn pair_of(&self, slot: u16) -> (Place, Place)
+        requires { IsSlotOf Mirrored self.now slot }
+        ensures site { site_of self.now slot ≡ Some (Pair result.0 result.1) }
+        ensures groups { AreGroups self.now }
+    {
+        let group = slot / SLOTS;
+        let at = self.copies(group, slot % SLOTS);
+        let first = self.place(group, at.first.member, at.first.offset);
+        let second = self.place(group, at.second.member, at.second.offset);
+        (first, second)
+    }
+
+    /// The stripe of a parity slot.
+    pub fn row_of(&self, slot: u16) -> Stripe
+        requires { IsSlotOf Parity self.now slot }
+        ensures site { site_of self.now slot ≡ Some (InStripe (places_of self.now.segments (members_of self.now (slot / 128)) result.offset) result.parity result.member) }
+        ensures inside { (result.offset < extent_units self.now.segments) × (length (members_of self.now (slot / 128)) ≤ 8) }
+        ensures groups { AreGroups self.now }
+    {
+        let _members = self.members(slot / SLOTS);
+        self.stripe_of(slot / SLOTS, slot % SLOTS)
     }
 
     /// Where a parity slot lies, and the parity of its offset.

@@ -1,4 +1,3 @@
-use Rattle.std.proofs.Common.{◌≡◌}
 use Rattle.extent_groups.proofs.tests.a_group_is_made_swapped_and_unmade.Goals as goal
 
 pub put-requires : goal.put-requires

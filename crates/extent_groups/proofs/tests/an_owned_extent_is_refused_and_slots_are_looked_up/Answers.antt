@@ -1,4 +1,3 @@
-use Rattle.std.proofs.Common.{◌≡◌}
 use Rattle.extent_groups.proofs.tests.an_owned_extent_is_refused_and_slots_are_looked_up.Goals as goal
 
 pub put-requires : goal.put-requires

@@ -1,0 +1,21 @@
+use Rattle.std.proofs.Common.{ap, ◌∙◌, sym}
+use Rattle.std.specs.Prelude.{not}
+use Rattle.std.proofs.lemmas.Option.{slice_get-get_or}
+use Rattle.extent_groups.proofs.DriveCalls.{told_ok, is_err-not, did_read, keeps_one, kept_read}
+use Rattle.extent_groups.proofs.place.read_place.Goals as goal
+
+pub returns-clause-read : goal.returns-clause-read
+returns-clause-read g c =
+    let there = slice_get-get_or c.args.drives.now c.args.place.drive c.index-drives-place.result c.requires.inside in
+    did_read g.D.Drive.units g.D.Drive.lost g.D.Drive.failures c.args.drives.now c.args.place _ _ c.read_unit.new.unit c.is_ok.result c.requires.inside there
+    (record { lost_is = c.read_unit.ensures.lost ∙ is_err-not c.read_unit.result ∙ ap not (sym c.is_ok.ensures.value); stays = c.read_unit.ensures.stays; count = c.read_unit.ensures.count })
+    c.read_unit.ensures.units
+    (λ e. told_ok c.read_unit.result c.read_unit.ensures.read (sym c.is_ok.ensures.value ∙ e))
+
+pub returns-clause-drives : goal.returns-clause-drives
+returns-clause-drives g c =
+    let there = slice_get-get_or c.args.drives.now c.args.place.drive c.index-drives-place.result c.requires.inside in
+    keeps_one _ _ _ _ c.args.drives.now c.args.place.drive _ _ c.requires.inside there
+    (kept_read g.D.Drive.units g.D.Drive.lost g.D.Drive.failures c.args.place _ _ c.is_ok.result
+    (record { lost_is = c.read_unit.ensures.lost ∙ is_err-not c.read_unit.result ∙ ap not (sym c.is_ok.ensures.value); stays = c.read_unit.ensures.stays; count = c.read_unit.ensures.count })
+    c.read_unit.ensures.units)

@@ -1,0 +1,73 @@
+-- What both stores say: when a call may come, what it leaves of every slot, and what it may touch of the drives.
+use Rattle.std.specs.Prelude.{Bool, ◌≡◌, ◌≢◌, ℕ, ◌+◌, ◌*◌, ◌/◌, ◌%◌, ◌<◌, ◌⊎◌, Option, Some, None, List, length, slice_get}
+use Rattle.extents.specs.Sizes.{extent_units}
+use Rattle.extents.specs.declared.shape.TheConstants.{HEADER_BYTES}
+use Rattle.extent_groups.specs.declared.class.Class.{Class}
+use Rattle.extent_groups.specs.declared.class.Member.{Member}
+use Rattle.extent_groups.specs.declared.place.Place.{Place}
+use Rattle.extent_groups.specs.declared.refusal.StoreRefusal.{StoreRefusal}
+use Rattle.extent_groups.specs.declared.refusal.StoreRefusal.TheVariants.{Gone}
+use Rattle.extent_groups.specs.Groups.{Groups, group_at, class_in, slots_in, members_of}
+use Rattle.extent_groups.specs.Cells.{Cells, cells}
+use Rattle.extent_groups.specs.Calls.{AreSized}
+use Rattle.extent_groups.specs.Units.{Site, Pair, InStripe, site_of, unit_at, effective_unit, IsSoundAt, IsSound}
+use Rattle.extent_groups.specs.Layout.{IsApart, AreBeside, IsWhole}
+
+-- bytes of a unit: its header and its payload
+abbrev pub unit_bytes : Groups → ℕ
+unit_bytes groups = HEADER_BYTES + groups.payload
+
+-- the effective unit of a slot of these groups
+abbrev pub unit_of : Groups → Cells → ℕ → Option (List ℕ)
+unit_of groups c slot = effective_unit (unit_bytes groups) groups c slot
+
+-- every slot of these groups is sound
+abbrev pub AreSound : Groups → Cells → Type 0
+AreSound groups c = IsSound (unit_bytes groups) groups c
+
+-- a slot of a made group of this class
+pub record IsSlotOf (class : Class) (groups : Groups) (slot : ℕ) : Type 0 where
+  pub made : class_in (group_at groups (slot / 128)) ≡ Some class
+  pub below : slot % 128 < slots_in groups.segments (group_at groups (slot / 128))
+
+-- every drive has the units of the array's sizes, and every member of a group is an extent of one of the drives
+pub record AreDrives {D : Type 0} (units : D → List (List ℕ)) (groups : Groups) (drives : List D) : Type 0 where
+  pub many : (d : ℕ) (x : D) → slice_get drives d ≡ Some x → length (units x) ≡ groups.extents * extent_units groups.segments
+  pub sized : AreSized units (unit_bytes groups) drives
+  pub there : (g k : ℕ) (m : Member) → slice_get (members_of groups g) k ≡ Some m → (m.drive < length drives) × (m.extent < groups.extents)
+
+-- the stores may be called: the drives are those of the groups, and every slot is sound
+pub record IsReady {D : Type 0} (units : D → List (List ℕ)) (lost : D → Bool) (groups : Groups) (drives : List D) : Type 0 where
+  pub drives_are : AreDrives units groups drives
+  pub sound : AreSound groups (cells units lost drives)
+
+-- each slot's effective unit that exists afterwards is what it was
+abbrev pub KeepsUnits : Groups → Cells → Cells → Type 0
+KeepsUnits groups c new = (slot : ℕ) (unit : List ℕ) → unit_of groups new slot ≡ Some unit → unit_of groups c slot ≡ Some unit
+
+-- the same of every slot but one
+abbrev pub KeepsOthers : Groups → Cells → Cells → ℕ → Type 0
+KeepsOthers groups c new slot = (other : ℕ) (unit : List ℕ) → other ≢ slot → unit_of groups new other ≡ Some unit → unit_of groups c other ≡ Some unit
+
+-- a refusal names the slot, whose effective unit doesn't exist
+abbrev pub IsGone : Groups → Cells → ℕ → StoreRefusal → Type 0
+IsGone groups c slot refusal = (refusal ≡ Gone slot) × (unit_of groups c slot ≡ None)
+
+-- the places that a write of a site may touch: both copies, or the member's and the parity's
+abbrev pub IsOwn : Site → Place → Type 0
+IsOwn (Pair p q) x = (x ≡ p) ⊎ (x ≡ q)
+IsOwn (InStripe row parity i) x = (slice_get row i ≡ Some x) ⊎ (slice_get row parity ≡ Some x)
+
+-- the places that a write of a slot may touch
+abbrev pub IsOwnOf : Groups → ℕ → Place → Type 0
+IsOwnOf groups slot x = (site : Site) × (site_of groups slot ≡ Some site) × IsOwn site x
+
+-- a site's effective unit that exists afterwards is what it was, and it is sound afterwards
+pub record KeepsAt (bytes : ℕ) (c new : Cells) (t : Site) : Type 0 where
+  pub unit : (v : List ℕ) → unit_at bytes new t ≡ Some v → unit_at bytes c t ≡ Some v
+  pub sound : IsSoundAt bytes new t
+
+-- what a write of a sound site leaves: it is sound, and every sound site beside it or apart from it is kept
+pub record LeavesSites (bytes : ℕ) (c new : Cells) (site : Site) : Type 0 where
+  pub sound : IsSoundAt bytes new site
+  pub others : (t : Site) → IsWhole t → IsApart site t ⊎ AreBeside site t → IsSoundAt bytes c t → KeepsAt bytes c new t

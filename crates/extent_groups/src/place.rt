@@ -1,0 +1,40 @@
+// Where a unit lies, and the two calls by which stores reach a drive.
+ghost use Rattle.std.specs.Prelude.{◌<◌, length};
+ghost use Rattle.extent_groups.specs.Cells.{cells};
+ghost use Rattle.extent_groups.specs.Calls.{AreSized, IsPlace, DidRead, DidWrite, NoPlace, Only, KeepsDrives};
+
+use extents::Drive;
+
+/// A unit of one of the drives.
+#[derive(Clone, Copy, Debug, PartialEq, Eq)]
+pub struct Place {
+    pub drive: u8,
+    /// Counted in units, on its drive.
+    pub address: u32,
+}
+
+/// Reads the unit at a place; false where its drive is lost.
+pub fn read_place<D: Drive>(drives: &mut [D], place: Place, unit: &mut [u8]) -> bool
+    requires inside { place.drive < length drives.old }
+    requires place { IsPlace D.units drives.old place }
+    requires size { AreSized D.units (length unit.old) drives.old }
+    ensures read { DidRead (cells D.units D.lost drives.old) (cells D.units D.lost drives.new) place unit.new result }
+    ensures drives { KeepsDrives D.units D.lost D.failures NoPlace drives.old drives.new }
+{
+    drives[place.drive as usize]
+        .read_unit(place.address, unit)
+        .is_ok()
+}
+
+/// Writes the unit at a place; false where its drive is lost.
+pub fn write_place<D: Drive>(drives: &mut [D], place: Place, unit: &[u8]) -> bool
+    requires inside { place.drive < length drives.old }
+    requires place { IsPlace D.units drives.old place }
+    requires size { AreSized D.units (length unit.now) drives.old }
+    ensures written { DidWrite (cells D.units D.lost drives.old) (cells D.units D.lost drives.new) place unit.now result }
+    ensures drives { KeepsDrives D.units D.lost D.failures (Only place) drives.old drives.new }
+{
+    drives[place.drive as usize]
+        .write_unit(place.address, unit)
+        .is_ok()
+}

@@ -1,0 +1,23 @@
+use Rattle.std.proofs.Common.{inl, inr}
+use Rattle.extent_groups.proofs.DriveCalls.{keeps_sizes, keeps_trans, keeps_more, cells_sized}
+use Rattle.extent_groups.proofs.SlotWrites.{pair_leaves}
+use Rattle.mirrored_store.proofs.write_pair.Goals as goal
+
+pub write_place-two-requires-clause-size : goal.write_place-two-requires-clause-size
+write_place-two-requires-clause-size g c = keeps_sizes c.write_place-one.ensures.drives c.requires.size
+
+pub returns-then-one-clause-leaves : goal.returns-then-one-clause-leaves
+returns-then-one-clause-leaves g c =
+    pair_leaves _ _ _ _ _ _ _ c.write_place-one.result c.write_place-two.result c.requires.apart (cells_sized _ _ _ c.args.drives.now c.requires.size)
+    c.write_place-one.ensures.written c.write_place-two.ensures.written
+
+pub returns-then-one-clause-touched : goal.returns-then-one-clause-touched
+returns-then-one-clause-touched g c = keeps_trans (keeps_more (λ x e. inl e) c.write_place-one.ensures.drives) (keeps_more (λ x e. inr e) c.write_place-two.ensures.drives)
+
+pub returns-else-one-clause-leaves : goal.returns-else-one-clause-leaves
+returns-else-one-clause-leaves g c =
+    pair_leaves _ _ _ _ _ _ _ c.write_place-one.result c.write_place-two.result c.requires.apart (cells_sized _ _ _ c.args.drives.now c.requires.size)
+    c.write_place-one.ensures.written c.write_place-two.ensures.written
+
+pub returns-else-one-clause-touched : goal.returns-else-one-clause-touched
+returns-else-one-clause-touched g c = keeps_trans (keeps_more (λ x e. inl e) c.write_place-one.ensures.drives) (keeps_more (λ x e. inr e) c.write_place-two.ensures.drives)

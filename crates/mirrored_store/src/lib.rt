@@ -1,0 +1,99 @@
+//! Reads and writes of mirrored slots: each lies in two copies, on two drives.
+#![tactic(auto)]
+
+#[cfg(test)]
+mod tests;
+
+ghost use Rattle.std.specs.Prelude.{◌≡◌, ◌≢◌, ◌*◌, length, Some, OnOk, IfErr};
+ghost use Rattle.extent_groups.specs.declared.class.Class.TheVariants.{Mirrored};
+ghost use Rattle.extent_groups.specs.Cells.{cells};
+ghost use Rattle.extent_groups.specs.Units.{Pair, unit_at};
+ghost use Rattle.extent_groups.specs.Calls.{AreSized, IsPlace, FadesAt, if_ok, NoPlace, KeepsDrives};
+ghost use Rattle.extent_groups.specs.Stores.{unit_bytes, unit_of, AreSound, IsSlotOf, AreDrives, KeepsUnits, KeepsOthers, IsGone, IsOwn, IsOwnOf, LeavesSites};
+
+use extent_groups::{GroupTable, Place, StoreRefusal, read_place, write_place};
+use extents::Drive;
+
+/// Reads the first copy that is there; false where both are lost.
+fn read_pair<D: Drive>(drives: &mut [D], first: Place, second: Place, unit: &mut [u8]) -> bool
+    requires first { IsPlace D.units drives.old first }
+    requires second { IsPlace D.units drives.old second }
+    requires size { AreSized D.units (length unit.old) drives.old }
+    ensures unit { unit_at (length unit.new) (cells D.units D.lost drives.new) (Pair first second) ≡ if_ok result unit.new }
+    ensures fades { (x : Place) → FadesAt (cells D.units D.lost drives.old) (cells D.units D.lost drives.new) x }
+    ensures touched { KeepsDrives D.units D.lost D.failures NoPlace drives.old drives.new }
+{
+    if read_place(drives, first, unit) {
+        return true;
+    }
+    read_place(drives, second, unit)
+}
+
+/// Writes both copies, each where its drive is there; false where both are lost.
+fn write_pair<D: Drive>(drives: &mut [D], first: Place, second: Place, unit: &[u8]) -> bool
+    requires first { IsPlace D.units drives.old first }
+    requires second { IsPlace D.units drives.old second }
+    requires apart { first.drive ≢ second.drive }
+    requires size { AreSized D.units (length unit.now) drives.old }
+    ensures unit { unit_at (length unit.now) (cells D.units D.lost drives.new) (Pair first second) ≡ if_ok result unit.now }
+    ensures leaves { LeavesSites (length unit.now) (cells D.units D.lost drives.old) (cells D.units D.lost drives.new) (Pair first second) }
+    ensures touched { KeepsDrives D.units D.lost D.failures (IsOwn (Pair first second)) drives.old drives.new }
+{
+    let one = write_place(drives, first, unit);
+    let two = write_place(drives, second, unit);
+    one || two
+}
+
+/// Reads the effective unit of a slot; refused where both copies' drives are lost.
+pub fn read<D: Drive>(
+    groups: &GroupTable,
+    drives: &mut [D],
+    slot: u16,
+    unit: &mut [u8],
+    _scratch: &mut [u8],
+) -> Result<(), StoreRefusal>
+    requires slot { IsSlotOf Mirrored groups.now slot }
+    requires drives { AreDrives D.units groups.now drives.old }
+    requires unit { length unit.old ≡ unit_bytes groups.now }
+    requires scratch { length _scratch.old ≡ 2 * unit_bytes groups.now }
+    requires sound { AreSound groups.now (cells D.units D.lost drives.old) }
+    ensures ok { OnOk result (unit_of groups.now (cells D.units D.lost drives.new) slot ≡ Some unit.new) }
+    ensures gone { IfErr result (IsGone groups.now (cells D.units D.lost drives.new) slot) }
+    ensures units { KeepsUnits groups.now (cells D.units D.lost drives.old) (cells D.units D.lost drives.new) }
+    ensures sound { AreSound groups.now (cells D.units D.lost drives.new) }
+    ensures touched { KeepsDrives D.units D.lost D.failures NoPlace drives.old drives.new }
+    ensures drives { AreDrives D.units groups.now drives.new }
+{
+    let (first, second) = groups.pair_of(slot);
+    if read_pair(drives, first, second, unit) {
+        return Ok(());
+    }
+    Err(StoreRefusal::Gone(slot))
+}
+
+/// Writes the unit of a slot to the copies whose drives are there; refused where both are lost.
+pub fn write<D: Drive>(
+    groups: &GroupTable,
+    drives: &mut [D],
+    slot: u16,
+    unit: &[u8],
+    _scratch: &mut [u8],
+) -> Result<(), StoreRefusal>
+    requires slot { IsSlotOf Mirrored groups.now slot }
+    requires drives { AreDrives D.units groups.now drives.old }
+    requires unit { length unit.now ≡ unit_bytes groups.now }
+    requires scratch { length _scratch.old ≡ 2 * unit_bytes groups.now }
+    requires sound { AreSound groups.now (cells D.units D.lost drives.old) }
+    ensures ok { OnOk result (unit_of groups.now (cells D.units D.lost drives.new) slot ≡ Some unit.now) }
+    ensures gone { IfErr result (IsGone groups.now (cells D.units D.lost drives.new) slot) }
+    ensures others { KeepsOthers groups.now (cells D.units D.lost drives.old) (cells D.units D.lost drives.new) slot }
+    ensures sound { AreSound groups.now (cells D.units D.lost drives.new) }
+    ensures touched { KeepsDrives D.units D.lost D.failures (IsOwnOf groups.now slot) drives.old drives.new }
+    ensures drives { AreDrives D.units groups.now drives.new }
+{
+    let (first, second) = groups.pair_of(slot);
+    if write_pair(drives, first, second, unit) {
+        return Ok(());
+    }
+    Err(StoreRefusal::Gone(slot))
+}

@@ -1,0 +1,4 @@
+pub mod Mixed
+pub mod Differences
+pub mod Sums
+pub mod Stripes

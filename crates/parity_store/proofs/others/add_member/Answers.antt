@@ -1,0 +1,17 @@
+use Rattle.std.proofs.Common.{arith}
+use Rattle.std.proofs.lemmas.List.{length-map}
+use Rattle.extent_groups.specs.Groups.{members_of}
+use Rattle.extent_groups.specs.Units.{place_of}
+use Rattle.parity_store.proofs.Sums.{passed_first, passed_second, missed_one}
+use Rattle.parity_store.proofs.others.add_member.Goals as goal
+
+pub returns-then-number-others-clause-outcome : goal.returns-then-number-others-clause-outcome
+returns-then-number-others-clause-outcome g c = passed_first _ _ c.args.others.first c.args.others.second c.args.number c.args.sum.now c.if-number-others.true
+
+pub returns-then-number-others-2-clause-outcome : goal.returns-then-number-others-2-clause-outcome
+returns-then-number-others-2-clause-outcome g c = passed_second _ _ c.args.others.first c.args.others.second c.args.number c.args.sum.now c.if-number-others-2.true
+
+pub returns-then-not-read_place-clause-outcome : goal.returns-then-not-read_place-clause-outcome
+returns-then-not-read_place-clause-outcome g c =
+    let wide = length-map (members_of c.args.groups.now c.args.others.group) (place_of c.args.groups.now.segments c.args.others.offset) in
+    missed_one _ _ _ c.args.others.first c.args.others.second c.args.number c.place-place.result c.read_place.new.unit (omega (arith, wide, c.requires.number)) c.if-number-others.false c.if-number-others-2.false c.place-place.ensures.place c.if-not-read_place.ensures.read

@@ -1,0 +1,33 @@
+use Rattle.std.proofs.Common.{refl, sym, subst, ◌∙◌, ◌+◌, ap, Some}
+use Rattle.extent_groups.specs.Cells.{cells}
+use Rattle.extent_groups.specs.Units.{add, row_of}
+use Rattle.parity_store.specs.Ways.{bare, row_at}
+use Rattle.extent_groups.specs.Calls.{AreSized}
+use Rattle.extent_groups.proofs.DriveCalls.{keeps_none, keeps_trans, keeps_place, keeps_sizes}
+use Rattle.parity_store.proofs.Sums.{sum_begun, sum_more}
+use Rattle.parity_store.proofs.others.add_others.Goals as goal
+
+pub loop-number-init : goal.loop-number-init
+loop-number-init g c = record {
+  same = λ x. refl;
+  sum = sum_begun c.args.sum.now (row_of (cells g.D.Drive.units g.D.Drive.lost c.args.drives.now) (row_at c.args.groups.now c.args.others.group c.args.others.offset)) c.args.others.first c.args.others.second;
+  touched = keeps_none c.args.drives.now;
+}
+
+pub add_member-requires-clause-row : goal.add_member-requires-clause-row
+add_member-requires-clause-row g c = λ k x at. keeps_place c.loop-number.invariant.touched (c.requires.row k x at)
+
+pub add_member-requires-clause-size : goal.add_member-requires-clause-size
+add_member-requires-clause-size g c =
+    subst (λ n. AreSized g.D.Drive.units n c.loop-number.drives) (sym c.loop-number.auto.sum) (keeps_sizes c.loop-number.invariant.touched c.requires.size)
+
+pub returns-then-not-add_member-clause-touched : goal.returns-then-not-add_member-clause-touched
+returns-then-not-add_member-clause-touched g c = keeps_trans c.loop-number.invariant.touched c.add_member.ensures.touched
+
+pub loop-number-preserved : goal.loop-number-preserved
+loop-number-preserved g c = record {
+  same = λ x. c.if-not-add_member.ensures.outcome.same x ∙ c.loop-number.invariant.same x;
+  sum = sum_more _ _ _ _ c.args.others.first c.args.others.second c.loop-number.number (c.loop-number.number + 1) c.args.sum.now c.loop-number.sum c.add_member.new.sum refl c.loop-number.invariant.same c.loop-number.invariant.sum
+      (ap (λ n. add (Some c.loop-number.sum) (bare n (row_of (cells g.D.Drive.units g.D.Drive.lost c.loop-number.drives) (row_at c.args.groups.now c.args.others.group c.args.others.offset)) c.args.others.first c.args.others.second c.loop-number.number)) (sym c.loop-number.auto.sum) ∙ c.if-not-add_member.ensures.outcome.sum);
+  touched = keeps_trans c.loop-number.invariant.touched c.add_member.ensures.touched;
+}

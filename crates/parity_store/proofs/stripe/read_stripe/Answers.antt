@@ -1,0 +1,25 @@
+use Rattle.std.proofs.Common.{length, sym, ◌∙◌, ap, subst}
+use Rattle.std.specs.Prelude.{replicate}
+use Rattle.extent_groups.specs.Cells.{cells}
+use Rattle.extent_groups.specs.Calls.{AreSized}
+use Rattle.extent_groups.proofs.DriveCalls.{keeps_trans, keeps_place, keeps_sizes}
+use Rattle.parity_store.specs.Ways.{row_at}
+use Rattle.parity_store.proofs.Stripes.{rebuilt, from_zeros}
+use Rattle.parity_store.proofs.stripe.read_stripe.Goals as goal
+
+pub add_others-requires-clause-row : goal.add_others-requires-clause-row
+add_others-requires-clause-row g c = λ k x at. keeps_place c.read_place.ensures.drives (c.requires.row k x at)
+
+pub add_others-requires-clause-size : goal.add_others-requires-clause-size
+add_others-requires-clause-size g c =
+    subst (λ n. AreSized g.D.Drive.units n c.read_place.new.drives) (sym (c.clear.auto.unit ∙ c.read_place.auto.unit)) (keeps_sizes c.read_place.ensures.drives c.requires.size)
+
+pub returns-clause-unit : goal.returns-clause-unit
+returns-clause-unit g c =
+    rebuilt (length c.args.unit.now) (cells g.D.Drive.units g.D.Drive.lost c.args.drives.now) (cells g.D.Drive.units g.D.Drive.lost c.read_place.new.drives) (cells g.D.Drive.units g.D.Drive.lost c.add_others.new.drives) (row_at c.args.groups.now c.args.group c.args.at.now.offset) c.args.at.now.parity c.args.at.now.member c.place-home.result c.read_place.new.unit c.add_others.new.sum c.add_others.result
+    c.requires.whole.0 c.place-home.ensures.place c.if-read_place.ensures.read
+    (from_zeros (length c.args.unit.now) (cells g.D.Drive.units g.D.Drive.lost c.read_place.new.drives) (cells g.D.Drive.units g.D.Drive.lost c.add_others.new.drives) (row_at c.args.groups.now c.args.group c.args.at.now.offset) c.args.at.now.member c.clear.new.unit c.add_others.new.sum c.add_others.result
+    (c.clear.ensures ∙ ap (λ n. replicate n 0) c.read_place.auto.unit) c.add_others.ensures.outcome)
+
+pub returns-clause-touched : goal.returns-clause-touched
+returns-clause-touched g c = keeps_trans c.read_place.ensures.drives c.add_others.ensures.touched

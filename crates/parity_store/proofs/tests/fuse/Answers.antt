@@ -1,0 +1,11 @@
+use Rattle.std.proofs.Common.{ap, ◌∙◌, get_or, arith}
+use Rattle.std.proofs.lemmas.Option.{slice_get-get_or}
+use Rattle.extents.specs.Condition.{is_gone}
+use Rattle.extent_groups.proofs.Readiness.{loss_keeps_ready, fused_stays}
+use Rattle.parity_store.proofs.tests.fuse.Goals as goal
+
+pub returns : goal.returns
+returns g c =
+    loss_keeps_ready _ _ c.args.groups.now c.args.drives.now c.args.drive (get_or c.args.drives.now c.args.drive c.index-drives-drive.result) c.fuse.new.self c.slots_of-slots.ensures.layout c.requires
+    (omega arith) (slice_get-get_or c.args.drives.now c.args.drive c.index-drives-drive.result (omega arith)) c.fuse.ensures.units
+    (λ e. ap is_gone c.fuse.ensures.condition ∙ fused_stays (get_or c.args.drives.now c.args.drive c.index-drives-drive.result).condition c.args.calls e)

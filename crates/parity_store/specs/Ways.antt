@@ -1,0 +1,62 @@
+-- The ways of a write: unit and parity by difference, the unit alone, the parity alone; and the exclusive or of the other members.
+use Rattle.std.specs.Prelude.{◌≡◌, ◌≢◌, ℕ, ◌<◌, ◌⊎◌, Option, Some, None, List, length, slice_get, replicate}
+use Rattle.extent_groups.specs.declared.place.Place.{Place}
+use Rattle.extent_groups.specs.Groups.{Groups, members_of}
+use Rattle.extent_groups.specs.Cells.{Cells, held}
+use Rattle.extent_groups.specs.Units.{plus, add, put, total, row_of, places_of}
+use Rattle.extent_groups.specs.Calls.{FadesAt, IsPlace}
+
+-- the places at an offset of all members
+abbrev pub row_at : Groups → ℕ → ℕ → List Place
+row_at groups group offset = places_of groups.segments (members_of groups group) offset
+
+-- each place of a row is one of the drives'
+abbrev pub IsRow : {D : Type 0} → (D → List (List ℕ)) → List D → List Place → Type 0
+IsRow units drives row = (k : ℕ) (x : Place) → slice_get row k ≡ Some x → IsPlace units drives x
+
+-- a row in which two members count as zeros
+abbrev pub bare : ℕ → (ℕ → Option (List ℕ)) → ℕ → ℕ → ℕ → Option (List ℕ)
+bare bytes row i p = put (put row i (Some (replicate bytes 0))) p (Some (replicate bytes 0))
+
+-- the units of the row's members but two are in the sum now, and nothing else is different
+pub record Added (bytes : ℕ) (c new : Cells) (row : List Place) (i p : ℕ) (before after : List ℕ) : Type 0 where
+  pub same : (x : Place) → held new x ≡ held c x
+  pub sum : add (Some before) (total bytes (length row) (bare bytes (row_of c row) i p)) ≡ Some after
+
+-- the same of one member's unit
+pub record AddedOne (bytes : ℕ) (c new : Cells) (row : List Place) (i p k : ℕ) (before after : List ℕ) : Type 0 where
+  pub same : (x : Place) → held new x ≡ held c x
+  pub sum : add (Some before) (bare bytes (row_of c row) i p k) ≡ Some after
+
+-- another member than these two is lost
+pub record Missed (c new : Cells) (row : List Place) (i p : ℕ) : Type 0 where
+  pub fades : (x : Place) → FadesAt c new x
+  pub missing : (k : ℕ) × (k < length row) × (k ≢ i) × (k ≢ p) × (row_of new row k ≡ None)
+
+-- the parity holds the exclusive or of its old unit, the old and the new data
+abbrev pub IsDifference : Cells → Cells → Place → Place → List ℕ → Type 0
+IsDifference c new home parity unit =
+    (d : List ℕ) × (q : List ℕ) × (held c home ≡ Some d) × (held c parity ≡ Some q) × (held new parity ≡ Some (plus (plus q d) unit))
+
+-- the unit is written, and the parity by difference, or the parity's drive is lost
+pub record Differs (c new : Cells) (home parity : Place) (unit : List ℕ) : Type 0 where
+  pub here : held new home ≡ Some unit
+  pub there : (held new parity ≡ None) ⊎ IsDifference c new home parity unit
+  pub beside : (x : Place) → x ≢ home → x ≢ parity → FadesAt c new x
+  pub elsewhere : (x : Place) → x.drive ≢ home.drive → x.drive ≢ parity.drive → held new x ≡ held c x
+
+-- nothing is written, since one of the two drives is lost
+pub record Undone (c new : Cells) (home parity : Place) : Type 0 where
+  pub fades : (x : Place) → FadesAt c new x
+  pub lost : (held new home ≡ None) ⊎ (held new parity ≡ None)
+
+-- the parity, member p, holds the exclusive or of the unit and all members but it and member i, which were read; other drives hold what they held
+pub record ParityWritten (bytes : ℕ) (c new : Cells) (row : List Place) (i p : ℕ) (unit : List ℕ) : Type 0 where
+  pub there : (rest : List ℕ) × (total bytes (length row) (bare bytes (row_of c row) i p) ≡ Some rest) × (row_of new row p ≡ Some (plus unit rest))
+  pub beside : (x : Place) → (slice_get row p ≡ Some x → ⊥) → FadesAt c new x
+  pub elsewhere : (x y : Place) → slice_get row p ≡ Some y → x.drive ≢ y.drive → held new x ≡ held c x
+
+-- nothing is written, and another member than the unit's is lost
+pub record ParityMissed (c new : Cells) (row : List Place) (i : ℕ) : Type 0 where
+  pub fades : (x : Place) → FadesAt c new x
+  pub missing : (k : ℕ) × (k < length row) × (k ≢ i) × (row_of new row k ≡ None)

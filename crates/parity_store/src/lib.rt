@@ -1,0 +1,82 @@
+//! Reads and writes of parity slots: each lies once, and each offset of a group has the exclusive or of its units.
+#![tactic(auto)]
+
+mod difference;
+mod exclusive_or;
+mod others;
+mod stripe;
+#[cfg(test)]
+mod tests;
+
+ghost use Rattle.std.specs.Prelude.{◌≡◌, ◌*◌, length, Some, OnOk, IfErr};
+ghost use Rattle.extent_groups.specs.declared.class.Class.TheVariants.{Parity};
+ghost use Rattle.extent_groups.specs.Cells.{cells};
+ghost use Rattle.extent_groups.specs.Calls.{NoPlace, KeepsDrives};
+ghost use Rattle.extent_groups.specs.Stores.{unit_bytes, unit_of, AreSound, IsSlotOf, AreDrives, KeepsUnits, KeepsOthers, IsGone, IsOwnOf};
+
+pub use exclusive_or::xor_into;
+use extent_groups::{GroupTable, SLOTS, StoreRefusal};
+use extents::Drive;
+
+/// Reads the effective unit of a slot, with two buffers of a unit's length; refused where the unit's drive and another member's are lost.
+pub fn read<D: Drive>(
+    groups: &GroupTable,
+    drives: &mut [D],
+    slot: u16,
+    unit: &mut [u8],
+    scratch: &mut [u8],
+) -> Result<(), StoreRefusal>
+    requires slot { IsSlotOf Parity groups.now slot }
+    requires drives { AreDrives D.units groups.now drives.old }
+    requires unit { length unit.old ≡ unit_bytes groups.now }
+    requires scratch { length scratch.old ≡ 2 * unit_bytes groups.now }
+    requires sound { AreSound groups.now (cells D.units D.lost drives.old) }
+    ensures ok { OnOk result (unit_of groups.now (cells D.units D.lost drives.new) slot ≡ Some unit.new) }
+    ensures gone { IfErr result (IsGone groups.now (cells D.units D.lost drives.new) slot) }
+    ensures units { KeepsUnits groups.now (cells D.units D.lost drives.old) (cells D.units D.lost drives.new) }
+    ensures sound { AreSound groups.now (cells D.units D.lost drives.new) }
+    ensures touched { KeepsDrives D.units D.lost D.failures NoPlace drives.old drives.new }
+    ensures drives { AreDrives D.units groups.now drives.new }
+{
+    let at = groups.row_of(slot);
+    let size = unit.len();
+    if stripe::read_stripe(
+        groups,
+        drives,
+        slot / SLOTS,
+        &at,
+        unit,
+        &mut scratch[..size],
+    ) {
+        return Ok(());
+    }
+    Err(StoreRefusal::Gone(slot))
+}
+
+/// Writes the unit of a slot and its parity, as far as their drives are there, with two buffers of a unit's length; refused where the unit's drive and another member's are lost.
+pub fn write<D: Drive>(
+    groups: &GroupTable,
+    drives: &mut [D],
+    slot: u16,
+    unit: &[u8],
+    scratch: &mut [u8],
+) -> Result<(), StoreRefusal>
+    requires slot { IsSlotOf Parity groups.now slot }
+    requires drives { AreDrives D.units groups.now drives.old }
+    requires unit { length unit.now ≡ unit_bytes groups.now }
+    requires scratch { length scratch.old ≡ 2 * unit_bytes groups.now }
+    requires sound { AreSound groups.now (cells D.units D.lost drives.old) }
+    ensures ok { OnOk result (unit_of groups.now (cells D.units D.lost drives.new) slot ≡ Some unit.now) }
+    ensures gone { IfErr result (IsGone groups.now (cells D.units D.lost drives.new) slot) }
+    ensures others { KeepsOthers groups.now (cells D.units D.lost drives.old) (cells D.units D.lost drives.new) slot }
+    ensures sound { AreSound groups.now (cells D.units D.lost drives.new) }
+    ensures touched { KeepsDrives D.units D.lost D.failures (IsOwnOf groups.now slot) drives.old drives.new }
+    ensures drives { AreDrives D.units groups.now drives.new }
+{
+    let at = groups.row_of(slot);
+    let (old, sum) = scratch.split_at_mut(unit.len());
+    if stripe::write_stripe(groups, drives, slot / SLOTS, &at, unit, old, sum) {
+        return Ok(());
+    }
+    Err(StoreRefusal::Gone(slot))
+}

@@ -1,0 +1,77 @@
+// The exclusive or of the other members of a row.
+ghost use Rattle.std.specs.Prelude.{◌≡◌, ◌<◌, ◌≤◌, length};
+ghost use Rattle.std.specs.Bool.{MatchBool};
+ghost use Rattle.extents.specs.Sizes.{extent_units};
+ghost use Rattle.extent_groups.specs.Groups.{members_of};
+ghost use Rattle.extent_groups.specs.Cells.{cells};
+ghost use Rattle.extent_groups.specs.Calls.{AreSized, NoPlace, KeepsDrives};
+ghost use Rattle.parity_store.specs.Ways.{row_at, IsRow, Added, AddedOne, Missed};
+
+use crate::xor_into;
+use extent_groups::{GroupTable, read_place};
+use extents::Drive;
+
+/// All members of a group at an offset but two, or but one that is named twice.
+#[derive(Clone, Copy, Debug)]
+pub(crate) struct Others {
+    pub(crate) group: u16,
+    pub(crate) offset: u16,
+    pub(crate) first: u8,
+    pub(crate) second: u8,
+}
+
+/// Adds a member's unit to a sum, where it isn't passed over, with a buffer for it; false where it is lost.
+fn add_member<D: Drive>(
+    groups: &GroupTable,
+    drives: &mut [D],
+    others: Others,
+    number: u8,
+    sum: &mut [u8],
+    part: &mut [u8],
+) -> bool
+    requires number { number < length (members_of groups.now others.group) }
+    requires offset { others.offset < extent_units groups.now.segments }
+    requires row { IsRow D.units drives.old (row_at groups.now others.group others.offset) }
+    requires size { AreSized D.units (length sum.old) drives.old }
+    requires part { length part.old ≡ length sum.old }
+    ensures outcome { MatchBool result (AddedOne (length sum.old) (cells D.units D.lost drives.old) (cells D.units D.lost drives.new) (row_at groups.now others.group others.offset) others.first others.second number sum.old sum.new) (Missed (cells D.units D.lost drives.old) (cells D.units D.lost drives.new) (row_at groups.now others.group others.offset) others.first others.second) }
+    ensures touched { KeepsDrives D.units D.lost D.failures NoPlace drives.old drives.new }
+{
+    if number == others.first {
+        return true;
+    }
+    if number == others.second {
+        return true;
+    }
+    let place = groups.place(others.group, number, others.offset);
+    if !read_place(drives, place, part) {
+        return false;
+    }
+    xor_into(sum, part);
+    true
+}
+
+/// Adds the units of the others to a sum, with a buffer for each; false where one of them is lost.
+pub(crate) fn add_others<D: Drive>(
+    groups: &GroupTable,
+    drives: &mut [D],
+    others: Others,
+    sum: &mut [u8],
+    part: &mut [u8],
+) -> bool
+    requires few { length (members_of groups.now others.group) ≤ 8 }
+    requires offset { others.offset < extent_units groups.now.segments }
+    requires row { IsRow D.units drives.old (row_at groups.now others.group others.offset) }
+    requires size { AreSized D.units (length sum.old) drives.old }
+    requires part { length part.old ≡ length sum.old }
+    ensures outcome { MatchBool result (Added (length sum.old) (cells D.units D.lost drives.old) (cells D.units D.lost drives.new) (row_at groups.now others.group others.offset) others.first others.second sum.old sum.new) (Missed (cells D.units D.lost drives.old) (cells D.units D.lost drives.new) (row_at groups.now others.group others.offset) others.first others.second) }
+    ensures touched { KeepsDrives D.units D.lost D.failures NoPlace drives.old drives.new }
+{
+    let members = groups.members(others.group).len() as u8;
+    for number in 0..members {
+        if !add_member(groups, drives, others, number, sum, part) {
+            return false;
+        }
+    }
+    true
+}
