@@ -3,13 +3,13 @@ use Rattle.std.proofs.Common.{◌≡◌, ◌≢◌, ℕ, ◌+◌, ◌*◌, ◌/�
 use Rattle.std.proofs.lemmas.Bool.Decides.{nat_tests}
 use Rattle.std.proofs.lemmas.Option.{same_Some}
 use Rattle.map_join.specs.declared.records.Record.{Record}
-use Rattle.map_join.specs.Record.{key_of, record_of, record_at, IsRecord}
+use Rattle.map_join.specs.Record.{record_of, record_at, IsRecord}
 use Rattle.step_core.specs.declared.refusal.Refusal.{Refusal}
 use Rattle.step_core.specs.declared.refusal.Refusal.TheVariants.{NoTicket, Outrun, VersionSpent, LogFull}
-use Rattle.step_core.specs.Flat.{Flat, Write, Ticket, Content, Fresh, Moved, Stored, or_else, last_write, IsNewest}
+use Rattle.step_core.specs.Flat.{Flat, Write, Ticket, Stored, or_else, last_write, IsNewest}
 use Rattle.step_core.specs.Steps.{Committed, Refused}
-use Rattle.step_core.specs.Cases.{CommitCase, CommitWith, IsFor, HasStamp, committed, next_version, last_version, longest_log}
-use Rattle.step_core.specs.Changes.{commit_view, commit_record, commit_reason, commit_reason_of, ticket_reason, version_reason, stamp_reason, full_reason, version_given, hop_given, MayRefuse}
+use Rattle.step_core.specs.Cases.{CommitCase, CommitWith, IsFor, HasStamp, next_version, last_version, longest_log}
+use Rattle.step_core.specs.Changes.{commit_view, commit_record, commit_reason, commit_reason_of, version_reason, stamp_reason, full_reason, version_given, hop_given, MayRefuse}
 use Rattle.step_core.specs.Views.{Kept, Nothing, Pending, Moving, Newest, is_waiting, ArrayView, kept_at, unit_at, key_at, IsWhole}
 use Rattle.step_core.specs.Represents.{IsCopy, TicketStands, ShowsArray, waiting}
 use Rattle.step_core.proofs.Pairs.{equal, equal_back}

@@ -1,16 +1,15 @@
 -- A ticket that is given up is the flat machine's case.
-use Rattle.std.proofs.Common.{◌≡◌, ◌≢◌, ℕ, ◌<◌, Bool, true, false, not, ◌==◌, ◌&&◌, ◌||◌, is_some, List, length, refl, sym, ap, ◌∙◌, subst, arith, ◌⊎◌, inl, inr, Option, None}
+use Rattle.std.proofs.Common.{◌≡◌, ◌≢◌, ℕ, ◌<◌, Bool, true, false, not, ◌==◌, ◌&&◌, ◌||◌, length, refl, sym, ap, ◌∙◌, subst, arith, ◌⊎◌, inl, inr, Option, None}
 use Rattle.std.proofs.lemmas.List.{length-set, get_or-set_same, get_or-set_other}
 use Rattle.std.proofs.lemmas.Bool.{cases_eq}
-use Rattle.map_join.specs.declared.records.Record.{Record}
 use Rattle.map_join.specs.Record.{record_of}
 use Rattle.step_core.specs.declared.refusal.Refusal.TheVariants.{NoTicket}
-use Rattle.step_core.specs.Flat.{Flat, Holder, Worker, Ticket, Block, Shut, Stored, put, turned}
+use Rattle.step_core.specs.Flat.{Flat, Holder, Worker, Ticket, Block, Shut, Stored, put}
 use Rattle.step_core.specs.Steps.{Discarded, Refused}
 use Rattle.step_core.specs.Cases.{DiscardCase, discarded}
 use Rattle.step_core.specs.Changes.{discard_view}
 use Rattle.step_core.specs.Views.{Kept, Nothing, Moving, Newest, ArrayView, kept_at, unit_at, key_at, is_waiting, IsWhole}
-use Rattle.step_core.specs.Represents.{FlatSlot, flat_at, ArraySlot, IsWritten, BlockStands, TicketStands, ShowsArray, waiting}
+use Rattle.step_core.specs.Represents.{flat_at, ArraySlot, IsWritten, BlockStands, TicketStands, ShowsArray}
 use Rattle.step_core.proofs.Pairs.{equal, put_here, put_else, turned_here, turned_else}
 use Rattle.step_core.proofs.Slots.{same_slot, one_slot}
 use Rattle.step_core.proofs.Kepts.{waiting_none, waiting_newest, not_waiting}

@@ -1,5 +1,5 @@
 -- What lies at a record's place, and what is learned there, is the flat machine's case.
-use Rattle.std.proofs.Common.{◌≡◌, ◌≤◌, refl, sym, subst, Some, None, Option, ℕ, List}
+use Rattle.std.proofs.Common.{◌≡◌, ◌≤◌, refl, sym, subst, Some, ℕ, List}
 use Rattle.map_join.specs.declared.records.Record.{Record}
 use Rattle.map_join.specs.Record.{key_of, record_at}
 use Rattle.step_core.specs.declared.refusal.Refusal.{Refusal}

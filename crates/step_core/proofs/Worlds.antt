@@ -7,7 +7,7 @@ use Rattle.map_join.specs.declared.records.Record.{Record}
 use Rattle.map_join.specs.Record.{record_at, IsRecord}
 use Rattle.step_core.specs.declared.hand.Hand.{Hand}
 use Rattle.step_core.specs.declared.hand.Hand.TheVariants.{Empty, Holds, Waits}
-use Rattle.step_core.specs.Flat.{Flat, Holder, Worker, Ticket, Block, same_holder, Stored}
+use Rattle.step_core.specs.Flat.{Flat, Holder, Worker, Ticket, Block, same_holder}
 use Rattle.step_core.specs.Steps.{Filled, Copied, Committed, Discarded, MadeGroup}
 use Rattle.step_core.specs.declared.group.Class.{Class}
 use Rattle.step_core.specs.declared.group.Member.{Member}

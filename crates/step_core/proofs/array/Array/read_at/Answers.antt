@@ -1,4 +1,3 @@
-use Rattle.std.proofs.Common.{rules}
 use Rattle.step_core.specs.Told.{seen_of}
 use Rattle.step_core.proofs.Seeing.{ahead_case, seen_case, wanted_case}
 use Rattle.step_core.proofs.array.Array.read_at.Goals as goal

@@ -1,4 +1,4 @@
-use Rattle.std.proofs.Common.{◌≡◌, sym, ap, ◌∙◌, subst, Some}
+use Rattle.std.proofs.Common.{sym, ap, ◌∙◌, subst, Some}
 use Rattle.step_core.specs.Flat.{IsNewest}
 use Rattle.step_core.specs.Cases.{IsSeen}
 use Rattle.step_core.specs.Views.{unit_at}

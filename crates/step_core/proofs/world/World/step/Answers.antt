@@ -1,4 +1,4 @@
-use Rattle.std.proofs.Common.{subst, sym, ap, OnErr, Some}
+use Rattle.std.proofs.Common.{subst, sym, OnErr, Some}
 use Rattle.step_core.specs.Flat.{Flat}
 use Rattle.step_core.specs.Steps.{Data, Filled, Copied, Committed, Found, FoundAt, MadeGroup}
 use Rattle.step_core.specs.Cases.{FillCase, MakeCase, IsWanted}
