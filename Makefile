@@ -15,3 +15,4 @@ test:
 
 bench:
 	python3 bench/words/run.py
+	python3 bench/exclusive_or/run.py
