@@ -4,7 +4,7 @@
 all: run
 
 run:
-	@for script in one_write two_workers; do \
+	@for script in one_write two_workers two_controllers a_copy_outrun; do \
 	    echo "== examples/$$script"; \
 	    (cd crates/raid_bench && rt run -- script < ../../examples/$$script 2>/dev/null) \
 	        | tee /dev/stderr | cmp - examples/$$script.stdout || exit 1; \
