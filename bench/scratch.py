@@ -1,0 +1,39 @@
+"""What the benchmarks share: a scratch repository with the crates that are measured and a program over them, and a clock."""
+
+import pathlib
+import shutil
+import subprocess
+import time
+
+TOP = pathlib.Path(__file__).resolve().parent.parent
+
+
+def lay_out(folder, here, program, stands_on, crates):
+    """Copies the crates and the program into a repository of their own."""
+    for name in crates:
+        shutil.copytree(TOP / "crates" / name, folder / "crates" / name, ignore=shutil.ignore_patterns("out"), dirs_exist_ok=True)
+    # The program's files end in .txt here, since the gate wants every file of code to be of a crate that it proves.
+    for file in (here / program).rglob("*.txt"):
+        to = folder / "crates" / program / file.relative_to(here / program).with_suffix("")
+        to.parent.mkdir(parents=True, exist_ok=True)
+        shutil.copy(file, to)
+    shutil.copy(TOP / "HANDLES", folder / "HANDLES")
+    lines = [line for line in (TOP / "crates.txt").read_text().splitlines() if line.split(":")[0].split(" ")[0] in crates]
+    (folder / "crates.txt").write_text("\n".join(lines + [f"{program}: {stands_on}", ""]))
+    (folder / ".gitignore").write_text("out/\n")
+
+
+def build(folder, here, program):
+    """The program, proved and built, and the one in plain Rust."""
+    crate = folder / "crates" / program
+    subprocess.run(["rt", "run"], cwd=crate, stdin=subprocess.DEVNULL, check=True)
+    plain = folder / "plain"
+    subprocess.run(["rustc", "--edition=2021", "-Copt-level=3", "-Ctarget-cpu=x86-64-v2", "-o", plain, here / "plain.rs"], check=True)
+    return crate / "out" / program, plain
+
+
+def seconds(program, line):
+    """How long a run takes, and what it says."""
+    start = time.perf_counter()
+    said = subprocess.run([program], input=line + "\n", capture_output=True, text=True, check=True).stdout
+    return time.perf_counter() - start, said
