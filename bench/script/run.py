@@ -1,0 +1,67 @@
+#!/usr/bin/env python3
+"""Builds the program and one in plain Rust, times both on the same scripts, and prints the ratios of their speeds.
+
+Usage: bench/script/run.py. A ratio above 1 says that the proved program is the faster one.
+"""
+
+import os
+import pathlib
+import statistics
+import subprocess
+import sys
+import tempfile
+
+HERE = pathlib.Path(__file__).resolve().parent
+TOP = HERE.parent.parent
+from workloads import WORKLOADS  # noqa: E402
+
+ROUNDS = 7
+
+
+def build(folder):
+    """The proved program and the plain one."""
+    crate = TOP / "crates" / "raid_bench"
+    subprocess.run(["rt", "run", "--", "script"], cwd=crate, stdin=subprocess.DEVNULL, stdout=subprocess.DEVNULL, check=True)
+    plain = folder / "plain"
+    subprocess.run(["rustc", "--edition=2024", "-Copt-level=3", "-Ctarget-cpu=x86-64-v2", "-o", plain, HERE / "plain.rs"], check=True)
+    return {"proved": [crate / "out" / "raid_bench", "script"], "plain Rust": [plain]}
+
+
+def run(program, script, answers):
+    """Processor seconds and kilobytes of one run, whose answers go to a file."""
+    with open(script) as source, open(answers, "w") as target:
+        child = subprocess.Popen(program, stdin=source, stdout=target)
+        _, status, used = os.wait4(child.pid, 0)
+    child.returncode = status
+    if status != 0:
+        sys.exit(f"{program}: status {status}")
+    return used.ru_utime + used.ru_stime, used.ru_maxrss
+
+
+def main():
+    folder = pathlib.Path(tempfile.mkdtemp(prefix="script_bench_"))
+    programs = build(folder)
+    script, answers = folder / "script", folder / "answers"
+    print("| Script | lines | proved (s, MB) | plain Rust (s, MB) | ratio of the best | ratio of the medians |")
+    print("|---|---|---|---|---|---|")
+    for name, lines in WORKLOADS.items():
+        text = lines()
+        script.write_text("\n".join(text) + "\n")
+        times = {program: [] for program in programs}
+        room, said = {}, set()
+        for _ in range(ROUNDS):
+            for program, words in programs.items():
+                spent, room[program] = run(words, script, answers)
+                times[program].append(spent)
+                said.add(answers.read_bytes())
+        if len(said) != 1:
+            sys.exit(f"{name}: the programs differ")
+        best = {program: min(spent) for program, spent in times.items()}
+        middle = {program: statistics.median(spent) for program, spent in times.items()}
+        told = [f"{best[program]:.2f}, {room[program] / 1024:.0f}" for program in programs]
+        ratios = [f"{found['plain Rust'] / found['proved']:.2f}" for found in (best, middle)]
+        print(f"| {name} | {len(text):,} | {' | '.join(told + ratios)} |")
+
+
+if __name__ == "__main__":
+    main()
