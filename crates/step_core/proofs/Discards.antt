@@ -4,7 +4,7 @@ use Rattle.std.proofs.lemmas.List.{length-set, get_or-set_same, get_or-set_other
 use Rattle.std.proofs.lemmas.Bool.{cases_eq}
 use Rattle.map_join.specs.Record.{record_of}
 use Rattle.step_core.specs.declared.refusal.Refusal.TheVariants.{NoTicket}
-use Rattle.step_core.specs.Flat.{Flat, Holder, Worker, Ticket, Block, Shut, Stored, put}
+use Rattle.step_core.specs.Flat.{Flat, Holder, Worker, Ticket, Block, Shut, Stored, put, class_of}
 use Rattle.step_core.specs.Steps.{Discarded, Refused}
 use Rattle.step_core.specs.Cases.{DiscardCase, discarded}
 use Rattle.step_core.specs.Changes.{discard_view}
@@ -80,11 +80,13 @@ pub discard_shows : (a : ArrayView) (F : Flat) (w s : ℕ) → s < 65536 → is_
     → ShowsArray a F → ShowsArray (discard_view a s) (discarded F w s)
 discard_shows a F w s inside waits mine shows = record {
   whole = discard_whole a s inside waits shows.whole;
+  limits = shows.limits;
   sizes = shows.sizes;
   drives = shows.drives;
   log = shows.log;
   records = shows.records;
   chain = shows.chain;
+  writes = shows.writes;
   map = shows.map;
   groups = shows.groups;
   slots = one_slot a (discard_view a s) F (discarded F w s) s shows.slots
@@ -93,6 +95,7 @@ discard_shows a F w s inside waits mine shows = record {
       (λ t ne. same_slot _ _ (turned_else F.held s (Ticket w) (Worker w) t ne) (put_else F.tickets s None t ne) refl refl)
       here;
   headers = shows.headers;
+  payloads = shows.payloads;
   tickets = λ t. tickets t (cases_eq t s);
   written = written;
 }
@@ -103,9 +106,9 @@ discard_shows a F w s inside waits mine shows = record {
     here : ArraySlot (kept_at (discard_view a s) s) (unit_at a s) (flat_at (discarded F w s) s)
     here = rw (get_or-set_same a.kept s Nothing Nothing kept_room) (free_slot (kept_at a s) (unit_at a s) F w s waits (shows.slots s) mine)
 
-    tickets : (t : ℕ) → (t ≡ s) ⊎ (t ≡ s → ⊥) → TicketStands F.writes (key_at a) (put F.tickets s None t)
-    tickets t (inl e) = subst (TicketStands F.writes (key_at a)) (sym (ap (put F.tickets s None) e ∙ put_here F.tickets s None)) tt
-    tickets t (inr ne) = subst (TicketStands F.writes (key_at a)) (sym (put_else F.tickets s None t ne)) (shows.tickets t)
+    tickets : (t : ℕ) → (t ≡ s) ⊎ (t ≡ s → ⊥) → TicketStands (class_of F t) F.writes (key_at a) (put F.tickets s None t)
+    tickets t (inl e) = subst (TicketStands (class_of F t) F.writes (key_at a)) (sym (ap (put F.tickets s None) e ∙ put_here F.tickets s None)) tt
+    tickets t (inr ne) = subst (TicketStands (class_of F t) F.writes (key_at a)) (sym (put_else F.tickets s None t ne)) (shows.tickets t)
 
     written : (b : ℕ) → BlockStands (discarded F w s) b (key_at a b)
     written b = (λ none. (shows.written b).0 none, λ some. let y = (shows.written b).1 some in (y.0, y.1, moved y.2))

@@ -9,12 +9,12 @@ use Rattle.step_core.specs.declared.group.Class.{Class}
 use Rattle.step_core.specs.declared.group.Class.TheVariants.{Mirrored, Parity}
 use Rattle.step_core.specs.declared.refusal.Refusal.{Refusal}
 use Rattle.step_core.specs.Groups.{class_in, class_at}
-use Rattle.step_core.specs.Flat.{Flat, Holder, Worker, Ticket, Block, Shut, Content, Fresh, Moved, Stored, put, turned, for_ticket, IsKept, class_of}
+use Rattle.step_core.specs.Flat.{Flat, Holder, Worker, Ticket, Block, Shut, Write, Content, Fresh, Moved, Stored, put, turned, for_ticket, IsKept, class_of}
 use Rattle.step_core.specs.Steps.{Filled, Refused}
 use Rattle.step_core.specs.Cases.{FillCase, filled, ticketed}
 use Rattle.step_core.specs.Changes.{wait_view, fill_view, fill_reason, fill_reason_of, MayRefuse}
 use Rattle.step_core.specs.Views.{Kept, Nothing, Pending, Moving, Newest, ArrayView, kept_at, unit_at, key_at, group_at, is_kept, is_waiting, IsWhole}
-use Rattle.step_core.specs.Represents.{flat_at, ArraySlot, IsWritten, BlockStands, HeaderStands, TicketStands, ShowsArray, waiting}
+use Rattle.step_core.specs.Represents.{flat_at, ArraySlot, IsWritten, BlockStands, HeaderStands, PayloadStands, TicketStands, ShowsArray, waiting}
 use Rattle.step_core.proofs.Pairs.{equal, equal_back, put_here, put_else, turned_here, turned_else}
 use Rattle.step_core.proofs.Slots.{same_slot, one_slot}
 use Rattle.step_core.proofs.Kepts.{nothing_kept, kept_iff, waiting_none, waiting_newest}
@@ -121,16 +121,22 @@ wait_whole a s kept x inside free waits moves long whole = record {
         ap is_some (get_or-set_other a.units s t (Some (record { header = None; payload = x })) None ne)
         ∙ whole.stored t (λ e. is (get_or-set_other a.kept s t kept Nothing ne ∙ e))
 
+-- under a blank header any payload may stand
+pub blank_payload : (emitted : List Record) (writes : List Write) (x : List ℕ) → PayloadStands emitted writes (Some (record { header = None; payload = x }))
+blank_payload emitted writes x r w header has wrote of = absurd (cc)
+
 pub wait_shows : (a : ArrayView) (F : Flat) (w s : ℕ) (kept : Kept) (content : Content) (x : List ℕ) → s < 65536 → kept_at a s ≡ Nothing
-    → is_some (class_of F s) ≡ true → Waits kept content x → TicketStands F.writes (key_at a) (Some content) → IsWhole (wait_view a s kept x)
+    → is_some (class_of F s) ≡ true → Waits kept content x → TicketStands (class_of F s) F.writes (key_at a) (Some content) → IsWhole (wait_view a s kept x)
     → ShowsArray a F → ShowsArray (wait_view a s kept x) (ticketed F w s content x)
 wait_shows a F w s kept content x inside free classed now stands whole shows = record {
   whole = whole;
+  limits = shows.limits;
   sizes = shows.sizes;
   drives = shows.drives;
   log = shows.log;
   records = shows.records;
   chain = shows.chain;
+  writes = shows.writes;
   map = shows.map;
   groups = shows.groups;
   slots = one_slot a (wait_view a s kept x) F (ticketed F w s content x) s shows.slots
@@ -139,6 +145,7 @@ wait_shows a F w s kept content x inside free classed now stands whole shows = r
       (λ t ne. same_slot _ _ (turned_else F.held s (Worker w) (Ticket w) t ne) (put_else F.tickets s _ t ne) (put_else F.units s _ t ne) refl)
       here;
   headers = λ t. headers t (cases_eq t s);
+  payloads = λ t. payloads t (cases_eq t s);
   tickets = λ t. tickets t (cases_eq t s);
   written = written;
 }
@@ -160,9 +167,17 @@ wait_shows a F w s kept content x inside free classed now stands whole shows = r
     headers t (inl e) = subst (HeaderStands (key_at a) t) (sym (ap (put F.units s (Some (record { header = None; payload = x }))) e ∙ put_here F.units s _)) tt
     headers t (inr ne) = subst (HeaderStands (key_at a) t) (sym (put_else F.units s _ t ne)) (shows.headers t)
 
-    tickets : (t : ℕ) → (t ≡ s) ⊎ (t ≡ s → ⊥) → TicketStands F.writes (key_at a) (put F.tickets s (Some content) t)
-    tickets t (inl e) = subst (TicketStands F.writes (key_at a)) (sym (ap (put F.tickets s (Some content)) e ∙ put_here F.tickets s (Some content))) stands
-    tickets t (inr ne) = subst (TicketStands F.writes (key_at a)) (sym (put_else F.tickets s (Some content) t ne)) (shows.tickets t)
+    payloads : (t : ℕ) → (t ≡ s) ⊎ (t ≡ s → ⊥) → PayloadStands F.emitted F.writes (put F.units s (Some (record { header = None; payload = x })) t)
+    payloads t (inl e) =
+        subst (PayloadStands F.emitted F.writes) (sym (ap (put F.units s (Some (record { header = None; payload = x }))) e ∙ put_here F.units s _))
+        (blank_payload F.emitted F.writes x)
+    payloads t (inr ne) = subst (PayloadStands F.emitted F.writes) (sym (put_else F.units s _ t ne)) (shows.payloads t)
+
+    tickets : (t : ℕ) → (t ≡ s) ⊎ (t ≡ s → ⊥) → TicketStands (class_of F t) F.writes (key_at a) (put F.tickets s (Some content) t)
+    tickets t (inl e) =
+        subst (TicketStands (class_of F t) F.writes (key_at a)) (sym (ap (put F.tickets s (Some content)) e ∙ put_here F.tickets s (Some content)))
+        (subst (λ n. TicketStands (class_of F n) F.writes (key_at a) (Some content)) (sym e) stands)
+    tickets t (inr ne) = subst (TicketStands (class_of F t) F.writes (key_at a)) (sym (put_else F.tickets s (Some content) t ne)) (shows.tickets t)
 
     written : (b : ℕ) → BlockStands (ticketed F w s content x) b (key_at a b)
     written b = (λ none. (shows.written b).0 none, λ some. let y = (shows.written b).1 some in (y.0, y.1, moved y.2))
@@ -208,7 +223,7 @@ fill_case a F w s x inside none long shows held = go (class_at a.sizes.segments 
         by_cases (Some Mirrored) is_c Nothing is_k e = (
           filled F w s x,
           (refl, held, is_c, unkept, refl),
-          wait_shows a F w s Pending (Fresh x) x inside is_k (ap is_some is_c) (waits_fresh x) tt
+          wait_shows a F w s Pending (Fresh x) x inside is_k (ap is_some is_c) (waits_fresh x) is_c
               (fill_whole a s x inside none long shows.whole) shows,
         )
           where

@@ -23,15 +23,18 @@ pub hands_move : (a : ArrayView) (F : Flat) (H : ℕ → Holder → Bool) → ((
     → ShowsArray a F → ShowsArray a (with_held F H)
 hands_move a F H same shows = record {
   whole = shows.whole;
+  limits = shows.limits;
   sizes = shows.sizes;
   drives = shows.drives;
   log = shows.log;
   records = shows.records;
   chain = shows.chain;
+  writes = shows.writes;
   map = shows.map;
   groups = shows.groups;
   slots = slots;
   headers = shows.headers;
+  payloads = shows.payloads;
   tickets = shows.tickets;
   written = written;
 }

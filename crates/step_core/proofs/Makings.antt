@@ -7,6 +7,7 @@ use Rattle.std.proofs.lemmas.Bool.Decides.{nat_tests}
 use Rattle.std.proofs.lemmas.Option.{same_Some}
 use Rattle.map_join.specs.Record.{record_of}
 use Rattle.step_core.specs.declared.group.Class.{Class}
+use Rattle.step_core.specs.declared.group.Class.TheVariants.{Mirrored}
 use Rattle.step_core.specs.declared.group.Member.{Member}
 use Rattle.step_core.specs.declared.refusal.Refusal.{Refusal}
 use Rattle.step_core.specs.declared.refusal.Refusal.TheVariants.{BadMember, SameDrive, ExtentTaken, Full}
@@ -14,14 +15,15 @@ use Rattle.step_core.specs.Sizes.{Sizes}
 use Rattle.step_core.specs.Steps.{MadeGroup, Refused}
 use Rattle.step_core.specs.Changes.{MayRefuse}
 use Rattle.step_core.specs.Groups.{Made, slot_count, class_in, AreMembers, AreApart, AreUnowned, HaveCommon, IsLowestFree, IsFull}
-use Rattle.step_core.specs.Flat.{Flat, Ticket, Block, Stored, class_of}
+use Rattle.step_core.specs.Flat.{Flat, Ticket, Block, Content, Fresh, Moved, Stored, class_of}
 use Rattle.step_core.specs.Cases.{made, wiped, MakeCase}
 use Rattle.step_core.specs.Making.{blank, placed, Entered, ArePlaced, IsBlankUnit, IsMakeReason}
 use Rattle.step_core.specs.declared.stored.StoredUnit.{StoredUnit}
 use Rattle.step_core.specs.Kept.{units_of}
 use Rattle.step_core.specs.Views.{Kept, Nothing, Pending, Moving, Newest, ArrayView, kept_at, unit_at, key_at, group_at, is_waiting, IsWhole}
-use Rattle.step_core.specs.Represents.{FlatSlot, flat_at, ArraySlot, IsBlank, BlockStands, HeaderStands, ShowsArray, waiting}
+use Rattle.step_core.specs.Represents.{FlatSlot, flat_at, ArraySlot, IsBlank, BlockStands, HeaderStands, PayloadStands, TicketStands, ShowsArray, waiting}
 use Rattle.step_core.proofs.Pairs.{equal, put_here, put_else}
+use Rattle.step_core.proofs.Fills.{blank_payload}
 
 -- the slots of a group are those from 128 times its number on
 placed_wiped : (units : List (Option Stored)) (payload g count s : ℕ) → count ≤ 128
@@ -148,16 +150,19 @@ pub entered_shows : (a b : ArrayView) (F : Flat) (g : ℕ) (class : Class) (memb
     → IsMakeReason a members None → Entered a g class members b → ShowsArray a F → ShowsArray b (made F class members g)
 entered_shows a b F g class members whole limit free reason e shows = subst (λ (v : ArrayView). ShowsArray v (made F class members g)) (sym e.rest) (record {
   whole = subst IsWhole e.rest (entered_whole a b g class members whole limit reason e);
+  limits = shows.limits;
   sizes = shows.sizes;
   drives = shows.drives;
   log = shows.log;
   records = shows.records;
   chain = shows.chain;
+  writes = shows.writes;
   map = shows.map;
   groups = λ h. groups h (cases_eq h g);
   slots = λ s. slots s (cases_eq (s / 128) g);
-  headers = λ s. headers s;
-  tickets = shows.tickets;
+  headers = headers;
+  payloads = payloads;
+  tickets = λ s. tickets s (F.tickets s) (shows.tickets s) (cases_eq (s / 128) g);
   written = written;
 })
   where
@@ -252,6 +257,21 @@ entered_shows a b F g class members whole limit free reason e shows = subst (λ 
         go : (q : Bool) → HeaderStands (key_at a) s (cond q (Some (record { header = None; payload = replicate F.sizes.payload 0 })) (F.units s))
         go true = tt
         go false = shows.headers s
+
+    payloads : (s : ℕ) → PayloadStands F.emitted F.writes (G.units s)
+    payloads s = go ((s / 128 == g) && nat_lt (s % 128) (slot_count F.sizes.segments class (length members)))
+      where
+        go : (q : Bool) → PayloadStands F.emitted F.writes (cond q (Some (record { header = None; payload = replicate F.sizes.payload 0 })) (F.units s))
+        go true = blank_payload F.emitted F.writes (replicate F.sizes.payload 0)
+        go false = shows.payloads s
+
+    -- no ticket waits at a slot of the group, which had no class
+    tickets : (s : ℕ) (o : Option Content) → TicketStands (class_of F s) F.writes (key_at a) o → (s / 128 ≡ g) ⊎ (s / 128 ≡ g → ⊥)
+        → TicketStands (class_of G s) F.writes (key_at a) o
+    tickets s None was side = tt
+    tickets s (Some (Moved c v h x)) was side = was
+    tickets s (Some (Fresh x)) was (inl same) = let bad : None ≡ Some Mirrored = sym (class_was s same) ∙ was in absurd (cc)
+    tickets s (Some (Fresh x)) was (inr ne) = class_else s ne ∙ was
 
     written : (c : ℕ) → BlockStands G c (key_at a c)
     written c = (

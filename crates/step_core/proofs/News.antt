@@ -7,7 +7,7 @@ use Rattle.step_core.specs.declared.place.Place.{Place}
 use Rattle.step_core.specs.declared.place.Place.TheVariants as place
 use Rattle.step_core.specs.declared.stored.StoredUnit.{StoredUnit}
 use Rattle.step_core.specs.declared.group.Group.{Group}
-use Rattle.step_core.specs.Sizes.{Sizes}
+use Rattle.step_core.specs.Sizes.{Sizes, AreSizes}
 use Rattle.step_core.specs.Kept.{kept_of, kepts_of, stored_of, units_of, made_of, groups_of}
 use Rattle.step_core.specs.Flat.{new_flat}
 use Rattle.step_core.specs.Views.{Nothing, Moving, Newest, ArrayView, IsWhole, IsNew}
@@ -53,18 +53,21 @@ blank_slot s z d = record {
   lone = λ v w one. absurd (cc);
 }
 
-pub new_shows : (z : Sizes) (d : ℕ) (a : ArrayView) → IsNew z d a → z.blocks ≤ 65536 → ShowsArray a (new_flat z d)
-new_shows z d a new narrow = record {
-  whole = new_whole z d a new narrow;
+pub new_shows : (z : Sizes) (d : ℕ) (a : ArrayView) → IsNew z d a → AreSizes z → 3 ≤ d → d ≤ 16 → ShowsArray a (new_flat z d)
+new_shows z d a new sizes least most = record {
+  whole = new_whole z d a new sizes.blocks.1;
+  limits = record { sizes = sizes; least = least; most = most; log = omega arith };
   sizes = sym new.sizes_are;
   drives = sym new.drives_are;
   log = sym new.log;
   records = λ r has. absurd (not_there r has);
   chain = tt;
+  writes = tt;
   map = record { told = λ b some. let e = new.keys b in absurd (omega arith); most = λ r has. absurd (not_there r has) };
   groups = λ g. sym (new.groups g);
   slots = λ s. rw (new.kept s, new.units s) (blank_slot s z d);
   headers = λ s. tt;
+  payloads = λ s. tt;
   tickets = λ s. tt;
   written = λ b. (λ none. refl, λ some. let e = new.keys b in absurd (omega arith));
 }
