@@ -20,6 +20,7 @@ use Rattle.step_core.proofs.Slots.{same_slot}
 use Rattle.step_core.proofs.Kepts.{waiting_none, waiting_kept, waiting_newest}
 use Rattle.step_core.proofs.Newest.{newest_told, newest_unique, told_again, told_at, untold_at, key_least, place_small}
 use Rattle.step_core.proofs.Writes.{key_set, write_most}
+use Rattle.step_core.proofs.Wholes.{places_of, sized_of}
 
 -- the record that a commit emits
 abbrev pub emitted : ℕ → ℕ → ℕ → ℕ → Record
@@ -165,8 +166,7 @@ commit_whole a s b v h whole inside block waits ok = record {
   moving = λ t q is. whole.moving t q (kept_same t (Moving q) is (λ e. cc) (λ e. cc) (cases_eq t s));
   stored = λ t. stored t (cases_eq t s);
   sized = λ t x is. sized t x is (cases_eq t s);
-  members = whole.members;
-  owned = whole.owned;
+  groups = whole.groups;
 }
   where
     r : Record
@@ -429,7 +429,6 @@ module _ (a : ArrayView) (F : Flat) (w s b : ℕ) (u : Stored) (v h : ℕ) (writ
 
   pub shows_after : ShowsArray (commit_view a s b (record_at b (key_at a b)) (emitted b s v h)) (after a F w s b v h writes)
   shows_after = record {
-    whole = commit_whole a s b v h ready.whole ready.slot ready.block ready.waits ready.ok;
     limits = limits;
     sizes = ready.shows.sizes;
     drives = ready.shows.drives;
@@ -439,7 +438,10 @@ module _ (a : ArrayView) (F : Flat) (w s b : ℕ) (u : Stored) (v h : ℕ) (writ
     writes = ready.chain;
     map = took F.emitted (emitted b s v h) (key_at a) _ (key_set a.keys (emitted b s v h) keys_room above) ready.shows.map;
     groups = ready.shows.groups;
+    table = ready.shows.table;
     slots = slots_after;
+    sized = sized_of view G whole ready.shows.sizes slots_after;
+    places = places_of view G whole slots_after;
     headers = λ t. headers t (cases_eq t s);
     payloads = λ t. payloads t (cases_eq t s);
     tickets = λ t. tickets t (cases_eq t s);
@@ -454,6 +456,9 @@ module _ (a : ArrayView) (F : Flat) (w s b : ℕ) (u : Stored) (v h : ℕ) (writ
 
       view : ArrayView
       view = commit_view a s b (record_at b (key_at a b)) (emitted b s v h)
+
+      whole : IsWhole view
+      whole = commit_whole a s b v h ready.whole ready.slot ready.block ready.waits ready.ok
 
       limits : AreLimits F.sizes F.drives (length (F.emitted ++ e_r ∷ []))
       limits =
@@ -625,6 +630,7 @@ module _ (a : ArrayView) (F : Flat) (w s b : ℕ) (u : Stored) (v h : ℕ) (writ
               let slot = ready.slot in
               let big = key_least e_r ok in record {
                 written = omega arith;
+                hop = was.hop;
                 most = omega arith;
                 payload = λ same. absurd (omega arith);
               }
@@ -633,6 +639,7 @@ module _ (a : ArrayView) (F : Flat) (w s b : ℕ) (u : Stored) (v h : ℕ) (writ
               let most = was.most in
               let some = was.written in record {
                 written = omega arith;
+                hop = was.hop;
                 most = omega arith;
                 payload = λ same. let y = was.payload (omega arith) in (y.0, ready.others c ne ∙ y.1, y.2);
               }

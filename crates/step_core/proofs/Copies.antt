@@ -15,7 +15,7 @@ use Rattle.step_core.specs.Views.{Kept, Nothing, Pending, Moving, Newest, ArrayV
 use Rattle.step_core.specs.Represents.{IsCopy, ShowsArray}
 use Rattle.step_core.proofs.Newest.{newest_told, newest_is, told_key}
 use Rattle.step_core.proofs.Kepts.{kept_iff}
-use Rattle.step_core.proofs.Fills.{class_seen, waits_moving, wait_shows, wait_whole}
+use Rattle.step_core.proofs.Fills.{class_seen, unkept, waits_moving, wait_shows, wait_whole}
 use Rattle.step_core.proofs.Finds.{read_there, newest_write}
 use Rattle.step_core.proofs.Commits.{unit_of}
 
@@ -44,9 +44,6 @@ some_class : (c : Option Class) → c ≢ None → is_some c ≡ true
 some_class (Some c) some = refl
 some_class None some = absurd (some refl)
 
-unkept : (a : ArrayView) (F : Flat) (s : ℕ) → kept_at a s ≡ Nothing → ShowsArray a F → IsKept F s → ⊥
-unkept a F s free shows kept = let t = (kept_iff a F s shows).1 kept in let no : false ≡ true = sym (ap is_kept free) ∙ t in absurd (cc)
-
 -- an array is whole after a copy
 pub copy_whole : (a : ArrayView) (s : ℕ) (r : Record) (u : Stored) → s < 65536 → unit_at a r.place ≡ Some u → copy_reason a s (Some r) ≡ None → IsWhole a
     → IsWhole (copy_view a s r u.payload)
@@ -60,9 +57,9 @@ copy_whole a s r u inside unit none whole = wait_whole a s (Moving r) u.payload 
 
 -- where nothing speaks against it, the copy is the flat machine's
 pub copy_case : (a : ArrayView) (F : Flat) (w s b : ℕ) (r : Record) (u : Stored) → s < 65536 → record_at b (key_at a b) ≡ Some r → unit_at a r.place ≡ Some u
-    → copy_reason a s (Some r) ≡ None → ShowsArray a F → F.held s (Worker w) ≡ true
+    → copy_reason a s (Some r) ≡ None → IsWhole a → ShowsArray a F → F.held s (Worker w) ≡ true
     → (G : Flat) × (CopyCase F w s b (Copied s) G) × (ShowsArray (copy_view a s r u.payload) G)
-copy_case a F w s b r u inside found unit none shows held = (
+copy_case a F w s b r u inside found unit none whole shows held = (
   copied F w s r y.0.payload,
   (refl, held, class, unkept a F s can.free shows, (r, y.0, newest_is a F b r shows found, can.hop, y.1, refl)),
   subst (λ p. ShowsArray (copy_view a s r p) (copied F w s r y.0.payload)) (sym y.2) after,
@@ -88,19 +85,19 @@ copy_case a F w s b r u inside found unit none shows held = (
         let some = told.0 in
         let version : key_at a b / 2 ^ 32 ≡ r.version = ap (λ (q : Record). q.version) told.1 in
         let hop : key_at a b / 2 ^ 16 % 2 ^ 16 ≡ r.hop = ap (λ (q : Record). q.hop) told.1 in
-        record { written = omega arith; most = omega arith; payload = λ e. (y.0, y.1, refl) }
+        record { written = omega arith; hop = can.hop; most = omega arith; payload = λ e. (y.0, y.1, refl) }
 
     after : ShowsArray (copy_view a s r y.0.payload) (copied F w s r y.0.payload)
     after = wait_shows a F w s (Moving r) (Moved r.block r.version r.hop y.0.payload) y.0.payload inside can.free (some_class (class_of F s) class)
-        (waits_moving r y.0.payload) (subst (λ n. IsCopy F.writes n r.version r.hop y.0.payload (key_at a n)) block copy)
-        (subst (λ x. IsWhole (copy_view a s r x)) y.2 (copy_whole a s r u inside unit none shows.whole)) shows
+        (waits_moving r y.0.payload) (subst (λ n. IsCopy F.writes n r.version r.hop y.0.payload (key_at a n)) block copy) whole
+        (subst (λ x. IsWhole (copy_view a s r x)) y.2 (copy_whole a s r u inside unit none whole)) shows
 
 -- the copy that wants memory would be carried out
 pub copy_wants : (a : ArrayView) (F : Flat) (w s b : ℕ) (r : Record) → IsWhole a → s < 65536 → record_at b (key_at a b) ≡ Some r
     → copy_reason a s (Some r) ≡ None → ShowsArray a F → F.held s (Worker w) ≡ true → (G : Flat) × (CopyCase F w s b (Copied s) G)
 copy_wants a F w s b r whole inside found none shows held =
     let u = unit_of (unit_at a r.place) (read_there a b r whole found) in
-    let x = copy_case a F w s b r u.0 inside found u.1 none shows held in
+    let x = copy_case a F w s b r u.0 inside found u.1 none whole shows held in
     (x.0, x.1)
 
 -- and where something does, it is the flat machine's refusal

@@ -22,7 +22,6 @@ with_held F held = record F { held = held }
 pub hands_move : (a : ArrayView) (F : Flat) (H : ℕ → Holder → Bool) → ((t : ℕ) (k : Holder) → IsArrays k → H t k ≡ F.held t k)
     → ShowsArray a F → ShowsArray a (with_held F H)
 hands_move a F H same shows = record {
-  whole = shows.whole;
   limits = shows.limits;
   sizes = shows.sizes;
   drives = shows.drives;
@@ -32,7 +31,10 @@ hands_move a F H same shows = record {
   writes = shows.writes;
   map = shows.map;
   groups = shows.groups;
+  table = shows.table;
   slots = slots;
+  sized = shows.sized;
+  places = λ s b held. shows.places s b (sym (same s (Block b) (for_block b)) ∙ held);
   headers = shows.headers;
   payloads = shows.payloads;
   tickets = shows.tickets;

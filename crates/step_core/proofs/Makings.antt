@@ -23,6 +23,7 @@ use Rattle.step_core.specs.Kept.{units_of}
 use Rattle.step_core.specs.Views.{Kept, Nothing, Pending, Moving, Newest, ArrayView, kept_at, unit_at, key_at, group_at, is_waiting, IsWhole}
 use Rattle.step_core.specs.Represents.{FlatSlot, flat_at, ArraySlot, IsBlank, BlockStands, HeaderStands, PayloadStands, TicketStands, ShowsArray, waiting}
 use Rattle.step_core.proofs.Pairs.{equal, put_here, put_else}
+use Rattle.step_core.proofs.Wholes.{sized_of, table_of}
 use Rattle.step_core.proofs.Fills.{blank_payload}
 
 -- the slots of a group are those from 128 times its number on
@@ -94,8 +95,10 @@ entered_whole a b g class members whole limit reason e = subst IsWhole (sym e.re
   moving = whole.moving;
   stored = λ s kept. ap is_some (e.units s) ∙ placed_some a.units _ _ (blank a.sizes.payload) s (whole.stored s kept);
   sized = λ s u is. placed_sized a.units _ _ (blank a.sizes.payload) a.sizes.payload s (length-replicate a.sizes.payload 0) (whole.sized s) u (sym (e.units s) ∙ is);
-  members = λ h m is. members_now h m is (cases_eq h g);
-  owned = λ h i m n h_is i_is common. owned h i m n h_is i_is common (cases_eq h g) (cases_eq i g);
+  groups = record {
+    members = λ h m is. members_now h m is (cases_eq h g);
+    owned = λ h i m n h_is i_is common. owned h i m n h_is i_is common (cases_eq h g) (cases_eq i g);
+  };
 })
   where
     view : ArrayView
@@ -116,7 +119,7 @@ entered_whole a b g class members whole limit reason e = subst IsWhole (sym e.re
         → (AreMembers a.sizes.extents a.drives m.members) × (AreApart m.members)
     members_now h m is (inl same) =
         subst (λ (ms : List Member). (AreMembers a.sizes.extents a.drives ms) × (AreApart ms)) (here h m is same) (reason.0, reason.1)
-    members_now h m is (inr ne) = whole.members h m (was h m is ne)
+    members_now h m is (inr ne) = whole.groups.members h m (was h m is ne)
 
     -- what one list has in common with another, that has in common with it
     common_back : (ms ns : List Member) → HaveCommon ms ns → members ≡ ms → HaveCommon ns members
@@ -129,7 +132,7 @@ entered_whole a b g class members whole limit reason e = subst IsWhole (sym e.re
         absurd (reason.2 h m (was h m h_is p) (subst (λ ms. HaveCommon m.members ms) (sym (here i n i_is q)) common))
     owned h i m n h_is i_is common (inl p) (inr q) =
         absurd (reason.2 i n (was i n i_is q) (common_back m.members n.members common (here h m h_is p)))
-    owned h i m n h_is i_is common (inr p) (inr q) = whole.owned h i m n (was h m h_is p) (was i n i_is q) common
+    owned h i m n h_is i_is common (inr p) (inr q) = whole.groups.owned h i m n (was h m h_is p) (was i n i_is q) common
 
 and_true : (b : Bool) → (b && true) ≡ b
 and_true true = refl
@@ -149,7 +152,6 @@ bare_kept (Newest b) stored = let bad = stored (λ e. cc) in absurd (cc)
 pub entered_shows : (a b : ArrayView) (F : Flat) (g : ℕ) (class : Class) (members : List Member) → IsWhole a → g < 512 → group_at a g ≡ None
     → IsMakeReason a members None → Entered a g class members b → ShowsArray a F → ShowsArray b (made F class members g)
 entered_shows a b F g class members whole limit free reason e shows = subst (λ (v : ArrayView). ShowsArray v (made F class members g)) (sym e.rest) (record {
-  whole = subst IsWhole e.rest (entered_whole a b g class members whole limit reason e);
   limits = shows.limits;
   sizes = shows.sizes;
   drives = shows.drives;
@@ -159,7 +161,10 @@ entered_shows a b F g class members whole limit free reason e shows = subst (λ 
   writes = shows.writes;
   map = shows.map;
   groups = λ h. groups h (cases_eq h g);
+  table = table_of view G now shows.sizes shows.drives (λ h. groups h (cases_eq h g));
   slots = λ s. slots s (cases_eq (s / 128) g);
+  sized = sized_of view G now shows.sizes (λ s. slots s (cases_eq (s / 128) g));
+  places = λ s c held. shows.places s c (sym (and_true (F.held s (Block c))) ∙ held);
   headers = headers;
   payloads = payloads;
   tickets = λ s. tickets s (F.tickets s) (shows.tickets s) (cases_eq (s / 128) g);
@@ -171,6 +176,9 @@ entered_shows a b F g class members whole limit free reason e shows = subst (λ 
 
     view : ArrayView
     view = entered a b.units g class members
+
+    now : IsWhole view
+    now = subst IsWhole e.rest (entered_whole a b g class members whole limit reason e)
 
     count : ℕ
     count = slot_count a.sizes.segments class (length members)

@@ -33,8 +33,7 @@ new_whole z d a new narrow = record {
   moving = λ s r is. let bad : Nothing ≡ Moving r = sym (new.kept s) ∙ is in absurd (cc);
   stored = λ s kept. absurd (kept (new.kept s));
   sized = λ s u is. let e = new.units s in absurd (cc);
-  members = λ g made is. let e = new.groups g in absurd (cc);
-  owned = λ g h m n is. let e = new.groups g in absurd (cc);
+  groups = record { members = λ g made is. let e = new.groups g in absurd (cc); owned = λ g h m n is. let e = new.groups g in absurd (cc) };
 }
 
 not_there : (r : Record) → Contains [] r → ⊥
@@ -55,7 +54,6 @@ blank_slot s z d = record {
 
 pub new_shows : (z : Sizes) (d : ℕ) (a : ArrayView) → IsNew z d a → AreSizes z → 3 ≤ d → d ≤ 16 → ShowsArray a (new_flat z d)
 new_shows z d a new sizes least most = record {
-  whole = new_whole z d a new sizes.blocks.1;
   limits = record { sizes = sizes; least = least; most = most; log = omega arith };
   sizes = sym new.sizes_are;
   drives = sym new.drives_are;
@@ -65,7 +63,10 @@ new_shows z d a new sizes least most = record {
   writes = tt;
   map = record { told = λ b some. let e = new.keys b in absurd (omega arith); most = λ r has. absurd (not_there r has) };
   groups = λ g. sym (new.groups g);
+  table = record { members = λ g made is. absurd (cc); owned = λ g h m n is. absurd (cc) };
   slots = λ s. rw (new.kept s, new.units s) (blank_slot s z d);
+  sized = λ s u is. absurd (cc);
+  places = λ s b held. absurd (cc);
   headers = λ s. tt;
   payloads = λ s. tt;
   tickets = λ s. tt;

@@ -7,10 +7,11 @@ use Rattle.step_core.specs.declared.group.Class.{Class}
 use Rattle.step_core.specs.declared.group.Class.TheVariants.{Mirrored}
 use Rattle.step_core.specs.Sizes.{Sizes, AreSizes}
 use Rattle.step_core.specs.Flat.{Flat, Write, Holder, Worker, Ticket, Block, Shut, Content, Fresh, Moved, Stored, class_of, last_write, IsNewest}
-use Rattle.step_core.specs.Cases.{longest_log}
+use Rattle.step_core.specs.Groups.{AreGroups}
+use Rattle.step_core.specs.Cases.{last_hop, longest_log}
 use Rattle.step_core.specs.declared.hand.Hand.{Hand}
 use Rattle.step_core.specs.declared.hand.Hand.TheVariants.{Empty, Holds, Waits}
-use Rattle.step_core.specs.Views.{Kept, Nothing, Pending, Moving, Newest, is_waiting, ArrayView, WorldView, kept_at, hand_at, group_at, unit_at, key_at, IsWhole}
+use Rattle.step_core.specs.Views.{Kept, Nothing, Pending, Moving, Newest, is_waiting, ArrayView, WorldView, kept_at, hand_at, group_at, unit_at, key_at}
 
 -- what a flat state says of one slot
 pub record FlatSlot : Type 0 where
@@ -60,10 +61,11 @@ pub record IsWritten (F : Flat) (b key : ℕ) (w : Write) : Type 0 where
 abbrev pub BlockStands : Flat → ℕ → ℕ → Type 0
 BlockStands F b key = (key ≡ 0 → last_write F.writes b ≡ None) × (0 < key → (w : Write) × (last_write F.writes b ≡ Some w) × (IsWritten F b key w))
 
--- what a waiting copy rests on: its block was written, its stamp is at most the newest's, and where it is the newest's its
--- payload is the last write's
+-- what a waiting copy rests on: its block was written, it can move one hop on, its stamp is at most the newest's, and where
+-- it is the newest's its payload is the last write's
 pub record IsCopy (writes : List Write) (b v h : ℕ) (x : List ℕ) (key : ℕ) : Type 0 where
   pub written : 0 < key
+  pub hop : h < last_hop
   pub most : stamp v h ≤ stamp_in key
   pub payload : stamp v h ≡ stamp_in key → (w : Write) × (last_write writes b ≡ Some w) × (w.payload ≡ x)
 
@@ -115,9 +117,16 @@ pub record AreLimits (z : Sizes) (drives records : ℕ) : Type 0 where
   pub most : drives ≤ 16
   pub log : records ≤ longest_log
 
+-- every unit is as long as a payload
+abbrev pub AreSized : ℕ → (ℕ → Option Stored) → Type 0
+AreSized payload units = (s : ℕ) (u : Stored) → units s ≡ Some u → length u.payload ≡ payload
+
+-- a block that was written holds its newest place alone, and one that wasn't holds none
+abbrev pub HoldsPlace : (ℕ → Holder → Bool) → (ℕ → ℕ) → Type 0
+HoldsPlace held keys = (s b : ℕ) → held s (Block b) ≡ true → (0 < keys b) × ((record_of b (keys b)).place ≡ s)
+
 -- an array stands for a flat state
 pub record ShowsArray (a : ArrayView) (F : Flat) : Type 0 where
-  pub whole : IsWhole a
   pub limits : AreLimits F.sizes F.drives (length F.emitted)
   pub sizes : F.sizes ≡ a.sizes
   pub drives : F.drives ≡ a.drives
@@ -127,7 +136,10 @@ pub record ShowsArray (a : ArrayView) (F : Flat) : Type 0 where
   pub writes : IsWriteChain [] F.writes
   pub map : IsMapOf F.emitted (key_at a)
   pub groups : (g : ℕ) → F.groups g ≡ group_at a g
+  pub table : AreGroups F.sizes.extents F.drives F.groups
   pub slots : (s : ℕ) → ArraySlot (kept_at a s) (unit_at a s) (flat_at F s)
+  pub sized : AreSized F.sizes.payload F.units
+  pub places : HoldsPlace F.held (key_at a)
   pub headers : (s : ℕ) → HeaderStands (key_at a) s (F.units s)
   pub payloads : (s : ℕ) → PayloadStands F.emitted F.writes (F.units s)
   pub tickets : (s : ℕ) → TicketStands (class_of F s) F.writes (key_at a) (F.tickets s)
