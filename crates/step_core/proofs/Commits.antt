@@ -9,6 +9,7 @@ use Rattle.map_join.specs.declared.records.Record.{Record}
 use Rattle.map_join.specs.Record.{key_of, record_of, record_at, stamp, stamp_of, stamp_in, IsRecord}
 use Rattle.map_join.proofs.Joins.{took}
 use Rattle.step_core.specs.Flat.{Flat, Write, Holder, Worker, Ticket, Block, Shut, Content, Fresh, Moved, Stored, put, same_holder, turned, last_write, IsNewest, class_of}
+use Rattle.step_core.specs.Sizes.{Sizes}
 use Rattle.step_core.specs.declared.group.Class.{Class}
 use Rattle.step_core.specs.Cases.{committed, place_passed, stamped, longest_log}
 use Rattle.step_core.specs.Changes.{commit_view, passed}
@@ -434,6 +435,7 @@ module _ (a : ArrayView) (F : Flat) (w s b : ℕ) (u : Stored) (v h : ℕ) (writ
     drives = ready.shows.drives;
     log = ap (λ l. l ++ emitted b s v h ∷ []) ready.shows.log;
     records = records;
+    blocks = blocks;
     chain = chained [] F.emitted e_r ready.shows.chain next;
     writes = ready.chain;
     map = took F.emitted (emitted b s v h) (key_at a) _ (key_set a.keys (emitted b s v h) keys_room above) ready.shows.map;
@@ -477,6 +479,17 @@ module _ (a : ArrayView) (F : Flat) (w s b : ℕ) (u : Stored) (v h : ℕ) (writ
           go : Contains F.emitted q ⊎ (e_r ≡ q) → IsRecord q
           go (inl there) = ready.shows.records q there
           go (inr is) = subst IsRecord is ok
+
+      blocks : (q : Record) → Contains (F.emitted ++ e_r ∷ []) q → q.block < F.sizes.blocks
+      blocks q has = go (Contains-push_cases F.emitted e_r q has)
+        where
+          go : Contains F.emitted q ⊎ (e_r ≡ q) → q.block < F.sizes.blocks
+          go (inl there) = ready.shows.blocks q there
+          go (inr is) =
+              let block : b ≡ q.block = ap (λ (p : Record). p.block) is in
+              let count : F.sizes.blocks ≡ a.sizes.blocks = ap (λ (z : Sizes). z.blocks) ready.shows.sizes in
+              let small = ready.block in
+              omega arith
 
       key_here : key_at view b ≡ key_of e_r
       key_here = get_or-set_same a.keys b (key_of e_r) 0 keys_room

@@ -84,6 +84,7 @@ discard_shows a F w s inside waits mine whole shows = record {
   drives = shows.drives;
   log = shows.log;
   records = shows.records;
+  blocks = shows.blocks;
   chain = shows.chain;
   writes = shows.writes;
   map = shows.map;

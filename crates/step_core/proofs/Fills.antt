@@ -134,6 +134,7 @@ wait_shows a F w s kept content x inside free classed now stands was whole shows
   drives = shows.drives;
   log = shows.log;
   records = shows.records;
+  blocks = shows.blocks;
   chain = shows.chain;
   writes = shows.writes;
   map = shows.map;

@@ -96,6 +96,7 @@ entered_whole a b g class members whole limit reason e = subst IsWhole (sym e.re
   stored = λ s kept. ap is_some (e.units s) ∙ placed_some a.units _ _ (blank a.sizes.payload) s (whole.stored s kept);
   sized = λ s u is. placed_sized a.units _ _ (blank a.sizes.payload) a.sizes.payload s (length-replicate a.sizes.payload 0) (whole.sized s) u (sym (e.units s) ∙ is);
   groups = record {
+    limit = λ h m is. under h m is (cases_eq h g);
     members = λ h m is. members_now h m is (cases_eq h g);
     owned = λ h i m n h_is i_is common. owned h i m n h_is i_is common (cases_eq h g) (cases_eq i g);
   };
@@ -114,6 +115,10 @@ entered_whole a b g class members whole limit reason e = subst IsWhole (sym e.re
 
     was : (h : ℕ) (m : Made) → group_at view h ≡ Some m → (h ≡ g → ⊥) → group_at a h ≡ Some m
     was h m is ne = sym (group_else a b.units g class members h ne) ∙ is
+
+    under : (h : ℕ) (m : Made) → group_at view h ≡ Some m → (h ≡ g) ⊎ (h ≡ g → ⊥) → h < 512
+    under h m is (inl same) = omega arith
+    under h m is (inr ne) = whole.groups.limit h m (was h m is ne)
 
     members_now : (h : ℕ) (m : Made) → group_at view h ≡ Some m → (h ≡ g) ⊎ (h ≡ g → ⊥)
         → (AreMembers a.sizes.extents a.drives m.members) × (AreApart m.members)
@@ -157,6 +162,7 @@ entered_shows a b F g class members whole limit free reason e shows = subst (λ 
   drives = shows.drives;
   log = shows.log;
   records = shows.records;
+  blocks = shows.blocks;
   chain = shows.chain;
   writes = shows.writes;
   map = shows.map;

@@ -33,7 +33,11 @@ new_whole z d a new narrow = record {
   moving = λ s r is. let bad : Nothing ≡ Moving r = sym (new.kept s) ∙ is in absurd (cc);
   stored = λ s kept. absurd (kept (new.kept s));
   sized = λ s u is. let e = new.units s in absurd (cc);
-  groups = record { members = λ g made is. let e = new.groups g in absurd (cc); owned = λ g h m n is. let e = new.groups g in absurd (cc) };
+  groups = record {
+    limit = λ g made is. let e = new.groups g in absurd (cc);
+    members = λ g made is. let e = new.groups g in absurd (cc);
+    owned = λ g h m n is. let e = new.groups g in absurd (cc);
+  };
 }
 
 not_there : (r : Record) → Contains [] r → ⊥
@@ -59,11 +63,12 @@ new_shows z d a new sizes least most = record {
   drives = sym new.drives_are;
   log = sym new.log;
   records = λ r has. absurd (not_there r has);
+  blocks = λ r has. absurd (not_there r has);
   chain = tt;
   writes = tt;
   map = record { told = λ b some. let e = new.keys b in absurd (omega arith); most = λ r has. absurd (not_there r has) };
   groups = λ g. sym (new.groups g);
-  table = record { members = λ g made is. absurd (cc); owned = λ g h m n is. absurd (cc) };
+  table = record { limit = λ g made is. absurd (cc); members = λ g made is. absurd (cc); owned = λ g h m n is. absurd (cc) };
   slots = λ s. rw (new.kept s, new.units s) (blank_slot s z d);
   sized = λ s u is. absurd (cc);
   places = λ s b held. absurd (cc);

@@ -28,6 +28,7 @@ pub table_of : (a : ArrayView) (F : Flat) → IsWhole a → F.sizes ≡ a.sizes 
 table_of a F whole sizes drives groups =
     subst (λ (z : Sizes). AreGroups z.extents F.drives F.groups) (sym sizes)
     (subst (λ d. AreGroups a.sizes.extents d F.groups) (sym drives) (record {
+      limit = λ g made is. whole.groups.limit g made (sym (groups g) ∙ is);
       members = λ g made is. whole.groups.members g made (sym (groups g) ∙ is);
       owned = λ g h m n g_is h_is common. whole.groups.owned g h m n (sym (groups g) ∙ g_is) (sym (groups h) ∙ h_is) common;
     }))

@@ -22,7 +22,7 @@ use Rattle.step_core.specs.Flat.{Write, Content, Fresh, Moved, IsNewest}
 use Rattle.step_core.specs.Cases.{CommitWith, committed}
 use Rattle.step_core.specs.Views.{key_at, IsWhole}
 use Rattle.step_core.proofs.Newest.{newest_told, newest_unique, place_small}
-use Rattle.step_core.proofs.Commits.{IsOld, kept_here, kept_old, kept_else, held_here, held_old, held_else, old_found, some_is}
+use Rattle.step_core.proofs.Commits.{IsOld, passed_on, kept_here, kept_old, kept_else, held_here, held_old, held_else, old_found, some_is}
 use Rattle.step_core.proofs.Hands.{one_hand, claim_hand, ticket_hand}
 
 -- not one worker's claim and another's
@@ -74,15 +74,19 @@ nothing_told (Moving r) (Some u) f is none free =
     let bad : None ≡ Some (Moved r.block r.version r.hop u.payload) = sym none ∙ is.ticket in absurd (cc)
 
 -- a world whose worker made a slot wait stands for the state after it
-pub ticket_world : (v : WorldView) (F G : Flat) (w s : ℕ) (kept : Kept) (content : Content) (x y : List ℕ) (b : ArrayView) → s < 65536
+pub ticket_world : (v : WorldView) (F G : Flat) (w s : ℕ) (kept : Kept) (content : Content) (x y : List ℕ) (b : ArrayView) → s < length v.hands
     → b ≡ wait_view v.array s kept x → G ≡ ticketed F w s content y → Represents v F → is_claim (hand_at v.hands s) w ≡ true
     → ShowsArray b G → Represents (record { array = b; hands = set v.hands s (Waits w) }) G
 ticket_world v F G w s kept content x y b inside is leaves rep held shows = record {
   array = shows;
-  room = length-set v.hands s (Waits w) ∙ rep.room;
+  inside = λ t u has. within t u (ap (λ (E : Flat). E.held t (Worker u)) (sym leaves) ∙ has) (cases_eq t s);
   hands = λ t. subst (λ (E : Flat). HandSlot (kept_at b t) (hand_at (set v.hands s (Waits w)) t) (flat_at E t)) (sym leaves) (hands t);
 }
   where
+    within : (t u : ℕ) → (ticketed F w s content y).held t (Worker u) ≡ true → (t ≡ s) ⊎ (t ≡ s → ⊥) → t < 65536
+    within t u has (inl e) = subst (λ n. n < 65536) (sym e) (rep.inside s w ((rep.hands s).claims w ∙ held))
+    within t u has (inr ne) = rep.inside t u (ap (λ (h : Holder → Bool). h (Worker u)) (sym (turned_else F.held s (Worker w) (Ticket w) t ne)) ∙ has)
+
     waits : is_waiting (kept_at b s) ≡ true
     waits = waits_told (kept_at b s) (unit_at b s) content
         (sym (shows.slots s).ticket ∙ ap (λ (E : Flat). E.tickets s) leaves ∙ put_here F.tickets s (Some content))
@@ -94,16 +98,13 @@ ticket_world v F G w s kept content x y b inside is leaves rep held shows = reco
     old = subst (λ h. HandSlot (kept_at v.array s) h (flat_at F s)) hand (rep.hands s)
 
     here : HandSlot (kept_at b s) (hand_at (set v.hands s (Waits w)) s) (flat_at (ticketed F w s content y) s)
-    here =
-        let e = rep.room in
-        let hands : s < length v.hands = omega arith in
-        rw (get_or-set_same v.hands s (Waits w) Empty hands) (record {
-          claims = λ u. turned_here F.held s (Worker w) (Ticket w) (Worker u)
-              ∙ ap (λ b. (b && not (u == w)) || false) (old.claims u) ∙ other_claim u w;
-          tickets = λ u. turned_here F.held s (Worker w) (Ticket w) (Ticket u)
-              ∙ ap (λ b. (b && true) || (u == w)) (old.tickets u) ∙ flip u w;
-          agree = agree_waiting (kept_at b s) w waits;
-        })
+    here = rw (get_or-set_same v.hands s (Waits w) Empty inside) (record {
+      claims = λ u. turned_here F.held s (Worker w) (Ticket w) (Worker u)
+          ∙ ap (λ b. (b && not (u == w)) || false) (old.claims u) ∙ other_claim u w;
+      tickets = λ u. turned_here F.held s (Worker w) (Ticket w) (Ticket u)
+          ∙ ap (λ b. (b && true) || (u == w)) (old.tickets u) ∙ flip u w;
+      agree = agree_waiting (kept_at b s) w waits;
+    })
 
     hands : (t : ℕ) → HandSlot (kept_at b t) (hand_at (set v.hands s (Waits w)) t) (flat_at (ticketed F w s content y) t)
     hands = one_hand v.array b v.hands (set v.hands s (Waits w)) F (ticketed F w s content y) s rep.hands
@@ -112,7 +113,7 @@ ticket_world v F G w s kept content x y b inside is leaves rep held shows = reco
         (λ t ne. same_slot _ _ (turned_else F.held s (Worker w) (Ticket w) t ne) (put_else F.tickets s _ t ne) (put_else F.units s _ t ne) refl)
         here
 
-pub fill_world : (v : WorldView) (F : Flat) (w s : ℕ) (x : List ℕ) (b : ArrayView) → s < 65536 → b ≡ fill_view v.array s x → Represents v F
+pub fill_world : (v : WorldView) (F : Flat) (w s : ℕ) (x : List ℕ) (b : ArrayView) → s < length v.hands → b ≡ fill_view v.array s x → Represents v F
     → is_claim (hand_at v.hands s) w ≡ true → (t : ℕ) → t ≡ s → (G : Flat) × (FillCase F w t x (Filled t) G) × (ShowsArray b G)
     → (G : Flat) × (FillCase F w s x (Filled s) G) × (Represents (record { array = b; hands = set v.hands s (Waits w) }) G)
 fill_world v F w s x b inside is rep held t same z =
@@ -121,7 +122,7 @@ fill_world v F w s x b inside is rep held t same z =
     in
     (y.0, y.1, ticket_world v F y.0 w s Pending (Fresh x) x x b inside is y.1.4 rep held y.2)
 
-pub copy_world : (v : WorldView) (F : Flat) (w s c : ℕ) (r : Record) (x : List ℕ) (b : ArrayView) → s < 65536 → b ≡ copy_view v.array s r x → Represents v F
+pub copy_world : (v : WorldView) (F : Flat) (w s c : ℕ) (r : Record) (x : List ℕ) (b : ArrayView) → s < length v.hands → b ≡ copy_view v.array s r x → Represents v F
     → is_claim (hand_at v.hands s) w ≡ true → (t : ℕ) → t ≡ s → (G : Flat) × (CopyCase F w t c (Copied t) G) × (ShowsArray b G)
     → (G : Flat) × (CopyCase F w s c (Copied s) G) × (Represents (record { array = b; hands = set v.hands s (Waits w) }) G)
 copy_world v F w s c r x b inside is rep held t same z =
@@ -131,17 +132,28 @@ copy_world v F w s c r x b inside is rep held t same z =
     (y.0, y.1, ticket_world v F y.0 w s (Moving r) _ x _ b inside is y.1.4.5 rep held y.2)
 
 -- a world whose worker gave up a ticket stands for the state after it
-pub discard_world : (v : WorldView) (F : Flat) (w s : ℕ) (b : ArrayView) → s < 65536 → b ≡ discard_view v.array s → Represents v F
+pub discard_world : (v : WorldView) (F : Flat) (w s : ℕ) (b : ArrayView) → s < 65536 → s < length v.hands → b ≡ discard_view v.array s → Represents v F
     → is_ticket (hand_at v.hands s) w ≡ true → (t : ℕ) → t ≡ s → (G : Flat) × (DiscardCase F w t (Discarded t) G) × (ShowsArray b G)
     → (G : Flat) × (DiscardCase F w s (Discarded s) G) × (Represents (record { array = b; hands = set v.hands s (Holds w) }) G)
-discard_world v F w s b inside is rep held t same z =
-    (y.0, y.1, record { array = y.2; room = length-set v.hands s (Holds w) ∙ rep.room; hands = hands })
+discard_world v F w s b small inside is rep held t same z = (
+  y.0,
+  y.1,
+  record {
+    array = y.2;
+    inside = λ n u has. within n u (ap (λ (E : Flat). E.held n (Worker u)) (sym y.1.2) ∙ has) (cases_eq n s);
+    hands = hands;
+  },
+)
   where
     y : (G : Flat) × (DiscardCase F w s (Discarded s) G) × (ShowsArray b G)
     y = subst (λ n. (G : Flat) × (DiscardCase F w n (Discarded n) G) × (ShowsArray b G)) same z
 
     old : HandSlot (kept_at v.array s) (Waits w) (flat_at F s)
     old = subst (λ h. HandSlot (kept_at v.array s) h (flat_at F s)) (ticket_hand (hand_at v.hands s) w held) (rep.hands s)
+
+    within : (n u : ℕ) → (discarded F w s).held n (Worker u) ≡ true → (n ≡ s) ⊎ (n ≡ s → ⊥) → n < 65536
+    within n u has (inl e) = omega arith
+    within n u has (inr ne) = rep.inside n u (ap (λ (h : Holder → Bool). h (Worker u)) (sym (turned_else F.held s (Ticket w) (Worker w) n ne)) ∙ has)
 
     shows : ShowsArray b (discarded F w s)
     shows = subst (λ (G : Flat). ShowsArray b G) y.1.2 y.2
@@ -154,14 +166,11 @@ discard_world v F w s b inside is rep held t same z =
     kept_now = nothing_told (kept_at b s) (unit_at b s) (flat_at (discarded F w s) s) (shows.slots s) (put_here F.tickets s None) unblocked
 
     here : HandSlot (kept_at b s) (hand_at (set v.hands s (Holds w)) s) (flat_at (discarded F w s) s)
-    here =
-        let e = rep.room in
-        let hands : s < length v.hands = omega arith in
-        rw (get_or-set_same v.hands s (Holds w) Empty hands) (record {
-          claims = λ u. turned_here F.held s (Ticket w) (Worker w) (Worker u) ∙ ap (λ b. (b && true) || (u == w)) (old.claims u) ∙ flip u w;
-          tickets = λ u. turned_here F.held s (Ticket w) (Worker w) (Ticket u) ∙ ap (λ b. (b && not (u == w)) || false) (old.tickets u) ∙ other_claim u w;
-          agree = subst (λ k. Agree k (Holds w)) (sym kept_now) tt;
-        })
+    here = rw (get_or-set_same v.hands s (Holds w) Empty inside) (record {
+      claims = λ u. turned_here F.held s (Ticket w) (Worker w) (Worker u) ∙ ap (λ b. (b && true) || (u == w)) (old.claims u) ∙ flip u w;
+      tickets = λ u. turned_here F.held s (Ticket w) (Worker w) (Ticket u) ∙ ap (λ b. (b && not (u == w)) || false) (old.tickets u) ∙ other_claim u w;
+      agree = subst (λ k. Agree k (Holds w)) (sym kept_now) tt;
+    })
 
     all : (u : ℕ) → HandSlot (kept_at b u) (hand_at (set v.hands s (Holds w)) u) (flat_at (discarded F w s) u)
     all = one_hand v.array b v.hands (set v.hands s (Holds w)) F (discarded F w s) s rep.hands
@@ -173,14 +182,10 @@ discard_world v F w s b inside is rep held t same z =
     hands : (u : ℕ) → HandSlot (kept_at b u) (hand_at (set v.hands s (Holds w)) u) (flat_at y.0 u)
     hands u = subst (λ (G : Flat). HandSlot (kept_at b u) (hand_at (set v.hands s (Holds w)) u) (flat_at G u)) (sym y.1.2) (all u)
 
-passed_hands_length : (hands : List Hand) (s w : ℕ) (found : Option Record) → length (passed_hands hands s w found) ≡ length hands
-passed_hands_length hands s w None = length-set hands s Empty
-passed_hands_length hands s w (Some old) = length-set (set hands s Empty) old.place (Holds w) ∙ length-set hands s Empty
-
 pub commit_hands : (v : WorldView) (F : Flat) (w s b : ℕ) (found : Option Record) (r : Record) (writes : List Write) → s < 65536
-    → ((q : Record) → found ≡ Some q → q.place < 65536) → IsWhole v.array → Represents v F → is_ticket (hand_at v.hands s) w ≡ true → IsOld v.array s b found
+    → ((q : Record) → found ≡ Some q → q.place < 65536) → IsWhole v.array → length v.hands ≡ 65536 → Represents v F → is_ticket (hand_at v.hands s) w ≡ true → IsOld v.array s b found
     → (t : ℕ) → HandSlot (kept_at (commit_view v.array s b found r) t) (hand_at (passed_hands v.hands s w found) t) (flat_at (committed F w s b found writes r) t)
-commit_hands v F w s b found r writes inside small whole rep held old t = go (cases_eq t s)
+commit_hands v F w s b found r writes inside small whole room rep held old t = go (cases_eq t s)
   where
     G : Flat
     G = committed F w s b found writes r
@@ -195,7 +200,7 @@ commit_hands v F w s b found r writes inside small whole rep held old t = go (ca
     mine = subst (λ h. HandSlot (kept_at v.array s) h (flat_at F s)) hand (rep.hands s)
 
     hands_room : s < length v.hands
-    hands_room = let e = rep.room in omega arith
+    hands_room = omega arith
 
     kept_room : s < length v.array.kept
     kept_room = let e = whole.room.kept in omega arith
@@ -234,7 +239,7 @@ commit_hands v F w s b found r writes inside small whole rep held old t = go (ca
             subst (λ h. HandSlot (Newest b) h (flat_at F q.place)) (agree_newest b (hand_at v.hands q.place) kept.agree) kept
 
         long : q.place < length (set v.hands s Empty)
-        long = let e = rep.room in let l = length-set v.hands s Empty in let p = small q is in omega arith
+        long = let l = length-set v.hands s Empty in let p = small q is in omega arith
 
         kept_is : kept_at (commit_view v.array s b found r) q.place ≡ Nothing
         kept_is = ap (λ o. kept_at (commit_view v.array s b o r) q.place) is
@@ -258,6 +263,24 @@ commit_hands v F w s b found r writes inside small whole rep held old t = go (ca
     go (inl e) = subst P (sym e) here
     go (inr ne) = by_found found refl ne
 
+-- the slots that workers hold after a commit: those of before, and the old place
+commit_inside : (F : Flat) (w s b : ℕ) (found : Option Record) (r : Record) (writes : List Write) → s < 65536 → ((q : Record) → found ≡ Some q → q.place < 65536)
+    → ((t u : ℕ) → F.held t (Worker u) ≡ true → t < 65536)
+    → (t u : ℕ) → (committed F w s b found writes r).held t (Worker u) ≡ true → t < 65536
+commit_inside F w s b found r writes inside small before t u has = go (cases_eq t s) found refl
+  where
+    go : (t ≡ s) ⊎ (t ≡ s → ⊥) → (o : Option Record) → found ≡ o → t < 65536
+    go (inl e) o is = omega arith
+    go (inr ne) None is =
+        before t u (sym (ap (λ (h : Holder → Bool). h (Worker u)) (ap (λ o. passed_on F w s b o t) is ∙ held_else F w s b None t ne (λ q none. absurd (cc)))) ∙ has)
+    go (inr ne) (Some q) is = at (cases_eq t q.place)
+      where
+        at : (t ≡ q.place) ⊎ (t ≡ q.place → ⊥) → t < 65536
+        at (inl e) = let p = small q is in omega arith
+        at (inr off) =
+            let other : (p : Record) → Some q ≡ Some p → t ≡ p.place → ⊥ = λ p same e. off (e ∙ ap (λ (x : Record). x.place) (sym (some_is q p same))) in
+            before t u (sym (ap (λ (h : Holder → Bool). h (Worker u)) (ap (λ o. passed_on F w s b o t) is ∙ held_else F w s b (Some q) t ne other)) ∙ has)
+
 -- the state that a commit leaves, told by the newest record
 commit_leaves : (F G : Flat) (w s b : ℕ) (found : Option Record) (r : Record) → ((q : Record) → Contains F.emitted q → IsRecord q)
     → IsNewest F.emitted b found → CommitCase F w s b (Committed r) G → (writes : List Write) × (G ≡ committed F w s b found writes r)
@@ -269,11 +292,11 @@ commit_leaves F G w s b found r all newest y =
     of (Some (Fresh x)) z = (_, z.3)
     of (Some (Moved d i h x)) z = (_, z.3)
 
-pub commit_world : (v : WorldView) (F : Flat) (w s b : ℕ) (r : Record) (a : ArrayView) → s < 65536 → IsWhole v.array
+pub commit_world : (v : WorldView) (F : Flat) (w s b : ℕ) (r : Record) (a : ArrayView) → s < 65536 → IsWhole v.array → length v.hands ≡ 65536
     → a ≡ commit_view v.array s b (record_at b (key_at v.array b)) r → Represents v F → is_ticket (hand_at v.hands s) w ≡ true
     → (G : Flat) × (CommitCase F w s b (Committed r) G) × (ShowsArray a G)
     → (G : Flat) × (CommitCase F w s b (Committed r) G) × (Represents (record { array = a; hands = passed_hands v.hands s w (record_at b (key_at v.array b)) }) G)
-commit_world v F w s b r a inside whole is rep held y =
+commit_world v F w s b r a inside whole room is rep held y =
     let waits = hand_pending v F w s rep held in
     let found = record_at b (key_at v.array b) in
     let leaves = commit_leaves F y.0 w s b found r rep.array.records (newest_told v.array F b rep.array) y.1 in (
@@ -281,10 +304,11 @@ commit_world v F w s b r a inside whole is rep held y =
       y.1,
       record {
         array = y.2;
-        room = passed_hands_length v.hands s w found ∙ rep.room;
+        inside = λ t u has. commit_inside F w s b found r leaves.0 inside (λ q e. place_small b (key_at v.array b) q e) rep.inside t u
+            (ap (λ (E : Flat). E.held t (Worker u)) (sym leaves.1) ∙ has);
         hands = λ t. subst (λ (G : Flat). HandSlot (kept_at a t) (hand_at (passed_hands v.hands s w found) t) (flat_at G t)) (sym leaves.1)
             (subst (λ (x : ArrayView). HandSlot (kept_at x t) (hand_at (passed_hands v.hands s w found) t) (flat_at (committed F w s b found leaves.0 r) t)) (sym is)
-            (commit_hands v F w s b found r leaves.0 inside (λ q e. place_small b (key_at v.array b) q e) whole rep held
+            (commit_hands v F w s b found r leaves.0 inside (λ q e. place_small b (key_at v.array b) q e) whole room rep held
             (old_found v.array s b found refl whole waits) t));
       },
     )
@@ -304,7 +328,7 @@ and_true false = refl
 pub make_world : (v : WorldView) (F : Flat) (class : Class) (members : List Member) (g : ℕ) (a : ArrayView) → a.kept ≡ v.array.kept → Represents v F
     → (G : Flat) × (MakeCase F class members (MadeGroup g) G) × (ShowsArray a G)
     → (G : Flat) × (MakeCase F class members (MadeGroup g) G) × (Represents (record { array = a; hands = v.hands }) G)
-make_world v F class members g a kept rep y = (y.0, y.1, record { array = y.2; room = rep.room; hands = hands })
+make_world v F class members g a kept rep y = (y.0, y.1, record { array = y.2; inside = inside; hands = hands })
   where
     hand : (t : ℕ) → HandSlot (kept_at v.array t) (hand_at v.hands t) (flat_at (made F class members g) t)
     hand t = let h = rep.hands t in record {
@@ -312,6 +336,9 @@ make_world v F class members g a kept rep y = (y.0, y.1, record { array = y.2; r
       tickets = λ w. and_true (F.held t (Ticket w)) ∙ h.tickets w;
       agree = h.agree;
     }
+
+    inside : (t u : ℕ) → y.0.held t (Worker u) ≡ true → t < 65536
+    inside t u held = rep.inside t u (sym (and_true (F.held t (Worker u))) ∙ ap (λ (E : Flat). E.held t (Worker u)) (sym y.1.4) ∙ held)
 
     hands : (t : ℕ) → HandSlot (kept_at a t) (hand_at v.hands t) (flat_at y.0 t)
     hands t = subst (λ (G : Flat). HandSlot (kept_at a t) (hand_at v.hands t) (flat_at G t)) (sym y.1.4)

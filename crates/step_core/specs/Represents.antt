@@ -132,6 +132,7 @@ pub record ShowsArray (a : ArrayView) (F : Flat) : Type 0 where
   pub drives : F.drives ≡ a.drives
   pub log : F.emitted ≡ a.log
   pub records : (r : Record) → Contains F.emitted r → IsRecord r
+  pub blocks : (r : Record) → Contains F.emitted r → r.block < F.sizes.blocks
   pub chain : IsChain [] F.emitted
   pub writes : IsWriteChain [] F.writes
   pub map : IsMapOf F.emitted (key_at a)
@@ -172,5 +173,5 @@ pub record HandSlot (kept : Kept) (hand : Hand) (f : FlatSlot) : Type 0 where
 -- a world stands for a flat state
 pub record Represents (w : WorldView) (F : Flat) : Type 0 where
   pub array : ShowsArray w.array F
-  pub room : length w.hands ≡ 65536
+  pub inside : (s u : ℕ) → F.held s (Worker u) ≡ true → s < 65536
   pub hands : (s : ℕ) → HandSlot (kept_at w.array s) (hand_at w.hands s) (flat_at F s)
