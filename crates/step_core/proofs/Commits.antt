@@ -14,7 +14,7 @@ use Rattle.step_core.specs.declared.group.Class.{Class}
 use Rattle.step_core.specs.Cases.{committed, place_passed, stamped, longest_log}
 use Rattle.step_core.specs.Changes.{commit_view, passed}
 use Rattle.step_core.specs.Views.{Kept, Nothing, Moving, Newest, is_waiting, ArrayView, kept_at, unit_at, key_at, IsWhole}
-use Rattle.step_core.specs.Represents.{flat_at, ArraySlot, BlockStands, IsCopy, TicketStands, ComesNext, IsChain, IsWriteChain, IsWriteOf, HeaderTells, HeaderStands, PayloadStands, AreLimits, ShowsArray, is_newest}
+use Rattle.step_core.specs.Represents.{flat_at, ArraySlot, BlockStands, IsCopy, TicketStands, ComesNext, IsChain, IsWrite, IsWriteChain, IsWriteOf, HeaderTells, HeaderStands, PayloadStands, AreLimits, ShowsArray, is_newest}
 use Rattle.step_core.proofs.Pairs.{equal, equal_back, put_here, put_else, turned_here, turned_else}
 use Rattle.step_core.proofs.Pairs.{flip}
 use Rattle.step_core.proofs.Slots.{same_slot}
@@ -326,7 +326,9 @@ pub record IsReady (a : ArrayView) (F : Flat) (w s b : ℕ) (u : Stored) (v h : 
   pub room : length F.emitted < longest_log
   pub last : (x : Write) × (last_write writes b ≡ Some x) × (x.version ≡ v) × (x.payload ≡ u.payload)
   pub others : (c : ℕ) → (c ≡ b → ⊥) → last_write writes c ≡ last_write F.writes c
-  pub chain : IsWriteChain [] writes
+  pub all : (x : Write) → Contains writes x → IsWrite F.sizes.payload x
+  pub versions : IsWriteChain [] writes
+  pub stays : (x : Write) → Contains F.writes x → Contains writes x
   pub grown : (x : Write) → Contains writes x → (Contains F.writes x) ⊎ ((q : Record) → Contains F.emitted q → IsWriteOf q x → ⊥)
 
 -- the state after the commit
@@ -437,7 +439,8 @@ module _ (a : ArrayView) (F : Flat) (w s b : ℕ) (u : Stored) (v h : ℕ) (writ
     records = records;
     blocks = blocks;
     chain = chained [] F.emitted e_r ready.shows.chain next;
-    writes = ready.chain;
+    writes = ready.all;
+    versions = ready.versions;
     map = took F.emitted (emitted b s v h) (key_at a) _ (key_set a.keys (emitted b s v h) keys_room above) ready.shows.map;
     groups = ready.shows.groups;
     table = ready.shows.table;
@@ -610,7 +613,7 @@ module _ (a : ArrayView) (F : Flat) (w s b : ℕ) (u : Stored) (v h : ℕ) (writ
       payload_here : PayloadStands (F.emitted ++ e_r ∷ []) writes (Some (record { header = Some e_r; payload = u.payload }))
       payload_here q y is has wrote of =
           let same : e_r ≡ q = some_is e_r q is in
-          let most = write_most writes y ready.chain wrote in
+          let most = write_most writes y ready.versions wrote in
           let block : y.block ≡ b = of.0 ∙ ap (λ (p : Record). p.block) (sym same) in
           let newest : most.newest ≡ ready.last.0 = some_is _ _ (sym most.last ∙ ap (last_write writes) block ∙ ready.last.1) in
           let version : y.version ≡ most.newest.version =
@@ -645,7 +648,7 @@ module _ (a : ArrayView) (F : Flat) (w s b : ℕ) (u : Stored) (v h : ℕ) (writ
                 written = omega arith;
                 hop = was.hop;
                 most = omega arith;
-                payload = λ same. absurd (omega arith);
+                write = ready.stays (record { block = c; version = i; payload = x }) was.write;
               }
           copy (inr ne) =
               let now : key_at view c ≡ key_at a c = get_or-set_other a.keys b c (key_of e_r) 0 ne in
@@ -654,7 +657,7 @@ module _ (a : ArrayView) (F : Flat) (w s b : ℕ) (u : Stored) (v h : ℕ) (writ
                 written = omega arith;
                 hop = was.hop;
                 most = omega arith;
-                payload = λ same. let y = was.payload (omega arith) in (y.0, ready.others c ne ∙ y.1, y.2);
+                write = ready.stays (record { block = c; version = i; payload = x }) was.write;
               }
 
       tickets : (t : ℕ) → (t ≡ s) ⊎ (t ≡ s → ⊥) → TicketStands (class_of F t) writes (key_at view) (put F.tickets s None t)

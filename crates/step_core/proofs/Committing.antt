@@ -1,7 +1,7 @@
 -- A commit of a ticket is the flat machine's case: of a fresh payload, of a copy, and each refusal.
 use Rattle.std.proofs.Common.{◌≡◌, ◌≢◌, ℕ, ◌+◌, ◌*◌, ◌/◌, ◌%◌, ◌^◌, ◌<◌, ◌≤◌, Bool, true, false, ◌==◌, ◌&&◌, cond, List, [], ◌∷◌, ◌++◌, length, refl, sym, ap, ◌∙◌, subst, arith, ◌⊎◌, inl, inr, Option, Some, None, nat_le, Contains}
 use Rattle.std.proofs.lemmas.Bool.Decides.{nat_tests}
-use Rattle.std.proofs.lemmas.List.Elements.{Contains-push_cases}
+use Rattle.std.proofs.lemmas.List.Elements.{Contains-append_left, Contains-push_cases}
 use Rattle.std.proofs.lemmas.Option.{same_Some}
 use Rattle.map_join.specs.declared.records.Record.{Record}
 use Rattle.map_join.specs.Record.{record_of, record_at, stamp, stamp_of, stamp_in, IsRecord}
@@ -12,10 +12,10 @@ use Rattle.step_core.specs.Steps.{Committed, Refused}
 use Rattle.step_core.specs.Cases.{CommitCase, CommitWith, IsFor, HasStamp, next_version, last_version, longest_log}
 use Rattle.step_core.specs.Changes.{commit_view, commit_record, commit_reason, commit_reason_of, version_reason, stamp_reason, full_reason, version_given, hop_given, MayRefuse}
 use Rattle.step_core.specs.Views.{Kept, Nothing, Pending, Moving, Newest, is_waiting, ArrayView, kept_at, unit_at, key_at, IsWhole}
-use Rattle.step_core.specs.Represents.{IsCopy, TicketStands, IsWriteOf, ShowsArray, waiting}
+use Rattle.step_core.specs.Represents.{IsCopy, TicketStands, IsWrite, IsWriteOf, ShowsArray, waiting}
 use Rattle.step_core.proofs.Pairs.{equal, equal_back}
 use Rattle.step_core.proofs.Newest.{newest_told, told_at, untold_at, told_key}
-use Rattle.step_core.proofs.Writes.{last_here, last_else, write_chained}
+use Rattle.step_core.proofs.Writes.{last_here, last_else, write_chained, write_most}
 use Rattle.step_core.proofs.Commits.{emitted, IsReady, after, shows_after, waits_unit}
 
 -- neither of two reasons is given
@@ -208,6 +208,18 @@ commit_fresh a F w s b whole inside block waits t left room shows = (
         let n : next_version (record_at b (key_at a b)) ≡ key_at a b / 2 ^ 32 + 1 = ap next_version (told_at b (key_at a b) big) in
         omega arith
 
+    -- the new write has a version above 0, and the length of what lies at the slot
+    all : (x : Write) → Contains writes x → IsWrite F.sizes.payload x
+    all x has = go (Contains-push_cases F.writes new x has)
+      where
+        one : (o : Option Record) → 0 < next_version o
+        one None = omega arith
+        one (Some n) = omega arith
+
+        go : (Contains F.writes x) ⊎ (new ≡ x) → IsWrite F.sizes.payload x
+        go (inl old) = shows.writes x old
+        go (inr is) = subst (IsWrite F.sizes.payload) is (record { version = one (record_at b (key_at a b)); length = shows.sized s t.unit ((shows.slots s).unit ∙ t.unit_is) })
+
     -- no record of the block has the next version yet
     unused : (key : ℕ) → (key ≡ 0) ⊎ (2 ^ 32 ≤ key) → (n : ℕ) → n * 2 ^ 32 ≤ key → n ≡ next_version (record_at b key) → ⊥
     unused key (inl e) n low is = let v : next_version (record_at b key) ≡ 1 = ap next_version (untold_at b key (omega arith)) in omega arith
@@ -242,7 +254,9 @@ commit_fresh a F w s b whole inside block waits t left room shows = (
       room = short a F shows room;
       last = (new, last_here F.writes new, refl, refl);
       others = λ c ne. last_else F.writes new c ne;
-      chain = write_chained [] F.writes new shows.writes (next_write key_or);
+      all = all;
+      versions = write_chained [] F.writes new shows.versions (next_write key_or);
+      stays = λ x has. Contains-append_left F.writes (new ∷ []) x has;
       grown = grown;
     }
 
@@ -284,11 +298,14 @@ commit_moved a F w s b q whole inside block waits t now room shows = (
 
     last : (x : Write) × (last_write F.writes b ≡ Some x) × (x.version ≡ q.version) × (x.payload ≡ t.unit.payload)
     last =
-        let x = here.payload newest in
+        let most = write_most F.writes (record { block = b; version = q.version; payload = t.unit.payload }) shows.versions here.write in
         let big = told.0 in
         let y = (shows.written b).1 (omega arith) in
-        let same : y.0 ≡ x.0 = same_Some _ _ (sym y.1 ∙ x.1) in
-        (x.0, x.1, ap (λ (z : Write). z.version) (sym same) ∙ y.2.version ∙ ap (λ (r : Record). r.version) told.1 ∙ now.version, x.2)
+        let same : y.0 ≡ most.newest = same_Some _ _ (sym y.1 ∙ most.last) in
+        let version : most.newest.version ≡ q.version =
+        ap (λ (z : Write). z.version) (sym same) ∙ y.2.version ∙ ap (λ (r : Record). r.version) told.1 ∙ now.version
+        in
+        (most.newest, most.last, version, ap (λ (z : Write). z.payload) (sym (most.same (sym version))))
 
     ready : IsReady a F w s b t.unit q.version (q.hop + 1) F.writes
     ready = record {
@@ -307,7 +324,9 @@ commit_moved a F w s b q whole inside block waits t now room shows = (
       room = short a F shows room;
       last = last;
       others = λ c ne. refl;
-      chain = shows.writes;
+      all = shows.writes;
+      versions = shows.versions;
+      stays = λ x has. has;
       grown = λ x has. inl has;
     }
 

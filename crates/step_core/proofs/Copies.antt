@@ -1,5 +1,5 @@
 -- A copy of a block's newest payload is the flat machine's case.
-use Rattle.std.proofs.Common.{◌≡◌, ◌≢◌, ℕ, ◌/◌, ◌%◌, ◌^◌, ◌<◌, ◌≤◌, Bool, true, false, cond, nat_le, is_some, refl, sym, ap, ◌∙◌, subst, arith, Option, Some, None}
+use Rattle.std.proofs.Common.{◌≡◌, ◌≢◌, ℕ, ◌/◌, ◌%◌, ◌^◌, ◌<◌, ◌≤◌, Bool, true, false, cond, nat_le, is_some, refl, sym, ap, ◌∙◌, subst, arith, Option, Some, None, Contains}
 use Rattle.std.proofs.lemmas.Bool.Decides.{nat_tests}
 use Rattle.std.proofs.lemmas.Option.{same_Some}
 use Rattle.map_join.specs.declared.records.Record.{Record}
@@ -18,6 +18,7 @@ use Rattle.step_core.proofs.Kepts.{kept_iff}
 use Rattle.step_core.proofs.Fills.{class_seen, unkept, waits_moving, wait_shows, wait_whole}
 use Rattle.step_core.proofs.Finds.{read_there, newest_write}
 use Rattle.step_core.proofs.Commits.{unit_of}
+use Rattle.step_core.proofs.Writes.{last_there}
 
 -- the slot is free and in a group, and the record isn't of the last hop
 pub record CanCopy (a : ArrayView) (s : ℕ) (r : Record) : Type 0 where
@@ -74,7 +75,7 @@ copy_case a F w s b r u inside found unit none whole shows held = (
     told : (2 ^ 32 ≤ key_at a b) × (record_of b (key_at a b) ≡ r)
     told = told_key b (key_at a b) r found
 
-    y : (w : Write) × (last_write F.writes b ≡ Some w) × (u.payload ≡ w.payload)
+    y : (w : Write) × (last_write F.writes b ≡ Some w) × (u.payload ≡ w.payload) × (w.version ≡ r.version)
     y = newest_write a F b r u shows found unit
 
     block : b ≡ r.block
@@ -85,7 +86,11 @@ copy_case a F w s b r u inside found unit none whole shows held = (
         let some = told.0 in
         let version : key_at a b / 2 ^ 32 ≡ r.version = ap (λ (q : Record). q.version) told.1 in
         let hop : key_at a b / 2 ^ 16 % 2 ^ 16 ≡ r.hop = ap (λ (q : Record). q.hop) told.1 in
-        record { written = omega arith; hop = can.hop; most = omega arith; payload = λ e. (y.0, y.1, refl) }
+        let there = last_there F.writes b y.0 y.1 in
+        let is : y.0 ≡ record { block = b; version = r.version; payload = y.0.payload } =
+        λ i. record { block = there.1 i; version = y.3 i; payload = y.0.payload }
+        in
+        record { written = omega arith; hop = can.hop; most = omega arith; write = subst (Contains F.writes) is there.0 }
 
     after : ShowsArray (copy_view a s r y.0.payload) (copied F w s r y.0.payload)
     after = wait_shows a F w s (Moving r) (Moved r.block r.version r.hop y.0.payload) y.0.payload inside can.free (some_class (class_of F s) class)

@@ -87,6 +87,7 @@ discard_shows a F w s inside waits mine whole shows = record {
   blocks = shows.blocks;
   chain = shows.chain;
   writes = shows.writes;
+  versions = shows.versions;
   map = shows.map;
   groups = shows.groups;
   table = shows.table;

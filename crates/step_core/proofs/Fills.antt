@@ -137,6 +137,7 @@ wait_shows a F w s kept content x inside free classed now stands was whole shows
   blocks = shows.blocks;
   chain = shows.chain;
   writes = shows.writes;
+  versions = shows.versions;
   map = shows.map;
   groups = shows.groups;
   table = shows.table;

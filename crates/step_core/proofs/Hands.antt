@@ -30,6 +30,7 @@ hands_move a F H same shows = record {
   blocks = shows.blocks;
   chain = shows.chain;
   writes = shows.writes;
+  versions = shows.versions;
   map = shows.map;
   groups = shows.groups;
   table = shows.table;

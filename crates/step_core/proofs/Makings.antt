@@ -165,6 +165,7 @@ entered_shows a b F g class members whole limit free reason e shows = subst (λ 
   blocks = shows.blocks;
   chain = shows.chain;
   writes = shows.writes;
+  versions = shows.versions;
   map = shows.map;
   groups = λ h. groups h (cases_eq h g);
   table = table_of view G now shows.sizes shows.drives (λ h. groups h (cases_eq h g));

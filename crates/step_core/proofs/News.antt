@@ -9,7 +9,7 @@ use Rattle.step_core.specs.declared.stored.StoredUnit.{StoredUnit}
 use Rattle.step_core.specs.declared.group.Group.{Group}
 use Rattle.step_core.specs.Sizes.{Sizes, AreSizes}
 use Rattle.step_core.specs.Kept.{kept_of, kepts_of, stored_of, units_of, made_of, groups_of}
-use Rattle.step_core.specs.Flat.{new_flat}
+use Rattle.step_core.specs.Flat.{Write, new_flat}
 use Rattle.step_core.specs.Views.{Nothing, Moving, Newest, ArrayView, IsWhole, IsNew}
 use Rattle.step_core.specs.Represents.{flat_at, ArraySlot, ShowsArray}
 
@@ -43,6 +43,9 @@ new_whole z d a new narrow = record {
 not_there : (r : Record) → Contains [] r → ⊥
 not_there r has = let h = has.1 in omega arith
 
+unwritten : (w : Write) → Contains [] w → ⊥
+unwritten w has = let h = has.1 in omega arith
+
 blank_slot : (s : ℕ) (z : Sizes) (d : ℕ) → ArraySlot Nothing None (flat_at (new_flat z d) s)
 blank_slot s z d = record {
   blocks = λ b. refl;
@@ -65,7 +68,8 @@ new_shows z d a new sizes least most = record {
   records = λ r has. absurd (not_there r has);
   blocks = λ r has. absurd (not_there r has);
   chain = tt;
-  writes = tt;
+  writes = λ w has. absurd (unwritten w has);
+  versions = tt;
   map = record { told = λ b some. let e = new.keys b in absurd (omega arith); most = λ r has. absurd (not_there r has) };
   groups = λ g. sym (new.groups g);
   table = record { limit = λ g made is. absurd (cc); members = λ g made is. absurd (cc); owned = λ g h m n is. absurd (cc) };

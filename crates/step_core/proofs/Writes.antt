@@ -1,5 +1,5 @@
 -- The last write of a list that grows, chains of writes, and the keys of a table with one changed.
-use Rattle.std.proofs.Common.{◌≡◌, ℕ, ◌+◌, ◌/◌, ◌^◌, ◌<◌, ◌≤◌, max, ◌==◌, cond, List, [], ◌∷◌, ◌++◌, length, get_or, refl, sym, ap, ◌∙◌, arith, ◌⊎◌, inl, inr, Option, Some, None, Contains, subst}
+use Rattle.std.proofs.Common.{◌≡◌, ℕ, suc, Bool, true, false, ◌+◌, ◌/◌, ◌^◌, ◌<◌, ◌≤◌, max, ◌==◌, cond, List, [], ◌∷◌, ◌++◌, length, get_or, refl, sym, ap, ◌∙◌, arith, ◌⊎◌, inl, inr, Option, Some, None, Contains, subst}
 use Rattle.std.proofs.Math.ListN.{set}
 use Rattle.std.proofs.lemmas.List.{get_or-set_same, get_or-set_other}
 use Rattle.std.proofs.lemmas.List.{append-nil, append_assoc}
@@ -13,7 +13,7 @@ use Rattle.map_join.proofs.Joins.{only_here, only_else}
 use Rattle.step_core.specs.Flat.{Write, or_else, last_write}
 use Rattle.step_core.specs.Cases.{next_version}
 use Rattle.step_core.specs.Represents.{IsWriteChain}
-use Rattle.step_core.proofs.Pairs.{equal, unequal}
+use Rattle.step_core.proofs.Pairs.{equal, unequal, equal_back}
 use Rattle.step_core.proofs.Newest.{told_at, untold_at}
 
 or_else_none : {X : Type 0} (o : Option X) → or_else o None ≡ o
@@ -28,6 +28,22 @@ last_here (v ∷ ws) w = ap (λ o. or_else o (cond (v.block == w.block) (Some v)
 pub last_else : (ws : List Write) (w : Write) (block : ℕ) → (block ≡ w.block → ⊥) → last_write (ws ++ w ∷ []) block ≡ last_write ws block
 last_else [] w block ne = ap (λ b. cond b (Some w) None) (unequal w.block block (λ e. ne (sym e)))
 last_else (v ∷ ws) w block ne = ap (λ o. or_else o (cond (v.block == block) (Some v) None)) (last_else ws w block ne)
+
+-- the last write of a block is one of the list, and of the block
+there_more : (ws : List Write) (v w : Write) (b : ℕ) (o : Option Write) → (o ≡ Some w → (Contains ws w) × (w.block ≡ b))
+    → or_else o (cond (v.block == b) (Some v) None) ≡ Some w → (Contains (v ∷ ws) w) × (w.block ≡ b)
+there_more ws v w b (Some x) behind e = let old = behind e in let low = old.0.1 in ((suc old.0.0, omega arith, old.0.2), old.1)
+there_more ws v w b None behind e = go (v.block == b) refl e
+  where
+    go : (q : Bool) → (v.block == b) ≡ q → cond q (Some v) None ≡ Some w → (Contains (v ∷ ws) w) × (w.block ≡ b)
+    go true same is =
+        let first : v ≡ w = same_Some _ _ is in
+        ((0, omega arith, first), ap (λ (x : Write). x.block) (sym first) ∙ equal_back v.block b same)
+    go false same is = absurd (cc)
+
+pub last_there : (ws : List Write) (b : ℕ) (w : Write) → last_write ws b ≡ Some w → (Contains ws w) × (w.block ≡ b)
+last_there [] b w is = absurd (cc)
+last_there (v ∷ ws) b w is = there_more ws v w b (last_write ws b) (last_there ws b w) is
 
 -- a chain of writes that goes one write on, which has the version after that of its block's last before it
 pub write_chained : (before ws : List Write) (w : Write) → IsWriteChain before ws

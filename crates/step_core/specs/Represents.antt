@@ -61,13 +61,13 @@ pub record IsWritten (F : Flat) (b key : ℕ) (w : Write) : Type 0 where
 abbrev pub BlockStands : Flat → ℕ → ℕ → Type 0
 BlockStands F b key = (key ≡ 0 → last_write F.writes b ≡ None) × (0 < key → (w : Write) × (last_write F.writes b ≡ Some w) × (IsWritten F b key w))
 
--- what a waiting copy rests on: its block was written, it can move one hop on, its stamp is at most the newest's, and where
--- it is the newest's its payload is the last write's
+-- what a waiting copy rests on: its block was written, it can move one hop on, its stamp is at most the newest's, and its
+-- version and payload are those of an acknowledged write
 pub record IsCopy (writes : List Write) (b v h : ℕ) (x : List ℕ) (key : ℕ) : Type 0 where
   pub written : 0 < key
   pub hop : h < last_hop
   pub most : stamp v h ≤ stamp_in key
-  pub payload : stamp v h ≡ stamp_in key → (w : Write) × (last_write writes b ≡ Some w) × (w.payload ≡ x)
+  pub write : Contains writes (record { block = b; version = v; payload = x })
 
 -- what waits at a slot of this class: a fresh payload only where the class is mirrored, or a copy
 abbrev pub TicketStands : Option Class → List Write → (ℕ → ℕ) → Option Content → Type 0
@@ -83,6 +83,11 @@ ComesNext n r = ((r.version ≡ n.version + 1) × (r.hop ≡ 0)) ⊎ ((r.version
 abbrev pub IsChain : List Record → List Record → Type 0
 IsChain before [] = Unit {0}
 IsChain before (r ∷ log) = ((n : Record) → IsNewest before r.block (Some n) → ComesNext n r) × IsChain (before ++ r ∷ []) log
+
+-- an acknowledged write: a version above 0, and a payload as long as the array's
+pub record IsWrite (payload : ℕ) (w : Write) : Type 0 where
+  pub version : 0 < w.version
+  pub length : length w.payload ≡ payload
 
 -- each later write of a block has the version after that of the block's last write before it; a block's first may be any
 abbrev pub IsWriteChain : List Write → List Write → Type 0
@@ -127,23 +132,29 @@ HoldsPlace held keys = (s b : ℕ) → held s (Block b) ≡ true → (0 < keys b
 
 -- an array stands for a flat state
 pub record ShowsArray (a : ArrayView) (F : Flat) : Type 0 where
-  pub limits : AreLimits F.sizes F.drives (length F.emitted)
+  -- sizes, drives, log and groups are the array's, within the limits of every array
   pub sizes : F.sizes ≡ a.sizes
   pub drives : F.drives ≡ a.drives
   pub log : F.emitted ≡ a.log
+  pub groups : (g : ℕ) → F.groups g ≡ group_at a g
+  pub limits : AreLimits F.sizes F.drives (length F.emitted)
+  pub table : AreGroups F.sizes.extents F.drives F.groups
+  -- the emitted records are of the array's blocks, each comes next after those of its block, and the array's keys are their map
   pub records : (r : Record) → Contains F.emitted r → IsRecord r
   pub blocks : (r : Record) → Contains F.emitted r → r.block < F.sizes.blocks
   pub chain : IsChain [] F.emitted
-  pub writes : IsWriteChain [] F.writes
   pub map : IsMapOf F.emitted (key_at a)
-  pub groups : (g : ℕ) → F.groups g ≡ group_at a g
-  pub table : AreGroups F.sizes.extents F.drives F.groups
+  -- the acknowledged writes of a block have one version after another
+  pub writes : (w : Write) → Contains F.writes w → IsWrite F.sizes.payload w
+  pub versions : IsWriteChain [] F.writes
+  -- of each slot, holders, ticket and unit are what the array keeps; what the header says of the payload, and what a ticket rests on
   pub slots : (s : ℕ) → ArraySlot (kept_at a s) (unit_at a s) (flat_at F s)
   pub sized : AreSized F.sizes.payload F.units
-  pub places : HoldsPlace F.held (key_at a)
   pub headers : (s : ℕ) → HeaderStands (key_at a) s (F.units s)
   pub payloads : (s : ℕ) → PayloadStands F.emitted F.writes (F.units s)
   pub tickets : (s : ℕ) → TicketStands (class_of F s) F.writes (key_at a) (F.tickets s)
+  -- each block's last write lies at its newest place, the one slot that the block holds
+  pub places : HoldsPlace F.held (key_at a)
   pub written : (b : ℕ) → BlockStands F b (key_at a b)
 
 -- worker w has a claim of the slot in hand, or a ticket
@@ -170,7 +181,7 @@ pub record HandSlot (kept : Kept) (hand : Hand) (f : FlatSlot) : Type 0 where
   pub tickets : (w : ℕ) → f.held (Ticket w) ≡ is_ticket hand w
   pub agree : Agree kept hand
 
--- a world stands for a flat state
+-- a world stands for a flat state: its array does, workers hold slots that there are, and of each slot what its hands say
 pub record Represents (w : WorldView) (F : Flat) : Type 0 where
   pub array : ShowsArray w.array F
   pub inside : (s u : ℕ) → F.held s (Worker u) ≡ true → s < 65536
