@@ -1,5 +1,5 @@
 -- A slot that waits becomes a block's newest place: what is seen of the array then stands for the flat state after it.
-use Rattle.std.proofs.Common.{◌≡◌, ◌≢◌, ℕ, ◌+◌, ◌*◌, ◌/◌, ◌^◌, ◌<◌, ◌≤◌, Bool, true, false, not, ◌==◌, ◌&&◌, ◌||◌, is_some, List, [], ◌∷◌, ◌++◌, length, get_or, Contains, refl, sym, ap, ◌∙◌, subst, arith, ◌⊎◌, inl, inr, Option, Some, None}
+use Rattle.std.proofs.Common.{◌≡◌, ◌≢◌, ℕ, ◌+◌, ◌^◌, ◌<◌, ◌≤◌, Bool, true, false, not, ◌==◌, ◌&&◌, ◌||◌, is_some, List, [], ◌∷◌, ◌++◌, length, get_or, Contains, refl, sym, ap, ◌∙◌, subst, arith, ◌⊎◌, inl, inr, Option, Some, None}
 use Rattle.std.proofs.Math.ListN.{set}
 use Rattle.std.proofs.lemmas.List.{append-nil, append_assoc, length-append, length-set, get_or-set_same, get_or-set_other}
 use Rattle.std.proofs.lemmas.List.Elements.{Contains-push_cases}
@@ -329,6 +329,7 @@ pub record IsReady (a : ArrayView) (F : Flat) (w s b : ℕ) (u : Stored) (v h : 
   pub all : (x : Write) → Contains writes x → IsWrite F.sizes.payload x
   pub versions : IsWriteChain [] writes
   pub stays : (x : Write) → Contains F.writes x → Contains writes x
+  -- a write that is new is of no record emitted before
   pub grown : (x : Write) → Contains writes x → (Contains F.writes x) ⊎ ((q : Record) → Contains F.emitted q → IsWriteOf q x → ⊥)
 
 -- the state after the commit

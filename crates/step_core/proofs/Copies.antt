@@ -7,7 +7,7 @@ use Rattle.map_join.specs.Record.{record_of, record_at}
 use Rattle.step_core.specs.declared.group.Class.{Class}
 use Rattle.step_core.specs.declared.refusal.Refusal.{Refusal}
 use Rattle.step_core.specs.Groups.{class_at}
-use Rattle.step_core.specs.Flat.{Flat, Write, Worker, Moved, Stored, IsKept, IsNewest, class_of, last_write}
+use Rattle.step_core.specs.Flat.{Flat, Write, Worker, Moved, Stored, IsNewest, class_of, last_write}
 use Rattle.step_core.specs.Steps.{Copied, Refused}
 use Rattle.step_core.specs.Cases.{CopyCase, copied, last_hop}
 use Rattle.step_core.specs.Changes.{copy_view, copy_reason, copy_reason_of, MayRefuse}

@@ -1,5 +1,5 @@
 -- When an array or a world stands for a flat state.
-use Rattle.std.specs.Prelude.{◌≡◌, ◌⊎◌, ℕ, ◌+◌, ◌*◌, ◌/◌, ◌^◌, ◌<◌, ◌≤◌, ◌==◌, Bool, true, false, is_some, List, [], ◌∷◌, ◌++◌, length, Contains, Option, Some, None}
+use Rattle.std.specs.Prelude.{◌≡◌, ◌⊎◌, ℕ, ◌+◌, ◌<◌, ◌≤◌, ◌==◌, Bool, true, false, is_some, List, [], ◌∷◌, ◌++◌, length, Contains, Option, Some, None}
 use Rattle.map_join.specs.declared.records.Record.{Record}
 use Rattle.map_join.specs.Record.{key_of, record_of, IsRecord, stamp, stamp_of, stamp_in}
 use Rattle.map_join.specs.Maps.{IsMapOf}
@@ -139,7 +139,7 @@ pub record ShowsArray (a : ArrayView) (F : Flat) : Type 0 where
   pub groups : (g : ℕ) → F.groups g ≡ group_at a g
   pub limits : AreLimits F.sizes F.drives (length F.emitted)
   pub table : AreGroups F.sizes.extents F.drives F.groups
-  -- the emitted records are of the array's blocks, each comes next after those of its block, and the array's keys are their map
+  -- the emitted records are of the array's blocks, each comes next after those of its block, and the keys are their map
   pub records : (r : Record) → Contains F.emitted r → IsRecord r
   pub blocks : (r : Record) → Contains F.emitted r → r.block < F.sizes.blocks
   pub chain : IsChain [] F.emitted
@@ -147,7 +147,7 @@ pub record ShowsArray (a : ArrayView) (F : Flat) : Type 0 where
   -- the acknowledged writes of a block have one version after another
   pub writes : (w : Write) → Contains F.writes w → IsWrite F.sizes.payload w
   pub versions : IsWriteChain [] F.writes
-  -- of each slot, holders, ticket and unit are what the array keeps; what the header says of the payload, and what a ticket rests on
+  -- of each slot, holders, ticket and unit are what the array keeps, and what header, payload and ticket rest on
   pub slots : (s : ℕ) → ArraySlot (kept_at a s) (unit_at a s) (flat_at F s)
   pub sized : AreSized F.sizes.payload F.units
   pub headers : (s : ℕ) → HeaderStands (key_at a) s (F.units s)
