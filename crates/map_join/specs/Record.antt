@@ -7,6 +7,17 @@ use Rattle.map_join.specs.declared.records.Record.{Record}
 abbrev pub key_of : Record → ℕ
 key_of r = r.version * 2 ^ 32 + r.hop * 2 ^ 16 + r.place
 
+-- a version and a hop as one number: of two records of a block, the one of the greater stamp is the newer
+abbrev pub stamp : ℕ → ℕ → ℕ
+stamp version hop = version * 2 ^ 16 + hop
+
+-- the stamp of a record, and of the record that a key tells
+abbrev pub stamp_of : Record → ℕ
+stamp_of r = stamp r.version r.hop
+
+abbrev pub stamp_in : ℕ → ℕ
+stamp_in key = key / 2 ^ 16
+
 -- the record of a block that a key tells
 abbrev pub record_of : ℕ → ℕ → Record
 record_of block key = record { block = block; version = key / 2 ^ 32; hop = key / 2 ^ 16 % 2 ^ 16; place = key % 2 ^ 16 }

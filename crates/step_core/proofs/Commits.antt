@@ -1,24 +1,27 @@
 -- A slot that waits becomes a block's newest place: what is seen of the array then stands for the flat state after it.
-use Rattle.std.proofs.Common.{◌≡◌, ◌≢◌, ℕ, ◌+◌, ◌*◌, ◌/◌, ◌^◌, ◌<◌, ◌≤◌, Bool, true, false, not, ◌==◌, ◌&&◌, ◌||◌, is_some, List, [], ◌∷◌, ◌++◌, length, get_or, Contains, refl, sym, ap, ◌∙◌, subst, arith, ◌⊎◌, inl, inr, Option, Some, None}
+use Rattle.std.proofs.Common.{◌≡◌, ◌≢◌, ℕ, ◌+◌, ◌^◌, ◌<◌, ◌≤◌, Bool, true, false, not, ◌==◌, ◌&&◌, ◌||◌, is_some, List, [], ◌∷◌, ◌++◌, length, get_or, Contains, refl, sym, ap, ◌∙◌, subst, arith, ◌⊎◌, inl, inr, Option, Some, None}
 use Rattle.std.proofs.Math.ListN.{set}
-use Rattle.std.proofs.lemmas.List.{append-nil, append_assoc, length-set, get_or-set_same, get_or-set_other}
+use Rattle.std.proofs.lemmas.List.{append-nil, append_assoc, length-append, length-set, get_or-set_same, get_or-set_other}
 use Rattle.std.proofs.lemmas.List.Elements.{Contains-push_cases}
 use Rattle.std.proofs.lemmas.Bool.{cases_eq}
 use Rattle.std.proofs.lemmas.Option.{same_Some}
 use Rattle.map_join.specs.declared.records.Record.{Record}
-use Rattle.map_join.specs.Record.{key_of, record_of, record_at, IsRecord}
+use Rattle.map_join.specs.Record.{key_of, record_of, record_at, stamp, stamp_of, stamp_in, IsRecord}
 use Rattle.map_join.proofs.Joins.{took}
 use Rattle.step_core.specs.Flat.{Flat, Write, Holder, Worker, Ticket, Block, Shut, Content, Fresh, Moved, Stored, put, same_holder, turned, last_write, IsNewest, class_of}
-use Rattle.step_core.specs.Cases.{committed, place_passed, stamped}
+use Rattle.step_core.specs.Sizes.{Sizes}
+use Rattle.step_core.specs.declared.group.Class.{Class}
+use Rattle.step_core.specs.Cases.{committed, place_passed, stamped, longest_log}
 use Rattle.step_core.specs.Changes.{commit_view, passed}
 use Rattle.step_core.specs.Views.{Kept, Nothing, Moving, Newest, is_waiting, ArrayView, kept_at, unit_at, key_at, IsWhole}
-use Rattle.step_core.specs.Represents.{flat_at, ArraySlot, BlockStands, IsCopy, TicketStands, ComesNext, IsChain, HeaderTells, HeaderStands, ShowsArray, is_newest}
+use Rattle.step_core.specs.Represents.{flat_at, ArraySlot, BlockStands, IsCopy, TicketStands, ComesNext, IsChain, IsWrite, IsWriteChain, IsWriteOf, HeaderTells, HeaderStands, PayloadStands, AreLimits, ShowsArray, is_newest}
 use Rattle.step_core.proofs.Pairs.{equal, equal_back, put_here, put_else, turned_here, turned_else}
 use Rattle.step_core.proofs.Pairs.{flip}
 use Rattle.step_core.proofs.Slots.{same_slot}
 use Rattle.step_core.proofs.Kepts.{waiting_none, waiting_kept, waiting_newest}
 use Rattle.step_core.proofs.Newest.{newest_told, newest_unique, told_again, told_at, untold_at, key_least, place_small}
-use Rattle.step_core.proofs.Writes.{key_set}
+use Rattle.step_core.proofs.Writes.{key_set, write_most}
+use Rattle.step_core.proofs.Wholes.{places_of, sized_of}
 
 -- the record that a commit emits
 abbrev pub emitted : ℕ → ℕ → ℕ → ℕ → Record
@@ -164,8 +167,7 @@ commit_whole a s b v h whole inside block waits ok = record {
   moving = λ t q is. whole.moving t q (kept_same t (Moving q) is (λ e. cc) (λ e. cc) (cases_eq t s));
   stored = λ t. stored t (cases_eq t s);
   sized = λ t x is. sized t x is (cases_eq t s);
-  members = whole.members;
-  owned = whole.owned;
+  groups = whole.groups;
 }
   where
     r : Record
@@ -319,10 +321,16 @@ pub record IsReady (a : ArrayView) (F : Flat) (w s b : ℕ) (u : Stored) (v h : 
   pub unit : unit_at a s ≡ Some u
   pub mine : F.held s (Ticket w) ≡ true
   pub ok : IsRecord (emitted b s v h)
-  pub above : key_at a b / 2 ^ 16 < v * 2 ^ 16 + h
+  pub above : stamp_in (key_at a b) < stamp v h
   pub next : (n : Record) → record_at b (key_at a b) ≡ Some n → ComesNext n (emitted b s v h)
+  pub room : length F.emitted < longest_log
   pub last : (x : Write) × (last_write writes b ≡ Some x) × (x.version ≡ v) × (x.payload ≡ u.payload)
   pub others : (c : ℕ) → (c ≡ b → ⊥) → last_write writes c ≡ last_write F.writes c
+  pub all : (x : Write) → Contains writes x → IsWrite F.sizes.payload x
+  pub versions : IsWriteChain [] writes
+  pub stays : (x : Write) → Contains F.writes x → Contains writes x
+  -- a write that is new is of no record emitted before
+  pub grown : (x : Write) → Contains writes x → (Contains F.writes x) ⊎ ((q : Record) → Contains F.emitted q → IsWriteOf q x → ⊥)
 
 -- the state after the commit
 abbrev pub after : ArrayView → Flat → ℕ → ℕ → ℕ → ℕ → ℕ → List Write → Flat
@@ -425,16 +433,23 @@ module _ (a : ArrayView) (F : Flat) (w s b : ℕ) (u : Stored) (v h : ℕ) (writ
 
   pub shows_after : ShowsArray (commit_view a s b (record_at b (key_at a b)) (emitted b s v h)) (after a F w s b v h writes)
   shows_after = record {
-    whole = commit_whole a s b v h ready.whole ready.slot ready.block ready.waits ready.ok;
+    limits = limits;
     sizes = ready.shows.sizes;
     drives = ready.shows.drives;
     log = ap (λ l. l ++ emitted b s v h ∷ []) ready.shows.log;
     records = records;
+    blocks = blocks;
     chain = chained [] F.emitted e_r ready.shows.chain next;
+    writes = ready.all;
+    versions = ready.versions;
     map = took F.emitted (emitted b s v h) (key_at a) _ (key_set a.keys (emitted b s v h) keys_room above) ready.shows.map;
     groups = ready.shows.groups;
+    table = ready.shows.table;
     slots = slots_after;
+    sized = sized_of view G whole ready.shows.sizes slots_after;
+    places = places_of view G whole slots_after;
     headers = λ t. headers t (cases_eq t s);
+    payloads = λ t. payloads t (cases_eq t s);
     tickets = λ t. tickets t (cases_eq t s);
     written = λ c. written c (cases_eq c b);
   }
@@ -448,12 +463,37 @@ module _ (a : ArrayView) (F : Flat) (w s b : ℕ) (u : Stored) (v h : ℕ) (writ
       view : ArrayView
       view = commit_view a s b (record_at b (key_at a b)) (emitted b s v h)
 
+      whole : IsWhole view
+      whole = commit_whole a s b v h ready.whole ready.slot ready.block ready.waits ready.ok
+
+      limits : AreLimits F.sizes F.drives (length (F.emitted ++ e_r ∷ []))
+      limits =
+          let room = ready.room in
+          let long : length (F.emitted ++ e_r ∷ []) ≡ length F.emitted + 1 = length-append F.emitted (e_r ∷ []) in
+          record {
+            sizes = ready.shows.limits.sizes;
+            least = ready.shows.limits.least;
+            most = ready.shows.limits.most;
+            log = omega arith;
+          }
+
       records : (q : Record) → Contains (F.emitted ++ e_r ∷ []) q → IsRecord q
       records q has = go (Contains-push_cases F.emitted e_r q has)
         where
           go : Contains F.emitted q ⊎ (e_r ≡ q) → IsRecord q
           go (inl there) = ready.shows.records q there
           go (inr is) = subst IsRecord is ok
+
+      blocks : (q : Record) → Contains (F.emitted ++ e_r ∷ []) q → q.block < F.sizes.blocks
+      blocks q has = go (Contains-push_cases F.emitted e_r q has)
+        where
+          go : Contains F.emitted q ⊎ (e_r ≡ q) → q.block < F.sizes.blocks
+          go (inl there) = ready.shows.blocks q there
+          go (inr is) =
+              let block : b ≡ q.block = ap (λ (p : Record). p.block) is in
+              let count : F.sizes.blocks ≡ a.sizes.blocks = ap (λ (z : Sizes). z.blocks) ready.shows.sizes in
+              let small = ready.block in
+              omega arith
 
       key_here : key_at view b ≡ key_of e_r
       key_here = get_or-set_same a.keys b (key_of e_r) 0 keys_room
@@ -519,8 +559,8 @@ module _ (a : ArrayView) (F : Flat) (w s b : ℕ) (u : Stored) (v h : ℕ) (writ
       tells t None was = tt
       tells t (Some q) was = (was.0, was.1, at (cases_eq q.block b) was.2)
         where
-          at : (q.block ≡ b) ⊎ (q.block ≡ b → ⊥) → (key_of q ≡ key_at a q.block) ⊎ (key_of q / 2 ^ 16 < key_at a q.block / 2 ^ 16)
-              → (key_of q ≡ key_at view q.block) ⊎ (key_of q / 2 ^ 16 < key_at view q.block / 2 ^ 16)
+          at : (q.block ≡ b) ⊎ (q.block ≡ b → ⊥) → (key_of q ≡ key_at a q.block) ⊎ (stamp_of q < stamp_in (key_at a q.block))
+              → (key_of q ≡ key_at view q.block) ⊎ (stamp_of q < stamp_in (key_at view q.block))
           at (inr ne) (inl e) = inl (e ∙ sym (get_or-set_other a.keys b q.block (key_of e_r) 0 ne))
           at (inr ne) (inr below) = let now : key_at view q.block ≡ key_at a q.block = get_or-set_other a.keys b q.block (key_of e_r) 0 ne in inr (omega arith)
           at (inl same) or = inr (under or)
@@ -534,8 +574,8 @@ module _ (a : ArrayView) (F : Flat) (w s b : ℕ) (u : Stored) (v h : ℕ) (writ
               slot : s < 2 ^ 16
               slot = let i = ready.slot in omega arith
 
-              under : (key_of q ≡ key_at a q.block) ⊎ (key_of q / 2 ^ 16 < key_at a q.block / 2 ^ 16) → key_of q / 2 ^ 16 < key_at view q.block / 2 ^ 16
-              under (inl e) = let n = now in let k = was_key in let up = ready.above in let i = slot in omega arith
+              under : (key_of q ≡ key_at a q.block) ⊎ (stamp_of q < stamp_in (key_at a q.block)) → stamp_of q < stamp_in (key_at view q.block)
+              under (inl e) = let p = was.0.place in let n = now in let k = was_key in let up = ready.above in let i = slot in omega arith
               under (inr below) = let n = now in let k = was_key in let up = ready.above in let i = slot in omega arith
 
       stays : (t : ℕ) (o : Option Stored) → HeaderStands (key_at a) t o → HeaderStands (key_at view) t o
@@ -550,11 +590,53 @@ module _ (a : ArrayView) (F : Flat) (w s b : ℕ) (u : Stored) (v h : ℕ) (writ
           subst (HeaderStands (key_at view) t) (sym now) (ok, sym e, inl (sym key_here))
       headers t (inr ne) = subst (HeaderStands (key_at view) t) (sym (put_else F.units s _ t ne)) (stays t (F.units t) (ready.shows.headers t))
 
+      -- the write of a record's block and version that now is there was there, but for the record emitted now
+      payload_else : (t : ℕ) → (t ≡ s → ⊥) → (o : Option Stored) → HeaderStands (key_at a) t o → PayloadStands F.emitted F.writes o
+          → PayloadStands (F.emitted ++ e_r ∷ []) writes o
+      payload_else t ne None header was = tt
+      payload_else t ne (Some x) header was = now
+        where
+          there : (q : Record) (y : Write) → x.header ≡ Some q → Contains F.emitted q → IsWriteOf q y
+              → (Contains F.writes y) ⊎ ((p : Record) → Contains F.emitted p → IsWriteOf p y → ⊥) → x.payload ≡ y.payload
+          there q y is old of (inl before) = was q y is old before of
+          there q y is old of (inr none) = absurd (none q old of)
+
+          now : PayloadStands (F.emitted ++ e_r ∷ []) writes (Some x)
+          now q y is has wrote of = go (Contains-push_cases F.emitted e_r q has)
+            where
+              go : (Contains F.emitted q) ⊎ (e_r ≡ q) → x.payload ≡ y.payload
+              go (inl old) = there q y is old of (ready.grown y wrote)
+              go (inr same) =
+                  let told : HeaderTells (key_at a) t (Some q) = subst (HeaderTells (key_at a) t) is header in
+                  absurd (ne (sym told.1 ∙ ap (λ (p : Record). p.place) (sym same)))
+
+      -- the write of the record emitted now is the block's last
+      payload_here : PayloadStands (F.emitted ++ e_r ∷ []) writes (Some (record { header = Some e_r; payload = u.payload }))
+      payload_here q y is has wrote of =
+          let same : e_r ≡ q = some_is e_r q is in
+          let most = write_most writes y ready.versions wrote in
+          let block : y.block ≡ b = of.0 ∙ ap (λ (p : Record). p.block) (sym same) in
+          let newest : most.newest ≡ ready.last.0 = some_is _ _ (sym most.last ∙ ap (last_write writes) block ∙ ready.last.1) in
+          let version : y.version ≡ most.newest.version =
+          of.1 ∙ ap (λ (p : Record). p.version) (sym same) ∙ sym ready.last.2 ∙ ap (λ (z : Write). z.version) (sym newest)
+          in
+          sym (ap (λ (z : Write). z.payload) (most.same version ∙ newest) ∙ ready.last.3)
+
+      payloads : (t : ℕ) → (t ≡ s) ⊎ (t ≡ s → ⊥) → PayloadStands (F.emitted ++ e_r ∷ []) writes (put F.units s (stamped (F.units s) e_r) t)
+      payloads t (inl e) =
+          let now : put F.units s (stamped (F.units s) e_r) t ≡ Some (record { header = Some e_r; payload = u.payload }) =
+          ap (put F.units s (stamped (F.units s) e_r)) e ∙ put_here F.units s _ ∙ ap (λ o. stamped o e_r) unit_stored
+          in
+          subst (PayloadStands (F.emitted ++ e_r ∷ []) writes) (sym now) payload_here
+      payloads t (inr ne) =
+          subst (PayloadStands (F.emitted ++ e_r ∷ []) writes) (sym (put_else F.units s _ t ne))
+          (payload_else t ne (F.units t) (ready.shows.headers t) (ready.shows.payloads t))
+
       -- what the other tickets rest on: the newest stamp of the block has risen above theirs
-      rests : (o : Option Content) → TicketStands F.writes (key_at a) o → TicketStands writes (key_at view) o
-      rests None was = tt
-      rests (Some (Fresh x)) was = tt
-      rests (Some (Moved c i g x)) was = copy (cases_eq c b)
+      rests : (class : Option Class) (o : Option Content) → TicketStands class F.writes (key_at a) o → TicketStands class writes (key_at view) o
+      rests class None was = tt
+      rests class (Some (Fresh x)) was = was
+      rests class (Some (Moved c i g x)) was = copy (cases_eq c b)
         where
           copy : (c ≡ b) ⊎ (c ≡ b → ⊥) → IsCopy writes c i g x (key_at view c)
           copy (inl e) =
@@ -565,21 +647,24 @@ module _ (a : ArrayView) (F : Flat) (w s b : ℕ) (u : Stored) (v h : ℕ) (writ
               let slot = ready.slot in
               let big = key_least e_r ok in record {
                 written = omega arith;
+                hop = was.hop;
                 most = omega arith;
-                payload = λ same. absurd (omega arith);
+                write = ready.stays (record { block = c; version = i; payload = x }) was.write;
               }
           copy (inr ne) =
               let now : key_at view c ≡ key_at a c = get_or-set_other a.keys b c (key_of e_r) 0 ne in
               let most = was.most in
               let some = was.written in record {
                 written = omega arith;
+                hop = was.hop;
                 most = omega arith;
-                payload = λ same. let y = was.payload (omega arith) in (y.0, ready.others c ne ∙ y.1, y.2);
+                write = ready.stays (record { block = c; version = i; payload = x }) was.write;
               }
 
-      tickets : (t : ℕ) → (t ≡ s) ⊎ (t ≡ s → ⊥) → TicketStands writes (key_at view) (put F.tickets s None t)
-      tickets t (inl e) = subst (TicketStands writes (key_at view)) (sym (ap (put F.tickets s None) e ∙ put_here F.tickets s None)) tt
-      tickets t (inr ne) = subst (TicketStands writes (key_at view)) (sym (put_else F.tickets s None t ne)) (rests (F.tickets t) (ready.shows.tickets t))
+      tickets : (t : ℕ) → (t ≡ s) ⊎ (t ≡ s → ⊥) → TicketStands (class_of F t) writes (key_at view) (put F.tickets s None t)
+      tickets t (inl e) = subst (TicketStands (class_of F t) writes (key_at view)) (sym (ap (put F.tickets s None) e ∙ put_here F.tickets s None)) tt
+      tickets t (inr ne) =
+          subst (TicketStands (class_of F t) writes (key_at view)) (sym (put_else F.tickets s None t ne)) (rests (class_of F t) (F.tickets t) (ready.shows.tickets t))
 
       written : (c : ℕ) → (c ≡ b) ⊎ (c ≡ b → ⊥) → BlockStands G c (key_at view c)
       written c (inl e) = subst (λ n. BlockStands G n (key_at view n)) (sym e) here

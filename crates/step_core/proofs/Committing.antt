@@ -1,20 +1,21 @@
 -- A commit of a ticket is the flat machine's case: of a fresh payload, of a copy, and each refusal.
-use Rattle.std.proofs.Common.{◌≡◌, ◌≢◌, ℕ, ◌+◌, ◌*◌, ◌/◌, ◌%◌, ◌^◌, ◌<◌, ◌≤◌, Bool, true, false, ◌==◌, ◌&&◌, cond, List, [], ◌∷◌, ◌++◌, length, refl, sym, ap, ◌∙◌, subst, arith, ◌⊎◌, inl, inr, Option, Some, None, nat_le}
+use Rattle.std.proofs.Common.{◌≡◌, ◌≢◌, ℕ, ◌+◌, ◌*◌, ◌/◌, ◌%◌, ◌^◌, ◌<◌, ◌≤◌, Bool, true, false, ◌==◌, ◌&&◌, cond, List, [], ◌∷◌, ◌++◌, length, refl, sym, ap, ◌∙◌, subst, arith, ◌⊎◌, inl, inr, Option, Some, None, nat_le, Contains}
 use Rattle.std.proofs.lemmas.Bool.Decides.{nat_tests}
+use Rattle.std.proofs.lemmas.List.Elements.{Contains-append_left, Contains-push_cases}
 use Rattle.std.proofs.lemmas.Option.{same_Some}
 use Rattle.map_join.specs.declared.records.Record.{Record}
-use Rattle.map_join.specs.Record.{record_of, record_at, IsRecord}
+use Rattle.map_join.specs.Record.{record_of, record_at, stamp, stamp_of, stamp_in, IsRecord}
 use Rattle.step_core.specs.declared.refusal.Refusal.{Refusal}
 use Rattle.step_core.specs.declared.refusal.Refusal.TheVariants.{NoTicket, Outrun, VersionSpent, LogFull}
-use Rattle.step_core.specs.Flat.{Flat, Write, Ticket, Stored, or_else, last_write, IsNewest}
+use Rattle.step_core.specs.Flat.{Flat, Write, Ticket, Stored, or_else, last_write, IsNewest, class_of}
 use Rattle.step_core.specs.Steps.{Committed, Refused}
 use Rattle.step_core.specs.Cases.{CommitCase, CommitWith, IsFor, HasStamp, next_version, last_version, longest_log}
 use Rattle.step_core.specs.Changes.{commit_view, commit_record, commit_reason, commit_reason_of, version_reason, stamp_reason, full_reason, version_given, hop_given, MayRefuse}
 use Rattle.step_core.specs.Views.{Kept, Nothing, Pending, Moving, Newest, is_waiting, ArrayView, kept_at, unit_at, key_at, IsWhole}
-use Rattle.step_core.specs.Represents.{IsCopy, TicketStands, ShowsArray, waiting}
+use Rattle.step_core.specs.Represents.{IsCopy, TicketStands, IsWrite, IsWriteOf, ShowsArray, waiting}
 use Rattle.step_core.proofs.Pairs.{equal, equal_back}
 use Rattle.step_core.proofs.Newest.{newest_told, told_at, untold_at, told_key}
-use Rattle.step_core.proofs.Writes.{last_here, last_else}
+use Rattle.step_core.proofs.Writes.{last_here, last_else, write_chained, write_most}
 use Rattle.step_core.proofs.Commits.{emitted, IsReady, after, shows_after, waits_unit}
 
 -- neither of two reasons is given
@@ -182,7 +183,7 @@ commit_fresh a F w s b whole inside block waits t left room shows = (
     writes : List Write
     writes = F.writes ++ record { block = b; version = next_version (record_at b (key_at a b)); payload = t.unit.payload } ∷ []
 
-    above : (key : ℕ) → (key ≡ 0) ⊎ (2 ^ 32 ≤ key) → key / 2 ^ 16 < next_version (record_at b key) * 2 ^ 16 + 0
+    above : (key : ℕ) → (key ≡ 0) ⊎ (2 ^ 32 ≤ key) → stamp_in key < stamp (next_version (record_at b key)) 0
     above key (inl e) = let n : next_version (record_at b key) ≡ 1 = ap next_version (untold_at b key (omega arith)) in omega arith
     above key (inr big) = let n : next_version (record_at b key) ≡ key / 2 ^ 32 + 1 = ap next_version (told_at b key big) in omega arith
 
@@ -196,6 +197,48 @@ commit_fresh a F w s b whole inside block waits t left room shows = (
         go (inl e) = inl e
         go (inr h) = inr (whole.keys b h)
 
+    -- the last write of the block has the version before
+    next_write : (key_at a b ≡ 0) ⊎ (2 ^ 32 ≤ key_at a b) → (x : Write) → last_write F.writes b ≡ Some x
+        → next_version (record_at b (key_at a b)) ≡ x.version + 1
+    next_write (inl e) x last = let bad : None ≡ Some x = sym ((shows.written b).0 e) ∙ last in absurd (cc)
+    next_write (inr big) x last =
+        let y = (shows.written b).1 (omega arith) in
+        let same : y.0 ≡ x = same_Some _ _ (sym y.1 ∙ last) in
+        let version : x.version ≡ key_at a b / 2 ^ 32 = ap (λ (z : Write). z.version) (sym same) ∙ y.2.version in
+        let n : next_version (record_at b (key_at a b)) ≡ key_at a b / 2 ^ 32 + 1 = ap next_version (told_at b (key_at a b) big) in
+        omega arith
+
+    -- the new write has a version above 0, and the length of what lies at the slot
+    all : (x : Write) → Contains writes x → IsWrite F.sizes.payload x
+    all x has = go (Contains-push_cases F.writes new x has)
+      where
+        one : (o : Option Record) → 0 < next_version o
+        one None = omega arith
+        one (Some n) = omega arith
+
+        go : (Contains F.writes x) ⊎ (new ≡ x) → IsWrite F.sizes.payload x
+        go (inl old) = shows.writes x old
+        go (inr is) = subst (IsWrite F.sizes.payload) is (record { version = one (record_at b (key_at a b)); length = shows.sized s t.unit ((shows.slots s).unit ∙ t.unit_is) })
+
+    -- no record of the block has the next version yet
+    unused : (key : ℕ) → (key ≡ 0) ⊎ (2 ^ 32 ≤ key) → (n : ℕ) → n * 2 ^ 32 ≤ key → n ≡ next_version (record_at b key) → ⊥
+    unused key (inl e) n low is = let v : next_version (record_at b key) ≡ 1 = ap next_version (untold_at b key (omega arith)) in omega arith
+    unused key (inr big) n low is = let v : next_version (record_at b key) ≡ key / 2 ^ 32 + 1 = ap next_version (told_at b key big) in omega arith
+
+    grown : (x : Write) → Contains writes x → (Contains F.writes x) ⊎ ((q : Record) → Contains F.emitted q → IsWriteOf q x → ⊥)
+    grown x has = go (Contains-push_cases F.writes new x has)
+      where
+        go : (Contains F.writes x) ⊎ (new ≡ x) → (Contains F.writes x) ⊎ ((q : Record) → Contains F.emitted q → IsWriteOf q x → ⊥)
+        go (inl old) = inl old
+        go (inr is) = inr unwritten
+          where
+            unwritten : (q : Record) → Contains F.emitted q → IsWriteOf q x → ⊥
+            unwritten q there of =
+                let most = shows.map.most q there in
+                let at : key_at a q.block ≡ key_at a b = ap (key_at a) (sym of.0 ∙ ap (λ (y : Write). y.block) (sym is)) in
+                let version : q.version ≡ next_version (record_at b (key_at a b)) = sym of.1 ∙ ap (λ (y : Write). y.version) (sym is) in
+                unused (key_at a b) key_or q.version (omega arith) version
+
     ready : IsReady a F w s b t.unit (next_version (record_at b (key_at a b))) 0 writes
     ready = record {
       whole = whole;
@@ -208,8 +251,13 @@ commit_fresh a F w s b whole inside block waits t left room shows = (
       ok = fresh_ok a s b whole inside block left;
       above = above (key_at a b) key_or;
       next = λ n is. inl (ap next_version is, refl);
+      room = short a F shows room;
       last = (new, last_here F.writes new, refl, refl);
       others = λ c ne. last_else F.writes new c ne;
+      all = all;
+      versions = write_chained [] F.writes new shows.versions (next_write key_or);
+      stays = λ x has. Contains-append_left F.writes (new ∷ []) x has;
+      grown = grown;
     }
 
 commit_moved : (a : ArrayView) (F : Flat) (w s b : ℕ) (q : Record) → IsWhole a → s < 65536 → b < a.sizes.blocks → kept_at a s ≡ Moving q
@@ -236,25 +284,28 @@ commit_moved a F w s b q whole inside block waits t now room shows = (
     told : (2 ^ 32 ≤ key_at a b) × (record_of b (key_at a b) ≡ now.newest)
     told = told_key b (key_at a b) now.newest now.found_is
 
-    stamp : q.version * 2 ^ 16 + q.hop ≡ key_at a b / 2 ^ 16
-    stamp =
+    newest : stamp_of q ≡ stamp_in (key_at a b)
+    newest =
         let version : key_at a b / 2 ^ 32 ≡ q.version = ap (λ (r : Record). r.version) told.1 ∙ now.version in
         let hop : key_at a b / 2 ^ 16 % 2 ^ 16 ≡ q.hop = ap (λ (r : Record). r.hop) told.1 ∙ now.hop in
         omega arith
 
     copy : IsCopy F.writes q.block q.version q.hop t.unit.payload (key_at a q.block)
-    copy = subst (TicketStands F.writes (key_at a)) t.content (shows.tickets s)
+    copy = subst (TicketStands (class_of F s) F.writes (key_at a)) t.content (shows.tickets s)
 
     here : IsCopy F.writes b q.version q.hop t.unit.payload (key_at a b)
     here = subst (λ n. IsCopy F.writes n q.version q.hop t.unit.payload (key_at a n)) now.block copy
 
     last : (x : Write) × (last_write F.writes b ≡ Some x) × (x.version ≡ q.version) × (x.payload ≡ t.unit.payload)
     last =
-        let x = here.payload stamp in
+        let most = write_most F.writes (record { block = b; version = q.version; payload = t.unit.payload }) shows.versions here.write in
         let big = told.0 in
         let y = (shows.written b).1 (omega arith) in
-        let same : y.0 ≡ x.0 = same_Some _ _ (sym y.1 ∙ x.1) in
-        (x.0, x.1, ap (λ (z : Write). z.version) (sym same) ∙ y.2.version ∙ ap (λ (r : Record). r.version) told.1 ∙ now.version, x.2)
+        let same : y.0 ≡ most.newest = same_Some _ _ (sym y.1 ∙ most.last) in
+        let version : most.newest.version ≡ q.version =
+        ap (λ (z : Write). z.version) (sym same) ∙ y.2.version ∙ ap (λ (r : Record). r.version) told.1 ∙ now.version
+        in
+        (most.newest, most.last, version, ap (λ (z : Write). z.payload) (sym (most.same (sym version))))
 
     ready : IsReady a F w s b t.unit q.version (q.hop + 1) F.writes
     ready = record {
@@ -266,12 +317,17 @@ commit_moved a F w s b q whole inside block waits t now room shows = (
       unit = t.unit_is;
       mine = t.mine;
       ok = moved_ok a s b q whole inside block waits now;
-      above = let e = stamp in omega arith;
+      above = let e = newest in omega arith;
       next = λ n is.
           let same : n ≡ now.newest = same_Some _ _ (sym is ∙ now.found_is) in
           inr (sym (ap (λ (x : Record). x.version) same ∙ now.version), ap (λ i. i + 1) (sym (ap (λ (x : Record). x.hop) same ∙ now.hop)));
+      room = short a F shows room;
       last = last;
       others = λ c ne. refl;
+      all = shows.writes;
+      versions = shows.versions;
+      stays = λ x has. has;
+      grown = λ x has. inl has;
     }
 
 -- where nothing speaks against it, the commit is the flat machine's
@@ -341,7 +397,7 @@ commit_refused a F w s b q whole some shows mine = go (kept_at a s) refl some
 
     unwritten : (m : Record) → IsTicket a F w s (Moving m) → record_at b (key_at a b) ≡ None → m.block ≡ b → ⊥
     unwritten m t none same =
-        let copy : IsCopy F.writes m.block m.version m.hop t.unit.payload (key_at a m.block) = subst (TicketStands F.writes (key_at a)) t.content (shows.tickets s) in
+        let copy : IsCopy F.writes m.block m.version m.hop t.unit.payload (key_at a m.block) = subst (TicketStands (class_of F s) F.writes (key_at a)) t.content (shows.tickets s) in
         let some = copy.written in
         let key : key_at a m.block ≡ key_at a b = ap (key_at a) same in
         let big = whole.keys b (omega arith) in

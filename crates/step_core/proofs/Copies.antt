@@ -1,5 +1,5 @@
 -- A copy of a block's newest payload is the flat machine's case.
-use Rattle.std.proofs.Common.{◌≡◌, ◌≢◌, ℕ, ◌/◌, ◌%◌, ◌^◌, ◌<◌, ◌≤◌, Bool, true, false, cond, nat_le, is_some, refl, sym, ap, ◌∙◌, subst, arith, Option, Some, None}
+use Rattle.std.proofs.Common.{◌≡◌, ◌≢◌, ℕ, ◌/◌, ◌%◌, ◌^◌, ◌<◌, ◌≤◌, Bool, true, false, cond, nat_le, is_some, refl, sym, ap, ◌∙◌, subst, arith, Option, Some, None, Contains}
 use Rattle.std.proofs.lemmas.Bool.Decides.{nat_tests}
 use Rattle.std.proofs.lemmas.Option.{same_Some}
 use Rattle.map_join.specs.declared.records.Record.{Record}
@@ -7,7 +7,7 @@ use Rattle.map_join.specs.Record.{record_of, record_at}
 use Rattle.step_core.specs.declared.group.Class.{Class}
 use Rattle.step_core.specs.declared.refusal.Refusal.{Refusal}
 use Rattle.step_core.specs.Groups.{class_at}
-use Rattle.step_core.specs.Flat.{Flat, Write, Worker, Moved, Stored, IsKept, IsNewest, class_of, last_write}
+use Rattle.step_core.specs.Flat.{Flat, Write, Worker, Moved, Stored, IsNewest, class_of, last_write}
 use Rattle.step_core.specs.Steps.{Copied, Refused}
 use Rattle.step_core.specs.Cases.{CopyCase, copied, last_hop}
 use Rattle.step_core.specs.Changes.{copy_view, copy_reason, copy_reason_of, MayRefuse}
@@ -15,9 +15,10 @@ use Rattle.step_core.specs.Views.{Kept, Nothing, Pending, Moving, Newest, ArrayV
 use Rattle.step_core.specs.Represents.{IsCopy, ShowsArray}
 use Rattle.step_core.proofs.Newest.{newest_told, newest_is, told_key}
 use Rattle.step_core.proofs.Kepts.{kept_iff}
-use Rattle.step_core.proofs.Fills.{class_seen, waits_moving, wait_shows, wait_whole}
+use Rattle.step_core.proofs.Fills.{class_seen, unkept, waits_moving, wait_shows, wait_whole}
 use Rattle.step_core.proofs.Finds.{read_there, newest_write}
 use Rattle.step_core.proofs.Commits.{unit_of}
+use Rattle.step_core.proofs.Writes.{last_there}
 
 -- the slot is free and in a group, and the record isn't of the last hop
 pub record CanCopy (a : ArrayView) (s : ℕ) (r : Record) : Type 0 where
@@ -44,9 +45,6 @@ some_class : (c : Option Class) → c ≢ None → is_some c ≡ true
 some_class (Some c) some = refl
 some_class None some = absurd (some refl)
 
-unkept : (a : ArrayView) (F : Flat) (s : ℕ) → kept_at a s ≡ Nothing → ShowsArray a F → IsKept F s → ⊥
-unkept a F s free shows kept = let t = (kept_iff a F s shows).1 kept in let no : false ≡ true = sym (ap is_kept free) ∙ t in absurd (cc)
-
 -- an array is whole after a copy
 pub copy_whole : (a : ArrayView) (s : ℕ) (r : Record) (u : Stored) → s < 65536 → unit_at a r.place ≡ Some u → copy_reason a s (Some r) ≡ None → IsWhole a
     → IsWhole (copy_view a s r u.payload)
@@ -60,9 +58,9 @@ copy_whole a s r u inside unit none whole = wait_whole a s (Moving r) u.payload 
 
 -- where nothing speaks against it, the copy is the flat machine's
 pub copy_case : (a : ArrayView) (F : Flat) (w s b : ℕ) (r : Record) (u : Stored) → s < 65536 → record_at b (key_at a b) ≡ Some r → unit_at a r.place ≡ Some u
-    → copy_reason a s (Some r) ≡ None → ShowsArray a F → F.held s (Worker w) ≡ true
+    → copy_reason a s (Some r) ≡ None → IsWhole a → ShowsArray a F → F.held s (Worker w) ≡ true
     → (G : Flat) × (CopyCase F w s b (Copied s) G) × (ShowsArray (copy_view a s r u.payload) G)
-copy_case a F w s b r u inside found unit none shows held = (
+copy_case a F w s b r u inside found unit none whole shows held = (
   copied F w s r y.0.payload,
   (refl, held, class, unkept a F s can.free shows, (r, y.0, newest_is a F b r shows found, can.hop, y.1, refl)),
   subst (λ p. ShowsArray (copy_view a s r p) (copied F w s r y.0.payload)) (sym y.2) after,
@@ -77,7 +75,7 @@ copy_case a F w s b r u inside found unit none shows held = (
     told : (2 ^ 32 ≤ key_at a b) × (record_of b (key_at a b) ≡ r)
     told = told_key b (key_at a b) r found
 
-    y : (w : Write) × (last_write F.writes b ≡ Some w) × (u.payload ≡ w.payload)
+    y : (w : Write) × (last_write F.writes b ≡ Some w) × (u.payload ≡ w.payload) × (w.version ≡ r.version)
     y = newest_write a F b r u shows found unit
 
     block : b ≡ r.block
@@ -88,19 +86,23 @@ copy_case a F w s b r u inside found unit none shows held = (
         let some = told.0 in
         let version : key_at a b / 2 ^ 32 ≡ r.version = ap (λ (q : Record). q.version) told.1 in
         let hop : key_at a b / 2 ^ 16 % 2 ^ 16 ≡ r.hop = ap (λ (q : Record). q.hop) told.1 in
-        record { written = omega arith; most = omega arith; payload = λ e. (y.0, y.1, refl) }
+        let there = last_there F.writes b y.0 y.1 in
+        let is : y.0 ≡ record { block = b; version = r.version; payload = y.0.payload } =
+        λ i. record { block = there.1 i; version = y.3 i; payload = y.0.payload }
+        in
+        record { written = omega arith; hop = can.hop; most = omega arith; write = subst (Contains F.writes) is there.0 }
 
     after : ShowsArray (copy_view a s r y.0.payload) (copied F w s r y.0.payload)
     after = wait_shows a F w s (Moving r) (Moved r.block r.version r.hop y.0.payload) y.0.payload inside can.free (some_class (class_of F s) class)
-        (waits_moving r y.0.payload) (subst (λ n. IsCopy F.writes n r.version r.hop y.0.payload (key_at a n)) block copy)
-        (subst (λ x. IsWhole (copy_view a s r x)) y.2 (copy_whole a s r u inside unit none shows.whole)) shows
+        (waits_moving r y.0.payload) (subst (λ n. IsCopy F.writes n r.version r.hop y.0.payload (key_at a n)) block copy) whole
+        (subst (λ x. IsWhole (copy_view a s r x)) y.2 (copy_whole a s r u inside unit none whole)) shows
 
 -- the copy that wants memory would be carried out
 pub copy_wants : (a : ArrayView) (F : Flat) (w s b : ℕ) (r : Record) → IsWhole a → s < 65536 → record_at b (key_at a b) ≡ Some r
     → copy_reason a s (Some r) ≡ None → ShowsArray a F → F.held s (Worker w) ≡ true → (G : Flat) × (CopyCase F w s b (Copied s) G)
 copy_wants a F w s b r whole inside found none shows held =
     let u = unit_of (unit_at a r.place) (read_there a b r whole found) in
-    let x = copy_case a F w s b r u.0 inside found u.1 none shows held in
+    let x = copy_case a F w s b r u.0 inside found u.1 none whole shows held in
     (x.0, x.1)
 
 -- and where something does, it is the flat machine's refusal

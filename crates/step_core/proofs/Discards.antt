@@ -4,7 +4,7 @@ use Rattle.std.proofs.lemmas.List.{length-set, get_or-set_same, get_or-set_other
 use Rattle.std.proofs.lemmas.Bool.{cases_eq}
 use Rattle.map_join.specs.Record.{record_of}
 use Rattle.step_core.specs.declared.refusal.Refusal.TheVariants.{NoTicket}
-use Rattle.step_core.specs.Flat.{Flat, Holder, Worker, Ticket, Block, Shut, Stored, put}
+use Rattle.step_core.specs.Flat.{Flat, Holder, Worker, Ticket, Block, Shut, Stored, put, class_of}
 use Rattle.step_core.specs.Steps.{Discarded, Refused}
 use Rattle.step_core.specs.Cases.{DiscardCase, discarded}
 use Rattle.step_core.specs.Changes.{discard_view}
@@ -13,6 +13,7 @@ use Rattle.step_core.specs.Represents.{flat_at, ArraySlot, IsWritten, BlockStand
 use Rattle.step_core.proofs.Pairs.{equal, put_here, put_else, turned_here, turned_else}
 use Rattle.step_core.proofs.Slots.{same_slot, one_slot}
 use Rattle.step_core.proofs.Kepts.{waiting_none, waiting_newest, not_waiting}
+use Rattle.step_core.proofs.Wholes.{places_of}
 
 -- the slot whose ticket was given up
 free_slot : (kept : Kept) (o : Option Stored) (F : Flat) (w s : ℕ) → is_waiting kept ≡ true → ArraySlot kept o (flat_at F s) → F.held s (Ticket w) ≡ true
@@ -53,8 +54,7 @@ discard_whole a s inside waits whole = record {
   moving = λ t r is. whole.moving t r (before t (Moving r) (λ e. cc) is (cases_eq t s));
   stored = λ t kept. whole.stored t (λ none. kept (nothing t none (cases_eq t s)));
   sized = whole.sized;
-  members = whole.members;
-  owned = whole.owned;
+  groups = whole.groups;
 }
   where
     here : kept_at (discard_view a s) s ≡ Nothing
@@ -77,35 +77,45 @@ discard_whole a s inside waits whole = record {
     nothing t none (inr ne) = other t ne ∙ none
 
 pub discard_shows : (a : ArrayView) (F : Flat) (w s : ℕ) → s < 65536 → is_waiting (kept_at a s) ≡ true → F.held s (Ticket w) ≡ true
-    → ShowsArray a F → ShowsArray (discard_view a s) (discarded F w s)
-discard_shows a F w s inside waits mine shows = record {
-  whole = discard_whole a s inside waits shows.whole;
+    → IsWhole a → ShowsArray a F → ShowsArray (discard_view a s) (discarded F w s)
+discard_shows a F w s inside waits mine whole shows = record {
+  limits = shows.limits;
   sizes = shows.sizes;
   drives = shows.drives;
   log = shows.log;
   records = shows.records;
+  blocks = shows.blocks;
   chain = shows.chain;
+  writes = shows.writes;
+  versions = shows.versions;
   map = shows.map;
   groups = shows.groups;
-  slots = one_slot a (discard_view a s) F (discarded F w s) s shows.slots
-      (λ t ne. get_or-set_other a.kept s t Nothing Nothing ne)
-      (λ t ne. refl)
-      (λ t ne. same_slot _ _ (turned_else F.held s (Ticket w) (Worker w) t ne) (put_else F.tickets s None t ne) refl refl)
-      here;
+  table = shows.table;
+  slots = slots;
+  sized = shows.sized;
+  places = places_of (discard_view a s) (discarded F w s) (discard_whole a s inside waits whole) slots;
   headers = shows.headers;
+  payloads = shows.payloads;
   tickets = λ t. tickets t (cases_eq t s);
   written = written;
 }
   where
     kept_room : s < length a.kept
-    kept_room = let e = shows.whole.room.kept in omega arith
+    kept_room = let e = whole.room.kept in omega arith
 
     here : ArraySlot (kept_at (discard_view a s) s) (unit_at a s) (flat_at (discarded F w s) s)
     here = rw (get_or-set_same a.kept s Nothing Nothing kept_room) (free_slot (kept_at a s) (unit_at a s) F w s waits (shows.slots s) mine)
 
-    tickets : (t : ℕ) → (t ≡ s) ⊎ (t ≡ s → ⊥) → TicketStands F.writes (key_at a) (put F.tickets s None t)
-    tickets t (inl e) = subst (TicketStands F.writes (key_at a)) (sym (ap (put F.tickets s None) e ∙ put_here F.tickets s None)) tt
-    tickets t (inr ne) = subst (TicketStands F.writes (key_at a)) (sym (put_else F.tickets s None t ne)) (shows.tickets t)
+    slots : (t : ℕ) → ArraySlot (kept_at (discard_view a s) t) (unit_at a t) (flat_at (discarded F w s) t)
+    slots = one_slot a (discard_view a s) F (discarded F w s) s shows.slots
+        (λ t ne. get_or-set_other a.kept s t Nothing Nothing ne)
+        (λ t ne. refl)
+        (λ t ne. same_slot _ _ (turned_else F.held s (Ticket w) (Worker w) t ne) (put_else F.tickets s None t ne) refl refl)
+        here
+
+    tickets : (t : ℕ) → (t ≡ s) ⊎ (t ≡ s → ⊥) → TicketStands (class_of F t) F.writes (key_at a) (put F.tickets s None t)
+    tickets t (inl e) = subst (TicketStands (class_of F t) F.writes (key_at a)) (sym (ap (put F.tickets s None) e ∙ put_here F.tickets s None)) tt
+    tickets t (inr ne) = subst (TicketStands (class_of F t) F.writes (key_at a)) (sym (put_else F.tickets s None t ne)) (shows.tickets t)
 
     written : (b : ℕ) → BlockStands (discarded F w s) b (key_at a b)
     written b = (λ none. (shows.written b).0 none, λ some. let y = (shows.written b).1 some in (y.0, y.1, moved y.2))
@@ -122,9 +132,9 @@ discard_shows a F w s inside waits mine shows = record {
             }
 
 -- the ticket of a slot that waits is the worker's
-pub discard_case : (a : ArrayView) (F : Flat) (w s : ℕ) → s < 65536 → is_waiting (kept_at a s) ≡ true → ShowsArray a F → F.held s (Ticket w) ≡ true
+pub discard_case : (a : ArrayView) (F : Flat) (w s : ℕ) → s < 65536 → is_waiting (kept_at a s) ≡ true → IsWhole a → ShowsArray a F → F.held s (Ticket w) ≡ true
     → (G : Flat) × (DiscardCase F w s (Discarded s) G) × (ShowsArray (discard_view a s) G)
-discard_case a F w s inside waits shows mine = (discarded F w s, (refl, mine, refl), discard_shows a F w s inside waits mine shows)
+discard_case a F w s inside waits whole shows mine = (discarded F w s, (refl, mine, refl), discard_shows a F w s inside waits mine whole shows)
 
 -- a ticket that is one is the worker's
 pub ticket_held : (a : ArrayView) (F : Flat) (w s : ℕ) → is_waiting (kept_at a s) ≡ true → ShowsArray a F

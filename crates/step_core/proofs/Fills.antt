@@ -9,15 +9,16 @@ use Rattle.step_core.specs.declared.group.Class.{Class}
 use Rattle.step_core.specs.declared.group.Class.TheVariants.{Mirrored, Parity}
 use Rattle.step_core.specs.declared.refusal.Refusal.{Refusal}
 use Rattle.step_core.specs.Groups.{class_in, class_at}
-use Rattle.step_core.specs.Flat.{Flat, Holder, Worker, Ticket, Block, Shut, Content, Fresh, Moved, Stored, put, turned, for_ticket, IsKept, class_of}
+use Rattle.step_core.specs.Flat.{Flat, Holder, Worker, Ticket, Block, Shut, Write, Content, Fresh, Moved, Stored, put, turned, for_ticket, IsKept, class_of}
 use Rattle.step_core.specs.Steps.{Filled, Refused}
 use Rattle.step_core.specs.Cases.{FillCase, filled, ticketed}
 use Rattle.step_core.specs.Changes.{wait_view, fill_view, fill_reason, fill_reason_of, MayRefuse}
 use Rattle.step_core.specs.Views.{Kept, Nothing, Pending, Moving, Newest, ArrayView, kept_at, unit_at, key_at, group_at, is_kept, is_waiting, IsWhole}
-use Rattle.step_core.specs.Represents.{flat_at, ArraySlot, IsWritten, BlockStands, HeaderStands, TicketStands, ShowsArray, waiting}
+use Rattle.step_core.specs.Represents.{flat_at, ArraySlot, IsWritten, BlockStands, HeaderStands, PayloadStands, TicketStands, ShowsArray, waiting}
 use Rattle.step_core.proofs.Pairs.{equal, equal_back, put_here, put_else, turned_here, turned_else}
 use Rattle.step_core.proofs.Slots.{same_slot, one_slot}
 use Rattle.step_core.proofs.Kepts.{nothing_kept, kept_iff, waiting_none, waiting_newest}
+use Rattle.step_core.proofs.Wholes.{places_of, sized_of}
 
 -- the class of a slot is what is seen of it
 pub class_seen : (a : ArrayView) (F : Flat) (s : ℕ) → ShowsArray a F → class_of F s ≡ class_at a.sizes.segments (group_at a) s
@@ -80,8 +81,7 @@ wait_whole a s kept x inside free waits moves long whole = record {
   moving = λ t r is. moving t r is (cases_eq t s);
   stored = λ t kept. stored t kept (cases_eq t s);
   sized = λ t u is. sized t u is (cases_eq t s);
-  members = whole.members;
-  owned = whole.owned;
+  groups = whole.groups;
 }
   where
     newest : (b : ℕ) → 0 < key_at a b → kept_at (wait_view a s kept x) (record_of b (key_at a b)).place ≡ Newest b
@@ -121,33 +121,40 @@ wait_whole a s kept x inside free waits moves long whole = record {
         ap is_some (get_or-set_other a.units s t (Some (record { header = None; payload = x })) None ne)
         ∙ whole.stored t (λ e. is (get_or-set_other a.kept s t kept Nothing ne ∙ e))
 
+-- under a blank header any payload may stand
+pub blank_payload : (emitted : List Record) (writes : List Write) (x : List ℕ) → PayloadStands emitted writes (Some (record { header = None; payload = x }))
+blank_payload emitted writes x r w header has wrote of = absurd (cc)
+
 pub wait_shows : (a : ArrayView) (F : Flat) (w s : ℕ) (kept : Kept) (content : Content) (x : List ℕ) → s < 65536 → kept_at a s ≡ Nothing
-    → is_some (class_of F s) ≡ true → Waits kept content x → TicketStands F.writes (key_at a) (Some content) → IsWhole (wait_view a s kept x)
+    → is_some (class_of F s) ≡ true → Waits kept content x → TicketStands (class_of F s) F.writes (key_at a) (Some content) → IsWhole a → IsWhole (wait_view a s kept x)
     → ShowsArray a F → ShowsArray (wait_view a s kept x) (ticketed F w s content x)
-wait_shows a F w s kept content x inside free classed now stands whole shows = record {
-  whole = whole;
+wait_shows a F w s kept content x inside free classed now stands was whole shows = record {
+  limits = shows.limits;
   sizes = shows.sizes;
   drives = shows.drives;
   log = shows.log;
   records = shows.records;
+  blocks = shows.blocks;
   chain = shows.chain;
+  writes = shows.writes;
+  versions = shows.versions;
   map = shows.map;
   groups = shows.groups;
-  slots = one_slot a (wait_view a s kept x) F (ticketed F w s content x) s shows.slots
-      (λ t ne. get_or-set_other a.kept s t kept Nothing ne)
-      (λ t ne. get_or-set_other a.units s t _ None ne)
-      (λ t ne. same_slot _ _ (turned_else F.held s (Worker w) (Ticket w) t ne) (put_else F.tickets s _ t ne) (put_else F.units s _ t ne) refl)
-      here;
+  table = shows.table;
+  slots = slots;
+  sized = sized_of (wait_view a s kept x) (ticketed F w s content x) whole shows.sizes slots;
+  places = places_of (wait_view a s kept x) (ticketed F w s content x) whole slots;
   headers = λ t. headers t (cases_eq t s);
+  payloads = λ t. payloads t (cases_eq t s);
   tickets = λ t. tickets t (cases_eq t s);
   written = written;
 }
   where
     kept_room : s < length a.kept
-    kept_room = let e = shows.whole.room.kept in omega arith
+    kept_room = let e = was.room.kept in omega arith
 
     units_room : s < length a.units
-    units_room = let e = shows.whole.room.units in omega arith
+    units_room = let e = was.room.units in omega arith
 
     old : ArraySlot Nothing (unit_at a s) (flat_at F s)
     old = subst (λ k. ArraySlot k (unit_at a s) (flat_at F s)) free (shows.slots s)
@@ -156,13 +163,28 @@ wait_shows a F w s kept content x inside free classed now stands whole shows = r
     here = rw (get_or-set_same a.kept s kept Nothing kept_room, get_or-set_same a.units s (Some (record { header = None; payload = x })) None units_room)
         (ticket_slot kept content (unit_at a s) F w s x now old classed)
 
+    slots : (t : ℕ) → ArraySlot (kept_at (wait_view a s kept x) t) (unit_at (wait_view a s kept x) t) (flat_at (ticketed F w s content x) t)
+    slots = one_slot a (wait_view a s kept x) F (ticketed F w s content x) s shows.slots
+        (λ t ne. get_or-set_other a.kept s t kept Nothing ne)
+        (λ t ne. get_or-set_other a.units s t _ None ne)
+        (λ t ne. same_slot _ _ (turned_else F.held s (Worker w) (Ticket w) t ne) (put_else F.tickets s _ t ne) (put_else F.units s _ t ne) refl)
+        here
+
     headers : (t : ℕ) → (t ≡ s) ⊎ (t ≡ s → ⊥) → HeaderStands (key_at a) t (put F.units s (Some (record { header = None; payload = x })) t)
     headers t (inl e) = subst (HeaderStands (key_at a) t) (sym (ap (put F.units s (Some (record { header = None; payload = x }))) e ∙ put_here F.units s _)) tt
     headers t (inr ne) = subst (HeaderStands (key_at a) t) (sym (put_else F.units s _ t ne)) (shows.headers t)
 
-    tickets : (t : ℕ) → (t ≡ s) ⊎ (t ≡ s → ⊥) → TicketStands F.writes (key_at a) (put F.tickets s (Some content) t)
-    tickets t (inl e) = subst (TicketStands F.writes (key_at a)) (sym (ap (put F.tickets s (Some content)) e ∙ put_here F.tickets s (Some content))) stands
-    tickets t (inr ne) = subst (TicketStands F.writes (key_at a)) (sym (put_else F.tickets s (Some content) t ne)) (shows.tickets t)
+    payloads : (t : ℕ) → (t ≡ s) ⊎ (t ≡ s → ⊥) → PayloadStands F.emitted F.writes (put F.units s (Some (record { header = None; payload = x })) t)
+    payloads t (inl e) =
+        subst (PayloadStands F.emitted F.writes) (sym (ap (put F.units s (Some (record { header = None; payload = x }))) e ∙ put_here F.units s _))
+        (blank_payload F.emitted F.writes x)
+    payloads t (inr ne) = subst (PayloadStands F.emitted F.writes) (sym (put_else F.units s _ t ne)) (shows.payloads t)
+
+    tickets : (t : ℕ) → (t ≡ s) ⊎ (t ≡ s → ⊥) → TicketStands (class_of F t) F.writes (key_at a) (put F.tickets s (Some content) t)
+    tickets t (inl e) =
+        subst (TicketStands (class_of F t) F.writes (key_at a)) (sym (ap (put F.tickets s (Some content)) e ∙ put_here F.tickets s (Some content)))
+        (subst (λ n. TicketStands (class_of F n) F.writes (key_at a) (Some content)) (sym e) stands)
+    tickets t (inr ne) = subst (TicketStands (class_of F t) F.writes (key_at a)) (sym (put_else F.tickets s (Some content) t ne)) (shows.tickets t)
 
     written : (b : ℕ) → BlockStands (ticketed F w s content x) b (key_at a b)
     written b = (λ none. (shows.written b).0 none, λ some. let y = (shows.written b).1 some in (y.0, y.1, moved y.2))
@@ -178,47 +200,46 @@ wait_shows a F w s kept content x inside free classed now stands whole shows = r
               place = ap (λ (h : Holder → Bool). h (Block b)) (turned_else F.held s (Worker w) (Ticket w) (record_of b (key_at a b)).place apart) ∙ y.place;
             }
 
-free_of : (c : Option Class) (k : Kept) → fill_reason_of c k ≡ None → k ≡ Nothing
-free_of (Some Mirrored) Nothing e = refl
-free_of (Some Mirrored) Pending e = absurd (cc)
-free_of (Some Mirrored) (Moving r) e = absurd (cc)
-free_of (Some Mirrored) (Newest b) e = absurd (cc)
-free_of (Some Parity) k e = absurd (cc)
-free_of None k e = absurd (cc)
+-- a slot that can be filled is in a mirrored group, and nothing is kept of it
+pub record CanFill (a : ArrayView) (s : ℕ) : Type 0 where
+  pub class : class_at a.sizes.segments (group_at a) s ≡ Some Mirrored
+  pub free : kept_at a s ≡ Nothing
 
--- nothing is kept of a slot that can be filled
-pub fill_free : (a : ArrayView) (s : ℕ) → fill_reason a s ≡ None → kept_at a s ≡ Nothing
-fill_free a s none = free_of (class_at a.sizes.segments (group_at a) s) (kept_at a s) none
+pub can_fill : (a : ArrayView) (s : ℕ) → fill_reason a s ≡ None → CanFill a s
+can_fill a s none = go (class_at a.sizes.segments (group_at a) s) refl (kept_at a s) refl none
+  where
+    go : (c : Option Class) → class_at a.sizes.segments (group_at a) s ≡ c → (k : Kept) → kept_at a s ≡ k → fill_reason_of c k ≡ None → CanFill a s
+    go (Some Mirrored) is_c Nothing is_k e = record { class = is_c; free = is_k }
+    go (Some Mirrored) is_c Pending is_k e = absurd (cc)
+    go (Some Mirrored) is_c (Moving r) is_k e = absurd (cc)
+    go (Some Mirrored) is_c (Newest b) is_k e = absurd (cc)
+    go (Some Parity) is_c k is_k e = absurd (cc)
+    go None is_c k is_k e = absurd (cc)
+
+-- of which nothing is kept, the array doesn't hold
+pub unkept : (a : ArrayView) (F : Flat) (s : ℕ) → kept_at a s ≡ Nothing → ShowsArray a F → IsKept F s → ⊥
+unkept a F s free shows kept = let t = (kept_iff a F s shows).1 kept in let no : false ≡ true = sym (ap is_kept free) ∙ t in absurd (cc)
 
 -- and whole after a fill
 pub fill_whole : (a : ArrayView) (s : ℕ) (x : List ℕ) → s < 65536 → fill_reason a s ≡ None → length x ≡ a.sizes.payload → IsWhole a → IsWhole (fill_view a s x)
-fill_whole a s x inside none long whole = wait_whole a s Pending x inside (fill_free a s none) refl (λ r e. absurd (cc)) long whole
+fill_whole a s x inside none long whole = wait_whole a s Pending x inside (can_fill a s none).free refl (λ r e. absurd (cc)) long whole
 
 -- where nothing speaks against it, the fill is the flat machine's
-pub fill_case : (a : ArrayView) (F : Flat) (w s : ℕ) (x : List ℕ) → s < 65536 → fill_reason a s ≡ None → length x ≡ a.sizes.payload → ShowsArray a F
+pub fill_done : (a : ArrayView) (F : Flat) (w s : ℕ) (x : List ℕ) → fill_reason a s ≡ None → ShowsArray a F → F.held s (Worker w) ≡ true
+    → FillCase F w s x (Filled s) (filled F w s x)
+fill_done a F w s x none shows held =
+    let can = can_fill a s none in
+    (refl, held, class_seen a F s shows ∙ can.class, unkept a F s can.free shows, refl)
+
+pub fill_case : (a : ArrayView) (F : Flat) (w s : ℕ) (x : List ℕ) → s < 65536 → fill_reason a s ≡ None → length x ≡ a.sizes.payload → IsWhole a → ShowsArray a F
     → F.held s (Worker w) ≡ true → (G : Flat) × (FillCase F w s x (Filled s) G) × (ShowsArray (fill_view a s x) G)
-fill_case a F w s x inside none long shows held = go (class_at a.sizes.segments (group_at a) s) refl (kept_at a s) refl
-  where
-    go : (c : Option Class) → class_at a.sizes.segments (group_at a) s ≡ c → (k : Kept) → kept_at a s ≡ k
-        → (G : Flat) × (FillCase F w s x (Filled s) G) × (ShowsArray (fill_view a s x) G)
-    go c is_c k is_k = by_cases c (class_seen a F s shows ∙ is_c) k is_k (sym (ap (λ o. fill_reason_of o (kept_at a s)) is_c ∙ ap (fill_reason_of c) is_k) ∙ none)
-      where
-        by_cases : (c : Option Class) → class_of F s ≡ c → (k : Kept) → kept_at a s ≡ k → fill_reason_of c k ≡ None
-            → (G : Flat) × (FillCase F w s x (Filled s) G) × (ShowsArray (fill_view a s x) G)
-        by_cases (Some Mirrored) is_c Nothing is_k e = (
-          filled F w s x,
-          (refl, held, is_c, unkept, refl),
-          wait_shows a F w s Pending (Fresh x) x inside is_k (ap is_some is_c) (waits_fresh x) tt
-              (fill_whole a s x inside none long shows.whole) shows,
-        )
-          where
-            unkept : IsKept F s → ⊥
-            unkept kept = let t = (kept_iff a F s shows).1 kept in let no : false ≡ true = sym (ap is_kept is_k) ∙ t in absurd (cc)
-        by_cases (Some Mirrored) is_c Pending is_k e = absurd (cc)
-        by_cases (Some Mirrored) is_c (Moving r) is_k e = absurd (cc)
-        by_cases (Some Mirrored) is_c (Newest b) is_k e = absurd (cc)
-        by_cases (Some Parity) is_c k is_k e = absurd (cc)
-        by_cases None is_c k is_k e = absurd (cc)
+fill_case a F w s x inside none long whole shows held =
+    let can = can_fill a s none in
+    let class = class_seen a F s shows ∙ can.class in (
+      filled F w s x,
+      fill_done a F w s x none shows held,
+      wait_shows a F w s Pending (Fresh x) x inside can.free (ap is_some class) (waits_fresh x) class whole (fill_whole a s x inside none long whole) shows,
+    )
 
 -- and where something does, it is the flat machine's refusal
 pub fill_refused : (a : ArrayView) (F : Flat) (w s : ℕ) (x : List ℕ) (r : Refusal) → fill_reason a s ≡ Some r → ShowsArray a F → F.held s (Worker w) ≡ true

@@ -29,7 +29,7 @@ read_none a F b whole shows none = go (sizes (key_at a b))
 
 -- the unit at a block's newest place has the payload of its last write
 pub newest_write : (a : ArrayView) (F : Flat) (b : ℕ) (r : Record) (u : Stored) → ShowsArray a F → record_at b (key_at a b) ≡ Some r → unit_at a r.place ≡ Some u
-    → (w : Write) × (last_write F.writes b ≡ Some w) × (u.payload ≡ w.payload)
+    → (w : Write) × (last_write F.writes b ≡ Some w) × (u.payload ≡ w.payload) × (w.version ≡ r.version)
 newest_write a F b r u shows found unit =
     let told = told_key b (key_at a b) r found in
     let big = told.0 in
@@ -37,19 +37,14 @@ newest_write a F b r u shows found unit =
     let stored : Some u ≡ Some (record { header = Some (record_of b (key_at a b)); payload = y.0.payload }) =
     sym unit ∙ sym (shows.slots r.place).unit ∙ ap (λ (q : Record). F.units q.place) (sym told.1) ∙ y.2.unit
     in
-    (y.0, y.1, ap (λ (v : Stored). v.payload) (same_Some _ _ stored))
+    (y.0, y.1, ap (λ (v : Stored). v.payload) (same_Some _ _ stored), y.2.version ∙ ap (λ (q : Record). q.version) told.1)
 
 -- a block with a record holds what its unit does
 pub read_some : (a : ArrayView) (F : Flat) (b : ℕ) (r : Record) (u : Stored) → ShowsArray a F → record_at b (key_at a b) ≡ Some r → unit_at a r.place ≡ Some u
     → Some (record { version = r.version; payload = u.payload }) ≡ found_of (last_write F.writes b)
 read_some a F b r u shows is unit =
-    let told = told_key b (key_at a b) r is in
-    let big = told.0 in
-    let y = (shows.written b).1 (omega arith) in
     let x = newest_write a F b r u shows is unit in
-    let same : y.0 ≡ x.0 = same_Some _ _ (sym y.1 ∙ x.1) in
-    let version : x.0.version ≡ r.version = ap (λ (w : Write). w.version) (sym same) ∙ y.2.version ∙ ap (λ (q : Record). q.version) told.1 in
-    sym (ap found_of x.1 ∙ λ i. Some (record { version = version i; payload = (sym x.2) i }))
+    sym (ap found_of x.1 ∙ λ i. Some (record { version = x.3 i; payload = (sym x.2) i }))
 
 -- the newest place has a unit
 pub read_there : (a : ArrayView) (b : ℕ) (r : Record) → IsWhole a → record_at b (key_at a b) ≡ Some r → is_some (unit_at a r.place) ≡ true

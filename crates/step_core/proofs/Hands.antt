@@ -1,7 +1,7 @@
 -- Workers claim and release, and the array stands for the state as before.
 use Rattle.std.proofs.Common.{◌≡◌, ℕ, ◌<◌, Bool, true, false, ◌==◌, ◌&&◌, ◌||◌, not, List, length, refl, sym, ap, ◌∙◌, subst, arith, ◌⊎◌, inl, inr, Option}
 use Rattle.std.proofs.Math.ListN.{set}
-use Rattle.std.proofs.lemmas.List.{length-set, get_or-set_same, get_or-set_other}
+use Rattle.std.proofs.lemmas.List.{get_or-set_same, get_or-set_other}
 use Rattle.std.proofs.lemmas.Bool.{cases_eq}
 use Rattle.step_core.specs.declared.hand.Hand.{Hand}
 use Rattle.step_core.specs.declared.hand.Hand.TheVariants.{Empty, Holds, Waits}
@@ -22,16 +22,23 @@ with_held F held = record F { held = held }
 pub hands_move : (a : ArrayView) (F : Flat) (H : ℕ → Holder → Bool) → ((t : ℕ) (k : Holder) → IsArrays k → H t k ≡ F.held t k)
     → ShowsArray a F → ShowsArray a (with_held F H)
 hands_move a F H same shows = record {
-  whole = shows.whole;
+  limits = shows.limits;
   sizes = shows.sizes;
   drives = shows.drives;
   log = shows.log;
   records = shows.records;
+  blocks = shows.blocks;
   chain = shows.chain;
+  writes = shows.writes;
+  versions = shows.versions;
   map = shows.map;
   groups = shows.groups;
+  table = shows.table;
   slots = slots;
+  sized = shows.sized;
+  places = λ s b held. shows.places s b (sym (same s (Block b) (for_block b)) ∙ held);
   headers = shows.headers;
+  payloads = shows.payloads;
   tickets = shows.tickets;
   written = written;
 }
@@ -103,17 +110,17 @@ with_hand v s h = record v { hands = set v.hands s h }
 hand_else : (v : WorldView) (s : ℕ) (h : Hand) (t : ℕ) → (t ≡ s → ⊥) → hand_at (set v.hands s h) t ≡ hand_at v.hands t
 hand_else v s h t ne = get_or-set_other v.hands s t h Empty ne
 
-hand_here : (v : WorldView) (F : Flat) (s : ℕ) (h : Hand) → s < 65536 → Represents v F → hand_at (set v.hands s h) s ≡ h
-hand_here v F s h inside rep = let e = rep.room in let long : s < length v.hands = omega arith in get_or-set_same v.hands s h Empty long
+hand_here : (v : WorldView) (s : ℕ) (h : Hand) → s < length v.hands → hand_at (set v.hands s h) s ≡ h
+hand_here v s h inside = get_or-set_same v.hands s h Empty inside
 
-pub claim_case : (v : WorldView) (F : Flat) (w s : ℕ) → s < 65536 → has_no_holder (kept_at v.array s) (hand_at v.hands s) ≡ true → Represents v F
+pub claim_case : (v : WorldView) (F : Flat) (w s : ℕ) → s < 65536 → s < length v.hands → has_no_holder (kept_at v.array s) (hand_at v.hands s) ≡ true → Represents v F
     → (G : Flat) × (ClaimCase F w s (Claimed s) G) × (Represents (with_hand v s (Holds w)) G)
-claim_case v F w s inside free rep = (
+claim_case v F w s small inside free rep = (
   G,
   (refl, is_free, refl),
   record {
     array = hands_move v.array F H kept rep.array;
-    room = length-set v.hands s (Holds w) ∙ rep.room;
+    inside = λ t u held. within t u held (cases_eq t s);
     hands = one_hand v.array v.array v.hands (set v.hands s (Holds w)) F G s rep.hands (λ t ne. refl) (hand_else v s (Holds w))
         (λ t ne. same_slot _ _ (with_else F.held s (Worker w) t ne) refl refl refl) here;
   },
@@ -149,8 +156,12 @@ claim_case v F w s inside free rep = (
         go (inl e) = subst (λ (n : ℕ). H n k ≡ F.held n k) (sym e) (at k of)
         go (inr ne) = ap (λ (h : Holder → Bool). h k) (with_else F.held s (Worker w) t ne)
 
+    within : (t u : ℕ) → H t (Worker u) ≡ true → (t ≡ s) ⊎ (t ≡ s → ⊥) → t < 65536
+    within t u held (inl e) = omega arith
+    within t u held (inr ne) = rep.inside t u (ap (λ (h : Holder → Bool). h (Worker u)) (sym (with_else F.held s (Worker w) t ne)) ∙ held)
+
     here : HandSlot (kept_at v.array s) (hand_at (set v.hands s (Holds w)) s) (flat_at G s)
-    here = rw (none.0, hand_here v F s (Holds w) inside rep) (record {
+    here = rw (none.0, hand_here v s (Holds w) inside) (record {
       claims = λ u. with_here F.held s (Worker w) (Worker u) ∙ ap (λ b. b || (u == w)) (is_free (Worker u)) ∙ flip u w;
       tickets = λ u. with_here F.held s (Worker w) (Ticket u) ∙ ap (λ b. b || false) (is_free (Ticket u));
       agree = tt;
@@ -206,14 +217,14 @@ other_worker u w = subst (λ b. (b && not (u == w)) ≡ false) (flip u w) (go (u
     go true = refl
     go false = refl
 
-pub release_case : (v : WorldView) (F : Flat) (w s : ℕ) → s < 65536 → is_claim (hand_at v.hands s) w ≡ true → Represents v F
+pub release_case : (v : WorldView) (F : Flat) (w s : ℕ) → s < length v.hands → is_claim (hand_at v.hands s) w ≡ true → Represents v F
     → (G : Flat) × (ReleaseCase F w s (Released s) G) × (Represents (with_hand v s Empty) G)
-release_case v F w s inside held rep = (
+release_case v F w s inside is_held rep = (
   G,
-  (refl, (rep.hands s).claims w ∙ held, refl),
+  (refl, (rep.hands s).claims w ∙ is_held, refl),
   record {
     array = hands_move v.array F H kept rep.array;
-    room = length-set v.hands s Empty ∙ rep.room;
+    inside = λ t u held. within t u held (cases_eq t s);
     hands = one_hand v.array v.array v.hands (set v.hands s Empty) F G s rep.hands (λ t ne. refl) (hand_else v s Empty)
         (λ t ne. same_slot _ _ (without_else F.held s (Worker w) t ne) refl refl refl) here;
   },
@@ -226,7 +237,7 @@ release_case v F w s inside held rep = (
     G = with_held F H
 
     hand : hand_at v.hands s ≡ Holds w
-    hand = claim_hand (hand_at v.hands s) w held
+    hand = claim_hand (hand_at v.hands s) w is_held
 
     old : HandSlot (kept_at v.array s) (Holds w) (flat_at F s)
     old = subst (λ h. HandSlot (kept_at v.array s) h (flat_at F s)) hand (rep.hands s)
@@ -246,8 +257,12 @@ release_case v F w s inside held rep = (
         go (inl e) = subst (λ (n : ℕ). H n k ≡ F.held n k) (sym e) (at k of)
         go (inr ne) = ap (λ (h : Holder → Bool). h k) (without_else F.held s (Worker w) t ne)
 
+    within : (t u : ℕ) → H t (Worker u) ≡ true → (t ≡ s) ⊎ (t ≡ s → ⊥) → t < 65536
+    within t u held (inl e) = subst (λ n. n < 65536) (sym e) (rep.inside s w ((rep.hands s).claims w ∙ is_held))
+    within t u held (inr ne) = rep.inside t u (ap (λ (h : Holder → Bool). h (Worker u)) (sym (without_else F.held s (Worker w) t ne)) ∙ held)
+
     here : HandSlot (kept_at v.array s) (hand_at (set v.hands s Empty) s) (flat_at G s)
-    here = rw (none, hand_here v F s Empty inside rep) (record {
+    here = rw (none, hand_here v s Empty inside) (record {
       claims = λ u. without_here F.held s (Worker w) (Worker u) ∙ ap (λ b. b && not (u == w)) (old.claims u) ∙ other_worker u w;
       tickets = λ u. without_here F.held s (Worker w) (Ticket u) ∙ ap (λ b. b && true) (old.tickets u);
       agree = tt;

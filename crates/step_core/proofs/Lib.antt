@@ -3,6 +3,7 @@ pub mod Pairs
 pub mod Slots
 pub mod Newest
 pub mod Kepts
+pub mod Wholes
 pub mod Fills
 pub mod Hands
 pub mod News

@@ -7,6 +7,7 @@ use Rattle.std.proofs.lemmas.Bool.Decides.{nat_tests}
 use Rattle.std.proofs.lemmas.Option.{same_Some}
 use Rattle.map_join.specs.Record.{record_of}
 use Rattle.step_core.specs.declared.group.Class.{Class}
+use Rattle.step_core.specs.declared.group.Class.TheVariants.{Mirrored}
 use Rattle.step_core.specs.declared.group.Member.{Member}
 use Rattle.step_core.specs.declared.refusal.Refusal.{Refusal}
 use Rattle.step_core.specs.declared.refusal.Refusal.TheVariants.{BadMember, SameDrive, ExtentTaken, Full}
@@ -14,14 +15,16 @@ use Rattle.step_core.specs.Sizes.{Sizes}
 use Rattle.step_core.specs.Steps.{MadeGroup, Refused}
 use Rattle.step_core.specs.Changes.{MayRefuse}
 use Rattle.step_core.specs.Groups.{Made, slot_count, class_in, AreMembers, AreApart, AreUnowned, HaveCommon, IsLowestFree, IsFull}
-use Rattle.step_core.specs.Flat.{Flat, Ticket, Block, Stored, class_of}
+use Rattle.step_core.specs.Flat.{Flat, Ticket, Block, Content, Fresh, Moved, Stored, class_of}
 use Rattle.step_core.specs.Cases.{made, wiped, MakeCase}
 use Rattle.step_core.specs.Making.{blank, placed, Entered, ArePlaced, IsBlankUnit, IsMakeReason}
 use Rattle.step_core.specs.declared.stored.StoredUnit.{StoredUnit}
 use Rattle.step_core.specs.Kept.{units_of}
 use Rattle.step_core.specs.Views.{Kept, Nothing, Pending, Moving, Newest, ArrayView, kept_at, unit_at, key_at, group_at, is_waiting, IsWhole}
-use Rattle.step_core.specs.Represents.{FlatSlot, flat_at, ArraySlot, IsBlank, BlockStands, HeaderStands, ShowsArray, waiting}
+use Rattle.step_core.specs.Represents.{FlatSlot, flat_at, ArraySlot, IsBlank, BlockStands, HeaderStands, PayloadStands, TicketStands, ShowsArray, waiting}
 use Rattle.step_core.proofs.Pairs.{equal, put_here, put_else}
+use Rattle.step_core.proofs.Wholes.{sized_of, table_of}
+use Rattle.step_core.proofs.Fills.{blank_payload}
 
 -- the slots of a group are those from 128 times its number on
 placed_wiped : (units : List (Option Stored)) (payload g count s : ℕ) → count ≤ 128
@@ -92,8 +95,11 @@ entered_whole a b g class members whole limit reason e = subst IsWhole (sym e.re
   moving = whole.moving;
   stored = λ s kept. ap is_some (e.units s) ∙ placed_some a.units _ _ (blank a.sizes.payload) s (whole.stored s kept);
   sized = λ s u is. placed_sized a.units _ _ (blank a.sizes.payload) a.sizes.payload s (length-replicate a.sizes.payload 0) (whole.sized s) u (sym (e.units s) ∙ is);
-  members = λ h m is. members_now h m is (cases_eq h g);
-  owned = λ h i m n h_is i_is common. owned h i m n h_is i_is common (cases_eq h g) (cases_eq i g);
+  groups = record {
+    limit = λ h m is. under h m is (cases_eq h g);
+    members = λ h m is. members_now h m is (cases_eq h g);
+    owned = λ h i m n h_is i_is common. owned h i m n h_is i_is common (cases_eq h g) (cases_eq i g);
+  };
 })
   where
     view : ArrayView
@@ -110,11 +116,15 @@ entered_whole a b g class members whole limit reason e = subst IsWhole (sym e.re
     was : (h : ℕ) (m : Made) → group_at view h ≡ Some m → (h ≡ g → ⊥) → group_at a h ≡ Some m
     was h m is ne = sym (group_else a b.units g class members h ne) ∙ is
 
+    under : (h : ℕ) (m : Made) → group_at view h ≡ Some m → (h ≡ g) ⊎ (h ≡ g → ⊥) → h < 512
+    under h m is (inl same) = omega arith
+    under h m is (inr ne) = whole.groups.limit h m (was h m is ne)
+
     members_now : (h : ℕ) (m : Made) → group_at view h ≡ Some m → (h ≡ g) ⊎ (h ≡ g → ⊥)
         → (AreMembers a.sizes.extents a.drives m.members) × (AreApart m.members)
     members_now h m is (inl same) =
         subst (λ (ms : List Member). (AreMembers a.sizes.extents a.drives ms) × (AreApart ms)) (here h m is same) (reason.0, reason.1)
-    members_now h m is (inr ne) = whole.members h m (was h m is ne)
+    members_now h m is (inr ne) = whole.groups.members h m (was h m is ne)
 
     -- what one list has in common with another, that has in common with it
     common_back : (ms ns : List Member) → HaveCommon ms ns → members ≡ ms → HaveCommon ns members
@@ -127,7 +137,7 @@ entered_whole a b g class members whole limit reason e = subst IsWhole (sym e.re
         absurd (reason.2 h m (was h m h_is p) (subst (λ ms. HaveCommon m.members ms) (sym (here i n i_is q)) common))
     owned h i m n h_is i_is common (inl p) (inr q) =
         absurd (reason.2 i n (was i n i_is q) (common_back m.members n.members common (here h m h_is p)))
-    owned h i m n h_is i_is common (inr p) (inr q) = whole.owned h i m n (was h m h_is p) (was i n i_is q) common
+    owned h i m n h_is i_is common (inr p) (inr q) = whole.groups.owned h i m n (was h m h_is p) (was i n i_is q) common
 
 and_true : (b : Bool) → (b && true) ≡ b
 and_true true = refl
@@ -147,17 +157,24 @@ bare_kept (Newest b) stored = let bad = stored (λ e. cc) in absurd (cc)
 pub entered_shows : (a b : ArrayView) (F : Flat) (g : ℕ) (class : Class) (members : List Member) → IsWhole a → g < 512 → group_at a g ≡ None
     → IsMakeReason a members None → Entered a g class members b → ShowsArray a F → ShowsArray b (made F class members g)
 entered_shows a b F g class members whole limit free reason e shows = subst (λ (v : ArrayView). ShowsArray v (made F class members g)) (sym e.rest) (record {
-  whole = subst IsWhole e.rest (entered_whole a b g class members whole limit reason e);
+  limits = shows.limits;
   sizes = shows.sizes;
   drives = shows.drives;
   log = shows.log;
   records = shows.records;
+  blocks = shows.blocks;
   chain = shows.chain;
+  writes = shows.writes;
+  versions = shows.versions;
   map = shows.map;
   groups = λ h. groups h (cases_eq h g);
+  table = table_of view G now shows.sizes shows.drives (λ h. groups h (cases_eq h g));
   slots = λ s. slots s (cases_eq (s / 128) g);
-  headers = λ s. headers s;
-  tickets = shows.tickets;
+  sized = sized_of view G now shows.sizes (λ s. slots s (cases_eq (s / 128) g));
+  places = λ s c held. shows.places s c (sym (and_true (F.held s (Block c))) ∙ held);
+  headers = headers;
+  payloads = payloads;
+  tickets = λ s. tickets s (F.tickets s) (shows.tickets s) (cases_eq (s / 128) g);
   written = written;
 })
   where
@@ -166,6 +183,9 @@ entered_shows a b F g class members whole limit free reason e shows = subst (λ 
 
     view : ArrayView
     view = entered a b.units g class members
+
+    now : IsWhole view
+    now = subst IsWhole e.rest (entered_whole a b g class members whole limit reason e)
 
     count : ℕ
     count = slot_count a.sizes.segments class (length members)
@@ -252,6 +272,21 @@ entered_shows a b F g class members whole limit free reason e shows = subst (λ 
         go : (q : Bool) → HeaderStands (key_at a) s (cond q (Some (record { header = None; payload = replicate F.sizes.payload 0 })) (F.units s))
         go true = tt
         go false = shows.headers s
+
+    payloads : (s : ℕ) → PayloadStands F.emitted F.writes (G.units s)
+    payloads s = go ((s / 128 == g) && nat_lt (s % 128) (slot_count F.sizes.segments class (length members)))
+      where
+        go : (q : Bool) → PayloadStands F.emitted F.writes (cond q (Some (record { header = None; payload = replicate F.sizes.payload 0 })) (F.units s))
+        go true = blank_payload F.emitted F.writes (replicate F.sizes.payload 0)
+        go false = shows.payloads s
+
+    -- no ticket waits at a slot of the group, which had no class
+    tickets : (s : ℕ) (o : Option Content) → TicketStands (class_of F s) F.writes (key_at a) o → (s / 128 ≡ g) ⊎ (s / 128 ≡ g → ⊥)
+        → TicketStands (class_of G s) F.writes (key_at a) o
+    tickets s None was side = tt
+    tickets s (Some (Moved c v h x)) was side = was
+    tickets s (Some (Fresh x)) was (inl same) = let bad : None ≡ Some Mirrored = sym (class_was s same) ∙ was in absurd (cc)
+    tickets s (Some (Fresh x)) was (inr ne) = class_else s ne ∙ was
 
     written : (c : ℕ) → BlockStands G c (key_at a c)
     written c = (

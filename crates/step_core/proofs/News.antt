@@ -7,9 +7,9 @@ use Rattle.step_core.specs.declared.place.Place.{Place}
 use Rattle.step_core.specs.declared.place.Place.TheVariants as place
 use Rattle.step_core.specs.declared.stored.StoredUnit.{StoredUnit}
 use Rattle.step_core.specs.declared.group.Group.{Group}
-use Rattle.step_core.specs.Sizes.{Sizes}
+use Rattle.step_core.specs.Sizes.{Sizes, AreSizes}
 use Rattle.step_core.specs.Kept.{kept_of, kepts_of, stored_of, units_of, made_of, groups_of}
-use Rattle.step_core.specs.Flat.{new_flat}
+use Rattle.step_core.specs.Flat.{Write, new_flat}
 use Rattle.step_core.specs.Views.{Nothing, Moving, Newest, ArrayView, IsWhole, IsNew}
 use Rattle.step_core.specs.Represents.{flat_at, ArraySlot, ShowsArray}
 
@@ -33,12 +33,18 @@ new_whole z d a new narrow = record {
   moving = λ s r is. let bad : Nothing ≡ Moving r = sym (new.kept s) ∙ is in absurd (cc);
   stored = λ s kept. absurd (kept (new.kept s));
   sized = λ s u is. let e = new.units s in absurd (cc);
-  members = λ g made is. let e = new.groups g in absurd (cc);
-  owned = λ g h m n is. let e = new.groups g in absurd (cc);
+  groups = record {
+    limit = λ g made is. let e = new.groups g in absurd (cc);
+    members = λ g made is. let e = new.groups g in absurd (cc);
+    owned = λ g h m n is. let e = new.groups g in absurd (cc);
+  };
 }
 
 not_there : (r : Record) → Contains [] r → ⊥
 not_there r has = let h = has.1 in omega arith
+
+unwritten : (w : Write) → Contains [] w → ⊥
+unwritten w has = let h = has.1 in omega arith
 
 blank_slot : (s : ℕ) (z : Sizes) (d : ℕ) → ArraySlot Nothing None (flat_at (new_flat z d) s)
 blank_slot s z d = record {
@@ -53,18 +59,25 @@ blank_slot s z d = record {
   lone = λ v w one. absurd (cc);
 }
 
-pub new_shows : (z : Sizes) (d : ℕ) (a : ArrayView) → IsNew z d a → z.blocks ≤ 65536 → ShowsArray a (new_flat z d)
-new_shows z d a new narrow = record {
-  whole = new_whole z d a new narrow;
+pub new_shows : (z : Sizes) (d : ℕ) (a : ArrayView) → IsNew z d a → AreSizes z → 3 ≤ d → d ≤ 16 → ShowsArray a (new_flat z d)
+new_shows z d a new sizes least most = record {
+  limits = record { sizes = sizes; least = least; most = most; log = omega arith };
   sizes = sym new.sizes_are;
   drives = sym new.drives_are;
   log = sym new.log;
   records = λ r has. absurd (not_there r has);
+  blocks = λ r has. absurd (not_there r has);
   chain = tt;
+  writes = λ w has. absurd (unwritten w has);
+  versions = tt;
   map = record { told = λ b some. let e = new.keys b in absurd (omega arith); most = λ r has. absurd (not_there r has) };
   groups = λ g. sym (new.groups g);
+  table = record { limit = λ g made is. absurd (cc); members = λ g made is. absurd (cc); owned = λ g h m n is. absurd (cc) };
   slots = λ s. rw (new.kept s, new.units s) (blank_slot s z d);
+  sized = λ s u is. absurd (cc);
+  places = λ s b held. absurd (cc);
   headers = λ s. tt;
+  payloads = λ s. tt;
   tickets = λ s. tt;
   written = λ b. (λ none. refl, λ some. let e = new.keys b in absurd (omega arith));
 }

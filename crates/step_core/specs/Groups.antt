@@ -42,6 +42,12 @@ HaveCommon owned members = Any (Contains members) owned
 abbrev pub AreUnowned : (ℕ → Option Made) → List Member → Type 0
 AreUnowned groups members = (g : ℕ) (made : Made) → groups g ≡ Some made → HaveCommon made.members members → ⊥
 
+-- what is true of every table: 512 numbers, members that can be a group's, no two on one drive, and no extent in two groups
+pub record AreGroups (extents drives : ℕ) (groups : ℕ → Option Made) : Type 0 where
+  pub limit : (g : ℕ) (made : Made) → groups g ≡ Some made → g < 512
+  pub members : (g : ℕ) (made : Made) → groups g ≡ Some made → (AreMembers extents drives made.members) × (AreApart made.members)
+  pub owned : (g h : ℕ) (m n : Made) → groups g ≡ Some m → groups h ≡ Some n → HaveCommon m.members n.members → g ≡ h
+
 -- the lowest number of which no group is made
 pub record IsLowestFree (groups : ℕ → Option Made) (g : ℕ) : Type 0 where
   pub limit : g < 512

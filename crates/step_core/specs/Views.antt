@@ -3,7 +3,7 @@ use Rattle.std.specs.Prelude.{◌≡◌, ◌≢◌, ℕ, ◌<◌, ◌≤◌, ◌
 use Rattle.map_join.specs.declared.records.Record.{Record}
 use Rattle.map_join.specs.Record.{record_of}
 use Rattle.step_core.specs.Sizes.{Sizes}
-use Rattle.step_core.specs.Groups.{Made, AreMembers, AreApart, HaveCommon}
+use Rattle.step_core.specs.Groups.{Made, AreGroups}
 use Rattle.step_core.specs.Flat.{Stored}
 use Rattle.step_core.specs.declared.hand.Hand.{Hand}
 use Rattle.step_core.specs.declared.hand.Hand.TheVariants.{Empty, Holds, Waits}
@@ -86,8 +86,7 @@ pub record IsWhole (a : ArrayView) : Type 0 where
   pub moving : (s : ℕ) (r : Record) → kept_at a s ≡ Moving r → r.hop < 65535
   pub stored : (s : ℕ) → kept_at a s ≢ Nothing → is_some (unit_at a s) ≡ true
   pub sized : (s : ℕ) (u : Stored) → unit_at a s ≡ Some u → length u.payload ≡ a.sizes.payload
-  pub members : (g : ℕ) (made : Made) → group_at a g ≡ Some made → (AreMembers a.sizes.extents a.drives made.members) × (AreApart made.members)
-  pub owned : (g h : ℕ) (m n : Made) → group_at a g ≡ Some m → group_at a h ≡ Some n → HaveCommon m.members n.members → g ≡ h
+  pub groups : AreGroups a.sizes.extents a.drives (group_at a)
 
 -- an array to which nothing has happened
 pub record IsNew (sizes : Sizes) (drives : ℕ) (a : ArrayView) : Type 0 where

@@ -11,6 +11,6 @@ class_in-requires-clause-members g c x is =
     let long : length groups ≡ 512 = sym (length-map groups (option_map made_of)) ∙ c.self.invariant.0.room.groups in
     let at = c.from.ensures in
     let inside : c.from.result < length groups = omega arith in
-    let are = c.self.invariant.0.members c.from.result (made_of x)
+    let are = c.self.invariant.0.groups.members c.from.result (made_of x)
     (group_there groups c.from.result c.index-group.result.now inside ∙ ap (option_map made_of) (sym c.index-group.ensures ∙ is)) in
     (are.0.least, are.0.most)

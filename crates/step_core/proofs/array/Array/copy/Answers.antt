@@ -36,5 +36,5 @@ returns-clause-flat g c F w shows held =
     let is : slot ≡ g.C.Hold.names c.args.claim = c.of.ensures ∙ c.slot-slot.ensures in
     let u = c.in-Ok-payload_at.ensures in
     as_shown (λ G. CopyCase F w slot c.args.block (Copied slot) G) _ (copy_view c.args.self.now slot c.in-Ok.source u.0.payload) (search rules)
-    (copy_case c.args.self.now F w slot c.args.block c.in-Ok.source u.0 (search rules) (sym c.told.ensures.value ∙ c.in-Ok.ensures.ok.1) u.1 (search rules) shows
+    (copy_case c.args.self.now F w slot c.args.block c.in-Ok.source u.0 (search rules) (sym c.told.ensures.value ∙ c.in-Ok.ensures.ok.1) u.1 (search rules) c.told.ensures.whole shows
     (ap (λ s. F.held s (Worker w)) is ∙ held))

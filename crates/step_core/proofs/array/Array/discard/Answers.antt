@@ -16,5 +16,5 @@ invariant_of-self g c = (
 pub returns-clause-flat : goal.returns-clause-flat
 returns-clause-flat g c F w shows mine =
     as_shown (λ G. DiscardCase F w c.args.ticket (Discarded c.args.ticket) G) _ (discard_view c.args.self.now c.args.ticket) (search rules)
-    (discard_case c.args.self.now F w c.args.ticket (search rules) (search rules) shows
+    (discard_case c.args.self.now F w c.args.ticket (search rules) (search rules) (subst IsWhole c.self.view_is c.self.invariant.0) shows
     (ticket_held c.args.self.now F w c.args.ticket (search rules) shows mine))

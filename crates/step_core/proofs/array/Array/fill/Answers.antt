@@ -4,7 +4,7 @@ use Rattle.step_core.specs.Steps.{Filled}
 use Rattle.step_core.specs.Cases.{FillCase}
 use Rattle.step_core.specs.Changes.{fill_view}
 use Rattle.step_core.specs.Views.{IsWhole}
-use Rattle.step_core.proofs.Fills.{fill_case, fill_refused, fill_whole, as_whole, as_shown}
+use Rattle.step_core.proofs.Fills.{fill_done, fill_case, fill_refused, fill_whole, as_whole, as_shown}
 use Rattle.step_core.proofs.array.Array.fill.Goals as goal
 
 pub returns-in-Some-clause-flat : goal.returns-in-Some-clause-flat
@@ -23,9 +23,8 @@ returns-clause-flat g c F w shows held =
     let slot = c.of.result in
     let is : slot ≡ g.C.Hold.names c.args.claim = c.of.ensures ∙ c.slot-slot.ensures in
     as_shown (λ G. FillCase F w slot c.args.payload.now (Filled slot) G) _ (fill_view c.args.self.now slot c.args.payload.now) (search rules)
-    (fill_case c.args.self.now F w slot c.args.payload.now (search rules) (search rules) (search rules) shows (ap (λ s. F.held s (Worker w)) is ∙ held))
+    (fill_case c.args.self.now F w slot c.args.payload.now (search rules) (search rules) (search rules) (subst IsWhole c.self.view_is c.self.invariant.0) shows (ap (λ s. F.held s (Worker w)) is ∙ held))
 
 pub returns-in-Err-clause-flat : goal.returns-in-Err-clause-flat
 returns-in-Err-clause-flat g c F w shows held =
-    let x = fill_case c.args.self.now F w (g.C.Hold.names c.args.claim) c.args.payload.now (search rules) (search rules) (search rules) shows held in
-    (x.0, x.1)
+    (_, fill_done c.args.self.now F w (g.C.Hold.names c.args.claim) c.args.payload.now (search rules) shows held)

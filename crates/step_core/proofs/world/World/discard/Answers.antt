@@ -22,6 +22,6 @@ returns-in-Ok-clause-flat c F rep =
     c.in-Ok.ensures.claim.1 ∙ ap (λ a. discard_view a c.of.result) array ∙ ap (λ n. discard_view v.array n) c.of.ensures
     in
     as_world (λ G. DiscardCase F w s (Discarded s) G) _ (record { array = c.discard.new.self; hands = set v.hands s (Holds w) }) (search rules)
-    (discard_world v F w s c.discard.new.self (search rules) is rep held c.of.result c.of.ensures
+    (discard_world v F w s c.discard.new.self (search rules) (search rules) is rep held c.of.result c.of.ensures
     (c.in-Ok.ensures.flat F w (subst (λ (a : ArrayView). ShowsArray a F) (sym array) rep.array)
     (λ _. ap (λ n. F.held n (Ticket w)) c.of.ensures ∙ (rep.hands s).tickets w ∙ held)))

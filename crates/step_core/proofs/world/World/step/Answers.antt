@@ -1,11 +1,30 @@
-use Rattle.std.proofs.Common.{subst, sym, OnErr, Some}
+use Rattle.std.proofs.Common.{List, ℕ, Result, IfOk, subst, sym, OnErr, Some}
+use Rattle.std.specs.declared.alloc.AllocError.{AllocError}
+use Rattle.step_core.specs.declared.step.Answer.{Answer}
 use Rattle.step_core.specs.Flat.{Flat}
 use Rattle.step_core.specs.Steps.{Data, Filled, Copied, Committed, Found, FoundAt, MadeGroup}
-use Rattle.step_core.specs.Cases.{FillCase, MakeCase, IsWanted}
-use Rattle.step_core.specs.Told.{flat_step}
+use Rattle.step_core.specs.Steps.{FlatStep, Fill}
+use Rattle.step_core.specs.Cases.{Case, FillCase, MakeCase, IsWanted}
+use Rattle.step_core.specs.Told.{flat_step, flat_answer}
+use Rattle.step_core.specs.Views.{WorldView}
 use Rattle.step_core.specs.Represents.{Represents}
 use Rattle.step_core.proofs.Runnings.{on_err}
 use Rattle.step_core.proofs.world.World.step.Goals as goal
+
+-- an answer is the flat machine's, and the world stands for the state that it leaves
+abbrev WasDone : WorldView → WorldView → Result Answer AllocError → FlatStep → Type 0
+WasDone old new result step = IfOk result (λ answer. (F : Flat) → Represents old F → (G : Flat) × (Case F step (flat_answer answer) G) × (Represents new G))
+
+pub returns-in-Fill-clause-ok : goal.returns-in-Fill-clause-ok
+returns-in-Fill-clause-ok c =
+    subst (λ s. WasDone c.args.self.now c.fill.new.self c.fill.result (flat_step s)) (sym c.in-Fill.is)
+    (subst (λ (p : List ℕ). WasDone c.args.self.now c.fill.new.self c.fill.result (Fill c.in-Fill.worker c.in-Fill.slot p)) c.deref.ensures.value c.fill.ensures.ok)
+
+pub returns-in-Copy-clause-ok : goal.returns-in-Copy-clause-ok
+returns-in-Copy-clause-ok c = subst (λ s. WasDone c.args.self.now c.copy.new.self c.copy.result (flat_step s)) (sym c.in-Copy.is) c.copy.ensures.ok
+
+pub returns-in-Commit-clause-ok : goal.returns-in-Commit-clause-ok
+returns-in-Commit-clause-ok c = subst (λ s. WasDone c.args.self.now c.commit.new.self c.commit.result (flat_step s)) (sym c.in-Commit.is) c.commit.ensures.ok
 
 pub returns-in-Fill-clause-wants : goal.returns-in-Fill-clause-wants
 returns-in-Fill-clause-wants c =
