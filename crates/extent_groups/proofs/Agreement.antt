@@ -1,14 +1,14 @@
 -- Groups and owners agree after a group is made, unmade, or has a member swapped; and the table stays well formed.
-use Rattle.std.proofs.Common.{◌≡◌, ◌≢◌, ℕ, zero, suc, ◌<◌, ◌⊎◌, inl, inr, Option, Some, None, List, [], ◌∷◌, length, refl, sym, ◌∙◌, ap, subst, arith}
-use Rattle.std.specs.Prelude.{slice_get}
-use Rattle.std.proofs.lemmas.List.{length-set}
-use Rattle.std.proofs.lemmas.Option.{same_Some, slice_get_within}
-use Rattle.extents.specs.Owners.{Owners, owner_of}
+use Rattle.std.proofs.Common.{◌≡◌, ◌≢◌, ℕ, zero, suc, ◌<◌, ◌⊎◌, inl, inr, Option, Some, None, List, [], ◌∷◌, ◌++◌, length, refl, sym, ◌∙◌, ap, subst, arith, length-append}
+use Rattle.std.specs.Prelude.{slice_get, unwrap_or, replicate}
+use Rattle.std.proofs.lemmas.List.{length-set, length-replicate, get_or_append_left, get_or_push}
+use Rattle.std.proofs.lemmas.Option.{same_Some, slice_get_within, slice_get_cases, unwrap_or-slice_get}
+use Rattle.extents.specs.Owners.{Owners, owner_of, row_of, with_drive}
 use Rattle.extent_groups.specs.declared.class.Member.{Member}
 use Rattle.extent_groups.specs.Groups.{Group, Groups, group_at, members_in, members_of, with_group, with_owners, AreThere, IsFormed, AreGroups, Agree, IsFree}
 use Rattle.extent_groups.proofs.Places.{same_or_not}
 use Rattle.extent_groups.proofs.OwnersLemmas.{wide_all, extent_all, owner_out, owner_in}
-use Rattle.extent_groups.proofs.Fresh.{no_members}
+use Rattle.extent_groups.proofs.Fresh.{no_members, none_of}
 use Rattle.extent_groups.proofs.GroupsLemmas.{group_same, group_other, apart_of}
 
 -- a group with another one under one number, as members
@@ -130,4 +130,49 @@ groups_with t o g x are agree within formed = record {
     | inr ne ↦ are.formed h group (sym (group_other t g h x ne) ∙ at)
   ];
   apart = apart_of (with_group t g x) o agree;
+}
+
+-- a drive more leaves the rows of the others
+row_kept : (o : Owners) (d : ℕ) → d < length o.rows → row_of (with_drive o) d ≡ row_of o d
+row_kept o d within =
+    unwrap_or-slice_get (o.rows ++ replicate o.extents None ∷ []) d []
+    ∙ get_or_append_left o.rows (replicate o.extents None ∷ []) [] d within
+    ∙ sym (unwrap_or-slice_get o.rows d [])
+
+-- and its own row is free throughout
+row_added : (o : Owners) → row_of (with_drive o) (length o.rows) ≡ replicate o.extents None
+row_added o = unwrap_or-slice_get (o.rows ++ replicate o.extents None ∷ []) (length o.rows) [] ∙ get_or_push o.rows (replicate o.extents None) [] (length o.rows) refl
+
+-- what is owned then lies on a drive that was there
+owned_before : (o : Owners) (d e g : ℕ) → owner_of (with_drive o) d e ≡ Some g → d < length o.rows
+owned_before o d e g owned = elim (slice_get_cases (o.rows ++ replicate o.extents None ∷ []) d).1 [
+  | inl there ↦ elim (same_or_not d (length o.rows)) [
+    | inl last ↦
+        (let row : row_of (with_drive o) d ≡ replicate o.extents None = rw last (row_added o) in
+        let none : None ≡ Some g = sym (ap (λ r. unwrap_or (slice_get r e) None) row ∙ none_of o.extents e) ∙ owned in
+        absurd cc)
+    | inr apart ↦ omega (arith, apart, there.1, length-append o.rows (replicate o.extents None ∷ []))
+  ]
+  | inr past ↦
+      (let none : None ≡ Some g = sym (ap (λ r. unwrap_or (slice_get (unwrap_or r []) e) None) past.1) ∙ owned in
+      absurd cc)
+]
+
+-- groups and owners agree with a drive more, all of whose extents are free
+pub agree_more : (t : Groups) (o : Owners) → Agree t o → Agree t (with_drive o)
+agree_more t o agree = record {
+  owned = λ g k m at.
+      let was = agree.owned g k m at in
+      let row = row_kept o m.drive was.0.within in
+      (record { within = omega (arith, was.0.within, length-append o.rows (replicate o.extents None ∷ [])); inside = was.0.inside },
+      ap (λ r. unwrap_or (slice_get r m.extent) None) row ∙ was.1);
+  stands = λ g drive extent owned.
+      let within = owned_before o drive extent g owned in
+      agree.stands g drive extent (sym (ap (λ r. unwrap_or (slice_get r extent) None) (row_kept o drive within)) ∙ owned);
+  wide = λ drive within. elim (same_or_not drive (length o.rows)) [
+    | inl last ↦ rw last (ap (λ r. length r) (row_added o) ∙ length-replicate o.extents None)
+    | inr apart ↦
+        (let before : drive < length o.rows = omega (arith, apart, within, length-append o.rows (replicate o.extents None ∷ [])) in
+        ap (λ r. length r) (row_kept o drive before) ∙ agree.wide drive before)
+  ]
 }

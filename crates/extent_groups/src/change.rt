@@ -1,5 +1,5 @@
 // Making and unmaking a group, and swapping a member: the groups and the owners change together.
-ghost use Rattle.std.specs.Prelude.{◌≡◌, ℕ, ◌<◌, ◌⊎◌, Bool, length, Some, None, IsSome, OnOk, OnErr, IfErr, option_map};
+ghost use Rattle.std.specs.Prelude.{◌≡◌, ◌↔◌, IsTrue, ℕ, ◌<◌, ◌⊎◌, Bool, length, Some, None, IsSome, OnOk, OnErr, IfErr, option_map};
 ghost use Rattle.std.specs.List.{list_any};
 ghost use Rattle.extents.specs.Owners.{IsExtent, with_owner, owner_of};
 ghost use Rattle.extent_groups.specs.Faults.{is_on, shares_drive, is_owned, put_fault, swap_check_of, swap_fault, FailsFor};
@@ -11,6 +11,15 @@ use crate::table::Kept;
 use crate::{Class, GroupRefusal, GroupTable, Member};
 use extents::ExtentTable;
 use std::alloc::Global;
+
+/// Whether each of the members is an extent that is there.
+pub fn are_there(extents: &ExtentTable, members: &[Member]) -> bool
+    ensures { IsTrue result ↔ AreThere extents.now members.now }
+{
+    members
+        .iter()
+        .all(|member| extents.has_extent(member.drive, member.extent))
+}
 
 /// Whether one of the members is on the drive.
 fn is_on(drive: u8, members: &[Member]) -> bool

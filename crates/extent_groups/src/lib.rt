@@ -12,6 +12,7 @@ mod table;
 #[cfg(test)]
 mod tests;
 
+pub use change::are_there;
 pub use class::{Class, Member};
 pub use geometry::{Copies, Spot, Stripe};
 pub use place::{Place, read_place, write_place};

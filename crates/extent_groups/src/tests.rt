@@ -1,10 +1,9 @@
 // Tests of what no clause says, and each public call once.
-ghost use Rattle.std.specs.Prelude.{IsTrue};
-ghost use Rattle.extent_groups.specs.Groups.{AreThere, Agree};
+ghost use Rattle.extent_groups.specs.Groups.{Agree};
 
 use crate::cases::PLACES;
 use crate::table::count_slots;
-use crate::{Class, Copies, GroupRefusal, GroupTable, Member, Spot, Stripe, geometry};
+use crate::{Class, Copies, GroupRefusal, GroupTable, Member, Spot, Stripe, are_there, geometry};
 use extents::{ExtentTable, Shape};
 use std::alloc::Global;
 use std::process::Abort;
@@ -66,17 +65,6 @@ fn shape(rt: &impl Abort) -> Shape {
 
 fn on(drive: u8) -> Member {
     Member { drive, extent: 0 }
-}
-
-fn are_there(extents: &ExtentTable, members: &[Member]) -> bool
-    ensures { IsTrue result → AreThere extents.now members.now }
-{
-    for member in members {
-        if !extents.has_extent(member.drive, member.extent) {
-            return false;
-        }
-    }
-    true
 }
 
 /// Makes a group of members that are seen to be there.

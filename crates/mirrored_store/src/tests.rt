@@ -6,11 +6,11 @@ ghost use Rattle.extents.specs.Sizes.{extent_units};
 ghost use Rattle.extents.specs.Shapes.{IsShapeOf};
 ghost use Rattle.extents.specs.declared.shape.TheConstants.{HEADER_BYTES};
 ghost use Rattle.extent_groups.specs.declared.class.Class.TheVariants.{Mirrored};
-ghost use Rattle.extent_groups.specs.Groups.{AreThere, Agree};
+ghost use Rattle.extent_groups.specs.Groups.{Agree};
 ghost use Rattle.extent_groups.specs.Stores.{IsReady, IsSlotOf};
 
 use crate::{read, write};
-use extent_groups::{Class, GroupTable, Member, SLOTS, Spot, StoreRefusal};
+use extent_groups::{Class, GroupTable, Member, SLOTS, Spot, StoreRefusal, are_there};
 use extents::{Drive, ExtentTable, MemDrive, Shape};
 use std::alloc::{AllocError, Global};
 use std::process::Abort;
@@ -35,18 +35,6 @@ fn new_drives(alloc: Global, shape: &Shape, count: usize) -> Result<Vec<MemDrive
         drives.push(MemDrive::new(alloc, shape)?)?;
     }
     Ok(drives)
-}
-
-/// Whether the members are extents that are there.
-fn are_there(extents: &ExtentTable, members: &[Member]) -> bool
-    ensures { IsTrue result → AreThere extents.now members.now }
-{
-    for member in members {
-        if !extents.has_extent(member.drive, member.extent) {
-            return false;
-        }
-    }
-    true
 }
 
 /// Makes a group of all drives, of the extent of this number of each.
