@@ -3,3 +3,4 @@ pub mod Joins
 pub mod Listing
 pub mod Merging
 pub mod Spelling
+pub mod Walks
