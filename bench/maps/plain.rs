@@ -5,7 +5,8 @@ use std::io::{self, BufRead};
 
 const BLOCKS: u32 = 65_536;
 const FILLS: u32 = 5;
-const MERGES: u32 = 60;
+const COPIES: u32 = 200;
+const RAISES: u32 = 15;
 const WALKS: u32 = 1_000;
 const LISTS: u32 = 600;
 const TAKES: u32 = 1_000_000;
@@ -36,7 +37,7 @@ impl Record {
     }
 }
 
-#[derive(Default)]
+#[derive(Clone, Default)]
 struct BlockMap {
     keys: BTreeMap<u32, u64>,
 }
@@ -63,6 +64,10 @@ impl BlockMap {
     }
 
     fn merge(&mut self, other: &BlockMap) {
+        if self.keys.is_empty() {
+            self.keys = other.keys.clone();
+            return;
+        }
         for (block, key) in &other.keys {
             self.raise(*block, *key);
         }
@@ -117,6 +122,15 @@ fn taken(rounds: u32, step: u32) -> BlockMap {
     map
 }
 
+// A map of all blocks, each newer by as many versions as the age says.
+fn full(age: u32) -> BlockMap {
+    let mut map = BlockMap::default();
+    for block in 0..BLOCKS {
+        map.take(record_at(age * BLOCKS + block, SCATTERED));
+    }
+    map
+}
+
 fn place_in(map: &BlockMap, block: u32) -> u64 {
     map.get(block).map_or(0, |record| u64::from(record.version) + u64::from(record.place))
 }
@@ -126,29 +140,30 @@ fn takes(step: u32) -> u64 {
 }
 
 fn merges_into_empty() -> u64 {
-    let other = taken(BLOCKS, SCATTERED);
+    let other = full(0);
     let merged = |merge| {
         let mut map = BlockMap::default();
         map.merge(&other);
         place_in(&map, merge)
     };
-    (0..MERGES).map(merged).sum()
+    (0..COPIES).map(merged).sum()
 }
 
 fn merges_into_full() -> u64 {
-    let other = taken(2 * BLOCKS, SCATTERED);
-    let mut map = taken(BLOCKS, 1);
-    let merged = |merge| {
-        map.merge(&other);
-        place_in(&map, merge)
+    let old = full(0);
+    let newer = [full(1), full(2), full(3), full(4)];
+    let raised = |raise| {
+        let mut map = old.clone();
+        newer.iter().for_each(|other| map.merge(other));
+        place_in(&map, raise)
     };
-    (0..MERGES).map(merged).sum()
+    (0..RAISES).map(raised).sum()
 }
 
 // Before each look an old record is taken, so that no two are of the same value for a compiler.
 fn looks(holds: impl Fn(&BlockMap, &BlockMap) -> bool) -> u64 {
-    let mut map = taken(BLOCKS, SCATTERED);
-    let other = taken(BLOCKS, SCATTERED);
+    let mut map = full(0);
+    let other = full(0);
     let mut sum = 0;
     for look in 0..WALKS {
         map.take(record_at(look, SCATTERED));
@@ -158,7 +173,7 @@ fn looks(holds: impl Fn(&BlockMap, &BlockMap) -> bool) -> u64 {
 }
 
 fn lists() -> u64 {
-    let map = taken(BLOCKS, SCATTERED);
+    let map = full(0);
     (0..LISTS).map(|list| u64::from(map.to_list()[list as usize].place)).sum()
 }
 

@@ -1,3 +1,4 @@
+pub mod Copies
 pub mod Fronts
 pub mod Joins
 pub mod Listing

@@ -1,5 +1,5 @@
 -- Two maps whose entries are met side by side.
-use Rattle.std.proofs.Common.{◌≡◌, ℕ, ◌<◌, ◌≤◌, min, [], ◌∷◌, ◌++◌, refl, sym, ap, ◌∙◌, subst, arith, Option, Some, None, unwrap_or, ◌⊎◌, inl, inr}
+use Rattle.std.proofs.Common.{◌≡◌, ℕ, ◌<◌, ◌≤◌, ◌^◌, min, [], ◌∷◌, ◌++◌, refl, sym, ap, ◌∙◌, subst, arith, Option, Some, None, unwrap_or, ◌⊎◌, inl, inr}
 use Rattle.std.proofs.lemmas.List.{append-nil}
 use Rattle.std.proofs.lemmas.Map.Keys.{sorted_head, sorted_tail}
 use Rattle.std.specs.Map.{keys_of}
@@ -10,16 +10,20 @@ use Rattle.map_join.proofs.Fronts.{IsMet, found, passed, higher, all_higher, ord
 use Rattle.map_join.proofs.Merging.{key_met}
 
 -- a first entry's block has its key, lower blocks have none, and all others have what the rest has
-first_at : (here key : ℕ) (rest : Entries) → at ((here, key) ∷ rest) here ≡ key
+pub first_at : (here key : ℕ) (rest : Entries) → at ((here, key) ∷ rest) here ≡ key
 first_at here key rest = ap (λ o. unwrap_or o 0) (found (here, key) rest here refl)
 
-else_at : (here key : ℕ) (rest : Entries) (block : ℕ) → (block ≡ here → ⊥) → at ((here, key) ∷ rest) block ≡ at rest block
+pub else_at : (here key : ℕ) (rest : Entries) (block : ℕ) → (block ≡ here → ⊥) → at ((here, key) ∷ rest) block ≡ at rest block
 else_at here key rest block ne = ap (λ o. unwrap_or o 0) (passed (here, key) rest block ne)
 
-lower_at : (here key : ℕ) (rest : Entries) → AreInOrder ((here, key) ∷ rest) → (block : ℕ) → block < here → at ((here, key) ∷ rest) block ≡ 0
+pub lower_at : (here key : ℕ) (rest : Entries) → AreInOrder ((here, key) ∷ rest) → (block : ℕ) → block < here → at ((here, key) ∷ rest) block ≡ 0
 lower_at here key rest order block lt =
     else_at here key rest block (λ e. absurd (omega arith))
     ∙ ap (λ o. unwrap_or o 0) (higher rest here block (sorted_head nat_cmp here (keys_of rest) order) (omega arith))
+
+-- its key is a record's
+pub key_first : (here key : ℕ) (rest : Entries) → AreKeys ((here, key) ∷ rest) → 2 ^ 32 ≤ key
+key_first here key rest keys = keys here key (found (here, key) rest here refl)
 
 -- what is left of a map's entries, in order, has the map's keys from a block on
 pub record IsAhead (es left : Entries) (block : ℕ) : Type 0 where

@@ -87,7 +87,8 @@ impl BlockMap {
         Ok(())
     }
 
-    /// Joins the map with another, block after block. Memory is wanted only for blocks that aren't there.
+    /// Joins the map with another, block after block, or by one copy where it holds none. Memory is wanted only for
+    /// blocks that aren't there.
     pub fn merge(&mut self, alloc: Global, other: &BlockMap) -> Result<(), MapRefusal>
         ensures ok { OnOk result (IsSame (at self.new) (join (at self.old) (at other.now))) }
         ensures err { OnErr result (IsPartlyJoined (at self.old) (at other.now) (at self.new)) }
@@ -100,11 +101,31 @@ impl BlockMap {
         ensures map_of { OnOk result ((ours theirs : List Record) →
             IsMapOf ours (at self.old) → IsMapOf theirs (at other.now) → IsMapOf (ours ++ theirs) (at self.new)) }
     {
+        if self.keys.is_empty() {
+            return self.take_over(alloc, other);
+        }
         for (block, key) in other.keys.iter() {
             match self.raise(*block, *key) {
                 Ok(()) => {}
                 Err(refusal) => return Err(refusal),
             }
+        }
+        Ok(())
+    }
+
+    // Gives a map that holds no block all keys of another.
+    fn take_over(&mut self, alloc: Global, other: &BlockMap) -> Result<(), MapRefusal>
+        requires { self.old ≡ [] }
+        ensures ok { OnOk result (self.new ≡ other.now) }
+        ensures err { OnErr result (self.new ≡ self.old) }
+        ensures partly { OnErr result (IsPartlyJoined (at self.old) (at other.now) (at self.new)) }
+    {
+        if other.keys.len() == 0 {
+            return Ok(());
+        }
+        match copied_keys(alloc, &other.keys) {
+            Ok(keys) => self.keys = keys,
+            Err(_) => return Err(MapRefusal::Memory),
         }
         Ok(())
     }
