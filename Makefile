@@ -14,6 +14,6 @@ test:
 	bash .ci/run
 
 bench:
-	python3 bench/maps/run.py
 	python3 bench/words/run.py
 	python3 bench/exclusive_or/run.py
+	python3 bench/maps/run.py
