@@ -100,7 +100,11 @@ impl BlockMap {
 
     fn to_list(&self) -> Vec<Record> {
         let mut list = Vec::with_capacity(self.keys.len());
-        list.extend(self.keys.iter().filter_map(|(block, key)| Record::of_key(*block, *key)));
+        list.extend(
+            self.keys
+                .iter()
+                .filter_map(|(block, key)| Record::of_key(*block, *key)),
+        );
         list
     }
 }
@@ -132,11 +136,15 @@ fn full(age: u32) -> BlockMap {
 }
 
 fn place_in(map: &BlockMap, block: u32) -> u64 {
-    map.get(block).map_or(0, |record| u64::from(record.version) + u64::from(record.place))
+    map.get(block).map_or(0, |record| {
+        u64::from(record.version) + u64::from(record.place)
+    })
 }
 
 fn takes(step: u32) -> u64 {
-    (0..FILLS).map(|fill| place_in(&taken(TAKES, step), fill)).sum()
+    (0..FILLS)
+        .map(|fill| place_in(&taken(TAKES, step), fill))
+        .sum()
 }
 
 fn merges_into_empty() -> u64 {
@@ -174,7 +182,9 @@ fn looks(holds: impl Fn(&BlockMap, &BlockMap) -> bool) -> u64 {
 
 fn lists() -> u64 {
     let map = full(0);
-    (0..LISTS).map(|list| u64::from(map.to_list()[list as usize].place)).sum()
+    (0..LISTS)
+        .map(|list| u64::from(map.to_list()[list as usize].place))
+        .sum()
 }
 
 fn main() {
