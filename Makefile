@@ -16,3 +16,4 @@ test:
 bench:
 	python3 bench/words/run.py
 	python3 bench/exclusive_or/run.py
+	python3 bench/maps/run.py

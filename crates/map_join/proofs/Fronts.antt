@@ -7,23 +7,19 @@ use Rattle.std.proofs.lemmas.Map.Iter.{rest_more}
 use Rattle.std.proofs.lemmas.Map.Keys.{sorted_head, sorted_tail}
 use Rattle.std.specs.Map.Iter.{TakesFirst, deref_pair}
 use Rattle.std.specs.List.{AllByRecursion}
-use Rattle.std.specs.List.Sorted.{IsStrictlySortedBy}
 use Rattle.std.specs.Map.{keys_of}
 use Rattle.std.specs.Ordering.{nat_cmp, is_eq}
-use Rattle.map_join.specs.Maps.{Entries, find, at, IsSame, join, lone}
+use Rattle.map_join.specs.Maps.{Entries, find, at, AreInOrder, IsSame, join, lone}
 use Rattle.map_join.proofs.Joins.{tied, apart, lone_here, lone_else}
 
-abbrev pub AreInOrder : Entries → Type 0
-AreInOrder es = IsStrictlySortedBy nat_cmp (keys_of es)
-
-below : (a b : ℕ) → nat_cmp a b ≡ Less → a < b
+pub below : (a b : ℕ) → nat_cmp a b ≡ Less → a < b
 below a b is = grind (arith, nat_tests)
 
 -- the first entry is found at its block, and not at another one
-found : (e : ℕ × ℕ) (es : Entries) (block : ℕ) → block ≡ e.0 → find (e ∷ es) block ≡ Some e.1
+pub found : (e : ℕ × ℕ) (es : Entries) (block : ℕ) → block ≡ e.0 → find (e ∷ es) block ≡ Some e.1
 found e es block is = lookup_head (λ b. is_eq (nat_cmp block b)) e es (tied block e.0 is)
 
-passed : (e : ℕ × ℕ) (es : Entries) (block : ℕ) → (block ≡ e.0 → ⊥) → find (e ∷ es) block ≡ find es block
+pub passed : (e : ℕ × ℕ) (es : Entries) (block : ℕ) → (block ≡ e.0 → ⊥) → find (e ∷ es) block ≡ find es block
 passed e es block ne = lookup_tail (λ b. is_eq (nat_cmp block b)) e es (apart block e.0 ne)
 
 -- entries of lower blocks, and entries of higher ones, don't have a block
@@ -32,7 +28,7 @@ lower [] here block all le = refl
 lower (e ∷ es) here block all le =
     passed e es block (λ is. let lt = all.0 in absurd (omega arith)) ∙ lower es here block all.1 le
 
-higher : (es : Entries) (here block : ℕ) → AllByRecursion (λ b. nat_cmp here b ≡ Less) (keys_of es) → block ≤ here → find es block ≡ None
+pub higher : (es : Entries) (here block : ℕ) → AllByRecursion (λ b. nat_cmp here b ≡ Less) (keys_of es) → block ≤ here → find es block ≡ None
 higher [] here block all le = refl
 higher (e ∷ es) here block all le =
     passed e es block (λ is. let lt = below here e.0 all.0 in absurd (omega arith)) ∙ higher es here block all.1 le
@@ -82,7 +78,7 @@ all_lower (x ∷ front) e rest order =
     let later = sorted_tail nat_cmp x.0 (keys_of (front ++ e ∷ rest)) order in
     (below x.0 e.0 (reaches (λ b. nat_cmp x.0 b ≡ Less) front e rest first), all_lower front e rest later)
 
-all_higher : (front : Entries) (e : ℕ × ℕ) (rest : Entries) → AreInOrder (front ++ e ∷ rest) → AllByRecursion (λ b. nat_cmp e.0 b ≡ Less) (keys_of rest)
+pub all_higher : (front : Entries) (e : ℕ × ℕ) (rest : Entries) → AreInOrder (front ++ e ∷ rest) → AllByRecursion (λ b. nat_cmp e.0 b ≡ Less) (keys_of rest)
 all_higher [] e rest order = sorted_head nat_cmp e.0 (keys_of rest) order
 all_higher (x ∷ front) e rest order = all_higher front e rest (sorted_tail nat_cmp x.0 (keys_of (front ++ e ∷ rest)) order)
 
@@ -99,7 +95,7 @@ now_met inside es front left rest next block key same order whole is step = reco
   parts = ap (λ (xs : Entries). front ++ xs) (sym (rest_more deref_pair left rest next (block, key) is step)) ∙ whole;
 }
 
-order_of_parts : (es front : Entries) (block key : ℕ) (rest : Entries) → IsMet es front block key rest → AreInOrder (front ++ (block, key) ∷ rest)
+pub order_of_parts : (es front : Entries) (block key : ℕ) (rest : Entries) → IsMet es front block key rest → AreInOrder (front ++ (block, key) ∷ rest)
 order_of_parts es front block key rest met = subst AreInOrder (sym met.parts) met.order
 
 -- no block from it on is in front

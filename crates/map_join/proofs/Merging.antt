@@ -3,7 +3,7 @@ use Rattle.std.proofs.Common.{◌≡◌, ℕ, ◌^◌, ◌<◌, ◌≤◌, max, 
 use Rattle.std.proofs.lemmas.Bool.{cases_eq}
 use Rattle.std.proofs.lemmas.List.{append-nil}
 use Rattle.map_join.specs.Keys.{AreKeys}
-use Rattle.map_join.specs.Maps.{Entries, at, IsSame, IsBelow, join, lone, IsJoinedBelow, IsLowestAbove}
+use Rattle.map_join.specs.Maps.{Entries, at, IsSame, IsBelow, join, lone, IsJoinedBelow}
 use Rattle.map_join.proofs.Fronts.{IsMet, unmet, met_below, met_key, met_at, front_more}
 use Rattle.map_join.proofs.Joins.{lone_here, lone_else}
 
@@ -91,14 +91,3 @@ below_more es front block key rest M met before le b = go (cases_eq b block)
         let e = lone_else block key b ne in
         let old = before b in
         grind arith
-
--- the first entry that is greater is of the lowest such block
-pub first_above : (es front : Entries) (block key : ℕ) (rest : Entries) (M : ℕ → ℕ) → IsMet es front block key rest
-    → IsBelow (at front) M → M block < key → IsLowestAbove M (at es) block
-first_above es front block key rest M met before above = record { above = here; lowest = lowest }
-  where
-    here : M block < at es block
-    here = let e = met_at es front block key rest met in omega arith
-
-    lowest : (b : ℕ) → b < block → at es b ≤ M b
-    lowest b lt = let e = met_below es front block key rest met b lt in let old = before b in omega arith

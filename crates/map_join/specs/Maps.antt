@@ -1,8 +1,8 @@
 -- Maps from blocks to keys, their order and join, and the map of a list of records.
 use Rattle.std.specs.Prelude.{◌≡◌, ◌≢◌, ◌↔◌, ℕ, ◌<◌, ◌≤◌, max, ◌==◌, if◌then◌else◌, List, map, Option, Some, None, unwrap_or, Contains}
-use Rattle.std.specs.Map.{lookup}
+use Rattle.std.specs.Map.{lookup, keys_of}
 use Rattle.std.specs.Ordering.{nat_cmp, is_eq}
-use Rattle.std.specs.List.Sorted.{IsStrictlyIncreasing}
+use Rattle.std.specs.List.Sorted.{IsStrictlyIncreasing, IsStrictlySortedBy}
 use Rattle.map_join.specs.declared.records.Record.{Record}
 use Rattle.map_join.specs.Record.{key_of, record_at}
 
@@ -13,6 +13,10 @@ Entries = List (ℕ × ℕ)
 -- the key that a map has of a block, if any
 abbrev pub find : Entries → ℕ → Option ℕ
 find m block = lookup (λ b. is_eq (nat_cmp block b)) m
+
+-- the blocks of the entries rise
+abbrev pub AreInOrder : Entries → Type 0
+AreInOrder m = IsStrictlySortedBy nat_cmp (keys_of m)
 
 -- a block map as a function: the block's key, or 0
 abbrev pub at : Entries → ℕ → ℕ
@@ -48,11 +52,6 @@ pub record IsJoinedBelow (bound : ℕ) (M N joined : ℕ → ℕ) : Type 0 where
 -- a map joined with a part of another, in the blocks' order, and not with all of it
 abbrev pub IsPartlyJoined : (ℕ → ℕ) → (ℕ → ℕ) → (ℕ → ℕ) → Type 0
 IsPartlyJoined M N joined = (bound : ℕ) × IsJoinedBelow bound M N joined
-
--- the lowest block of which the second map has a greater key
-pub record IsLowestAbove (M N : ℕ → ℕ) (block : ℕ) : Type 0 where
-  pub above : M block < N block
-  pub lowest : (lower : ℕ) → lower < block → N lower ≤ M lower
 
 -- the lowest block of which two maps have different keys
 pub record IsLowestDifference (M N : ℕ → ℕ) (block : ℕ) : Type 0 where

@@ -1,14 +1,15 @@
 // A block map: of each block the greatest key that it took.
-ghost use Rattle.std.specs.Prelude.{◌≡◌, ◌≢◌, ℕ, ◌<◌, ◌≤◌, ◌^◌, List, [], ◌∷◌, ◌++◌, IsOk, IfOk, IfSome, IfNone, OnOk, OnErr, IsTrue, ◌↔◌};
+ghost use Rattle.std.specs.Prelude.{◌≡◌, ◌≢◌, ℕ, ◌<◌, ◌≤◌, ◌^◌, List, [], ◌∷◌, ◌++◌, IsOk, IfOk, IfSome, IfNone, OnOk, OnErr, IsTrue, ◌↔◌, max, unwrap_or};
 ghost use Rattle.map_join.specs.Record.{record_at};
-ghost use Rattle.map_join.specs.Maps.{at, IsSame, IsBelow, join, lone, only, IsMapOf, IsListOf, IsPartlyJoined, IsLowestAbove, IsDifference};
+ghost use Rattle.map_join.specs.Maps.{at, IsSame, IsBelow, join, lone, only, IsMapOf, IsListOf, IsPartlyJoined, IsDifference, AreInOrder};
 ghost use Rattle.std.specs.List.{filter_map};
 ghost use Rattle.std.specs.Ordering.{nat_cmp};
-ghost use Rattle.std.specs.BTreeMap.{IsOrdered};
+ghost use Rattle.std.specs.BTreeMap.{IsOrdered, IsUnchanged, Updates, get};
 
 use crate::records::Record;
-use std::alloc::{AllocError, Global};
+use std::alloc::{AllocError, AllocFailed, Global};
 use std::collections::BTreeMap;
+use std::collections::btree_map::Iter;
 use std::marker::Model;
 
 /// The greatest key taken of each block.
@@ -80,17 +81,14 @@ impl BlockMap {
         ensures err { OnErr result (self.new ≡ self.old) }
         ensures there { 0 < at self.old block → IsOk result }
     {
-        if key <= self.key_at(block) {
-            return Ok(());
-        }
-        match self.keys.insert(block, key) {
-            Ok(_) => {}
-            Err(_) => return Err(MapRefusal::Memory),
-        }
+        let Ok(()) = raise_key(&mut self.keys, block, key) else {
+            return Err(MapRefusal::Memory);
+        };
         Ok(())
     }
 
-    /// Joins the map with another, block after block. Memory is wanted only for blocks that aren't there.
+    /// Joins the map with another, block after block, or by one copy where it holds none. Memory is wanted only for
+    /// blocks that aren't there.
     pub fn merge(&mut self, alloc: Global, other: &BlockMap) -> Result<(), MapRefusal>
         ensures ok { OnOk result (IsSame (at self.new) (join (at self.old) (at other.now))) }
         ensures err { OnErr result (IsPartlyJoined (at self.old) (at other.now) (at self.new)) }
@@ -103,6 +101,9 @@ impl BlockMap {
         ensures map_of { OnOk result ((ours theirs : List Record) →
             IsMapOf ours (at self.old) → IsMapOf theirs (at other.now) → IsMapOf (ours ++ theirs) (at self.new)) }
     {
+        if self.keys.is_empty() {
+            return self.take_over(alloc, other);
+        }
         for (block, key) in other.keys.iter() {
             match self.raise(*block, *key) {
                 Ok(()) => {}
@@ -112,42 +113,58 @@ impl BlockMap {
         Ok(())
     }
 
+    // Gives a map that holds no block all keys of another.
+    fn take_over(&mut self, alloc: Global, other: &BlockMap) -> Result<(), MapRefusal>
+        requires { self.old ≡ [] }
+        ensures ok { OnOk result (self.new ≡ other.now) }
+        ensures err { OnErr result (self.new ≡ self.old) }
+        ensures partly { OnErr result (IsPartlyJoined (at self.old) (at other.now) (at self.new)) }
+    {
+        if other.keys.len() == 0 {
+            return Ok(());
+        }
+        match copied_keys(alloc, &other.keys) {
+            Ok(keys) => self.keys = keys,
+            Err(_) => return Err(MapRefusal::Memory),
+        }
+        Ok(())
+    }
+
     /// Whether both maps have the same key of every block.
     pub fn agrees(&self, other: &BlockMap) -> bool
         ensures { IsTrue result ↔ IsSame (at self.now) (at other.now) }
     {
-        self.covers(other) && other.covers(self)
+        same_keys(&self.keys, &other.keys)
     }
 
     /// Whether the map's key of every block is at least the other's.
     pub fn covers(&self, other: &BlockMap) -> bool
         ensures { IsTrue result ↔ IsBelow (at other.now) (at self.now) }
     {
-        self.lowest_above(other).is_none()
+        let mut ours = self.keys.iter();
+        for (block, theirs) in other.keys.iter() {
+            if key_ahead(&mut ours, *block) < *theirs {
+                return false;
+            }
+        }
+        true
     }
 
     /// The lowest block of which the maps have different keys, none where they agree.
     pub fn lowest_difference(&self, other: &BlockMap) -> Option<u32>
         ensures { IsDifference (at self.now) (at other.now) result }
     {
-        match (self.lowest_above(other), other.lowest_above(self)) {
-            (Some(theirs), Some(ours)) => Some(theirs.min(ours)),
-            (Some(theirs), None) => Some(theirs),
-            (None, ours) => ours,
-        }
-    }
-
-    // The lowest block of which the other has a greater key.
-    fn lowest_above(&self, other: &BlockMap) -> Option<u32>
-        ensures some { IfSome result (IsLowestAbove (at self.now) (at other.now)) }
-        ensures none { IfNone result (IsBelow (at other.now) (at self.now)) }
-    {
-        for (block, theirs) in other.keys.iter() {
-            if self.key_at(*block) < *theirs {
+        let mut theirs = other.keys.iter();
+        for (block, key) in self.keys.iter() {
+            let Some((their_block, their_key)) = theirs.next() else {
                 return Some(*block);
+            };
+            if *block != *their_block || *key != *their_key {
+                return Some((*block).min(*their_block));
             }
         }
-        None
+        let (block, _) = theirs.next()?;
+        Some(*block)
     }
 
     /// The newest record of each block, in the blocks' order.
@@ -169,6 +186,42 @@ impl BlockMap {
             Err(_) => Err(MapRefusal::Memory),
         }
     }
+}
+
+// Gives a block the greater of its key and this one, by one search for its place.
+fn raise_key(keys: &mut BTreeMap<u32, u64>, block: u32, key: u64) -> Result<(), AllocFailed<u32>>
+    ensures ok { OnOk result (Updates nat_cmp keys.old keys.new block
+        (Some (max key (unwrap_or (get nat_cmp keys.old block) key)))) }
+    ensures err { OnErr result (IsUnchanged keys.old keys.new) }
+    ensures absent { OnErr result (get nat_cmp keys.old block ≡ None) }
+{
+    let had = keys.entry(block)?.or_insert(key);
+    *had = key.max(*had);
+    Ok(())
+}
+
+// Whether both have the same entries. `==` says nothing of the blocks' order, `len` does.
+fn same_keys(ours: &BTreeMap<u32, u64>, theirs: &BTreeMap<u32, u64>) -> bool
+    ensures same { IsTrue result ↔ (ours.now.entries ≡ theirs.now.entries) }
+    ensures ordered { IsOrdered nat_cmp ours.now × IsOrdered nat_cmp theirs.now }
+{
+    ours.len() == theirs.len() && *ours == *theirs
+}
+
+// The key of a block, or 0, by going past the entries of all lower blocks, and past the first that is not lower.
+fn key_ahead(entries: &mut Iter<'_, u32, u64>, block: u32) -> u64
+    requires { AreInOrder entries.old }
+    ensures key { result ≡ at entries.old block }
+    ensures ahead { AreInOrder entries.new }
+    ensures rest { 0 < result →
+        (higher : ℕ) → block < higher → at entries.new higher ≡ at entries.old higher }
+{
+    while let Some((here, key)) = entries.next() {
+        if *here >= block {
+            return if *here == block { *key } else { 0 };
+        }
+    }
+    0
 }
 
 // The record of each entry.

@@ -1,8 +1,9 @@
-use Rattle.std.proofs.Common.{◌++◌, ◌∷◌, [], subst}
+use Rattle.std.proofs.Common.{◌++◌, ◌∷◌, [], refl, sym, ◌∙◌, subst}
 use Rattle.std.specs.Map.Iter.{deref_pair}
 use Rattle.std.proofs.lemmas.Map.Iter.{rest_all}
 use Rattle.map_join.specs.Maps.{at}
 use Rattle.map_join.specs.Keys.{AreKeys}
+use Rattle.map_join.proofs.Copies.{none_of, partly_where, copied_map}
 use Rattle.map_join.proofs.Fronts.{met_more, now_met}
 use Rattle.map_join.proofs.Joins.{together}
 use Rattle.map_join.proofs.Merging.{key_met, joined_more, nowhere, stopped, stopped_where, completed, all_joined}
@@ -48,3 +49,13 @@ returns-clause-map_of c ours theirs our_map their_map =
     let none = rest_all deref_pair c.loop-block.block-iterator c.next.new.self c.next.result c.in-None.is c.next.ensures.steps in
     let joined = all_joined c.args.other.now done.0 c.loop-block.block-iterator (at c.args.self.now) (at c.loop-block.self) done.1 none done.2 in
     together ours theirs (at c.args.self.now) (at c.args.other.now) (at c.loop-block.self) joined our_map their_map
+
+-- a map without blocks
+pub returns-then-is_empty-clause-there : goal.returns-then-is_empty-clause-there
+returns-then-is_empty-clause-there c =
+    partly_where c.take_over.result (at c.args.self.now) (at c.args.other.now) (at c.take_over.new.self) c.take_over.ensures.partly
+
+pub returns-then-is_empty-clause-map_of : goal.returns-then-is_empty-clause-map_of
+returns-then-is_empty-clause-map_of c =
+    let none = sym c.self.view_is ∙ none_of c.self.inside.keys.entries (c.if-is_empty.ensures.0 refl) in
+    copied_map c.take_over.result c.args.self.now c.args.other.now c.take_over.new.self none c.take_over.ensures.ok

@@ -1,6 +1,0 @@
-use Rattle.std.proofs.Common.{◌≡◌, ◌++◌}
-use Rattle.map_join.specs.Maps.{Entries, at, IsBelow}
-use Rattle.map_join.proofs.block_map.BlockMap.lowest_above.Given as goal
-
-abbrev pub invariant-loop-block : goal.invariant-loop-block
-invariant-loop-block l = (front : Entries) × (front ++ l.block-iterator ≡ l.other) × IsBelow (at front) (at l.self)
