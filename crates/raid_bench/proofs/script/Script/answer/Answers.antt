@@ -7,7 +7,7 @@ use Rattle.raid_bench.proofs.script.Script.answer.Goals as goal
 pub returns-in-Ok-extend_from_slice-clause-told : goal.returns-in-Ok-extend_from_slice-clause-told
 returns-in-Ok-extend_from_slice-clause-told c state stands = let old = c.args.self.now in record {
   number = refl;
-  line = c.clear-in-Ok-extend_from_slice.ensures.items;
+  line = search rules;
   told =
       told_behind old.number state c.answer_line-told.new.bench old.line.items c.clear.new.self.items c.answer_line-told.new.out.items
       old.out.items c.extend_from_slice.new.self.items (rw c.deref.ensures.value at (c.in-Ok.ensures.told state stands)) c.clear.ensures.items
