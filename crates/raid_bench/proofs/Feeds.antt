@@ -1,32 +1,80 @@
 -- What a script's pieces lead to, one after the other.
-use Rattle.std.proofs.Common.{◌≡◌, ℕ, ◌+◌, ◌<◌, ◌==◌, Bool, false, List, [], ◌∷◌, ◌++◌, length, Result, Ok, Err, refl, sym, ap, ◌∙◌, arith, append_assoc, append-nil, length-append}
+use Rattle.std.proofs.Common.{◌≡◌, ℕ, ◌+◌, ◌<◌, ◌==◌, Bool, false, List, [], ◌∷◌, ◌++◌, length, Option, Result, Ok, Err, refl, sym, ap, ◌∙◌, subst, inl, inr, arith, append_assoc, append-nil, length-append}
 use Rattle.std.proofs.lemmas.List.Elements.{All-append}
-use Rattle.raid_bench.specs.Opens.{IsOpen}
+use Rattle.raid_bench.specs.Opens.{AreLines, IsOpen}
 use Rattle.raid_bench.specs.State.{State}
 use Rattle.raid_bench.specs.Carrying.{Stands}
 use Rattle.raid_bench.specs.Meaning.{Means, Tells, Wrong, fault_line, lines_of, most_bytes}
-use Rattle.raid_bench.specs.Feeding.{Answered, Closes, Feeds, IsAlong, IsAnswered, IsClosed, IsLineWrong, IsStopped, Left, TellsFault}
+use Rattle.raid_bench.specs.Feeding.{Answered, Closes, Faults, Feeds, IsAlong, IsAnswered, IsClosed, IsCut, IsLineTold, IsLineWrong, IsShort, IsStopped, Leads}
+use Rattle.raid_bench.specs.declared.bench.Bench.{Bench}
 use Rattle.raid_bench.specs.declared.end.End.{End}
 use Rattle.raid_bench.specs.declared.end.End.TheVariants as end
 use Rattle.raid_bench.specs.declared.script.Script.{Script}
 use Rattle.raid_bench.specs.declared.why.Stop.{Stop}
 use Rattle.raid_bench.specs.declared.why.Stop.TheVariants as stop
 use Rattle.raid_bench.specs.declared.why.Why.{Why}
-use Rattle.raid_bench.proofs.Opens.{open_front, cut_line, last_line}
+use Rattle.raid_bench.proofs.Opens.{open_front, cut_line, last_line, lines_more, text_join, text_more}
 
--- the same text is left
-same_left : (n : ℕ) (state : State) (line rest line' rest' out out' : List ℕ) (last : End) → line' ++ rest' ≡ line ++ rest → out' ≡ out
-    → Left n state line rest out last → Left n state line' rest' out' last
-same_left n state line rest line' rest' out out' last text same left = rw (text, same) left
+-- no line leads nowhere
+pub leads_none : (n : ℕ) (state : State) → Leads n state [] [] n state
+leads_none n state = λ more told last rest. rest
+
+-- lines behind lines
+pub leads_more : (n : ℕ) (state : State) (first out : List ℕ) (m : ℕ) (mid : State) (second told : List ℕ) (k : ℕ) (next : State)
+    → Leads n state first out m mid → Leads m mid second told k next → Leads n state (first ++ second) (out ++ told) k next
+leads_more n state first out m mid second told k next one two = λ more later last rest.
+    rw (append_assoc first second more, append_assoc out told later) (one (second ++ more) (told ++ later) last (two more later last rest))
+
+-- what is told behind whole lines is told of all
+pub leads_left : (n : ℕ) (state : State) (text whole out : List ℕ) (m : ℕ) (next : State) (rest told : List ℕ) (last : End)
+    → Leads n state whole out m next → text ≡ whole ++ rest → Tells m next (lines_of rest) told last
+    → Tells n state (lines_of text) (out ++ told) last
+leads_left n state text whole out m next rest told last leads is left =
+    let P : List ℕ → Type 0 = λ t. Tells n state (lines_of t) (out ++ told) last in subst P (sym is) (leads rest told last left)
+
+-- more behind a text of which the front is told
+pub cut_more : (n : ℕ) (state : State) (text out more : List ℕ) → IsCut n state text out → IsCut n state (text ++ more) out
+cut_more n state text out more cut = record {
+  whole = cut.whole;
+  rest = cut.rest ++ more;
+  text_is = ap (λ xs. xs ++ more) cut.text_is ∙ append_assoc cut.whole cut.rest more;
+  lines = cut.lines;
+  told = cut.told;
+}
+
+-- a front that is told behind whole lines
+pub cut_behind : (n : ℕ) (state : State) (text whole out : List ℕ) (m : ℕ) (next : State) (rest told : List ℕ) → AreLines whole
+    → Leads n state whole out m next → text ≡ whole ++ rest → IsCut m next rest told → IsCut n state text (out ++ told)
+cut_behind n state text whole out m next rest told lines leads is cut = record {
+  whole = whole ++ cut.whole;
+  rest = cut.rest;
+  text_is = text_join text whole rest cut.whole cut.rest is cut.text_is;
+  lines = lines_more whole cut.whole lines cut.lines;
+  told = leads cut.whole told end.Whole cut.told;
+}
+
+-- nothing of it is told
+pub cut_none : (n : ℕ) (state : State) (text : List ℕ) → IsCut n state text []
+cut_none n state text = record { whole = []; rest = text; text_is = refl; lines = inl refl; told = (refl, refl) }
+
+-- only the whole lines are told
+pub cut_along : (n : ℕ) (state : State) (text whole out : List ℕ) (m : ℕ) (next : State) (rest : List ℕ) → AreLines whole
+    → Leads n state whole out m next → text ≡ whole ++ rest → IsCut n state text out
+cut_along n state text whole out m next rest lines leads is =
+    let cut : IsCut n state text (out ++ []) = cut_behind n state text whole out m next rest [] lines leads is (cut_none m next rest) in
+    rw (append-nil out) at cut
 
 -- nothing was read yet
 pub along_start : (script : Script) (state : State) (chunk : List ℕ) → Stands script.bench state → IsAlong script state script chunk chunk
 along_start script state chunk stands = record {
   next = state;
   stands = stands;
+  whole = [];
+  lines = inl refl;
+  text_is = refl;
   bytes = [];
   out = sym (append-nil script.out.items);
-  told = λ more later last left. left;
+  leads = leads_none script.number state;
 }
 
 -- one part more was read
@@ -35,15 +83,14 @@ pub along_more : (old : Script) (state : State) (mid new : Script) (chunk part r
 along_more old state mid new chunk part rest a b = record {
   next = b.next;
   stands = b.stands;
+  whole = a.whole ++ b.whole;
+  lines = lines_more a.whole b.whole a.lines b.lines;
+  text_is =
+      text_join (old.line.items ++ chunk) a.whole (mid.line.items ++ (part ++ rest)) b.whole (new.line.items ++ rest) a.text_is
+      (text_more mid.line.items part b.whole new.line.items [] rest b.text_is);
   bytes = a.bytes ++ b.bytes;
   out = b.out ∙ ap (λ xs. xs ++ b.bytes) a.out ∙ append_assoc old.out.items a.bytes b.bytes;
-  told = λ more later last left.
-      let told : Left mid.number a.next mid.line.items (part ++ (rest ++ more)) (b.bytes ++ later) last = b.told (rest ++ more) later last left in
-      same_left old.number state old.line.items (chunk ++ more) old.line.items (chunk ++ more) _ _ last refl
-      (append_assoc a.bytes b.bytes later)
-      (a.told more (b.bytes ++ later) last
-      (same_left mid.number a.next mid.line.items (part ++ (rest ++ more)) mid.line.items ((part ++ rest) ++ more) _ _ last
-      (ap (λ xs. mid.line.items ++ xs) (append_assoc part rest more)) refl told));
+  leads = leads_more old.number state a.whole a.bytes mid.number a.next b.whole b.bytes new.number b.next a.leads b.leads;
 }
 
 -- a fault in the next part
@@ -53,9 +100,33 @@ along_stopped old state mid new chunk part rest a b = record {
   bytes = a.bytes ++ b.bytes;
   out = b.out ∙ ap (λ xs. xs ++ b.bytes) a.out ∙ append_assoc old.out.items a.bytes b.bytes;
   told = λ more.
-      a.told more b.bytes end.Fault
-      (same_left mid.number a.next mid.line.items (part ++ (rest ++ more)) mid.line.items ((part ++ rest) ++ more) _ _ end.Fault
-      (ap (λ xs. mid.line.items ++ xs) (append_assoc part rest more)) refl (b.told (rest ++ more)));
+      leads_left old.number state (old.line.items ++ (chunk ++ more)) a.whole a.bytes mid.number a.next
+      (mid.line.items ++ (part ++ (rest ++ more))) b.bytes end.Fault a.leads
+      (text_more old.line.items chunk a.whole mid.line.items (part ++ rest) more a.text_is
+      ∙ ap (λ xs. a.whole ++ (mid.line.items ++ xs)) (append_assoc part rest more))
+      (b.told (rest ++ more));
+}
+
+-- no memory in the next part
+along_short : (old : Script) (state : State) (mid new : Script) (chunk part rest : List ℕ)
+    (a : IsAlong old state mid chunk (part ++ rest)) → IsShort mid a.next new part → IsShort old state new chunk
+along_short old state mid new chunk part rest a b = record {
+  bytes = a.bytes ++ b.bytes;
+  out = b.out ∙ ap (λ xs. xs ++ b.bytes) a.out ∙ append_assoc old.out.items a.bytes b.bytes;
+  cut =
+      let more : IsCut mid.number a.next ((mid.line.items ++ part) ++ rest) b.bytes =
+      cut_more mid.number a.next (mid.line.items ++ part) b.bytes rest b.cut in
+      cut_behind old.number state (old.line.items ++ chunk) a.whole a.bytes mid.number a.next ((mid.line.items ++ part) ++ rest) b.bytes
+      a.lines a.leads (a.text_is ∙ ap (λ xs. a.whole ++ xs) (sym (append_assoc mid.line.items part rest))) more;
+}
+
+-- no memory, and nothing more was appended
+pub short_none : (old : Script) (state : State) (new : Script) (chunk : List ℕ) → new.out.items ≡ old.out.items
+    → IsShort old state new chunk
+short_none old state new chunk out = record {
+  bytes = [];
+  out = out ∙ sym (append-nil old.out.items);
+  cut = cut_none old.number state (old.line.items ++ chunk);
 }
 
 -- the open line grew
@@ -64,12 +135,12 @@ pub along_open : (old : Script) (state : State) (new : Script) (part : List ℕ)
 along_open old state new part stands number line out = record {
   next = state;
   stands = stands;
+  whole = [];
+  lines = inl refl;
+  text_is = sym line ∙ sym (append-nil new.line.items);
   bytes = [];
   out = out ∙ sym (append-nil old.out.items);
-  told = λ more later last left.
-      let told : Left old.number state new.line.items more later last = rw number at left in
-      same_left old.number state new.line.items more old.line.items (part ++ more) later later last
-      (sym (append_assoc old.line.items part more) ∙ ap (λ xs. xs ++ more) (sym line)) refl told;
+  leads = λ more told last rest. rw number at rest;
 }
 
 -- the open line ended and was answered
@@ -78,11 +149,14 @@ pub along_answered : (old : Script) (state : State) (new : Script) → IsOpen ol
 along_answered old state new none answered = let t = answered.told in record {
   next = t.next;
   stands = t.stands;
+  whole = old.line.items ++ 10 ∷ [];
+  lines = inr (old.line.items, refl);
+  text_is = sym (append-nil (old.line.items ++ 10 ∷ [])) ∙ ap (λ xs. (old.line.items ++ 10 ∷ []) ++ (xs ++ [])) (sym answered.line);
   bytes = t.bytes;
   out = t.out;
-  told = λ more later last left.
-      let rest : Tells (old.number + 1) t.next (lines_of more) later last = rw (answered.number, answered.line) at left in
-      rw (cut_line old.line.items more none) (t.told (lines_of more) later last rest);
+  leads = λ more later last left.
+      let rest : Tells (old.number + 1) t.next (lines_of more) later last = rw answered.number at left in
+      rw (append_assoc old.line.items (10 ∷ []) more, cut_line old.line.items more none) (t.told (lines_of more) later last rest);
 }
 
 pub stopped_answered : (old : Script) (state : State) (new : Script) → IsOpen old.line.items
@@ -97,9 +171,9 @@ stopped_answered old state new none wrong = record {
 pub stopped_front : (r : Result (Unit {0}) Stop) (old : Script) (state : State) (new : Script) (part : List ℕ) (reason : Why)
     → IsOpen (old.line.items ++ part) → 0 < length part
     → ((more : List ℕ) → Means old.number state ((old.line.items ++ part) ++ more) (Wrong reason))
-    → TellsFault r old.number reason old.out.items new.out.items → Feeds r old state new part
+    → Faults r reason old new → Feeds r old state new part
 stopped_front (Ok u) old state new part reason none some means told = absurd told
-stopped_front (Err stop.Memory) old state new part reason none some means told = tt
+stopped_front (Err stop.Memory) old state new part reason none some means told = short_none old state new part told
 stopped_front (Err stop.Fault) old state new part reason none some means told = record {
   bytes = fault_line old.number reason;
   out = told;
@@ -130,7 +204,7 @@ closed_answered (Ok u) old state new none some answered = let t = answered.told 
       let told' : Tells old.number state (old.line.items ∷ []) t.bytes end.Whole = rw (append-nil t.bytes) at told in
       rw (last_line old.line.items none some) told';
 }
-closed_answered (Err stop.Memory) old state new none some answered = tt
+closed_answered (Err stop.Memory) old state new none some answered = short_none old state new [] answered
 closed_answered (Err stop.Fault) old state new none some answered = record {
   bytes = answered.bytes;
   out = answered.out;
@@ -141,7 +215,9 @@ closed_answered (Err stop.Fault) old state new none some answered = record {
 pub turn_refused : (reason : Stop) (old : Script) (state : State) (mid new : Script) (chunk rest part back : List ℕ)
     → rest ≡ part ++ 10 ∷ back → IsAlong old state mid chunk rest
     → ((s : State) → Stands mid.bench s → Feeds (Err reason) mid s new part) → Feeds (Err reason) old state new chunk
-turn_refused stop.Memory old state mid new chunk rest part back cut along fed = tt
+turn_refused stop.Memory old state mid new chunk rest part back cut along fed =
+    let a : IsAlong old state mid chunk (part ++ 10 ∷ back) = rw cut at along in
+    along_short old state mid new chunk part (10 ∷ back) a (fed a.next a.stands)
 turn_refused stop.Fault old state mid new chunk rest part back cut along fed =
     let a : IsAlong old state mid chunk (part ++ 10 ∷ back) = rw cut at along in
     along_stopped old state mid new chunk part (10 ∷ back) a (fed a.next a.stands)
@@ -159,7 +235,10 @@ pub turn_stopped : (reason : Stop) (old : Script) (state : State) (mid full new 
     → rest ≡ part ++ 10 ∷ back → IsAlong old state mid chunk rest
     → ((s : State) → Stands mid.bench s → IsAlong mid s full part []) → IsOpen full.line.items
     → ((s : State) → Stands full.bench s → Answered (Err reason) full s new) → Feeds (Err reason) old state new chunk
-turn_stopped stop.Memory old state mid full new chunk rest part back cut along fed none answered = tt
+turn_stopped stop.Memory old state mid full new chunk rest part back cut along fed none answered =
+    let a = turn_taken old state mid full chunk rest part back cut along fed in
+    along_short old state full new chunk (10 ∷ []) back a
+    (short_none full a.next new (10 ∷ []) (answered a.next a.stands))
 turn_stopped stop.Fault old state mid full new chunk rest part back cut along fed none answered =
     let a = turn_taken old state mid full chunk rest part back cut along fed in
     along_stopped old state full new chunk (10 ∷ []) back a
@@ -181,10 +260,31 @@ pub last_part : (r : Result (Unit {0}) Stop) (old : Script) (state : State) (mid
 last_part (Ok u) old state mid new chunk rest along fed =
     let a : IsAlong old state mid chunk (rest ++ []) = rw (append-nil rest) along in
     along_more old state mid new chunk rest [] a (fed a.next a.stands)
-last_part (Err stop.Memory) old state mid new chunk rest along fed = tt
+last_part (Err stop.Memory) old state mid new chunk rest along fed =
+    let a : IsAlong old state mid chunk (rest ++ []) = rw (append-nil rest) along in
+    along_short old state mid new chunk rest [] a (fed a.next a.stands)
 last_part (Err stop.Fault) old state mid new chunk rest along fed =
     let a : IsAlong old state mid chunk (rest ++ []) = rw (append-nil rest) along in
     along_stopped old state mid new chunk rest [] a (fed a.next a.stands)
+
+-- a line that was told in a buffer of its own, appended
+pub told_behind : (n : ℕ) (state : State) (bench : Option Bench) (line empty told old new : List ℕ) → IsLineTold n state bench line empty told
+    → empty ≡ [] → new ≡ old ++ told → IsLineTold n state bench line old new
+told_behind n state bench line empty told old new t none out = record {
+  next = t.next;
+  stands = t.stands;
+  bytes = t.bytes;
+  out = out ∙ ap (λ xs. old ++ xs) (t.out ∙ ap (λ xs. xs ++ t.bytes) none);
+  told = t.told;
+}
+
+pub wrong_behind : (n : ℕ) (state : State) (line empty told old new : List ℕ) → IsLineWrong n state line empty told
+    → empty ≡ [] → new ≡ old ++ told → IsLineWrong n state line old new
+wrong_behind n state line empty told old new t none out = record {
+  bytes = t.bytes;
+  out = out ∙ ap (λ xs. old ++ xs) (t.out ∙ ap (λ xs. xs ++ t.bytes) none);
+  told = t.told;
+}
 
 -- bytes behind a line that is too long make it no shorter
 pub too_long : (line part more : List ℕ) → 131200 < length line + length part → most_bytes < length ((line ++ part) ++ more)

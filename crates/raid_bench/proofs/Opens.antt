@@ -1,9 +1,9 @@
 -- The lines of a text that begins with an open line.
-use Rattle.std.proofs.Common.{◌≡◌, ℕ, ◌<◌, ◌==◌, false, List, [], ◌∷◌, ◌++◌, length, refl, ap, ◌∙◌, arith, append-nil}
+use Rattle.std.proofs.Common.{◌≡◌, ℕ, ◌<◌, ◌==◌, false, List, [], ◌∷◌, ◌++◌, length, refl, sym, ap, ◌∙◌, inl, inr, arith, append_assoc, append-nil}
 use Rattle.std.specs.List.{AllByRecursion}
 use Rattle.std.proofs.lemmas.List.Elements.{recursion_from_All}
 use Rattle.raid_bench.specs.Meaning.{lines_of, onto_line}
-use Rattle.raid_bench.specs.Opens.{IsOpen}
+use Rattle.raid_bench.specs.Opens.{AreLines, IsOpen}
 
 -- a byte ends no line
 abbrev pub Goes_on : ℕ → Type 0
@@ -59,3 +59,21 @@ last_line [] none some = absurd (omega arith)
 last_line (byte ∷ front) none some =
     let each = recursion_from_All Goes_on (byte ∷ front) none in
     ap lines_of (append-nil (byte ∷ front)) ∙ last_rest byte front each.0 each.1
+
+-- whole lines behind whole lines
+pub lines_more : (first second : List ℕ) → AreLines first → AreLines second → AreLines (first ++ second)
+lines_more first second one (inl none) = rw (none, append-nil first) one
+lines_more first second one (inr ended) =
+    inr (first ++ ended.0, ap (λ xs. first ++ xs) ended.1 ∙ sym (append_assoc first ended.0 (10 ∷ [])))
+
+-- more behind a text of which the front is told
+pub text_more : (line chunk whole opened rest more : List ℕ) → line ++ chunk ≡ whole ++ (opened ++ rest)
+    → line ++ (chunk ++ more) ≡ whole ++ (opened ++ (rest ++ more))
+text_more line chunk whole opened rest more is =
+    sym (append_assoc line chunk more) ∙ ap (λ xs. xs ++ more) is ∙ append_assoc whole (opened ++ rest) more
+    ∙ ap (λ xs. whole ++ xs) (append_assoc opened rest more)
+
+-- two fronts of a text, one behind the other
+pub text_join : (text first back second rest : List ℕ) → text ≡ first ++ back → back ≡ second ++ rest → text ≡ (first ++ second) ++ rest
+text_join text first back second rest one two =
+    one ∙ ap (λ xs. first ++ xs) two ∙ sym (append_assoc first second rest)

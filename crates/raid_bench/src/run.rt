@@ -1,10 +1,10 @@
 //! A script from a reader to a writer.
-ghost use Rattle.std.specs.Prelude.{◌≡◌, ℕ, ◌<◌, [], List, length, take, true, Some, IfSome, IsNone, IfOk};
+ghost use Rattle.std.specs.Prelude.{◌≡◌, ◌<◌, [], length, true, false, Some, IfSome, IsNone, IfOk};
 ghost use Rattle.std.specs.Io.KnownBytes.{Appends};
 ghost use Rattle.raid_bench.specs.State.{State};
 ghost use Rattle.raid_bench.specs.Carrying.{Stands};
 ghost use Rattle.raid_bench.specs.Feeding.{IsScript};
-ghost use Rattle.raid_bench.specs.Turns.{Concludes, GoesOn, SaysBy, TurnsTo};
+ghost use Rattle.raid_bench.specs.Turns.{Concludes, GoesOn, IsPartWritten, SaysBy, TurnsTo};
 
 use crate::end::End;
 use crate::script::Script;
@@ -21,7 +21,7 @@ const LONGEST_PAYLOAD: usize = 65_536;
 /// Reads a script, and writes its answers, those to the lines that were read before the next read.
 pub fn run_script<R: Read, W: Write>(alloc: Global, reader: &mut R, writer: &mut W) -> End
     ensures { IfSome (R.remaining reader.old) (λ script.
-        SaysBy result script (W.contents writer.old) (W.contents writer.new)) }
+        SaysBy result script (R.remaining reader.new) (W.contents writer.old) (W.contents writer.new)) }
 {
     let Ok(mut chunk) = zeros(alloc, CHUNK) else {
         return End::Memory
@@ -108,7 +108,7 @@ fn close<W: Write>(alloc: Global, writer: &mut W, script: &mut Script) -> End
     requires good { IsScript script.old }
     requires written { script.old.out.items ≡ [] }
     ensures { (state : State) → Stands script.old.bench state →
-        Concludes result script.old state (W.contents writer.old) (W.contents writer.new) }
+        Concludes result script.old state [] (W.contents writer.old) (W.contents writer.new) }
 {
     let finished = script.finish(alloc);
     if !write_out(writer, &script.out) {
@@ -124,7 +124,7 @@ fn close<W: Write>(alloc: Global, writer: &mut W, script: &mut Script) -> End
 // Writes the bytes, and says whether they were taken. An error is not tried again, nor a write of no byte.
 fn write_out<W: Write>(writer: &mut W, bytes: &[u8]) -> bool
     ensures whole { result ≡ true → Appends (W.contents writer.old) (W.contents writer.new) bytes.now }
-    ensures part { (n : ℕ) × Appends (W.contents writer.old) (W.contents writer.new) (take n bytes.now) }
+    ensures part { result ≡ false → IsPartWritten (W.contents writer.old) (W.contents writer.new) bytes.now }
 {
     let mut rest = bytes;
     while !rest.is_empty() {

@@ -14,18 +14,19 @@ use std::alloc::Global;
 const LINE_END: u8 = b'\n';
 
 /// Where a script stands: the number of its open line, the bench, a buffer for a payload, the bytes of
-/// the open line, and the answers that are not yet written.
+/// the open line, a buffer for its answer, and the whole answers that are not yet written.
 #[derive(Drop)]
 pub struct Script {
     pub number: u64,
     pub bench: Option<Bench>,
     pub payload: Vec<u8>,
     pub line: Vec<u8>,
+    pub told: Vec<u8>,
     pub out: Vec<u8>,
 }
 
 impl Script {
-    ghost use Rattle.raid_bench.specs.Feeding.{Answered, Closes, Feeds, IsScript};
+    ghost use Rattle.raid_bench.specs.Feeding.{Answered, Closes, Faults, Feeds, IsScript};
 
     /// A script of which nothing was read. The buffer is for payloads.
     pub fn new(alloc: Global, payload: Vec<u8>) -> Script
@@ -41,6 +42,7 @@ impl Script {
             bench: None,
             payload,
             line: Vec::new(alloc),
+            told: Vec::new(alloc),
             out: Vec::new(alloc),
         }
     }
@@ -88,10 +90,10 @@ impl Script {
             return Ok(());
         }
         if self.number > MOST_LINES {
-            return wrong(&mut self.out, self.number, Why::Many);
+            return self.tell_fault(Why::Many);
         }
         if part.len() > MOST_BYTES - self.line.len() {
-            return wrong(&mut self.out, self.number, Why::Long);
+            return self.tell_fault(Why::Long);
         }
         match self.line.extend_from_slice(part) {
             Ok(()) => Ok(()),
@@ -99,32 +101,49 @@ impl Script {
         }
     }
 
-    // Answers the open line, which ends here.
+    // Tells a fault of the open line.
+    fn tell_fault(&mut self, why: Why) -> Result<(), Stop>
+        ensures { Faults result why self.old self.new }
+    {
+        self.told.clear();
+        match wrong(&mut self.told, self.number, why) {
+            Err(Stop::Fault) => match self.out.extend_from_slice(&self.told) {
+                Ok(()) => Err(Stop::Fault),
+                Err(_) => Err(Stop::Memory),
+            },
+            unfinished => unfinished,
+        }
+    }
+
+    // Answers the open line, which ends here. What is told of it is appended once it is whole.
     fn answer(&mut self, alloc: Global) -> Result<(), Stop>
         requires { IsScript self.old }
         ensures keeps { OnOk result (IsScript self.new) }
         ensures told { (state : State) → Stands self.old.bench state → Answered result self.old state self.new }
     {
-        let start = self.out.len();
+        self.told.clear();
         let told = answer_line(
             alloc,
             self.number,
             &mut self.bench,
             &mut self.payload,
             &self.line,
-            &mut self.out,
+            &mut self.told,
         );
         match told {
-            Ok(()) => {
-                self.number += 1;
-                self.line.clear();
-                Ok(())
-            }
-            Err(Stop::Fault) => Err(Stop::Fault),
-            Err(Stop::Memory) => {
-                self.out.truncate(start);
-                Err(Stop::Memory)
-            }
+            Ok(()) => match self.out.extend_from_slice(&self.told) {
+                Ok(()) => {
+                    self.number += 1;
+                    self.line.clear();
+                    Ok(())
+                }
+                Err(_) => Err(Stop::Memory),
+            },
+            Err(Stop::Fault) => match self.out.extend_from_slice(&self.told) {
+                Ok(()) => Err(Stop::Fault),
+                Err(_) => Err(Stop::Memory),
+            },
+            Err(Stop::Memory) => Err(Stop::Memory),
         }
     }
 }

@@ -1,5 +1,15 @@
-use Rattle.raid_bench.proofs.Feeds.{turn_stopped, turn_done}
+use Rattle.raid_bench.proofs.Feeds.{last_part, turn_done, turn_refused, turn_stopped}
 use Rattle.raid_bench.proofs.script.Script.feed.Goals as goal
+
+pub returns-in-Err-clause-fed : goal.returns-in-Err-clause-fed
+returns-in-Err-clause-fed c state stands =
+    turn_refused c.in-Err.stop c.args.self.now state c.loop-part.self c.take_in.new.self c.args.chunk.now c.loop-part.rest.now
+    c.in-Some.part.now c.in-Some.behind.now c.in-Some.ensures.some.1 (c.loop-part.invariant.along state stands) c.in-Err.ensures.fed
+
+pub returns-clause-fed : goal.returns-clause-fed
+returns-clause-fed c state stands =
+    last_part c.take_in-2.result c.args.self.now state c.loop-part.self c.take_in-2.new.self c.args.chunk.now c.loop-part.rest.now
+    (c.loop-part.invariant.along state stands) c.take_in-2.ensures.fed
 
 pub returns-in-Err-answer-clause-fed : goal.returns-in-Err-answer-clause-fed
 returns-in-Err-answer-clause-fed c state stands =
