@@ -17,3 +17,4 @@ bench:
 	python3 bench/words/run.py
 	python3 bench/exclusive_or/run.py
 	python3 bench/maps/run.py
+	python3 bench/script/run.py
