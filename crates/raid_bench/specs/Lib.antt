@@ -14,3 +14,4 @@ pub mod Opens
 pub mod Feeding
 pub mod Turns
 pub mod Status
+pub mod Dashes

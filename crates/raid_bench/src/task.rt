@@ -1,4 +1,8 @@
 //! What the command line asks for.
+ghost use Rattle.std.specs.Prelude.{◌≡◌, true, None, string_bytes};
+ghost use Rattle.std.specs.List.{list_any};
+ghost use Rattle.raid_bench.specs.Dashes.{is_dashed as begins};
+
 use clap::Command;
 use clap::error::ErrorKind;
 use std::alloc::{AllocError, Global};
@@ -11,11 +15,10 @@ pub enum Task {
 }
 
 /// The task that the words ask for, if they ask for one. A word that begins with `-` asks for none.
-pub fn task_of(alloc: Global, words: &[String]) -> Result<Option<Task>, AllocError> {
-    if words
-        .iter()
-        .any(|word| word.as_bytes().first() == Some(&b'-'))
-    {
+pub fn task_of(alloc: Global, words: &[String]) -> Result<Option<Task>, AllocError>
+    ensures { list_any (λ word. begins (string_bytes word)) words.now ≡ true → result ≡ Ok None }
+{
+    if is_any_dashed(words) {
         return Ok(None);
     }
     let command = Command::new(alloc, "raid_bench")
@@ -33,5 +36,22 @@ pub fn task_of(alloc: Global, words: &[String]) -> Result<Option<Task>, AllocErr
             ErrorKind::OutOfMemory => Err(AllocError),
             _ => Ok(None),
         },
+    }
+}
+
+// Whether one of the words begins with a dash.
+fn is_any_dashed(words: &[String]) -> bool
+    ensures { result ≡ list_any (λ word. begins (string_bytes word)) words.now }
+{
+    words.iter().any(|word| is_dashed(word.as_bytes()))
+}
+
+// Whether the word begins with a dash.
+fn is_dashed(word: &[u8]) -> bool
+    ensures { result ≡ begins word.now }
+{
+    match word.first() {
+        Some(byte) => *byte == b'-',
+        None => false,
     }
 }
