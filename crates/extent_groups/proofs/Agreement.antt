@@ -163,9 +163,10 @@ pub agree_more : (t : Groups) (o : Owners) → Agree t o → Agree t (with_drive
 agree_more t o agree = record {
   owned = λ g k m at.
       let was = agree.owned g k m at in
-      let row = row_kept o m.drive was.0.within in
-      (record { within = omega (arith, was.0.within, length-append o.rows (replicate o.extents None ∷ [])); inside = was.0.inside },
-      ap (λ r. unwrap_or (slice_get r m.extent) None) row ∙ was.1);
+      let row = row_kept o m.drive was.0.within in (
+        record { within = omega (arith, was.0.within, length-append o.rows (replicate o.extents None ∷ [])); inside = was.0.inside },
+        ap (λ r. unwrap_or (slice_get r m.extent) None) row ∙ was.1,
+      );
   stands = λ g drive extent owned.
       let within = owned_before o drive extent g owned in
       agree.stands g drive extent (sym (ap (λ r. unwrap_or (slice_get r extent) None) (row_kept o drive within)) ∙ owned);
@@ -174,5 +175,5 @@ agree_more t o agree = record {
     | inr apart ↦
         (let before : drive < length o.rows = omega (arith, apart, within, length-append o.rows (replicate o.extents None ∷ [])) in
         ap (λ r. length r) (row_kept o drive before) ∙ agree.wide drive before)
-  ]
+  ];
 }
