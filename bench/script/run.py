@@ -15,7 +15,7 @@ HERE = pathlib.Path(__file__).resolve().parent
 TOP = HERE.parent.parent
 from workloads import WORKLOADS  # noqa: E402
 
-ROUNDS = 7
+ROUNDS = 15
 
 
 def build(folder):
@@ -28,37 +28,36 @@ def build(folder):
 
 
 def run(program, script, answers):
-    """Processor seconds and kilobytes of one run, whose answers go to a file."""
+    """Processor seconds of one run, whose answers go to a file."""
     with open(script) as source, open(answers, "w") as target:
         child = subprocess.Popen(program, stdin=source, stdout=target)
         _, status, used = os.wait4(child.pid, 0)
     child.returncode = status
     if status != 0:
         sys.exit(f"{program}: status {status}")
-    return used.ru_utime + used.ru_stime, used.ru_maxrss
+    return used.ru_utime + used.ru_stime
 
 
 def main():
     folder = pathlib.Path(tempfile.mkdtemp(prefix="script_bench_"))
     programs = build(folder)
     script, answers = folder / "script", folder / "answers"
-    print("| Script | lines | proved (s, MB) | plain Rust (s, MB) | ratio of the best | ratio of the medians |")
+    print("| Script | lines | proved, best (s) | plain Rust, best (s) | ratio of the best | ratio of the medians |")
     print("|---|---|---|---|---|---|")
     for name, lines in WORKLOADS.items():
         text = lines()
         script.write_text("\n".join(text) + "\n")
         times = {program: [] for program in programs}
-        room, said = {}, set()
+        said = set()
         for _ in range(ROUNDS):
             for program, words in programs.items():
-                spent, room[program] = run(words, script, answers)
-                times[program].append(spent)
+                times[program].append(run(words, script, answers))
                 said.add(answers.read_bytes())
         if len(said) != 1:
             sys.exit(f"{name}: the programs differ")
         best = {program: min(spent) for program, spent in times.items()}
         middle = {program: statistics.median(spent) for program, spent in times.items()}
-        told = [f"{best[program]:.2f}, {room[program] / 1024:.0f}" for program in programs]
+        told = [f"{spent:.3f}" for spent in best.values()]
         ratios = [f"{found['plain Rust'] / found['proved']:.2f}" for found in (best, middle)]
         print(f"| {name} | {len(text):,} | {' | '.join(told + ratios)} |")
 
