@@ -1,8 +1,12 @@
 """What the benchmarks share: a scratch repository with the crates that are measured and a program over them, and a clock."""
 
+import os
 import pathlib
 import shutil
+import statistics
 import subprocess
+import sys
+import tempfile
 import time
 
 TOP = pathlib.Path(__file__).resolve().parent.parent
@@ -37,3 +41,23 @@ def seconds(program, line):
     start = time.perf_counter()
     said = subprocess.run([program], input=line + "\n", capture_output=True, text=True, check=True).stdout
     return time.perf_counter() - start, said
+
+
+def compare(here, program, crates, works, rounds):
+    """Lays out and builds a program and the one in plain Rust, runs both on each line of work in turn, and prints a table of their times."""
+    folder = pathlib.Path(sys.argv[1] if len(sys.argv) > 1 else tempfile.mkdtemp(prefix=f"{program}_"))
+    lay_out(folder, here, program, " ".join(crates), crates)
+    proved, plain = build(folder, here, program)
+    print(f"{time.strftime('%Y-%m-%d')}, {os.cpu_count()} processors, {rounds} runs each, in turn")
+    print("| Work | proved, best (s) | plain Rust, best (s) | ratio of the best | ratio of the medians |")
+    print("|---|---|---|---|---|")
+    for work in works:
+        ours, theirs = [], []
+        for _ in range(rounds):
+            one, said = seconds(proved, work)
+            other, told = seconds(plain, work)
+            assert said == told, (said, told)
+            ours.append(one)
+            theirs.append(other)
+        medians = statistics.median(theirs) / statistics.median(ours)
+        print(f"| {work} | {min(ours):.3f} | {min(theirs):.3f} | {min(theirs) / min(ours):.2f} | {medians:.2f} |", flush=True)

@@ -4,40 +4,15 @@
 Usage: bench/words/run.py [FOLDER]. A ratio above 1 says that the proved program is the faster one.
 """
 
-import os
 import pathlib
-import statistics
 import sys
-import tempfile
-import time
 
 HERE = pathlib.Path(__file__).resolve().parent
 sys.path.insert(0, str(HERE.parent))
-from scratch import build, lay_out, seconds  # noqa: E402
+from scratch import compare  # noqa: E402
 
 CRATES = ["map_join", "slot_words", "map_words"]
 WORKS = ["claims 1", "claims 4", "takes 1", "takes 4", "finds 1", "finds 4"]
-ROUNDS = 25
-
-
-def main():
-    folder = pathlib.Path(sys.argv[1] if len(sys.argv) > 1 else tempfile.mkdtemp(prefix="words_bench_"))
-    lay_out(folder, HERE, "words_bench", "map_join slot_words map_words", CRATES)
-    proved, plain = build(folder, HERE, "words_bench")
-    print(f"{time.strftime('%Y-%m-%d')}, {os.cpu_count()} processors, {ROUNDS} runs each, in turn")
-    print("| Steps | proved, best (s) | plain Rust, best (s) | ratio of the best | ratio of the medians |")
-    print("|---|---|---|---|---|")
-    for work in WORKS:
-        ours, theirs = [], []
-        for _ in range(ROUNDS):
-            one, said = seconds(proved, work)
-            other, told = seconds(plain, work)
-            assert said == told, (said, told)
-            ours.append(one)
-            theirs.append(other)
-        medians = statistics.median(theirs) / statistics.median(ours)
-        print(f"| {work} | {min(ours):.3f} | {min(theirs):.3f} | {min(theirs) / min(ours):.2f} | {medians:.2f} |", flush=True)
-
 
 if __name__ == "__main__":
-    main()
+    compare(HERE, "words_bench", CRATES, WORKS, rounds=25)
