@@ -8,7 +8,7 @@ use Rattle.std.proofs.lemmas.Bool.Decides.{nat_tests}
 use Rattle.std.proofs.lemmas.List.{get_or-set_same, get_or-set_other, set-set}
 use Rattle.map_join.specs.declared.records.Record.{Record}
 use Rattle.map_join.specs.Maps.{Entries, at, IsMapOf}
-use Rattle.step_core.specs.Flat.{put}
+use Rattle.flat_machine.specs.Flat.{put}
 use Rattle.raid_bench.specs.State.{IsMap}
 use Rattle.raid_bench.specs.Carrying.{AreMapsOf}
 

@@ -4,10 +4,10 @@ use Rattle.std.specs.Prelude.{OnOk, IfErr}
 use Rattle.map_join.specs.declared.records.Record.{Record}
 use Rattle.map_join.specs.Record.{record_at}
 use Rattle.map_join.specs.Maps.{Entries, at, IsDifference}
-use Rattle.step_core.specs.Flat.{Flat, put}
-use Rattle.step_core.specs.Steps.{FlatStep, FlatAnswer}
-use Rattle.step_core.specs.Steps as s
-use Rattle.step_core.specs.Cases.{Case}
+use Rattle.flat_machine.specs.Flat.{Flat, put}
+use Rattle.flat_machine.specs.Steps.{FlatStep, FlatAnswer}
+use Rattle.flat_machine.specs.Steps as s
+use Rattle.flat_machine.specs.Cases.{Case}
 use Rattle.step_core.specs.Views.{WorldView}
 use Rattle.step_core.specs.Represents.{Represents}
 use Rattle.raid_bench.specs.Order.{Order}

@@ -17,8 +17,8 @@ use Rattle.raid_bench.specs.Order.{Order, verb_of}
 use Rattle.raid_bench.specs.Reading.{Finds, IsFound, IsRead, Reads}
 use Rattle.raid_bench.specs.declared.command.Command.{Command}
 use Rattle.raid_bench.specs.Spelling.{member_word, line_of, Follows, IsClassWord, IsShortMember, IsSized, Spells}
-use Rattle.step_core.specs.declared.group.Class.{Class}
-use Rattle.step_core.specs.declared.group.Class.TheVariants as class
+use Rattle.flat_machine.specs.declared.group.Class.{Class}
+use Rattle.flat_machine.specs.declared.group.Class.TheVariants as class
 use Rattle.raid_bench.specs.declared.command.Named.{Named}
 use Rattle.raid_bench.specs.declared.verb.Verb.{Verb}
 use Rattle.raid_bench.specs.declared.verb.Verb.TheVariants as verb

@@ -3,11 +3,11 @@ use Rattle.std.specs.Prelude.{◌≡◌, ℕ, ◌+◌, ◌<◌, ◌≤◌, ◌==
 use Rattle.map_join.specs.declared.records.Record.{Record}
 use Rattle.map_join.specs.Record.{record_at}
 use Rattle.map_join.specs.Maps.{IsMapOf, IsListOf, IsDifference}
-use Rattle.step_core.specs.Flat.{Flat, new_flat, put}
-use Rattle.step_core.specs.Steps.{FlatStep, FlatAnswer}
-use Rattle.step_core.specs.Steps as s
-use Rattle.step_core.specs.Cases.{Case}
-use Rattle.step_core.specs.declared.group.Member.{Member}
+use Rattle.flat_machine.specs.Flat.{Flat, new_flat, put}
+use Rattle.flat_machine.specs.Steps.{FlatStep, FlatAnswer}
+use Rattle.flat_machine.specs.Steps as s
+use Rattle.flat_machine.specs.Cases.{Case}
+use Rattle.flat_machine.specs.declared.group.Member.{Member}
 use Rattle.std.specs.Prelude.{map}
 use Rattle.raid_bench.specs.Order.{Order}
 use Rattle.raid_bench.specs.Order as o

@@ -1,7 +1,7 @@
 -- A command as plain data: its numbers, its record, and the payload of a fill.
 use Rattle.std.specs.Prelude.{ℕ, List}
 use Rattle.map_join.specs.declared.records.Record.{Record}
-use Rattle.step_core.specs.declared.group.Class.{Class}
+use Rattle.flat_machine.specs.declared.group.Class.{Class}
 use Rattle.raid_bench.specs.declared.command.Named.{Named}
 use Rattle.raid_bench.specs.declared.command.Command.{Command}
 use Rattle.raid_bench.specs.declared.command.Command.TheVariants as made

@@ -9,8 +9,8 @@ use Rattle.raid_bench.specs.Verb.{word_of}
 use Rattle.raid_bench.specs.Words.{AreNumbers}
 use Rattle.raid_bench.specs.Order.{Order, verb_of}
 use Rattle.raid_bench.specs.Order as o
-use Rattle.step_core.specs.declared.group.Class.{Class}
-use Rattle.step_core.specs.declared.group.Class.TheVariants as class
+use Rattle.flat_machine.specs.declared.group.Class.{Class}
+use Rattle.flat_machine.specs.declared.group.Class.TheVariants as class
 use Rattle.raid_bench.specs.declared.command.Named.{Named}
 
 -- a member is written as its drive, a dot and its extent

@@ -2,8 +2,8 @@
 use Rattle.std.specs.Prelude.{◌≡◌, ℕ, ◌<◌, ◌≤◌, List, [], length, Option, Some, None}
 use Rattle.std.specs.List.{All}
 use Rattle.map_join.specs.declared.records.Record.{Record}
-use Rattle.step_core.specs.Flat.{Flat}
-use Rattle.step_core.specs.Sizes.{Sizes, AreSizes}
+use Rattle.flat_machine.specs.Flat.{Flat}
+use Rattle.flat_machine.specs.Sizes.{Sizes, AreSizes}
 use Rattle.raid_bench.specs.Order.{Order}
 use Rattle.raid_bench.specs.Order as o
 use Rattle.raid_bench.specs.declared.command.Named.{Named}

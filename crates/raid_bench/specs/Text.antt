@@ -3,11 +3,11 @@ use Rattle.std.specs.Prelude.{ℕ, List, [], ◌∷◌, ◌++◌, length, codes,
 use Rattle.hex.specs.Hex.{encode_lower}
 use Rattle.map_join.specs.declared.records.Record.{Record}
 use Rattle.map_join.specs.Record.{bytes_of}
-use Rattle.step_core.specs.Steps.{Version, Seen, FlatStep, FlatAnswer}
-use Rattle.step_core.specs.Steps as s
-use Rattle.step_core.specs.Numbers.{number_of}
-use Rattle.step_core.specs.declared.refusal.Refusal.{Refusal}
-use Rattle.step_core.specs.declared.refusal.Refusal.TheVariants as refusal
+use Rattle.flat_machine.specs.Steps.{Version, Seen, FlatStep, FlatAnswer}
+use Rattle.flat_machine.specs.Steps as s
+use Rattle.flat_machine.specs.Numbers.{number_of}
+use Rattle.flat_machine.specs.declared.refusal.Refusal.{Refusal}
+use Rattle.flat_machine.specs.declared.refusal.Refusal.TheVariants as refusal
 
 -- a record in hex digits
 abbrev pub record_text : Record → List ℕ

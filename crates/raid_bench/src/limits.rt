@@ -3,7 +3,7 @@ ghost use Rattle.std.specs.Prelude.{◌≡◌, ◌<◌, ◌≤◌, IfSome, IfNon
 ghost use Rattle.std.specs.List.{All};
 ghost use Rattle.raid_bench.specs.State.{IsArrayInRange, IsHandInRange, IsMap, IsMemberInRange, sizes_of};
 ghost use Rattle.raid_bench.specs.Meaning.{members_named};
-ghost use Rattle.step_core.specs.Sizes.{AreSizes};
+ghost use Rattle.flat_machine.specs.Sizes.{AreSizes};
 
 use crate::command::Named;
 use std::alloc::{AllocError, Global};

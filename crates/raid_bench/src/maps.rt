@@ -3,7 +3,7 @@ ghost use Rattle.std.specs.Prelude.{◌≡◌, ℕ, ◌<◌, ◌++◌, ◌∷◌
 ghost use Rattle.map_join.specs.declared.records.Record.{Record};
 ghost use Rattle.map_join.specs.Record.{record_at};
 ghost use Rattle.map_join.specs.Maps.{at, IsDifference};
-ghost use Rattle.step_core.specs.Flat.{put};
+ghost use Rattle.flat_machine.specs.Flat.{put};
 ghost use Rattle.raid_bench.specs.State.{IsMap};
 ghost use Rattle.raid_bench.specs.Carrying.{AreMapsOf, Carries};
 ghost use Rattle.raid_bench.specs.Order as o;

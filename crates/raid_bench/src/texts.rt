@@ -3,7 +3,7 @@ ghost use Rattle.std.specs.Prelude.{◌≡◌, ◌∷◌, ◌++◌, [], OnOk, co
 ghost use Rattle.hex.specs.Hex.{encode_lower};
 ghost use Rattle.step_core.specs.Told.{flat_answer, seen_of};
 ghost use Rattle.raid_bench.specs.Text.{answer_text, data_text, detail, difference_text, found_text, header_text, seen_text, listing, record_or_none, record_text, records_text};
-ghost use Rattle.step_core.specs.Steps as s;
+ghost use Rattle.flat_machine.specs.Steps as s;
 
 use itoa::Buffer;
 use map_join::Record;

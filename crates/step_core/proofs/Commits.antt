@@ -8,10 +8,10 @@ use Rattle.std.proofs.lemmas.Option.{same_Some}
 use Rattle.map_join.specs.declared.records.Record.{Record}
 use Rattle.map_join.specs.Record.{key_of, record_of, record_at, stamp, stamp_of, stamp_in, IsRecord}
 use Rattle.map_join.proofs.Joins.{took}
-use Rattle.step_core.specs.Flat.{Flat, Write, Holder, Worker, Ticket, Block, Shut, Content, Fresh, Moved, Stored, put, same_holder, turned, last_write, IsNewest, class_of}
-use Rattle.step_core.specs.Sizes.{Sizes}
-use Rattle.step_core.specs.declared.group.Class.{Class}
-use Rattle.step_core.specs.Cases.{committed, place_passed, stamped, longest_log}
+use Rattle.flat_machine.specs.Flat.{Flat, Write, Holder, Worker, Ticket, Block, Shut, Content, Fresh, Moved, Stored, put, same_holder, turned, last_write, IsNewest, class_of}
+use Rattle.flat_machine.specs.Sizes.{Sizes}
+use Rattle.flat_machine.specs.declared.group.Class.{Class}
+use Rattle.flat_machine.specs.Cases.{committed, place_passed, stamped, longest_log}
 use Rattle.step_core.specs.Changes.{commit_view, passed}
 use Rattle.step_core.specs.Views.{Kept, Nothing, Moving, Newest, is_waiting, ArrayView, kept_at, unit_at, key_at, IsWhole}
 use Rattle.step_core.specs.Represents.{flat_at, ArraySlot, BlockStands, IsCopy, TicketStands, ComesNext, IsChain, IsWrite, IsWriteChain, IsWriteOf, HeaderTells, HeaderStands, PayloadStands, AreLimits, ShowsArray, is_newest}

@@ -5,11 +5,11 @@ use Rattle.std.proofs.lemmas.List.Elements.{Contains-append_left, Contains-push_
 use Rattle.std.proofs.lemmas.Option.{same_Some}
 use Rattle.map_join.specs.declared.records.Record.{Record}
 use Rattle.map_join.specs.Record.{record_of, record_at, stamp, stamp_of, stamp_in, IsRecord}
-use Rattle.step_core.specs.declared.refusal.Refusal.{Refusal}
-use Rattle.step_core.specs.declared.refusal.Refusal.TheVariants.{NoTicket, Outrun, VersionSpent, LogFull}
-use Rattle.step_core.specs.Flat.{Flat, Write, Ticket, Stored, or_else, last_write, IsNewest, class_of}
-use Rattle.step_core.specs.Steps.{Committed, Refused}
-use Rattle.step_core.specs.Cases.{CommitCase, CommitWith, IsFor, HasStamp, next_version, last_version, longest_log}
+use Rattle.flat_machine.specs.declared.refusal.Refusal.{Refusal}
+use Rattle.flat_machine.specs.declared.refusal.Refusal.TheVariants.{NoTicket, Outrun, VersionSpent, LogFull}
+use Rattle.flat_machine.specs.Flat.{Flat, Write, Ticket, Stored, or_else, last_write, IsNewest, class_of}
+use Rattle.flat_machine.specs.Steps.{Committed, Refused}
+use Rattle.flat_machine.specs.Cases.{CommitCase, CommitWith, IsFor, HasStamp, next_version, last_version, longest_log}
 use Rattle.step_core.specs.Changes.{commit_view, commit_record, commit_reason, commit_reason_of, version_reason, stamp_reason, full_reason, version_given, hop_given, MayRefuse}
 use Rattle.step_core.specs.Views.{Kept, Nothing, Pending, Moving, Newest, is_waiting, ArrayView, kept_at, unit_at, key_at, IsWhole}
 use Rattle.step_core.specs.Represents.{IsCopy, TicketStands, IsWrite, IsWriteOf, ShowsArray, waiting}

@@ -4,12 +4,12 @@ use Rattle.std.proofs.lemmas.Bool.Decides.{nat_tests}
 use Rattle.std.proofs.lemmas.Option.{same_Some}
 use Rattle.map_join.specs.declared.records.Record.{Record}
 use Rattle.map_join.specs.Record.{record_of, record_at}
-use Rattle.step_core.specs.declared.group.Class.{Class}
-use Rattle.step_core.specs.declared.refusal.Refusal.{Refusal}
-use Rattle.step_core.specs.Groups.{class_at}
-use Rattle.step_core.specs.Flat.{Flat, Write, Worker, Moved, Stored, IsNewest, class_of, last_write}
-use Rattle.step_core.specs.Steps.{Copied, Refused}
-use Rattle.step_core.specs.Cases.{CopyCase, copied, last_hop}
+use Rattle.flat_machine.specs.declared.group.Class.{Class}
+use Rattle.flat_machine.specs.declared.refusal.Refusal.{Refusal}
+use Rattle.flat_machine.specs.Groups.{class_at}
+use Rattle.flat_machine.specs.Flat.{Flat, Write, Worker, Moved, Stored, IsNewest, class_of, last_write}
+use Rattle.flat_machine.specs.Steps.{Copied, Refused}
+use Rattle.flat_machine.specs.Cases.{CopyCase, copied, last_hop}
 use Rattle.step_core.specs.Changes.{copy_view, copy_reason, copy_reason_of, MayRefuse}
 use Rattle.step_core.specs.Views.{Kept, Nothing, Pending, Moving, Newest, ArrayView, kept_at, unit_at, key_at, group_at, is_kept, IsWhole}
 use Rattle.step_core.specs.Represents.{IsCopy, ShowsArray}

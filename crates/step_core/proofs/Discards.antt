@@ -3,10 +3,10 @@ use Rattle.std.proofs.Common.{◌≡◌, ◌≢◌, ℕ, ◌<◌, Bool, true, fa
 use Rattle.std.proofs.lemmas.List.{length-set, get_or-set_same, get_or-set_other}
 use Rattle.std.proofs.lemmas.Bool.{cases_eq}
 use Rattle.map_join.specs.Record.{record_of}
-use Rattle.step_core.specs.declared.refusal.Refusal.TheVariants.{NoTicket}
-use Rattle.step_core.specs.Flat.{Flat, Holder, Worker, Ticket, Block, Shut, Stored, put, class_of}
-use Rattle.step_core.specs.Steps.{Discarded, Refused}
-use Rattle.step_core.specs.Cases.{DiscardCase, discarded}
+use Rattle.flat_machine.specs.declared.refusal.Refusal.TheVariants.{NoTicket}
+use Rattle.flat_machine.specs.Flat.{Flat, Holder, Worker, Ticket, Block, Shut, Stored, put, class_of}
+use Rattle.flat_machine.specs.Steps.{Discarded, Refused}
+use Rattle.flat_machine.specs.Cases.{DiscardCase, discarded}
 use Rattle.step_core.specs.Changes.{discard_view}
 use Rattle.step_core.specs.Views.{Kept, Nothing, Moving, Newest, ArrayView, kept_at, unit_at, key_at, is_waiting, IsWhole}
 use Rattle.step_core.specs.Represents.{flat_at, ArraySlot, IsWritten, BlockStands, TicketStands, ShowsArray}

@@ -5,13 +5,13 @@ use Rattle.std.proofs.lemmas.Bool.{cases_eq}
 use Rattle.std.proofs.lemmas.Option.{same_Some}
 use Rattle.map_join.specs.declared.records.Record.{Record}
 use Rattle.map_join.specs.Record.{record_of}
-use Rattle.step_core.specs.declared.group.Class.{Class}
-use Rattle.step_core.specs.declared.group.Class.TheVariants.{Mirrored, Parity}
-use Rattle.step_core.specs.declared.refusal.Refusal.{Refusal}
-use Rattle.step_core.specs.Groups.{class_in, class_at}
-use Rattle.step_core.specs.Flat.{Flat, Holder, Worker, Ticket, Block, Shut, Write, Content, Fresh, Moved, Stored, put, turned, for_ticket, IsKept, class_of}
-use Rattle.step_core.specs.Steps.{Filled, Refused}
-use Rattle.step_core.specs.Cases.{FillCase, filled, ticketed}
+use Rattle.flat_machine.specs.declared.group.Class.{Class}
+use Rattle.flat_machine.specs.declared.group.Class.TheVariants.{Mirrored, Parity}
+use Rattle.flat_machine.specs.declared.refusal.Refusal.{Refusal}
+use Rattle.flat_machine.specs.Groups.{class_in, class_at}
+use Rattle.flat_machine.specs.Flat.{Flat, Holder, Worker, Ticket, Block, Shut, Write, Content, Fresh, Moved, Stored, put, turned, for_ticket, IsKept, class_of}
+use Rattle.flat_machine.specs.Steps.{Filled, Refused}
+use Rattle.flat_machine.specs.Cases.{FillCase, filled, ticketed}
 use Rattle.step_core.specs.Changes.{wait_view, fill_view, fill_reason, fill_reason_of, MayRefuse}
 use Rattle.step_core.specs.Views.{Kept, Nothing, Pending, Moving, Newest, ArrayView, kept_at, unit_at, key_at, group_at, is_kept, is_waiting, IsWhole}
 use Rattle.step_core.specs.Represents.{flat_at, ArraySlot, IsWritten, BlockStands, HeaderStands, PayloadStands, TicketStands, ShowsArray, waiting}

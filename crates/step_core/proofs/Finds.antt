@@ -3,8 +3,8 @@ use Rattle.std.proofs.Common.{◌≡◌, ℕ, ◌^◌, ◌<◌, ◌≤◌, sym, 
 use Rattle.std.proofs.lemmas.Option.{same_Some}
 use Rattle.map_join.specs.declared.records.Record.{Record}
 use Rattle.map_join.specs.Record.{record_of, record_at}
-use Rattle.step_core.specs.Flat.{Flat, Write, Stored, last_write}
-use Rattle.step_core.specs.Cases.{found_of}
+use Rattle.flat_machine.specs.Flat.{Flat, Write, Stored, last_write}
+use Rattle.flat_machine.specs.Cases.{found_of}
 use Rattle.step_core.specs.Views.{Nothing, Newest, ArrayView, kept_at, unit_at, key_at, IsWhole}
 use Rattle.step_core.specs.Represents.{ShowsArray}
 use Rattle.step_core.proofs.Newest.{told_at, untold_at, told_key}

@@ -5,9 +5,9 @@ use Rattle.std.proofs.lemmas.List.{get_or-set_same, get_or-set_other}
 use Rattle.std.proofs.lemmas.Bool.{cases_eq}
 use Rattle.step_core.specs.declared.hand.Hand.{Hand}
 use Rattle.step_core.specs.declared.hand.Hand.TheVariants.{Empty, Holds, Waits}
-use Rattle.step_core.specs.Flat.{Flat, Holder, Worker, Ticket, Block, Shut, with_pair, without_pair, IsArrays, for_ticket, for_block, for_shut, IsFree, Stored}
-use Rattle.step_core.specs.Steps.{Claimed, Taken, Released, NotHeld}
-use Rattle.step_core.specs.Cases.{ClaimCase, ReleaseCase}
+use Rattle.flat_machine.specs.Flat.{Flat, Holder, Worker, Ticket, Block, Shut, with_pair, without_pair, IsArrays, for_ticket, for_block, for_shut, IsFree, Stored}
+use Rattle.flat_machine.specs.Steps.{Claimed, Taken, Released, NotHeld}
+use Rattle.flat_machine.specs.Cases.{ClaimCase, ReleaseCase}
 use Rattle.step_core.specs.Views.{Kept, Nothing, Pending, Moving, Newest, ArrayView, WorldView, kept_at, unit_at, hand_at, key_at, is_kept, has_no_holder}
 use Rattle.step_core.specs.Represents.{FlatSlot, flat_at, ArraySlot, HandSlot, ShowsArray, Represents, is_claim, is_ticket, Agree, BlockStands}
 use Rattle.step_core.proofs.Pairs.{flip, equal, equal_back, with_here, with_else, without_here, without_else}

@@ -1,6 +1,6 @@
 -- What the array keeps is what the flat state's holders say.
 use Rattle.std.proofs.Common.{◌≡◌, ◌↔◌, ℕ, true, false, IsTrue, refl, sym, ap, ◌∙◌, Option, None}
-use Rattle.step_core.specs.Flat.{Flat, Holder, Ticket, Block, IsArrays, for_ticket, for_block, for_shut, IsKept, Stored}
+use Rattle.flat_machine.specs.Flat.{Flat, Holder, Ticket, Block, IsArrays, for_ticket, for_block, for_shut, IsKept, Stored}
 use Rattle.step_core.specs.Views.{Kept, Nothing, Pending, Moving, Newest, ArrayView, kept_at, unit_at, is_kept, is_waiting}
 use Rattle.step_core.specs.Represents.{FlatSlot, flat_at, ArraySlot, ShowsArray, is_newest, waiting}
 use Rattle.step_core.proofs.Pairs.{equal}

@@ -1,7 +1,7 @@
 -- The tests that come before a group is made.
 use Rattle.std.proofs.Common.{◌≡◌, ◌≢◌, ℕ, ◌+◌, ◌<◌, ◌≤◌, true, List, length, get_or, take, Any, All, refl, sym, ap, ◌∙◌, subst, arith, ◌⊎◌, inl, inr, Option, Some, None, is_some}
 use Rattle.std.proofs.lemmas.List.{get_or-take, length-take-le}
-use Rattle.step_core.specs.declared.group.Member.{Member}
+use Rattle.flat_machine.specs.declared.group.Member.{Member}
 use Rattle.std.proofs.lemmas.List.{length-map}
 use Rattle.std.proofs.lemmas.Option.{same_Some}
 use Rattle.std.specs.Option.{option_map, IsSomeAnd}
@@ -11,10 +11,10 @@ use Rattle.std.proofs.lemmas.List.{get_or-set_same, get_or-set_other}
 use Rattle.std.proofs.lemmas.Bool.{cases_eq}
 use Rattle.std.proofs.lemmas.Bool.Decides.{nat_tests}
 use Rattle.step_core.specs.declared.stored.StoredUnit.{StoredUnit}
-use Rattle.step_core.specs.Flat.{Stored}
+use Rattle.flat_machine.specs.Flat.{Stored}
 use Rattle.step_core.specs.Making.{ArePlaced, placed}
 use Rattle.step_core.specs.Kept.{made_of, groups_of, stored_of, units_of}
-use Rattle.step_core.specs.Groups.{Made, AreApart, AreUnowned, HaveCommon, IsLowestFree}
+use Rattle.flat_machine.specs.Groups.{Made, AreApart, AreUnowned, HaveCommon, IsLowestFree}
 use Rattle.step_core.proofs.Tables.{get_or_any, get_or_past, group_there}
 
 -- a member whose drive stands before it speaks against them

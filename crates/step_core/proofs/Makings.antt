@@ -6,17 +6,17 @@ use Rattle.std.proofs.lemmas.Bool.{cases_eq}
 use Rattle.std.proofs.lemmas.Bool.Decides.{nat_tests}
 use Rattle.std.proofs.lemmas.Option.{same_Some}
 use Rattle.map_join.specs.Record.{record_of}
-use Rattle.step_core.specs.declared.group.Class.{Class}
-use Rattle.step_core.specs.declared.group.Class.TheVariants.{Mirrored}
-use Rattle.step_core.specs.declared.group.Member.{Member}
-use Rattle.step_core.specs.declared.refusal.Refusal.{Refusal}
-use Rattle.step_core.specs.declared.refusal.Refusal.TheVariants.{BadMember, SameDrive, ExtentTaken, Full}
-use Rattle.step_core.specs.Sizes.{Sizes}
-use Rattle.step_core.specs.Steps.{MadeGroup, Refused}
+use Rattle.flat_machine.specs.declared.group.Class.{Class}
+use Rattle.flat_machine.specs.declared.group.Class.TheVariants.{Mirrored}
+use Rattle.flat_machine.specs.declared.group.Member.{Member}
+use Rattle.flat_machine.specs.declared.refusal.Refusal.{Refusal}
+use Rattle.flat_machine.specs.declared.refusal.Refusal.TheVariants.{BadMember, SameDrive, ExtentTaken, Full}
+use Rattle.flat_machine.specs.Sizes.{Sizes}
+use Rattle.flat_machine.specs.Steps.{MadeGroup, Refused}
 use Rattle.step_core.specs.Changes.{MayRefuse}
-use Rattle.step_core.specs.Groups.{Made, slot_count, class_in, AreMembers, AreApart, AreUnowned, HaveCommon, IsLowestFree, IsFull}
-use Rattle.step_core.specs.Flat.{Flat, Ticket, Block, Content, Fresh, Moved, Stored, class_of}
-use Rattle.step_core.specs.Cases.{made, wiped, MakeCase}
+use Rattle.flat_machine.specs.Groups.{Made, slot_count, class_in, AreMembers, AreApart, AreUnowned, HaveCommon, IsLowestFree, IsFull}
+use Rattle.flat_machine.specs.Flat.{Flat, Ticket, Block, Content, Fresh, Moved, Stored, class_of}
+use Rattle.flat_machine.specs.Cases.{made, wiped, MakeCase}
 use Rattle.step_core.specs.Making.{blank, placed, Entered, ArePlaced, IsBlankUnit, IsMakeReason}
 use Rattle.step_core.specs.declared.stored.StoredUnit.{StoredUnit}
 use Rattle.step_core.specs.Kept.{units_of}

@@ -5,7 +5,7 @@ use Rattle.std.proofs.lemmas.Option.{same_Some}
 use Rattle.map_join.specs.declared.records.Record.{Record}
 use Rattle.map_join.specs.Record.{key_of, record_of, record_at, IsRecord}
 use Rattle.map_join.specs.Maps.{IsSame, IsMapOf}
-use Rattle.step_core.specs.Flat.{Flat, IsNewest}
+use Rattle.flat_machine.specs.Flat.{Flat, IsNewest}
 use Rattle.step_core.specs.Views.{ArrayView, key_at, IsRoomy}
 use Rattle.step_core.specs.Represents.{ShowsArray}
 use Rattle.step_core.proofs.Tables.{get_or_past}

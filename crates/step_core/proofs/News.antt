@@ -7,9 +7,9 @@ use Rattle.step_core.specs.declared.place.Place.{Place}
 use Rattle.step_core.specs.declared.place.Place.TheVariants as place
 use Rattle.step_core.specs.declared.stored.StoredUnit.{StoredUnit}
 use Rattle.step_core.specs.declared.group.Group.{Group}
-use Rattle.step_core.specs.Sizes.{Sizes, AreSizes}
+use Rattle.flat_machine.specs.Sizes.{Sizes, AreSizes}
 use Rattle.step_core.specs.Kept.{kept_of, kepts_of, stored_of, units_of, made_of, groups_of}
-use Rattle.step_core.specs.Flat.{Write, new_flat}
+use Rattle.flat_machine.specs.Flat.{Write, new_flat}
 use Rattle.step_core.specs.Views.{Nothing, Moving, Newest, ArrayView, IsWhole, IsNew}
 use Rattle.step_core.specs.Represents.{flat_at, ArraySlot, ShowsArray}
 

@@ -1,7 +1,7 @@
 -- The set of pairs with one slot changed.
 use Rattle.std.proofs.Common.{◌≡◌, ℕ, Bool, true, false, cond, not, ◌==◌, ◌&&◌, ◌||◌, refl, ap, ◌∙◌, arith}
 use Rattle.std.proofs.lemmas.Bool.Decides.{nat_tests}
-use Rattle.step_core.specs.Flat.{Holder, same_holder, put, with_pair, without_pair, turned}
+use Rattle.flat_machine.specs.Flat.{Holder, same_holder, put, with_pair, without_pair, turned}
 
 pub equal : (a b : ℕ) → a ≡ b → (a == b) ≡ true
 equal a b e = grind (arith, nat_tests)

@@ -4,15 +4,15 @@ use Rattle.std.proofs.lemmas.List.{map_more, map-append}
 use Rattle.std.proofs.lemmas.List.Elements.{All-get_or}
 use Rattle.step_core.specs.declared.step.Step.{Step}
 use Rattle.step_core.specs.declared.step.Answer.{Answer}
-use Rattle.step_core.specs.Sizes.{Sizes}
+use Rattle.flat_machine.specs.Sizes.{Sizes}
 use Rattle.step_core.specs.Told.{flat_step, flat_answer, FitsStep}
 use Rattle.map_join.specs.declared.records.Record.{Record}
 use Rattle.map_join.specs.Maps.{IsSame, IsMapOf, HasSameRecords}
 use Rattle.step_core.specs.declared.hand.Hand.{Hand}
 use Rattle.step_core.specs.declared.hand.Hand.TheVariants.{Empty, Holds, Waits}
-use Rattle.step_core.specs.Flat.{Flat, Holder, Worker, Ticket, Block, Shut, Stored}
-use Rattle.step_core.specs.Steps.{FlatStep, FlatAnswer}
-use Rattle.step_core.specs.Cases.{Case, Runs}
+use Rattle.flat_machine.specs.Flat.{Flat, Holder, Worker, Ticket, Block, Shut, Stored}
+use Rattle.flat_machine.specs.Steps.{FlatStep, FlatAnswer}
+use Rattle.flat_machine.specs.Cases.{Case, Runs}
 use Rattle.step_core.specs.Views.{Kept, Nothing, Pending, Moving, Newest, WorldView, kept_at, unit_at, hand_at, key_at}
 use Rattle.step_core.specs.Represents.{FlatSlot, flat_at, ArraySlot, HandSlot, Represents, is_newest, is_claim, is_ticket, Agree}
 use Rattle.step_core.specs.Headline.{Stands}

@@ -2,11 +2,11 @@
 use Rattle.std.proofs.Common.{◌≡◌, ◌≤◌, refl, sym, subst, Some, ℕ, List}
 use Rattle.map_join.specs.declared.records.Record.{Record}
 use Rattle.map_join.specs.Record.{key_of, record_at}
-use Rattle.step_core.specs.declared.refusal.Refusal.{Refusal}
-use Rattle.step_core.specs.declared.refusal.Refusal.TheVariants.{Ahead}
-use Rattle.step_core.specs.Flat.{Flat, Stored}
-use Rattle.step_core.specs.Steps.{Seen, Data, FoundAt, Refused}
-use Rattle.step_core.specs.Cases.{ReadAtCase, IsSeen, IsAhead}
+use Rattle.flat_machine.specs.declared.refusal.Refusal.{Refusal}
+use Rattle.flat_machine.specs.declared.refusal.Refusal.TheVariants.{Ahead}
+use Rattle.flat_machine.specs.Flat.{Flat, Stored}
+use Rattle.flat_machine.specs.Steps.{Seen, Data, FoundAt, Refused}
+use Rattle.flat_machine.specs.Cases.{ReadAtCase, IsSeen, IsAhead}
 use Rattle.step_core.specs.Changes.{MayRefuse}
 use Rattle.step_core.specs.Views.{ArrayView, unit_at, key_at}
 use Rattle.step_core.specs.Represents.{ShowsArray}

@@ -1,7 +1,7 @@
 -- What is told of each slot stays told where one slot changes.
 use Rattle.std.proofs.Common.{◌≡◌, ℕ, sym, subst, ◌⊎◌, inl, inr}
 use Rattle.std.proofs.lemmas.Bool.{cases_eq}
-use Rattle.step_core.specs.Flat.{Flat}
+use Rattle.flat_machine.specs.Flat.{Flat}
 use Rattle.step_core.specs.Views.{ArrayView, kept_at, unit_at}
 use Rattle.step_core.specs.Represents.{FlatSlot, flat_at, ArraySlot}
 

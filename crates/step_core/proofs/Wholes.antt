@@ -1,8 +1,8 @@
 -- What every array keeps, told of the flat state that it stands for.
 use Rattle.std.proofs.Common.{◌≡◌, ℕ, true, sym, ap, ◌∙◌, subst}
-use Rattle.step_core.specs.Sizes.{Sizes}
-use Rattle.step_core.specs.Groups.{AreGroups}
-use Rattle.step_core.specs.Flat.{Flat}
+use Rattle.flat_machine.specs.Sizes.{Sizes}
+use Rattle.flat_machine.specs.Groups.{AreGroups}
+use Rattle.flat_machine.specs.Flat.{Flat}
 use Rattle.step_core.specs.Views.{Kept, Nothing, Pending, Moving, Newest, ArrayView, kept_at, unit_at, group_at, key_at, IsWhole}
 use Rattle.step_core.specs.Represents.{flat_at, ArraySlot, is_newest, AreSized, HoldsPlace}
 use Rattle.step_core.proofs.Pairs.{equal_back}

@@ -7,19 +7,19 @@ use Rattle.map_join.specs.declared.records.Record.{Record}
 use Rattle.map_join.specs.Record.{record_at, IsRecord}
 use Rattle.step_core.specs.declared.hand.Hand.{Hand}
 use Rattle.step_core.specs.declared.hand.Hand.TheVariants.{Empty, Holds, Waits}
-use Rattle.step_core.specs.Flat.{Flat, Holder, Worker, Ticket, Block, Stored, same_holder}
-use Rattle.step_core.specs.Steps.{Filled, Copied, Committed, Discarded, MadeGroup}
-use Rattle.step_core.specs.declared.group.Class.{Class}
-use Rattle.step_core.specs.declared.group.Member.{Member}
-use Rattle.step_core.specs.Cases.{FillCase, CopyCase, ticketed, CommitCase, DiscardCase, discarded, MakeCase, made}
+use Rattle.flat_machine.specs.Flat.{Flat, Holder, Worker, Ticket, Block, Stored, same_holder}
+use Rattle.flat_machine.specs.Steps.{Filled, Copied, Committed, Discarded, MadeGroup}
+use Rattle.flat_machine.specs.declared.group.Class.{Class}
+use Rattle.flat_machine.specs.declared.group.Member.{Member}
+use Rattle.flat_machine.specs.Cases.{FillCase, CopyCase, ticketed, CommitCase, DiscardCase, discarded, MakeCase, made}
 use Rattle.step_core.specs.Changes.{wait_view, fill_view, copy_view, discard_view, commit_view, passed_hands}
 use Rattle.step_core.specs.Views.{Kept, Nothing, Pending, Moving, Newest, is_waiting, ArrayView, WorldView, kept_at, unit_at, hand_at}
 use Rattle.step_core.specs.Represents.{FlatSlot, flat_at, ArraySlot, HandSlot, ShowsArray, Represents, is_claim, is_ticket, Agree, waiting}
 use Rattle.step_core.proofs.Pairs.{equal, flip, put_here, put_else, turned_here, turned_else}
 use Rattle.step_core.proofs.Kepts.{waiting_none}
 use Rattle.step_core.proofs.Slots.{same_slot}
-use Rattle.step_core.specs.Flat.{Write, Content, Fresh, Moved, IsNewest}
-use Rattle.step_core.specs.Cases.{CommitWith, committed}
+use Rattle.flat_machine.specs.Flat.{Write, Content, Fresh, Moved, IsNewest}
+use Rattle.flat_machine.specs.Cases.{CommitWith, committed}
 use Rattle.step_core.specs.Views.{key_at, IsWhole}
 use Rattle.step_core.proofs.Newest.{newest_told, newest_unique, place_small}
 use Rattle.step_core.proofs.Commits.{IsOld, passed_on, kept_here, kept_old, kept_else, held_here, held_old, held_else, old_found, some_is}

@@ -10,8 +10,8 @@ use Rattle.map_join.specs.declared.records.Record.{Record}
 use Rattle.map_join.specs.Record.{key_of, record_of, record_at}
 use Rattle.map_join.specs.Maps.{IsSame, join, only}
 use Rattle.map_join.proofs.Joins.{only_here, only_else}
-use Rattle.step_core.specs.Flat.{Write, or_else, last_write}
-use Rattle.step_core.specs.Cases.{next_version}
+use Rattle.flat_machine.specs.Flat.{Write, or_else, last_write}
+use Rattle.flat_machine.specs.Cases.{next_version}
 use Rattle.step_core.specs.Represents.{IsWriteChain}
 use Rattle.step_core.proofs.Pairs.{equal, unequal, equal_back}
 use Rattle.step_core.proofs.Newest.{told_at, untold_at}

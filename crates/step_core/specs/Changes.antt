@@ -2,15 +2,15 @@
 use Rattle.std.specs.Prelude.{◌≡◌, ℕ, ◌+◌, ◌==◌, ◌&&◌, Bool, nat_le, List, [], ◌∷◌, ◌++◌, length, slice_set, if◌then◌else◌, Option, Some, None}
 use Rattle.map_join.specs.declared.records.Record.{Record}
 use Rattle.map_join.specs.Record.{key_of}
-use Rattle.step_core.specs.declared.group.Class.{Class}
-use Rattle.step_core.specs.declared.group.Class.TheVariants.{Mirrored, Parity}
-use Rattle.step_core.specs.declared.refusal.Refusal.{Refusal}
-use Rattle.step_core.specs.declared.refusal.Refusal.TheVariants.{Memory, NoGroup, WrongClass, InUse, NoTicket, Outrun, VersionSpent, HopsSpent, Unwritten, LogFull}
+use Rattle.flat_machine.specs.declared.group.Class.{Class}
+use Rattle.flat_machine.specs.declared.group.Class.TheVariants.{Mirrored, Parity}
+use Rattle.flat_machine.specs.declared.refusal.Refusal.{Refusal}
+use Rattle.flat_machine.specs.declared.refusal.Refusal.TheVariants.{Memory, NoGroup, WrongClass, InUse, NoTicket, Outrun, VersionSpent, HopsSpent, Unwritten, LogFull}
 use Rattle.step_core.specs.declared.hand.Hand.{Hand}
 use Rattle.step_core.specs.declared.hand.Hand.TheVariants.{Empty, Holds}
-use Rattle.step_core.specs.Groups.{class_at}
-use Rattle.step_core.specs.Flat.{or_else}
-use Rattle.step_core.specs.Cases.{stamped, next_version, last_version, last_hop, longest_log}
+use Rattle.flat_machine.specs.Groups.{class_at}
+use Rattle.flat_machine.specs.Flat.{or_else}
+use Rattle.flat_machine.specs.Cases.{stamped, next_version, last_version, last_hop, longest_log}
 use Rattle.step_core.specs.Views.{Kept, Nothing, Pending, Moving, Newest, ArrayView, kept_at, unit_at, group_at}
 
 -- memory is wanted only where the step would be carried out, and any other refusal is the case p

@@ -4,7 +4,7 @@ use Rattle.std.specs.Prelude.{◌≡◌, ◌<◌, ℕ, List, Some, None}
 use Rattle.map_join.specs.declared.records.Record.{Record}
 use Rattle.map_join.specs.Record.{record_of}
 use Rattle.map_join.specs.Maps.{IsSame, IsMapOf, HasSameRecords}
-use Rattle.step_core.specs.Flat.{Flat, Write, HeldOnce, last_write}
+use Rattle.flat_machine.specs.Flat.{Flat, Write, HeldOnce, last_write}
 use Rattle.step_core.specs.Views.{WorldView, key_at}
 
 -- reading through a key: the unit at its place has the record that it tells, with the payload of the block's last write

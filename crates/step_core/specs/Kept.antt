@@ -5,8 +5,8 @@ use Rattle.step_core.specs.declared.place.Place.{Place}
 use Rattle.step_core.specs.declared.place.Place.TheVariants as place
 use Rattle.step_core.specs.declared.stored.StoredUnit.{StoredUnit}
 use Rattle.step_core.specs.declared.group.Group.{Group}
-use Rattle.step_core.specs.Groups.{Made}
-use Rattle.step_core.specs.Flat.{Stored}
+use Rattle.flat_machine.specs.Groups.{Made}
+use Rattle.flat_machine.specs.Flat.{Stored}
 use Rattle.step_core.specs.Views.{Kept, Nothing, Pending, Moving, Newest}
 
 -- a place without its claim

@@ -1,12 +1,12 @@
 -- What making a group changes in what is seen of an array.
 use Rattle.std.specs.Prelude.{◌≡◌, ℕ, ◌+◌, ◌*◌, ◌≤◌, ◌&&◌, nat_lt, nat_le, if◌then◌else◌, List, All, length, replicate, slice_index_or, slice_set, Option, Some, None}
-use Rattle.step_core.specs.declared.group.Class.{Class}
-use Rattle.step_core.specs.declared.group.Member.{Member}
-use Rattle.step_core.specs.declared.refusal.Refusal.{Refusal}
-use Rattle.step_core.specs.declared.refusal.Refusal.TheVariants.{BadMember, SameDrive, ExtentTaken}
+use Rattle.flat_machine.specs.declared.group.Class.{Class}
+use Rattle.flat_machine.specs.declared.group.Member.{Member}
+use Rattle.flat_machine.specs.declared.refusal.Refusal.{Refusal}
+use Rattle.flat_machine.specs.declared.refusal.Refusal.TheVariants.{BadMember, SameDrive, ExtentTaken}
 use Rattle.step_core.specs.declared.stored.StoredUnit.{StoredUnit}
-use Rattle.step_core.specs.Groups.{slot_count, AreMembers, AreApart, AreUnowned}
-use Rattle.step_core.specs.Flat.{Stored}
+use Rattle.flat_machine.specs.Groups.{slot_count, AreMembers, AreApart, AreUnowned}
+use Rattle.flat_machine.specs.Flat.{Stored}
 use Rattle.step_core.specs.Kept.{stored_of, units_of}
 use Rattle.step_core.specs.Views.{ArrayView, unit_at, group_at}
 

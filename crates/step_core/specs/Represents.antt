@@ -3,12 +3,12 @@ use Rattle.std.specs.Prelude.{◌≡◌, ◌⊎◌, ℕ, ◌+◌, ◌<◌, ◌�
 use Rattle.map_join.specs.declared.records.Record.{Record}
 use Rattle.map_join.specs.Record.{key_of, record_of, IsRecord, stamp, stamp_of, stamp_in}
 use Rattle.map_join.specs.Maps.{IsMapOf}
-use Rattle.step_core.specs.declared.group.Class.{Class}
-use Rattle.step_core.specs.declared.group.Class.TheVariants.{Mirrored}
-use Rattle.step_core.specs.Sizes.{Sizes, AreSizes}
-use Rattle.step_core.specs.Flat.{Flat, Write, Holder, Worker, Ticket, Block, Shut, Content, Fresh, Moved, Stored, class_of, last_write, IsNewest}
-use Rattle.step_core.specs.Groups.{AreGroups}
-use Rattle.step_core.specs.Cases.{last_hop, longest_log}
+use Rattle.flat_machine.specs.declared.group.Class.{Class}
+use Rattle.flat_machine.specs.declared.group.Class.TheVariants.{Mirrored}
+use Rattle.flat_machine.specs.Sizes.{Sizes, AreSizes}
+use Rattle.flat_machine.specs.Flat.{Flat, Write, Holder, Worker, Ticket, Block, Shut, Content, Fresh, Moved, Stored, class_of, last_write, IsNewest}
+use Rattle.flat_machine.specs.Groups.{AreGroups}
+use Rattle.flat_machine.specs.Cases.{last_hop, longest_log}
 use Rattle.step_core.specs.declared.hand.Hand.{Hand}
 use Rattle.step_core.specs.declared.hand.Hand.TheVariants.{Empty, Holds, Waits}
 use Rattle.step_core.specs.Views.{Kept, Nothing, Pending, Moving, Newest, is_waiting, ArrayView, WorldView, kept_at, hand_at, group_at, unit_at, key_at}

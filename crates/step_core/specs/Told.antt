@@ -6,10 +6,10 @@ use Rattle.step_core.specs.declared.step.Answer.{Answer}
 use Rattle.step_core.specs.declared.step.Answer.TheVariants as answer
 use Rattle.step_core.specs.declared.step.Step.{Step}
 use Rattle.step_core.specs.declared.step.Step.TheVariants as step
-use Rattle.step_core.specs.Sizes.{Sizes}
+use Rattle.flat_machine.specs.Sizes.{Sizes}
 use Rattle.step_core.specs.declared.read.At.{At}
 use Rattle.step_core.specs.declared.read.At.TheVariants as at
-use Rattle.step_core.specs.Steps.{Version, Seen, Data, Stale, FlatStep, Claim, Release, Fill, Copy, Commit, Discard, Read, ReadAt, Make, FlatAnswer, Claimed, Taken, Released, NotHeld, Filled, Copied, Committed, Discarded, Found, FoundAt, MadeGroup, Refused}
+use Rattle.flat_machine.specs.Steps.{Version, Seen, Data, Stale, FlatStep, Claim, Release, Fill, Copy, Commit, Discard, Read, ReadAt, Make, FlatAnswer, Claimed, Taken, Released, NotHeld, Filled, Copied, Committed, Discarded, Found, FoundAt, MadeGroup, Refused}
 
 -- a version and payload that were read, as plain data
 abbrev pub version_of : Option (ℕ × Vec ℕ Global) → Option Version

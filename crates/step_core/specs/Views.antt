@@ -2,9 +2,9 @@
 use Rattle.std.specs.Prelude.{◌≡◌, ◌≢◌, ℕ, ◌<◌, ◌≤◌, ◌^◌, Bool, true, false, is_some, not, List, [], slice_index, slice_index_or, length, Option, Some, None}
 use Rattle.map_join.specs.declared.records.Record.{Record}
 use Rattle.map_join.specs.Record.{record_of}
-use Rattle.step_core.specs.Sizes.{Sizes}
-use Rattle.step_core.specs.Groups.{Made, AreGroups}
-use Rattle.step_core.specs.Flat.{Stored}
+use Rattle.flat_machine.specs.Sizes.{Sizes}
+use Rattle.flat_machine.specs.Groups.{Made, AreGroups}
+use Rattle.flat_machine.specs.Flat.{Stored}
 use Rattle.step_core.specs.declared.hand.Hand.{Hand}
 use Rattle.step_core.specs.declared.hand.Hand.TheVariants.{Empty, Holds, Waits}
 

@@ -2,17 +2,17 @@
 ghost use Rattle.std.specs.Prelude.{◌≡◌, ℕ, ◌<◌, ◌≤◌, length, drop, slice_index, slice_index_or, None, IsTrue, ◌↔◌, IfOk, IfErr, OnOk};
 ghost use Rattle.map_join.specs.Record.{record_at};
 ghost use Rattle.map_join.specs.Maps.{at, IsSame, IsMapOf};
-ghost use Rattle.step_core.specs.Groups.{class_at, class_in};
+ghost use Rattle.flat_machine.specs.Groups.{class_at, class_in};
 ghost use Rattle.std.specs.Option.{ForSome, option_map};
 ghost use Rattle.step_core.specs.Kept.{made_of};
-ghost use Rattle.step_core.specs.Flat.{Flat, new_flat, put, IsKept, IsNewest};
+ghost use Rattle.flat_machine.specs.Flat.{Flat, new_flat, put, IsKept, IsNewest};
 ghost use Rattle.step_core.specs.Views.{kept_at, key_at, group_at, is_kept, is_waiting, IsNew, IsWhole};
 ghost use Rattle.step_core.specs.Represents.{ShowsArray};
 
-use crate::group::{Class, Group, slot_count};
+use crate::group::{Group, slot_count};
 use crate::hold::Hold;
 use crate::place::Place;
-use crate::refusal::Refusal;
+use flat_machine::{Class, Refusal};
 use crate::shape::Shape;
 use crate::stored::StoredUnit;
 use map_join::{BlockMap, MapRefusal, Record};

@@ -2,9 +2,9 @@
 ghost use Rattle.std.specs.Prelude.{◌≡◌, ℕ, ◌<◌, MatchResult, IfOk, IfErr, true, Some, None};
 ghost use Rattle.map_join.specs.declared.records.Record.{Record};
 ghost use Rattle.map_join.specs.Record.{record_at};
-ghost use Rattle.step_core.specs.Steps as say;
-ghost use Rattle.step_core.specs.Flat.{Flat, Stored, Worker};
-ghost use Rattle.step_core.specs.Cases.{CopyCase};
+ghost use Rattle.flat_machine.specs.Steps as say;
+ghost use Rattle.flat_machine.specs.Flat.{Flat, Stored, Worker};
+ghost use Rattle.flat_machine.specs.Cases.{CopyCase};
 ghost use Rattle.step_core.specs.Changes.{copy_view, copy_reason, MayRefuse};
 ghost use Rattle.step_core.specs.Views.{key_at, unit_at, IsWhole};
 ghost use Rattle.step_core.specs.Represents.{ShowsArray};
@@ -13,7 +13,7 @@ use crate::array::Array;
 use crate::fill::put_unit;
 use crate::hold::{Hold, Ticket};
 use crate::place::{Place, put_in};
-use crate::refusal::Refusal;
+use flat_machine::Refusal;
 use map_join::Record;
 use std::alloc::Global;
 

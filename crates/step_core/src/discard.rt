@@ -1,15 +1,15 @@
 // A ticket that is given up.
 ghost use Rattle.std.specs.Prelude.{◌≡◌, ◌≢◌, ℕ, MatchResult, IfOk, IfErr, true, None};
-ghost use Rattle.step_core.specs.Steps as say;
-ghost use Rattle.step_core.specs.Flat.{Flat, Ticket as ticket_of};
-ghost use Rattle.step_core.specs.Cases.{DiscardCase};
+ghost use Rattle.flat_machine.specs.Steps as say;
+ghost use Rattle.flat_machine.specs.Flat.{Flat, Ticket as ticket_of};
+ghost use Rattle.flat_machine.specs.Cases.{DiscardCase};
 ghost use Rattle.step_core.specs.Changes.{discard_view};
 ghost use Rattle.step_core.specs.Represents.{ShowsArray};
 
 use crate::array::Array;
 use crate::hold::{Hold, Ticket};
 use crate::place::take_waiting;
-use crate::refusal::Refusal;
+use flat_machine::Refusal;
 
 impl<C: Hold> Array<C> {
     /// Gives up a ticket: the claim of its slot comes back. Refused only where nothing waits there.

@@ -1,17 +1,16 @@
 // A fresh payload into a slot that a worker holds.
 ghost use Rattle.std.specs.Prelude.{◌≡◌, ℕ, ◌<◌, List, length, vec_len, slice_set, MatchResult, IfOk, IfErr, true, Some, None};
-ghost use Rattle.step_core.specs.Steps as say;
-ghost use Rattle.step_core.specs.Flat.{Flat, Worker};
-ghost use Rattle.step_core.specs.Cases.{FillCase};
+ghost use Rattle.flat_machine.specs.Steps as say;
+ghost use Rattle.flat_machine.specs.Flat.{Flat, Worker};
+ghost use Rattle.flat_machine.specs.Cases.{FillCase};
 ghost use Rattle.step_core.specs.Changes.{fill_view, fill_reason, MayRefuse};
 ghost use Rattle.step_core.specs.Kept.{units_of};
 ghost use Rattle.step_core.specs.Represents.{ShowsArray};
 
 use crate::array::Array;
-use crate::group::Class;
 use crate::hold::{Hold, Ticket};
 use crate::place::{Place, put_in};
-use crate::refusal::Refusal;
+use flat_machine::{Class, Refusal};
 use crate::stored::StoredUnit;
 use std::alloc::Global;
 

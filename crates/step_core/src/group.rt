@@ -1,20 +1,8 @@
-// Groups: a class and members. Their slots are numbered `128 * group + index`.
+// Made groups: a class and members. Their slots are numbered `128 * group + index`.
 ghost use Rattle.std.specs.Prelude.{◌≡◌, ℕ, ◌≤◌, ◌<◌, length};
-ghost use Rattle.step_core.specs.Groups.{slot_count};
+ghost use Rattle.flat_machine.specs.Groups.{slot_count};
 
-/// How a group keeps a slot: in two copies, or once beside the parity of its row.
-#[derive(Clone, Copy, Debug, PartialEq, Eq)]
-pub enum Class {
-    Mirrored,
-    Parity,
-}
-
-/// A group's part on one drive: the drive's number, and the extent's on that drive.
-#[derive(Clone, Copy, Debug, PartialEq, Eq)]
-pub struct Member {
-    pub drive: u8,
-    pub extent: u16,
-}
+use flat_machine::{Class, Member};
 
 /// A made group: its class, and its members in the order in which they were given.
 #[derive(Debug, Drop)]

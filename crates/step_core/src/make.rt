@@ -1,9 +1,9 @@
 // A group is made.
 ghost use Rattle.std.specs.Prelude.{◌≡◌, ◌↔◌, ℕ, ◌+◌, ◌<◌, ◌≤◌, [], length, vec_len, replicate, slice_index_or, slice_set, All, Any, Contains, IsTrue, IsNone, IsSomeAnd, IfSome, MatchResult, IfOk, OnOk, OnErr, Some, None};
-ghost use Rattle.step_core.specs.Groups.{AreMembers, AreApart, AreUnowned, HaveCommon, IsLowestFree, IsFull};
-ghost use Rattle.step_core.specs.Steps as say;
-ghost use Rattle.step_core.specs.Flat.{Flat};
-ghost use Rattle.step_core.specs.Cases.{MakeCase};
+ghost use Rattle.flat_machine.specs.Groups.{AreMembers, AreApart, AreUnowned, HaveCommon, IsLowestFree, IsFull};
+ghost use Rattle.flat_machine.specs.Steps as say;
+ghost use Rattle.flat_machine.specs.Flat.{Flat};
+ghost use Rattle.flat_machine.specs.Cases.{MakeCase};
 ghost use Rattle.step_core.specs.Views.{group_at, IsWhole};
 ghost use Rattle.step_core.specs.Kept.{units_of, groups_of, stored_of, made_of};
 ghost use Rattle.step_core.specs.Changes.{MayRefuse};
@@ -11,9 +11,9 @@ ghost use Rattle.step_core.specs.Making.{IsMakeReason, Entered, IsBlankUnit, Are
 ghost use Rattle.step_core.specs.Represents.{ShowsArray};
 
 use crate::array::{Array, SLOTS_OF_A_GROUP};
-use crate::group::{Class, Group, Member, slot_count};
+use crate::group::{Group, slot_count};
 use crate::hold::Hold;
-use crate::refusal::Refusal;
+use flat_machine::{Class, Member, Refusal};
 use crate::stored::StoredUnit;
 use std::alloc::{AllocError, Global};
 

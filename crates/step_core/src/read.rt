@@ -1,17 +1,17 @@
 // What a block holds.
 ghost use Rattle.std.specs.Prelude.{◌≡◌, ℕ, List, ◌<◌, ◌≤◌, IfOk, IfErr, OnErr, MatchResult, is_some, true, Some};
 ghost use Rattle.map_join.specs.Record.{key_of, record_at};
-ghost use Rattle.step_core.specs.Steps as say;
-ghost use Rattle.step_core.specs.Flat.{Flat, Write, Stored, last_write};
+ghost use Rattle.flat_machine.specs.Steps as say;
+ghost use Rattle.flat_machine.specs.Flat.{Flat, Write, Stored, last_write};
 ghost use Rattle.step_core.specs.Views.{key_at, unit_at, IsWhole};
-ghost use Rattle.step_core.specs.Cases.{found_of, IsSeen, IsAhead, ReadAtCase};
+ghost use Rattle.flat_machine.specs.Cases.{found_of, IsSeen, IsAhead, ReadAtCase};
 ghost use Rattle.step_core.specs.Changes.{MayRefuse};
 ghost use Rattle.step_core.specs.Told.{version_of, seen_of};
 ghost use Rattle.step_core.specs.Represents.{ShowsArray};
 
 use crate::array::Array;
 use crate::hold::Hold;
-use crate::refusal::Refusal;
+use flat_machine::Refusal;
 use map_join::Record;
 use std::alloc::{AllocError, Global};
 

@@ -1,16 +1,16 @@
 // What is learned of a record that may be stale.
 ghost use Rattle.std.specs.Prelude.{◌≡◌, ◌<◌, MatchResult};
-ghost use Rattle.step_core.specs.Steps as say;
-ghost use Rattle.step_core.specs.Steps.{Seen};
-ghost use Rattle.step_core.specs.Flat.{Flat};
-ghost use Rattle.step_core.specs.Cases.{ReadAtCase, IsLearned};
+ghost use Rattle.flat_machine.specs.Steps as say;
+ghost use Rattle.flat_machine.specs.Steps.{Seen};
+ghost use Rattle.flat_machine.specs.Flat.{Flat};
+ghost use Rattle.flat_machine.specs.Cases.{ReadAtCase, IsLearned};
 ghost use Rattle.step_core.specs.Changes.{MayRefuse};
 ghost use Rattle.step_core.specs.Represents.{ShowsArray};
 
 use crate::array::Array;
 use crate::hold::Hold;
 use crate::read::At;
-use crate::refusal::Refusal;
+use flat_machine::Refusal;
 use map_join::Record;
 use std::alloc::Global;
 use std::marker::Model;

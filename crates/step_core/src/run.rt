@@ -1,7 +1,7 @@
 // Runs of a world over a list of steps.
 ghost use Rattle.std.specs.Prelude.{◌≡◌, ◌⊎◌, ◌<◌, length, take, map, slice_get, All, MatchResult, IsTrue, ◌↔◌, IfOk, OnErr, Some};
-ghost use Rattle.step_core.specs.Flat.{Flat};
-ghost use Rattle.step_core.specs.Cases.{Case, Runs, IsWanted};
+ghost use Rattle.flat_machine.specs.Flat.{Flat};
+ghost use Rattle.flat_machine.specs.Cases.{Case, Runs, IsWanted};
 ghost use Rattle.step_core.specs.Told.{flat_answer, flat_step, FitsStep};
 ghost use Rattle.step_core.specs.declared.step.Step.{Step};
 ghost use Rattle.step_core.specs.Views.{SameSizes};

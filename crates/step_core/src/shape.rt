@@ -1,6 +1,7 @@
 // The sizes of an array, each within its limit.
 ghost use Rattle.std.specs.Prelude.{◌≡◌, ℕ, ◌≤◌, ◌%◌, IfOk, IfErr};
-ghost use Rattle.step_core.specs.Sizes.{Sizes, AreSizes, IsFirstOut};
+ghost use Rattle.flat_machine.specs.Sizes.{Sizes, AreSizes};
+ghost use Rattle.step_core.specs.Shapes.{IsFirstOut};
 
 use std::marker::Model;
 
@@ -15,7 +16,7 @@ pub struct Shape {
 }
 
 impl Model for Shape {
-    ghost use Rattle.step_core.specs.Sizes.{Sizes, AreSizes};
+    ghost use Rattle.flat_machine.specs.Sizes.{Sizes, AreSizes};
 
     ghost Value = { Sizes };
 

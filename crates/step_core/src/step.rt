@@ -1,7 +1,7 @@
 // Steps of a world, and their answers.
-use crate::group::{Class, Member};
+use flat_machine::{Class, Member};
 use crate::read::At;
-use crate::refusal::Refusal;
+use flat_machine::Refusal;
 use map_join::Record;
 
 /// A step. Workers are numbered from 0 to 7.

@@ -1,20 +1,20 @@
 // An array with eight workers, who hold plain claims.
 ghost use Rattle.std.specs.Prelude.{◌≡◌, ℕ, ◌<◌, ◌≤◌, List, length, IfOk, IfErr, OnErr, Some};
 ghost use Rattle.map_join.specs.declared.records.Record.{Record};
-ghost use Rattle.step_core.specs.Steps as say;
-ghost use Rattle.step_core.specs.Steps.{Version};
-ghost use Rattle.step_core.specs.Flat.{Flat, new_flat};
-ghost use Rattle.step_core.specs.Cases.{Case};
+ghost use Rattle.flat_machine.specs.Steps as say;
+ghost use Rattle.flat_machine.specs.Steps.{Version};
+ghost use Rattle.flat_machine.specs.Flat.{Flat, new_flat};
+ghost use Rattle.flat_machine.specs.Cases.{Case};
 ghost use Rattle.step_core.specs.Told.{flat_answer};
 ghost use Rattle.step_core.specs.Views.{kept_at, hand_at, has_no_holder, SameSizes};
 ghost use Rattle.step_core.specs.Changes.{passed_hands};
 ghost use Rattle.step_core.specs.Represents.{Represents, is_claim, is_ticket};
 
 use crate::array::{Array, SLOTS};
-use crate::group::{Class, Member};
+use flat_machine::{Class, Member};
 use crate::hand::Hand;
 use crate::hold::{Plain, Ticket};
-use crate::refusal::Refusal;
+use flat_machine::Refusal;
 use crate::shape::Shape;
 use crate::step::Answer;
 use map_join::Record;

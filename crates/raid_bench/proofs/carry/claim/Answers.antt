@@ -1,4 +1,4 @@
-use Rattle.step_core.specs.Steps as s
+use Rattle.flat_machine.specs.Steps as s
 use Rattle.raid_bench.specs.Order as o
 use Rattle.raid_bench.proofs.Carried.{told_step}
 use Rattle.raid_bench.proofs.carry.claim.Goals as goal

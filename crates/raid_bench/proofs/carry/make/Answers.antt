@@ -1,5 +1,5 @@
 use Rattle.std.proofs.Common.{◌∙◌}
-use Rattle.step_core.specs.Steps as s
+use Rattle.flat_machine.specs.Steps as s
 use Rattle.raid_bench.specs.Order as o
 use Rattle.raid_bench.specs.Meaning.{members_named}
 use Rattle.raid_bench.proofs.Carried.{told_step}

@@ -2,7 +2,7 @@ use Rattle.std.proofs.Common.{sym, ap, ◌∙◌, rules, get_or, Some}
 use Rattle.std.proofs.Math.ListN.{set}
 use Rattle.std.specs.Option.{option_map}
 use Rattle.step_core.specs.Kept.{stored_of, units_of}
-use Rattle.step_core.specs.Cases.{stamped}
+use Rattle.flat_machine.specs.Cases.{stamped}
 use Rattle.step_core.proofs.Tables.{units_set, unit_there}
 use Rattle.step_core.proofs.commit.stamp.Goals as goal
 

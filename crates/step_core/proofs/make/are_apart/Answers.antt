@@ -1,6 +1,6 @@
 use Rattle.step_core.proofs.Tables.{get_or_any}
 use Rattle.std.proofs.Common.{ap, refl}
-use Rattle.step_core.specs.declared.group.Member.{Member}
+use Rattle.flat_machine.specs.declared.group.Member.{Member}
 use Rattle.step_core.proofs.Makes.{apart_not, apart_more}
 use Rattle.step_core.proofs.make.are_apart.Goals as goal
 

@@ -1,5 +1,5 @@
 use Rattle.std.proofs.Common.{◌≢◌, ℕ, ◌<◌, get_or}
-use Rattle.step_core.specs.declared.group.Member.{Member}
+use Rattle.flat_machine.specs.declared.group.Member.{Member}
 use Rattle.step_core.proofs.make.are_apart.Given as goal
 
 abbrev pub invariant-loop-i : goal.invariant-loop-i

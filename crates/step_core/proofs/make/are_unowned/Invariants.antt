@@ -1,5 +1,5 @@
 use Rattle.std.proofs.Common.{◌≡◌, ℕ, ◌<◌, get_or, Some, None}
-use Rattle.step_core.specs.Groups.{Made, HaveCommon}
+use Rattle.flat_machine.specs.Groups.{Made, HaveCommon}
 use Rattle.step_core.specs.Kept.{groups_of}
 use Rattle.step_core.proofs.make.are_unowned.Given as goal
 

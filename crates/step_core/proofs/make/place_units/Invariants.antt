@@ -1,5 +1,5 @@
 use Rattle.std.proofs.Common.{◌≡◌, ◌+◌, All, vec_len}
-use Rattle.step_core.specs.Flat.{Stored}
+use Rattle.flat_machine.specs.Flat.{Stored}
 use Rattle.step_core.specs.Kept.{stored_of}
 use Rattle.step_core.specs.Making.{ArePlaced}
 use Rattle.step_core.proofs.make.place_units.Given as goal

@@ -1,6 +1,6 @@
 use Rattle.std.proofs.Common.{length, rules, subst, sym, ap, ◌∙◌, refl, take, map, inl, inr, Some}
 use Rattle.std.proofs.lemmas.Option.{slice_get-get_or}
-use Rattle.step_core.specs.Cases.{Runs}
+use Rattle.flat_machine.specs.Cases.{Runs}
 use Rattle.step_core.specs.Views.{WorldView}
 use Rattle.step_core.specs.Represents.{Represents}
 use Rattle.step_core.specs.Told.{flat_step, flat_answer}

@@ -1,6 +1,6 @@
 use Rattle.std.proofs.Common.{◌≡◌, ◌≤◌, take, map, length, vec_len, vec_capacity}
-use Rattle.step_core.specs.Flat.{Flat}
-use Rattle.step_core.specs.Cases.{Runs}
+use Rattle.flat_machine.specs.Flat.{Flat}
+use Rattle.flat_machine.specs.Cases.{Runs}
 use Rattle.step_core.specs.Told.{flat_answer, flat_step}
 use Rattle.step_core.specs.Represents.{Represents}
 use Rattle.step_core.proofs.run.run_steps.Given as goal

@@ -1,10 +1,10 @@
 use Rattle.std.proofs.Common.{◌≡◌, rules, sym, ap, ◌∙◌, subst, get_or, true, None}
 use Rattle.map_join.specs.Record.{record_at}
 use Rattle.map_join.specs.declared.records.Record.{Record}
-use Rattle.step_core.specs.Flat.{Flat}
+use Rattle.flat_machine.specs.Flat.{Flat}
 use Rattle.step_core.specs.Represents.{ShowsArray}
-use Rattle.step_core.specs.Steps.{Committed}
-use Rattle.step_core.specs.Cases.{CommitCase}
+use Rattle.flat_machine.specs.Steps.{Committed}
+use Rattle.flat_machine.specs.Cases.{CommitCase}
 use Rattle.step_core.specs.Changes.{commit_view, commit_record, commit_reason}
 use Rattle.step_core.specs.Views.{ArrayView, IsWhole, Nothing, is_waiting, kept_at, key_at}
 use Rattle.step_core.proofs.Fills.{as_whole, as_shown}

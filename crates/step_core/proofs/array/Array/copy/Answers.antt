@@ -1,7 +1,7 @@
 use Rattle.std.proofs.Common.{◌≡◌, rules, ap, ◌∙◌, subst, sym}
-use Rattle.step_core.specs.Flat.{Worker}
-use Rattle.step_core.specs.Steps.{Copied}
-use Rattle.step_core.specs.Cases.{CopyCase}
+use Rattle.flat_machine.specs.Flat.{Worker}
+use Rattle.flat_machine.specs.Steps.{Copied}
+use Rattle.flat_machine.specs.Cases.{CopyCase}
 use Rattle.step_core.specs.Changes.{copy_view}
 use Rattle.step_core.specs.Views.{IsWhole}
 use Rattle.step_core.proofs.Finds.{read_there}

@@ -1,6 +1,6 @@
 use Rattle.std.proofs.Common.{rules, subst}
-use Rattle.step_core.specs.Steps.{Discarded}
-use Rattle.step_core.specs.Cases.{DiscardCase}
+use Rattle.flat_machine.specs.Steps.{Discarded}
+use Rattle.flat_machine.specs.Cases.{DiscardCase}
 use Rattle.step_core.specs.Changes.{discard_view}
 use Rattle.step_core.specs.Views.{IsWhole}
 use Rattle.step_core.proofs.Fills.{as_whole, as_shown}

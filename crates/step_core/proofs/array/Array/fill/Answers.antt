@@ -1,7 +1,7 @@
 use Rattle.std.proofs.Common.{◌≡◌, rules, ap, ◌∙◌, subst}
-use Rattle.step_core.specs.Flat.{Worker}
-use Rattle.step_core.specs.Steps.{Filled}
-use Rattle.step_core.specs.Cases.{FillCase}
+use Rattle.flat_machine.specs.Flat.{Worker}
+use Rattle.flat_machine.specs.Steps.{Filled}
+use Rattle.flat_machine.specs.Cases.{FillCase}
 use Rattle.step_core.specs.Changes.{fill_view}
 use Rattle.step_core.specs.Views.{IsWhole}
 use Rattle.step_core.proofs.Fills.{fill_done, fill_case, fill_refused, fill_whole, as_whole, as_shown}

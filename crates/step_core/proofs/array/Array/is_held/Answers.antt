@@ -1,5 +1,5 @@
 use Rattle.std.proofs.Common.{sym, subst, IsTrue, ◌↔◌}
-use Rattle.step_core.specs.Flat.{IsKept}
+use Rattle.flat_machine.specs.Flat.{IsKept}
 use Rattle.step_core.proofs.Kepts.{kept_iff}
 use Rattle.step_core.proofs.array.Array.is_held.Goals as goal
 

@@ -1,5 +1,5 @@
 use Rattle.std.proofs.Common.{rules, sym, subst, slice_index_or, None}
-use Rattle.step_core.specs.Groups.{AreUnowned}
+use Rattle.flat_machine.specs.Groups.{AreUnowned}
 use Rattle.step_core.specs.Views.{ArrayView, group_at}
 use Rattle.step_core.specs.Kept.{groups_of}
 use Rattle.step_core.proofs.array.Array.make_fault.Goals as goal

@@ -1,5 +1,5 @@
 use Rattle.std.proofs.Common.{sym, subst}
-use Rattle.step_core.specs.Flat.{IsNewest}
+use Rattle.flat_machine.specs.Flat.{IsNewest}
 use Rattle.step_core.proofs.Newest.{newest_told}
 use Rattle.step_core.proofs.array.Array.newest.Goals as goal
 

@@ -1,6 +1,6 @@
 use Rattle.std.proofs.Common.{sym, subst, ◌≡◌, ◌∙◌, Some}
-use Rattle.step_core.specs.Flat.{last_write}
-use Rattle.step_core.specs.Cases.{found_of}
+use Rattle.flat_machine.specs.Flat.{last_write}
+use Rattle.flat_machine.specs.Cases.{found_of}
 use Rattle.step_core.proofs.Finds.{read_none, read_some, read_there}
 use Rattle.step_core.proofs.array.Array.read.Goals as goal
 

@@ -1,8 +1,8 @@
 use Rattle.std.proofs.Common.{sym, ap, ◌∙◌, subst, Some}
-use Rattle.step_core.specs.Flat.{IsNewest}
-use Rattle.step_core.specs.Cases.{IsSeen}
+use Rattle.flat_machine.specs.Flat.{IsNewest}
+use Rattle.flat_machine.specs.Cases.{IsSeen}
 use Rattle.step_core.specs.Views.{unit_at}
-use Rattle.step_core.specs.Steps.{Data, Stale}
+use Rattle.flat_machine.specs.Steps.{Data, Stale}
 use Rattle.step_core.specs.Told.{Lesson, seen_of}
 use Rattle.step_core.proofs.Finds.{newest_write, read_there}
 use Rattle.step_core.proofs.Newest.{newest_is}

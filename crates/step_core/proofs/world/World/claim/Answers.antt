@@ -1,7 +1,7 @@
 use Rattle.std.proofs.Common.{rules}
 use Rattle.step_core.specs.declared.hand.Hand.TheVariants.{Holds}
-use Rattle.step_core.specs.Steps.{Claimed}
-use Rattle.step_core.specs.Cases.{ClaimCase}
+use Rattle.flat_machine.specs.Steps.{Claimed}
+use Rattle.flat_machine.specs.Cases.{ClaimCase}
 use Rattle.step_core.proofs.Hands.{claim_case, taken_case, with_hand, as_world}
 use Rattle.step_core.proofs.world.World.claim.Goals as goal
 

@@ -1,8 +1,8 @@
 use Rattle.std.proofs.Common.{rules, subst, sym, ap, ◌≡◌, ◌∙◌, true}
 use Rattle.map_join.specs.Record.{record_at}
-use Rattle.step_core.specs.Flat.{Ticket}
-use Rattle.step_core.specs.Steps.{Committed}
-use Rattle.step_core.specs.Cases.{CommitCase}
+use Rattle.flat_machine.specs.Flat.{Ticket}
+use Rattle.flat_machine.specs.Steps.{Committed}
+use Rattle.flat_machine.specs.Cases.{CommitCase}
 use Rattle.step_core.specs.Changes.{passed_hands}
 use Rattle.step_core.specs.Views.{ArrayView, WorldView, IsWhole, hand_at, key_at}
 use Rattle.step_core.specs.Represents.{ShowsArray, is_ticket}

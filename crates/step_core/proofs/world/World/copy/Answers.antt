@@ -1,8 +1,8 @@
 use Rattle.std.proofs.Common.{rules, subst, sym, ap, ◌≡◌, ◌∙◌, true}
 use Rattle.std.proofs.Math.ListN.{set}
 use Rattle.step_core.specs.declared.hand.Hand.TheVariants.{Waits}
-use Rattle.step_core.specs.Steps.{Copied}
-use Rattle.step_core.specs.Cases.{CopyCase}
+use Rattle.flat_machine.specs.Steps.{Copied}
+use Rattle.flat_machine.specs.Cases.{CopyCase}
 use Rattle.step_core.specs.Changes.{copy_view}
 use Rattle.step_core.specs.Views.{ArrayView, WorldView, hand_at}
 use Rattle.step_core.specs.Represents.{ShowsArray, is_claim}

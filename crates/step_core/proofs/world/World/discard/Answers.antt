@@ -1,9 +1,9 @@
 use Rattle.std.proofs.Common.{rules, subst, sym, ap, ◌≡◌, ◌∙◌, true}
 use Rattle.std.proofs.Math.ListN.{set}
 use Rattle.step_core.specs.declared.hand.Hand.TheVariants.{Holds}
-use Rattle.step_core.specs.Flat.{Ticket}
-use Rattle.step_core.specs.Steps.{Discarded}
-use Rattle.step_core.specs.Cases.{DiscardCase}
+use Rattle.flat_machine.specs.Flat.{Ticket}
+use Rattle.flat_machine.specs.Steps.{Discarded}
+use Rattle.flat_machine.specs.Cases.{DiscardCase}
 use Rattle.step_core.specs.Changes.{discard_view}
 use Rattle.step_core.specs.Views.{ArrayView, WorldView, hand_at}
 use Rattle.step_core.specs.Represents.{ShowsArray, is_ticket}

@@ -1,8 +1,8 @@
 use Rattle.std.proofs.Common.{rules, subst, sym, ap, ◌≡◌, ◌∙◌, true}
 use Rattle.std.proofs.Math.ListN.{set}
 use Rattle.step_core.specs.declared.hand.Hand.TheVariants.{Waits}
-use Rattle.step_core.specs.Steps.{Filled}
-use Rattle.step_core.specs.Cases.{FillCase}
+use Rattle.flat_machine.specs.Steps.{Filled}
+use Rattle.flat_machine.specs.Cases.{FillCase}
 use Rattle.step_core.specs.Views.{ArrayView, WorldView, hand_at}
 use Rattle.step_core.specs.Represents.{ShowsArray, is_claim}
 use Rattle.step_core.proofs.Hands.{as_world}

@@ -1,6 +1,6 @@
 use Rattle.std.proofs.Common.{rules, ap, subst, sym}
-use Rattle.step_core.specs.Steps.{MadeGroup}
-use Rattle.step_core.specs.Cases.{MakeCase}
+use Rattle.flat_machine.specs.Steps.{MadeGroup}
+use Rattle.flat_machine.specs.Cases.{MakeCase}
 use Rattle.step_core.specs.Views.{ArrayView, WorldView}
 use Rattle.step_core.specs.Represents.{ShowsArray}
 use Rattle.step_core.proofs.Hands.{as_world}

@@ -1,5 +1,5 @@
 use Rattle.std.proofs.Common.{refl, sym, ap, subst}
-use Rattle.step_core.specs.Cases.{found_of}
+use Rattle.flat_machine.specs.Cases.{found_of}
 use Rattle.step_core.specs.Views.{ArrayView, WorldView}
 use Rattle.step_core.specs.Represents.{ShowsArray}
 use Rattle.step_core.proofs.world.World.read.Goals as goal

@@ -1,7 +1,7 @@
 use Rattle.std.proofs.Common.{rules}
 use Rattle.step_core.specs.declared.hand.Hand.TheVariants.{Empty}
-use Rattle.step_core.specs.Steps.{Released}
-use Rattle.step_core.specs.Cases.{ReleaseCase}
+use Rattle.flat_machine.specs.Steps.{Released}
+use Rattle.flat_machine.specs.Cases.{ReleaseCase}
 use Rattle.step_core.proofs.Hands.{release_case, with_hand, as_world}
 use Rattle.step_core.proofs.world.World.release.Goals as goal
 

@@ -1,10 +1,10 @@
 use Rattle.std.proofs.Common.{List, ℕ, Result, IfOk, subst, sym, OnErr, Some}
 use Rattle.std.specs.declared.alloc.AllocError.{AllocError}
 use Rattle.step_core.specs.declared.step.Answer.{Answer}
-use Rattle.step_core.specs.Flat.{Flat}
-use Rattle.step_core.specs.Steps.{Data, Filled, Copied, Committed, Found, FoundAt, MadeGroup}
-use Rattle.step_core.specs.Steps.{FlatStep, Fill}
-use Rattle.step_core.specs.Cases.{Case, FillCase, MakeCase, IsWanted}
+use Rattle.flat_machine.specs.Flat.{Flat}
+use Rattle.flat_machine.specs.Steps.{Data, Filled, Copied, Committed, Found, FoundAt, MadeGroup}
+use Rattle.flat_machine.specs.Steps.{FlatStep, Fill}
+use Rattle.flat_machine.specs.Cases.{Case, FillCase, MakeCase, IsWanted}
 use Rattle.step_core.specs.Told.{flat_step, flat_answer}
 use Rattle.step_core.specs.Views.{WorldView}
 use Rattle.step_core.specs.Represents.{Represents}

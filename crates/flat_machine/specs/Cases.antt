@@ -2,14 +2,14 @@
 -- case; what never comes is impossible.
 use Rattle.std.specs.Prelude.{◌≡◌, ◌≢◌, ◌⊎◌, ℕ, ◌+◌, ◌/◌, ◌%◌, ◌<◌, ◌≤◌, ◌==◌, ◌&&◌, not, nat_lt, Bool, true, false, if◌then◌else◌, List, [], ◌∷◌, ◌++◌, length, replicate, Option, Some, None}
 use Rattle.map_join.specs.declared.records.Record.{Record}
-use Rattle.step_core.specs.declared.group.Class.{Class}
-use Rattle.step_core.specs.declared.group.Class.TheVariants.{Mirrored, Parity}
-use Rattle.step_core.specs.declared.group.Member.{Member}
-use Rattle.step_core.specs.declared.refusal.Refusal.TheVariants.{NoGroup, WrongClass, InUse, NoTicket, Outrun, VersionSpent, HopsSpent, Unwritten, Ahead, ExtentTaken, SameDrive, LogFull, Full, BadMember}
-use Rattle.step_core.specs.Groups.{slot_count, AreMembers, AreApart, AreUnowned, IsLowestFree, IsFull}
-use Rattle.step_core.specs.Flat.{Flat, Write, Holder, Worker, Ticket, Block, Shut, Content, Fresh, Moved, Stored, put, with_pair, without_pair, turned, same_holder, IsFree, IsKept, class_of, last_write, IsNewest}
+use Rattle.flat_machine.specs.declared.group.Class.{Class}
+use Rattle.flat_machine.specs.declared.group.Class.TheVariants.{Mirrored, Parity}
+use Rattle.flat_machine.specs.declared.group.Member.{Member}
+use Rattle.flat_machine.specs.declared.refusal.Refusal.TheVariants.{NoGroup, WrongClass, InUse, NoTicket, Outrun, VersionSpent, HopsSpent, Unwritten, Ahead, ExtentTaken, SameDrive, LogFull, Full, BadMember}
+use Rattle.flat_machine.specs.Groups.{slot_count, AreMembers, AreApart, AreUnowned, IsLowestFree, IsFull}
+use Rattle.flat_machine.specs.Flat.{Flat, Write, Holder, Worker, Ticket, Block, Shut, Content, Fresh, Moved, Stored, put, with_pair, without_pair, turned, same_holder, IsFree, IsKept, class_of, last_write, IsNewest}
 use Rattle.map_join.specs.Record.{key_of}
-use Rattle.step_core.specs.Steps.{FlatStep, Claim, Release, Fill, Copy, Commit, Discard, Read, ReadAt, Make, Version, Seen, Data, Stale, FlatAnswer, Claimed, Taken, Released, NotHeld, Filled, Copied, Committed, Discarded, Found, FoundAt, MadeGroup, Refused}
+use Rattle.flat_machine.specs.Steps.{FlatStep, Claim, Release, Fill, Copy, Commit, Discard, Read, ReadAt, Make, Version, Seen, Data, Stale, FlatAnswer, Claimed, Taken, Released, NotHeld, Filled, Copied, Committed, Discarded, Found, FoundAt, MadeGroup, Refused}
 
 -- G is the state x
 abbrev pub Leaves : Flat → Flat → Type 0

@@ -1,9 +1,9 @@
 -- The steps of the flat machine, and their answers, as plain data.
 use Rattle.std.specs.Prelude.{ℕ, List, Option}
 use Rattle.map_join.specs.declared.records.Record.{Record}
-use Rattle.step_core.specs.declared.group.Class.{Class}
-use Rattle.step_core.specs.declared.group.Member.{Member}
-use Rattle.step_core.specs.declared.refusal.Refusal.{Refusal}
+use Rattle.flat_machine.specs.declared.group.Class.{Class}
+use Rattle.flat_machine.specs.declared.group.Member.{Member}
+use Rattle.flat_machine.specs.declared.refusal.Refusal.{Refusal}
 
 -- a step: worker and slot come first, then what goes in
 pub data FlatStep : Type 0 where

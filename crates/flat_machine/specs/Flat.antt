@@ -3,9 +3,9 @@
 use Rattle.std.specs.Prelude.{◌≡◌, ℕ, ◌≤◌, ◌==◌, ◌||◌, ◌&&◌, not, Bool, true, false, if◌then◌else◌, List, [], ◌∷◌, Contains, Option, Some, None}
 use Rattle.map_join.specs.declared.records.Record.{Record}
 use Rattle.map_join.specs.Record.{key_of}
-use Rattle.step_core.specs.declared.group.Class.{Class}
-use Rattle.step_core.specs.Sizes.{Sizes}
-use Rattle.step_core.specs.Groups.{Made, class_at}
+use Rattle.flat_machine.specs.declared.group.Class.{Class}
+use Rattle.flat_machine.specs.Sizes.{Sizes}
+use Rattle.flat_machine.specs.Groups.{Made, class_at}
 
 -- an acknowledged write: a version of a block, and what it holds
 pub record Write : Type 0 where

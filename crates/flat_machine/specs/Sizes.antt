@@ -1,7 +1,5 @@
 -- The sizes that an array is made with.
 use Rattle.std.specs.Prelude.{◌≡◌, ℕ, ◌%◌, ◌<◌, ◌≤◌}
-use Rattle.step_core.specs.declared.shape.ShapeRefusal.{ShapeRefusal}
-use Rattle.step_core.specs.declared.shape.ShapeRefusal.TheVariants.{Range}
 
 -- extents of a drive, segments of an extent, bytes of a payload, and blocks
 pub record Sizes : Type 0 where
@@ -36,6 +34,3 @@ pub record IsFirst (z : Sizes) (n : ℕ) : Type 0 where
   pub extents_before : 1 < n → IsCount 512 z.extents
   pub segments_before : 2 < n → IsCount 8 z.segments
   pub payload_before : 3 < n → IsPayload z.payload
-
-abbrev pub IsFirstOut : Sizes → ShapeRefusal → Type 0
-IsFirstOut z (Range n) = IsFirst z n

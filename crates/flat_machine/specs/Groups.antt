@@ -1,8 +1,8 @@
 -- Groups of extents, and the slots that they have. Slot number = 128 * group + index.
 use Rattle.std.specs.Prelude.{◌≡◌, ◌≢◌, ℕ, ◌-◌, ◌*◌, ◌/◌, ◌%◌, ◌<◌, ◌≤◌, nat_lt, if◌then◌else◌, List, length, All, Any, AllPairs, Contains, Option, Some, None}
-use Rattle.step_core.specs.declared.group.Class.{Class}
-use Rattle.step_core.specs.declared.group.Class.TheVariants.{Mirrored, Parity}
-use Rattle.step_core.specs.declared.group.Member.{Member}
+use Rattle.flat_machine.specs.declared.group.Class.{Class}
+use Rattle.flat_machine.specs.declared.group.Class.TheVariants.{Mirrored, Parity}
+use Rattle.flat_machine.specs.declared.group.Member.{Member}
 
 -- a made group: its class, and its members in the order in which they were given
 pub record Made : Type 0 where

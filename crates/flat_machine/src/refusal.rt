@@ -1,6 +1,6 @@
 // Why the array refuses a call.
 ghost use Rattle.std.specs.Prelude.{◌≡◌};
-ghost use Rattle.step_core.specs.Numbers.{number_of};
+ghost use Rattle.flat_machine.specs.Numbers.{number_of};
 
 use map_join::Record;
 use thiserror::Error;

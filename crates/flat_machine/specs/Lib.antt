@@ -1,0 +1,6 @@
+pub mod Sizes
+pub mod Groups
+pub mod Flat
+pub mod Steps
+pub mod Cases
+pub mod Numbers
