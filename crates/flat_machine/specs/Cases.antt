@@ -7,7 +7,7 @@ use Rattle.flat_machine.specs.declared.group.Class.TheVariants.{Mirrored, Parity
 use Rattle.flat_machine.specs.declared.group.Member.{Member}
 use Rattle.flat_machine.specs.declared.refusal.Refusal.TheVariants.{NoGroup, WrongClass, InUse, NoTicket, Outrun, VersionSpent, HopsSpent, Unwritten, Ahead, ExtentTaken, SameDrive, LogFull, Full, BadMember}
 use Rattle.flat_machine.specs.Groups.{slot_count, AreMembers, AreApart, AreUnowned, IsLowestFree, IsFull}
-use Rattle.flat_machine.specs.Flat.{Flat, Write, Holder, Worker, Ticket, Block, Shut, Content, Fresh, Moved, Stored, put, with_pair, without_pair, turned, same_holder, IsFree, IsKept, class_of, last_write, IsNewest}
+use Rattle.flat_machine.specs.Flat.{Flat, Write, Holder, Worker, Ticket, Block, Shut, Content, Waiting, Fresh, Moved, content_of, Header, blank_header, record_in, header_for, Stored, content_in, waiting_unit, put, with_pair, without_pair, turned, same_holder, IsFree, IsKept, class_of, last_write, IsNewest}
 use Rattle.map_join.specs.Record.{key_of}
 use Rattle.flat_machine.specs.Steps.{FlatStep, Claim, Release, Fill, Copy, Commit, Discard, Read, ReadAt, Make, Version, Seen, Data, Stale, FlatAnswer, Claimed, Taken, Released, NotHeld, Filled, Copied, Committed, Discarded, Found, FoundAt, MadeGroup, Refused}
 
@@ -37,32 +37,33 @@ ReleaseCase F w s (Released t) G = (t ≡ s) × (F.held s (Worker w) ≡ true) �
 ReleaseCase F w s (NotHeld t) G = (t ≡ s) × (F.held s (Worker w) ≡ false) × (Leaves F G)
 ReleaseCase F w s _ G = ⊥
 
--- the state in which a worker's slot waits with a payload under a blank header
-abbrev pub ticketed : Flat → ℕ → ℕ → Content → List ℕ → Flat
-ticketed F w s content x = record F {
+-- the state in which a worker's slot waits, its content under a blank header
+abbrev pub ticketed : Flat → ℕ → ℕ → Waiting → Flat
+ticketed F w s waiting = record F {
   held = turned F.held s (Worker w) (Ticket w);
-  tickets = put F.tickets s (Some content);
-  units = put F.units s (Some (record { header = None; payload = x }));
+  tickets = put F.tickets s (Some waiting);
+  units = put F.units s (Some (waiting_unit F.sizes.payload (content_of waiting)));
 }
 
--- the state in which it waits with a fresh payload
-abbrev pub filled : Flat → ℕ → ℕ → List ℕ → Flat
-filled F w s x = ticketed F w s (Fresh x) x
+-- nothing that a fill tests before it takes memory speaks against it
+abbrev pub FillPasses : Flat → ℕ → ℕ → Type 0
+FillPasses F w s = (F.held s (Worker w) ≡ true) × (class_of F s ≡ Some Mirrored) × (IsKept F s → ⊥)
 
--- fill: a fresh payload into a mirrored slot that the worker holds
-abbrev pub FillCase : Flat → ℕ → ℕ → List ℕ → FlatAnswer → Flat → Type 0
+-- fill: a fresh content into a mirrored slot that the worker holds
+abbrev pub FillCase : Flat → ℕ → ℕ → Content → FlatAnswer → Flat → Type 0
 FillCase F w s x (NotHeld t) G = (t ≡ s) × (F.held s (Worker w) ≡ false) × (Leaves F G)
 FillCase F w s x (Refused NoGroup) G = (F.held s (Worker w) ≡ true) × (class_of F s ≡ None) × (Leaves F G)
 FillCase F w s x (Refused WrongClass) G = (F.held s (Worker w) ≡ true) × (class_of F s ≡ Some Parity) × (Leaves F G)
 FillCase F w s x (Refused InUse) G = (F.held s (Worker w) ≡ true) × (class_of F s ≡ Some Mirrored) × (IsKept F s) × (Leaves F G)
-FillCase F w s x (Filled t) G = (t ≡ s) × (F.held s (Worker w) ≡ true) × (class_of F s ≡ Some Mirrored) × (IsKept F s → ⊥) × (Leaves (filled F w s x) G)
+FillCase F w s x (Filled t) G = (t ≡ s) × (FillPasses F w s) × (Leaves (ticketed F w s (Fresh x)) G)
 FillCase F w s x _ G = ⊥
 
--- the state in which a worker's slot waits with a copy of the payload of a block's newest record
-abbrev pub copied : Flat → ℕ → ℕ → Record → List ℕ → Flat
-copied F w s r x = ticketed F w s (Moved r.block r.version r.hop x) x
+-- nothing that a copy of the record tests before it takes memory speaks against it
+abbrev pub CopyPasses : Flat → ℕ → ℕ → ℕ → Record → Type 0
+CopyPasses F w s b r =
+    (F.held s (Worker w) ≡ true) × (class_of F s ≢ None) × (IsKept F s → ⊥) × (IsNewest F.emitted b (Some r)) × (r.hop < last_hop)
 
--- copy: the payload of a block's last write into a slot that the worker holds, in a group of either class
+-- copy: the content of a block's last write into a slot that the worker holds, in a group of either class
 abbrev pub CopyCase : Flat → ℕ → ℕ → ℕ → FlatAnswer → Flat → Type 0
 CopyCase F w s b (NotHeld t) G = (t ≡ s) × (F.held s (Worker w) ≡ false) × (Leaves F G)
 CopyCase F w s b (Refused NoGroup) G = (F.held s (Worker w) ≡ true) × (class_of F s ≡ None) × (Leaves F G)
@@ -73,9 +74,8 @@ CopyCase F w s b (Refused HopsSpent) G =
     (F.held s (Worker w) ≡ true) × (class_of F s ≢ None) × (IsKept F s → ⊥)
     × ((r : Record) × (IsNewest F.emitted b (Some r)) × (last_hop ≤ r.hop)) × (Leaves F G)
 CopyCase F w s b (Copied t) G =
-    (t ≡ s) × (F.held s (Worker w) ≡ true) × (class_of F s ≢ None) × (IsKept F s → ⊥)
-    × ((r : Record) × (x : Write) × (IsNewest F.emitted b (Some r)) × (r.hop < last_hop) × (last_write F.writes b ≡ Some x)
-    × (Leaves (copied F w s r x.payload) G))
+    (t ≡ s) × ((r : Record) × (x : Write) × (CopyPasses F w s b r) × (last_write F.writes b ≡ Some x)
+    × (Leaves (ticketed F w s (Moved b r.version r.hop x.content)) G))
 CopyCase F w s b _ G = ⊥
 
 -- the version after the newest's, 1 where there is none
@@ -88,20 +88,20 @@ abbrev pub place_passed : (ℕ → Holder → Bool) → ℕ → ℕ → Option R
 place_passed held w b None = held
 place_passed held w b (Some old) = turned held old.place (Block b) (Worker w)
 
--- the unit with the record in its header
-abbrev pub stamped : Option Stored → Record → Option Stored
-stamped None r = None
-stamped (Some u) r = Some (record u { header = Some r })
+-- the unit with another header
+abbrev pub stamped : Option Stored → Header → Option Stored
+stamped None header = None
+stamped (Some u) header = Some (record u { header = header })
 
--- the state after a commit that emits the record r: the slot goes to the block, its unit is stamped, the ticket ends, and
--- the old place goes to the worker; `writes` are the acknowledged writes then
-abbrev pub committed : Flat → ℕ → ℕ → ℕ → Option Record → List Write → Record → Flat
-committed F w s b found writes r = record F {
+-- the state after a commit of a content that emits the record r: the slot goes to the block, its unit is stamped, the ticket
+-- ends, and the old place goes to the worker; `writes` are the acknowledged writes then
+abbrev pub committed : Flat → ℕ → ℕ → ℕ → Option Record → List Write → Content → Record → Flat
+committed F w s b found writes content r = record F {
   writes = writes;
   emitted = F.emitted ++ r ∷ [];
   held = place_passed (turned F.held s (Ticket w) (Block b)) w b found;
   tickets = put F.tickets s None;
-  units = put F.units s (stamped (F.units s) r);
+  units = put F.units s (stamped (F.units s) (header_for r content));
 }
 
 -- the newest record has the version and the hop that were copied
@@ -109,27 +109,27 @@ abbrev pub HasStamp : Option Record → ℕ → ℕ → Type 0
 HasStamp None v h = ⊥
 HasStamp (Some n) v h = (n.version ≡ v) × (n.hop ≡ h)
 
--- what waits can be committed to the block: a fresh payload to any, a copy to the block that it is of
-abbrev pub IsFor : Option Content → ℕ → Type 0
+-- what waits can be committed to the block: a fresh content to any, a copy to the block that it is of
+abbrev pub IsFor : Option Waiting → ℕ → Type 0
 IsFor None b = ⊥
 IsFor (Some (Fresh x)) b = Unit {0}
 IsFor (Some (Moved c v h x)) b = c ≡ b
 
--- commit of a ticket, given the newest record of the block: a fresh payload is its next version, and a copy the same
+-- commit of a ticket, given the newest record of the block: a fresh content is its next version, and a copy the same
 -- version one hop on, where nothing newer was emitted since
-abbrev pub CommitWith : Flat → ℕ → ℕ → ℕ → Option Record → Option Content → FlatAnswer → Flat → Type 0
+abbrev pub CommitWith : Flat → ℕ → ℕ → ℕ → Option Record → Option Waiting → FlatAnswer → Flat → Type 0
 CommitWith F w s b found (Some (Fresh x)) (Refused VersionSpent) G = (next_version found ≡ last_version + 1) × (Leaves F G)
 CommitWith F w s b found (Some (Fresh x)) (Refused LogFull) G = (next_version found ≤ last_version) × (longest_log ≤ length F.emitted) × (Leaves F G)
 CommitWith F w s b found (Some (Fresh x)) (Committed r) G =
     (next_version found ≤ last_version) × (length F.emitted < longest_log)
     × (r ≡ record { block = b; version = next_version found; hop = 0; place = s })
-    × (Leaves (committed F w s b found (F.writes ++ record { block = b; version = next_version found; payload = x } ∷ []) r) G)
+    × (Leaves (committed F w s b found (F.writes ++ record { block = b; version = next_version found; content = x } ∷ []) x r) G)
 CommitWith F w s b found (Some (Moved c v h x)) (Refused (Outrun n)) G = (found ≡ Some n) × (HasStamp found v h → ⊥) × (Leaves F G)
 CommitWith F w s b found (Some (Moved c v h x)) (Refused LogFull) G = (HasStamp found v h) × (longest_log ≤ length F.emitted) × (Leaves F G)
 CommitWith F w s b found (Some (Moved c v h x)) (Committed r) G =
     (HasStamp found v h) × (length F.emitted < longest_log)
     × (r ≡ record { block = b; version = v; hop = h + 1; place = s })
-    × (Leaves (committed F w s b found F.writes r) G)
+    × (Leaves (committed F w s b found F.writes x r) G)
 CommitWith F w s b found _ _ G = ⊥
 
 -- commit: a worker's ticket becomes the newest place of the block
@@ -155,18 +155,18 @@ DiscardCase F w s _ G = ⊥
 -- what a read finds
 abbrev pub found_of : Option Write → Option Version
 found_of None = None
-found_of (Some w) = Some (record { version = w.version; payload = w.payload })
+found_of (Some w) = Some (record { version = w.version; content = w.content })
 
 -- read: the last acknowledged write of the block
 abbrev pub ReadCase : Flat → ℕ → FlatAnswer → Flat → Type 0
 ReadCase F b (Found answer) G = (answer ≡ found_of (last_write F.writes b)) × (Leaves F G)
 ReadCase F b _ G = ⊥
 
--- what is seen at the place of a record: the payload where the unit's header is exactly the record, else that header
+-- what is seen at the place of a record: the content where the record in the unit's header is exactly it, else that record
 abbrev pub IsSeen : Option Stored → Record → Seen → Type 0
-IsSeen None r (Stale header) = header ≡ None
-IsSeen (Some u) r (Data x) = (u.header ≡ Some r) × (x ≡ u.payload)
-IsSeen (Some u) r (Stale header) = (u.header ≢ Some r) × (header ≡ u.header)
+IsSeen None r (Stale found) = found ≡ None
+IsSeen (Some u) r (Data x) = (record_in u.header ≡ Some r) × (x ≡ content_in u)
+IsSeen (Some u) r (Stale found) = (record_in u.header ≢ Some r) × (found ≡ record_in u.header)
 IsSeen _ r _ = ⊥
 
 -- a record is greater than the newest of its block, as any is where there is none
@@ -181,17 +181,17 @@ ReadAtCase F r (FoundAt seen) G =
     ((n : Record) × (IsNewest F.emitted r.block (Some n)) × (key_of r ≤ key_of n)) × (IsSeen (F.units r.place) r seen) × (Leaves F G)
 ReadAtCase F r _ G = ⊥
 
--- what is learned of a record whose place was seen: the record with its payload, or where that is stale the newest record
--- of the block with the payload of its last write
-abbrev pub IsLearned : Flat → Record → Seen → Record → List ℕ → Type 0
-IsLearned F r (Data x) told payload = (told ≡ r) × (payload ≡ x)
-IsLearned F r (Stale header) told payload =
-    (IsNewest F.emitted r.block (Some told)) × ((w : Write) × (last_write F.writes r.block ≡ Some w) × (payload ≡ w.payload))
+-- what is learned of a record whose place was seen: the record with its content, or where that is stale the newest record
+-- of the block with the content of its last write
+abbrev pub IsLearned : Flat → Record → Seen → Record → Content → Type 0
+IsLearned F r (Data x) told content = (told ≡ r) × (content ≡ x)
+IsLearned F r (Stale found) told content =
+    (IsNewest F.emitted r.block (Some told)) × ((w : Write) × (last_write F.writes r.block ≡ Some w) × (content ≡ w.content))
 
 -- the units, those of a group's first slots blank with payload zero
 abbrev pub wiped : (ℕ → Option Stored) → ℕ → ℕ → ℕ → ℕ → Option Stored
 wiped units payload g count slot =
-    if (slot / 128 == g) && nat_lt (slot % 128) count then Some (record { header = None; payload = replicate payload 0 }) else units slot
+    if (slot / 128 == g) && nat_lt (slot % 128) count then Some (record { header = blank_header; payload = replicate payload 0 }) else units slot
 
 -- the state in which a group is made: its slots are blank with payload zero, and what was kept of its number is free
 abbrev pub made : Flat → Class → List Member → ℕ → Flat
@@ -200,6 +200,11 @@ made F class members g = record F {
   groups = put F.groups g (Some (record { class = class; members = members }));
   units = wiped F.units F.sizes.payload g (slot_count F.sizes.segments class (length members));
 }
+
+-- nothing that making a group tests before it takes memory speaks against it
+abbrev pub MakePasses : Flat → List Member → ℕ → Type 0
+MakePasses F members g =
+    (AreMembers F.sizes.extents F.drives members) × (AreApart members) × (AreUnowned F.groups members) × (IsLowestFree F.groups g)
 
 -- make: the lowest number that isn't made
 abbrev pub MakeCase : Flat → Class → List Member → FlatAnswer → Flat → Type 0
@@ -210,9 +215,7 @@ MakeCase F class members (Refused ExtentTaken) G =
     (AreMembers F.sizes.extents F.drives members) × (AreApart members) × (AreUnowned F.groups members → ⊥) × (Leaves F G)
 MakeCase F class members (Refused Full) G =
     (AreMembers F.sizes.extents F.drives members) × (AreApart members) × (AreUnowned F.groups members) × (IsFull F.groups) × (Leaves F G)
-MakeCase F class members (MadeGroup g) G =
-    (AreMembers F.sizes.extents F.drives members) × (AreApart members) × (AreUnowned F.groups members) × (IsLowestFree F.groups g)
-    × (Leaves (made F class members g) G)
+MakeCase F class members (MadeGroup g) G = (MakePasses F members g) × (Leaves (made F class members g) G)
 MakeCase F class members _ G = ⊥
 
 -- the flat machine: the case of a step
@@ -227,19 +230,23 @@ Case F (Read b) answer G = ReadCase F b answer G
 Case F (ReadAt r) answer G = ReadAtCase F r answer G
 Case F (Make class members) answer G = MakeCase F class members answer G
 
--- an answer that takes memory: for a unit's payload, a log's entry or a group
-abbrev pub TakesMemory : FlatAnswer → Type 0
-TakesMemory (Filled s) = Unit {0}
-TakesMemory (Copied s) = Unit {0}
-TakesMemory (Committed r) = Unit {0}
-TakesMemory (Found (Some v)) = Unit {0}
-TakesMemory (FoundAt (Data x)) = Unit {0}
-TakesMemory (MadeGroup g) = Unit {0}
-TakesMemory _ = ⊥
+-- a commit of a ticket, given the newest record of the block, passes all that is tested before memory is taken
+abbrev pub CommitPasses : Flat → Option Record → Option Waiting → Type 0
+CommitPasses F found (Some (Fresh x)) = (next_version found ≤ last_version) × (length F.emitted < longest_log)
+CommitPasses F found (Some (Moved c v h x)) = (HasStamp found v h) × (length F.emitted < longest_log)
+CommitPasses F found None = ⊥
 
--- a step wants memory: the flat machine would have given it an answer that takes some
+-- a step may want memory: nothing that it tests before it takes any speaks against it
 abbrev pub IsWanted : Flat → FlatStep → Type 0
-IsWanted F step = (answer : FlatAnswer) × (G : Flat) × (Case F step answer G) × (TakesMemory answer)
+IsWanted F (Fill w s x) = FillPasses F w s
+IsWanted F (Copy w s b) = (r : Record) × CopyPasses F w s b r
+IsWanted F (Commit w s b) = (F.held s (Ticket w) ≡ true) × (IsFor (F.tickets s) b)
+    × ((found : Option Record) × (IsNewest F.emitted b found) × CommitPasses F found (F.tickets s))
+IsWanted F (Read b) = (r : Record) × IsNewest F.emitted b (Some r)
+IsWanted F (ReadAt r) = (n : Record) × (IsNewest F.emitted r.block (Some n)) × (key_of r ≤ key_of n)
+    × ((x : Content) × IsSeen (F.units r.place) r (Data x))
+IsWanted F (Make class members) = (g : ℕ) × MakePasses F members g
+IsWanted F _ = ⊥
 
 -- a run of the flat machine over a list of steps, with one answer for each
 abbrev pub Runs : Flat → List FlatStep → List FlatAnswer → Flat → Type 0

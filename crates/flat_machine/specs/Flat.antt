@@ -1,17 +1,29 @@
 -- The flat state: a list of acknowledged writes, a list of emitted records, a set of (slot, holder) pairs, and one unit
 -- for each slot. It has no running map, no free list and no parity.
-use Rattle.std.specs.Prelude.{◌≡◌, ℕ, ◌≤◌, ◌==◌, ◌||◌, ◌&&◌, not, Bool, true, false, if◌then◌else◌, List, [], ◌∷◌, Contains, Option, Some, None}
+use Rattle.std.specs.Prelude.{◌≡◌, ℕ, ◌≤◌, ◌==◌, ◌||◌, ◌&&◌, not, Bool, true, false, if◌then◌else◌, List, [], ◌∷◌, length, Contains, Option, Some, None}
 use Rattle.map_join.specs.declared.records.Record.{Record}
 use Rattle.map_join.specs.Record.{key_of}
 use Rattle.flat_machine.specs.declared.group.Class.{Class}
 use Rattle.flat_machine.specs.Sizes.{Sizes}
 use Rattle.flat_machine.specs.Groups.{Made, class_at}
 
+-- what a block holds: a payload
+pub data Content : Type 0 where
+  Payload : List ℕ → Content
+
+-- the bytes that lie in a unit for a content, given how many a unit has
+abbrev pub bytes_of : ℕ → Content → List ℕ
+bytes_of size (Payload x) = x
+
+-- a content that fits into units of that many bytes
+abbrev pub IsSized : ℕ → Content → Type 0
+IsSized size (Payload x) = length x ≡ size
+
 -- an acknowledged write: a version of a block, and what it holds
 pub record Write : Type 0 where
   pub block : ℕ
   pub version : ℕ
-  pub payload : List ℕ
+  pub content : Content
 
 -- who holds a slot: a worker, a worker's ticket, the block whose newest place it is, or the number of an unmade group
 pub data Holder : Type 0 where
@@ -20,15 +32,41 @@ pub data Holder : Type 0 where
   Block : ℕ → Holder
   Shut : ℕ → Holder
 
--- what a ticket's slot waits to be: a fresh payload, or a copy of a block's version and hop with its payload
-pub data Content : Type 0 where
-  Fresh : List ℕ → Content
-  Moved : ℕ → ℕ → ℕ → List ℕ → Content
+-- what a ticket's slot waits to be: a fresh content, or a copy of a block's version and hop with its content
+pub data Waiting : Type 0 where
+  Fresh : Content → Waiting
+  Moved : ℕ → ℕ → ℕ → Content → Waiting
 
--- a unit: the record in its header, none where that is blank, and its payload
+-- what will be read where it is committed
+abbrev pub content_of : Waiting → Content
+content_of (Fresh content) = content
+content_of (Moved block version hop content) = content
+
+-- a unit's header: blank, or a record; and the words by which it is read and written
+abbrev pub Header : Type 0
+Header = Option Record
+
+abbrev pub blank_header : Header
+blank_header = None
+
+abbrev pub record_in : Header → Option Record
+record_in header = header
+
+abbrev pub header_for : Record → Content → Header
+header_for r content = Some r
+
+-- a unit: its header and its payload
 pub record Stored : Type 0 where
-  pub header : Option Record
+  pub header : Header
   pub payload : List ℕ
+
+-- what a unit with a record in its header holds
+abbrev pub content_in : Stored → Content
+content_in u = Payload u.payload
+
+-- the unit in which a content waits under a blank header
+abbrev pub waiting_unit : ℕ → Content → Stored
+waiting_unit size content = record { header = blank_header; payload = bytes_of size content }
 
 -- the flat state
 pub record Flat : Type 0 where
@@ -37,7 +75,7 @@ pub record Flat : Type 0 where
   pub writes : List Write
   pub emitted : List Record
   pub held : ℕ → Holder → Bool
-  pub tickets : ℕ → Option Content
+  pub tickets : ℕ → Option Waiting
   pub groups : ℕ → Option Made
   pub units : ℕ → Option Stored
 

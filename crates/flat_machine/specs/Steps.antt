@@ -4,12 +4,13 @@ use Rattle.map_join.specs.declared.records.Record.{Record}
 use Rattle.flat_machine.specs.declared.group.Class.{Class}
 use Rattle.flat_machine.specs.declared.group.Member.{Member}
 use Rattle.flat_machine.specs.declared.refusal.Refusal.{Refusal}
+use Rattle.flat_machine.specs.Flat.{Content}
 
 -- a step: worker and slot come first, then what goes in
 pub data FlatStep : Type 0 where
   Claim : ℕ → ℕ → FlatStep
   Release : ℕ → ℕ → FlatStep
-  Fill : ℕ → ℕ → List ℕ → FlatStep
+  Fill : ℕ → ℕ → Content → FlatStep
   Copy : ℕ → ℕ → ℕ → FlatStep
   Commit : ℕ → ℕ → ℕ → FlatStep
   Discard : ℕ → ℕ → FlatStep
@@ -17,15 +18,15 @@ pub data FlatStep : Type 0 where
   ReadAt : Record → FlatStep
   Make : Class → List Member → FlatStep
 
--- what is read of a block: its version and payload
+-- what is read of a block: its version and content
 pub record Version : Type 0 where
   pub version : ℕ
-  pub payload : List ℕ
+  pub content : Content
 
--- what is seen at a record's place: the payload that lies there under exactly that record, or the header found in its stead,
--- none where that is blank or the place is in no group
+-- what is seen at a record's place: the content that lies there under exactly that record, or the record found in its stead,
+-- none where the header is blank or the place is in no group
 pub data Seen : Type 0 where
-  Data : List ℕ → Seen
+  Data : Content → Seen
   Stale : Option Record → Seen
 
 -- an answer

@@ -2,7 +2,9 @@
 #![tactic(auto)]
 
 mod group;
+mod laws;
 mod refusal;
 
 pub use group::{Class, Member};
+pub use laws::history_laws;
 pub use refusal::Refusal;

@@ -1,0 +1,9 @@
+pub mod Pairs
+pub mod Newest
+pub mod Writes
+pub mod Slots
+pub mod Claims
+pub mod Tickets
+pub mod Commits
+pub mod Makes
+pub mod Keeps

@@ -1,0 +1,120 @@
+-- What is true of one slot, told from who holds it now, and what stays where nothing changed.
+use Rattle.std.proofs.Common.{◌≡◌, ℕ, ◌/◌, ◌<◌, Bool, true, false, List, refl, sym, ap, ◌∙◌, subst, Option, Some, None}
+use Rattle.std.proofs.lemmas.Option.{same_Some}
+use Rattle.map_join.specs.declared.records.Record.{Record}
+use Rattle.map_join.specs.Record.{record_of}
+use Rattle.flat_machine.specs.declared.group.Class.{Class}
+use Rattle.flat_machine.specs.Groups.{Made}
+use Rattle.flat_machine.specs.Flat.{Flat, Write, Content, Holder, Worker, Ticket, Block, Shut, Waiting, Stored, last_write}
+use Rattle.flat_machine.specs.History.{HoldersStand, UnitStands, IsAt, BlockStands}
+use Rattle.flat_machine.proofs.Pairs.{IsNobodys, IsJust, just_once, just_is}
+
+-- nobody holds it, a worker does, a ticket does, or a block
+pub nobody_stands : (groups : ℕ → Option Made) (keys : ℕ → ℕ) (s : ℕ) (h : Holder → Bool) → IsNobodys h → HoldersStand groups keys s h None
+nobody_stands groups keys s h free = record {
+  once = λ j k hj hk. absurd (no j hj);
+  inside = λ k hk. absurd (no k hk);
+  waits = λ c is. absurd (cc);
+  waiting = λ w hw. absurd (no (Ticket w) hw);
+  block = λ b hb. absurd (no (Block b) hb);
+  shut = λ g hg. absurd (no (Shut g) hg);
+}
+  where
+    no : (k : Holder) → h k ≡ true → ⊥
+    no k hk = let bad : true ≡ false = sym hk ∙ free k in cc
+
+pub worker_stands : (groups : ℕ → Option Made) (keys : ℕ → ℕ) (s : ℕ) (h : Holder → Bool) (w : ℕ) → s < 65536 → IsJust h (Worker w) → HoldersStand groups keys s h None
+worker_stands groups keys s h w inside is = record {
+  once = just_once h (Worker w) is;
+  inside = λ k hk. inside;
+  waits = λ c e. absurd (cc);
+  waiting = λ v hv. let e : Ticket v ≡ Worker w = just_is h (Worker w) (Ticket v) is hv in absurd (cc);
+  block = λ b hb. let e : Block b ≡ Worker w = just_is h (Worker w) (Block b) is hb in absurd (cc);
+  shut = λ g hg. let e : Shut g ≡ Worker w = just_is h (Worker w) (Shut g) is hg in absurd (cc);
+}
+
+pub ticket_stands : (groups : ℕ → Option Made) (keys : ℕ → ℕ) (s : ℕ) (h : Holder → Bool) (w : ℕ) (c : Waiting) → s < 65536 → IsJust h (Ticket w) → h (Ticket w) ≡ true
+    → HoldersStand groups keys s h (Some c)
+ticket_stands groups keys s h w c inside is mine = record {
+  once = just_once h (Ticket w) is;
+  inside = λ k hk. inside;
+  waits = λ d e. (w, mine);
+  waiting = λ v hv none. cc;
+  block = λ b hb. let e : Block b ≡ Ticket w = just_is h (Ticket w) (Block b) is hb in absurd (cc);
+  shut = λ g hg. let e : Shut g ≡ Ticket w = just_is h (Ticket w) (Shut g) is hg in absurd (cc);
+}
+
+pub block_stands : (groups : ℕ → Option Made) (keys : ℕ → ℕ) (s : ℕ) (h : Holder → Bool) (b : ℕ) → s < 65536 → IsJust h (Block b) → 0 < keys b
+    → (record_of b (keys b)).place ≡ s → HoldersStand groups keys s h None
+block_stands groups keys s h b inside is some place = record {
+  once = just_once h (Block b) is;
+  inside = λ k hk. inside;
+  waits = λ d e. absurd (cc);
+  waiting = λ v hv. let e : Ticket v ≡ Block b = just_is h (Block b) (Ticket v) is hv in absurd (cc);
+  block = λ c hc.
+      let e : Block c ≡ Block b = just_is h (Block b) (Block c) is hc in
+      let same : c ≡ b = cc in
+      let P : ℕ → Type 0 = λ n. (0 < keys n) × ((record_of n (keys n)).place ≡ s) in
+      subst P (sym same) (some, place);
+  shut = λ g hg. let e : Shut g ≡ Block b = just_is h (Block b) (Shut g) is hg in absurd (cc);
+}
+
+-- nothing waits where another than a ticket holds the slot, or nobody
+nothing : (t : Option Waiting) → ((c : Waiting) → t ≡ Some c → ⊥) → t ≡ None
+nothing None never = refl
+nothing (Some c) never = absurd (never c refl)
+
+pub free_waits : (groups : ℕ → Option Made) (keys : ℕ → ℕ) (s : ℕ) (h : Holder → Bool) (t : Option Waiting) → HoldersStand groups keys s h t → IsNobodys h → t ≡ None
+free_waits groups keys s h t is free = nothing t (λ c e. let y = is.waits c e in let bad : true ≡ false = sym y.1 ∙ free (Ticket y.0) in cc)
+
+pub worker_waits : (groups : ℕ → Option Made) (keys : ℕ → ℕ) (s : ℕ) (h : Holder → Bool) (t : Option Waiting) (w : ℕ) → HoldersStand groups keys s h t
+    → h (Worker w) ≡ true → t ≡ None
+worker_waits groups keys s h t w is held = nothing t (λ c e. let y = is.waits c e in let bad : Ticket y.0 ≡ Worker w = is.once (Ticket y.0) (Worker w) y.1 held in cc)
+
+pub block_waits : (groups : ℕ → Option Made) (keys : ℕ → ℕ) (s : ℕ) (h : Holder → Bool) (t : Option Waiting) (b : ℕ) → HoldersStand groups keys s h t
+    → h (Block b) ≡ true → t ≡ None
+block_waits groups keys s h t b is held = nothing t (λ c e. let y = is.waits c e in let bad : Ticket y.0 ≡ Block b = is.once (Ticket y.0) (Block b) y.1 held in cc)
+
+-- holders and ticket, or ticket and unit, that are the same stand the same
+pub holders_same : (groups : ℕ → Option Made) (keys : ℕ → ℕ) (s : ℕ) (h k : Holder → Bool) (t u : Option Waiting) → k ≡ h → u ≡ t
+    → HoldersStand groups keys s h t → HoldersStand groups keys s k u
+holders_same groups keys s h k t u held ticket is =
+    subst (λ x. HoldersStand groups keys s x u) (sym held) (subst (HoldersStand groups keys s h) (sym ticket) is)
+
+pub units_same : (payload : ℕ) (emitted : List Record) (writes : List Write) (keys : ℕ → ℕ) (s : ℕ) (class : Option Class) (t u : Option Waiting) (x y : Option Stored)
+    → u ≡ t → y ≡ x → UnitStands payload emitted writes keys s class t x → UnitStands payload emitted writes keys s class u y
+units_same payload emitted writes keys s class t u x y ticket unit is =
+    subst (λ o. UnitStands payload emitted writes keys s class o y) (sym ticket) (subst (UnitStands payload emitted writes keys s class t) (sym unit) is)
+
+-- a ticket that ends leaves the unit as it stands
+pub unit_ended : (payload : ℕ) (emitted : List Record) (writes : List Write) (keys : ℕ → ℕ) (s : ℕ) (class : Option Class) (t : Option Waiting) (x : Option Stored)
+    → UnitStands payload emitted writes keys s class t x → UnitStands payload emitted writes keys s class None x
+unit_ended payload emitted writes keys s class t x is = record {
+  there = is.there;
+  sized = is.sized;
+  header = is.header;
+  content = is.content;
+  blank = λ c e. absurd (cc);
+  rests = λ c e. absurd (cc);
+}
+
+-- a unit that is where it was
+pub at_same : (old new : ℕ → Option Stored) (r : Record) (x : Content) → new r.place ≡ old r.place → IsAt old r x → IsAt new r x
+at_same old new r x same is = record { stored = is.stored; there = same ∙ is.there; header = is.header; content = is.content }
+
+-- a block's last write and newest place stand where neither the writes, nor that place's unit and holder, changed
+pub block_same : (F G : Flat) (b key : ℕ) → last_write G.writes b ≡ last_write F.writes b
+    → (F.held (record_of b key).place (Block b) ≡ true → (G.units (record_of b key).place ≡ F.units (record_of b key).place) × (G.held (record_of b key).place (Block b) ≡ true))
+    → BlockStands F b key → BlockStands G b key
+block_same F G b key last stays is = (
+  λ none. last ∙ is.0 none,
+  λ some. let y = is.1 some in (y.0, last ∙ y.1, record {
+    version = y.2.version;
+    unit = at_same F.units G.units (record_of b key) y.0.content (stays y.2.place).0 y.2.unit;
+    place = (stays y.2.place).1;
+  }),
+)
+
+-- a slot that a block holds isn't one that it doesn't
+pub apart : (held : ℕ → Holder → Bool) (p s b : ℕ) → held p (Block b) ≡ true → (held s (Block b) ≡ true → ⊥) → p ≡ s → ⊥
+apart held p s b is not same = not (subst (λ n. held n (Block b) ≡ true) same is)
