@@ -1,9 +1,9 @@
 -- A claim and a release keep what is true of every state.
-use Rattle.std.proofs.Common.{◌≡◌, ℕ, ◌<◌, Bool, true, false, refl, sym, ap, ◌∙◌, subst, ◌⊎◌, inl, inr, Option, None}
+use Rattle.std.proofs.Common.{◌≡◌, ℕ, ◌<◌, Bool, true, false, refl, sym, ap, ◌∙◌, subst, ◌⊎◌, inl, inr, None}
 use Rattle.std.proofs.lemmas.Bool.{cases_eq}
 use Rattle.map_join.specs.Record.{record_of}
 use Rattle.flat_machine.specs.Flat.{Flat, Holder, Worker, Block, with_pair, without_pair, IsFree}
-use Rattle.flat_machine.specs.History.{HoldersStand, BlockStands, IsHistory}
+use Rattle.flat_machine.specs.History.{HoldersStand, IsHistory}
 use Rattle.flat_machine.proofs.Pairs.{with_else, without_else, just_one, with_just, without_nobody}
 use Rattle.flat_machine.proofs.Slots.{nobody_stands, worker_stands, free_waits, worker_waits, holders_same, block_same, apart}
 

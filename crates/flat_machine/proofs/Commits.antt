@@ -1,5 +1,5 @@
 -- A commit keeps what is true of every state.
-use Rattle.std.proofs.Common.{◌≡◌, ◌≢◌, ℕ, ◌+◌, ◌^◌, ◌<◌, ◌≤◌, max, Bool, true, false, is_some, List, [], ◌∷◌, ◌++◌, length, Contains, refl, sym, ap, ◌∙◌, subst, arith, ◌⊎◌, inl, inr, Option, Some, None}
+use Rattle.std.proofs.Common.{◌≡◌, ℕ, ◌+◌, ◌<◌, max, Bool, true, is_some, List, [], ◌∷◌, ◌++◌, length, Contains, refl, sym, ap, ◌∙◌, subst, arith, ◌⊎◌, inl, inr, Option, Some, None}
 use Rattle.std.proofs.lemmas.List.{length-append}
 use Rattle.std.proofs.lemmas.List.Elements.{Contains-push_cases}
 use Rattle.std.proofs.lemmas.Bool.{cases_eq}
@@ -9,12 +9,13 @@ use Rattle.map_join.specs.Record.{key_of, record_of, stamp, stamp_of, stamp_in, 
 use Rattle.map_join.specs.Maps.{IsMapOf, join, only}
 use Rattle.map_join.proofs.Joins.{took, only_here, only_else}
 use Rattle.flat_machine.specs.declared.group.Class.{Class}
-use Rattle.flat_machine.specs.Flat.{Flat, Write, Content, Payload, bytes_of, Holder, Worker, Ticket, Block, Waiting, Fresh, Moved, content_of, record_in, header_for, Stored, content_in, waiting_unit, class_of, put, turned, last_write, IsNewest}
-use Rattle.flat_machine.specs.Cases.{committed, place_passed, stamped, longest_log}
-use Rattle.flat_machine.specs.History.{AreLimits, ComesNext, IsChain, IsWrite, IsWriteChain, IsWriteOf, IsHeaderOf, HoldersStand, UnitStands, WaitingStands, IsCopy, IsAt, BlockStands, IsHistory}
-use Rattle.flat_machine.proofs.Pairs.{put_here, put_else, turned_else, turned_just, just_one, just_held, IsJust}
-use Rattle.flat_machine.proofs.Newest.{newest_key, newest_zero, newest_record, newest_unique, same_map, told_again, key_least}
+use Rattle.flat_machine.specs.Flat.{Flat, Write, Content, Payload, bytes_of, Holder, Ticket, Block, Waiting, Fresh, Moved, content_of, record_in, header_for, Stored, content_in, waiting_unit, class_of, put, last_write, IsNewest}
+use Rattle.flat_machine.specs.Cases.{committed, stamped, longest_log}
+use Rattle.flat_machine.specs.History.{AreLimits, ComesNext, IsWrite, IsWriteChain, IsWriteOf, IsHeaderOf, HoldersStand, UnitStands, WaitingStands, IsCopy, IsAt, BlockStands, IsHistory}
+use Rattle.flat_machine.proofs.Pairs.{put_here, put_else, just_held}
+use Rattle.flat_machine.proofs.Newest.{newest_zero, newest_record, newest_unique, same_map, told_again, key_least}
 use Rattle.flat_machine.proofs.Writes.{chained, write_most}
+use Rattle.flat_machine.proofs.Passing.{Passes, passed}
 use Rattle.flat_machine.proofs.Slots.{worker_stands, block_stands, block_waits, holders_same, units_same, block_same, apart}
 
 -- the record that a commit emits
@@ -78,45 +79,8 @@ module _ (F : Flat) (keys : ℕ → ℕ) (w s b : ℕ) (found : Option Record) (
   again : record_of b (M b) ≡ emitted_by b s v h
   again = ap (record_of b) key_here ∙ told_again (emitted_by b s v h) ready.ok
 
-  -- no block holds the slot that waits, and the old place is the block's
-  unblocked : (d : ℕ) → F.held s (Block d) ≡ true → ⊥
-  unblocked d has = let e : Block d ≡ Ticket w = (ready.history.holders s).once (Block d) (Ticket w) has ready.mine in cc
-
-  old_record : (q : Record) → found ≡ Some q → record_of b (keys b) ≡ q
-  old_record q is = newest_record F.emitted keys b q ready.history.records ready.history.map (subst (IsNewest F.emitted b) is ready.newest)
-
-  old_held : (q : Record) → found ≡ Some q → F.held q.place (Block b) ≡ true
-  old_held q is =
-      let newest : IsNewest F.emitted b (Some q) = subst (IsNewest F.emitted b) is ready.newest in
-      let k = newest_key F.emitted keys b q ready.history.map newest in
-      let big = key_least q (ready.history.records q newest.0) in
-      let y = (ready.history.written b).1 (omega arith) in
-      subst (λ (n : Record). F.held n.place (Block b) ≡ true) (old_record q is) y.2.place
-
-  old_apart : (q : Record) → found ≡ Some q → q.place ≡ s → ⊥
-  old_apart q is = apart F.held q.place s b (old_held q is) (unblocked b)
-
-  -- who holds what after it
-  passed_here : (o : Option Record) → ((q : Record) → o ≡ Some q → q.place ≡ s → ⊥)
-      → place_passed (turned F.held s (Ticket w) (Block b)) w b o s ≡ turned F.held s (Ticket w) (Block b) s
-  passed_here None off = refl
-  passed_here (Some q) off = turned_else (turned F.held s (Ticket w) (Block b)) q.place (Block b) (Worker w) s (λ e. off q refl (sym e))
-
-  passed_else : (o : Option Record) (t : ℕ) → (t ≡ s → ⊥) → ((q : Record) → o ≡ Some q → t ≡ q.place → ⊥)
-      → place_passed (turned F.held s (Ticket w) (Block b)) w b o t ≡ F.held t
-  passed_else None t ne off = turned_else F.held s (Ticket w) (Block b) t ne
-  passed_else (Some q) t ne off =
-      turned_else (turned F.held s (Ticket w) (Block b)) q.place (Block b) (Worker w) t (off q refl) ∙ turned_else F.held s (Ticket w) (Block b) t ne
-
-  here_just : IsJust (G.held s) (Block b)
-  here_just = subst (λ x. IsJust x (Block b)) (sym (passed_here found old_apart))
-      (turned_just F.held s (Ticket w) (Block b) (just_one (F.held s) (Ticket w) (ready.history.holders s).once ready.mine))
-
-  old_just : (q : Record) → found ≡ Some q → IsJust (G.held q.place) (Worker w)
-  old_just q is = subst (λ o. IsJust (place_passed (turned F.held s (Ticket w) (Block b)) w b o q.place) (Worker w)) (sym is)
-      (turned_just (turned F.held s (Ticket w) (Block b)) q.place (Block b) (Worker w)
-      (subst (λ x. IsJust x (Block b)) (sym (turned_else F.held s (Ticket w) (Block b) q.place (old_apart q is)))
-      (just_one (F.held q.place) (Block b) (ready.history.holders q.place).once (old_held q is))))
+  passes : Passes F w s b found
+  passes = passed F keys w s b found ready.history ready.newest ready.mine
 
   -- the place of a block with a key is its newest record's
   placed : (d t : ℕ) → d ≡ b → 0 < keys d → (record_of d (keys d)).place ≡ t → ((q : Record) → found ≡ Some q → t ≡ q.place → ⊥) → ⊥
@@ -127,7 +91,7 @@ module _ (F : Flat) (keys : ℕ → ℕ) (w s b : ℕ) (found : Option Record) (
           let zero = newest_zero F.emitted keys b ready.history.map (subst (IsNewest F.emitted b) is ready.newest) in
           let e : keys d ≡ keys b = ap keys same in
           omega arith
-      by (Some q) is = off q is (sym place ∙ ap (λ n. (record_of n (keys n)).place) same ∙ ap (λ (n : Record). n.place) (old_record q is))
+      by (Some q) is = off q is (sym place ∙ ap (λ n. (record_of n (keys n)).place) same ∙ ap (λ (n : Record). n.place) (newest_record F.emitted keys b q ready.history.records ready.history.map (subst (IsNewest F.emitted b) is ready.newest)))
 
   holders : (t : ℕ) → HoldersStand F.groups M t (G.held t) (put F.tickets s None t)
   holders t = go (cases_eq t s)
@@ -140,11 +104,11 @@ module _ (F : Flat) (keys : ℕ → ℕ) (w s b : ℕ) (found : Option Record) (
 
       here : P s
       here = holders_same F.groups M s (G.held s) (G.held s) None (put F.tickets s None s) refl (put_here F.tickets s None)
-          (block_stands F.groups M s (G.held s) b slot_small here_just some (ap (λ (n : Record). n.place) again))
+          (block_stands F.groups M s (G.held s) b slot_small passes.here some (ap (λ (n : Record). n.place) again))
 
       -- a slot that stays as it was
       kept : (t ≡ s → ⊥) → ((q : Record) → found ≡ Some q → t ≡ q.place → ⊥) → P t
-      kept ne off = holders_same F.groups M t (F.held t) (G.held t) (F.tickets t) (put F.tickets s None t) (passed_else found t ne off) (put_else F.tickets s None t ne) (record {
+      kept ne off = holders_same F.groups M t (F.held t) (G.held t) (F.tickets t) (put F.tickets s None t) (passes.rest t ne off) (put_else F.tickets s None t ne) (record {
         once = is.once;
         inside = is.inside;
         waits = is.waits;
@@ -162,9 +126,9 @@ module _ (F : Flat) (keys : ℕ → ℕ) (w s b : ℕ) (found : Option Record) (
 
       old : (q : Record) → found ≡ Some q → P q.place
       old q is = holders_same F.groups M q.place (G.held q.place) (G.held q.place) None (put F.tickets s None q.place) refl
-          (put_else F.tickets s None q.place (old_apart q is)
-          ∙ block_waits F.groups keys q.place (F.held q.place) (F.tickets q.place) b (ready.history.holders q.place) (old_held q is))
-          (worker_stands F.groups M q.place (G.held q.place) w ((ready.history.holders q.place).inside (Block b) (old_held q is)) (old_just q is))
+          (put_else F.tickets s None q.place (passes.apart q is)
+          ∙ block_waits F.groups keys q.place (F.held q.place) (F.tickets q.place) b (ready.history.holders q.place) (passes.held q is))
+          (worker_stands F.groups M q.place (G.held q.place) w ((ready.history.holders q.place).inside (Block b) (passes.held q is)) (passes.old q is))
 
       by_found : (o : Option Record) → found ≡ o → (t ≡ s → ⊥) → P t
       by_found None none ne = kept ne (λ q is. let bad : None ≡ Some q = sym none ∙ is in cc)
@@ -308,7 +272,7 @@ module _ (F : Flat) (keys : ℕ → ℕ) (w s b : ℕ) (found : Option Record) (
           header = stamped_record (emitted_by b s v h) (content_of c);
           content = stamped_content F.sizes.payload (emitted_by b s v h) (content_of c) ∙ sym ready.last.3;
         });
-        place = subst (λ (q : Record). G.held q.place (Block b) ≡ true) (sym again) (just_held (G.held s) (Block b) here_just);
+        place = subst (λ (q : Record). G.held q.place (Block b) ≡ true) (sym again) (just_held (G.held s) (Block b) passes.here);
       },
     )),
   )
@@ -316,14 +280,14 @@ module _ (F : Flat) (keys : ℕ → ℕ) (w s b : ℕ) (found : Option Record) (
     where
       stays : F.held (record_of d (keys d)).place (Block d) ≡ true
           → (G.units (record_of d (keys d)).place ≡ F.units (record_of d (keys d)).place) × (G.held (record_of d (keys d)).place (Block d) ≡ true)
-      stays has = (unit_else (record_of d (keys d)).place away, ap (λ (x : Holder → Bool). x (Block d)) (passed_else found (record_of d (keys d)).place away off) ∙ has)
+      stays has = (unit_else (record_of d (keys d)).place away, ap (λ (x : Holder → Bool). x (Block d)) (passes.rest (record_of d (keys d)).place away off) ∙ has)
         where
           away : (record_of d (keys d)).place ≡ s → ⊥
-          away = apart F.held (record_of d (keys d)).place s d has (unblocked d)
+          away = apart F.held (record_of d (keys d)).place s d has (passes.unblocked d)
 
           off : (q : Record) → found ≡ Some q → (record_of d (keys d)).place ≡ q.place → ⊥
           off q is = apart F.held (record_of d (keys d)).place q.place d has
-              (λ other. let e : Block d ≡ Block b = (ready.history.holders q.place).once (Block d) (Block b) other (old_held q is) in ne (cc))
+              (λ other. let e : Block d ≡ Block b = (ready.history.holders q.place).once (Block d) (Block b) other (passes.held q is) in ne (cc))
 
   limits : AreLimits F.sizes F.drives (length (F.emitted ++ emitted_by b s v h ∷ []))
   limits =

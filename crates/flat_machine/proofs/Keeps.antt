@@ -1,21 +1,20 @@
 -- Each case of the flat machine keeps what is true of every state.
-use Rattle.std.proofs.Common.{◌≡◌, ◌≢◌, ℕ, ◌+◌, ◌^◌, ◌<◌, ◌≤◌, true, List, [], ◌∷◌, ◌++◌, length, Contains, refl, sym, ap, ◌∙◌, subst, arith, ◌⊎◌, inl, inr, Option, Some, None}
+use Rattle.std.proofs.Common.{◌≡◌, ℕ, ◌+◌, ◌<◌, ◌≤◌, true, List, [], ◌∷◌, ◌++◌, length, Contains, refl, sym, ap, ◌∙◌, subst, arith, ◌⊎◌, inl, inr, Option, Some, None}
 use Rattle.std.proofs.lemmas.List.Elements.{Contains-append_left, Contains-push_cases}
 use Rattle.std.proofs.lemmas.Option.{same_Some}
 use Rattle.map_join.specs.declared.records.Record.{Record}
-use Rattle.map_join.specs.Record.{key_of, record_of, stamp, stamp_in, IsRecord}
+use Rattle.map_join.specs.Record.{key_of, stamp, stamp_in, IsRecord}
 use Rattle.map_join.specs.Maps.{IsMapOf}
 use Rattle.flat_machine.specs.declared.group.Class.{Class}
-use Rattle.flat_machine.specs.declared.group.Class.TheVariants.{Mirrored, Parity}
+use Rattle.flat_machine.specs.declared.group.Class.TheVariants.{Mirrored}
 use Rattle.flat_machine.specs.declared.group.Member.{Member}
-use Rattle.flat_machine.specs.declared.refusal.Refusal.{Refusal}
 use Rattle.flat_machine.specs.declared.refusal.Refusal.TheVariants.{NoGroup, WrongClass, InUse, NoTicket, Outrun, VersionSpent, HopsSpent, Unwritten, Ahead, ExtentTaken, SameDrive, LogFull, Full, BadMember}
 use Rattle.flat_machine.specs.Sizes.{AreSizes, Sizes}
-use Rattle.flat_machine.specs.Flat.{Flat, Write, Content, Payload, bytes_of, IsSized, Holder, Worker, Ticket, Block, Waiting, Fresh, Moved, content_of, waiting_unit, class_of, last_write, IsNewest, IsKept, new_flat}
+use Rattle.flat_machine.specs.Flat.{Flat, Write, Content, Payload, bytes_of, IsSized, Ticket, Waiting, Fresh, Moved, waiting_unit, class_of, last_write, IsNewest, new_flat}
 use Rattle.flat_machine.specs.Steps.{FlatStep, Claim, Release, Fill, Copy, Commit, Discard, Read, ReadAt, Make, FlatAnswer, Claimed, Taken, Released, NotHeld, Filled, Copied, Committed, Discarded, Found, FoundAt, MadeGroup, Refused}
-use Rattle.flat_machine.specs.Cases.{Case, ClaimCase, ReleaseCase, FillCase, CopyCase, CommitCase, CommitWith, DiscardCase, ReadCase, ReadAtCase, MakeCase, Leaves, IsFor, HasStamp, next_version, last_version, last_hop, longest_log, committed, CopyPasses}
-use Rattle.flat_machine.specs.History.{AreLimits, IsWrite, IsWriteOf, WaitingStands, IsCopy, IsHistory, IsStep}
-use Rattle.flat_machine.proofs.Newest.{newest_key, newest_zero, newest_record, same_map, told_again, key_least}
+use Rattle.flat_machine.specs.Cases.{Case, ClaimCase, ReleaseCase, FillCase, CopyCase, CommitCase, CommitWith, DiscardCase, ReadCase, ReadAtCase, MakeCase, IsFor, HasStamp, next_version, last_version, longest_log, committed, CopyPasses}
+use Rattle.flat_machine.specs.History.{IsWrite, IsWriteOf, IsCopy, IsHistory, IsStep}
+use Rattle.flat_machine.proofs.Newest.{newest_key, newest_zero, newest_record, same_map, key_least}
 use Rattle.flat_machine.proofs.Writes.{last_here, last_else, last_there, write_chained, write_most}
 use Rattle.flat_machine.proofs.Claims.{claim_keeps, release_keeps}
 use Rattle.flat_machine.proofs.Tickets.{ticket_keeps, discard_keeps}
@@ -73,7 +72,7 @@ fresh_ok F keys w s b found is mine block most =
     let slot = (is.holders s).inside (Ticket w) mine in
     record { block = omega arith; written = omega arith; version = omega arith; hop = omega arith; place = omega arith }
 
-fresh_ready : (F : Flat) (keys : ℕ → ℕ) (w s b : ℕ) (found : Option Record) (x : Content) → IsHistory F keys → IsNewest F.emitted b found → F.tickets s ≡ Some (Fresh x)
+pub fresh_ready : (F : Flat) (keys : ℕ → ℕ) (w s b : ℕ) (found : Option Record) (x : Content) → IsHistory F keys → IsNewest F.emitted b found → F.tickets s ≡ Some (Fresh x)
     → F.held s (Ticket w) ≡ true → b < F.sizes.blocks → next_version found ≤ last_version → length F.emitted < longest_log
     → IsReady F keys w s b found (Fresh x) (next_version found) 0 (F.writes ++ record { block = b; version = next_version found; content = x } ∷ [])
 fresh_ready F keys w s b found x is newest ticket mine block most room = record {
@@ -110,7 +109,7 @@ fresh_ready F keys w s b found x is newest ticket mine block most room = record 
         (sym of.0 ∙ ap (λ (y : Write). y.block) (sym e)) (sym of.1 ∙ ap (λ (y : Write). y.version) (sym e)))
 
 -- a copy's version and hop are the newest's
-moved_ready : (F : Flat) (keys : ℕ → ℕ) (w s b : ℕ) (found : Option Record) (c v h : ℕ) (x : Content) → IsHistory F keys → IsNewest F.emitted b found
+pub moved_ready : (F : Flat) (keys : ℕ → ℕ) (w s b : ℕ) (found : Option Record) (c v h : ℕ) (x : Content) → IsHistory F keys → IsNewest F.emitted b found
     → F.tickets s ≡ Some (Moved c v h x) → F.held s (Ticket w) ≡ true → c ≡ b → b < F.sizes.blocks → HasStamp found v h → length F.emitted < longest_log
     → IsReady F keys w s b found (Moved c v h x) v (h + 1) F.writes
 moved_ready F keys w s b None c v h x is newest ticket mine same block stamps room = absurd stamps

@@ -2,6 +2,7 @@ pub mod Pairs
 pub mod Newest
 pub mod Writes
 pub mod Slots
+pub mod Passing
 pub mod Claims
 pub mod Tickets
 pub mod Commits

@@ -1,19 +1,17 @@
 -- Making a group keeps what is true of every state.
-use Rattle.std.proofs.Common.{◌≡◌, ◌≢◌, ℕ, ◌/◌, ◌%◌, ◌<◌, Bool, true, false, not, ◌==◌, ◌&&◌, cond, nat_lt, is_some, List, length, replicate, refl, sym, ap, ◌∙◌, subst, arith, ◌⊎◌, inl, inr, Option, Some, None}
+use Rattle.std.proofs.Common.{◌≡◌, ℕ, ◌/◌, ◌%◌, ◌<◌, Bool, true, false, not, ◌==◌, ◌&&◌, cond, nat_lt, is_some, List, length, replicate, refl, sym, ap, ◌∙◌, subst, arith, ◌⊎◌, inl, inr, Option, Some, None}
 use Rattle.std.proofs.lemmas.List.{length-replicate}
 use Rattle.std.proofs.lemmas.Bool.{cases_eq}
 use Rattle.std.proofs.lemmas.Bool.Decides.{nat_tests}
 use Rattle.std.proofs.lemmas.Option.{same_Some}
-use Rattle.map_join.specs.declared.records.Record.{Record}
 use Rattle.map_join.specs.Record.{record_of}
 use Rattle.flat_machine.specs.declared.group.Class.{Class}
-use Rattle.flat_machine.specs.declared.group.Class.TheVariants.{Mirrored}
 use Rattle.flat_machine.specs.declared.group.Member.{Member}
 use Rattle.flat_machine.specs.Groups.{Made, slot_count, class_in, AreMembers, AreApart, HaveCommon, AreGroups}
-use Rattle.flat_machine.specs.Flat.{Flat, Holder, Worker, Ticket, Block, Shut, same_holder, Waiting, Fresh, Moved, Stored, waiting_unit, content_of, record_in, class_of, put}
+use Rattle.flat_machine.specs.Flat.{Flat, Holder, Ticket, Block, Shut, same_holder, Waiting, Stored, waiting_unit, content_of, class_of, put}
 use Rattle.flat_machine.specs.Cases.{made, MakePasses}
-use Rattle.flat_machine.specs.History.{HoldersStand, UnitStands, WaitingStands, BlockStands, IsHistory}
-use Rattle.flat_machine.proofs.Pairs.{equal, itself, one_holder, put_here, put_else}
+use Rattle.flat_machine.specs.History.{HoldersStand, UnitStands, BlockStands, IsHistory}
+use Rattle.flat_machine.proofs.Pairs.{equal, put_here, put_else}
 use Rattle.flat_machine.proofs.Slots.{block_same}
 
 -- an extent of two lists is one of the second and the first

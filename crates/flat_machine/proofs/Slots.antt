@@ -1,6 +1,5 @@
 -- What is true of one slot, told from who holds it now, and what stays where nothing changed.
-use Rattle.std.proofs.Common.{◌≡◌, ℕ, ◌/◌, ◌<◌, Bool, true, false, List, refl, sym, ap, ◌∙◌, subst, Option, Some, None}
-use Rattle.std.proofs.lemmas.Option.{same_Some}
+use Rattle.std.proofs.Common.{◌≡◌, ℕ, ◌<◌, Bool, true, false, List, refl, sym, ◌∙◌, subst, Option, Some, None}
 use Rattle.map_join.specs.declared.records.Record.{Record}
 use Rattle.map_join.specs.Record.{record_of}
 use Rattle.flat_machine.specs.declared.group.Class.{Class}

@@ -1,12 +1,12 @@
 -- A slot that is made to wait, and one whose ticket is given up, keep what is true of every state.
-use Rattle.std.proofs.Common.{◌≡◌, ◌≢◌, ℕ, ◌<◌, Bool, true, false, is_some, List, length, refl, sym, ap, ◌∙◌, subst, arith, ◌⊎◌, inl, inr, Option, Some, None}
+use Rattle.std.proofs.Common.{◌≡◌, ◌≢◌, ℕ, ◌<◌, Bool, true, is_some, length, refl, sym, ap, ◌∙◌, subst, ◌⊎◌, inl, inr, Option, Some, None}
 use Rattle.std.proofs.lemmas.Bool.{cases_eq}
 use Rattle.std.proofs.lemmas.Option.{same_Some}
 use Rattle.map_join.specs.Record.{record_of}
 use Rattle.flat_machine.specs.declared.group.Class.{Class}
 use Rattle.flat_machine.specs.Flat.{Flat, Content, Payload, IsSized, Holder, Worker, Ticket, Block, Waiting, content_of, Stored, waiting_unit, class_of, put, turned}
 use Rattle.flat_machine.specs.Cases.{ticketed, discarded}
-use Rattle.flat_machine.specs.History.{HoldersStand, UnitStands, WaitingStands, BlockStands, IsHistory}
+use Rattle.flat_machine.specs.History.{HoldersStand, UnitStands, WaitingStands, IsHistory}
 use Rattle.flat_machine.proofs.Pairs.{put_here, put_else, turned_else, just_one, just_held, turned_just, IsJust}
 use Rattle.flat_machine.proofs.Slots.{worker_stands, ticket_stands, holders_same, units_same, unit_ended, block_same, apart}
 

@@ -1,5 +1,5 @@
 -- What is true of a flat state after any steps, told of the flat state alone, with the map of its log.
-use Rattle.std.specs.Prelude.{◌≡◌, ◌≢◌, ◌⊎◌, ℕ, ◌+◌, ◌/◌, ◌^◌, ◌<◌, ◌≤◌, Bool, true, is_some, List, [], ◌∷◌, ◌++◌, length, Contains, Option, Some, None}
+use Rattle.std.specs.Prelude.{◌≡◌, ◌≢◌, ◌⊎◌, ℕ, ◌+◌, ◌/◌, ◌<◌, ◌≤◌, Bool, true, is_some, List, [], ◌∷◌, ◌++◌, length, Contains, Option, Some, None}
 use Rattle.map_join.specs.declared.records.Record.{Record}
 use Rattle.map_join.specs.Record.{key_of, record_of, IsRecord, stamp, stamp_of, stamp_in}
 use Rattle.map_join.specs.Maps.{IsMapOf}
@@ -7,7 +7,7 @@ use Rattle.flat_machine.specs.declared.group.Class.{Class}
 use Rattle.flat_machine.specs.declared.group.Class.TheVariants.{Mirrored}
 use Rattle.flat_machine.specs.Sizes.{Sizes, AreSizes}
 use Rattle.flat_machine.specs.Groups.{Made, AreGroups}
-use Rattle.flat_machine.specs.Flat.{Flat, Content, IsSized, Write, Holder, Worker, Ticket, Block, Shut, Waiting, Fresh, Moved, content_of, record_in, Stored, content_in, waiting_unit, class_of, last_write, IsNewest}
+use Rattle.flat_machine.specs.Flat.{Flat, Content, IsSized, Write, Holder, Ticket, Block, Shut, Waiting, Fresh, Moved, content_of, record_in, Stored, content_in, waiting_unit, class_of, last_write, IsNewest}
 use Rattle.flat_machine.specs.Steps.{FlatStep, Claim, Release, Fill, Copy, Commit, Discard, Read, ReadAt, Make}
 use Rattle.flat_machine.specs.Cases.{last_hop, longest_log}
 

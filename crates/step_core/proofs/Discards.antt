@@ -1,41 +1,18 @@
 -- A ticket that is given up is the flat machine's case.
-use Rattle.std.proofs.Common.{◌≡◌, ◌≢◌, ℕ, ◌<◌, Bool, true, false, not, ◌==◌, ◌&&◌, ◌||◌, length, refl, sym, ap, ◌∙◌, subst, arith, ◌⊎◌, inl, inr, Option, None}
+use Rattle.std.proofs.Common.{◌≡◌, ℕ, ◌<◌, true, false, length, refl, sym, ap, ◌∙◌, arith, ◌⊎◌, inl, inr, None}
 use Rattle.std.proofs.lemmas.List.{length-set, get_or-set_same, get_or-set_other}
 use Rattle.std.proofs.lemmas.Bool.{cases_eq}
 use Rattle.map_join.specs.Record.{record_of}
 use Rattle.flat_machine.specs.declared.refusal.Refusal.TheVariants.{NoTicket}
-use Rattle.flat_machine.specs.Flat.{Flat, Holder, Worker, Ticket, Block, Shut, Stored, put, class_of}
-use Rattle.flat_machine.specs.Steps.{Discarded, Refused}
+use Rattle.flat_machine.specs.Flat.{Flat, Worker, Ticket, put, turned}
+use Rattle.flat_machine.specs.Steps.{Discard, Discarded, Refused}
 use Rattle.flat_machine.specs.Cases.{DiscardCase, discarded}
+use Rattle.flat_machine.proofs.Pairs.{put_here, put_else, turned_else, turned_just, just_one, IsJust}
 use Rattle.step_core.specs.Changes.{discard_view}
 use Rattle.step_core.specs.Views.{Kept, Nothing, Moving, Newest, ArrayView, kept_at, unit_at, key_at, is_waiting, IsWhole}
-use Rattle.step_core.specs.Represents.{flat_at, ArraySlot, IsWritten, BlockStands, TicketStands, ShowsArray}
-use Rattle.step_core.proofs.Pairs.{equal, put_here, put_else, turned_here, turned_else}
-use Rattle.step_core.proofs.Slots.{same_slot, one_slot}
-use Rattle.step_core.proofs.Kepts.{waiting_none, waiting_newest, not_waiting}
-use Rattle.step_core.proofs.Wholes.{places_of}
-
--- the slot whose ticket was given up
-free_slot : (kept : Kept) (o : Option Stored) (F : Flat) (w s : ℕ) → is_waiting kept ≡ true → ArraySlot kept o (flat_at F s) → F.held s (Ticket w) ≡ true
-    → ArraySlot Nothing o (flat_at (discarded F w s) s)
-free_slot kept o F w s waits is mine = record {
-  blocks = λ b. turned_here F.held s (Ticket w) (Worker w) (Block b) ∙ ap (λ v. (v && true) || false) (is.blocks b ∙ waiting_none kept waits b);
-  shut = λ g. turned_here F.held s (Ticket w) (Worker w) (Shut g) ∙ ap (λ v. (v && true) || false) (is.shut g);
-  unit = is.unit;
-  there = is.there;
-  ticket = put_here F.tickets s None;
-  blank = λ e. absurd (cc);
-  waits = λ e. absurd (cc);
-  tickets = λ none v. gone v;
-  lone = λ u v one other. let no : true ≡ false = sym one ∙ gone u in absurd (cc);
-}
-  where
-    off : (v : ℕ) (q : Bool) → F.held s (Ticket v) ≡ q → ((q && not (v == w)) || false) ≡ false
-    off v false e = refl
-    off v true e = ap (λ z. (true && not z) || false) (equal v w (is.lone v w e mine))
-
-    gone : (v : ℕ) → (discarded F w s).held s (Ticket v) ≡ false
-    gone v = turned_here F.held s (Ticket w) (Worker w) (Ticket v) ∙ off v (F.held s (Ticket v)) refl
+use Rattle.step_core.specs.Represents.{ArraySlot, InTables, ShowsArray}
+use Rattle.step_core.proofs.Slots.{worker_slot, slot_same, one_slot, shows_after}
+use Rattle.step_core.proofs.Kepts.{waiting_newest, unticketed}
 
 -- an array is whole after a ticket was given up
 pub discard_whole : (a : ArrayView) (s : ℕ) → s < 65536 → is_waiting (kept_at a s) ≡ true → IsWhole a → IsWhole (discard_view a s)
@@ -76,74 +53,44 @@ discard_whole a s inside waits whole = record {
     nothing t none (inl e) = ap (kept_at (discard_view a s)) e ∙ here
     nothing t none (inr ne) = other t ne ∙ none
 
-pub discard_shows : (a : ArrayView) (F : Flat) (w s : ℕ) → s < 65536 → is_waiting (kept_at a s) ≡ true → F.held s (Ticket w) ≡ true
-    → IsWhole a → ShowsArray a F → ShowsArray (discard_view a s) (discarded F w s)
-discard_shows a F w s inside waits mine whole shows = record {
-  limits = shows.limits;
-  sizes = shows.sizes;
-  drives = shows.drives;
-  log = shows.log;
-  records = shows.records;
-  blocks = shows.blocks;
-  chain = shows.chain;
-  writes = shows.writes;
-  versions = shows.versions;
-  map = shows.map;
-  groups = shows.groups;
-  table = shows.table;
-  slots = slots;
-  sized = shows.sized;
-  places = places_of (discard_view a s) (discarded F w s) (discard_whole a s inside waits whole) slots;
-  headers = shows.headers;
-  payloads = shows.payloads;
-  tickets = λ t. tickets t (cases_eq t s);
-  written = written;
-}
-  where
-    kept_room : s < length a.kept
-    kept_room = let e = whole.room.kept in omega arith
-
-    here : ArraySlot (kept_at (discard_view a s) s) (unit_at a s) (flat_at (discarded F w s) s)
-    here = rw (get_or-set_same a.kept s Nothing Nothing kept_room) (free_slot (kept_at a s) (unit_at a s) F w s waits (shows.slots s) mine)
-
-    slots : (t : ℕ) → ArraySlot (kept_at (discard_view a s) t) (unit_at a t) (flat_at (discarded F w s) t)
-    slots = one_slot a (discard_view a s) F (discarded F w s) s shows.slots
-        (λ t ne. get_or-set_other a.kept s t Nothing Nothing ne)
-        (λ t ne. refl)
-        (λ t ne. same_slot _ _ (turned_else F.held s (Ticket w) (Worker w) t ne) (put_else F.tickets s None t ne) refl refl)
-        here
-
-    tickets : (t : ℕ) → (t ≡ s) ⊎ (t ≡ s → ⊥) → TicketStands (class_of F t) F.writes (key_at a) (put F.tickets s None t)
-    tickets t (inl e) = subst (TicketStands (class_of F t) F.writes (key_at a)) (sym (ap (put F.tickets s None) e ∙ put_here F.tickets s None)) tt
-    tickets t (inr ne) = subst (TicketStands (class_of F t) F.writes (key_at a)) (sym (put_else F.tickets s None t ne)) (shows.tickets t)
-
-    written : (b : ℕ) → BlockStands (discarded F w s) b (key_at a b)
-    written b = (λ none. (shows.written b).0 none, λ some. let y = (shows.written b).1 some in (y.0, y.1, moved y.2))
-      where
-        moved : {v : _} → IsWritten F b (key_at a b) v → IsWritten (discarded F w s) b (key_at a b) v
-        moved y =
-            let apart : (record_of b (key_at a b)).place ≢ s = λ e.
-            let held : true ≡ false = sym y.place ∙ ap (λ t. F.held t (Block b)) e ∙ (shows.slots s).blocks b ∙ waiting_none (kept_at a s) waits b in absurd (cc)
-            in
-            record {
-              version = y.version;
-              unit = y.unit;
-              place = ap (λ (h : Holder → Bool). h (Block b)) (turned_else F.held s (Ticket w) (Worker w) (record_of b (key_at a b)).place apart) ∙ y.place;
-            }
-
 -- the ticket of a slot that waits is the worker's
 pub discard_case : (a : ArrayView) (F : Flat) (w s : ℕ) → s < 65536 → is_waiting (kept_at a s) ≡ true → IsWhole a → ShowsArray a F → F.held s (Ticket w) ≡ true
     → (G : Flat) × (DiscardCase F w s (Discarded s) G) × (ShowsArray (discard_view a s) G)
-discard_case a F w s inside waits whole shows mine = (discarded F w s, (refl, mine, refl), discard_shows a F w s inside waits mine whole shows)
+discard_case a F w s inside waits whole shows mine =
+    (discarded F w s, case, shows_after a (discard_view a s) F (discarded F w s) (Discard w s) (Discarded s) shows tt case shows.history.map tables)
+  where
+    case : DiscardCase F w s (Discarded s) (discarded F w s)
+    case = (refl, mine, refl)
 
--- a ticket that is one is the worker's
-pub ticket_held : (a : ArrayView) (F : Flat) (w s : ℕ) → is_waiting (kept_at a s) ≡ true → ShowsArray a F
-    → (F.tickets s ≢ None → F.held s (Ticket w) ≡ true) → F.held s (Ticket w) ≡ true
-ticket_held a F w s waits shows mine =
-    let v = (shows.slots s).waits waits in
-    mine (λ none. let no : true ≡ false = sym v.1 ∙ (shows.slots s).tickets none v.0 in cc)
+    P : ℕ → Type 0
+    P t = ArraySlot (kept_at (discard_view a s) t) (unit_at a t) ((discarded F w s).held t) ((discarded F w s).tickets t) (F.units t)
+
+    kept_room : s < length a.kept
+    kept_room = let e = whole.room.kept in omega arith
+
+    just : IsJust (turned F.held s (Ticket w) (Worker w) s) (Worker w)
+    just = turned_just F.held s (Ticket w) (Worker w) (just_one (F.held s) (Ticket w) (shows.history.holders s).once mine)
+
+    here : P s
+    here = slot_same Nothing (kept_at (discard_view a s) s) (unit_at a s) (unit_at a s) (turned F.held s (Ticket w) (Worker w) s) (turned F.held s (Ticket w) (Worker w) s)
+        None (put F.tickets s None s) (F.units s) (F.units s)
+        (get_or-set_same a.kept s Nothing Nothing kept_room) refl refl (put_here F.tickets s None) refl
+        (worker_slot (unit_at a s) (F.units s) (turned F.held s (Ticket w) (Worker w) s) w None just refl (shows.tables.slots s).unit_is)
+
+    rest : (t : ℕ) → (t ≡ s → ⊥) → P t
+    rest t ne = slot_same (kept_at a t) (kept_at (discard_view a s) t) (unit_at a t) (unit_at a t) (F.held t) (turned F.held s (Ticket w) (Worker w) t)
+        (F.tickets t) (put F.tickets s None t) (F.units t) (F.units t)
+        (get_or-set_other a.kept s t Nothing Nothing ne) refl (turned_else F.held s (Ticket w) (Worker w) t ne) (put_else F.tickets s None t ne) refl (shows.tables.slots t)
+
+    tables : InTables (discard_view a s) (discarded F w s)
+    tables = record {
+      sizes = shows.tables.sizes;
+      drives = shows.tables.drives;
+      log = shows.tables.log;
+      groups = shows.tables.groups;
+      slots = one_slot P s here rest;
+    }
 
 -- where nothing waits there is no ticket
 pub discard_refused : (a : ArrayView) (F : Flat) (w s : ℕ) → is_waiting (kept_at a s) ≡ false → ShowsArray a F → DiscardCase F w s (Refused NoTicket) F
-discard_refused a F w s waits shows =
-    ((shows.slots s).tickets ((shows.slots s).ticket ∙ not_waiting (kept_at a s) (unit_at a s) waits) w, refl)
+discard_refused a F w s waits shows = (unticketed a F w s waits shows, refl)

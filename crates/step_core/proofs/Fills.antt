@@ -1,5 +1,5 @@
 -- A slot is made to wait, and a fill of what is seen of an array is the flat machine's case.
-use Rattle.std.proofs.Common.{◌≡◌, ◌≢◌, ℕ, ◌<◌, ◌/◌, ◌%◌, Bool, true, false, ◌==◌, ◌&&◌, ◌||◌, is_some, List, length, refl, sym, ap, ◌∙◌, subst, arith, ◌⊎◌, inl, inr, Option, Some, None}
+use Rattle.std.proofs.Common.{◌≡◌, ◌≢◌, ℕ, ◌<◌, ◌/◌, ◌%◌, true, is_some, List, length, refl, sym, ap, ◌∙◌, subst, arith, ◌⊎◌, inl, inr, Option, Some, None}
 use Rattle.std.proofs.lemmas.List.{length-set, get_or-set_same, get_or-set_other}
 use Rattle.std.proofs.lemmas.Bool.{cases_eq}
 use Rattle.std.proofs.lemmas.Option.{same_Some}
@@ -8,60 +8,22 @@ use Rattle.map_join.specs.Record.{record_of}
 use Rattle.flat_machine.specs.declared.group.Class.{Class}
 use Rattle.flat_machine.specs.declared.group.Class.TheVariants.{Mirrored, Parity}
 use Rattle.flat_machine.specs.declared.refusal.Refusal.{Refusal}
+use Rattle.flat_machine.specs.Sizes.{Sizes}
 use Rattle.flat_machine.specs.Groups.{class_in, class_at}
-use Rattle.flat_machine.specs.Flat.{Flat, Holder, Worker, Ticket, Block, Shut, Write, Content, Fresh, Moved, Stored, put, turned, for_ticket, IsKept, class_of}
-use Rattle.flat_machine.specs.Steps.{Filled, Refused}
-use Rattle.flat_machine.specs.Cases.{FillCase, filled, ticketed}
+use Rattle.flat_machine.specs.Flat.{Flat, Content, Payload, Worker, Ticket, Waiting, Fresh, content_of, Stored, waiting_unit, put, turned, class_of}
+use Rattle.flat_machine.specs.Steps.{Fill, Filled, Refused}
+use Rattle.flat_machine.specs.Cases.{FillCase, FillPasses, ticketed}
+use Rattle.flat_machine.proofs.Pairs.{put_here, put_else, turned_else, turned_just, just_one, IsJust}
 use Rattle.step_core.specs.Changes.{wait_view, fill_view, fill_reason, fill_reason_of, MayRefuse}
 use Rattle.step_core.specs.Views.{Kept, Nothing, Pending, Moving, Newest, ArrayView, kept_at, unit_at, key_at, group_at, is_kept, is_waiting, IsWhole}
-use Rattle.step_core.specs.Represents.{flat_at, ArraySlot, IsWritten, BlockStands, HeaderStands, PayloadStands, TicketStands, ShowsArray, waiting}
-use Rattle.step_core.proofs.Pairs.{equal, equal_back, put_here, put_else, turned_here, turned_else}
-use Rattle.step_core.proofs.Slots.{same_slot, one_slot}
-use Rattle.step_core.proofs.Kepts.{nothing_kept, kept_iff, waiting_none, waiting_newest}
-use Rattle.step_core.proofs.Wholes.{places_of, sized_of}
+use Rattle.step_core.specs.Represents.{ArraySlot, IsTicketOf, InTables, ShowsArray}
+use Rattle.step_core.proofs.Slots.{ticket_slot, slot_same, one_slot, shows_after}
+use Rattle.step_core.proofs.Kepts.{kept_iff, unkept, waiting_newest}
 
 -- the class of a slot is what is seen of it
 pub class_seen : (a : ArrayView) (F : Flat) (s : ℕ) → ShowsArray a F → class_of F s ≡ class_at a.sizes.segments (group_at a) s
 class_seen a F s shows =
-    ap (λ z. class_in z.segments (F.groups (s / 128)) (s % 128)) shows.sizes ∙ ap (λ o. class_in a.sizes.segments o (s % 128)) (shows.groups (s / 128))
-
--- what is kept of a slot that waits, with its ticket
-pub record Waits (kept : Kept) (content : Content) (x : List ℕ) : Type 0 where
-  pub waits : is_waiting kept ≡ true
-  pub ticket : waiting kept (Some (record { header = None; payload = x })) ≡ Some content
-
-pub waits_fresh : (x : List ℕ) → Waits Pending (Fresh x) x
-waits_fresh x = record { waits = refl; ticket = refl }
-
-pub waits_moving : (r : Record) (x : List ℕ) → Waits (Moving r) (Moved r.block r.version r.hop x) x
-waits_moving r x = record { waits = refl; ticket = refl }
-
--- the slot that waits now
-ticket_slot : (kept : Kept) (content : Content) (o : Option Stored) (F : Flat) (w s : ℕ) (x : List ℕ) → Waits kept content x
-    → ArraySlot Nothing o (flat_at F s) → is_some (class_of F s) ≡ true
-    → ArraySlot kept (Some (record { header = None; payload = x })) (flat_at (ticketed F w s content x) s)
-ticket_slot kept content o F w s x now is classed = record {
-  blocks = λ b. turned_here F.held s (Worker w) (Ticket w) (Block b) ∙ ap (λ v. (v && true) || false) (is.blocks b) ∙ sym (waiting_none kept now.waits b);
-  shut = λ g. turned_here F.held s (Worker w) (Ticket w) (Shut g) ∙ ap (λ v. (v && true) || false) (is.shut g);
-  unit = put_here F.units s _;
-  there = classed;
-  ticket = put_here F.tickets s _ ∙ sym now.ticket;
-  blank = λ _. refl;
-  waits = λ _. (w, turned_here F.held s (Worker w) (Ticket w) (Ticket w) ∙ held_now (F.held s (Ticket w)));
-  tickets = λ none v. absurd (some_none (sym (put_here F.tickets s _) ∙ none));
-  lone = λ u v one other. waits u one ∙ sym (waits v other);
-}
-  where
-    waits : (v : ℕ) → turned F.held s (Worker w) (Ticket w) s (Ticket v) ≡ true → v ≡ w
-    waits v e = equal_back v w (sym (turned_here F.held s (Worker w) (Ticket w) (Ticket v)
-        ∙ ap (λ b. (b && true) || (v == w)) (nothing_kept o (flat_at F s) is (Ticket v) (for_ticket v))) ∙ e)
-
-    held_now : (v : Bool) → ((v && true) || (w == w)) ≡ true
-    held_now true = refl
-    held_now false = equal w w refl
-
-    some_none : (Some content) ≡ None → ⊥
-    some_none e = cc
+    ap (λ z. class_in z.segments (F.groups (s / 128)) (s % 128)) shows.tables.sizes ∙ ap (λ o. class_in a.sizes.segments o (s % 128)) (shows.tables.groups (s / 128))
 
 -- an array is whole after a slot was made to wait
 pub wait_whole : (a : ArrayView) (s : ℕ) (kept : Kept) (x : List ℕ) → s < 65536 → kept_at a s ≡ Nothing
@@ -121,84 +83,45 @@ wait_whole a s kept x inside free waits moves long whole = record {
         ap is_some (get_or-set_other a.units s t (Some (record { header = None; payload = x })) None ne)
         ∙ whole.stored t (λ e. is (get_or-set_other a.kept s t kept Nothing ne ∙ e))
 
--- under a blank header any payload may stand
-pub blank_payload : (emitted : List Record) (writes : List Write) (x : List ℕ) → PayloadStands emitted writes (Some (record { header = None; payload = x }))
-blank_payload emitted writes x r w header has wrote of = absurd (cc)
-
-pub wait_shows : (a : ArrayView) (F : Flat) (w s : ℕ) (kept : Kept) (content : Content) (x : List ℕ) → s < 65536 → kept_at a s ≡ Nothing
-    → is_some (class_of F s) ≡ true → Waits kept content x → TicketStands (class_of F s) F.writes (key_at a) (Some content) → IsWhole a → IsWhole (wait_view a s kept x)
-    → ShowsArray a F → ShowsArray (wait_view a s kept x) (ticketed F w s content x)
-wait_shows a F w s kept content x inside free classed now stands was whole shows = record {
-  limits = shows.limits;
-  sizes = shows.sizes;
-  drives = shows.drives;
-  log = shows.log;
-  records = shows.records;
-  blocks = shows.blocks;
-  chain = shows.chain;
-  writes = shows.writes;
-  versions = shows.versions;
-  map = shows.map;
-  groups = shows.groups;
-  table = shows.table;
-  slots = slots;
-  sized = sized_of (wait_view a s kept x) (ticketed F w s content x) whole shows.sizes slots;
-  places = places_of (wait_view a s kept x) (ticketed F w s content x) whole slots;
-  headers = λ t. headers t (cases_eq t s);
-  payloads = λ t. payloads t (cases_eq t s);
-  tickets = λ t. tickets t (cases_eq t s);
-  written = written;
+-- the tables after a slot was made to wait are the state's in which it does
+pub wait_tables : (a : ArrayView) (F : Flat) (w s : ℕ) (kept : Kept) (c : Waiting) (x : List ℕ) → s < 65536 → is_waiting kept ≡ true → IsTicketOf kept (Some c)
+    → waiting_unit F.sizes.payload (content_of c) ≡ record { header = None; payload = x } → IsWhole a → ShowsArray a F → F.held s (Worker w) ≡ true
+    → InTables (wait_view a s kept x) (ticketed F w s c)
+wait_tables a F w s kept c x inside waits ticket unit whole shows held = record {
+  sizes = shows.tables.sizes;
+  drives = shows.tables.drives;
+  log = shows.tables.log;
+  groups = shows.tables.groups;
+  slots = one_slot P s here rest;
 }
   where
+    u : Stored
+    u = waiting_unit F.sizes.payload (content_of c)
+
+    P : ℕ → Type 0
+    P t = ArraySlot (kept_at (wait_view a s kept x) t) (unit_at (wait_view a s kept x) t) ((ticketed F w s c).held t) ((ticketed F w s c).tickets t) ((ticketed F w s c).units t)
+
     kept_room : s < length a.kept
-    kept_room = let e = was.room.kept in omega arith
+    kept_room = let e = whole.room.kept in omega arith
 
     units_room : s < length a.units
-    units_room = let e = was.room.units in omega arith
+    units_room = let e = whole.room.units in omega arith
 
-    old : ArraySlot Nothing (unit_at a s) (flat_at F s)
-    old = subst (λ k. ArraySlot k (unit_at a s) (flat_at F s)) free (shows.slots s)
+    just : IsJust (turned F.held s (Worker w) (Ticket w) s) (Ticket w)
+    just = turned_just F.held s (Worker w) (Ticket w) (just_one (F.held s) (Worker w) (shows.history.holders s).once held)
 
-    here : ArraySlot (kept_at (wait_view a s kept x) s) (unit_at (wait_view a s kept x) s) (flat_at (ticketed F w s content x) s)
-    here = rw (get_or-set_same a.kept s kept Nothing kept_room, get_or-set_same a.units s (Some (record { header = None; payload = x })) None units_room)
-        (ticket_slot kept content (unit_at a s) F w s x now old classed)
+    here : P s
+    here = slot_same kept (kept_at (wait_view a s kept x) s) (Some u) (unit_at (wait_view a s kept x) s) (turned F.held s (Worker w) (Ticket w) s) (turned F.held s (Worker w) (Ticket w) s)
+        (Some c) (put F.tickets s (Some c) s) (Some u) (put F.units s (Some u) s)
+        (get_or-set_same a.kept s kept Nothing kept_room) (get_or-set_same a.units s (Some (record { header = None; payload = x })) None units_room ∙ ap (λ y. Some y) (sym unit))
+        refl (put_here F.tickets s (Some c)) (put_here F.units s (Some u))
+        (ticket_slot kept (Some u) (Some u) (turned F.held s (Worker w) (Ticket w) s) w (Some c) waits just ticket refl)
 
-    slots : (t : ℕ) → ArraySlot (kept_at (wait_view a s kept x) t) (unit_at (wait_view a s kept x) t) (flat_at (ticketed F w s content x) t)
-    slots = one_slot a (wait_view a s kept x) F (ticketed F w s content x) s shows.slots
-        (λ t ne. get_or-set_other a.kept s t kept Nothing ne)
-        (λ t ne. get_or-set_other a.units s t _ None ne)
-        (λ t ne. same_slot _ _ (turned_else F.held s (Worker w) (Ticket w) t ne) (put_else F.tickets s _ t ne) (put_else F.units s _ t ne) refl)
-        here
-
-    headers : (t : ℕ) → (t ≡ s) ⊎ (t ≡ s → ⊥) → HeaderStands (key_at a) t (put F.units s (Some (record { header = None; payload = x })) t)
-    headers t (inl e) = subst (HeaderStands (key_at a) t) (sym (ap (put F.units s (Some (record { header = None; payload = x }))) e ∙ put_here F.units s _)) tt
-    headers t (inr ne) = subst (HeaderStands (key_at a) t) (sym (put_else F.units s _ t ne)) (shows.headers t)
-
-    payloads : (t : ℕ) → (t ≡ s) ⊎ (t ≡ s → ⊥) → PayloadStands F.emitted F.writes (put F.units s (Some (record { header = None; payload = x })) t)
-    payloads t (inl e) =
-        subst (PayloadStands F.emitted F.writes) (sym (ap (put F.units s (Some (record { header = None; payload = x }))) e ∙ put_here F.units s _))
-        (blank_payload F.emitted F.writes x)
-    payloads t (inr ne) = subst (PayloadStands F.emitted F.writes) (sym (put_else F.units s _ t ne)) (shows.payloads t)
-
-    tickets : (t : ℕ) → (t ≡ s) ⊎ (t ≡ s → ⊥) → TicketStands (class_of F t) F.writes (key_at a) (put F.tickets s (Some content) t)
-    tickets t (inl e) =
-        subst (TicketStands (class_of F t) F.writes (key_at a)) (sym (ap (put F.tickets s (Some content)) e ∙ put_here F.tickets s (Some content)))
-        (subst (λ n. TicketStands (class_of F n) F.writes (key_at a) (Some content)) (sym e) stands)
-    tickets t (inr ne) = subst (TicketStands (class_of F t) F.writes (key_at a)) (sym (put_else F.tickets s (Some content) t ne)) (shows.tickets t)
-
-    written : (b : ℕ) → BlockStands (ticketed F w s content x) b (key_at a b)
-    written b = (λ none. (shows.written b).0 none, λ some. let y = (shows.written b).1 some in (y.0, y.1, moved y.2))
-      where
-        moved : {v : _} → IsWritten F b (key_at a b) v → IsWritten (ticketed F w s content x) b (key_at a b) v
-        moved y =
-            let apart : (record_of b (key_at a b)).place ≢ s = λ e.
-            let held : true ≡ false = sym y.place ∙ ap (λ t. F.held t (Block b)) e ∙ old.blocks b in absurd (cc)
-            in
-            record {
-              version = y.version;
-              unit = put_else F.units s _ (record_of b (key_at a b)).place apart ∙ y.unit;
-              place = ap (λ (h : Holder → Bool). h (Block b)) (turned_else F.held s (Worker w) (Ticket w) (record_of b (key_at a b)).place apart) ∙ y.place;
-            }
+    rest : (t : ℕ) → (t ≡ s → ⊥) → P t
+    rest t ne = slot_same (kept_at a t) (kept_at (wait_view a s kept x) t) (unit_at a t) (unit_at (wait_view a s kept x) t) (F.held t) (turned F.held s (Worker w) (Ticket w) t)
+        (F.tickets t) (put F.tickets s (Some c) t) (F.units t) (put F.units s (Some u) t)
+        (get_or-set_other a.kept s t kept Nothing ne) (get_or-set_other a.units s t (Some (record { header = None; payload = x })) None ne)
+        (turned_else F.held s (Worker w) (Ticket w) t ne) (put_else F.tickets s (Some c) t ne) (put_else F.units s (Some u) t ne) (shows.tables.slots t)
 
 -- a slot that can be filled is in a mirrored group, and nothing is kept of it
 pub record CanFill (a : ArrayView) (s : ℕ) : Type 0 where
@@ -216,48 +139,42 @@ can_fill a s none = go (class_at a.sizes.segments (group_at a) s) refl (kept_at 
     go (Some Parity) is_c k is_k e = absurd (cc)
     go None is_c k is_k e = absurd (cc)
 
--- of which nothing is kept, the array doesn't hold
-pub unkept : (a : ArrayView) (F : Flat) (s : ℕ) → kept_at a s ≡ Nothing → ShowsArray a F → IsKept F s → ⊥
-unkept a F s free shows kept = let t = (kept_iff a F s shows).1 kept in let no : false ≡ true = sym (ap is_kept free) ∙ t in absurd (cc)
-
 -- and whole after a fill
 pub fill_whole : (a : ArrayView) (s : ℕ) (x : List ℕ) → s < 65536 → fill_reason a s ≡ None → length x ≡ a.sizes.payload → IsWhole a → IsWhole (fill_view a s x)
 fill_whole a s x inside none long whole = wait_whole a s Pending x inside (can_fill a s none).free refl (λ r e. absurd (cc)) long whole
 
 -- where nothing speaks against it, the fill is the flat machine's
-pub fill_done : (a : ArrayView) (F : Flat) (w s : ℕ) (x : List ℕ) → fill_reason a s ≡ None → ShowsArray a F → F.held s (Worker w) ≡ true
-    → FillCase F w s x (Filled s) (filled F w s x)
-fill_done a F w s x none shows held =
-    let can = can_fill a s none in
-    (refl, held, class_seen a F s shows ∙ can.class, unkept a F s can.free shows, refl)
+pub fill_passes : (a : ArrayView) (F : Flat) (w s : ℕ) → fill_reason a s ≡ None → ShowsArray a F → F.held s (Worker w) ≡ true → FillPasses F w s
+fill_passes a F w s none shows held = let can = can_fill a s none in (held, class_seen a F s shows ∙ can.class, unkept a F s can.free shows)
 
 pub fill_case : (a : ArrayView) (F : Flat) (w s : ℕ) (x : List ℕ) → s < 65536 → fill_reason a s ≡ None → length x ≡ a.sizes.payload → IsWhole a → ShowsArray a F
-    → F.held s (Worker w) ≡ true → (G : Flat) × (FillCase F w s x (Filled s) G) × (ShowsArray (fill_view a s x) G)
+    → F.held s (Worker w) ≡ true → (G : Flat) × (FillCase F w s (Payload x) (Filled s) G) × (ShowsArray (fill_view a s x) G)
 fill_case a F w s x inside none long whole shows held =
-    let can = can_fill a s none in
-    let class = class_seen a F s shows ∙ can.class in (
-      filled F w s x,
-      fill_done a F w s x none shows held,
-      wait_shows a F w s Pending (Fresh x) x inside can.free (ap is_some class) (waits_fresh x) class whole (fill_whole a s x inside none long whole) shows,
+    let case : FillCase F w s (Payload x) (Filled s) (ticketed F w s (Fresh (Payload x))) = (refl, fill_passes a F w s none shows held, refl) in (
+      ticketed F w s (Fresh (Payload x)),
+      case,
+      shows_after a (fill_view a s x) F (ticketed F w s (Fresh (Payload x))) (Fill w s (Payload x)) (Filled s) shows
+          (long ∙ ap (λ (z : Sizes). z.payload) (sym shows.tables.sizes)) case shows.history.map
+          (wait_tables a F w s Pending (Fresh (Payload x)) x inside refl (Payload x, refl) refl whole shows held),
     )
 
 -- and where something does, it is the flat machine's refusal
-pub fill_refused : (a : ArrayView) (F : Flat) (w s : ℕ) (x : List ℕ) (r : Refusal) → fill_reason a s ≡ Some r → ShowsArray a F → F.held s (Worker w) ≡ true
-    → MayRefuse r ((G : Flat) × (FillCase F w s x (Filled s) G)) (FillCase F w s x (Refused r) F)
+pub fill_refused : (a : ArrayView) (F : Flat) (w s : ℕ) (x : Content) (r : Refusal) → fill_reason a s ≡ Some r → ShowsArray a F → F.held s (Worker w) ≡ true
+    → MayRefuse r (FillPasses F w s) (FillCase F w s x (Refused r) F)
 fill_refused a F w s x r some shows held = go (class_at a.sizes.segments (group_at a) s) refl (kept_at a s) refl
   where
-    by_cases : (c : Option Class) → class_of F s ≡ c → (k : Kept) → kept_at a s ≡ k → fill_reason_of c k ≡ Some r → MayRefuse r ((G : Flat) × (FillCase F w s x (Filled s) G)) (FillCase F w s x (Refused r) F)
-    by_cases None is_c k is_k e = subst (λ q. MayRefuse q ((G : Flat) × (FillCase F w s x (Filled s) G)) (FillCase F w s x (Refused q) F)) (same_Some _ _ e) (held, is_c, refl)
-    by_cases (Some Parity) is_c k is_k e = subst (λ q. MayRefuse q ((G : Flat) × (FillCase F w s x (Filled s) G)) (FillCase F w s x (Refused q) F)) (same_Some _ _ e) (held, is_c, refl)
-    by_cases (Some Mirrored) is_c Nothing is_k e = absurd (cc)
-    by_cases (Some Mirrored) is_c Pending is_k e =
-        subst (λ q. MayRefuse q ((G : Flat) × (FillCase F w s x (Filled s) G)) (FillCase F w s x (Refused q) F)) (same_Some _ _ e) (held, is_c, (kept_iff a F s shows).0 (ap is_kept is_k), refl)
-    by_cases (Some Mirrored) is_c (Moving m) is_k e =
-        subst (λ q. MayRefuse q ((G : Flat) × (FillCase F w s x (Filled s) G)) (FillCase F w s x (Refused q) F)) (same_Some _ _ e) (held, is_c, (kept_iff a F s shows).0 (ap is_kept is_k), refl)
-    by_cases (Some Mirrored) is_c (Newest b) is_k e =
-        subst (λ q. MayRefuse q ((G : Flat) × (FillCase F w s x (Filled s) G)) (FillCase F w s x (Refused q) F)) (same_Some _ _ e) (held, is_c, (kept_iff a F s shows).0 (ap is_kept is_k), refl)
+    P : Refusal → Type 0
+    P q = MayRefuse q (FillPasses F w s) (FillCase F w s x (Refused q) F)
 
-    go : (c : Option Class) → class_at a.sizes.segments (group_at a) s ≡ c → (k : Kept) → kept_at a s ≡ k → MayRefuse r ((G : Flat) × (FillCase F w s x (Filled s) G)) (FillCase F w s x (Refused r) F)
+    by_cases : (c : Option Class) → class_of F s ≡ c → (k : Kept) → kept_at a s ≡ k → fill_reason_of c k ≡ Some r → P r
+    by_cases None is_c k is_k e = subst P (same_Some _ _ e) (held, is_c, refl)
+    by_cases (Some Parity) is_c k is_k e = subst P (same_Some _ _ e) (held, is_c, refl)
+    by_cases (Some Mirrored) is_c Nothing is_k e = absurd (cc)
+    by_cases (Some Mirrored) is_c Pending is_k e = subst P (same_Some _ _ e) (held, is_c, (kept_iff a F s shows).0 (ap is_kept is_k), refl)
+    by_cases (Some Mirrored) is_c (Moving m) is_k e = subst P (same_Some _ _ e) (held, is_c, (kept_iff a F s shows).0 (ap is_kept is_k), refl)
+    by_cases (Some Mirrored) is_c (Newest b) is_k e = subst P (same_Some _ _ e) (held, is_c, (kept_iff a F s shows).0 (ap is_kept is_k), refl)
+
+    go : (c : Option Class) → class_at a.sizes.segments (group_at a) s ≡ c → (k : Kept) → kept_at a s ≡ k → P r
     go c is_c k is_k = by_cases c (class_seen a F s shows ∙ is_c) k is_k (sym (ap (λ o. fill_reason_of o (kept_at a s)) is_c ∙ ap (fill_reason_of c) is_k) ∙ some)
 
 -- equal arrays are whole together

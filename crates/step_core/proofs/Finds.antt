@@ -3,11 +3,11 @@ use Rattle.std.proofs.Common.{◌≡◌, ℕ, ◌^◌, ◌<◌, ◌≤◌, sym, 
 use Rattle.std.proofs.lemmas.Option.{same_Some}
 use Rattle.map_join.specs.declared.records.Record.{Record}
 use Rattle.map_join.specs.Record.{record_of, record_at}
-use Rattle.flat_machine.specs.Flat.{Flat, Write, Stored, last_write}
+use Rattle.flat_machine.specs.Flat.{Flat, Write, Stored, content_in, last_write}
 use Rattle.flat_machine.specs.Cases.{found_of}
+use Rattle.flat_machine.proofs.Newest.{told_at, untold_at, told_key}
 use Rattle.step_core.specs.Views.{Nothing, Newest, ArrayView, kept_at, unit_at, key_at, IsWhole}
 use Rattle.step_core.specs.Represents.{ShowsArray}
-use Rattle.step_core.proofs.Newest.{told_at, untold_at, told_key}
 
 sizes : (k : ℕ) → (k < 2 ^ 32) ⊎ (2 ^ 32 ≤ k)
 sizes k = grind arith
@@ -18,7 +18,7 @@ read_none a F b whole shows none = go (sizes (key_at a b))
   where
     go : (key_at a b < 2 ^ 32) ⊎ (2 ^ 32 ≤ key_at a b) → None ≡ found_of (last_write F.writes b)
     go (inr big) = let bad : Some (record_of b (key_at a b)) ≡ None = sym (told_at b (key_at a b) big) ∙ none in absurd (cc)
-    go (inl small) = sym (ap found_of ((shows.written b).0 (zero (positive (key_at a b)))))
+    go (inl small) = sym (ap found_of ((shows.history.written b).0 (zero (positive (key_at a b)))))
       where
         positive : (k : ℕ) → (k ≡ 0) ⊎ (0 < k)
         positive k = grind arith
@@ -27,24 +27,24 @@ read_none a F b whole shows none = go (sizes (key_at a b))
         zero (inl e) = e
         zero (inr some) = let big = whole.keys b some in absurd (omega arith)
 
--- the unit at a block's newest place has the payload of its last write
+-- the unit at a block's newest place has the content of its last write
 pub newest_write : (a : ArrayView) (F : Flat) (b : ℕ) (r : Record) (u : Stored) → ShowsArray a F → record_at b (key_at a b) ≡ Some r → unit_at a r.place ≡ Some u
-    → (w : Write) × (last_write F.writes b ≡ Some w) × (u.payload ≡ w.payload) × (w.version ≡ r.version)
+    → (w : Write) × (last_write F.writes b ≡ Some w) × (content_in u ≡ w.content) × (w.version ≡ r.version)
 newest_write a F b r u shows found unit =
     let told = told_key b (key_at a b) r found in
     let big = told.0 in
-    let y = (shows.written b).1 (omega arith) in
-    let stored : Some u ≡ Some (record { header = Some (record_of b (key_at a b)); payload = y.0.payload }) =
-    sym unit ∙ sym (shows.slots r.place).unit ∙ ap (λ (q : Record). F.units q.place) (sym told.1) ∙ y.2.unit
+    let y = (shows.history.written b).1 (omega arith) in
+    let stored : Some u ≡ Some y.2.unit.stored =
+    sym unit ∙ sym (shows.tables.slots r.place).unit_is ∙ ap (λ (q : Record). F.units q.place) (sym told.1) ∙ y.2.unit.there
     in
-    (y.0, y.1, ap (λ (v : Stored). v.payload) (same_Some _ _ stored), y.2.version ∙ ap (λ (q : Record). q.version) told.1)
+    (y.0, y.1, ap content_in (same_Some _ _ stored) ∙ y.2.unit.content, y.2.version ∙ ap (λ (q : Record). q.version) told.1)
 
 -- a block with a record holds what its unit does
 pub read_some : (a : ArrayView) (F : Flat) (b : ℕ) (r : Record) (u : Stored) → ShowsArray a F → record_at b (key_at a b) ≡ Some r → unit_at a r.place ≡ Some u
-    → Some (record { version = r.version; payload = u.payload }) ≡ found_of (last_write F.writes b)
+    → Some (record { version = r.version; content = content_in u }) ≡ found_of (last_write F.writes b)
 read_some a F b r u shows is unit =
     let x = newest_write a F b r u shows is unit in
-    sym (ap found_of x.1 ∙ λ i. Some (record { version = x.3 i; payload = (sym x.2) i }))
+    sym (ap found_of x.1 ∙ λ i. Some (record { version = x.3 i; content = (sym x.2) i }))
 
 -- the newest place has a unit
 pub read_there : (a : ArrayView) (b : ℕ) (r : Record) → IsWhole a → record_at b (key_at a b) ≡ Some r → is_some (unit_at a r.place) ≡ true

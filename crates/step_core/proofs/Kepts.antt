@@ -1,52 +1,77 @@
--- What the array keeps is what the flat state's holders say.
-use Rattle.std.proofs.Common.{◌≡◌, ◌↔◌, ℕ, true, false, IsTrue, refl, sym, ap, ◌∙◌, Option, None}
-use Rattle.flat_machine.specs.Flat.{Flat, Holder, Ticket, Block, IsArrays, for_ticket, for_block, for_shut, IsKept, Stored}
-use Rattle.step_core.specs.Views.{Kept, Nothing, Pending, Moving, Newest, ArrayView, kept_at, unit_at, is_kept, is_waiting}
-use Rattle.step_core.specs.Represents.{FlatSlot, flat_at, ArraySlot, ShowsArray, is_newest, waiting}
-use Rattle.step_core.proofs.Pairs.{equal}
+-- What the array keeps of a slot is what the flat state's holders say.
+use Rattle.std.proofs.Common.{◌≡◌, ◌≢◌, ◌↔◌, ℕ, Bool, true, false, IsTrue, refl, sym, ap, ◌∙◌, Option, Some, None}
+use Rattle.flat_machine.specs.Flat.{Flat, Holder, Ticket, Block, IsArrays, for_ticket, for_block, for_shut, IsKept, Waiting, Fresh, Moved, Stored}
+use Rattle.flat_machine.specs.Groups.{Made}
+use Rattle.flat_machine.specs.History.{HoldersStand}
+use Rattle.flat_machine.proofs.Pairs.{equal}
+use Rattle.step_core.specs.Views.{Kept, Nothing, Pending, Moving, Newest, ArrayView, kept_at, key_at, is_kept, is_waiting}
+use Rattle.step_core.specs.Represents.{ArraySlot, ShowsArray, IsTicketOf}
 
--- a slot of which nothing is kept has no ticket and is no block's
-pub kept_holder : (kept : Kept) (o : Option Stored) (f : FlatSlot) → ArraySlot kept o f → IsTrue (is_kept kept)
-    → (k : Holder) × (IsArrays k) × (f.held k ≡ true)
-kept_holder Nothing o f is t = absurd (cc)
-kept_holder Pending o f is t = let w = is.waits refl in (Ticket w.0, for_ticket w.0, w.1)
-kept_holder (Moving r) o f is t = let w = is.waits refl in (Ticket w.0, for_ticket w.0, w.1)
-kept_holder (Newest b) o f is t = (Block b, for_block b, is.blocks b ∙ equal b b refl)
+-- a Boolean that can't be true
+pub never : (b : Bool) → (b ≡ true → ⊥) → b ≡ false
+never true no_way = absurd (no_way refl)
+never false no_way = refl
 
-pub nothing_kept : (o : Option Stored) (f : FlatSlot) → ArraySlot Nothing o f → (k : Holder) → IsArrays k → f.held k ≡ false
-nothing_kept o f is _ (for_ticket w) = is.tickets is.ticket w
-nothing_kept o f is _ (for_block b) = is.blocks b
-nothing_kept o f is _ (for_shut g) = is.shut g
+-- nothing waits where no ticket is kept
+pub not_waiting : (k : Kept) (t : Option Waiting) → is_waiting k ≡ false → IsTicketOf k t → t ≡ None
+not_waiting Nothing t e is = is
+not_waiting (Newest b) t e is = is
+not_waiting Pending t e is = absurd (cc)
+not_waiting (Moving r) t e is = absurd (cc)
 
-holder_kept : (kept : Kept) (o : Option Stored) (f : FlatSlot) → ArraySlot kept o f → (k : Holder) → IsArrays k → f.held k ≡ true
-    → IsTrue (is_kept kept)
-holder_kept Nothing o f is k of e = let no : true ≡ false = sym e ∙ nothing_kept o f is k of in absurd (cc)
-holder_kept Pending o f is k of e = refl
-holder_kept (Moving r) o f is k of e = refl
-holder_kept (Newest b) o f is k of e = refl
+-- something waits where one is
+pub ticket_there : (k : Kept) (t : Option Waiting) → is_waiting k ≡ true → IsTicketOf k t → (c : Waiting) × (t ≡ Some c)
+ticket_there Pending t e is = (Fresh is.0, is.1)
+ticket_there (Moving r) t e is = (Moved r.block r.version r.hop is.0, is.1)
+ticket_there Nothing t e is = absurd (cc)
+ticket_there (Newest b) t e is = absurd (cc)
 
--- a slot that waits is no block's newest place, and is kept; without a ticket none waits
-pub waiting_none : (k : Kept) → is_waiting k ≡ true → (b : ℕ) → is_newest k b ≡ false
-waiting_none Pending e b = refl
-waiting_none (Moving r) e b = refl
-waiting_none Nothing e b = absurd (cc)
-waiting_none (Newest c) e b = absurd (cc)
+-- what is kept is held by a ticket or a block, and what isn't by neither
+kept_holder : (groups : ℕ → Option Made) (keys : ℕ → ℕ) (s : ℕ) (kept : Kept) (o u : Option Stored) (held : Holder → Bool) (t : Option Waiting)
+    → HoldersStand groups keys s held t → ArraySlot kept o held t u → IsTrue (is_kept kept) → (k : Holder) × (IsArrays k) × (held k ≡ true)
+kept_holder groups keys s Nothing o u held t is slot e = absurd (cc)
+kept_holder groups keys s Pending o u held t is slot e = let w = is.waits (Fresh slot.waits.0) slot.waits.1 in (Ticket w.0, for_ticket w.0, w.1)
+kept_holder groups keys s (Moving r) o u held t is slot e = let w = is.waits (Moved r.block r.version r.hop slot.waits.0) slot.waits.1 in (Ticket w.0, for_ticket w.0, w.1)
+kept_holder groups keys s (Newest b) o u held t is slot e = (Block b, for_block b, slot.blocks b ∙ equal b b refl)
 
+pub nothing_kept : (groups : ℕ → Option Made) (keys : ℕ → ℕ) (s : ℕ) (o u : Option Stored) (held : Holder → Bool) (t : Option Waiting)
+    → HoldersStand groups keys s held t → ArraySlot Nothing o held t u → (k : Holder) → IsArrays k → held k ≡ false
+nothing_kept groups keys s o u held t is slot _ (for_ticket w) = never (held (Ticket w)) (λ e. is.waiting w e slot.waits)
+nothing_kept groups keys s o u held t is slot _ (for_block b) = slot.blocks b
+nothing_kept groups keys s o u held t is slot _ (for_shut g) = slot.shut g
+
+holder_kept : (groups : ℕ → Option Made) (keys : ℕ → ℕ) (s : ℕ) (kept : Kept) (o u : Option Stored) (held : Holder → Bool) (t : Option Waiting)
+    → HoldersStand groups keys s held t → ArraySlot kept o held t u → (k : Holder) → IsArrays k → held k ≡ true → IsTrue (is_kept kept)
+holder_kept groups keys s Nothing o u held t is slot k of e = let bad : true ≡ false = sym e ∙ nothing_kept groups keys s o u held t is slot k of in absurd (cc)
+holder_kept groups keys s Pending o u held t is slot k of e = refl
+holder_kept groups keys s (Moving r) o u held t is slot k of e = refl
+holder_kept groups keys s (Newest b) o u held t is slot k of e = refl
+
+-- the array keeps a slot exactly where a holder of its own holds it
+pub kept_iff : (a : ArrayView) (F : Flat) (s : ℕ) → ShowsArray a F → IsTrue (is_kept (kept_at a s)) ↔ IsKept F s
+kept_iff a F s shows = (
+  λ t. kept_holder F.groups (key_at a) s (kept_at a s) _ _ (F.held s) (F.tickets s) (shows.history.holders s) (shows.tables.slots s) t,
+  λ k. holder_kept F.groups (key_at a) s (kept_at a s) _ _ (F.held s) (F.tickets s) (shows.history.holders s) (shows.tables.slots s) k.0 k.1 k.2,
+)
+
+-- a slot that waits is no block's newest place, and is kept
 pub waiting_kept : (k : Kept) → is_waiting k ≡ true → k ≡ Nothing → ⊥
 waiting_kept k w e = let bad : true ≡ false = sym w ∙ ap is_waiting e in cc
 
 pub waiting_newest : (k : Kept) (b : ℕ) → is_waiting k ≡ true → k ≡ Newest b → ⊥
 waiting_newest k b w e = let bad : true ≡ false = sym w ∙ ap is_waiting e in cc
 
-pub not_waiting : (k : Kept) (o : Option Stored) → is_waiting k ≡ false → waiting k o ≡ None
-not_waiting Nothing o e = refl
-not_waiting (Newest b) o e = refl
-not_waiting Pending o e = absurd (cc)
-not_waiting (Moving r) o e = absurd (cc)
+-- of which nothing is kept, the array doesn't hold
+pub unkept : (a : ArrayView) (F : Flat) (s : ℕ) → kept_at a s ≡ Nothing → ShowsArray a F → IsKept F s → ⊥
+unkept a F s free shows kept = let t = (kept_iff a F s shows).1 kept in let bad : false ≡ true = sym (ap is_kept free) ∙ t in absurd (cc)
 
--- the array keeps a slot exactly where a holder of its own holds it
-pub kept_iff : (a : ArrayView) (F : Flat) (s : ℕ) → ShowsArray a F → IsTrue (is_kept (kept_at a s)) ↔ IsKept F s
-kept_iff a F s shows = (
-  λ t. kept_holder (kept_at a s) (unit_at a s) (flat_at F s) (shows.slots s) t,
-  λ k. holder_kept (kept_at a s) (unit_at a s) (flat_at F s) (shows.slots s) k.0 k.1 k.2,
-)
+-- the ticket of a slot that waits, and none elsewhere
+pub ticket_held : (a : ArrayView) (F : Flat) (w s : ℕ) → is_waiting (kept_at a s) ≡ true → ShowsArray a F
+    → (F.tickets s ≢ None → F.held s (Ticket w) ≡ true) → F.held s (Ticket w) ≡ true
+ticket_held a F w s waits shows mine =
+    let t = ticket_there (kept_at a s) (F.tickets s) waits (shows.tables.slots s).waits in
+    mine (λ none. let bad : Some t.0 ≡ None = sym t.1 ∙ none in cc)
+
+pub unticketed : (a : ArrayView) (F : Flat) (w s : ℕ) → is_waiting (kept_at a s) ≡ false → ShowsArray a F → F.held s (Ticket w) ≡ false
+unticketed a F w s waits shows =
+    never (F.held s (Ticket w)) (λ e. (shows.history.holders s).waiting w e (not_waiting (kept_at a s) (F.tickets s) waits (shows.tables.slots s).waits))

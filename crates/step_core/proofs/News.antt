@@ -1,17 +1,18 @@
 -- A new array stands for the new flat state.
-use Rattle.std.proofs.Common.{◌≡◌, ℕ, ◌≤◌, List, [], get_or, refl, sym, ap, ◌∙◌, subst, arith, Contains, Option, None}
+use Rattle.std.proofs.Common.{◌≡◌, ℕ, ◌≤◌, List, get_or, refl, sym, ap, ◌∙◌, subst, arith, Option, None}
 use Rattle.std.proofs.Math.ListN.{get_or-map}
 use Rattle.std.specs.Option.{option_map}
-use Rattle.map_join.specs.declared.records.Record.{Record}
 use Rattle.step_core.specs.declared.place.Place.{Place}
 use Rattle.step_core.specs.declared.place.Place.TheVariants as place
 use Rattle.step_core.specs.declared.stored.StoredUnit.{StoredUnit}
 use Rattle.step_core.specs.declared.group.Group.{Group}
 use Rattle.flat_machine.specs.Sizes.{Sizes, AreSizes}
 use Rattle.step_core.specs.Kept.{kept_of, kepts_of, stored_of, units_of, made_of, groups_of}
-use Rattle.flat_machine.specs.Flat.{Write, new_flat}
-use Rattle.step_core.specs.Views.{Nothing, Moving, Newest, ArrayView, IsWhole, IsNew}
-use Rattle.step_core.specs.Represents.{flat_at, ArraySlot, ShowsArray}
+use Rattle.flat_machine.specs.Flat.{new_flat}
+use Rattle.flat_machine.specs.History.{IsHistory}
+use Rattle.flat_machine.proofs.Keeps.{new_history}
+use Rattle.step_core.specs.Views.{Nothing, Moving, Newest, ArrayView, key_at, IsWhole, IsNew}
+use Rattle.step_core.specs.Represents.{ShowsArray}
 
 pub none_kept : {C : Type 0} (places : List (Place C)) → ((s : ℕ) → get_or places s place.Free ≡ place.Free) → (s : ℕ) → get_or (kepts_of places) s Nothing ≡ Nothing
 none_kept places all s = get_or-map kept_of places s place.Free ∙ ap kept_of (all s)
@@ -40,44 +41,17 @@ new_whole z d a new narrow = record {
   };
 }
 
-not_there : (r : Record) → Contains [] r → ⊥
-not_there r has = let h = has.1 in omega arith
-
-unwritten : (w : Write) → Contains [] w → ⊥
-unwritten w has = let h = has.1 in omega arith
-
-blank_slot : (s : ℕ) (z : Sizes) (d : ℕ) → ArraySlot Nothing None (flat_at (new_flat z d) s)
-blank_slot s z d = record {
-  blocks = λ b. refl;
-  shut = λ g. refl;
-  unit = refl;
-  there = refl;
-  ticket = refl;
-  blank = λ is. absurd (cc);
-  waits = λ is. absurd (cc);
-  tickets = λ none w. refl;
-  lone = λ v w one. absurd (cc);
-}
-
 pub new_shows : (z : Sizes) (d : ℕ) (a : ArrayView) → IsNew z d a → AreSizes z → 3 ≤ d → d ≤ 16 → ShowsArray a (new_flat z d)
 new_shows z d a new sizes least most = record {
-  limits = record { sizes = sizes; least = least; most = most; log = omega arith };
-  sizes = sym new.sizes_are;
-  drives = sym new.drives_are;
-  log = sym new.log;
-  records = λ r has. absurd (not_there r has);
-  blocks = λ r has. absurd (not_there r has);
-  chain = tt;
-  writes = λ w has. absurd (unwritten w has);
-  versions = tt;
-  map = record { told = λ b some. let e = new.keys b in absurd (omega arith); most = λ r has. absurd (not_there r has) };
-  groups = λ g. sym (new.groups g);
-  table = record { limit = λ g made is. absurd (cc); members = λ g made is. absurd (cc); owned = λ g h m n is. absurd (cc) };
-  slots = λ s. rw (new.kept s, new.units s) (blank_slot s z d);
-  sized = λ s u is. absurd (cc);
-  places = λ s b held. absurd (cc);
-  headers = λ s. tt;
-  payloads = λ s. tt;
-  tickets = λ s. tt;
-  written = λ b. (λ none. refl, λ some. let e = new.keys b in absurd (omega arith));
+  history = subst (IsHistory (new_flat z d)) (sym keys_are) (new_history z d sizes least most);
+  tables = record {
+    sizes = sym new.sizes_are;
+    drives = sym new.drives_are;
+    log = sym new.log;
+    groups = λ g. sym (new.groups g);
+    slots = λ s. rw (new.kept s, new.units s) (record { blocks = λ b. refl; shut = λ g. refl; waits = refl; unit_is = refl });
+  };
 }
+  where
+    keys_are : key_at a ≡ (λ _. 0)
+    keys_are = λ i b. new.keys b i

@@ -1,12 +1,12 @@
 -- What lies at a record's place, and what is learned there, is the flat machine's case.
-use Rattle.std.proofs.Common.{◌≡◌, ◌≤◌, refl, sym, subst, Some, ℕ, List}
+use Rattle.std.proofs.Common.{◌≡◌, ◌≤◌, refl, sym, subst, Some}
 use Rattle.map_join.specs.declared.records.Record.{Record}
 use Rattle.map_join.specs.Record.{key_of, record_at}
 use Rattle.flat_machine.specs.declared.refusal.Refusal.{Refusal}
 use Rattle.flat_machine.specs.declared.refusal.Refusal.TheVariants.{Ahead}
-use Rattle.flat_machine.specs.Flat.{Flat, Stored}
-use Rattle.flat_machine.specs.Steps.{Seen, Data, FoundAt, Refused}
-use Rattle.flat_machine.specs.Cases.{ReadAtCase, IsSeen, IsAhead}
+use Rattle.flat_machine.specs.Flat.{Flat, Stored, content_in}
+use Rattle.flat_machine.specs.Steps.{ReadAt, Seen, Data, FoundAt, Refused}
+use Rattle.flat_machine.specs.Cases.{ReadAtCase, IsSeen, IsAhead, IsWanted}
 use Rattle.step_core.specs.Changes.{MayRefuse}
 use Rattle.step_core.specs.Views.{ArrayView, unit_at, key_at}
 use Rattle.step_core.specs.Represents.{ShowsArray}
@@ -24,10 +24,15 @@ ahead_case W a F r q shows is ahead =
 pub seen_case : (a : ArrayView) (F : Flat) (r n : Record) (seen : Seen) → ShowsArray a F → record_at r.block (key_at a r.block) ≡ Some n
     → key_of r ≤ key_of n → IsSeen (unit_at a r.place) r seen → ReadAtCase F r (FoundAt seen) F
 seen_case a F r n seen shows found most is =
-    ((n, newest_is a F r.block n shows found, most), subst (λ o. IsSeen o r seen) (sym (shows.slots r.place).unit) is, refl)
+    ((n, newest_is a F r.block (Some n) shows found, most), subst (λ o. IsSeen o r seen) (sym (shows.tables.slots r.place).unit_is) is, refl)
 
 -- also where memory is wanted for its payload
+pub data_case : (a : ArrayView) (F : Flat) (r n : Record) (u : Stored) → ShowsArray a F → record_at r.block (key_at a r.block) ≡ Some n
+    → key_of r ≤ key_of n → unit_at a r.place ≡ Some u → u.header ≡ Some r → ReadAtCase F r (FoundAt (Data (content_in u))) F
+data_case a F r n u shows found most unit header =
+    seen_case a F r n (Data (content_in u)) shows found most (subst (λ o. IsSeen o r (Data (content_in u))) (sym unit) (header, refl))
+
 pub wanted_case : (a : ArrayView) (F : Flat) (r n : Record) (u : Stored) → ShowsArray a F → record_at r.block (key_at a r.block) ≡ Some n
-    → key_of r ≤ key_of n → unit_at a r.place ≡ Some u → u.header ≡ Some r → (x : List ℕ) × (ReadAtCase F r (FoundAt (Data x)) F)
+    → key_of r ≤ key_of n → unit_at a r.place ≡ Some u → u.header ≡ Some r → IsWanted F (ReadAt r)
 wanted_case a F r n u shows found most unit header =
-    (u.payload, seen_case a F r n (Data u.payload) shows found most (subst (λ o. IsSeen o r (Data u.payload)) (sym unit) (header, refl)))
+    let x = data_case a F r n u shows found most unit header in (x.0.0, x.0.1, x.0.2, (content_in u, x.1))

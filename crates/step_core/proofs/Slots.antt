@@ -1,23 +1,65 @@
--- What is told of each slot stays told where one slot changes.
-use Rattle.std.proofs.Common.{◌≡◌, ℕ, sym, subst, ◌⊎◌, inl, inr}
+-- What the tables say of a slot, told from its one holder, and what stays where one slot changes.
+use Rattle.std.proofs.Common.{◌≡◌, ℕ, Bool, true, false, refl, sym, ap, ◌∙◌, subst, ◌⊎◌, inl, inr, Option, None}
 use Rattle.std.proofs.lemmas.Bool.{cases_eq}
-use Rattle.flat_machine.specs.Flat.{Flat}
-use Rattle.step_core.specs.Views.{ArrayView, kept_at, unit_at}
-use Rattle.step_core.specs.Represents.{FlatSlot, flat_at, ArraySlot}
+use Rattle.map_join.specs.Maps.{IsMapOf}
+use Rattle.flat_machine.specs.Flat.{Flat, Holder, Worker, Ticket, Block, Shut, Waiting, Stored}
+use Rattle.flat_machine.specs.Steps.{FlatStep, FlatAnswer}
+use Rattle.flat_machine.specs.Cases.{Case}
+use Rattle.flat_machine.specs.History.{IsStep}
+use Rattle.flat_machine.proofs.Keeps.{step_keeps}
+use Rattle.flat_machine.proofs.Pairs.{flip, IsJust}
+use Rattle.step_core.specs.declared.hand.Hand.TheVariants.{Empty, Holds, Waits}
+use Rattle.step_core.specs.Views.{Kept, Nothing, Pending, Moving, Newest, ArrayView, key_at, is_waiting}
+use Rattle.step_core.specs.Represents.{ArraySlot, InTables, ShowsArray, HandSlot, IsTicketOf, is_newest}
 
--- two slots of flat states are equal where their parts are
-pub same_slot : (f g : FlatSlot) → g.held ≡ f.held → g.ticket ≡ f.ticket → g.unit ≡ f.unit → g.class ≡ f.class → g ≡ f
-same_slot f g h t u c = λ i. record { held = h i; ticket = t i; unit = u i; class = c i }
+-- a slot that waits is no block's newest place
+waiting_none : (k : Kept) → is_waiting k ≡ true → (b : ℕ) → is_newest k b ≡ false
+waiting_none Pending e b = refl
+waiting_none (Moving r) e b = refl
+waiting_none Nothing e b = absurd (cc)
+waiting_none (Newest c) e b = absurd (cc)
 
-pub one_slot : (a b : ArrayView) (F G : Flat) (s : ℕ)
-    → ((t : ℕ) → ArraySlot (kept_at a t) (unit_at a t) (flat_at F t))
-    → ((t : ℕ) → (t ≡ s → ⊥) → kept_at b t ≡ kept_at a t)
-    → ((t : ℕ) → (t ≡ s → ⊥) → unit_at b t ≡ unit_at a t)
-    → ((t : ℕ) → (t ≡ s → ⊥) → flat_at G t ≡ flat_at F t)
-    → ArraySlot (kept_at b s) (unit_at b s) (flat_at G s)
-    → (t : ℕ) → ArraySlot (kept_at b t) (unit_at b t) (flat_at G t)
-one_slot a b F G s old kept unit flat here t = go (cases_eq t s)
+-- a slot that a worker holds, one that a ticket holds, and one that a block holds
+pub worker_slot : (o u : Option Stored) (h : Holder → Bool) (w : ℕ) (t : Option Waiting) → IsJust h (Worker w) → t ≡ None → u ≡ o → ArraySlot Nothing o h t u
+worker_slot o u h w t is none unit = record { blocks = λ b. is (Block b); shut = λ g. is (Shut g); waits = none; unit_is = unit }
+
+pub ticket_slot : (k : Kept) (o u : Option Stored) (h : Holder → Bool) (w : ℕ) (t : Option Waiting) → is_waiting k ≡ true → IsJust h (Ticket w) → IsTicketOf k t → u ≡ o
+    → ArraySlot k o h t u
+ticket_slot k o u h w t waits is ticket unit = record { blocks = λ b. is (Block b) ∙ sym (waiting_none k waits b); shut = λ g. is (Shut g); waits = ticket; unit_is = unit }
+
+pub block_slot : (o u : Option Stored) (h : Holder → Bool) (b : ℕ) (t : Option Waiting) → IsJust h (Block b) → t ≡ None → u ≡ o → ArraySlot (Newest b) o h t u
+block_slot o u h b t is none unit = record { blocks = λ c. is (Block c) ∙ flip c b; shut = λ g. is (Shut g); waits = none; unit_is = unit }
+
+-- whose hand a slot is in
+pub worker_hand : (h : Holder → Bool) (w : ℕ) → IsJust h (Worker w) → HandSlot (Holds w) h
+worker_hand h w is = record { claims = λ v. is (Worker v) ∙ flip v w; tickets = λ v. is (Ticket v) }
+
+pub ticket_hand : (h : Holder → Bool) (w : ℕ) → IsJust h (Ticket w) → HandSlot (Waits w) h
+ticket_hand h w is = record { claims = λ v. is (Worker v); tickets = λ v. is (Ticket v) ∙ flip v w }
+
+pub block_hand : (h : Holder → Bool) (b : ℕ) → IsJust h (Block b) → HandSlot Empty h
+block_hand h b is = record { claims = λ v. is (Worker v); tickets = λ v. is (Ticket v) }
+
+-- what is told of a slot stays where nothing of it changed
+pub slot_same : (k l : Kept) (o p : Option Stored) (g h : Holder → Bool) (t r : Option Waiting) (u v : Option Stored) → l ≡ k → p ≡ o → h ≡ g → r ≡ t → v ≡ u
+    → ArraySlot k o g t u → ArraySlot l p h r v
+slot_same k l o p g h t r u v kept stored held ticket unit is = record {
+  blocks = λ b. ap (λ (x : Holder → Bool). x (Block b)) held ∙ is.blocks b ∙ ap (λ x. is_newest x b) (sym kept);
+  shut = λ n. ap (λ (x : Holder → Bool). x (Shut n)) held ∙ is.shut n;
+  waits = subst (λ x. IsTicketOf x r) (sym kept) (subst (IsTicketOf k) (sym ticket) is.waits);
+  unit_is = unit ∙ is.unit_is ∙ sym stored;
+}
+
+-- and so where one slot changes
+pub one_slot : (P : ℕ → Type 0) (s : ℕ) → P s → ((t : ℕ) → (t ≡ s → ⊥) → P t) → (t : ℕ) → P t
+one_slot P s here rest t = go (cases_eq t s)
   where
-    go : (t ≡ s) ⊎ (t ≡ s → ⊥) → ArraySlot (kept_at b t) (unit_at b t) (flat_at G t)
-    go (inl e) = subst (λ (n : ℕ). ArraySlot (kept_at b n) (unit_at b n) (flat_at G n)) (sym e) here
-    go (inr ne) = rw (kept t ne, unit t ne, flat t ne) (old t)
+    go : (t ≡ s) ⊎ (t ≡ s → ⊥) → P t
+    go (inl e) = subst P (sym e) here
+    go (inr ne) = rest t ne
+
+-- an array after a step stands for the state after it, where its tables and its map are that state's
+pub shows_after : (a b : ArrayView) (F G : Flat) (step : FlatStep) (answer : FlatAnswer) → ShowsArray a F → IsStep F.sizes step → Case F step answer G
+    → IsMapOf G.emitted (key_at b) → InTables b G → ShowsArray b G
+shows_after a b F G step answer shows fits case map tables =
+    record { history = step_keeps F G (key_at a) (key_at b) step answer shows.history fits case map; tables = tables }

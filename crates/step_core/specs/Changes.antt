@@ -67,7 +67,7 @@ commit_view a slot block found r = record a {
   log = a.log ++ r ∷ [];
   keys = slice_set a.keys block (key_of r);
   kept = slice_set (passed a.kept found) slot (Newest block);
-  units = slice_set a.units slot (stamped (unit_at a slot) r);
+  units = slice_set a.units slot (stamped (unit_at a slot) (Some r));
 }
 
 -- why what is kept of a slot can't be committed to a block, given the newest record of the block: last of all the log is full

@@ -1,5 +1,4 @@
 -- When four numbers are no sizes.
-use Rattle.std.specs.Prelude.{ℕ}
 use Rattle.flat_machine.specs.Sizes.{Sizes, IsFirst}
 use Rattle.step_core.specs.declared.shape.ShapeRefusal.{ShapeRefusal}
 use Rattle.step_core.specs.declared.shape.ShapeRefusal.TheVariants.{Range}

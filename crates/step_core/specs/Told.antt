@@ -7,6 +7,7 @@ use Rattle.step_core.specs.declared.step.Answer.TheVariants as answer
 use Rattle.step_core.specs.declared.step.Step.{Step}
 use Rattle.step_core.specs.declared.step.Step.TheVariants as step
 use Rattle.flat_machine.specs.Sizes.{Sizes}
+use Rattle.flat_machine.specs.Flat.{Payload}
 use Rattle.step_core.specs.declared.read.At.{At}
 use Rattle.step_core.specs.declared.read.At.TheVariants as at
 use Rattle.flat_machine.specs.Steps.{Version, Seen, Data, Stale, FlatStep, Claim, Release, Fill, Copy, Commit, Discard, Read, ReadAt, Make, FlatAnswer, Claimed, Taken, Released, NotHeld, Filled, Copied, Committed, Discarded, Found, FoundAt, MadeGroup, Refused}
@@ -14,11 +15,11 @@ use Rattle.flat_machine.specs.Steps.{Version, Seen, Data, Stale, FlatStep, Claim
 -- a version and payload that were read, as plain data
 abbrev pub version_of : Option (ℕ × Vec ℕ Global) → Option Version
 version_of None = None
-version_of (Some found) = Some (record { version = found.0; payload = found.1.items })
+version_of (Some found) = Some (record { version = found.0; content = Payload found.1.items })
 
 -- what was seen at a place, as plain data
 abbrev pub seen_of : At → Seen
-seen_of (at.Data payload) = Data payload.items
+seen_of (at.Data payload) = Data (Payload payload.items)
 seen_of (at.Stale header) = Stale header
 
 abbrev pub flat_answer : Answer → FlatAnswer
@@ -44,7 +45,7 @@ pub record Lesson : Type 0 where
 abbrev pub flat_step : Step → FlatStep
 flat_step (step.Claim w s) = Claim w s
 flat_step (step.Release w s) = Release w s
-flat_step (step.Fill w s payload) = Fill w s payload.items
+flat_step (step.Fill w s payload) = Fill w s (Payload payload.items)
 flat_step (step.Copy w s b) = Copy w s b
 flat_step (step.Commit w s b) = Commit w s b
 flat_step (step.Discard w s) = Discard w s

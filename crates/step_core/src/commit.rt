@@ -5,7 +5,7 @@ ghost use Rattle.map_join.specs.Record.{key_of, record_at};
 ghost use Rattle.map_join.specs.declared.records.Record.{Record};
 ghost use Rattle.flat_machine.specs.Steps as say;
 ghost use Rattle.flat_machine.specs.Flat.{Flat, Ticket as ticket_of, IsNewest};
-ghost use Rattle.flat_machine.specs.Cases.{CommitCase, next_version, stamped};
+ghost use Rattle.flat_machine.specs.Cases.{CommitCase, IsWanted, next_version, stamped};
 ghost use Rattle.step_core.specs.Views.{Nothing, Newest, is_waiting, key_at};
 ghost use Rattle.step_core.specs.Kept.{kepts_of, units_of, AreOf};
 ghost use Rattle.step_core.specs.Changes.{commit_view, commit_reason, commit_record, version_reason, stamp_reason, passed, IsPlaceOf, MayRefuse};
@@ -81,7 +81,7 @@ impl<C: Hold> Array<C> {
             → MatchResult result
             (λ done. (G : Flat) × CommitCase F w ticket block (say.Committed done.emitted) G × ShowsArray self.new G)
             (λ e. MayRefuse e.0
-            ((r : Record) × (G : Flat) × CommitCase F w ticket block (say.Committed r) G)
+            (IsWanted F (say.Commit w ticket block))
             (CommitCase F w ticket block (say.Refused e.0) F)) }
     {
         let slot = ticket.slot();
@@ -126,7 +126,7 @@ impl<C: Hold> Array<C> {
 #[tactic(auto, using(crate::proofs::Tables::units_set, crate::proofs::Tables::unit_there))]
 fn stamp(units: &mut Vec<Option<StoredUnit>>, slot: u16, told: Record)
     requires { slot < vec_len units.old }
-    ensures { units_of units.new.items ≡ slice_set (units_of units.old.items) slot (stamped (slice_index_or (units_of units.old.items) slot None) told) }
+    ensures { units_of units.new.items ≡ slice_set (units_of units.old.items) slot (stamped (slice_index_or (units_of units.old.items) slot None) (Some told)) }
 {
     if let Some(unit) = &mut units[usize::from(slot)] {
         unit.header = Some(told);

@@ -4,7 +4,7 @@ ghost use Rattle.map_join.specs.declared.records.Record.{Record};
 ghost use Rattle.map_join.specs.Record.{record_at};
 ghost use Rattle.flat_machine.specs.Steps as say;
 ghost use Rattle.flat_machine.specs.Flat.{Flat, Stored, Worker};
-ghost use Rattle.flat_machine.specs.Cases.{CopyCase};
+ghost use Rattle.flat_machine.specs.Cases.{CopyCase, CopyPasses};
 ghost use Rattle.step_core.specs.Changes.{copy_view, copy_reason, MayRefuse};
 ghost use Rattle.step_core.specs.Views.{key_at, unit_at, IsWhole};
 ghost use Rattle.step_core.specs.Represents.{ShowsArray};
@@ -33,7 +33,7 @@ impl<C: Hold> Array<C> {
             → MatchResult result
             (λ ticket. (G : Flat) × CopyCase F w ticket block (say.Copied ticket) G × ShowsArray self.new G)
             (λ e. MayRefuse e.0
-            ((G : Flat) × CopyCase F w (C.names claim) block (say.Copied (C.names claim)) G)
+            ((r : Record) × CopyPasses F w (C.names claim) block r)
             (CopyCase F w (C.names claim) block (say.Refused e.0) F)) }
     {
         let slot = claim.slot();

@@ -1,8 +1,8 @@
 // A fresh payload into a slot that a worker holds.
 ghost use Rattle.std.specs.Prelude.{◌≡◌, ℕ, ◌<◌, List, length, vec_len, slice_set, MatchResult, IfOk, IfErr, true, Some, None};
 ghost use Rattle.flat_machine.specs.Steps as say;
-ghost use Rattle.flat_machine.specs.Flat.{Flat, Worker};
-ghost use Rattle.flat_machine.specs.Cases.{FillCase};
+ghost use Rattle.flat_machine.specs.Flat.{Flat, Worker, Payload};
+ghost use Rattle.flat_machine.specs.Cases.{FillCase, FillPasses};
 ghost use Rattle.step_core.specs.Changes.{fill_view, fill_reason, MayRefuse};
 ghost use Rattle.step_core.specs.Kept.{units_of};
 ghost use Rattle.step_core.specs.Represents.{ShowsArray};
@@ -22,10 +22,10 @@ impl<C: Hold> Array<C> {
         ensures err { IfErr result (λ e. (e.1 ≡ claim) × (self.new ≡ self.old)) }
         ensures flat { (F : Flat) (w : ℕ) → ShowsArray self.old F → F.held (C.names claim) (Worker w) ≡ true
             → MatchResult result
-            (λ ticket. (G : Flat) × FillCase F w ticket payload.now (say.Filled ticket) G × ShowsArray self.new G)
+            (λ ticket. (G : Flat) × FillCase F w ticket (Payload payload.now) (say.Filled ticket) G × ShowsArray self.new G)
             (λ e. MayRefuse e.0
-            ((G : Flat) × FillCase F w (C.names claim) payload.now (say.Filled (C.names claim)) G)
-            (FillCase F w (C.names claim) payload.now (say.Refused e.0) F)) }
+            (FillPasses F w (C.names claim))
+            (FillCase F w (C.names claim) (Payload payload.now) (say.Refused e.0) F)) }
     {
         let slot = claim.slot();
         match self.fill_fault(slot) {

@@ -3,7 +3,7 @@ ghost use Rattle.std.specs.Prelude.{◌≡◌, ◌↔◌, ℕ, ◌+◌, ◌<◌,
 ghost use Rattle.flat_machine.specs.Groups.{AreMembers, AreApart, AreUnowned, HaveCommon, IsLowestFree, IsFull};
 ghost use Rattle.flat_machine.specs.Steps as say;
 ghost use Rattle.flat_machine.specs.Flat.{Flat};
-ghost use Rattle.flat_machine.specs.Cases.{MakeCase};
+ghost use Rattle.flat_machine.specs.Cases.{IsWanted, MakeCase};
 ghost use Rattle.step_core.specs.Views.{group_at, IsWhole};
 ghost use Rattle.step_core.specs.Kept.{units_of, groups_of, stored_of, made_of};
 ghost use Rattle.step_core.specs.Changes.{MayRefuse};
@@ -33,7 +33,7 @@ impl<C: Hold> Array<C> {
             → MatchResult result
             (λ made. (G : Flat) × MakeCase F class members.now (say.MadeGroup made.0) G × ShowsArray self.new G)
             (λ refusal. MayRefuse refusal
-            ((g : ℕ) × (G : Flat) × MakeCase F class members.now (say.MadeGroup g) G)
+            (IsWanted F (say.Make class members.now))
             (MakeCase F class members.now (say.Refused refusal) F)) }
     {
         match self.make_fault(members) {

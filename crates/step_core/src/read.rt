@@ -4,7 +4,7 @@ ghost use Rattle.map_join.specs.Record.{key_of, record_at};
 ghost use Rattle.flat_machine.specs.Steps as say;
 ghost use Rattle.flat_machine.specs.Flat.{Flat, Write, Stored, last_write};
 ghost use Rattle.step_core.specs.Views.{key_at, unit_at, IsWhole};
-ghost use Rattle.flat_machine.specs.Cases.{found_of, IsSeen, IsAhead, ReadAtCase};
+ghost use Rattle.flat_machine.specs.Cases.{found_of, IsSeen, IsAhead, IsWanted, ReadAtCase};
 ghost use Rattle.step_core.specs.Changes.{MayRefuse};
 ghost use Rattle.step_core.specs.Told.{version_of, seen_of};
 ghost use Rattle.step_core.specs.Represents.{ShowsArray};
@@ -29,7 +29,7 @@ impl<C: Hold> Array<C> {
         requires { block < self.now.sizes.blocks }
         ensures flat { IfOk result (λ found. (F : Flat) → ShowsArray self.now F → version_of found ≡ found_of (last_write F.writes block)) }
         ensures err { IfErr result (λ refusal. refusal ≡ Refusal.Memory) }
-        ensures wants { OnErr result ((F : Flat) → ShowsArray self.now F → (w : Write) × (last_write F.writes block ≡ Some w)) }
+        ensures wants { OnErr result ((F : Flat) → ShowsArray self.now F → IsWanted F (say.Read block)) }
     {
         let Some(record) = self.told(block) else {
             return Ok(None);
@@ -47,7 +47,7 @@ impl<C: Hold> Array<C> {
         ensures flat { (F : Flat) → ShowsArray self.now F → MatchResult result
             (λ at. ReadAtCase F asked (say.FoundAt (seen_of at)) F)
             (λ refusal. MayRefuse refusal
-            ((x : List ℕ) × ReadAtCase F asked (say.FoundAt (say.Data x)) F)
+            (IsWanted F (say.ReadAt asked))
             (ReadAtCase F asked (say.Refused refusal) F)) }
     {
         match self.not_behind(asked) {

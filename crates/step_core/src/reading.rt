@@ -2,7 +2,7 @@
 ghost use Rattle.std.specs.Prelude.{◌≡◌, ◌<◌, MatchResult};
 ghost use Rattle.flat_machine.specs.Steps as say;
 ghost use Rattle.flat_machine.specs.Steps.{Seen};
-ghost use Rattle.flat_machine.specs.Flat.{Flat};
+ghost use Rattle.flat_machine.specs.Flat.{Flat, Payload};
 ghost use Rattle.flat_machine.specs.Cases.{ReadAtCase, IsLearned};
 ghost use Rattle.step_core.specs.Changes.{MayRefuse};
 ghost use Rattle.step_core.specs.Represents.{ShowsArray};
@@ -61,7 +61,7 @@ impl<C: Hold> Array<C> {
     pub fn read_or_learn(&self, alloc: Global, asked: Record) -> Result<Reading, Refusal>
         requires { asked.block < self.now.sizes.blocks }
         ensures flat { (F : Flat) → ShowsArray self.now F → MatchResult result
-            (λ reading. (seen : Seen) × ReadAtCase F asked (say.FoundAt seen) F × IsLearned F asked seen reading.told reading.payload)
+            (λ reading. (seen : Seen) × ReadAtCase F asked (say.FoundAt seen) F × IsLearned F asked seen reading.told (Payload reading.payload))
             (λ refusal. MayRefuse refusal
             ((seen : Seen) × ReadAtCase F asked (say.FoundAt seen) F)
             (ReadAtCase F asked (say.Refused refusal) F)) }

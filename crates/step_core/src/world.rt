@@ -3,8 +3,8 @@ ghost use Rattle.std.specs.Prelude.{◌≡◌, ℕ, ◌<◌, ◌≤◌, List, le
 ghost use Rattle.map_join.specs.declared.records.Record.{Record};
 ghost use Rattle.flat_machine.specs.Steps as say;
 ghost use Rattle.flat_machine.specs.Steps.{Version};
-ghost use Rattle.flat_machine.specs.Flat.{Flat, new_flat};
-ghost use Rattle.flat_machine.specs.Cases.{Case};
+ghost use Rattle.flat_machine.specs.Flat.{Flat, Payload, new_flat};
+ghost use Rattle.flat_machine.specs.Cases.{Case, IsWanted};
 ghost use Rattle.step_core.specs.Told.{flat_answer};
 ghost use Rattle.step_core.specs.Views.{kept_at, hand_at, has_no_holder, SameSizes};
 ghost use Rattle.step_core.specs.Changes.{passed_hands};
@@ -131,9 +131,9 @@ impl World {
     ) -> Result<Answer, AllocError>
         requires { length payload.now ≡ self.old.array.sizes.payload }
         ensures ok { IfOk result (λ answer. (F : Flat) → Represents self.old F
-            → (G : Flat) × Case F (say.Fill worker slot payload.now) (flat_answer answer) G × Represents self.new G) }
+            → (G : Flat) × Case F (say.Fill worker slot (Payload payload.now)) (flat_answer answer) G × Represents self.new G) }
         ensures err { OnErr result (self.new ≡ self.old) }
-        ensures wants { OnErr result ((F : Flat) → Represents self.old F → (G : Flat) × Case F (say.Fill worker slot payload.now) (say.Filled slot) G) }
+        ensures wants { OnErr result ((F : Flat) → Represents self.old F → IsWanted F (say.Fill worker slot (Payload payload.now))) }
         ensures room { SameSizes self.old self.new }
     {
         if !self.holds(worker, slot) {
@@ -161,7 +161,7 @@ impl World {
         ensures ok { IfOk result (λ answer. (F : Flat) → Represents self.old F
             → (G : Flat) × Case F (say.Copy worker slot block) (flat_answer answer) G × Represents self.new G) }
         ensures err { OnErr result (self.new ≡ self.old) }
-        ensures wants { OnErr result ((F : Flat) → Represents self.old F → (G : Flat) × Case F (say.Copy worker slot block) (say.Copied slot) G) }
+        ensures wants { OnErr result ((F : Flat) → Represents self.old F → IsWanted F (say.Copy worker slot block)) }
         ensures room { SameSizes self.old self.new }
     {
         if !self.holds(worker, slot) {
@@ -189,7 +189,7 @@ impl World {
         ensures ok { IfOk result (λ answer. (F : Flat) → Represents self.old F
             → (G : Flat) × Case F (say.Commit worker slot block) (flat_answer answer) G × Represents self.new G) }
         ensures err { OnErr result (self.new ≡ self.old) }
-        ensures wants { OnErr result ((F : Flat) → Represents self.old F → (r : Record) × (G : Flat) × Case F (say.Commit worker slot block) (say.Committed r) G) }
+        ensures wants { OnErr result ((F : Flat) → Represents self.old F → IsWanted F (say.Commit worker slot block)) }
         ensures room { SameSizes self.old self.new }
     {
         if !self.waits(worker, slot) {
@@ -228,7 +228,7 @@ impl World {
     pub fn read_at(&self, alloc: Global, asked: Record) -> Result<Answer, AllocError>
         requires { asked.block < self.now.array.sizes.blocks }
         ensures ok { IfOk result (λ answer. (F : Flat) → Represents self.now F → Case F (say.ReadAt asked) (flat_answer answer) F) }
-        ensures wants { OnErr result ((F : Flat) → Represents self.now F → (x : List ℕ) × Case F (say.ReadAt asked) (say.FoundAt (say.Data x)) F) }
+        ensures wants { OnErr result ((F : Flat) → Represents self.now F → IsWanted F (say.ReadAt asked)) }
     {
         match self.array.read_at(alloc, asked) {
             Ok(at) => Ok(Answer::Found(at)),
@@ -241,7 +241,7 @@ impl World {
     pub fn read(&self, alloc: Global, block: u32) -> Result<Answer, AllocError>
         requires { block < self.now.array.sizes.blocks }
         ensures ok { IfOk result (λ answer. (F : Flat) → Represents self.now F → Case F (say.Read block) (flat_answer answer) F) }
-        ensures wants { OnErr result ((F : Flat) → Represents self.now F → (v : Version) × Case F (say.Read block) (say.Found (Some v)) F) }
+        ensures wants { OnErr result ((F : Flat) → Represents self.now F → IsWanted F (say.Read block)) }
     {
         match self.array.read(alloc, block) {
             Ok(found) => Ok(Answer::Read(found)),
@@ -259,7 +259,7 @@ impl World {
         ensures ok { IfOk result (λ answer. (F : Flat) → Represents self.old F
             → (G : Flat) × Case F (say.Make class members.now) (flat_answer answer) G × Represents self.new G) }
         ensures err { OnErr result (self.new ≡ self.old) }
-        ensures wants { OnErr result ((F : Flat) → Represents self.old F → (g : ℕ) × (G : Flat) × Case F (say.Make class members.now) (say.MadeGroup g) G) }
+        ensures wants { OnErr result ((F : Flat) → Represents self.old F → IsWanted F (say.Make class members.now)) }
         ensures room { SameSizes self.old self.new }
     {
         let (group, _claims) = match self.array.make_group(alloc, class, members) {

@@ -9,7 +9,7 @@ use Rattle.step_core.proofs.commit.stamp.Goals as goal
 pub returns-in-Some : goal.returns-in-Some
 returns-in-Some c =
     units_set c.args.units.now.items c.from.result _
-    ∙ ap (λ n. set (units_of c.args.units.now.items) n (stamped (Some (stored_of c.in-Some.unit)) c.args.told)) c.from.ensures
-    ∙ ap (λ o. set (units_of c.args.units.now.items) c.args.slot (stamped o c.args.told))
+    ∙ ap (λ n. set (units_of c.args.units.now.items) n (stamped (Some (stored_of c.in-Some.unit)) (Some c.args.told))) c.from.ensures
+    ∙ ap (λ o. set (units_of c.args.units.now.items) c.args.slot (stamped o (Some c.args.told)))
     (sym (unit_there c.args.units.now.items c.args.slot c.index_mut.result.now (search rules)
     ∙ ap (option_map stored_of) (ap (λ n. get_or c.args.units.now.items n c.index_mut.result.now) (sym c.from.ensures) ∙ sym c.index_mut.ensures.value ∙ c.in-Some.is)))

@@ -9,7 +9,7 @@ use Rattle.step_core.specs.Changes.{commit_view, commit_record, commit_reason}
 use Rattle.step_core.specs.Views.{ArrayView, IsWhole, Nothing, is_waiting, kept_at, key_at}
 use Rattle.step_core.proofs.Fills.{as_whole, as_shown}
 use Rattle.step_core.proofs.Commits.{commit_whole, old_found, passed_apart}
-use Rattle.step_core.proofs.Committing.{commit_case, commit_refused, commit_waits, commit_ok}
+use Rattle.step_core.proofs.Committing.{commit_case, commit_refused, commit_waits, commit_wants, commit_ok}
 use Rattle.step_core.proofs.array.Array.commit.Goals as goal
 
 pub returns-in-Err-clause-flat : goal.returns-in-Err-clause-flat
@@ -67,5 +67,4 @@ returns-clause-flat g c F w shows mine =
 
 pub returns-in-Err-push-clause-flat : goal.returns-in-Err-push-clause-flat
 returns-in-Err-push-clause-flat g c F w shows mine =
-    let x = commit_case c.args.self.now F w c.args.ticket c.args.block (subst IsWhole c.self.view_is c.self.invariant.0) (search rules) (search rules) (search rules) shows mine in
-    (commit_record c.args.self.now c.args.ticket c.args.block (record_at c.args.block (key_at c.args.self.now c.args.block)), x.0, x.1)
+    commit_wants c.args.self.now F w c.args.ticket c.args.block (subst IsWhole c.self.view_is c.self.invariant.0) (search rules) shows mine

@@ -6,7 +6,7 @@ use Rattle.step_core.specs.Changes.{copy_view}
 use Rattle.step_core.specs.Views.{IsWhole}
 use Rattle.step_core.proofs.Finds.{read_there}
 use Rattle.step_core.proofs.Fills.{as_whole, as_shown}
-use Rattle.step_core.proofs.Copies.{copy_case, copy_wants, copy_refused, copy_whole}
+use Rattle.step_core.proofs.Copies.{copy_case, copy_passes, copy_refused, copy_whole}
 use Rattle.step_core.proofs.array.Array.copy.Goals as goal
 
 pub returns-in-Err-clause-flat : goal.returns-in-Err-clause-flat
@@ -20,8 +20,7 @@ payload_at-requires g c =
 
 pub returns-in-Err-payload_at-clause-flat : goal.returns-in-Err-payload_at-clause-flat
 returns-in-Err-payload_at-clause-flat g c F w shows held =
-    copy_wants c.args.self.now F w (g.C.Hold.names c.args.claim) c.args.block c.in-Ok.source c.told.ensures.whole (search rules)
-    (sym c.told.ensures.value ∙ c.in-Ok.ensures.ok.1) (search rules) shows held
+    (c.in-Ok.source, copy_passes c.args.self.now F w (g.C.Hold.names c.args.claim) c.args.block c.in-Ok.source (sym c.told.ensures.value ∙ c.in-Ok.ensures.ok.1) (search rules) shows held)
 
 pub invariant_of-self : goal.invariant_of-self
 invariant_of-self g c = (
@@ -36,5 +35,5 @@ returns-clause-flat g c F w shows held =
     let is : slot ≡ g.C.Hold.names c.args.claim = c.of.ensures ∙ c.slot-slot.ensures in
     let u = c.in-Ok-payload_at.ensures in
     as_shown (λ G. CopyCase F w slot c.args.block (Copied slot) G) _ (copy_view c.args.self.now slot c.in-Ok.source u.0.payload) (search rules)
-    (copy_case c.args.self.now F w slot c.args.block c.in-Ok.source u.0 (search rules) (sym c.told.ensures.value ∙ c.in-Ok.ensures.ok.1) u.1 (search rules) c.told.ensures.whole shows
+    (copy_case c.args.self.now F w slot c.args.block c.in-Ok.source u.0 (search rules) (search rules) (sym c.told.ensures.value ∙ c.in-Ok.ensures.ok.1) u.1 (search rules) c.told.ensures.whole shows
     (ap (λ s. F.held s (Worker w)) is ∙ held))

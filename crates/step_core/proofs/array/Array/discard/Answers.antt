@@ -4,7 +4,8 @@ use Rattle.flat_machine.specs.Cases.{DiscardCase}
 use Rattle.step_core.specs.Changes.{discard_view}
 use Rattle.step_core.specs.Views.{IsWhole}
 use Rattle.step_core.proofs.Fills.{as_whole, as_shown}
-use Rattle.step_core.proofs.Discards.{discard_case, discard_whole, ticket_held}
+use Rattle.step_core.proofs.Discards.{discard_case, discard_whole}
+use Rattle.step_core.proofs.Kepts.{ticket_held}
 use Rattle.step_core.proofs.array.Array.discard.Goals as goal
 
 pub invariant_of-self : goal.invariant_of-self

@@ -3,7 +3,7 @@ use Rattle.flat_machine.specs.Groups.{IsLowestFree, IsFull}
 use Rattle.step_core.specs.Kept.{groups_of}
 use Rattle.step_core.specs.Views.{ArrayView, group_at}
 use Rattle.step_core.specs.Making.{IsMakeReason}
-use Rattle.step_core.proofs.Makings.{make_refused, make_full, make_case, make_made}
+use Rattle.step_core.proofs.Makings.{make_refused, make_full, make_case, make_passes}
 use Rattle.step_core.proofs.array.Array.make_group.Goals as goal
 
 pub returns-in-Some-clause-flat : goal.returns-in-Some-clause-flat
@@ -28,8 +28,7 @@ pub returns-in-Err-clause-flat : goal.returns-in-Err-clause-flat
 returns-in-Err-clause-flat g c F shows =
     let number = c.in-Some-lowest_free.number in (
       number,
-      _,
-      make_made c.args.self.now F c.args.class c.args.members.now number
+      make_passes c.args.self.now F c.args.members.now number
           (subst (IsMakeReason c.args.self.now c.args.members.now) c.in-None.is c.make_fault.ensures.reason)
           (subst (λ (v : ArrayView). IsLowestFree (group_at v) number) c.self.view_is
           (subst (λ gs. IsLowestFree (λ n. slice_index_or (groups_of gs) n None) number) c.deref.ensures.value c.in-Some-lowest_free.ensures.some)) shows,

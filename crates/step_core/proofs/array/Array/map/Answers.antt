@@ -1,6 +1,7 @@
 use Rattle.std.proofs.Common.{rules, subst}
 use Rattle.step_core.specs.Views.{IsWhole}
-use Rattle.step_core.proofs.Newest.{map_as, map_whole}
+use Rattle.flat_machine.proofs.Newest.{map_as}
+use Rattle.step_core.proofs.Newest.{map_whole}
 use Rattle.step_core.proofs.array.Array.map.Goals as goal
 
 pub returns-clause-ok : goal.returns-clause-ok
@@ -9,4 +10,4 @@ returns-clause-ok g c =
     map_whole c.args.self.now _ c.loop-block.block whole.room (search rules) c.loop-block.invariant.before c.loop-block.invariant.rest
 
 pub returns-clause-flat : goal.returns-clause-flat
-returns-clause-flat g c F shows = map_as F.emitted _ _ (returns-clause-ok g c) shows.map
+returns-clause-flat g c F shows = map_as F.emitted _ _ (returns-clause-ok g c) shows.history.map

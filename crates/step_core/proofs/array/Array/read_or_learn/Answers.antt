@@ -1,3 +1,4 @@
+use Rattle.flat_machine.specs.Flat.{Payload, content_in}
 use Rattle.std.proofs.Common.{sym, ap, ◌∙◌, subst, Some}
 use Rattle.flat_machine.specs.Flat.{IsNewest}
 use Rattle.flat_machine.specs.Cases.{IsSeen}
@@ -6,7 +7,7 @@ use Rattle.flat_machine.specs.Steps.{Data, Stale}
 use Rattle.step_core.specs.Told.{Lesson, seen_of}
 use Rattle.step_core.proofs.Finds.{newest_write, read_there}
 use Rattle.step_core.proofs.Newest.{newest_is}
-use Rattle.step_core.proofs.Seeing.{ahead_case, seen_case, wanted_case}
+use Rattle.step_core.proofs.Seeing.{ahead_case, seen_case, data_case}
 use Rattle.step_core.proofs.array.Array.read_or_learn.Goals as goal
 
 pub returns-in-Err : goal.returns-in-Err
@@ -17,10 +18,10 @@ returns-in-Err g c = record {
 pub returns-in-Ok-Data : goal.returns-in-Ok-Data
 returns-in-Ok-Data g c = record {
   flat = λ F shows. let newest = c.in-Ok.ensures.ok in (
-    Data c.in-Ok-Data.payload.items,
-    seen_case c.args.self.now F c.args.asked c.in-Ok.newest (Data c.in-Ok-Data.payload.items) shows newest.0 newest.1
+    Data (Payload c.in-Ok-Data.payload.items),
+    seen_case c.args.self.now F c.args.asked c.in-Ok.newest (Data (Payload c.in-Ok-Data.payload.items)) shows newest.0 newest.1
         (subst (λ at. IsSeen (unit_at c.args.self.now c.args.asked.place) c.args.asked (seen_of at)) c.in-Ok-Data.field-0-is c.in-Ok-Data.ensures.ok),
-    (ap (λ (l : Lesson). l.told) c.of.ensures, ap (λ (l : Lesson). l.payload) c.of.ensures),
+    (ap (λ (l : Lesson). l.told) c.of.ensures, ap (λ (l : Lesson). Payload l.payload) c.of.ensures),
   );
 }
 
@@ -39,8 +40,8 @@ returns-in-Ok-payload_at g c = record {
             (subst (λ at. IsSeen (unit_at c.args.self.now c.args.asked.place) c.args.asked (seen_of at)) c.in-Ok-Stale.field-0-is c.in-Ok-Stale.ensures.ok),
         (
           subst (λ r. IsNewest F.emitted c.args.asked.block (Some r)) (sym (ap (λ (l : Lesson). l.told) c.of-in-Ok-payload_at.ensures))
-              (newest_is c.args.self.now F c.args.asked.block c.in-Ok.newest shows newest.0),
-          (w.0, w.1, ap (λ (l : Lesson). l.payload) c.of-in-Ok-payload_at.ensures ∙ u.2 ∙ w.2),
+              (newest_is c.args.self.now F c.args.asked.block (Some c.in-Ok.newest) shows newest.0),
+          (w.0, w.1, ap (λ (l : Lesson). Payload l.payload) c.of-in-Ok-payload_at.ensures ∙ ap (λ p. Payload p) u.2 ∙ w.2),
         ),
       );
 }
@@ -57,5 +58,5 @@ returns-in-Err-payload_at g c = record {
 pub returns-in-Err-see : goal.returns-in-Err-see
 returns-in-Err-see g c = record {
   flat = λ F shows. let newest = c.in-Ok.ensures.ok in let u = c.in-Err-see.ensures.wants in
-      let x = wanted_case c.args.self.now F c.args.asked c.in-Ok.newest u.0 shows newest.0 newest.1 u.1 u.2 in (Data x.0, x.1);
+      (Data (content_in u.0), data_case c.args.self.now F c.args.asked c.in-Ok.newest u.0 shows newest.0 newest.1 u.1 u.2);
 }

@@ -4,7 +4,7 @@ use Rattle.flat_machine.specs.Flat.{Ticket}
 use Rattle.flat_machine.specs.Steps.{Committed}
 use Rattle.flat_machine.specs.Cases.{CommitCase}
 use Rattle.step_core.specs.Changes.{passed_hands}
-use Rattle.step_core.specs.Views.{ArrayView, WorldView, IsWhole, hand_at, key_at}
+use Rattle.step_core.specs.Views.{ArrayView, WorldView, hand_at, key_at}
 use Rattle.step_core.specs.Represents.{ShowsArray, is_ticket}
 use Rattle.step_core.proofs.Hands.{as_world}
 use Rattle.step_core.proofs.Worlds.{commit_world, commit_as}
@@ -20,7 +20,7 @@ returns-in-Ok-clause-ok c F rep =
     let held : is_ticket (hand_at v.hands s) w ≡ true = search rules in
     let mine = (rep.hands s).tickets w ∙ held in
     as_world (λ G. CommitCase F w s b (Committed c.record.result) G) _ (record { array = c.commit.new.self; hands = passed_hands v.hands s w (record_at b (key_at v.array b)) }) (search rules)
-    (commit_world v F w s b c.record.result c.commit.new.self (search rules) (subst IsWhole array c.told-found.ensures.whole) (search rules) (search rules) rep held
+    (commit_world v F w s b c.record.result c.commit.new.self (search rules) (search rules) rep held
     (commit_as c.commit.new.self F w b c.of.result s c.in-Ok.done.emitted c.record.result c.of.ensures (sym c.record.ensures)
     (c.in-Ok.ensures.flat F w (subst (λ (a : ArrayView). ShowsArray a F) (sym array) rep.array)
     (λ _. ap (λ n. F.held n (Ticket w)) c.of.ensures ∙ mine))))

@@ -3,7 +3,6 @@ use Rattle.std.proofs.Math.ListN.{set}
 use Rattle.step_core.specs.declared.hand.Hand.TheVariants.{Waits}
 use Rattle.flat_machine.specs.Steps.{Copied}
 use Rattle.flat_machine.specs.Cases.{CopyCase}
-use Rattle.step_core.specs.Changes.{copy_view}
 use Rattle.step_core.specs.Views.{ArrayView, WorldView, hand_at}
 use Rattle.step_core.specs.Represents.{ShowsArray, is_claim}
 use Rattle.step_core.proofs.Hands.{as_world}
@@ -18,12 +17,7 @@ returns-in-Ok-clause-ok c F rep =
     let array : c.self.inside.array ≡ v.array = ap (λ (u : WorldView). u.array) c.self.view_is in
     let held : is_claim (hand_at v.hands s) w ≡ true = search rules in
     let t = c.in-Ok.ensures.ticket in
-    let r = t.1.0 in
-    let x = t.1.1.payload in
-    let is : c.copy.new.self ≡ copy_view v.array s r x =
-    t.1.4 ∙ ap (λ a. copy_view a c.in-Ok._ticket r x) array ∙ ap (λ n. copy_view v.array n r x) t.0
-    in
     as_world (λ G. CopyCase F w s c.args.block (Copied s) G) _ (record { array = c.copy.new.self; hands = set v.hands s (Waits w) }) (search rules)
-    (copy_world v F w s c.args.block r x c.copy.new.self (search rules) is rep held c.in-Ok._ticket t.0
+    (copy_world v F w s c.args.block c.copy.new.self (search rules) rep held c.in-Ok._ticket t.0
     (c.in-Ok.ensures.flat F w (subst (λ (a : ArrayView). ShowsArray a F) (sym array) rep.array)
     ((rep.hands s).claims w ∙ held)))

@@ -4,7 +4,6 @@ use Rattle.step_core.specs.declared.hand.Hand.TheVariants.{Holds}
 use Rattle.flat_machine.specs.Flat.{Ticket}
 use Rattle.flat_machine.specs.Steps.{Discarded}
 use Rattle.flat_machine.specs.Cases.{DiscardCase}
-use Rattle.step_core.specs.Changes.{discard_view}
 use Rattle.step_core.specs.Views.{ArrayView, WorldView, hand_at}
 use Rattle.step_core.specs.Represents.{ShowsArray, is_ticket}
 use Rattle.step_core.proofs.Hands.{as_world}
@@ -18,10 +17,7 @@ returns-in-Ok-clause-flat c F rep =
     let v = c.args.self.now in
     let array : c.self.inside.array ≡ v.array = ap (λ (u : WorldView). u.array) c.self.view_is in
     let held : is_ticket (hand_at v.hands s) w ≡ true = search rules in
-    let is : c.discard.new.self ≡ discard_view v.array s =
-    c.in-Ok.ensures.claim.1 ∙ ap (λ a. discard_view a c.of.result) array ∙ ap (λ n. discard_view v.array n) c.of.ensures
-    in
     as_world (λ G. DiscardCase F w s (Discarded s) G) _ (record { array = c.discard.new.self; hands = set v.hands s (Holds w) }) (search rules)
-    (discard_world v F w s c.discard.new.self (search rules) (search rules) is rep held c.of.result c.of.ensures
+    (discard_world v F w s c.discard.new.self (search rules) rep held c.of.result c.of.ensures
     (c.in-Ok.ensures.flat F w (subst (λ (a : ArrayView). ShowsArray a F) (sym array) rep.array)
     (λ _. ap (λ n. F.held n (Ticket w)) c.of.ensures ∙ (rep.hands s).tickets w ∙ held)))

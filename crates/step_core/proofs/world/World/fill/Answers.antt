@@ -1,3 +1,4 @@
+use Rattle.flat_machine.specs.Flat.{Payload}
 use Rattle.std.proofs.Common.{rules, subst, sym, ap, ◌≡◌, ◌∙◌, true}
 use Rattle.std.proofs.Math.ListN.{set}
 use Rattle.step_core.specs.declared.hand.Hand.TheVariants.{Waits}
@@ -13,9 +14,9 @@ pub returns-in-Ok-clause-ok : goal.returns-in-Ok-clause-ok
 returns-in-Ok-clause-ok c F rep =
     let w = c.args.worker in
     let s = c.args.slot in
-    let x = c.args.payload.now in
+    let x = Payload c.args.payload.now in
     let held : is_claim (hand_at c.args.self.now.hands s) w ≡ true = search rules in
     as_world (λ G. FillCase F w s x (Filled s) G) _ (record { array = c.fill.new.self; hands = set c.args.self.now.hands s (Waits w) }) (search rules)
-    (fill_world c.args.self.now F w s x c.fill.new.self (search rules) (search rules) rep held c.in-Ok._ticket (search rules)
+    (fill_world c.args.self.now F w s x c.fill.new.self (search rules) rep held c.in-Ok._ticket (search rules)
     (c.in-Ok.ensures.flat F w (subst (λ (a : ArrayView). ShowsArray a F) (sym (ap (λ (v : WorldView). v.array) c.self.view_is)) rep.array)
     ((rep.hands s).claims w ∙ held)))
