@@ -29,6 +29,3 @@ pub use run::{Run, Stopped, run_steps};
 pub use shape::{Shape, ShapeRefusal};
 pub use step::{Answer, Step};
 pub use world::World;
-
-#[cfg(test)]
-mod tests;

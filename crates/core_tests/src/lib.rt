@@ -1,0 +1,9 @@
+//! The array, its world and its runs against values from outside.
+#![tactic(auto)]
+
+#[cfg(test)]
+mod reads;
+#[cfg(test)]
+mod runs;
+#[cfg(test)]
+mod sizes;
