@@ -1,17 +1,1 @@
-pub mod Number
-pub mod Parts
-pub mod Verb
-pub mod Words
-pub mod Order
-pub mod Spelling
-pub mod Reading
-pub mod State
-pub mod Text
-pub mod Meaning
-pub mod Carrying
-pub mod Replies
-pub mod Opens
-pub mod Feeding
-pub mod Turns
-pub mod Status
 pub mod Dashes

@@ -1,32 +1,9 @@
 //! Answers a script of array commands, a line for each.
 #![tactic(auto)]
 
-mod arguments;
-mod bench;
-mod carry;
-mod command;
-mod end;
-mod limits;
-mod line;
-mod maps;
-mod member;
-mod number;
-mod parse;
-mod parts;
-mod record;
-mod reply;
-mod run;
-mod script;
 mod task;
-#[cfg(test)]
-mod tests;
-mod texts;
-mod verb;
-mod why;
-mod words;
 
-use end::End;
-use run::run_script;
+use script_run::{End, run_script};
 use std::process::ExitCode;
 use std::{env, io};
 use task::{Task, task_of};

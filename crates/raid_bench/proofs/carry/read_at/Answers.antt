@@ -1,8 +1,0 @@
-use Rattle.raid_bench.proofs.Carried.{told_at}
-use Rattle.raid_bench.proofs.carry.read_at.Goals as goal
-
-pub returns-in-Ok-put_answer : goal.returns-in-Ok-put_answer
-returns-in-Ok-put_answer c P stands =
-    let block = c.in-Some.ensures.some in
-    told_at P c.args.bench.now c.args.record _ _ _ (rw (stands.world.array.sizes, ← c.from.ensures) block.1) stands
-    (c.in-Ok.ensures.ok P.flat stands.world) c.in-Ok-put_answer.ensures

@@ -1,7 +1,0 @@
-use Rattle.raid_bench.proofs.Writes.{broken_closed}
-use Rattle.raid_bench.proofs.run.close.Goals as goal
-
-pub returns-then-not-write_out : goal.returns-then-not-write_out
-returns-then-not-write_out g c state stands =
-    broken_closed c.finish-finished.result c.args.script.now state c.finish-finished.new.self _ _ c.deref.result.now (c.finish-finished.ensures state stands)
-    c.deref.ensures.value c.requires.written (c.write_out.ensures.part c.if-not-write_out.true)

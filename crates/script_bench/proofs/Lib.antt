@@ -1,0 +1,3 @@
+pub mod Benches
+pub mod Carried
+pub mod Said

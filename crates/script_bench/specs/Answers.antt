@@ -1,0 +1,94 @@
+-- What each command answers, and the state after it.
+use Rattle.std.specs.Prelude.{◌≡◌, ℕ, List, [], ◌∷◌, ◌++◌, codes, Option, Some, None}
+use Rattle.map_join.specs.declared.records.Record.{Record}
+use Rattle.map_join.specs.Record.{record_at}
+use Rattle.map_join.specs.Maps.{IsMapOf, IsListOf, IsDifference}
+use Rattle.flat_machine.specs.Flat.{Flat, Payload, new_flat, put}
+use Rattle.flat_machine.specs.Steps.{FlatStep, FlatAnswer}
+use Rattle.flat_machine.specs.Steps as s
+use Rattle.flat_machine.specs.Cases.{Case}
+use Rattle.flat_machine.specs.declared.group.Member.{Member}
+use Rattle.std.specs.Prelude.{map}
+use Rattle.script_words.specs.Order.{Order}
+use Rattle.script_words.specs.Order as o
+use Rattle.script_bench.specs.State.{Position, State, nothing_taken, sizes_of}
+use Rattle.script_bench.specs.Text.{answer_text, asked_version, difference_text, listing, record_text}
+use Rattle.script_words.specs.declared.command.Named.{Named}
+
+-- a step of the flat machine, its answer and the state after it; the maps are as they were
+pub record Steps (P : Position) (step : FlatStep) (text : List ℕ) (t : State) : Type 0 where
+  pub answer : FlatAnswer
+  pub next : Flat
+  pub case : Case P.flat step answer next
+  pub text_is : text ≡ answer_text (asked_version step) answer
+  pub state_is : t ≡ Some (record P { flat = next })
+
+-- the newest record of each block among some records, in the blocks' order
+pub record ShowsMap (records : List Record) (text : List ℕ) : Type 0 where
+  pub keys : ℕ → ℕ
+  pub listed : List Record
+  pub map_of : IsMapOf records keys
+  pub list_of : IsListOf keys listed
+  pub text_is : text ≡ codes "map " ++ listing listed
+
+-- the emitted records, in order
+abbrev pub ShowsLog : Flat → List ℕ → Type 0
+ShowsLog F text = text ≡ codes "log " ++ listing F.emitted
+
+-- one of the maps has these records now
+abbrev pub with_taken : Position → ℕ → List Record → Position
+with_taken P map records = record P { taken = put P.taken map records }
+
+-- the map takes one record more, and its record of that block is told
+pub record Takes (P : Position) (map : ℕ) (r : Record) (text : List ℕ) (t : State) : Type 0 where
+  pub keys : ℕ → ℕ
+  pub newest : Record
+  pub map_of : IsMapOf (P.taken map ++ r ∷ []) keys
+  pub newest_is : record_at r.block (keys r.block) ≡ Some newest
+  pub text_is : text ≡ codes "took " ++ record_text newest
+  pub state_is : t ≡ Some (with_taken P map (P.taken map ++ r ∷ []))
+
+-- the first map takes all records of the second
+pub record Merges (P : Position) (into from : ℕ) (text : List ℕ) (t : State) : Type 0 where
+  pub text_is : text ≡ codes "merged"
+  pub state_is : t ≡ Some (with_taken P into (P.taken into ++ P.taken from))
+
+-- the lowest block of which two lists of records have different newest ones
+pub record Compares (left right : List Record) (text : List ℕ) : Type 0 where
+  pub left_keys : ℕ → ℕ
+  pub right_keys : ℕ → ℕ
+  pub left_map : IsMapOf left left_keys
+  pub right_map : IsMapOf right right_keys
+  pub lowest : Option ℕ
+  pub differs : IsDifference left_keys right_keys lowest
+  pub text_is : text ≡ difference_text lowest
+
+-- a new array
+pub record Begins (drives extents segments payload blocks : ℕ) (text : List ℕ) (t : State) : Type 0 where
+  pub text_is : text ≡ codes "array"
+  pub state_is : t ≡ Some (record { flat = new_flat (sizes_of extents segments payload blocks) drives; taken = nothing_taken })
+
+-- the members that a command names
+abbrev pub members_named : List Named → List Member
+members_named members = map (λ m. record { drive = m.drive; extent = m.extent }) members
+
+-- what a command answers in a state, and the state after it
+abbrev pub Answers : State → Order → List ℕ → State → Type 0
+Answers None (o.Array drives extents segments payload blocks) text t = Begins drives extents segments payload blocks text t
+Answers None _ text t = ⊥
+Answers (Some P) (o.Array drives extents segments payload blocks) text t = ⊥
+Answers (Some P) (o.Make class members) text t = Steps P (s.Make class (members_named members)) text t
+Answers (Some P) (o.Claim worker slot) text t = Steps P (s.Claim worker slot) text t
+Answers (Some P) (o.Release worker slot) text t = Steps P (s.Release worker slot) text t
+Answers (Some P) (o.Fill worker slot payload) text t = Steps P (s.Fill worker slot (Payload payload)) text t
+Answers (Some P) (o.Copy worker slot block) text t = Steps P (s.Copy worker slot block) text t
+Answers (Some P) (o.Commit worker slot block) text t = Steps P (s.Commit worker slot block) text t
+Answers (Some P) (o.Discard worker slot) text t = Steps P (s.Discard worker slot) text t
+Answers (Some P) (o.Read block) text t = Steps P (s.Read block) text t
+Answers (Some P) (o.At r) text t = Steps P (s.ReadAt r) text t
+Answers (Some P) (o.Take map r) text t = Takes P map r text t
+Answers (Some P) (o.Merge into from) text t = Merges P into from text t
+Answers (Some P) (o.Same left right) text t = Compares (P.taken left) (P.taken right) text × (t ≡ Some P)
+Answers (Some P) (o.Show map) text t = ShowsMap (P.taken map) text × (t ≡ Some P)
+Answers (Some P) o.Map text t = ShowsMap P.flat.emitted text × (t ≡ Some P)
+Answers (Some P) o.Log text t = ShowsLog P.flat text × (t ≡ Some P)

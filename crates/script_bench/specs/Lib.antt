@@ -1,0 +1,6 @@
+pub mod State
+pub mod Text
+pub mod Answers
+pub mod Meaning
+pub mod Carrying
+pub mod Replies

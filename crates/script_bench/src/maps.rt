@@ -1,0 +1,159 @@
+//! Commands on the four block maps. They leave the world as it is.
+ghost use Rattle.std.specs.Prelude.{◌≡◌, ℕ, ◌<◌, ◌++◌, ◌∷◌, [], List, length, codes, OnOk, IfOk, Some, slice_index_or};
+ghost use Rattle.map_join.specs.declared.records.Record.{Record};
+ghost use Rattle.map_join.specs.Record.{record_at};
+ghost use Rattle.map_join.specs.Maps.{at, IsDifference};
+ghost use Rattle.flat_machine.specs.Flat.{put};
+ghost use Rattle.script_bench.specs.State.{IsMap};
+ghost use Rattle.script_bench.specs.Carrying.{AreMapsOf, Carries};
+ghost use Rattle.script_words.specs.Order as o;
+ghost use Rattle.script_bench.specs.Text.{record_text};
+
+use crate::bench::Bench;
+use crate::limits::{block_of, map_of};
+use crate::texts::{put, put_difference, put_listing, put_record};
+use crate::why::{Failure, Why};
+use map_join::{BlockMap, MapRefusal, Record};
+use std::alloc::{AllocError, Global};
+use std::mem;
+
+/// Takes a record into a map, and tells the map's record of that block.
+pub fn take(
+    alloc: Global,
+    bench: &mut Bench,
+    map: u64,
+    record: Record,
+    out: &mut Vec<u8>,
+) -> Result<(), Failure>
+    requires { 0 < «record».version }
+    ensures { Carries result bench.old bench.new (o.Take map «record») out.old.items out.new.items }
+{
+    let Some(map) = map_of(map) else {
+        return Err(Failure::Wrong(Why::Range))
+    };
+    let Some(_) = block_of(&bench.world, u64::from(record.block)) else {
+        return Err(Failure::Wrong(Why::Range));
+    };
+    let Ok(newest) = take_into(alloc, &mut bench.maps, map, record) else {
+        return Err(Failure::Memory)
+    };
+    match put_took(out, &newest) {
+        Ok(()) => Ok(()),
+        Err(_) => Err(Failure::Memory),
+    }
+}
+
+// Takes the record into one of the maps, and gives that map's record of its block.
+fn take_into(
+    alloc: Global,
+    maps: &mut [BlockMap],
+    map: usize,
+    record: Record,
+) -> Result<Record, MapRefusal>
+    requires written { 0 < «record».version }
+    requires four { length maps.old ≡ 4 }
+    requires map { IsMap map }
+    ensures taken { OnOk result ((taken : ℕ → List Record) → AreMapsOf maps.old taken →
+        AreMapsOf maps.new (put taken map (taken map ++ «record» ∷ []))) }
+    ensures newest { IfOk result (λ newest.
+        record_at «record».block (at (slice_index_or maps.new map []) «record».block) ≡ Some newest) }
+{
+    match maps[map].take(alloc, record) {
+        Ok(()) => {}
+        Err(refusal) => return Err(refusal),
+    }
+    Ok(maps[map].get(record.block).unwrap_or(record))
+}
+
+/// Joins a map with another one, or with itself, which leaves it as it is.
+pub fn merge(
+    alloc: Global,
+    bench: &mut Bench,
+    into: u64,
+    from: u64,
+    out: &mut Vec<u8>,
+) -> Result<(), Failure>
+    ensures { Carries result bench.old bench.new (o.Merge into from) out.old.items out.new.items }
+{
+    let Some(into) = map_of(into) else {
+        return Err(Failure::Wrong(Why::Range))
+    };
+    let Some(from) = map_of(from) else {
+        return Err(Failure::Wrong(Why::Range))
+    };
+    match join(alloc, &mut bench.maps, into, from) {
+        Ok(()) => {}
+        Err(_) => return Err(Failure::Memory),
+    }
+    match put(out, b"merged") {
+        Ok(()) => Ok(()),
+        Err(_) => Err(Failure::Memory),
+    }
+}
+
+// Joins one of the maps with another one.
+fn join(alloc: Global, maps: &mut [BlockMap], into: usize, from: usize) -> Result<(), MapRefusal>
+    requires four { length maps.old ≡ 4 }
+    requires into { IsMap into }
+    requires from { IsMap from }
+    ensures { OnOk result ((taken : ℕ → List Record) → AreMapsOf maps.old taken →
+        AreMapsOf maps.new (put taken into (taken into ++ taken from))) }
+{
+    if into == from {
+        return Ok(());
+    }
+    let mut joined = mem::replace(&mut maps[into], BlockMap::new(alloc));
+    let merged = joined.merge(alloc, &maps[from]);
+    maps[into] = joined;
+    merged
+}
+
+/// Tells the lowest block of which two maps have different keys, if there is one.
+pub fn same(bench: &mut Bench, left: u64, right: u64, out: &mut Vec<u8>) -> Result<(), Failure>
+    ensures { Carries result bench.old bench.new (o.Same left right) out.old.items out.new.items }
+{
+    let Some(left) = map_of(left) else {
+        return Err(Failure::Wrong(Why::Range))
+    };
+    let Some(right) = map_of(right) else {
+        return Err(Failure::Wrong(Why::Range))
+    };
+    match put_difference(out, difference(&bench.maps, left, right)) {
+        Ok(()) => Ok(()),
+        Err(_) => Err(Failure::Memory),
+    }
+}
+
+// The lowest block of which two of the maps have different keys.
+fn difference(maps: &[BlockMap], left: usize, right: usize) -> Option<u32>
+    requires four { length maps.now ≡ 4 }
+    requires left { IsMap left }
+    requires right { IsMap right }
+    ensures { IsDifference (at (slice_index_or maps.now left [])) (at (slice_index_or maps.now right [])) result }
+{
+    maps[left].lowest_difference(&maps[right])
+}
+
+/// Lists a map's records.
+pub fn show(alloc: Global, bench: &mut Bench, map: u64, out: &mut Vec<u8>) -> Result<(), Failure>
+    ensures { Carries result bench.old bench.new (o.Show map) out.old.items out.new.items }
+{
+    let Some(map) = map_of(map) else {
+        return Err(Failure::Wrong(Why::Range))
+    };
+    let Ok(records) = bench.maps[map].to_list(alloc) else {
+        return Err(Failure::Memory)
+    };
+    match put_listing(out, b"map ", &records) {
+        Ok(()) => Ok(()),
+        Err(_) => Err(Failure::Memory),
+    }
+}
+
+// The answer to a record that was taken.
+fn put_took(out: &mut Vec<u8>, newest: &Record) -> Result<(), AllocError>
+    ensures { OnOk result (out.new.items ≡ out.old.items ++ (codes "took " ++ record_text newest.now)) }
+{
+    put(out, b"took ")?;
+    put_record(out, newest)
+}

@@ -1,0 +1,104 @@
+//! A line that is read for its words, and the reply to it.
+ghost use Rattle.std.specs.Prelude.{◌≤◌, length, Some};
+ghost use Rattle.script_bench.specs.State.{Position, State};
+ghost use Rattle.script_bench.specs.Carrying.{Stands, Makes};
+ghost use Rattle.script_bench.specs.Replies.{Replies, Starts};
+ghost use Rattle.script_words.specs.Order as o;
+
+use crate::bench::Bench;
+use crate::carry::carry_out;
+use crate::limits::array_in_range;
+use script_words::{Command, command_of};
+use crate::texts::put;
+use crate::why::{Failure, Why};
+use std::alloc::Global;
+use step_core::World;
+
+/// Appends the answer to a line's command. The buffer holds the payload of a fill.
+pub fn reply(
+    alloc: Global,
+    bench: &mut Option<Bench>,
+    payload: &mut [u8],
+    line: &[u8],
+    out: &mut Vec<u8>,
+) -> Result<(), Failure>
+    requires { 65536 ≤ length payload.old }
+    ensures { (state : State) → Stands bench.old state →
+        Replies result state bench.new line.now out.old.items out.new.items }
+{
+    match bench {
+        Some(bench) => later(alloc, bench, payload, line, out),
+        None => match first(alloc, line, out) {
+            Ok(made) => {
+                *bench = Some(made);
+                Ok(())
+            }
+            Err(failure) => Err(failure),
+        },
+    }
+}
+
+// The first command makes the array.
+fn first(alloc: Global, line: &[u8], out: &mut Vec<u8>) -> Result<Bench, Failure>
+    ensures { Starts result line.now out.old.items out.new.items }
+{
+    let command = match command_of(alloc, line, &mut []) {
+        Ok(Some(command)) => command,
+        Ok(None) => return Err(Failure::Wrong(Why::Form)),
+        Err(_) => return Err(Failure::Memory),
+    };
+    match command {
+        Command::Array {
+            drives,
+            extents,
+            segments,
+            payload,
+            blocks,
+        } => begin(alloc, drives, extents, segments, payload, blocks, out),
+        _ => Err(Failure::Wrong(Why::Form)),
+    }
+}
+
+// A new array with these sizes.
+fn begin(
+    alloc: Global,
+    drives: u64,
+    extents: u64,
+    segments: u64,
+    payload: u64,
+    blocks: u64,
+    out: &mut Vec<u8>,
+) -> Result<Bench, Failure>
+    ensures { Makes result (o.Array drives extents segments payload blocks) out.old.items out.new.items }
+{
+    let Some((drives, shape)) = array_in_range(drives, extents, segments, payload, blocks) else {
+        return Err(Failure::Wrong(Why::Range));
+    };
+    let Ok(world) = World::new(alloc, shape, drives) else {
+        return Err(Failure::Memory)
+    };
+    match put(out, b"array") {
+        Ok(()) => Ok(Bench::new(alloc, world)),
+        Err(_) => Err(Failure::Memory),
+    }
+}
+
+// Every later command is for the array and the maps.
+fn later(
+    alloc: Global,
+    bench: &mut Bench,
+    payload: &mut [u8],
+    line: &[u8],
+    out: &mut Vec<u8>,
+) -> Result<(), Failure>
+    requires { 65536 ≤ length payload.old }
+    ensures { (P : Position) → Stands (Some bench.old) (Some P) →
+        Replies result (Some P) (Some bench.new) line.now out.old.items out.new.items }
+{
+    let size = bench.world.array().shape().payload() as usize;
+    match command_of(alloc, line, &mut payload[..size]) {
+        Ok(Some(command)) => carry_out(alloc, bench, &payload[..size], command, out),
+        Ok(None) => Err(Failure::Wrong(Why::Form)),
+        Err(_) => Err(Failure::Memory),
+    }
+}

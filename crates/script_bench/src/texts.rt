@@ -1,0 +1,155 @@
+//! The texts of answers, appended to a buffer.
+ghost use Rattle.std.specs.Prelude.{◌≡◌, ◌∷◌, ◌++◌, [], OnOk, codes, decimal, Some, None};
+ghost use Rattle.hex.specs.Hex.{encode_lower};
+ghost use Rattle.step_core.specs.Told.{flat_answer, seen_of};
+ghost use Rattle.script_bench.specs.Text.{answer_text, data_text, detail, difference_text, found_text, header_text, seen_text, listing, record_or_none, record_text, records_text};
+ghost use Rattle.flat_machine.specs.Steps as s;
+
+use itoa::Buffer;
+use map_join::Record;
+use std::alloc::AllocError;
+use step_core::{Answer, At, Refusal};
+
+/// The digits of a half byte.
+const DIGITS: [u8; 16] = *b"0123456789abcdef";
+
+/// A text as it stands.
+pub fn put(out: &mut Vec<u8>, text: &[u8]) -> Result<(), AllocError>
+    ensures { OnOk result (out.new.items ≡ out.old.items ++ text.now) }
+{
+    out.extend_from_slice(text)
+}
+
+/// A number in decimal.
+pub fn put_number(out: &mut Vec<u8>, number: u64) -> Result<(), AllocError>
+    ensures { OnOk result (out.new.items ≡ out.old.items ++ decimal number) }
+{
+    let mut buffer = Buffer::new();
+    out.extend_from_slice(buffer.format(number).as_bytes())
+}
+
+/// Bytes in hex.
+pub fn put_hex(out: &mut Vec<u8>, bytes: &[u8]) -> Result<(), AllocError>
+    ensures { OnOk result (out.new.items ≡ out.old.items ++ encode_lower bytes.now) }
+{
+    for byte in bytes {
+        out.push(DIGITS[usize::from(*byte / 16)])?;
+        out.push(DIGITS[usize::from(*byte % 16)])?;
+    }
+    Ok(())
+}
+
+/// A record in hex.
+pub fn put_record(out: &mut Vec<u8>, record: &Record) -> Result<(), AllocError>
+    ensures { OnOk result (out.new.items ≡ out.old.items ++ record_text «record».now) }
+{
+    put_hex(out, &record.to_bytes())
+}
+
+/// A word and a number.
+fn put_numbered(out: &mut Vec<u8>, word: &[u8], number: u64) -> Result<(), AllocError>
+    ensures { OnOk result (out.new.items ≡ out.old.items ++ (word.now ++ decimal number)) }
+{
+    put(out, word)?;
+    put_number(out, number)
+}
+
+// A version and its payload.
+fn put_data(out: &mut Vec<u8>, version: u32, payload: &[u8]) -> Result<(), AllocError>
+    ensures { OnOk result (out.new.items ≡ out.old.items ++ data_text version payload.now) }
+{
+    put_numbered(out, b"data ", u64::from(version))?;
+    put(out, b" ")?;
+    put_hex(out, payload)
+}
+
+// What is seen at the place of a record of this version.
+fn put_seen(out: &mut Vec<u8>, version: u32, seen: &At) -> Result<(), AllocError>
+    ensures { OnOk result (out.new.items ≡ out.old.items ++ seen_text version (seen_of seen.now)) }
+{
+    match seen {
+        At::Data(payload) => put_data(out, version, payload),
+        At::Stale(Some(header)) => put_header(out, header),
+        At::Stale(None) => put(out, b"stale none"),
+    }
+}
+
+// A header that is found in another one's place.
+fn put_header(out: &mut Vec<u8>, header: &Record) -> Result<(), AllocError>
+    ensures { OnOk result (out.new.items ≡ out.old.items ++ (codes "stale " ++ header_text header.now)) }
+{
+    put_numbered(out, b"stale ", u64::from(header.block))?;
+    put_numbered(out, b" ", u64::from(header.version))?;
+    put_numbered(out, b" ", u64::from(header.hop))?;
+    put_numbered(out, b" ", u64::from(header.place))
+}
+
+/// The answer to a step. What is read at a record's place has the version that was asked for.
+pub fn put_answer(out: &mut Vec<u8>, answer: &Answer, asked: u32) -> Result<(), AllocError>
+    ensures { OnOk result (out.new.items ≡ out.old.items ++ answer_text asked (flat_answer answer.now)) }
+{
+    match answer {
+        Answer::Claimed(slot) => put_numbered(out, b"claimed ", u64::from(*slot)),
+        Answer::Taken(slot) => put_numbered(out, b"taken ", u64::from(*slot)),
+        Answer::Released(slot) => put_numbered(out, b"released ", u64::from(*slot)),
+        Answer::NotHeld(slot) => put_numbered(out, b"notheld ", u64::from(*slot)),
+        Answer::Filled(slot) => put_numbered(out, b"filled ", u64::from(*slot)),
+        Answer::Copied(slot) => put_numbered(out, b"copied ", u64::from(*slot)),
+        Answer::Committed(record) => {
+            put(out, b"record ")?;
+            put_record(out, record)
+        }
+        Answer::Discarded(slot) => put_numbered(out, b"discarded ", u64::from(*slot)),
+        Answer::Read(Some((version, payload))) => put_data(out, *version, payload),
+        Answer::Read(None) => put(out, b"none"),
+        Answer::Found(seen) => put_seen(out, asked, seen),
+        Answer::Made(group) => put_numbered(out, b"made ", u64::from(*group)),
+        Answer::Refused(refusal) => put_refusal(out, refusal),
+    }
+}
+
+/// A refusal: its number, and what it names.
+fn put_refusal(out: &mut Vec<u8>, refusal: &Refusal) -> Result<(), AllocError>
+    ensures { OnOk result (out.new.items ≡ out.old.items ++ answer_text 0 (s.Refused refusal.now)) }
+{
+    put_numbered(out, b"refused ", u64::from(refusal.number()))?;
+    put_detail(out, refusal)
+}
+
+// The record, the slot or the drive that a refusal names.
+fn put_detail(out: &mut Vec<u8>, refusal: &Refusal) -> Result<(), AllocError>
+    ensures { OnOk result (out.new.items ≡ out.old.items ++ detail refusal.now) }
+{
+    match refusal {
+        Refusal::Outrun(record) | Refusal::Ahead(Some(record)) => {
+            put(out, b" ")?;
+            put_record(out, record)
+        }
+        Refusal::Ahead(None) => put(out, b" none"),
+        Refusal::Gone(slot) | Refusal::SlotsHeld(slot) => put_numbered(out, b" ", u64::from(*slot)),
+        Refusal::DriveLost(drive) => put_numbered(out, b" ", u64::from(*drive)),
+        _ => Ok(()),
+    }
+}
+
+/// The lowest block of which two maps differ, if they do.
+pub fn put_difference(out: &mut Vec<u8>, lowest: Option<u32>) -> Result<(), AllocError>
+    ensures { OnOk result (out.new.items ≡ out.old.items ++ difference_text lowest) }
+{
+    match lowest {
+        None => put(out, b"same"),
+        Some(block) => put_numbered(out, b"differs ", u64::from(block)),
+    }
+}
+
+/// How many records, and the records.
+pub fn put_listing(out: &mut Vec<u8>, word: &[u8], records: &[Record]) -> Result<(), AllocError>
+    ensures { OnOk result (out.new.items ≡ out.old.items ++ (word.now ++ listing records.now)) }
+{
+    put_numbered(out, word, records.len() as u64)?;
+    for record in records {
+        put(out, b" ")?;
+        put_record(out, record)?;
+    }
+    Ok(())
+}

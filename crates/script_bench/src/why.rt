@@ -1,0 +1,23 @@
+//! Why a line is not answered.
+
+/// Why a line is wrong.
+#[derive(Clone, Copy)]
+pub enum Why {
+    /// There are lines enough before it.
+    Many,
+    /// It has too many bytes.
+    Long,
+    /// It spells no command that may come now.
+    Form,
+    /// A number is out of its limits.
+    Range,
+}
+
+/// Why a command was not answered.
+#[derive(Clone, Copy)]
+pub enum Failure {
+    /// There was no memory.
+    Memory,
+    /// The line is wrong.
+    Wrong(Why),
+}

@@ -1,0 +1,300 @@
+-- What a script's pieces lead to, one after the other.
+use Rattle.std.proofs.Common.{◌≡◌, ℕ, ◌+◌, ◌<◌, ◌==◌, Bool, false, List, [], ◌∷◌, ◌++◌, length, Option, Result, Ok, Err, refl, sym, ap, ◌∙◌, subst, inl, inr, arith, append_assoc, append-nil, length-append}
+use Rattle.std.proofs.lemmas.List.Elements.{All-append}
+use Rattle.script_run.specs.Opens.{AreLines, IsOpen}
+use Rattle.script_bench.specs.State.{State}
+use Rattle.script_bench.specs.Carrying.{Stands}
+use Rattle.script_bench.specs.Meaning.{Means, Wrong, fault_line, most_bytes}
+use Rattle.script_run.specs.Says.{Tells, lines_of}
+use Rattle.script_run.specs.Feeding.{Answered, Closes, Faults, Feeds, IsAlong, IsAnswered, IsClosed, IsCut, IsLineTold, IsLineWrong, IsShort, IsStopped, Leads}
+use Rattle.script_bench.specs.declared.bench.Bench.{Bench}
+use Rattle.script_run.specs.declared.end.End.{End}
+use Rattle.script_run.specs.declared.end.End.TheVariants as end
+use Rattle.script_run.specs.declared.script.Script.{Script}
+use Rattle.script_run.specs.declared.stop.Stop.{Stop}
+use Rattle.script_run.specs.declared.stop.Stop.TheVariants as stop
+use Rattle.script_bench.specs.declared.why.Why.{Why}
+use Rattle.script_run.proofs.Opens.{open_front, cut_line, last_line, lines_more, text_join, text_more}
+
+-- no line leads nowhere
+pub leads_none : (n : ℕ) (state : State) → Leads n state [] [] n state
+leads_none n state = λ more told last rest. rest
+
+-- lines behind lines
+pub leads_more : (n : ℕ) (state : State) (first out : List ℕ) (m : ℕ) (mid : State) (second told : List ℕ) (k : ℕ) (next : State)
+    → Leads n state first out m mid → Leads m mid second told k next → Leads n state (first ++ second) (out ++ told) k next
+leads_more n state first out m mid second told k next one two = λ more later last rest.
+    rw (append_assoc first second more, append_assoc out told later) (one (second ++ more) (told ++ later) last (two more later last rest))
+
+-- what is told behind whole lines is told of all
+pub leads_left : (n : ℕ) (state : State) (text whole out : List ℕ) (m : ℕ) (next : State) (rest told : List ℕ) (last : End)
+    → Leads n state whole out m next → text ≡ whole ++ rest → Tells m next (lines_of rest) told last
+    → Tells n state (lines_of text) (out ++ told) last
+leads_left n state text whole out m next rest told last leads is left =
+    let P : List ℕ → Type 0 = λ t. Tells n state (lines_of t) (out ++ told) last in subst P (sym is) (leads rest told last left)
+
+-- more behind a text of which the front is told
+pub cut_more : (n : ℕ) (state : State) (text out more : List ℕ) → IsCut n state text out → IsCut n state (text ++ more) out
+cut_more n state text out more cut = record {
+  whole = cut.whole;
+  rest = cut.rest ++ more;
+  text_is = ap (λ xs. xs ++ more) cut.text_is ∙ append_assoc cut.whole cut.rest more;
+  lines = cut.lines;
+  told = cut.told;
+}
+
+-- a front that is told behind whole lines
+pub cut_behind : (n : ℕ) (state : State) (text whole out : List ℕ) (m : ℕ) (next : State) (rest told : List ℕ) → AreLines whole
+    → Leads n state whole out m next → text ≡ whole ++ rest → IsCut m next rest told → IsCut n state text (out ++ told)
+cut_behind n state text whole out m next rest told lines leads is cut = record {
+  whole = whole ++ cut.whole;
+  rest = cut.rest;
+  text_is = text_join text whole rest cut.whole cut.rest is cut.text_is;
+  lines = lines_more whole cut.whole lines cut.lines;
+  told = leads cut.whole told end.Whole cut.told;
+}
+
+-- nothing of it is told
+pub cut_none : (n : ℕ) (state : State) (text : List ℕ) → IsCut n state text []
+cut_none n state text = record { whole = []; rest = text; text_is = refl; lines = inl refl; told = (refl, refl) }
+
+-- only the whole lines are told
+pub cut_along : (n : ℕ) (state : State) (text whole out : List ℕ) (m : ℕ) (next : State) (rest : List ℕ) → AreLines whole
+    → Leads n state whole out m next → text ≡ whole ++ rest → IsCut n state text out
+cut_along n state text whole out m next rest lines leads is =
+    let cut : IsCut n state text (out ++ []) = cut_behind n state text whole out m next rest [] lines leads is (cut_none m next rest) in
+    rw (append-nil out) at cut
+
+-- nothing was read yet
+pub along_start : (script : Script) (state : State) (chunk : List ℕ) → Stands script.bench state → IsAlong script state script chunk chunk
+along_start script state chunk stands = record {
+  next = state;
+  stands = stands;
+  whole = [];
+  lines = inl refl;
+  text_is = refl;
+  bytes = [];
+  out = sym (append-nil script.out.items);
+  leads = leads_none script.number state;
+}
+
+-- one part more was read
+pub along_more : (old : Script) (state : State) (mid new : Script) (chunk part rest : List ℕ) (a : IsAlong old state mid chunk (part ++ rest))
+    → IsAlong mid a.next new part [] → IsAlong old state new chunk rest
+along_more old state mid new chunk part rest a b = record {
+  next = b.next;
+  stands = b.stands;
+  whole = a.whole ++ b.whole;
+  lines = lines_more a.whole b.whole a.lines b.lines;
+  text_is =
+      text_join (old.line.items ++ chunk) a.whole (mid.line.items ++ (part ++ rest)) b.whole (new.line.items ++ rest) a.text_is
+      (text_more mid.line.items part b.whole new.line.items [] rest b.text_is);
+  bytes = a.bytes ++ b.bytes;
+  out = b.out ∙ ap (λ xs. xs ++ b.bytes) a.out ∙ append_assoc old.out.items a.bytes b.bytes;
+  leads = leads_more old.number state a.whole a.bytes mid.number a.next b.whole b.bytes new.number b.next a.leads b.leads;
+}
+
+-- a fault in the next part
+pub along_stopped : (old : Script) (state : State) (mid new : Script) (chunk part rest : List ℕ)
+    (a : IsAlong old state mid chunk (part ++ rest)) → IsStopped mid a.next new part → IsStopped old state new chunk
+along_stopped old state mid new chunk part rest a b = record {
+  bytes = a.bytes ++ b.bytes;
+  out = b.out ∙ ap (λ xs. xs ++ b.bytes) a.out ∙ append_assoc old.out.items a.bytes b.bytes;
+  told = λ more.
+      leads_left old.number state (old.line.items ++ (chunk ++ more)) a.whole a.bytes mid.number a.next
+      (mid.line.items ++ (part ++ (rest ++ more))) b.bytes end.Fault a.leads
+      (text_more old.line.items chunk a.whole mid.line.items (part ++ rest) more a.text_is
+      ∙ ap (λ xs. a.whole ++ (mid.line.items ++ xs)) (append_assoc part rest more))
+      (b.told (rest ++ more));
+}
+
+-- no memory in the next part
+along_short : (old : Script) (state : State) (mid new : Script) (chunk part rest : List ℕ)
+    (a : IsAlong old state mid chunk (part ++ rest)) → IsShort mid a.next new part → IsShort old state new chunk
+along_short old state mid new chunk part rest a b = record {
+  bytes = a.bytes ++ b.bytes;
+  out = b.out ∙ ap (λ xs. xs ++ b.bytes) a.out ∙ append_assoc old.out.items a.bytes b.bytes;
+  cut =
+      let more : IsCut mid.number a.next ((mid.line.items ++ part) ++ rest) b.bytes =
+      cut_more mid.number a.next (mid.line.items ++ part) b.bytes rest b.cut in
+      cut_behind old.number state (old.line.items ++ chunk) a.whole a.bytes mid.number a.next ((mid.line.items ++ part) ++ rest) b.bytes
+      a.lines a.leads (a.text_is ∙ ap (λ xs. a.whole ++ xs) (sym (append_assoc mid.line.items part rest))) more;
+}
+
+-- no memory, and nothing more was appended
+pub short_none : (old : Script) (state : State) (new : Script) (chunk : List ℕ) → new.out.items ≡ old.out.items
+    → IsShort old state new chunk
+short_none old state new chunk out = record {
+  bytes = [];
+  out = out ∙ sym (append-nil old.out.items);
+  cut = cut_none old.number state (old.line.items ++ chunk);
+}
+
+-- the open line grew
+pub along_open : (old : Script) (state : State) (new : Script) (part : List ℕ) → Stands new.bench state → new.number ≡ old.number
+    → new.line.items ≡ old.line.items ++ part → new.out.items ≡ old.out.items → IsAlong old state new part []
+along_open old state new part stands number line out = record {
+  next = state;
+  stands = stands;
+  whole = [];
+  lines = inl refl;
+  text_is = sym line ∙ sym (append-nil new.line.items);
+  bytes = [];
+  out = out ∙ sym (append-nil old.out.items);
+  leads = λ more told last rest. rw number at rest;
+}
+
+-- the open line ended and was answered
+pub along_answered : (old : Script) (state : State) (new : Script) → IsOpen old.line.items → IsAnswered old state new
+    → IsAlong old state new (10 ∷ []) []
+along_answered old state new none answered = let t = answered.told in record {
+  next = t.next;
+  stands = t.stands;
+  whole = old.line.items ++ 10 ∷ [];
+  lines = inr (old.line.items, refl);
+  text_is = sym (append-nil (old.line.items ++ 10 ∷ [])) ∙ ap (λ xs. (old.line.items ++ 10 ∷ []) ++ (xs ++ [])) (sym answered.line);
+  bytes = t.bytes;
+  out = t.out;
+  leads = λ more later last left.
+      let rest : Tells (old.number + 1) t.next (lines_of more) later last = rw answered.number at left in
+      rw (append_assoc old.line.items (10 ∷ []) more, cut_line old.line.items more none) (t.told (lines_of more) later last rest);
+}
+
+pub stopped_answered : (old : Script) (state : State) (new : Script) → IsOpen old.line.items
+    → IsLineWrong old.number state old.line.items old.out.items new.out.items → IsStopped old state new (10 ∷ [])
+stopped_answered old state new none wrong = record {
+  bytes = wrong.bytes;
+  out = wrong.out;
+  told = λ more. rw (cut_line old.line.items more none) (wrong.told (lines_of more));
+}
+
+-- an open front that is a fault however its line goes on
+pub stopped_front : (r : Result (Unit {0}) Stop) (old : Script) (state : State) (new : Script) (part : List ℕ) (reason : Why)
+    → IsOpen (old.line.items ++ part) → 0 < length part
+    → ((more : List ℕ) → Means old.number state ((old.line.items ++ part) ++ more) (Wrong reason))
+    → Faults r reason old new → Feeds r old state new part
+stopped_front (Ok u) old state new part reason none some means told = absurd told
+stopped_front (Err stop.Memory) old state new part reason none some means told = short_none old state new part told
+stopped_front (Err stop.Fault) old state new part reason none some means told = record {
+  bytes = fault_line old.number reason;
+  out = told;
+  told = λ more.
+      let front = old.line.items ++ part in
+      let first = open_front front more none (omega (arith, length-append old.line.items part)) in
+      let text : lines_of (old.line.items ++ (part ++ more)) ≡ (front ++ first.more) ∷ first.others =
+      ap lines_of (sym (append_assoc old.line.items part more)) ∙ first.is in
+      rw text (Wrong reason, means first.more, (refl, refl));
+}
+
+-- nothing is left to tell
+pub closed_empty : (script : Script) (state : State) → script.line.items ≡ [] → IsClosed script state script end.Whole
+closed_empty script state empty = record {
+  bytes = [];
+  out = sym (append-nil script.out.items);
+  told = rw empty (refl, refl);
+}
+
+-- the open line is the last one
+pub closed_answered : (r : Result (Unit {0}) Stop) (old : Script) (state : State) (new : Script) → IsOpen old.line.items
+    → 0 < length old.line.items → Answered r old state new → Closes r old state new
+closed_answered (Ok u) old state new none some answered = let t = answered.told in record {
+  bytes = t.bytes;
+  out = t.out;
+  told =
+      let told : Tells old.number state (old.line.items ∷ []) (t.bytes ++ []) end.Whole = t.told [] [] end.Whole (refl, refl) in
+      let told' : Tells old.number state (old.line.items ∷ []) t.bytes end.Whole = rw (append-nil t.bytes) at told in
+      rw (last_line old.line.items none some) told';
+}
+closed_answered (Err stop.Memory) old state new none some answered = short_none old state new [] answered
+closed_answered (Err stop.Fault) old state new none some answered = record {
+  bytes = answered.bytes;
+  out = answered.out;
+  told = rw (last_line old.line.items none some) (answered.told []);
+}
+
+-- one turn: a part that isn't taken in
+pub turn_refused : (reason : Stop) (old : Script) (state : State) (mid new : Script) (chunk rest part back : List ℕ)
+    → rest ≡ part ++ 10 ∷ back → IsAlong old state mid chunk rest
+    → ((s : State) → Stands mid.bench s → Feeds (Err reason) mid s new part) → Feeds (Err reason) old state new chunk
+turn_refused stop.Memory old state mid new chunk rest part back cut along fed =
+    let a : IsAlong old state mid chunk (part ++ 10 ∷ back) = rw cut at along in
+    along_short old state mid new chunk part (10 ∷ back) a (fed a.next a.stands)
+turn_refused stop.Fault old state mid new chunk rest part back cut along fed =
+    let a : IsAlong old state mid chunk (part ++ 10 ∷ back) = rw cut at along in
+    along_stopped old state mid new chunk part (10 ∷ back) a (fed a.next a.stands)
+
+-- one turn up to the line's end
+turn_taken : (old : Script) (state : State) (mid full : Script) (chunk rest part back : List ℕ)
+    → rest ≡ part ++ 10 ∷ back → IsAlong old state mid chunk rest
+    → ((s : State) → Stands mid.bench s → IsAlong mid s full part []) → IsAlong old state full chunk ((10 ∷ []) ++ back)
+turn_taken old state mid full chunk rest part back cut along fed =
+    let a : IsAlong old state mid chunk (part ++ 10 ∷ back) = rw cut at along in
+    along_more old state mid full chunk part (10 ∷ back) a (fed a.next a.stands)
+
+-- one turn: a line that isn't answered
+pub turn_stopped : (reason : Stop) (old : Script) (state : State) (mid full new : Script) (chunk rest part back : List ℕ)
+    → rest ≡ part ++ 10 ∷ back → IsAlong old state mid chunk rest
+    → ((s : State) → Stands mid.bench s → IsAlong mid s full part []) → IsOpen full.line.items
+    → ((s : State) → Stands full.bench s → Answered (Err reason) full s new) → Feeds (Err reason) old state new chunk
+turn_stopped stop.Memory old state mid full new chunk rest part back cut along fed none answered =
+    let a = turn_taken old state mid full chunk rest part back cut along fed in
+    along_short old state full new chunk (10 ∷ []) back a
+    (short_none full a.next new (10 ∷ []) (answered a.next a.stands))
+turn_stopped stop.Fault old state mid full new chunk rest part back cut along fed none answered =
+    let a = turn_taken old state mid full chunk rest part back cut along fed in
+    along_stopped old state full new chunk (10 ∷ []) back a
+    (stopped_answered full a.next new none (answered a.next a.stands))
+
+-- one whole turn
+pub turn_done : (old : Script) (state : State) (mid full new : Script) (chunk rest part back : List ℕ)
+    → rest ≡ part ++ 10 ∷ back → IsAlong old state mid chunk rest
+    → ((s : State) → Stands mid.bench s → IsAlong mid s full part []) → IsOpen full.line.items
+    → ((s : State) → Stands full.bench s → IsAnswered full s new) → IsAlong old state new chunk back
+turn_done old state mid full new chunk rest part back cut along fed none answered =
+    let a = turn_taken old state mid full chunk rest part back cut along fed in
+    along_more old state full new chunk (10 ∷ []) back a
+    (along_answered full a.next new none (answered a.next a.stands))
+
+-- the last part of the chunk
+pub last_part : (r : Result (Unit {0}) Stop) (old : Script) (state : State) (mid new : Script) (chunk rest : List ℕ)
+    → IsAlong old state mid chunk rest → ((s : State) → Stands mid.bench s → Feeds r mid s new rest) → Feeds r old state new chunk
+last_part (Ok u) old state mid new chunk rest along fed =
+    let a : IsAlong old state mid chunk (rest ++ []) = rw (append-nil rest) along in
+    along_more old state mid new chunk rest [] a (fed a.next a.stands)
+last_part (Err stop.Memory) old state mid new chunk rest along fed =
+    let a : IsAlong old state mid chunk (rest ++ []) = rw (append-nil rest) along in
+    along_short old state mid new chunk rest [] a (fed a.next a.stands)
+last_part (Err stop.Fault) old state mid new chunk rest along fed =
+    let a : IsAlong old state mid chunk (rest ++ []) = rw (append-nil rest) along in
+    along_stopped old state mid new chunk rest [] a (fed a.next a.stands)
+
+-- a line that was told in a buffer of its own, appended
+pub told_behind : (n : ℕ) (state : State) (bench : Option Bench) (line empty told old new : List ℕ) → IsLineTold n state bench line empty told
+    → empty ≡ [] → new ≡ old ++ told → IsLineTold n state bench line old new
+told_behind n state bench line empty told old new t none out = record {
+  next = t.next;
+  stands = t.stands;
+  bytes = t.bytes;
+  out = out ∙ ap (λ xs. old ++ xs) (t.out ∙ ap (λ xs. xs ++ t.bytes) none);
+  told = t.told;
+}
+
+pub wrong_behind : (n : ℕ) (state : State) (line empty told old new : List ℕ) → IsLineWrong n state line empty told
+    → empty ≡ [] → new ≡ old ++ told → IsLineWrong n state line old new
+wrong_behind n state line empty told old new t none out = record {
+  bytes = t.bytes;
+  out = out ∙ ap (λ xs. old ++ xs) (t.out ∙ ap (λ xs. xs ++ t.bytes) none);
+  told = t.told;
+}
+
+-- bytes behind a line that is too long make it no shorter
+pub too_long : (line part more : List ℕ) → 131200 < length line + length part → most_bytes < length ((line ++ part) ++ more)
+too_long line part more long = omega (arith, length-append (line ++ part) more, length-append line part)
+
+-- no line ends in two texts, one behind the other
+pub open_more : (line part : List ℕ) → IsOpen line → IsOpen part → IsOpen (line ++ part)
+open_more line part first second = All-append (λ byte. (byte == 10) ≡ false) line part first second
+
+-- what isn't found empty has bytes
+pub not_empty : (n : ℕ) (empty : Bool) → empty ≡ (n == 0) → empty ≡ false → 0 < n
+not_empty n empty told is = grind arith

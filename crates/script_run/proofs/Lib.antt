@@ -1,0 +1,5 @@
+pub mod Ends
+pub mod Feeds
+pub mod Lines
+pub mod Opens
+pub mod Writes

@@ -1,0 +1,17 @@
+use Rattle.std.proofs.Common.{◌≡◌, []}
+use Rattle.script_bench.specs.State.{State}
+use Rattle.script_bench.specs.Carrying.{Stands}
+use Rattle.script_run.specs.Feeding.{IsScript}
+use Rattle.script_run.specs.Turns.{PartSaid}
+use Rattle.script_run.proofs.run.turns.Given as goal
+
+-- what was read so far is answered and written
+abbrev pub invariant-loop : goal.invariant-loop
+invariant-loop g l =
+    let remaining = g.R.Read.remaining in
+    let contents = g.W.Write.contents in record {
+      good : IsScript l.script;
+      written : l.script.out.items ≡ [];
+      said : (state : State) → Stands l.fn.script.bench state → PartSaid (remaining l.fn.reader) (remaining l.reader)
+          l.fn.script state l.script (contents l.fn.writer) (contents l.writer);
+    }

@@ -1,0 +1,5 @@
+pub mod Says
+pub mod Opens
+pub mod Feeding
+pub mod Turns
+pub mod Status

@@ -1,0 +1,11 @@
+//! A script from a reader to a writer, line by line.
+#![tactic(auto)]
+
+mod end;
+mod line;
+mod run;
+mod script;
+mod stop;
+
+pub use end::End;
+pub use run::run_script;

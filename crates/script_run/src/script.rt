@@ -1,0 +1,160 @@
+//! A script that is fed in pieces.
+ghost use Rattle.std.specs.Prelude.{◌≡◌, ◌≤◌, [], ◌∷◌, ◌++◌, length, OnOk, IfSome, IfNone, None};
+ghost use Rattle.script_run.specs.Opens.{IsOpen};
+ghost use Rattle.script_bench.specs.State.{State};
+ghost use Rattle.script_bench.specs.Carrying.{Stands};
+
+use crate::line::{MOST_BYTES, MOST_LINES, answer_line, wrong};
+use crate::stop::Stop;
+use script_bench::{Bench, Why};
+use memchr::memchr;
+use std::alloc::Global;
+
+/// What ends a line.
+const LINE_END: u8 = b'\n';
+
+/// Where a script stands: the number of its open line, the bench, a buffer for a payload, the bytes of
+/// the open line, a buffer for its answer, and the whole answers that are not yet written.
+#[derive(Drop)]
+pub struct Script {
+    pub number: u64,
+    pub bench: Option<Bench>,
+    pub payload: Vec<u8>,
+    pub line: Vec<u8>,
+    pub told: Vec<u8>,
+    pub out: Vec<u8>,
+}
+
+impl Script {
+    ghost use Rattle.script_run.specs.Feeding.{Answered, Closes, Faults, Feeds, IsScript};
+
+    /// A script of which nothing was read. The buffer is for payloads.
+    pub fn new(alloc: Global, payload: Vec<u8>) -> Script
+        requires { 65536 ≤ length payload.items }
+        ensures good { IsScript result }
+        ensures number { result.number ≡ 1 }
+        ensures bench { result.bench ≡ None }
+        ensures line { result.line.items ≡ [] }
+        ensures out { result.out.items ≡ [] }
+    {
+        Script {
+            number: 1,
+            bench: None,
+            payload,
+            line: Vec::new(alloc),
+            told: Vec::new(alloc),
+            out: Vec::new(alloc),
+        }
+    }
+
+    /// Reads the next bytes, and answers the lines that end in them.
+    pub fn feed(&mut self, alloc: Global, chunk: &[u8]) -> Result<(), Stop>
+        requires { IsScript self.old }
+        ensures keeps { OnOk result (IsScript self.new) }
+        ensures fed { (state : State) → Stands self.old.bench state → Feeds result self.old state self.new chunk.now }
+    {
+        let mut rest = chunk;
+        while let Some((part, behind)) = split_line(rest) {
+            match self.take_in(part) {
+                Ok(()) => {}
+                Err(stop) => return Err(stop),
+            }
+            match self.answer(alloc) {
+                Ok(()) => {}
+                Err(stop) => return Err(stop),
+            }
+            rest = behind;
+        }
+        self.take_in(rest)
+    }
+
+    /// Answers the last line, which has no end, where there is one.
+    pub fn finish(&mut self, alloc: Global) -> Result<(), Stop>
+        requires { IsScript self.old }
+        ensures { (state : State) → Stands self.old.bench state → Closes result self.old state self.new }
+    {
+        if self.line.is_empty() {
+            return Ok(());
+        }
+        self.answer(alloc)
+    }
+
+    // More bytes of the open line.
+    fn take_in(&mut self, part: &[u8]) -> Result<(), Stop>
+        requires good { IsScript self.old }
+        requires part { IsOpen part.now }
+        ensures keeps { OnOk result (IsScript self.new) }
+        ensures fed { (state : State) → Stands self.old.bench state → Feeds result self.old state self.new part.now }
+    {
+        if part.is_empty() {
+            return Ok(());
+        }
+        if self.number > MOST_LINES {
+            return self.tell_fault(Why::Many);
+        }
+        if part.len() > MOST_BYTES - self.line.len() {
+            return self.tell_fault(Why::Long);
+        }
+        match self.line.extend_from_slice(part) {
+            Ok(()) => Ok(()),
+            Err(_) => Err(Stop::Memory),
+        }
+    }
+
+    // Tells a fault of the open line.
+    fn tell_fault(&mut self, why: Why) -> Result<(), Stop>
+        ensures { Faults result why self.old self.new }
+    {
+        self.told.clear();
+        match wrong(&mut self.told, self.number, why) {
+            Err(Stop::Fault) => match self.out.extend_from_slice(&self.told) {
+                Ok(()) => Err(Stop::Fault),
+                Err(_) => Err(Stop::Memory),
+            },
+            unfinished => unfinished,
+        }
+    }
+
+    // Answers the open line, which ends here. What is told of it is appended once it is whole.
+    fn answer(&mut self, alloc: Global) -> Result<(), Stop>
+        requires { IsScript self.old }
+        ensures keeps { OnOk result (IsScript self.new) }
+        ensures told { (state : State) → Stands self.old.bench state → Answered result self.old state self.new }
+    {
+        self.told.clear();
+        let told = answer_line(
+            alloc,
+            self.number,
+            &mut self.bench,
+            &mut self.payload,
+            &self.line,
+            &mut self.told,
+        );
+        match told {
+            Ok(()) => match self.out.extend_from_slice(&self.told) {
+                Ok(()) => {
+                    self.number += 1;
+                    self.line.clear();
+                    Ok(())
+                }
+                Err(_) => Err(Stop::Memory),
+            },
+            Err(Stop::Fault) => match self.out.extend_from_slice(&self.told) {
+                Ok(()) => Err(Stop::Fault),
+                Err(_) => Err(Stop::Memory),
+            },
+            Err(Stop::Memory) => Err(Stop::Memory),
+        }
+    }
+}
+
+// The bytes before the first line's end, and those behind it.
+fn split_line(text: &[u8]) -> Option<(&[u8], &[u8])>
+    ensures some { IfSome result (λ parts. IsOpen parts.0.now × (text.now ≡ parts.0.now ++ 10 ∷ parts.1.now)) }
+    ensures none { IfNone result (IsOpen text.now) }
+{
+    match memchr(LINE_END, text) {
+        Some(at) => Some((&text[..at], &text[at + 1..])),
+        None => None,
+    }
+}

@@ -1,0 +1,142 @@
+//! Scripts and their answers, and readers and writers that break off.
+use script_run::{End, run_script};
+use std::io;
+use std::io::{ErrorKind, Read, Write};
+use std::test::Fail;
+
+/// A new array, one group, and a block that is written and read.
+const FIRST: &str =
+    "array 4 8 2 8 16\nmake m 0.0 1.0 2.0\nclaim 0 0\nfill 0 0 1122334455667788\ncommit 0 0 3\nread 3\n";
+
+const FIRST_ANSWERS: &str =
+    "array\nmade 0\nclaimed 0\nfilled 0\nrecord 000000030000000100000000\ndata 1 1122334455667788\n";
+
+/// Gives its bytes three at a time, and an error where they end.
+#[derive(Drop)]
+struct Breaking<'a> {
+    bytes: &'a [u8],
+}
+
+impl Read for Breaking<'_> {
+    fn read(&mut self, buf: &mut [u8]) -> io::Result<usize> {
+        let count = self.bytes.len().min(buf.len()).min(3);
+        if count == 0 {
+            return Err(io::Error::from(ErrorKind::BrokenPipe));
+        }
+        buf[..count].copy_from_slice(&self.bytes[..count]);
+        self.bytes = &self.bytes[count..];
+        Ok(count)
+    }
+}
+
+/// Takes so many bytes, five at a time, and then none, or answers an error.
+#[derive(Drop)]
+struct Full {
+    taken: Vec<u8>,
+    room: usize,
+    fails: bool,
+}
+
+impl Write for Full {
+    fn write(&mut self, buf: &[u8]) -> io::Result<usize> {
+        let count = buf.len().min(self.room).min(5);
+        if count == 0 && self.fails {
+            return Err(io::Error::from(ErrorKind::BrokenPipe));
+        }
+        self.taken.extend_from_slice(&buf[..count])?;
+        self.room -= count;
+        Ok(count)
+    }
+
+    fn flush(&mut self) -> io::Result<()> {
+        Ok(())
+    }
+}
+
+#[test]
+fn scripts_are_answered_line_by_line(rt: HostRuntime) -> Result<(), Fail> {
+    let cases = [
+        (FIRST, FIRST_ANSWERS, End::Whole),
+        ("", "", End::Whole),
+        (
+            "array 4 8 2 8 16\nread 16\n",
+            "array\nfault 2 range\n",
+            End::Fault,
+        ),
+        (
+            "array 4 8 2 8 16\nfrob\nmap\n",
+            "array\nfault 2 form\n",
+            End::Fault,
+        ),
+        (
+            "array 4 8 2 8 16\nmake m 0.0 1.0 2.0\nmake m 0.1 0.2 1.1\nmake m 0.0 1.1 2.1\nmake m 0.8 1.1 2.1\n",
+            "array\nmade 0\nrefused 13\nrefused 12\nrefused 18\n",
+            End::Whole,
+        ),
+    ];
+    for (script, answers, end) in cases {
+        let mut out = Vec::new(rt.alloc());
+        let mut reader = script.as_bytes();
+        assert_eq!(rt; run_script(rt.alloc(), &mut reader, &mut out), end);
+        assert_eq!(rt; out.as_slice(), answers.as_bytes());
+    }
+    Ok(())
+}
+
+#[test]
+fn a_broken_reader_leaves_the_answers_to_its_whole_lines(rt: HostRuntime) -> Result<(), Fail> {
+    for (count, answers) in [
+        (0, ""),
+        (16, ""),
+        (17, "array\n"),
+        (40, "array\nmade 0\n"),
+        (46, "array\nmade 0\nclaimed 0\n"),
+    ] {
+        let mut out = Vec::new(rt.alloc());
+        let mut reader = Breaking {
+            bytes: FIRST.as_bytes().get(..count).ok_or("short")?,
+        };
+        assert_eq!(rt;
+            run_script(rt.alloc(), &mut reader, &mut out),
+            End::ReadFault
+        );
+        assert_eq!(rt; out.as_slice(), answers.as_bytes());
+    }
+    Ok(())
+}
+
+#[test]
+fn a_full_writer_has_a_front_of_the_answers(rt: HostRuntime) -> Result<(), Fail> {
+    for room in [0, 1, 5, 6, 13, 30, 83] {
+        for fails in [false, true] {
+            let mut writer = Full {
+                taken: Vec::new(rt.alloc()),
+                room,
+                fails,
+            };
+            let mut reader = FIRST.as_bytes();
+            assert_eq!(rt;
+                run_script(rt.alloc(), &mut reader, &mut writer),
+                End::WriteFault
+            );
+            assert_eq!(rt;
+                Some(writer.taken.as_slice()),
+                FIRST_ANSWERS.as_bytes().get(..room)
+            );
+        }
+    }
+    Ok(())
+}
+
+#[test]
+fn each_end_has_its_status(rt: HostRuntime) {
+    for (end, status) in [
+        (End::Whole, 0),
+        (End::Fault, 2),
+        (End::Memory, 4),
+        (End::ReadFault, 5),
+        (End::WriteFault, 5),
+    ] {
+        assert_eq!(rt; end.status(), status);
+    }
+}

@@ -1,0 +1,7 @@
+pub mod Number
+pub mod Parts
+pub mod Verb
+pub mod Words
+pub mod Order
+pub mod Spelling
+pub mod Reading

@@ -1,0 +1,27 @@
+-- What reading a line finds.
+use Rattle.std.specs.Prelude.{◌≡◌, ℕ, List, Option, Some, None}
+use Rattle.script_words.specs.Order.{Order, order_of, verb_of}
+use Rattle.script_words.specs.Spelling.{Follows, IsSized, Spells}
+use Rattle.script_words.specs.declared.command.Command.{Command}
+use Rattle.script_words.specs.declared.verb.Verb.{Verb}
+
+-- the words behind the verb are this command's
+pub record IsFound (verb : Verb) (size : ℕ) (ws : List (List ℕ)) (order : Order) : Type 0 where
+  pub asked : verb_of order ≡ verb
+  pub sized : IsSized size order
+  pub follows : Follows order ws
+
+-- a command of the verb that the words spell, or none where they spell none
+abbrev pub Finds : Verb → ℕ → List (List ℕ) → List ℕ → Option Command → Type 0
+Finds verb size ws bytes (Some command) = IsFound verb size ws (order_of command bytes)
+Finds verb size ws bytes None = (order : Order) → IsFound verb size ws order → ⊥
+
+-- the line spells this command, with a payload of the length that is wanted
+pub record IsRead (size : ℕ) (line : List ℕ) (order : Order) : Type 0 where
+  pub spells : Spells order line
+  pub sized : IsSized size order
+
+-- a command that the line spells, or none where it spells none
+abbrev pub Reads : ℕ → List ℕ → List ℕ → Option Command → Type 0
+Reads size line bytes (Some command) = IsRead size line (order_of command bytes)
+Reads size line bytes None = (order : Order) → IsRead size line order → ⊥

@@ -1,0 +1,15 @@
+//! A line of a script as a command: numbers, members, records and verbs as they are spelled.
+#![tactic(auto)]
+
+mod arguments;
+mod command;
+mod member;
+mod number;
+mod parse;
+mod parts;
+mod record;
+mod verb;
+mod words;
+
+pub use command::{Command, Named};
+pub use parse::command_of;
