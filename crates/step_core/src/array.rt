@@ -29,7 +29,7 @@ pub(crate) const GROUPS: usize = 512;
 pub(crate) const SLOTS: usize = 65_536;
 
 /// The array: drives and groups, the log of emitted records, and of each slot what the array keeps.
-#[derive(Debug, Drop)]
+#[derive(Drop)]
 pub struct Array<C: Hold> {
     pub(crate) shape: Shape,
     pub(crate) drives: u8,

@@ -5,7 +5,7 @@ ghost use Rattle.flat_machine.specs.Groups.{slot_count};
 use flat_machine::{Class, Member};
 
 /// A made group: its class, and its members in the order in which they were given.
-#[derive(Debug, Drop)]
+#[derive(Drop)]
 pub(crate) struct Group {
     pub(crate) class: Class,
     pub(crate) members: Vec<Member>,

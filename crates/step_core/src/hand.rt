@@ -1,7 +1,7 @@
 // What the workers of a world have of a slot.
 
 /// Nothing, a worker's claim, or a worker's ticket.
-#[derive(Clone, Copy, Debug, PartialEq, Eq)]
+#[derive(Clone, Copy, PartialEq, Eq)]
 pub enum Hand {
     Empty,
     Holds(u8),

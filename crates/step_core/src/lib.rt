@@ -25,7 +25,7 @@ pub use flat_machine::{Class, Member, Refusal};
 pub use hold::{Hold, Plain, Ticket};
 pub use read::At;
 pub use reading::Reading;
-pub use run::{Run, Stopped, run_steps};
+pub use run::{Run, Stopped, represented_stands, run_steps};
 pub use shape::{Shape, ShapeRefusal};
 pub use step::{Answer, Step};
 pub use world::World;

@@ -10,7 +10,7 @@ use std::mem;
 
 /// Nothing, the claim of a slot that waits with a fresh payload or with a copy of a record's, or the
 /// claim of a block's newest place.
-#[derive(Debug, Drop)]
+#[derive(Drop)]
 pub(crate) enum Place<C: Hold> {
     Free,
     Pending(C),

@@ -4,7 +4,7 @@ ghost use Rattle.flat_machine.specs.Flat.{Flat};
 ghost use Rattle.flat_machine.specs.Cases.{Case, Runs, IsWanted};
 ghost use Rattle.step_core.specs.Told.{flat_answer, flat_step, FitsStep};
 ghost use Rattle.step_core.specs.declared.step.Step.{Step};
-ghost use Rattle.step_core.specs.Views.{SameSizes};
+ghost use Rattle.step_core.specs.Views.{WorldView, SameSizes};
 ghost use Rattle.step_core.specs.Represents.{Represents};
 ghost use Rattle.step_core.specs.Headline.{Stands};
 
@@ -29,6 +29,14 @@ pub struct Stopped {
     pub world: World,
     pub answers: Vec<Answer>,
     pub at: usize,
+}
+
+/// The headline of every state that a world stands for: no slot has two holders, every map of just the
+/// emitted records is the running map, and a read through it finds each block's last write.
+pub fn represented_stands()
+    ensures { (world : WorldView) (F : Flat) → Represents world F → Stands world F }
+{
+    // The law is the contract: there is nothing to do.
 }
 
 impl World {

@@ -1,0 +1,5 @@
+use Rattle.step_core.proofs.Runnings.{stands}
+use Rattle.step_core.proofs.run.represented_stands.Goals as goal
+
+pub returns : goal.returns
+returns c = stands
