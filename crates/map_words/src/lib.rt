@@ -4,8 +4,6 @@
 mod naming;
 mod rule;
 mod taker;
-#[cfg(test)]
-mod tests;
 mod view;
 mod words;
 

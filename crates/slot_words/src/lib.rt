@@ -6,8 +6,6 @@ mod naming;
 mod pass;
 mod rule;
 mod steps;
-#[cfg(test)]
-mod tests;
 mod view;
 mod words;
 

@@ -1,4 +1,4 @@
-use Rattle.map_words.proofs.tests.a_share_is_halved_sixteen_times.Given as goal
+use Rattle.words_tests.proofs.maps.a_share_is_halved_sixteen_times.Given as goal
 
 -- the table that was made has the name
 abbrev pub ghosts-splits_sixteen_times : goal.ghosts-splits_sixteen_times

@@ -1,7 +1,7 @@
 ghost use Rattle.std.specs.Prelude.{◌≡◌, ◌<◌};
 ghost use Rattle.map_words.specs.Places.{blocks_of};
 
-use crate::{CloseRefusal, MapWords, Naming, SplitRefusal, Taker, Unnamed};
+use map_words::{CloseRefusal, MapWords, Naming, SplitRefusal, Taker, Unnamed};
 use map_join::{BlockMap, Record};
 use std::alloc::Global;
 use std::marker::Brand;

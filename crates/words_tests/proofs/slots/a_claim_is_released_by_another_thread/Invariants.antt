@@ -1,4 +1,4 @@
-use Rattle.slot_words.proofs.tests.a_claim_is_released_by_another_thread.Given as goal
+use Rattle.words_tests.proofs.slots.a_claim_is_released_by_another_thread.Given as goal
 
 -- the table that was made has the name
 abbrev pub ghosts-hands_a_claim_over : goal.ghosts-hands_a_claim_over

@@ -1,5 +1,5 @@
 use Rattle.std.proofs.Common.{vec_len}
-use Rattle.slot_words.proofs.tests.release_all.Given as goal
+use Rattle.words_tests.proofs.slots.release_all.Given as goal
 
 abbrev pub decreases-loop-claim : goal.decreases-loop-claim
 decreases-loop-claim g l = vec_len l.claims

@@ -1,7 +1,7 @@
 ghost use Rattle.std.specs.Prelude.{◌≡◌, ◌<◌, All, IfOk};
 ghost use Rattle.slot_words.specs.Places.{slots_of};
 
-use crate::{Claim, ClaimRefusal, Naming, NoneFree, Pass, SlotWords, Unnamed};
+use slot_words::{Claim, ClaimRefusal, Naming, NoneFree, Pass, SlotWords, Unnamed};
 use std::alloc::{AllocError, AllocFailed, Global};
 use std::marker::Brand;
 use std::process::Abort;

@@ -1,4 +1,4 @@
-use Rattle.map_words.proofs.tests.the_newer_record_wins_in_either_order.Given as goal
+use Rattle.words_tests.proofs.maps.the_newer_record_wins_in_either_order.Given as goal
 
 -- the table that was made has the name
 abbrev pub ghosts-takes_two : goal.ghosts-takes_two

@@ -1,4 +1,4 @@
-use Rattle.map_words.proofs.tests.four_threads_leave_the_newest_record_of_each_block.Given as goal
+use Rattle.words_tests.proofs.maps.four_threads_leave_the_newest_record_of_each_block.Given as goal
 
 -- the table that was made has the name
 abbrev pub ghosts-takes_in_four_threads : goal.ghosts-takes_in_four_threads

@@ -1,0 +1,7 @@
+//! Claims of slots and maps of words, in one thread and in four, against values from outside.
+#![tactic(auto)]
+
+#[cfg(test)]
+mod maps;
+#[cfg(test)]
+mod slots;
