@@ -1,0 +1,5 @@
+pub mod Keeping
+pub mod Oldest
+pub mod Law
+pub mod Passed
+pub mod Picks

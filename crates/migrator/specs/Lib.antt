@@ -1,0 +1,4 @@
+pub mod Ages
+pub mod Inside
+pub mod Slots
+pub mod Picking
