@@ -2,7 +2,7 @@
 use Rattle.std.proofs.Common.{◌≡◌, ◌∙◌, ◌⊎◌, inl, inr, ℕ, ◌/◌, ◌%◌, ◌<◌, ◌≤◌, length, refl, sym, ap, arith, Option, Some, None, slice_get, unwrap_or, ◌↔◌}
 use Rattle.std.proofs.lemmas.Bool.{cases_lt}
 use Rattle.std.proofs.lemmas.Option.{slice_get_past}
-use Rattle.map_join.specs.Live.{IsLive, IsLiveIn, IsLiveCount}
+use Rattle.map_join.specs.Live.{IsLiveIn, IsLiveCount}
 use Rattle.map_join.proofs.Rising.{count_zero, count_none}
 use Rattle.extent_groups.specs.declared.class.Class.{Class}
 use Rattle.extent_groups.specs.declared.class.Class.TheVariants.{Parity}

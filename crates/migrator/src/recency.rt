@@ -89,10 +89,7 @@ fn is_mirrored(groups: &GroupTable, record: Option<Record>) -> bool
     ensures { IsTrue result ↔ (class_at groups.now «record» ≡ Some Mirrored) }
 {
     match record {
-        Some(record) => matches!(
-            groups.class_of(record.place / SLOTS),
-            Some(Class::Mirrored)
-        ),
+        Some(record) => matches!(groups.class_of(record.place / SLOTS), Some(Class::Mirrored)),
         None => false,
     }
 }

@@ -15,6 +15,6 @@ returns g c =
     let P = IsPicked Parity groups (IsOtherIdle end groups keys) (λ (slot : ℕ). Unit {0}) in
     IfOk-weaker c.picked_slots.result (λ v. Lists P v.items) (λ v. Lists (IsFresh end groups keys) v.items)
     (λ v h. lists_same P (IsFresh end groups keys) v.items
-        (λ s p. record { slot_of = p.slot_of; other = p.group_too.other; idle = p.group_too.idle })
-        (λ s q. record { slot_of = q.slot_of; group_too = record { other = q.other; idle = q.idle }; slot_too = tt }) h)
+    (λ s p. record { slot_of = p.slot_of; other = p.group_too.other; idle = p.group_too.idle })
+    (λ s q. record { slot_of = q.slot_of; group_too = record { other = q.other; idle = q.idle }; slot_too = tt }) h)
     c.picked_slots.ensures

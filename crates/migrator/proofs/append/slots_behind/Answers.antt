@@ -1,4 +1,4 @@
-use Rattle.std.proofs.Common.{ℕ, Some, ◌≡◌, ◌/◌}
+use Rattle.std.proofs.Common.{ℕ, Some, ◌≡◌}
 use Rattle.std.proofs.lemmas.Result.{IfOk-weaker}
 use Rattle.extent_groups.specs.declared.class.Class.TheVariants.{Parity}
 use Rattle.map_join.specs.Lists.{Lists}
@@ -15,6 +15,6 @@ returns g c =
     let P = IsPicked Parity groups (λ (group : ℕ). end.group ≡ Some group) (IsFreeFrom end.next keys) in
     IfOk-weaker c.picked_slots.result (λ v. Lists P v.items) (λ v. Lists (IsBehind end groups keys) v.items)
     (λ v h. lists_same P (IsBehind end groups keys) v.items
-        (λ s p. record { slot_of = p.slot_of; own = p.group_too; from = p.slot_too.from; free = p.slot_too.free })
-        (λ s q. record { slot_of = q.slot_of; group_too = q.own; slot_too = record { from = q.from; free = q.free } }) h)
+    (λ s p. record { slot_of = p.slot_of; own = p.group_too; from = p.slot_too.from; free = p.slot_too.free })
+    (λ s q. record { slot_of = q.slot_of; group_too = q.own; slot_too = record { from = q.from; free = q.free } }) h)
     c.picked_slots.ensures

@@ -1,4 +1,3 @@
-use Rattle.std.proofs.Common.{ℕ}
 use Rattle.migrator.specs.Ages.{IsMarked}
 use Rattle.migrator.specs.Slots.{IsMirrored}
 use Rattle.migrator.proofs.Oldest.{oldest_same}

@@ -1,6 +1,5 @@
-use Rattle.std.proofs.Common.{◌≡◌, ℕ, ◌<◌, get_or, length, arith, refl, rules, subst, sym, Some}
+use Rattle.std.proofs.Common.{◌≡◌, arith, refl, subst, Some}
 use Rattle.extent_groups.specs.declared.class.Class.TheVariants.{Mirrored}
-use Rattle.map_join.specs.Record.{record_at}
 use Rattle.migrator.specs.Slots.{IsMirrored, class_at}
 use Rattle.migrator.proofs.Oldest.{none_passes, first_passes}
 use Rattle.migrator.proofs.recency.first_mirrored.Goals as goal

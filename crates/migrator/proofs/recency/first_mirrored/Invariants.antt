@@ -1,4 +1,4 @@
-use Rattle.std.proofs.Common.{◌≡◌, ℕ, ◌<◌, get_or}
+use Rattle.std.proofs.Common.{ℕ, ◌<◌, get_or}
 use Rattle.migrator.specs.Slots.{IsMirrored}
 use Rattle.migrator.proofs.recency.first_mirrored.Given as goal
 

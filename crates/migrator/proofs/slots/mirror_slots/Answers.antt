@@ -13,5 +13,5 @@ returns c =
     let every = λ (n : ℕ). Unit {0} in
     IfOk-weaker c.picked_slots.result (λ v. Lists (IsPicked Mirrored groups every every) v.items) (λ v. Lists (λ s. IsSlotOf Mirrored groups s) v.items)
     (λ v h. lists_same (IsPicked Mirrored groups every every) (λ s. IsSlotOf Mirrored groups s) v.items (λ s p. p.slot_of)
-        (λ s q. record { slot_of = q; group_too = tt; slot_too = tt }) h)
+    (λ s q. record { slot_of = q; group_too = tt; slot_too = tt }) h)
     c.picked_slots.ensures

@@ -1,6 +1,5 @@
-use Rattle.std.proofs.Common.{◌≡◌, ℕ, ◌+◌, ◌*◌, ◌/◌, ◌<◌, ◌≤◌, arith, subst}
+use Rattle.std.proofs.Common.{◌≡◌, ◌+◌, ◌*◌, ◌/◌, arith, subst}
 use Rattle.std.proofs.lemmas.Bool.{iff_false}
-use Rattle.map_join.specs.Lists.{ListsBelow}
 use Rattle.map_join.proofs.Rising.{below_all, below_skip}
 use Rattle.migrator.specs.Picking.{IsPicked}
 use Rattle.migrator.proofs.Picks.{made_low}
@@ -17,9 +16,9 @@ loop-group-preserved g c =
     let P = IsPicked c.args.class c.args.groups.now (g.P.Picks.group_is c.args.which.now) (g.P.Picks.slot_is c.args.which.now) in
     let n = c.loop-group.group in
     elim c.if-picks_group.branch [
-      then-picks_group+in_ok-push_picked w ↦ rw (w.slots-is) (w.in_ok-push_picked.ensures)
-    | else-picks_group w ↦ rw (w.slots-is)
+      | then-picks_group+in_ok-push_picked w ↦ rw (w.slots-is) (w.in_ok-push_picked.ensures)
+      | else-picks_group w ↦ rw (w.slots-is)
           (below_skip P (128 * n) (128 * (n + 1)) c.loop-group.slots.items (omega arith) (λ s low high p.
-              let own : s / 128 ≡ n = omega arith in
-              iff_false c.picks_group.ensures w.if-picks_group.false (subst (g.P.Picks.group_is c.args.which.now) own p.group_too)) c.loop-group.invariant)
+          let own : s / 128 ≡ n = omega arith in
+          iff_false c.picks_group.ensures w.if-picks_group.false (subst (g.P.Picks.group_is c.args.which.now) own p.group_too)) c.loop-group.invariant)
     ]

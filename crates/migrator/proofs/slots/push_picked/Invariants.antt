@@ -1,4 +1,4 @@
-use Rattle.std.proofs.Common.{ℕ, ◌+◌, ◌*◌}
+use Rattle.std.proofs.Common.{◌+◌, ◌*◌}
 use Rattle.map_join.specs.Lists.{ListsBelow}
 use Rattle.migrator.specs.Picking.{IsPicked}
 use Rattle.migrator.proofs.slots.push_picked.Given as goal
