@@ -3,3 +3,4 @@ pub mod Oldest
 pub mod Law
 pub mod Passed
 pub mod Picks
+pub mod Firsts

@@ -2,3 +2,4 @@ pub mod Ages
 pub mod Inside
 pub mod Slots
 pub mod Picking
+pub mod First

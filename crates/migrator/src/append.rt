@@ -13,9 +13,9 @@ use std::alloc::{AllocError, Global};
 
 // The slots of the write group from the next index on that aren't live.
 #[derive(Drop)]
-struct GoingOn<'a, L> {
-    end: &'a LogEnd,
-    live: &'a L,
+pub(crate) struct GoingOn<'a, L> {
+    pub(crate) end: &'a LogEnd,
+    pub(crate) live: &'a L,
 }
 
 impl<'a, L: Live> Picks for GoingOn<'a, L> {
@@ -34,10 +34,10 @@ impl<'a, L: Live> Picks for GoingOn<'a, L> {
 
 // The slots of the other groups that have no live slot.
 #[derive(Drop)]
-struct Fresh<'a, L> {
-    end: &'a LogEnd,
-    groups: &'a GroupTable,
-    live: &'a L,
+pub(crate) struct Fresh<'a, L> {
+    pub(crate) end: &'a LogEnd,
+    pub(crate) groups: &'a GroupTable,
+    pub(crate) live: &'a L,
 }
 
 impl<'a, L: Live> Picks for Fresh<'a, L> {

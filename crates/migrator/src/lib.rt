@@ -2,6 +2,7 @@
 #![tactic(auto)]
 
 mod append;
+mod first;
 mod laws;
 mod log_end;
 mod marked_ages;
@@ -9,6 +10,7 @@ mod recency;
 mod slots;
 
 pub use append::append_slots;
+pub use first::{Free, first_append};
 pub use laws::{age_law, mark_law};
 pub use log_end::{LogEnd, wants_demotion};
 pub use marked_ages::MarkedAges;
