@@ -1,8 +1,10 @@
 // A hole is plugged, a group is cleaned, and the log goes on.
+ghost use Rattle.std.specs.Prelude.{◌≢◌};
+
 use crate::set_up::{four_groups, places, took};
 use cleaner::{Move, clean_plan, empty_group, plug_plan};
 use map_join::BlockMap;
-use migrator::{LogEnd, append_slots};
+use migrator::{Free, LogEnd, append_slots, first_append};
 use std::test::Fail;
 
 #[test]
@@ -70,5 +72,30 @@ fn a_new_log_begins_with_the_lowest_parity_slot(rt: HostRuntime) -> Result<(), F
     assert_eq!(rt; (slots[0], slots[4], slots[11]), (128, 256, 387));
     assert_eq!(rt; empty_group(&groups, &map, None), Some(1));
     assert_eq!(rt; plug_plan(&groups, &map, None), None);
+    Ok(())
+}
+
+/// Every slot is free but one.
+struct AllBut(u16);
+
+impl Free for AllBut {
+    ghost free = { λ all slot. slot ≢ all.0 };
+
+    fn is_free(&self, slot: u16) -> bool {
+        slot != self.0
+    }
+}
+
+#[test]
+fn the_first_free_slot_behind_the_log_is_found(rt: HostRuntime) -> Result<(), Fail> {
+    let groups = four_groups(&rt, rt.alloc())?;
+    let map = places(rt.alloc())?;
+    let mut end = LogEnd::new();
+    assert_eq!(rt; first_append(&end, &groups, &map, &AllBut(0)), None);
+    end.appended(385);
+    assert_eq!(rt; first_append(&end, &groups, &map, &AllBut(0)), Some(386));
+    assert_eq!(rt; first_append(&end, &groups, &map, &AllBut(386)), Some(387));
+    end.appended(387);
+    assert_eq!(rt; first_append(&end, &groups, &map, &AllBut(0)), None);
     Ok(())
 }
