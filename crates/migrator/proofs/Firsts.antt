@@ -1,5 +1,5 @@
 -- The first free slot, group by group.
-use Rattle.std.proofs.Common.{◌≡◌, ◌⊎◌, inl, inr, ℕ, ◌+◌, ◌*◌, ◌/◌, ◌%◌, ◌<◌, ◌≤◌, sym, subst, arith, Option, Some, None}
+use Rattle.std.proofs.Common.{◌≡◌, ◌⊎◌, inl, inr, ℕ, ◌+◌, ◌*◌, ◌/◌, ◌%◌, ◌<◌, ◌≤◌, arith, Option, Some, None}
 use Rattle.std.proofs.lemmas.Bool.{cases_lt}
 use Rattle.extent_groups.specs.declared.class.Class.TheVariants.{Parity}
 use Rattle.extent_groups.specs.Groups.{Groups}
@@ -29,14 +29,6 @@ module _ (P : ℕ → Type 0) where
       by s p (inl m) _ = absurd (below s m p)
       by s p (inr m) (inl n) = omega (arith, own, n)
       by s p (inr m) (inr n) = least s (omega (arith, m, n)) p
-
-  -- within a group: no lower index has any
-  pub index_below : (group index s : ℕ) → ((k : ℕ) → k < index → P (128 * group + k) → ⊥) → s / 128 ≡ group → P s → index ≤ s % 128
-  index_below group index s below own p = by (cases_lt (s % 128) index)
-    where
-      by : (s % 128 < index) ⊎ (index ≤ s % 128) → index ≤ s % 128
-      by (inl l) = absurd (below (s % 128) l (subst P (sym (slot_is group s own)) p))
-      by (inr l) = l
 
 -- picked and free is what each kind says
 module _ (end : End) (groups : Groups) (keys : ℕ → ℕ) (free : ℕ → Type 0) where

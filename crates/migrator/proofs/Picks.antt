@@ -1,20 +1,14 @@
 -- Picked slots of groups.
-use Rattle.std.proofs.Common.{◌≡◌, ◌∙◌, ◌⊎◌, inl, inr, ℕ, ◌/◌, ◌%◌, ◌<◌, ◌≤◌, length, refl, sym, ap, arith, Option, Some, None, slice_get, unwrap_or, ◌↔◌}
+use Rattle.std.proofs.Common.{◌≡◌, ◌∙◌, ◌⊎◌, inl, inr, ℕ, ◌/◌, ◌%◌, ◌<◌, ◌≤◌, length, sym, ap, arith, Some, None, slice_get, unwrap_or, ◌↔◌}
 use Rattle.std.proofs.lemmas.Bool.{cases_lt}
 use Rattle.std.proofs.lemmas.Option.{slice_get_past}
 use Rattle.map_join.specs.Live.{IsLiveIn, IsLiveCount}
 use Rattle.map_join.proofs.Rising.{count_zero, count_none}
 use Rattle.extent_groups.specs.declared.class.Class.{Class}
 use Rattle.extent_groups.specs.declared.class.Class.TheVariants.{Parity}
-use Rattle.extent_groups.specs.Groups.{Group, Groups, IsFormed, slots_in, class_in, group_at}
+use Rattle.extent_groups.specs.Groups.{Groups, class_in, group_at}
 use Rattle.extent_groups.specs.Stores.{IsSlotOf}
-use Rattle.extent_groups.proofs.Bounds.{slot_count_small}
 use Rattle.migrator.specs.Slots.{IsIdle}
-
--- no group has more than 128 slots
-pub slots_few : (segments : ℕ) (o : Option Group) → ((x : Group) → o ≡ Some x → IsFormed x.members) → segments ≤ 8 → slots_in segments o ≤ 128
-slots_few segments None formed short = omega arith
-slots_few segments (Some x) formed short = let few = slot_count_small x.class (length x.members) segments (formed x refl).few short in omega arith
 
 -- a made group has a number below 512
 pub made_low : (groups : Groups) (g : ℕ) (class : Class) → length groups.table ≡ 512 → class_in (group_at groups g) ≡ Some class → g < 512
