@@ -1,5 +1,5 @@
 -- The best of the groups that were looked at, group by group.
-use Rattle.std.proofs.Common.{◌≡◌, ◌⊎◌, inl, inr, ℕ, ◌+◌, ◌<◌, ◌≤◌, sym, subst, arith, Option, Some, None}
+use Rattle.std.proofs.Common.{◌≡◌, ◌⊎◌, inl, inr, ℕ, ◌+◌, ◌<◌, ◌≤◌, subst, arith, Option, Some, None}
 use Rattle.std.proofs.lemmas.Bool.{cases_lt}
 use Rattle.cleaner.specs.declared.choice.Counted.{Counted}
 use Rattle.cleaner.specs.Choosing.{IsFewest, IsMost, IsFewestTo, IsMostTo, IsFewestBelow, IsMostBelow, IsOffered, IsFewer, IsMore}
@@ -12,23 +12,6 @@ module _ (offers : ℕ → ℕ → Type 0) where
       by : (other < b) ⊎ (b ≤ other) → (other < b) ⊎ (other ≡ b)
       by (inl m) = inl m
       by (inr m) = inr (omega (arith, l, m))
-
-  -- a group more that isn't offered
-  pub fewest_skip : (b : ℕ) (best : Option Counted) → ((count : ℕ) → offers b count → ⊥) → IsFewestBelow offers b best → IsFewestBelow offers (b + 1) best
-  fewest_skip b None none h = λ other count l o. by other count o (last_of b other l)
-    where
-      by : (other count : ℕ) → offers other count → (other < b) ⊎ (other ≡ b) → ⊥
-      by other count o (inl m) = h other count m o
-      by other count o (inr e) = none count (subst (λ g. offers g count) e o)
-  fewest_skip b (Some c) none h = record {
-    offered = h.offered;
-    below = omega (arith, h.below);
-    best = λ other count l o. by other count o (last_of b other l);
-  }
-    where
-      by : (other count : ℕ) → offers other count → (other < b) ⊎ (other ≡ b) → (c.live < count) ⊎ ((c.live ≡ count) × (c.group ≤ other))
-      by other count o (inl m) = h.best other count m o
-      by other count o (inr e) = absurd (none count (subst (λ g. offers g count) e o))
 
   -- a group more that is no better
   pub fewest_keep : (b live : ℕ) (best : Option Counted) → IsOffered (offers b) (Some live) → (IsFewer live best → ⊥) → IsFewestBelow offers b best → IsFewestBelow offers (b + 1) best
@@ -54,26 +37,6 @@ module _ (offers : ℕ → ℕ → Type 0) where
       by other count o (inl m) = h.best other count m o
       by other count o (inr e) = same other count e (offered.1 count (subst (λ g. offers g count) e o)) (cases_lt c.live live)
 
-  -- a group more that is better
-  pub fewest_new : (b live : ℕ) (best : Option Counted) → IsOffered (offers b) (Some live) → IsFewer live best → IsFewestBelow offers b best → IsFewestTo offers (b + 1) b live
-  fewest_new b live best offered less h = record {
-    offered = offered.0;
-    below = omega arith;
-    best = λ other count l o. by other count o (last_of b other l);
-  }
-    where
-      lower : (best : Option Counted) → IsFewer live best → IsFewestBelow offers b best → (other count : ℕ) → other < b → offers other count → live < count
-      lower None less h other count m o = absurd (h other count m o)
-      lower (Some c) less h other count m o = go (h.best other count m o)
-        where
-          go : (c.live < count) ⊎ ((c.live ≡ count) × (c.group ≤ other)) → live < count
-          go (inl k) = omega (arith, k, less)
-          go (inr k) = omega (arith, k.0, less)
-
-      by : (other count : ℕ) → offers other count → (other < b) ⊎ (other ≡ b) → (live < count) ⊎ ((live ≡ count) × (b ≤ other))
-      by other count o (inl m) = inl (lower best less h other count m o)
-      by other count o (inr e) = inr (sym (offered.1 count (subst (λ g. offers g count) e o)), omega (arith, e))
-
   -- every group that is offered was looked at
   pub fewest_none : (b : ℕ) → ((other count : ℕ) → offers other count → other < b) → IsFewestBelow offers b None → (other count : ℕ) → offers other count → ⊥
   fewest_none b low h other count o = h other count (low other count o) o
@@ -81,24 +44,7 @@ module _ (offers : ℕ → ℕ → Type 0) where
   pub fewest_all : (b group live : ℕ) → ((other count : ℕ) → offers other count → other < b) → IsFewestTo offers b group live → IsFewest offers group live
   fewest_all b group live low h = record { offered = h.offered; best = λ other count o. h.best other count (low other count o) o }
 
-  -- the same of the fullest: a group more that isn't offered
-  pub most_skip : (b : ℕ) (best : Option Counted) → ((count : ℕ) → offers b count → ⊥) → IsMostBelow offers b best → IsMostBelow offers (b + 1) best
-  most_skip b None none h = λ other count l o. by other count o (last_of b other l)
-    where
-      by : (other count : ℕ) → offers other count → (other < b) ⊎ (other ≡ b) → ⊥
-      by other count o (inl m) = h other count m o
-      by other count o (inr e) = none count (subst (λ g. offers g count) e o)
-  most_skip b (Some c) none h = record {
-    offered = h.offered;
-    below = omega (arith, h.below);
-    best = λ other count l o. by other count o (last_of b other l);
-  }
-    where
-      by : (other count : ℕ) → offers other count → (other < b) ⊎ (other ≡ b) → (count < c.live) ⊎ ((c.live ≡ count) × (c.group ≤ other))
-      by other count o (inl m) = h.best other count m o
-      by other count o (inr e) = absurd (none count (subst (λ g. offers g count) e o))
-
-  -- a group more that is no better
+  -- the same of the fullest
   pub most_keep : (b live : ℕ) (best : Option Counted) → IsOffered (offers b) (Some live) → (IsMore live best → ⊥) → IsMostBelow offers b best → IsMostBelow offers (b + 1) best
   most_keep b live None offered worse h = absurd (worse tt)
   most_keep b live (Some c) offered worse h = record {
@@ -121,26 +67,6 @@ module _ (offers : ℕ → ℕ → Type 0) where
       by : (other count : ℕ) → offers other count → (other < b) ⊎ (other ≡ b) → (count < c.live) ⊎ ((c.live ≡ count) × (c.group ≤ other))
       by other count o (inl m) = h.best other count m o
       by other count o (inr e) = same other count e (offered.1 count (subst (λ g. offers g count) e o)) (cases_lt live c.live)
-
-  -- a group more that is better
-  pub most_new : (b live : ℕ) (best : Option Counted) → IsOffered (offers b) (Some live) → IsMore live best → IsMostBelow offers b best → IsMostTo offers (b + 1) b live
-  most_new b live best offered less h = record {
-    offered = offered.0;
-    below = omega arith;
-    best = λ other count l o. by other count o (last_of b other l);
-  }
-    where
-      lower : (best : Option Counted) → IsMore live best → IsMostBelow offers b best → (other count : ℕ) → other < b → offers other count → count < live
-      lower None less h other count m o = absurd (h other count m o)
-      lower (Some c) less h other count m o = go (h.best other count m o)
-        where
-          go : (count < c.live) ⊎ ((c.live ≡ count) × (c.group ≤ other)) → count < live
-          go (inl k) = omega (arith, k, less)
-          go (inr k) = omega (arith, k.0, less)
-
-      by : (other count : ℕ) → offers other count → (other < b) ⊎ (other ≡ b) → (count < live) ⊎ ((live ≡ count) × (b ≤ other))
-      by other count o (inl m) = inl (lower best less h other count m o)
-      by other count o (inr e) = inr (sym (offered.1 count (subst (λ g. offers g count) e o)), omega (arith, e))
 
   -- every group that is offered was looked at
   pub most_none : (b : ℕ) → ((other count : ℕ) → offers other count → other < b) → IsMostBelow offers b None → (other count : ℕ) → offers other count → ⊥
