@@ -3,5 +3,7 @@ pub mod Fronts
 pub mod Joins
 pub mod Listing
 pub mod Merging
+pub mod Placing
+pub mod Rising
 pub mod Spelling
 pub mod Walks

@@ -21,7 +21,7 @@ abbrev pub recorded : ℕ × ℕ → Record
 recorded e = record_of e.0 e.1
 
 -- a number that is no less than the least key tells a record, and no other does
-told : (block key : ℕ) → 2 ^ 32 ≤ key → record_at block key ≡ Some (record_of block key)
+pub told : (block key : ℕ) → 2 ^ 32 ≤ key → record_at block key ≡ Some (record_of block key)
 told block key h = grind (arith, nat_tests)
 
 untold : (block key : ℕ) → key < 2 ^ 32 → record_at block key ≡ None
@@ -56,10 +56,10 @@ map_member g xs d y h =
     (get_or xs h.0 d, Contains-get_or xs h.0 d inside, sym (get_or-map g xs h.0 d y inside) ∙ h.2)
 
 -- what a map's entries have, it finds, and the other way round
-finds : (es : Entries) → IsStrictlySortedBy nat_cmp (keys_of es) → (block key : ℕ) → Contains es (block, key) → find es block ≡ Some key
+pub finds : (es : Entries) → IsStrictlySortedBy nat_cmp (keys_of es) → (block key : ℕ) → Contains es (block, key) → find es block ≡ Some key
 finds es sorted block key has = lookup-from_Contains (eq_by_cmp_equiv nat_cmp_total) block key es (IsDistinct-from_sorted nat_cmp (keys_of es) sorted) has
 
-found : (es : Entries) (block key : ℕ) → find es block ≡ Some key → Contains es (block, key)
+pub found : (es : Entries) (block key : ℕ) → find es block ≡ Some key → Contains es (block, key)
 found es block key is = Contains-from_lookup (λ x y t. same x y t) block key es is
   where
     same : (x y : ℕ) → eq_by_cmp nat_cmp x y ≡ true → x ≡ y
@@ -69,26 +69,26 @@ have_keys : (es : Entries) → IsStrictlySortedBy nat_cmp (keys_of es) → AreKe
 have_keys es sorted keys = All-weaker (Contains es) HasKey (λ e has. keys e.0 e.1 (finds es sorted e.0 e.1 has)) es (All-contains_itself es)
 
 -- the key that a map has of a block that tells a record
-key_told : (es : Entries) (r : Record) → record_at r.block (at es r.block) ≡ Some r → (key : ℕ) × (find es r.block ≡ Some key) × (recorded (r.block, key) ≡ r)
-key_told es r is = go (find es r.block) refl
+pub key_told : (es : Entries) (block : ℕ) (r : Record) → record_at block (at es block) ≡ Some r → (key : ℕ) × (find es block ≡ Some key) × (recorded (block, key) ≡ r)
+key_told es block r is = go (find es block) refl
   where
-    go : (o : Option ℕ) → find es r.block ≡ o → (key : ℕ) × (find es r.block ≡ Some key) × (recorded (r.block, key) ≡ r)
+    go : (o : Option ℕ) → find es block ≡ o → (key : ℕ) × (find es block ≡ Some key) × (recorded (block, key) ≡ r)
     go None e =
-        let none : record_at r.block (at es r.block) ≡ None = ap (λ o. record_at r.block (unwrap_or o 0)) e ∙ untold r.block 0 (omega arith) in
+        let none : record_at block (at es block) ≡ None = ap (λ o. record_at block (unwrap_or o 0)) e ∙ untold block 0 (omega arith) in
         absurd (some_none (sym is ∙ none))
       where
         some_none : Some r ≡ None → ⊥
         some_none e = cc
     go (Some key) e =
-        let at_key : record_at r.block (at es r.block) ≡ record_at r.block key = ap (λ o. record_at r.block (unwrap_or o 0)) e in
+        let at_key : record_at block (at es block) ≡ record_at block key = ap (λ o. record_at block (unwrap_or o 0)) e in
         (key, e, by_size (key_cases key) (sym at_key ∙ is))
       where
         key_cases : (k : ℕ) → (2 ^ 32 ≤ k) ⊎ (k < 2 ^ 32)
         key_cases k = grind arith
 
-        by_size : (2 ^ 32 ≤ key) ⊎ (key < 2 ^ 32) → record_at r.block key ≡ Some r → record_of r.block key ≡ r
-        by_size (inl big) t = same_Some _ _ (sym (told r.block key big) ∙ t)
-        by_size (inr small) t = absurd (some_none (sym t ∙ untold r.block key small))
+        by_size : (2 ^ 32 ≤ key) ⊎ (key < 2 ^ 32) → record_at block key ≡ Some r → record_of block key ≡ r
+        by_size (inl big) t = same_Some _ _ (sym (told block key big) ∙ t)
+        by_size (inr small) t = absurd (some_none (sym t ∙ untold block key small))
           where
             some_none : Some r ≡ None → ⊥
             some_none e = cc
@@ -110,5 +110,5 @@ listed es sorted keys = subst (IsListOf (at es)) (sym (all_told es (have_keys es
 
     back : (r : Record) → record_at r.block (at es r.block) ≡ Some r → Contains (map recorded es) r
     back r is =
-        let k = key_told es r is in
+        let k = key_told es r.block r is in
         subst (Contains (map recorded es)) k.2 (member_map recorded es (r.block, k.0) (found es r.block k.0 k.1))

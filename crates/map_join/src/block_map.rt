@@ -2,6 +2,7 @@
 ghost use Rattle.std.specs.Prelude.{◌≡◌, ◌≢◌, ℕ, ◌<◌, ◌≤◌, ◌^◌, List, [], ◌∷◌, ◌++◌, IsOk, IfOk, IfSome, IfNone, OnOk, OnErr, IsTrue, ◌↔◌, max, unwrap_or};
 ghost use Rattle.map_join.specs.Record.{record_at};
 ghost use Rattle.map_join.specs.Maps.{at, IsSame, IsBelow, join, lone, only, IsMapOf, IsListOf, IsPartlyJoined, IsDifference, AreInOrder};
+ghost use Rattle.map_join.specs.Numbers.{refusal_number};
 ghost use Rattle.std.specs.List.{filter_map};
 ghost use Rattle.std.specs.Ordering.{nat_cmp};
 ghost use Rattle.std.specs.BTreeMap.{IsOrdered, IsUnchanged, Updates, get};
@@ -15,7 +16,7 @@ use std::marker::Model;
 /// The greatest key taken of each block.
 #[derive(Drop)]
 pub struct BlockMap {
-    keys: BTreeMap<u32, u64>,
+    pub(crate) keys: BTreeMap<u32, u64>,
 }
 
 impl Model for BlockMap {
@@ -33,7 +34,18 @@ impl Model for BlockMap {
 #[derive(Clone, Copy, Debug, PartialEq, Eq)]
 pub enum MapRefusal {
     /// There is no memory for one more block.
-    Memory = 1,
+    Memory,
+}
+
+impl MapRefusal {
+    /// The refusal's number.
+    pub fn number(&self) -> u8
+        ensures { result ≡ refusal_number self.now }
+    {
+        match self {
+            MapRefusal::Memory => 1,
+        }
+    }
 }
 
 impl BlockMap {
@@ -167,9 +179,10 @@ impl BlockMap {
         Some(*block)
     }
 
-    /// The newest record of each block, in the blocks' order.
+    /// The newest record of each block, in the blocks' order. Memory is wanted only where there is a block.
     pub fn to_list(&self, alloc: Global) -> Result<Vec<Record>, MapRefusal>
-        ensures { IfOk result (λ list. IsListOf (at self.now) list.items) }
+        ensures list { IfOk result (λ list. IsListOf (at self.now) list.items) }
+        ensures there { IsSame (at self.now) (λ _. 0) → IsOk result }
     {
         match listed(alloc, &self.keys) {
             Ok(list) => Ok(list),
@@ -177,9 +190,10 @@ impl BlockMap {
         }
     }
 
-    /// A second map with the same keys.
+    /// A second map with the same keys. Memory is wanted only where there is a block.
     pub fn copied(&self, alloc: Global) -> Result<BlockMap, MapRefusal>
-        ensures { IfOk result (λ copy. copy ≡ self.now) }
+        ensures copy { IfOk result (λ copy. copy ≡ self.now) }
+        ensures there { IsSame (at self.now) (λ _. 0) → IsOk result }
     {
         match copied_keys(alloc, &self.keys) {
             Ok(keys) => Ok(BlockMap { keys }),
@@ -227,8 +241,12 @@ fn key_ahead(entries: &mut Iter<'_, u32, u64>, block: u32) -> u64
 // The record of each entry.
 fn listed(alloc: Global, keys: &BTreeMap<u32, u64>) -> Result<Vec<Record>, AllocError>
     ensures ok { IfOk result (λ list. list.items ≡ filter_map (λ e. record_at e.0 e.1) keys.now.entries) }
+    ensures there { keys.now.entries ≡ [] → IsOk result }
     ensures ordered { IsOrdered nat_cmp keys.now }
 {
+    if keys.len() == 0 {
+        return Ok(Vec::new(alloc));
+    }
     keys.iter()
         .filter_map(|(block, key)| Record::of_key(*block, *key))
         .collect(alloc)
@@ -236,7 +254,11 @@ fn listed(alloc: Global, keys: &BTreeMap<u32, u64>) -> Result<Vec<Record>, Alloc
 
 // The same entries once more.
 fn copied_keys(alloc: Global, keys: &BTreeMap<u32, u64>) -> Result<BTreeMap<u32, u64>, AllocError>
-    ensures { IfOk result (λ copy. copy.entries ≡ keys.now.entries) }
+    ensures ok { IfOk result (λ copy. copy.entries ≡ keys.now.entries) }
+    ensures there { keys.now.entries ≡ [] → IsOk result }
 {
+    if keys.len() == 0 {
+        return Ok(BTreeMap::new(alloc));
+    }
     keys.clone()
 }

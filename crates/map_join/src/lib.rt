@@ -3,11 +3,10 @@
 
 mod block_map;
 mod laws;
+mod newest;
 mod records;
 
 pub use block_map::{BlockMap, MapRefusal};
 pub use laws::{join_laws, list_laws};
+pub use newest::{Live, Newest};
 pub use records::{Record, RecordFault};
-
-#[cfg(test)]
-mod tests;

@@ -4,6 +4,7 @@ ghost use Rattle.std.specs.Prelude.{◌≡◌, IfOk, IfErr, ◌<◌, ℕ, ◌++�
 ghost use Rattle.map_join.specs.Record.{IsRecord, Spells, bytes_of, key_of, record_at};
 ghost use Rattle.byteorder.specs.Endian.{big_bytes};
 ghost use Rattle.map_join.specs.Faults.{IsNoRecord};
+ghost use Rattle.map_join.specs.Numbers.{fault_number};
 
 use byteorder::{BigEndian, ByteOrder};
 
@@ -25,9 +26,21 @@ pub struct Record {
 #[derive(Clone, Copy, Debug, PartialEq, Eq)]
 pub enum RecordFault {
     /// There aren't twelve bytes.
-    Length = 1,
+    Length,
     /// They spell version 0.
-    ZeroVersion = 2,
+    ZeroVersion,
+}
+
+impl RecordFault {
+    /// The fault's number, in the order above.
+    pub fn number(&self) -> u8
+        ensures { result ≡ fault_number self.now }
+    {
+        match self {
+            RecordFault::Length => 1,
+            RecordFault::ZeroVersion => 2,
+        }
+    }
 }
 
 /// A record's key and its bytes begin their parts here.

@@ -1,5 +1,5 @@
 // Records and maps against values from outside.
-use crate::{BlockMap, MapRefusal, Record, RecordFault};
+use map_join::{BlockMap, Live, MapRefusal, Newest, Record, RecordFault};
 use std::alloc::Global;
 use std::test::Fail;
 
@@ -163,5 +163,27 @@ fn a_list_is_in_block_order_and_a_copy_has_the_same(rt: HostRuntime) -> Result<(
     let list = copy.to_list(rt.alloc())?;
     assert_eq!(rt; list.len(), 3);
     assert_eq!(rt; (list[0].block, list[1].block, list[2].block), (2, 5, 9));
+    Ok(())
+}
+
+#[test]
+fn the_newest_records_alone_tell_which_slots_are_live(rt: HostRuntime) -> Result<(), Fail> {
+    let mut map = map_of(rt.alloc(), &[record(1, 0, 5), record(1, 1, 130)])?;
+    let other = Record {
+        block: 9,
+        version: 1,
+        hop: 0,
+        place: 5,
+    };
+    map.take(rt.alloc(), other)?;
+    assert_eq!(rt; map.newest(3), Some(record(1, 1, 130)));
+    assert_eq!(rt; map.newest(4), None);
+    assert_eq!(rt; map.block_at(5), Some(9));
+    assert_eq!(rt; map.block_at(130), Some(3));
+    assert_eq!(rt; map.block_at(2), None);
+    assert_eq!(rt; map.count_live(0, 5), 0);
+    assert_eq!(rt; map.count_live(0, 6), 1);
+    assert_eq!(rt; map.count_live(1, 128), 1);
+    assert_eq!(rt; map.count_live(2, 128), 0);
     Ok(())
 }

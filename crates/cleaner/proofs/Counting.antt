@@ -1,0 +1,164 @@
+-- Counts of live slots of parity groups.
+use Rattle.std.proofs.Common.{◌≡◌, ◌≢◌, ◌∙◌, ◌⊎◌, inl, inr, ℕ, zero, suc, ◌+◌, ◌*◌, ◌/◌, ◌%◌, ◌<◌, ◌≤◌, List, [], ◌∷◌, ◌++◌, length, refl, sym, ap, subst, arith, Option, Some, None, slice_get, unwrap_or}
+use Rattle.std.proofs.lemmas.Bool.{cases_lt}
+use Rattle.std.proofs.lemmas.List.{length_push}
+use Rattle.std.proofs.lemmas.Option.{slice_get_past}
+use Rattle.map_join.specs.Lists.{ListsBelow, IsCount}
+use Rattle.map_join.specs.Live.{LiesAt, IsLive, IsLiveIn, IsLiveCount}
+use Rattle.map_join.proofs.Rising.{count_same, count_once, count_some, count_zero, count_none, below_none, below_more, below_all}
+use Rattle.extent_groups.specs.declared.class.Class.{Class}
+use Rattle.extent_groups.specs.declared.class.Class.TheVariants.{Parity}
+use Rattle.extent_groups.specs.Groups.{Group, Groups, IsFormed, AreGroups, group_at, class_in, slots_in}
+use Rattle.extent_groups.proofs.Bounds.{slot_count_small}
+use Rattle.extent_groups.specs.Stores.{IsSlotOf}
+use Rattle.cleaner.specs.Counts.{IsLiveOf, IsHoleOf, HasLive, IsLowest}
+use Rattle.cleaner.specs.Plans.{IsEmpty}
+
+-- a made group has a number below 512
+pub made_low : (groups : Groups) (g : ℕ) (class : Class) → length groups.table ≡ 512 → class_in (group_at groups g) ≡ Some class → g < 512
+made_low groups g class long made = by (cases_lt g 512)
+  where
+    by : (g < 512) ⊎ (512 ≤ g) → g < 512
+    by (inl l) = l
+    by (inr m) =
+        let out : slice_get groups.table g ≡ None = slice_get_past groups.table g (omega (arith, long, m)) in
+        let none : class_in (unwrap_or (slice_get groups.table g) None) ≡ None = ap (λ o. class_in (unwrap_or o None)) out in
+        let both : None ≡ Some class = sym none ∙ made in
+        cc
+
+-- a parity group's slots are those of its first indexes
+pub slot_at : (groups : Groups) (group slot : ℕ) → class_in (group_at groups group) ≡ Some Parity → slot / 128 ≡ group
+    → slot % 128 < slots_in groups.segments (group_at groups group) → IsSlotOf Parity groups slot
+slot_at groups group slot made own l = record {
+  made = subst (λ g. class_in (group_at groups g) ≡ Some Parity) (sym own) made;
+  below = subst (λ g. slot % 128 < slots_in groups.segments (group_at groups g)) (sym own) l;
+}
+
+pub index_of : (groups : Groups) (group slot : ℕ) → IsSlotOf Parity groups slot → slot / 128 ≡ group → slot % 128 < slots_in groups.segments (group_at groups group)
+index_of groups group slot is own = subst (λ g. slot % 128 < slots_in groups.segments (group_at groups g)) own is.below
+
+-- the live ones of these were counted
+pub live_counted : (groups : Groups) (keys : ℕ → ℕ) (group slots count : ℕ) → class_in (group_at groups group) ≡ Some Parity
+    → slots ≡ slots_in groups.segments (group_at groups group) → IsLiveCount keys group slots count → HasLive groups keys group count
+live_counted groups keys group slots count made is h = record {
+  made = made;
+  count = count_same (IsLiveIn keys group slots) (IsLiveOf groups keys group) count to from h;
+}
+  where
+    to : (slot : ℕ) → IsLiveIn keys group slots slot → IsLiveOf groups keys group slot
+    to slot m = record { slot_of = slot_at groups group slot made m.own (subst (λ n. slot % 128 < n) is m.among); own = m.own; live = m.live }
+
+    from : (slot : ℕ) → IsLiveOf groups keys group slot → IsLiveIn keys group slots slot
+    from slot m = record { own = m.own; among = subst (λ n. slot % 128 < n) (sym is) (index_of groups group slot m.slot_of m.own); live = m.live }
+
+pub live_one : (groups : Groups) (keys : ℕ → ℕ) (group m n : ℕ) → HasLive groups keys group m → HasLive groups keys group n → m ≡ n
+live_one groups keys group m n h k = count_once (IsLiveOf groups keys group) m n h.count k.count
+
+pub some_live : (groups : Groups) (keys : ℕ → ℕ) (group n : ℕ) → HasLive groups keys group n → 0 < n → ((slot : ℕ) → IsLiveOf groups keys group slot → ⊥) → ⊥
+some_live groups keys group n h some none = let s = count_some (IsLiveOf groups keys group) n h.count some in none s.0 s.1
+
+-- a group of which every slot is live has no hole
+pub full : (groups : Groups) (keys : ℕ → ℕ) (group live : ℕ) → slots_in groups.segments (group_at groups group) ≤ 128 → HasLive groups keys group live
+    → live < slots_in groups.segments (group_at groups group)
+    → ((slot : ℕ) → IsSlotOf Parity groups slot → slot / 128 ≡ group → IsLive keys slot) → ⊥
+full groups keys group live few h hole all =
+    let whole = build (slots_in groups.segments (group_at groups group)) (omega arith) in
+    let lists = below_all P (128 * group + slots_in groups.segments (group_at groups group)) whole.0 low whole.1 in
+    let same = count_once P live (slots_in groups.segments (group_at groups group)) h.count (whole.0, lists, whole.2) in
+    absurd (omega (arith, same, hole))
+  where
+    P : ℕ → Type 0
+    P = IsLiveOf groups keys group
+
+    low : (n : ℕ) → IsLiveOf groups keys group n → n < 128 * group + slots_in groups.segments (group_at groups group)
+    low n m = omega (arith, index_of groups group n m.slot_of m.own, m.own)
+
+    here : (k : ℕ) → k < slots_in groups.segments (group_at groups group) → IsLiveOf groups keys group (128 * group + k)
+    here k l =
+        let own : (128 * group + k) / 128 ≡ group = omega (arith, l, few) in
+        let index : (128 * group + k) % 128 ≡ k = omega (arith, l, few) in
+        let slot = slot_at groups group (128 * group + k) h.made own (omega (arith, index, l)) in
+        record { slot_of = slot; own = own; live = all (128 * group + k) slot own }
+
+    build : (k : ℕ) → k ≤ slots_in groups.segments (group_at groups group) → (numbers : List ℕ) × ListsBelow (IsLiveOf groups keys group) (128 * group + k) numbers × (length numbers ≡ k)
+    build zero l = ([], below_none (IsLiveOf groups keys group) (128 * group + 0) (λ n m p. let own = p.own in absurd (omega (arith, own, m))), refl)
+    build (suc k) l =
+        let before = build k (omega (arith, l)) in
+        let more = below_more (IsLiveOf groups keys group) (128 * group + k) before.0 (here k (omega (arith, l))) before.1 in (
+          before.0 ++ (128 * group + k) ∷ [],
+          subst (λ b. ListsBelow (IsLiveOf groups keys group) b (before.0 ++ (128 * group + k) ∷ [])) (omega arith) more,
+          length_push before.0 (128 * group + k) ∙ (omega (arith, before.2)),
+        )
+
+-- no group has more than 128 slots
+slots_few : (segments : ℕ) (o : Option Group) → ((x : Group) → o ≡ Some x → IsFormed x.members) → segments ≤ 8 → slots_in segments o ≤ 128
+slots_few segments None formed short = omega arith
+slots_few segments (Some x) formed short = let few = slot_count_small x.class (length x.members) segments (formed x refl).few short in omega arith
+
+pub few_slots : (groups : Groups) (group : ℕ) → AreGroups groups → slots_in groups.segments (group_at groups group) ≤ 128
+few_slots groups group are = slots_few groups.segments (group_at groups group) (λ x is. are.formed group x is) are.segments.1
+
+-- a slot is its group's first and its index
+slot_is : (group slot : ℕ) → slot / 128 ≡ group → 128 * group + slot % 128 ≡ slot
+slot_is group slot own = omega arith
+
+-- the first live slot, and the first that isn't
+pub lowest_live_at : (groups : Groups) (keys : ℕ → ℕ) (group index block : ℕ) → class_in (group_at groups group) ≡ Some Parity
+    → slots_in groups.segments (group_at groups group) ≤ 128 → index < slots_in groups.segments (group_at groups group)
+    → ((k : ℕ) → k < index → IsLive keys (128 * group + k) → ⊥) → LiesAt keys block (128 * group + index)
+    → IsLowest (IsLiveOf groups keys group) (128 * group + index)
+lowest_live_at groups keys group index block made few l before there = record {
+  holds = record { slot_of = slot_at groups group (128 * group + index) made own (omega (arith, at, l)); own = own; live = (block, there) };
+  least = λ m p. by m p (cases_lt m (128 * group + index));
+}
+  where
+    own : (128 * group + index) / 128 ≡ group
+    own = omega (arith, l, few)
+
+    at : (128 * group + index) % 128 ≡ index
+    at = omega (arith, l, few)
+
+    by : (m : ℕ) → IsLiveOf groups keys group m → (m < 128 * group + index) ⊎ (128 * group + index ≤ m) → 128 * group + index ≤ m
+    by m p (inr le) = le
+    by m p (inl lt) = absurd (before (m % 128) (omega (arith, lt, p.own, slot_is group m p.own)) (subst (IsLive keys) (sym (slot_is group m p.own)) p.live))
+
+pub none_live : (groups : Groups) (keys : ℕ → ℕ) (group slots : ℕ) → slots_in groups.segments (group_at groups group) ≤ slots
+    → ((k : ℕ) → k < slots → IsLive keys (128 * group + k) → ⊥) → (slot : ℕ) → IsLiveOf groups keys group slot → ⊥
+none_live groups keys group slots le none slot p =
+    none (slot % 128) (omega (arith, le, index_of groups group slot p.slot_of p.own)) (subst (IsLive keys) (sym (slot_is group slot p.own)) p.live)
+
+pub lowest_hole_at : (groups : Groups) (keys : ℕ → ℕ) (group index : ℕ) → class_in (group_at groups group) ≡ Some Parity
+    → slots_in groups.segments (group_at groups group) ≤ 128 → index < slots_in groups.segments (group_at groups group)
+    → ((k : ℕ) → k < index → IsLive keys (128 * group + k)) → (IsLive keys (128 * group + index) → ⊥)
+    → IsLowest (IsHoleOf groups keys group) (128 * group + index)
+lowest_hole_at groups keys group index made few l before there = record {
+  holds = record { slot_of = slot_at groups group (128 * group + index) made own (omega (arith, at, l)); own = own; hole = there };
+  least = λ m p. by m p (cases_lt m (128 * group + index));
+}
+  where
+    own : (128 * group + index) / 128 ≡ group
+    own = omega (arith, l, few)
+
+    at : (128 * group + index) % 128 ≡ index
+    at = omega (arith, l, few)
+
+    by : (m : ℕ) → IsHoleOf groups keys group m → (m < 128 * group + index) ⊎ (128 * group + index ≤ m) → 128 * group + index ≤ m
+    by m p (inr le) = le
+    by m p (inl lt) = absurd (p.hole (subst (IsLive keys) (slot_is group m p.own) (before (m % 128) (omega (arith, lt, p.own, slot_is group m p.own)))))
+
+pub all_live : (groups : Groups) (keys : ℕ → ℕ) (group slots : ℕ) → slots_in groups.segments (group_at groups group) ≤ slots
+    → ((k : ℕ) → k < slots → IsLive keys (128 * group + k)) → (slot : ℕ) → IsSlotOf Parity groups slot → slot / 128 ≡ group → IsLive keys slot
+all_live groups keys group slots le all slot is own =
+    subst (IsLive keys) (slot_is group slot own) (all (slot % 128) (omega (arith, le, index_of groups group slot is own)))
+
+-- a parity group is empty just where no live slot was counted
+pub empty_counted : (groups : Groups) (keys : ℕ → ℕ) (write : Option ℕ) (group count : ℕ) → write ≢ Some group → HasLive groups keys group count
+    → (count ≡ 0 → IsEmpty groups keys write group) × (IsEmpty groups keys write group → count ≡ 0)
+empty_counted groups keys write group count other has = (to, λ e. count_none (IsLiveOf groups keys group) count has.count e.idle)
+  where
+    to : count ≡ 0 → IsEmpty groups keys write group
+    to is = record {
+      made = has.made;
+      other = other;
+      idle = count_zero (IsLiveOf groups keys group) (subst (IsCount (IsLiveOf groups keys group)) is has.count);
+    }

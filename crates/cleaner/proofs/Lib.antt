@@ -1,0 +1,3 @@
+pub mod Best
+pub mod Counting
+pub mod Planning

@@ -1,0 +1,29 @@
+-- Live slots and holes of parity groups.
+use Rattle.std.specs.Prelude.{◌≡◌, ℕ, ◌/◌, ◌≤◌, Some}
+use Rattle.map_join.specs.Lists.{IsCount}
+use Rattle.map_join.specs.Live.{IsLive}
+use Rattle.extent_groups.specs.declared.class.Class.TheVariants.{Parity}
+use Rattle.extent_groups.specs.Groups.{Groups, group_at, class_in}
+use Rattle.extent_groups.specs.Stores.{IsSlotOf}
+
+-- a live slot of a parity group
+pub record IsLiveOf (groups : Groups) (keys : ℕ → ℕ) (group slot : ℕ) : Type 0 where
+  pub slot_of : IsSlotOf Parity groups slot
+  pub own : slot / 128 ≡ group
+  pub live : IsLive keys slot
+
+-- a hole: a slot of a parity group that isn't live
+pub record IsHoleOf (groups : Groups) (keys : ℕ → ℕ) (group slot : ℕ) : Type 0 where
+  pub slot_of : IsSlotOf Parity groups slot
+  pub own : slot / 128 ≡ group
+  pub hole : IsLive keys slot → ⊥
+
+-- a made parity group, and how many of its slots are live
+pub record HasLive (groups : Groups) (keys : ℕ → ℕ) (group live : ℕ) : Type 0 where
+  pub made : class_in (group_at groups group) ≡ Some Parity
+  pub count : IsCount (IsLiveOf groups keys group) live
+
+-- the lowest number that is so
+pub record IsLowest (P : ℕ → Type 0) (n : ℕ) : Type 0 where
+  pub holds : P n
+  pub least : (m : ℕ) → P m → n ≤ m

@@ -1,0 +1,71 @@
+// Where nothing can be plugged, the emptiest group is cleaned; a group without live slots is empty.
+ghost use Rattle.std.specs.Prelude.{◌↔◌, ◌<◌, IsTrue};
+ghost use Rattle.cleaner.specs.Plans.{IsCleanPlan, IsEmpty, IsEmptyGroup};
+
+use crate::choice::fewest;
+use crate::counts::{Holed, live_of};
+use crate::slots::lowest_live;
+use crate::{Move, plug_plan};
+use extent_groups::{GROUPS, GroupTable, SLOTS};
+use map_join::Live;
+
+/// The move out of the emptiest parity group with a hole, but the write group, to where the log goes on, if nothing can
+/// be plugged.
+pub fn clean_plan<L: Live>(
+    groups: &GroupTable,
+    live: &L,
+    write: Option<u16>,
+    append: Option<u16>,
+) -> Option<Move>
+    ensures { IsCleanPlan groups.now (L.keys live.now) write append result }
+{
+    let _members = groups.members(0);
+    match plug_plan(groups, live, write) {
+        Some(_) => return None,
+        None => {}
+    }
+    let Some(cleaned) = fewest(&Holed {
+        groups,
+        live,
+        write,
+    }) else {
+        return None;
+    };
+    let Some(to) = append else {
+        return None;
+    };
+    if to / SLOTS == cleaned.group {
+        return None;
+    }
+    let Some((from, block)) = lowest_live(groups, live, cleaned.group) else {
+        return None;
+    };
+    Some(Move { block, from, to })
+}
+
+/// The lowest parity group without live slots that isn't the write group.
+pub fn empty_group<L: Live>(groups: &GroupTable, live: &L, write: Option<u16>) -> Option<u16>
+    ensures { IsEmptyGroup groups.now (L.keys live.now) write result }
+{
+    let _members = groups.members(0);
+    for group in 0..GROUPS as u16 {
+        if is_empty(groups, live, write, group) {
+            return Some(group);
+        }
+    }
+    None
+}
+
+// Whether the group is a parity group without live slots, and not the write group.
+fn is_empty<L: Live>(groups: &GroupTable, live: &L, write: Option<u16>, group: u16) -> bool
+    requires { group < 512 }
+    ensures { IsTrue result ↔ IsEmpty groups.now (L.keys live.now) write group }
+{
+    if write == Some(group) {
+        return false;
+    }
+    match live_of(groups, live, group) {
+        Some(count) => count == 0,
+        None => false,
+    }
+}

@@ -1,0 +1,13 @@
+//! Plans that gather live slots of parity groups, so that whole groups become empty.
+#![tactic(auto)]
+
+mod choice;
+mod clean;
+mod counts;
+mod moves;
+mod plug;
+mod slots;
+
+pub use clean::{clean_plan, empty_group};
+pub use moves::Move;
+pub use plug::plug_plan;

@@ -1,0 +1,38 @@
+// A hole of the fullest group is plugged from the emptiest.
+ghost use Rattle.cleaner.specs.Plans.{IsPlugPlan};
+
+use crate::Move;
+use crate::choice::{fewest, most};
+use crate::counts::{Holed, Sources};
+use crate::slots::{lowest_hole, lowest_live};
+use extent_groups::GroupTable;
+use map_join::Live;
+
+/// The move that fills the lowest hole of the fullest parity group with one, but the write group, from the emptiest
+/// other parity group.
+pub fn plug_plan<L: Live>(groups: &GroupTable, live: &L, write: Option<u16>) -> Option<Move>
+    ensures { IsPlugPlan groups.now (L.keys live.now) write result }
+{
+    let _members = groups.members(0);
+    let Some(target) = most(&Holed {
+        groups,
+        live,
+        write,
+    }) else {
+        return None;
+    };
+    let Some(source) = fewest(&Sources {
+        groups,
+        live,
+        target,
+    }) else {
+        return None;
+    };
+    let Some((from, block)) = lowest_live(groups, live, source.group) else {
+        return None;
+    };
+    let Some(to) = lowest_hole(groups, live, target.group) else {
+        return None;
+    };
+    Some(Move { block, from, to })
+}

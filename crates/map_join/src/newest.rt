@@ -1,0 +1,124 @@
+// Who tells where the newest records of blocks lie: a map joined from records, or an array that keeps one.
+ghost use Rattle.std.specs.Prelude.{◌≡◌, ◌↔◌, ◌⊎◌, ℕ, ◌+◌, ◌*◌, ◌%◌, ◌<◌, ◌≤◌, MatchOption, Contains};
+ghost use Rattle.std.specs.Ordering.{nat_cmp};
+ghost use Rattle.std.specs.BTreeMap.{IsOrdered};
+ghost use Rattle.map_join.specs.Record.{record_at};
+ghost use Rattle.map_join.specs.Maps.{at};
+ghost use Rattle.map_join.specs.Lists.{IsCount};
+ghost use Rattle.map_join.specs.Live.{IsBlockAt, IsLiveCount};
+ghost use Rattle.map_join.specs.Marks.{IsPlaced, IsSet, IsMarkedIn};
+
+use crate::block_map::BlockMap;
+use crate::records::Record;
+use std::collections::BTreeMap;
+
+/// Tells the newest record of a block.
+pub trait Newest {
+    /// The key of each block, or 0.
+    ghost keys: { Self → ℕ → ℕ };
+
+    /// The newest record of the block.
+    fn newest(&self, block: u32) -> Option<Record>
+        ensures { result ≡ record_at block (keys self.now block) };
+}
+
+/// Tells which slots are newest places of blocks.
+pub trait Live {
+    /// The key of each block, or 0.
+    ghost keys: { Self → ℕ → ℕ };
+
+    /// A block whose newest place is the slot.
+    fn block_at(&self, slot: u16) -> Option<u32>
+        ensures { IsBlockAt (keys self.now) slot result };
+
+    /// How many of the group's first so many slots are newest places.
+    fn count_live(&self, group: u16, slots: u16) -> u16
+        requires group { group < 512 }
+        requires slots { slots ≤ 128 }
+        ensures { IsLiveCount (keys self.now) group slots result };
+}
+
+impl Newest for BlockMap {
+    ghost keys = { at };
+
+    fn newest(&self, block: u32) -> Option<Record> {
+        self.get(block)
+    }
+}
+
+impl Live for BlockMap {
+    ghost keys = { at };
+
+    fn block_at(&self, slot: u16) -> Option<u32> {
+        placed_at(&self.keys, slot)
+    }
+
+    fn count_live(&self, group: u16, slots: u16) -> u16 {
+        let marks = places_in(&self.keys, group);
+        count_marks(&marks, group, slots)
+    }
+}
+
+// The slot's number in a key.
+fn place_in(key: u64) -> u16
+    ensures { result ≡ key % 65536 }
+{
+    (key % 0x1_0000) as u16
+}
+
+// The first block whose key has the slot as its place.
+fn placed_at(keys: &BTreeMap<u32, u64>, slot: u16) -> Option<u32>
+    ensures at { MatchOption result (IsPlaced keys.now.entries slot → ⊥)
+        (λ block. (key : ℕ) × Contains keys.now.entries (block, key) × (key % 65536 ≡ slot)) }
+    ensures ordered { IsOrdered nat_cmp keys.now }
+{
+    for (block, key) in keys.iter() {
+        if place_in(*key) == slot {
+            return Some(*block);
+        }
+    }
+    None
+}
+
+// Which of the group's indexes are places in keys.
+fn places_in(keys: &BTreeMap<u32, u64>, group: u16) -> [bool; 128]
+    requires { group < 512 }
+    ensures marks { (index : ℕ) → index < 128 → IsSet result index ↔ IsPlaced keys.now.entries (128 * group + index) }
+    ensures ordered { IsOrdered nat_cmp keys.now }
+{
+    let mut marks = no_marks();
+    for (_block, key) in keys.iter() {
+        mark_place(&mut marks, group, place_in(*key));
+    }
+    marks
+}
+
+// No index is marked.
+fn no_marks() -> [bool; 128]
+    ensures { (index : ℕ) → IsSet result index → ⊥ }
+{
+    [false; 128]
+}
+
+// Marks the slot's index, where it is one of the group's.
+fn mark_place(marks: &mut [bool; 128], group: u16, slot: u16)
+    ensures { (index : ℕ) → index < 128 → IsSet marks.new index ↔ (IsSet marks.old index ⊎ (slot ≡ 128 * group + index)) }
+{
+    if slot / 128 == group {
+        marks[(slot % 128) as usize] = true;
+    }
+}
+
+// How many of the first marks are set.
+fn count_marks(marks: &[bool; 128], group: u16, slots: u16) -> u16
+    requires { slots ≤ 128 }
+    ensures { IsCount (IsMarkedIn marks.now group slots) result }
+{
+    let mut count = 0;
+    for index in 0..slots {
+        if marks[index as usize] {
+            count += 1;
+        }
+    }
+    count
+}

@@ -1,0 +1,5 @@
+//! Tests of records and maps.
+#![tactic(auto)]
+
+#[cfg(test)]
+mod maps;

@@ -1,0 +1,73 @@
+-- The first free slot, group by group.
+use Rattle.std.proofs.Common.{◌≡◌, ◌⊎◌, inl, inr, ℕ, ◌+◌, ◌*◌, ◌/◌, ◌%◌, ◌<◌, ◌≤◌, arith, Option, Some, None}
+use Rattle.std.proofs.lemmas.Bool.{cases_lt}
+use Rattle.extent_groups.specs.declared.class.Class.TheVariants.{Parity}
+use Rattle.extent_groups.specs.Groups.{Groups}
+use Rattle.migrator.specs.Slots.{End, IsBehind, IsFresh}
+use Rattle.migrator.specs.Picking.{IsFreeFrom, IsOtherIdle}
+use Rattle.migrator.specs.First.{IsLowest, IsFirst, IsFreeBehind, IsFreeFresh, IsFirstAppend, IsFreePick}
+
+-- a number is its group's first and its index
+pub slot_is : (group slot : ℕ) → slot / 128 ≡ group → 128 * group + slot % 128 ≡ slot
+slot_is group slot own = omega arith
+
+module _ (P : ℕ → Type 0) where
+  -- one group more without any
+  pub none_more : (group : ℕ) → ((s : ℕ) → s / 128 < group → P s → ⊥) → ((s : ℕ) → s / 128 ≡ group → P s → ⊥) → (s : ℕ) → s / 128 < group + 1 → P s → ⊥
+  none_more group below here s l p = by (cases_lt (s / 128) group)
+    where
+      by : (s / 128 < group) ⊎ (group ≤ s / 128) → ⊥
+      by (inl m) = below s m p
+      by (inr m) = here s (omega (arith, l, m)) p
+
+  -- a group's first is the first where no lower group has any
+  pub first_here : (group slot : ℕ) → ((s : ℕ) → s / 128 < group → P s → ⊥) → slot / 128 ≡ group → P slot
+      → ((s : ℕ) → s / 128 ≡ group → P s → slot ≤ s) → IsLowest P slot
+  first_here group slot below own is least = record { holds = is; least = λ s p. by s p (cases_lt (s / 128) group) (cases_lt group (s / 128)) }
+    where
+      by : (s : ℕ) → P s → (s / 128 < group) ⊎ (group ≤ s / 128) → (group < s / 128) ⊎ (s / 128 ≤ group) → slot ≤ s
+      by s p (inl m) _ = absurd (below s m p)
+      by s p (inr m) (inl n) = omega (arith, own, n)
+      by s p (inr m) (inr n) = least s (omega (arith, m, n)) p
+
+-- picked and free is what each kind says
+module _ (end : End) (groups : Groups) (keys : ℕ → ℕ) (free : ℕ → Type 0) where
+  abbrev pub Behind : ℕ → Type 0
+  Behind = IsFreePick Parity groups (λ group. end.group ≡ Some group) (IsFreeFrom end.next keys) free
+
+  abbrev pub Anew : ℕ → Type 0
+  Anew = IsFreePick Parity groups (IsOtherIdle end groups keys) (λ _. Unit {0}) free
+
+  to_behind : (s : ℕ) → Behind s → IsFreeBehind end groups keys free s
+  to_behind s p =
+      let q = p.picked in
+      (record { slot_of = q.slot_of; own = q.group_too; from = q.slot_too.from; free = q.slot_too.free }, p.is_free)
+
+  from_behind : (s : ℕ) → IsFreeBehind end groups keys free s → Behind s
+  from_behind s b =
+      record { picked = record { slot_of = b.0.slot_of; group_too = b.0.own; slot_too = record { from = b.0.from; free = b.0.free } }; is_free = b.1 }
+
+  to_fresh : (s : ℕ) → Anew s → IsFreeFresh end groups keys free s
+  to_fresh s p =
+      let q = p.picked in
+      (record { slot_of = q.slot_of; other = q.group_too.other; idle = q.group_too.idle }, p.is_free)
+
+  from_fresh : (s : ℕ) → IsFreeFresh end groups keys free s → Anew s
+  from_fresh s b =
+      record { picked = record { slot_of = b.0.slot_of; group_too = record { other = b.0.other; idle = b.0.idle }; slot_too = tt }; is_free = b.1 }
+
+  -- one of the write group
+  pub found_behind : (slot : ℕ) → IsLowest Behind slot → IsFirstAppend end groups keys free (Some slot)
+  found_behind slot h = inl (record { holds = to_behind slot h.holds; least = λ m p. h.least m (from_behind m p) })
+
+  -- else one of the others, or none
+  pub found_fresh : (result : Option ℕ) → IsFirst Behind None → IsFirst Anew result → IsFirstAppend end groups keys free result
+  found_fresh None none other = λ slot which f. by slot f which
+    where
+      by : (slot : ℕ) → free slot → IsBehind end groups keys slot ⊎ IsFresh end groups keys slot → ⊥
+      by slot f (inl b) = none slot (from_behind slot (b, f))
+      by slot f (inr b) = other slot (from_fresh slot (b, f))
+  found_fresh (Some slot) none other = inr (
+    (λ s b. none s (from_behind s b)),
+    record { holds = to_fresh slot other.holds; least = λ m p. other.least m (from_fresh m p) },
+  )

@@ -1,0 +1,6 @@
+pub mod Keeping
+pub mod Oldest
+pub mod Law
+pub mod Passed
+pub mod Picks
+pub mod Firsts

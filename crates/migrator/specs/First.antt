@@ -1,0 +1,35 @@
+-- The first free slot where the log goes on.
+use Rattle.std.specs.Prelude.{◌⊎◌, ℕ, ◌≤◌, Option, Some, None}
+use Rattle.extent_groups.specs.declared.class.Class.{Class}
+use Rattle.extent_groups.specs.Groups.{Groups}
+use Rattle.migrator.specs.Slots.{End, IsBehind, IsFresh}
+use Rattle.migrator.specs.Picking.{IsPicked}
+
+-- the lowest number that is so
+pub record IsLowest (P : ℕ → Type 0) (n : ℕ) : Type 0 where
+  pub holds : P n
+  pub least : (m : ℕ) → P m → n ≤ m
+
+-- the same, or none where none is so
+abbrev pub IsFirst : (ℕ → Type 0) → Option ℕ → Type 0
+IsFirst P None = (n : ℕ) → P n → ⊥
+IsFirst P (Some n) = IsLowest P n
+
+-- a free slot of the write group where the log goes on, and a free one of a group that can be begun anew
+abbrev pub IsFreeBehind : End → Groups → (ℕ → ℕ) → (ℕ → Type 0) → ℕ → Type 0
+IsFreeBehind end groups keys free slot = IsBehind end groups keys slot × free slot
+
+abbrev pub IsFreeFresh : End → Groups → (ℕ → ℕ) → (ℕ → Type 0) → ℕ → Type 0
+IsFreeFresh end groups keys free slot = IsFresh end groups keys slot × free slot
+
+-- the lowest of the first kind, or of the second where there is none of the first
+abbrev pub IsFirstAppend : End → Groups → (ℕ → ℕ) → (ℕ → Type 0) → Option ℕ → Type 0
+IsFirstAppend end groups keys free None = (slot : ℕ) → IsBehind end groups keys slot ⊎ IsFresh end groups keys slot → free slot → ⊥
+IsFirstAppend end groups keys free (Some slot) =
+    IsLowest (IsFreeBehind end groups keys free) slot
+    ⊎ (((other : ℕ) → IsFreeBehind end groups keys free other → ⊥) × IsLowest (IsFreeFresh end groups keys free) slot)
+
+-- a picked slot that is free
+pub record IsFreePick (class : Class) (groups : Groups) (group_is slot_is free : ℕ → Type 0) (slot : ℕ) : Type 0 where
+  pub picked : IsPicked class groups group_is slot_is slot
+  pub is_free : free slot

@@ -1,0 +1,5 @@
+pub mod Ages
+pub mod Inside
+pub mod Slots
+pub mod Picking
+pub mod First

@@ -1,0 +1,79 @@
+// The first free slot where the log goes on, without a list of them all.
+ghost use Rattle.std.specs.Prelude.{◌≡◌, ◌↔◌, ℕ, ◌/◌, ◌<◌, ◌≤◌, IsTrue, MatchOption};
+ghost use Rattle.migrator.specs.First.{IsFirst, IsFirstAppend, IsFreePick};
+
+use crate::LogEnd;
+use crate::append::{Fresh, GoingOn};
+use crate::slots::{Picks, count_of};
+use extent_groups::{Class, GROUPS, GroupTable, SLOTS};
+use map_join::Live;
+
+/// Says which slots are free.
+pub trait Free {
+    ghost free: { Self → ℕ → Type 0 };
+
+    /// Whether the slot is free.
+    fn is_free(&self, slot: u16) -> bool
+        ensures { IsTrue result ↔ free self.now slot };
+}
+
+/// The first free slot of those where the log goes on. It takes no memory.
+pub fn first_append<L: Live, F: Free>(
+    end: &LogEnd,
+    groups: &GroupTable,
+    live: &L,
+    free: &F,
+) -> Option<u16>
+    ensures { IsFirstAppend end.now groups.now (L.keys live.now) (F.free free.now) result }
+{
+    match first_picked(groups, Class::Parity, &GoingOn { end, live }, free) {
+        Some(slot) => return Some(slot),
+        None => {}
+    }
+    first_picked(groups, Class::Parity, &Fresh { end, groups, live }, free)
+}
+
+// The lowest slot of a class that is picked and free.
+fn first_picked<P: Picks, F: Free>(
+    groups: &GroupTable,
+    class: Class,
+    which: &P,
+    free: &F,
+) -> Option<u16>
+    ensures { IsFirst (IsFreePick class groups.now (P.group_is which.now) (P.slot_is which.now) (F.free free.now)) result }
+{
+    let _members = groups.members(0);
+    for group in 0..GROUPS as u16 {
+        match first_in(groups, class, group, which, free) {
+            Some(slot) => return Some(slot),
+            None => {}
+        }
+    }
+    None
+}
+
+// The lowest of these in one group.
+fn first_in<P: Picks, F: Free>(
+    groups: &GroupTable,
+    class: Class,
+    group: u16,
+    which: &P,
+    free: &F,
+) -> Option<u16>
+    requires { group < 512 }
+    ensures own { MatchOption result (Unit {0}) (λ slot. slot / 128 ≡ group) }
+    ensures some { MatchOption result (Unit {0}) (λ slot. IsFreePick class groups.now (P.group_is which.now) (P.slot_is which.now) (F.free free.now) slot) }
+    ensures first { (slot : ℕ) → slot / 128 ≡ group → IsFreePick class groups.now (P.group_is which.now) (P.slot_is which.now) (F.free free.now) slot
+        → MatchOption result ⊥ (λ found. found ≤ slot) }
+{
+    if !which.picks_group(group) {
+        return None;
+    }
+    for index in 0..count_of(groups, class, group) {
+        let slot = SLOTS * group + index;
+        if which.picks_slot(slot) && free.is_free(slot) {
+            return Some(slot);
+        }
+    }
+    None
+}

@@ -1,0 +1,18 @@
+//! Which blocks were written longest ago, which of them goes down next, and where the write log goes on.
+#![tactic(auto)]
+
+mod append;
+mod first;
+mod laws;
+mod log_end;
+mod marked_ages;
+mod recency;
+mod slots;
+
+pub use append::append_slots;
+pub use first::{Free, first_append};
+pub use laws::{age_law, mark_law};
+pub use log_end::{LogEnd, wants_demotion};
+pub use marked_ages::MarkedAges;
+pub use recency::Recency;
+pub use slots::mirror_slots;

@@ -1,0 +1,101 @@
+// Slots of the made groups of a class, in the order of their numbers.
+ghost use Rattle.std.specs.Prelude.{◌≡◌, ◌↔◌, ℕ, ◌+◌, ◌*◌, ◌/◌, ◌%◌, ◌<◌, ◌≤◌, IsTrue, IfOk, OnOk, Some};
+ghost use Rattle.extent_groups.specs.Stores.{IsSlotOf};
+ghost use Rattle.map_join.specs.Lists.{Lists, ListsBelow};
+ghost use Rattle.migrator.specs.Slots.{AreMirrorSlots};
+ghost use Rattle.migrator.specs.Picking.{IsPicked};
+
+use extent_groups::{Class, GROUPS, GroupTable, SLOTS};
+use std::alloc::{AllocError, Global};
+
+/// Says which groups are picked, and which slots of these.
+pub(crate) trait Picks {
+    ghost group_is: { Self → ℕ → Type 0 };
+
+    ghost slot_is: { Self → ℕ → Type 0 };
+
+    fn picks_group(&self, group: u16) -> bool
+        requires { group < 512 }
+        ensures { IsTrue result ↔ group_is self.now group };
+
+    fn picks_slot(&self, slot: u16) -> bool
+        ensures { IsTrue result ↔ slot_is self.now slot };
+}
+
+/// Every slot.
+struct Every;
+
+impl Picks for Every {
+    ghost group_is = { λ every group. Unit {0} };
+
+    ghost slot_is = { λ every slot. Unit {0} };
+
+    fn picks_group(&self, group: u16) -> bool {
+        true
+    }
+
+    fn picks_slot(&self, slot: u16) -> bool {
+        true
+    }
+}
+
+/// All slots of mirrored groups, ascending.
+pub fn mirror_slots(alloc: Global, groups: &GroupTable) -> Result<Vec<u16>, AllocError>
+    ensures { IfOk result (λ slots. AreMirrorSlots groups.now slots.items) }
+{
+    picked_slots(alloc, groups, Class::Mirrored, &Every)
+}
+
+// The slots of a class that are picked, ascending.
+pub(crate) fn picked_slots<P: Picks>(
+    alloc: Global,
+    groups: &GroupTable,
+    class: Class,
+    which: &P,
+) -> Result<Vec<u16>, AllocError>
+    ensures { IfOk result (λ slots. Lists (IsPicked class groups.now (P.group_is which.now) (P.slot_is which.now)) slots.items) }
+{
+    let _members = groups.members(0);
+    let mut slots = Vec::new(alloc);
+    for group in 0..GROUPS as u16 {
+        if which.picks_group(group) {
+            push_picked(&mut slots, groups, class, group, which)?;
+        }
+    }
+    Ok(slots)
+}
+
+// The same of one group, where those of all lower groups are listed.
+fn push_picked<P: Picks>(
+    slots: &mut Vec<u16>,
+    groups: &GroupTable,
+    class: Class,
+    group: u16,
+    which: &P,
+) -> Result<(), AllocError>
+    requires group { group < 512 }
+    requires picked { P.group_is which.now group }
+    requires lower { ListsBelow (IsPicked class groups.now (P.group_is which.now) (P.slot_is which.now)) (128 * group) slots.old.items }
+    ensures { OnOk result (ListsBelow (IsPicked class groups.now (P.group_is which.now) (P.slot_is which.now)) (128 * (group + 1)) slots.new.items) }
+{
+    for index in 0..count_of(groups, class, group) {
+        let slot = SLOTS * group + index;
+        if which.picks_slot(slot) {
+            slots.push(slot)?;
+        }
+    }
+    Ok(())
+}
+
+// How many slots the group has, none where it isn't a made group of the class.
+pub(crate) fn count_of(groups: &GroupTable, class: Class, group: u16) -> u16
+    ensures few { result ≤ 128 }
+    ensures just { (slot : ℕ) → slot / 128 ≡ group → IsSlotOf class groups.now slot ↔ (slot % 128 < result) }
+{
+    let _members = groups.members(group);
+    if groups.class_of(group) == Some(class) {
+        groups.slots_of(group)
+    } else {
+        0
+    }
+}

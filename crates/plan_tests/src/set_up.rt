@@ -1,0 +1,100 @@
+// Four drives, with a mirrored group of 2 slots and three parity groups of 4.
+ghost use Rattle.std.specs.Prelude.{IfOk};
+ghost use Rattle.extent_groups.specs.Groups.{Agree};
+
+use extent_groups::{Class, GroupTable, Member, are_there};
+use extents::{ExtentTable, Shape};
+use map_join::{BlockMap, Record};
+use std::alloc::{AllocError, Global};
+use std::process::Abort;
+use std::test::Fail;
+
+fn on(drive: u8, extent: u16) -> Member {
+    Member { drive, extent }
+}
+
+/// The tables of four drives of 8 extents, without groups.
+fn tables(rt: &impl Abort, alloc: Global) -> Result<(GroupTable, ExtentTable), AllocError>
+    ensures { IfOk result (λ tables. Agree tables.0 tables.1) }
+{
+    let shape = Shape::new(8, 1, 8, 16).expect(rt, "a shape");
+    Ok((
+        GroupTable::new(alloc, &shape)?,
+        ExtentTable::new(alloc, 4, &shape)?,
+    ))
+}
+
+/// Makes a group of members that are seen to be there.
+fn put(
+    rt: &impl Abort,
+    alloc: Global,
+    groups: &mut GroupTable,
+    extents: &mut ExtentTable,
+    group: u16,
+    class: Class,
+    members: &[Member],
+)
+    requires { Agree groups.old extents.old }
+    ensures { Agree groups.new extents.new }
+{
+    assert!(rt; are_there(extents, members));
+    assert!(rt; groups.is_free(group));
+    assert_eq!(rt;
+        groups.put_group(alloc, extents, group, class, members),
+        Ok(())
+    );
+}
+
+/// Group 0 is mirrored, with slots 0 and 1; groups 1 to 3 are parity, with four slots each.
+pub(crate) fn four_groups(rt: &impl Abort, alloc: Global) -> Result<GroupTable, AllocError> {
+    let (mut groups, mut extents) = tables(rt, alloc)?;
+    let table = &mut groups;
+    let owners = &mut extents;
+    let mirrored = [on(0, 0), on(1, 0), on(2, 0)];
+    put(rt, alloc, table, owners, 0, Class::Mirrored, &mirrored);
+    let first = [on(1, 1), on(2, 1), on(3, 1)];
+    put(rt, alloc, table, owners, 1, Class::Parity, &first);
+    let second = [on(0, 1), on(2, 2), on(3, 2)];
+    put(rt, alloc, table, owners, 2, Class::Parity, &second);
+    let third = [on(0, 2), on(1, 2), on(3, 3)];
+    put(rt, alloc, table, owners, 3, Class::Parity, &third);
+    Ok(groups)
+}
+
+/// Takes a record.
+pub(crate) fn took(
+    map: &mut BlockMap,
+    alloc: Global,
+    block: u32,
+    version: u32,
+    hop: u16,
+    place: u16,
+) -> Result<(), Fail> {
+    if version == 0 {
+        return Err("version 0".into());
+    }
+    let record = Record {
+        block,
+        version,
+        hop,
+        place,
+    };
+    map.take(alloc, record)?;
+    Ok(())
+}
+
+/// The places after blocks 0 to 8 were written and went down, blocks 0, 4 and 5 were written again, and block 0
+/// went down once more: group 1 has three live slots, groups 2 and 3 have two.
+pub(crate) fn places(alloc: Global) -> Result<BlockMap, Fail> {
+    let mut map = BlockMap::new(alloc);
+    took(&mut map, alloc, 0, 2, 1, 385)?;
+    took(&mut map, alloc, 1, 1, 1, 129)?;
+    took(&mut map, alloc, 2, 1, 1, 130)?;
+    took(&mut map, alloc, 3, 1, 1, 131)?;
+    took(&mut map, alloc, 4, 2, 0, 1)?;
+    took(&mut map, alloc, 5, 2, 0, 0)?;
+    took(&mut map, alloc, 6, 1, 1, 258)?;
+    took(&mut map, alloc, 7, 1, 1, 259)?;
+    took(&mut map, alloc, 8, 1, 1, 384)?;
+    Ok(map)
+}
