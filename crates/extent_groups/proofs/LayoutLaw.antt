@@ -81,7 +81,7 @@ lies s Parity ms i x two h k =
     }
 
 -- an extent and an offset are told by their address
-one_address : (w e f o p : ℕ) → e * w + o ≡ f * w + p → o < w → p < w → (e ≡ f) × (o ≡ p)
+pub one_address : (w e f o p : ℕ) → e * w + o ≡ f * w + p → o < w → p < w → (e ≡ f) × (o ≡ p)
 one_address w e f o p same h k = elim (cases_order e f) [
   | inl eq ↦ (let both : e * w ≡ f * w = ap (λ n. n * w) eq in (eq, omega (arith, both)))
   | inr apart ↦ elim apart [

@@ -16,4 +16,9 @@ pub mod RowWrites
 pub mod Sites
 pub mod SlotWrites
 pub mod StoreCalls
+pub mod Blank
+pub mod Losses
 pub mod Readiness
+pub mod Making
+pub mod Missing
+pub mod Swapped

@@ -7,3 +7,4 @@ pub mod Kept
 pub mod Layout
 pub mod Calls
 pub mod Stores
+pub mod Missing

@@ -1,18 +1,14 @@
 //! Groups of extents, the geometry of their slots, and what a slot holds however its drives fare.
 #![tactic(auto)]
 
-#[cfg(test)]
-mod cases;
 mod change;
 mod class;
 mod geometry;
 mod place;
 mod refusal;
 mod table;
-#[cfg(test)]
-mod tests;
 
-pub use change::are_there;
+pub use change::{are_there, put_check};
 pub use class::{Class, Member};
 pub use geometry::{Copies, Spot, Stripe};
 pub use place::{Place, read_place, write_place};
