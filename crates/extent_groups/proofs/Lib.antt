@@ -22,3 +22,6 @@ pub mod Readiness
 pub mod Making
 pub mod Missing
 pub mod Swapped
+pub mod Wiping
+pub mod Agreeing
+pub mod Moving

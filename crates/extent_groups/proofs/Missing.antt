@@ -33,12 +33,12 @@ neither None b e = (refl, e)
 neither (Some u) b e = absurd (none-some u (sym e))
 
 -- a missing drive holds nothing
-cell_missing : {D : Type 0} (units : D → List (List ℕ)) (lost : D → Bool) (o : Option D) (at : ℕ) → is_missing lost o ≡ true → cell units lost o at ≡ None
+pub cell_missing : {D : Type 0} (units : D → List (List ℕ)) (lost : D → Bool) (o : Option D) (at : ℕ) → is_missing lost o ≡ true → cell units lost o at ≡ None
 cell_missing units lost None at e = refl
 cell_missing units lost (Some x) at e = ap (λ b. if b then None else slice_get (units x) at) e
 
 -- and a place that holds nothing is on a missing drive
-missing_if : {D : Type 0} (units : D → List (List ℕ)) (lost : D → Bool) (ds : List D) (p : Place) → IsPlace units ds p → held (cells units lost ds) p ≡ None → missing_of lost ds p.drive ≡ true
+pub missing_if : {D : Type 0} (units : D → List (List ℕ)) (lost : D → Bool) (ds : List D) (p : Place) → IsPlace units ds p → held (cells units lost ds) p ≡ None → missing_of lost ds p.drive ≡ true
 missing_if {D = D} units lost ds p is gone = at (slice_get ds p.drive) refl where
   at : (o : Option D) → slice_get ds p.drive ≡ o → is_missing lost (slice_get ds p.drive) ≡ true
   at None e = ap (is_missing lost) e

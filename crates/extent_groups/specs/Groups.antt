@@ -1,5 +1,5 @@
 -- The groups: which numbers are made, with which class and members, and what is true of every table of them.
-use Rattle.std.specs.Prelude.{◌≡◌, ℕ, ◌<◌, ◌≤◌, Option, Some, None, List, [], ◌∷◌, length, slice_get, slice_set, unwrap_or}
+use Rattle.std.specs.Prelude.{Bool, ◌==◌, ◌&&◌, ◌≡◌, ℕ, ◌<◌, ◌≤◌, Option, Some, None, List, [], ◌∷◌, length, slice_get, slice_set, unwrap_or}
 use Rattle.extents.specs.Owners.{Owners, owner_of, with_owner, row_of, IsExtent}
 use Rattle.extent_groups.specs.declared.class.Class.{Class}
 use Rattle.extent_groups.specs.declared.class.Member.{Member}
@@ -71,6 +71,10 @@ pub record IsFree (groups : Groups) (g : ℕ) : Type 0 where
 -- the members are extents that are there, all owned by the group
 abbrev pub AreOwned : Owners → List Member → ℕ → Type 0
 AreOwned owners members g = (k : ℕ) (m : Member) → slice_get members k ≡ Some m → IsExtent owners m.drive m.extent × (owner_of owners m.drive m.extent ≡ Some g)
+
+-- whether a member is this extent
+abbrev pub is_extent : ℕ → ℕ → Member → Bool
+is_extent drive extent m = (m.drive == drive) && (m.extent == extent)
 
 -- one of the members is this extent
 abbrev pub Stands : List Member → ℕ → ℕ → Type 0

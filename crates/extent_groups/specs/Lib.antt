@@ -8,3 +8,5 @@ pub mod Layout
 pub mod Calls
 pub mod Stores
 pub mod Missing
+pub mod Wiping
+pub mod Moving

@@ -1,12 +1,14 @@
 //! Groups of extents, the geometry of their slots, and what a slot holds however its drives fare.
 #![tactic(auto)]
 
+mod agree;
 mod change;
 mod class;
 mod geometry;
 mod place;
 mod refusal;
 mod table;
+mod wipe;
 
 pub use change::{are_there, put_check};
 pub use class::{Class, Member};
@@ -14,3 +16,4 @@ pub use geometry::{Copies, Spot, Stripe};
 pub use place::{Place, read_place, write_place};
 pub use refusal::{GroupRefusal, StoreRefusal};
 pub use table::{GROUPS, GroupTable, SLOTS};
+pub use wipe::wipe_extent;

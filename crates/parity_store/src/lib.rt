@@ -4,6 +4,7 @@
 mod difference;
 mod exclusive_or;
 mod others;
+mod parity;
 mod stripe;
 
 ghost use Rattle.std.specs.Prelude.{◌≡◌, ◌*◌, length, Some, OnOk, IfErr};
@@ -13,6 +14,7 @@ ghost use Rattle.extent_groups.specs.Calls.{NoPlace, KeepsDrives};
 ghost use Rattle.extent_groups.specs.Stores.{unit_bytes, unit_of, AreSound, IsSlotOf, AreDrives, KeepsUnits, Wrote, NamesGone, IsOwnOf};
 
 pub use exclusive_or::xor_into;
+pub use parity::read_parity;
 use extent_groups::{GroupTable, SLOTS, StoreRefusal};
 use extents::Drive;
 

@@ -34,7 +34,7 @@ pub(crate) fn read_stripe<D: Drive>(
     unit: &mut [u8],
     part: &mut [u8],
 ) -> bool
-    requires whole { IsWhole (InStripe (row_at groups.now group at.now.offset) at.now.parity at.now.member) }
+    requires member { at.now.member < length (row_at groups.now group at.now.offset) }
     requires few { length (members_of groups.now group) ≤ 8 }
     requires offset { at.now.offset < extent_units groups.now.segments }
     requires row { IsRow D.units drives.old (row_at groups.now group at.now.offset) }

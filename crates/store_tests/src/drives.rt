@@ -47,6 +47,9 @@ fn a_header_is_blank_or_spells_a_record_in_all_its_bytes(rt: HostRuntime) {
     let is = Header::Is(first_record());
     assert_eq!(rt; is.encode() == FIRST_HEADER, true);
     assert_eq!(rt; Header::decode(&FIRST_HEADER), Ok(is));
+    assert_eq!(rt; is.record(), Some(first_record()));
+    assert_eq!(rt; Header::Blank.record(), None);
+    assert_eq!(rt; HeaderFault::BadHeader.number(), 1);
     assert_eq!(rt; Header::Blank.encode() == [0; 32], true);
     assert_eq!(rt; Header::decode(&[0; 32]), Ok(Header::Blank));
     let mut stray = FIRST_HEADER;
@@ -130,6 +133,8 @@ fn an_extent_table_knows_owners_loads_and_the_lowest_free_extent(
     assert_eq!(rt; table.load(0), 0);
     assert_eq!(rt; table.lowest_free(3), Some(1));
     assert_eq!(rt; table.has_extent(3, 7), true);
+    assert_eq!(rt; table.drives(), 4);
+    assert_eq!(rt; table.owners(3).len(), 8);
     assert_eq!(rt; table.has_extent(4, 0), false);
     table.set_owner(3, 0, None);
     assert_eq!(rt; table.load(3), 1);

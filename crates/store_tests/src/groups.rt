@@ -2,6 +2,7 @@
 use crate::geometry::{copies_seen, stripe_seen};
 use crate::tables::{Tables, on, shape};
 use extent_groups::{Class, Copies, GroupRefusal, Spot, Stripe};
+use extents::ExtentTable;
 use std::test::Fail;
 
 #[test]
@@ -102,5 +103,27 @@ fn an_owned_extent_is_refused_and_slots_are_looked_up(rt: HostRuntime) -> Result
     };
     assert_eq!(rt; stripe_seen(&tables.groups, 1, 4), Some(stripe));
     assert_eq!(rt; stripe_seen(&tables.groups, 0, 4), None);
+    Ok(())
+}
+
+#[test]
+fn groups_and_owners_that_differ_do_not_agree(rt: HostRuntime) -> Result<(), Fail> {
+    let mut tables = Tables::new(&rt, rt.alloc(), 4, 2)?;
+    let members = [on(0, 0), on(1, 0), on(2, 0)];
+    assert!(rt; tables.groups.agrees(&tables.extents));
+    assert_eq!(rt;
+        tables.put(&rt, rt.alloc(), 511, Class::Parity, &members),
+        Ok(())
+    );
+    assert!(rt; tables.groups.agrees(&tables.extents));
+    let free = ExtentTable::new(rt.alloc(), 4, &shape(&rt, 2))?;
+    assert!(rt; !tables.groups.agrees(&free));
+    let Tables {
+        groups,
+        mut extents,
+    } = tables;
+    assert!(rt; extents.has_extent(3, 7));
+    extents.set_owner(3, 7, Some(511));
+    assert!(rt; !groups.agrees(&extents));
     Ok(())
 }

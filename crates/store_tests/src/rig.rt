@@ -5,10 +5,11 @@ ghost use Rattle.extents.specs.Units.{zero_units};
 ghost use Rattle.extents.specs.Sizes.{extent_units};
 ghost use Rattle.extents.specs.Shapes.{IsShapeOf};
 ghost use Rattle.extents.specs.declared.shape.TheConstants.{HEADER_BYTES};
-ghost use Rattle.extent_groups.specs.Groups.{Agree};
+ghost use Rattle.extent_groups.specs.declared.class.Class.TheVariants.{Parity};
+ghost use Rattle.extent_groups.specs.Groups.{Agree, class_in, group_at};
 ghost use Rattle.extent_groups.specs.Stores.{IsSlotOf, AreDrives};
 
-use extent_groups::{Class, GroupTable, Member, SLOTS, StoreRefusal, are_there};
+use extent_groups::{Class, GroupTable, Member, SLOTS, StoreRefusal, are_there, wipe_extent};
 use extents::{ExtentTable, MemDrive, Shape};
 use std::alloc::{AllocError, Global};
 use std::process::Abort;
@@ -111,6 +112,16 @@ pub(crate) fn is_slot(groups: &GroupTable, class: Class, slot: u16) -> bool
     }
 }
 
+/// Whether the group is a parity group.
+fn has_parity(groups: &GroupTable, group: u16) -> bool
+    ensures { IsTrue result → class_in (group_at groups.now group) ≡ Some Parity }
+{
+    match groups.class_of(group) {
+        Some(Class::Parity) => true,
+        _ => false,
+    }
+}
+
 impl Rig {
     /// Two groups of all drives, and zeros on them.
     pub(crate) fn new(
@@ -174,6 +185,32 @@ impl Rig {
             &mut self.unit,
             &mut self.scratch,
         )
+    }
+
+    /// Reads the parity at an offset of a group that is seen to be a parity group.
+    pub(crate) fn read_parity(&mut self, rt: &impl Abort, group: u16, offset: u16) -> bool {
+        assert!(rt; self.has_buffers());
+        assert!(rt; has_parity(&self.groups, group));
+        assert!(rt; (offset as u32) < self.groups.shape().extent_units());
+        let drives: &mut [MemDrive] = &mut self.drives;
+        parity_store::read_parity(
+            &self.groups,
+            drives,
+            group,
+            offset,
+            &mut self.unit,
+            &mut self.scratch,
+        )
+    }
+
+    /// Writes the buffered unit over an extent that is seen to be there.
+    pub(crate) fn wipe(&mut self, rt: &impl Abort, member: Member) -> bool {
+        assert!(rt; self.has_buffers());
+        let shape = self.groups.shape();
+        assert!(rt; (member.drive as usize) < self.drives.len());
+        assert!(rt; (member.extent as u32) < shape.extents);
+        let drives: &mut [MemDrive] = &mut self.drives;
+        wipe_extent(drives, &shape, member, &self.unit)
     }
 
     /// Writes a unit of one byte throughout.

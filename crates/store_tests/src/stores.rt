@@ -1,7 +1,7 @@
 // Both stores: one drive lost at any call, with a second one lost before or not, changes no answer.
 use crate::rig::{Rig, SIZE, is_slot};
 use crate::slow::{holds, peek};
-use extent_groups::{Class, GroupTable, SLOTS, StoreRefusal};
+use extent_groups::{Class, GroupTable, Member, SLOTS, StoreRefusal};
 use extents::{Drive, MemDrive};
 use parity_store::xor_into;
 use std::alloc::{AllocError, Global};
@@ -248,5 +248,60 @@ fn a_write_in_a_sound_group_reaches_two_drives_alone(rt: HostRuntime) -> Result<
     assert!(rt; rig.write_all(&rt, 0, 7).is_ok());
     let (_groups, drives) = rig.open();
     assert!(rt; drives.iter().all(|drive| !drive.is_lost()));
+    Ok(())
+}
+
+#[test]
+fn the_parity_is_read_or_had_from_the_others(rt: HostRuntime) -> Result<(), Fail> {
+    let mut rig = Rig::new(&rt, rt.alloc(), Class::Parity, 3, 2)?;
+    assert!(rt; rig.write_all(&rt, 128, 0x5a).is_ok());
+    assert!(rt; rig.write_all(&rt, 130, 0xc3).is_ok());
+    assert!(rt; rig.read_parity(&rt, 1, 0) && is_all(&rig.unit, 0x99));
+    assert!(rt; rig.read_parity(&rt, 1, 1) && is_all(&rig.unit, 0));
+    // The parity of the first offset is on the last drive.
+    rig.lose(&rt, 2);
+    assert!(rt; rig.read_parity(&rt, 1, 0) && is_all(&rig.unit, 0x99));
+    rig.lose(&rt, 0);
+    assert!(rt; !rig.read_parity(&rt, 1, 0));
+    Ok(())
+}
+
+#[test]
+fn an_extent_is_wiped_to_its_end(rt: HostRuntime) -> Result<(), Fail> {
+    let mut rig = Rig::new(&rt, rt.alloc(), Class::Mirrored, 3, 2)?;
+    fill(&rt, &mut rig);
+    rig.unit.fill(NEW);
+    assert!(rt;
+        rig.wipe(
+            &rt,
+            Member {
+                drive: 0,
+                extent: 1
+            }
+        )
+    );
+    assert!(rt;
+        rig.wipe(
+            &rt,
+            Member {
+                drive: 1,
+                extent: 1
+            }
+        )
+    );
+    // The last pair of the group lies at the end of the extents of drives 1 and 2, the first on 0 and 1.
+    assert!(rt; rig.read(&rt, 133).is_ok() && is_all(&rig.unit, NEW));
+    assert!(rt; rig.read(&rt, 128).is_ok() && is_all(&rig.unit, NEW));
+    assert!(rt; rig.read(&rt, 5).is_ok() && is_given(&rig.unit, 5));
+    rig.lose(&rt, 0);
+    assert!(rt;
+        !rig.wipe(
+            &rt,
+            Member {
+                drive: 0,
+                extent: 1
+            }
+        )
+    );
     Ok(())
 }

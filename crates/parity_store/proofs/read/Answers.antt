@@ -2,8 +2,8 @@ use Rattle.extent_groups.proofs.Sites.{site_places}
 use Rattle.extent_groups.proofs.StoreCalls.{read_keeps, site_whole, drives_kept}
 use Rattle.parity_store.proofs.read.Goals as goal
 
-pub read_stripe-requires-clause-whole : goal.read_stripe-requires-clause-whole
-read_stripe-requires-clause-whole g c = site_whole _ c.args.slot _ c.row_of-at.ensures.groups c.row_of-at.ensures.site
+pub read_stripe-requires-clause-member : goal.read_stripe-requires-clause-member
+read_stripe-requires-clause-member g c = (site_whole _ c.args.slot _ c.row_of-at.ensures.groups c.row_of-at.ensures.site).0
 
 pub read_stripe-requires-clause-row : goal.read_stripe-requires-clause-row
 read_stripe-requires-clause-row g c = λ k x there. site_places _ _ _ c.args.slot _ c.row_of-at.ensures.groups c.requires.drives c.row_of-at.ensures.site x (k, there)
