@@ -25,3 +25,4 @@ pub mod Swapped
 pub mod Wiping
 pub mod Agreeing
 pub mod Moving
+pub mod Roles

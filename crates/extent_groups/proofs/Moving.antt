@@ -78,7 +78,7 @@ at_other : (s : ℕ) (ms : List Member) (k j o : ℕ) (to : Member) → j ≢ k 
 at_other s ms k j o to ne =
     sym (unwrap_or-slice_get (map (place_of s o) (slice_set ms k to)) j _)
     ∙ ap (λ x. unwrap_or x (record { drive = 0; address = 0 }))
-      (slice_get-map (place_of s o) (slice_set ms k to) j ∙ ap (option_map (place_of s o)) (get-set_other ms k j to ne) ∙ sym (slice_get-map (place_of s o) ms j))
+    (slice_get-map (place_of s o) (slice_set ms k to) j ∙ ap (option_map (place_of s o)) (get-set_other ms k j to ne) ∙ sym (slice_get-map (place_of s o) ms j))
     ∙ unwrap_or-slice_get (map (place_of s o) ms) j _
 
 -- two copies, of which one may be the member's
@@ -176,8 +176,7 @@ swap_keeps t o g k group was to c new are agree within made at free sized sound 
           let is_after : site_in s group.class (slice_set group.members k to) (slot % 128) ≡ after = ap (λ (z : Group). site_in s z.class z.members (slot % 128)) (sym gx) ∙ x.site in
           let two : 2 ≤ length group.members = omega (arith, (are.formed g group made).enough) in
           let before : Site = site_in s group.class group.members (slot % 128) in
-          let old : site_of t slot ≡ Some before = ap (λ y. site_of_index s y (slot % 128)) was_made ∙ index_site s group (slot % 128) below in
-          (
+          let old : site_of t slot ≡ Some before = ap (λ y. site_of_index s y (slot % 128)) was_made ∙ index_site s group (slot % 128) below in (
             before,
             old,
             subst (Follows n c new before) is_after

@@ -10,3 +10,4 @@ pub mod Stores
 pub mod Missing
 pub mod Wiping
 pub mod Moving
+pub mod Roles

@@ -33,9 +33,7 @@ fn are_owned(extents: &ExtentTable, members: &[Member], group: u16) -> bool
 fn stands(members: &[Member], drive: usize, extent: usize) -> bool
     ensures { result ≡ list_any (is_extent drive extent) members.now }
 {
-    members
-        .iter()
-        .any(|member| member.drive as usize == drive && member.extent as usize == extent)
+    members.iter().any(|member| member.drive as usize == drive && member.extent as usize == extent)
 }
 
 impl GroupTable {

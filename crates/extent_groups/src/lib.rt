@@ -5,8 +5,10 @@ mod agree;
 mod change;
 mod class;
 mod geometry;
+mod lookup;
 mod place;
 mod refusal;
+mod role;
 mod table;
 mod wipe;
 
@@ -15,5 +17,6 @@ pub use class::{Class, Member};
 pub use geometry::{Copies, Spot, Stripe};
 pub use place::{Place, read_place, write_place};
 pub use refusal::{GroupRefusal, StoreRefusal};
+pub use role::Role;
 pub use table::{GROUPS, GroupTable, SLOTS};
 pub use wipe::wipe_extent;

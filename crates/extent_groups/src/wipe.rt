@@ -22,12 +22,7 @@ fn place_in(shape: &Shape, member: Member, offset: u16) -> Place
 }
 
 /// Writes zeros over each unit of an extent; false, with the rest unwritten, where its drive is lost.
-pub fn wipe_extent<D: Drive>(
-    drives: &mut [D],
-    shape: &Shape,
-    member: Member,
-    zeros: &[u8],
-) -> bool
+pub fn wipe_extent<D: Drive>(drives: &mut [D], shape: &Shape, member: Member, zeros: &[u8]) -> bool
     requires there { HasExtent D.units shape.now.segments drives.old member }
     requires size { AreSized D.units (length zeros.now) drives.old }
     ensures wiped { IsTrue result → HoldBelow shape.now.segments member zeros.now (extent_units shape.now.segments) (cells D.units D.lost drives.new) }

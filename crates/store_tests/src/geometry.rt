@@ -1,7 +1,7 @@
 // Where slots lie, against a model of the geometry that was written apart.
 use crate::cases::PLACES;
 use crate::tables::{Tables, on};
-use extent_groups::{Class, Copies, GroupTable, Spot, Stripe};
+use extent_groups::{Class, Copies, GroupTable, Role, Spot, Stripe};
 use std::alloc::Global;
 use std::process::Abort;
 use std::test::Fail;
@@ -63,6 +63,47 @@ fn spot(member: u8, offset: u8) -> Spot {
     }
 }
 
+/// What lies at a unit of a group that is seen to have it.
+fn role_seen(groups: &GroupTable, group: u16, member: u8, offset: u8) -> Option<Role> {
+    if member as usize >= groups.members(group).len() {
+        return None;
+    }
+    if offset as u32 >= groups.shape().extent_units() {
+        return None;
+    }
+    Some(groups.role(group, member, offset as u16))
+}
+
+/// Whether the units of a row of the table tell the row's index.
+fn is_told_back(rt: &impl Abort, alloc: Global, row: &[u8; 8]) -> Result<bool, Fail> {
+    let [
+        class,
+        members,
+        segments,
+        index,
+        member,
+        offset,
+        other,
+        other_offset,
+    ] = *row;
+    let class = if class == 0 {
+        Class::Mirrored
+    } else {
+        Class::Parity
+    };
+    let tables = group_of(rt, alloc, class, members, segments)?;
+    let slot = Some(Role::Slot(index as u16));
+    let second = if class == Class::Mirrored {
+        slot
+    } else {
+        Some(Role::ParityUnit)
+    };
+    Ok(
+        role_seen(&tables.groups, 0, member, offset) == slot
+            && role_seen(&tables.groups, 0, other, other_offset) == second,
+    )
+}
+
 /// Whether a row of the table is what the geometry says: class, members, segments, index, and two units.
 fn is_told(rt: &impl Abort, alloc: Global, row: &[u8; 8]) -> Result<bool, Fail> {
     let [
@@ -103,6 +144,7 @@ fn is_told(rt: &impl Abort, alloc: Global, row: &[u8; 8]) -> Result<bool, Fail> 
 fn every_index_lies_where_the_table_says(rt: HostRuntime) -> Result<(), Fail> {
     for row in &PLACES {
         assert!(rt; is_told(&rt, rt.alloc(), row)?, "{row:?}");
+        assert!(rt; is_told_back(&rt, rt.alloc(), row)?, "{row:?}");
     }
     Ok(())
 }
@@ -120,6 +162,19 @@ fn an_odd_segment_is_used_by_no_mirrored_slot(rt: HostRuntime) -> Result<(), Fai
                 .groups
                 .slots_of(0),
             slots
+        );
+    }
+    Ok(())
+}
+
+#[test]
+fn an_odd_segment_lies_on_the_last_member_unused(rt: HostRuntime) -> Result<(), Fail> {
+    let odd = group_of(&rt, rt.alloc(), Class::Mirrored, 3, 3)?;
+    for offset in 4..6 {
+        assert_eq!(rt; role_seen(&odd.groups, 0, 2, offset), Some(Role::Unused));
+        assert_eq!(rt;
+            role_seen(&odd.groups, 0, 1, offset),
+            Some(Role::Slot(offset as u16 + 2))
         );
     }
     Ok(())
