@@ -1,7 +1,7 @@
 -- A slot's group is formed, its number is small, and the laws of its geometry hold.
 use Rattle.std.proofs.Common.{◌≡◌, ℕ, ◌-◌, ◌<◌, ◌≤◌, Option, Some, None, length, refl, subst, arith}
 use Rattle.std.proofs.Math.Nat.{mul-le-mul}
-use Rattle.std.proofs.lemmas.Option.{same_Some}
+use Rattle.std.proofs.lemmas.Option.{same_Some, none-some}
 use Rattle.extent_groups.specs.declared.class.Class.{Class}
 use Rattle.extent_groups.specs.declared.class.Class.TheVariants.{Mirrored, Parity}
 use Rattle.extent_groups.specs.Geometry.{slot_count, copies_of, stripe_of, AreCopies, IsStripe}
@@ -54,3 +54,8 @@ parity_slot s i (Some x) formed short class h =
       low = omega (arith, slot_count_small x.class (length x.members) s form.few short);
       law = stripe_law (length x.members) s i two here;
     }
+
+-- what may be a group that has a class has 3 to 8 members
+pub group_size : (class : Class) (o : Option Group) → ((x : Group) → o ≡ Some x → IsFormed x.members) → class_in o ≡ Some class → (3 ≤ length (members_in o)) × (length (members_in o) ≤ 8)
+group_size class None formed is = absurd (none-some class is)
+group_size class (Some x) formed is = ((formed x refl).enough, (formed x refl).few)

@@ -84,6 +84,7 @@ did_read units lost failures ds p x y u true inside there call same read =
       here = cell_present units lost (slice_set ds p.drive y) p.drive p.address y now call.lost_is ∙ ap (λ us. slice_get us p.address) same ∙ read refl;
       same = λ _. all;
       fades = λ z. inl (all z);
+      elsewhere = λ z _. all z;
     }
 did_read units lost failures ds p x y u false inside there call same read =
     let now = get-set_same ds p.drive y inside in
@@ -94,6 +95,7 @@ did_read units lost failures ds p x y u false inside there call same read =
         | inl e ↦ inr (ap (λ d. cells units lost (slice_set ds p.drive y) d z.address) e ∙ cell_lost units lost (slice_set ds p.drive y) p.drive z.address y now call.lost_is)
         | inr ne ↦ inl (cell_other units lost ds p.drive z.drive z.address y ne)
       ];
+      elsewhere = λ z ne. cell_other units lost ds p.drive z.drive z.address y ne;
     }
 
 pub did_write : {D : Type 0} (units : D → List (List ℕ)) (lost : D → Bool) (failures : D → ℕ) (ds : List D) (p : Place) (x y : D) (u : List ℕ) (ok : Bool)

@@ -33,7 +33,7 @@ pub record Lies (s : ℕ) (class : Class) (ms : List Member) (i : ℕ) (x : Plac
   pub is : x ≡ place_of s offset member
   pub tie : Tie class (length ms) i number offset
 
-any_member : Member
+abbrev pub any_member : Member
 any_member = record { drive = 0; extent = 0 }
 
 -- a member of this number, and its place at an offset
@@ -81,7 +81,7 @@ lies s Parity ms i x two h k =
     }
 
 -- an extent and an offset are told by their address
-one_address : (w e f o p : ℕ) → e * w + o ≡ f * w + p → o < w → p < w → (e ≡ f) × (o ≡ p)
+pub one_address : (w e f o p : ℕ) → e * w + o ≡ f * w + p → o < w → p < w → (e ≡ f) × (o ≡ p)
 one_address w e f o p same h k = elim (cases_order e f) [
   | inl eq ↦ (let both : e * w ≡ f * w = ap (λ n. n * w) eq in (eq, omega (arith, both)))
   | inr apart ↦ elim apart [
@@ -152,7 +152,7 @@ slot_of s (Some group) i a e =
     record { group = group; made = refl; below = is_below _ _ both.0; site = both.1 }
 
 -- one of a row's places is that of the member of its number
-row_member : (s : ℕ) (ms : List Member) (o k : ℕ) (x : Place) → slice_get (map (place_of s o) ms) k ≡ Some x
+pub row_member : (s : ℕ) (ms : List Member) (o k : ℕ) (x : Place) → slice_get (map (place_of s o) ms) k ≡ Some x
     → (slice_get ms k ≡ Some (get_or ms k any_member)) × (x ≡ place_of s o (get_or ms k any_member))
 row_member s ms o k x at =
     let inside : k < length ms = omega (arith, slice_get_within (map (place_of s o) ms) k x at, length-map ms (place_of s o)) in (

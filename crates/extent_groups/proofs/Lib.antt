@@ -16,4 +16,13 @@ pub mod RowWrites
 pub mod Sites
 pub mod SlotWrites
 pub mod StoreCalls
+pub mod Blank
+pub mod Losses
 pub mod Readiness
+pub mod Making
+pub mod Missing
+pub mod Swapped
+pub mod Wiping
+pub mod Agreeing
+pub mod Moving
+pub mod Roles

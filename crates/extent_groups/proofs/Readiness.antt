@@ -1,5 +1,5 @@
--- New drives are ready for the stores under any groups that agree with the owners, and losses from outside keep them so.
-use Rattle.std.proofs.Common.{◌≡◌, ℕ, zero, suc, ◌*◌, ◌<◌, ◌≤◌, ◌⊎◌, inl, inr, Bool, true, false, Option, Some, None, List, [], ◌∷◌, ◌++◌, length, refl, sym, ◌∙◌, ap, subst, arith, if◌then◌else◌}
+-- Drives are those of the groups, and ready for the stores: from groups and owners that agree, over losses from outside, and with a drive more.
+use Rattle.std.proofs.Common.{◌≡◌, ℕ, zero, suc, ◌*◌, ◌/◌, ◌%◌, ◌<◌, ◌≤◌, inl, inr, Bool, true, false, Option, Some, None, List, [], ◌∷◌, ◌++◌, length, refl, sym, ◌∙◌, ap, subst, arith, length-append, if◌then◌else◌}
 use Rattle.std.specs.Prelude.{slice_get, slice_set, replicate}
 use Rattle.std.proofs.lemmas.List.{length-set, length-replicate}
 use Rattle.std.proofs.lemmas.Option.{same_Some, none-some}
@@ -11,16 +11,17 @@ use Rattle.extents.specs.Sizes.{extent_units}
 use Rattle.extents.specs.Units.{IsSized, zero_units}
 use Rattle.extent_groups.specs.declared.class.Member.{Member}
 use Rattle.extent_groups.specs.declared.place.Place.{Place}
-use Rattle.extent_groups.specs.Groups.{Groups, Agree, with_owners}
-use Rattle.extent_groups.specs.Cells.{Cells, cell, cells, held}
-use Rattle.extent_groups.specs.Units.{Site, Pair, InStripe, plus, add, total, row_of, held_in, IsSoundAt}
-use Rattle.extent_groups.specs.Calls.{FadesAt}
-use Rattle.extent_groups.specs.Layout.{IsLayout}
-use Rattle.extent_groups.specs.Stores.{unit_bytes, IsReady}
+use Rattle.extent_groups.specs.Groups.{Groups, group_at, AreGroups, Agree, with_owners}
+use Rattle.extent_groups.specs.Cells.{cell, cells, held}
+use Rattle.extent_groups.specs.Units.{Site, site_of, site_of_index}
+use Rattle.extent_groups.specs.Calls.{AreSized}
+use Rattle.extent_groups.specs.Layout.{IsOf, IsLayout}
+use Rattle.extent_groups.specs.Stores.{unit_bytes, unit_of, AreSound, AreDrives, KeepsUnits, IsReady}
 use Rattle.extent_groups.proofs.Places.{get-set_same, get-set_other, same_or_not}
-use Rattle.extent_groups.proofs.Fresh.{or_none}
-use Rattle.extent_groups.proofs.ExclusiveOr.{plus-zeros}
-use Rattle.extent_groups.proofs.Totals.{Row}
+use Rattle.extent_groups.proofs.Fresh.{or_none, no_members}
+use Rattle.extent_groups.proofs.Blank.{blank_site}
+use Rattle.extent_groups.proofs.Losses.{set_fades, site_same, unit_same}
+use Rattle.extent_groups.proofs.Sites.{site_places}
 use Rattle.extent_groups.proofs.SlotWrites.{slots_fade}
 use Rattle.extent_groups.proofs.StoreCalls.{sized_cells}
 
@@ -50,58 +51,39 @@ cell_blank : {D : Type 0} (units : D → List (List ℕ)) (lost : D → Bool) (n
 cell_blank units lost n None at h u e = absurd (none-some u e)
 cell_blank units lost n (Some x) at h u e = lost_blank units n (lost x) x at (h x refl) u e
 
-member_blank : (n : ℕ) (c : Cells) → ((p : Place) (u : List ℕ) → held c p ≡ Some u → u ≡ replicate n 0) → (o : Option Place) (u : List ℕ) → held_in c o ≡ Some u → u ≡ replicate n 0
-member_blank n c h None u e = absurd (none-some u e)
-member_blank n c h (Some p) u e = h p u e
+-- drives with the array's sizes are those of the groups that agree with the owners, where both count the same drives and extents
+pub agree_drives : {D : Type 0} {units : D → List (List ℕ)} (t : Groups) (o : Owners) (ds : List D) → Agree t o → length o.rows ≡ length ds → o.extents ≡ t.extents
+    → ((d : ℕ) (x : D) → slice_get ds d ≡ Some x → length (units x) ≡ t.extents * extent_units t.segments) → AreSized units (unit_bytes t) ds → AreDrives units t ds
+agree_drives t o ds agree rows wide many sized = record {
+  many = many;
+  sized = sized;
+  there = λ g k m at. let is = (agree.owned g k m at).0 in (omega (arith, is.within, rows), omega (arith, is.inside, wide));
+}
 
-add_blank : (n : ℕ) (a b : Option (List ℕ)) (v : List ℕ) → ((u : List ℕ) → a ≡ Some u → u ≡ replicate n 0) → ((u : List ℕ) → b ≡ Some u → u ≡ replicate n 0) → add a b ≡ Some v → v ≡ replicate n 0
-add_blank n None b v h k e = absurd (none-some v e)
-add_blank n (Some u) None v h k e = absurd (none-some v e)
-add_blank n (Some u) (Some w) v h k e =
-    let fits : length (replicate {A = ℕ} n 0) ≤ n = omega (arith, length-replicate {A = ℕ} n 0) in
-    sym (same_Some (plus u w) v e) ∙ ap (λ z. plus z w) (h u refl) ∙ ap (plus (replicate n 0)) (k w refl) ∙ plus-zeros n (replicate n 0) fits
-
-total_blank : (n m : ℕ) (r : Row) → ((k : ℕ) (u : List ℕ) → r k ≡ Some u → u ≡ replicate n 0) → (v : List ℕ) → total n m r ≡ Some v → v ≡ replicate n 0
-total_blank n zero r h v e = sym (same_Some (replicate n 0) v e)
-total_blank n (suc m) r h v e = add_blank n (r m) (total n m r) v (h m) (total_blank n m r h) e
-
-blank_sound : (n : ℕ) (c : Cells) (t : Site) → ((p : Place) (u : List ℕ) → held c p ≡ Some u → u ≡ replicate n 0) → IsSoundAt n c t
-blank_sound n c (Pair p q) h = λ u v eu ev. h p u eu ∙ sym (h q v ev)
-blank_sound n c (InStripe row parity i) h = total_blank n (length row) (row_of c row) (λ k u e. member_blank n c h (slice_get row k) u e)
+-- drives with the array's sizes are ready for a table without groups, whatever they hold
+pub free_ready : {D : Type 0} (units : D → List (List ℕ)) (lost : D → Bool) (t : Groups) (ds : List D) → ((g : ℕ) → group_at t g ≡ None)
+    → ((d : ℕ) (x : D) → slice_get ds d ≡ Some x → length (units x) ≡ t.extents * extent_units t.segments) → AreSized units (unit_bytes t) ds → IsReady units lost t ds
+free_ready units lost t ds free many sized = record {
+  drives_are = record { many = many; sized = sized; there = λ g k m at. absurd (no_members t g k m (free g) at) };
+  sound = λ slot site at. absurd (none-some site (sym (ap (λ o. site_of_index t.segments o (slot % 128)) (free (slot / 128))) ∙ at));
+}
 
 -- drives of zeros are ready for the groups that agree with the owners, where both count the same drives and extents
 pub new_drives_ready : {D : Type 0} (units : D → List (List ℕ)) (lost : D → Bool) (t : Groups) (o : Owners) (ds : List D) → Agree t o → length o.rows ≡ length ds → o.extents ≡ t.extents
     → ((d : ℕ) (x : D) → slice_get ds d ≡ Some x → units x ≡ zero_units (unit_bytes t) (t.extents * extent_units t.segments)) → IsReady units lost t ds
 new_drives_ready units lost t o ds agree rows wide zeros = record {
-  drives_are = record {
-    many = λ d x e. ap length (zeros d x e) ∙ length-replicate {A = List ℕ} (t.extents * extent_units t.segments) (replicate (unit_bytes t) 0);
-    sized = λ d x e at u there.
-        ap length (zero_unit (unit_bytes t) (t.extents * extent_units t.segments) at u (sym (ap (λ us. slice_get us at) (zeros d x e)) ∙ there)) ∙ length-replicate {A = ℕ} (unit_bytes t) 0;
-    there = λ g k m at. let is = (agree.owned g k m at).0 in (omega (arith, is.within, rows), omega (arith, is.inside, wide));
-  };
-  sound = λ slot site at. blank_sound (unit_bytes t) (cells units lost ds) site
-      (λ p u e. cell_blank units lost (unit_bytes t) (slice_get ds p.drive) p.address
-      (λ x there w is. zero_unit (unit_bytes t) (t.extents * extent_units t.segments) p.address w (sym (ap (λ us. slice_get us p.address) (zeros p.drive x there)) ∙ is)) u e);
+  drives_are = agree_drives t o ds agree rows wide
+      (λ d x e. ap length (zeros d x e) ∙ length-replicate {A = List ℕ} (t.extents * extent_units t.segments) (replicate (unit_bytes t) 0))
+      (λ d x e at u there. ap length (zero_unit (unit_bytes t) (t.extents * extent_units t.segments) at u (sym (ap (λ us. slice_get us at) (zeros d x e)) ∙ there)) ∙ length-replicate {A = ℕ} (unit_bytes t) 0);
+  sound = λ slot site at. (blank_site (unit_bytes t) (cells units lost ds) site
+      (λ p _ u e. cell_blank units lost (unit_bytes t) (slice_get ds p.drive) p.address
+      (λ x there w is. zero_unit (unit_bytes t) (t.extents * extent_units t.segments) p.address w (sym (ap (λ us. slice_get us p.address) (zeros p.drive x there)) ∙ is)) u e)).0;
 }
 
-either : (b : Bool) → (b ≡ true) ⊎ (b ≡ false)
-either true = inl refl
-either false = inr refl
-
-drive_fades : {D : Type 0} (units : D → List (List ℕ)) (lost : D → Bool) (x y : D) (at : ℕ) → units y ≡ units x → (lost x ≡ true → lost y ≡ true)
-    → (cell units lost (Some y) at ≡ cell units lost (Some x) at) ⊎ (cell units lost (Some y) at ≡ None)
-drive_fades units lost x y at same stays = elim (either (lost y)) [
-  | inl gone ↦ inr (ap (λ b. if b then None else slice_get (units y) at) gone)
-  | inr there ↦ elim (either (lost x)) [
-    | inl was ↦ absurd (let both : true ≡ false = sym (stays was) ∙ there in cc)
-    | inr present ↦ inl (ap (λ b. if b then None else slice_get (units y) at) there ∙ ap (λ us. slice_get us at) same ∙ sym (ap (λ b. if b then None else slice_get (units x) at) present))
-  ]
-]
-
--- a drive of the same units, lost at least where it was, keeps the drives ready
-pub loss_keeps_ready : {D : Type 0} (units : D → List (List ℕ)) (lost : D → Bool) (t : Groups) (ds : List D) (d : ℕ) (x y : D) → IsLayout t → IsReady units lost t ds
-    → d < length ds → slice_get ds d ≡ Some x → units y ≡ units x → (lost x ≡ true → lost y ≡ true) → IsReady units lost t (slice_set ds d y)
-loss_keeps_ready {D = D} units lost t ds d x y layout ready inside there same stays =
+-- drives with one of them replaced by one of the same units are those of the groups
+pub drives_set : {D : Type 0} {units : D → List (List ℕ)} (t : Groups) (ds : List D) (d : ℕ) (x y : D) → AreDrives units t ds
+    → d < length ds → slice_get ds d ≡ Some x → units y ≡ units x → AreDrives units t (slice_set ds d y)
+drives_set {D = D} {units = units} t ds d x y are inside there same =
     let was : (e : ℕ) (z : D) → slice_get (slice_set ds d y) e ≡ Some z → (w : D) × (slice_get ds e ≡ Some w) × (units z ≡ units w) =
     λ e z at. elim (same_or_not e d) [
       | inl q ↦
@@ -109,25 +91,32 @@ loss_keeps_ready {D = D} units lost t ds d x y layout ready inside there same st
           (x, ap (slice_get ds) q ∙ there, ap units (sym is) ∙ same))
       | inr ne ↦ (z, sym (get-set_other ds d e y ne) ∙ at, refl)
     ] in
-    let fades : (p : Place) → FadesAt (cells units lost ds) (cells units lost (slice_set ds d y)) p =
-    λ p. elim (same_or_not p.drive d) [
-      | inl q ↦
-          (let new : slice_get (slice_set ds d y) p.drive ≡ Some y = ap (slice_get (slice_set ds d y)) q ∙ get-set_same ds d y inside in
-          let old : slice_get ds p.drive ≡ Some x = ap (slice_get ds) q ∙ there in
-          elim (drive_fades units lost x y p.address same stays) [
-            | inl e ↦ inl (ap (λ o. cell units lost o p.address) new ∙ e ∙ sym (ap (λ o. cell units lost o p.address) old))
-            | inr e ↦ inr (ap (λ o. cell units lost o p.address) new ∙ e)
-          ])
-      | inr ne ↦ inl (ap (λ o. cell units lost o p.address) (get-set_other ds d p.drive y ne))
-    ] in
     record {
-      drives_are = record {
-        many = λ e z at. let w = was e z at in ap length w.2 ∙ ready.drives_are.many e w.0 w.1;
-        sized = λ e z at. let w = was e z at in subst (IsSized (unit_bytes t)) (sym w.2) (ready.drives_are.sized e w.0 w.1);
-        there = λ g k m at. let r = ready.drives_are.there g k m at in (omega (arith, r.0, length-set ds d y), r.1);
-      };
-      sound = (slots_fade t (cells units lost ds) (cells units lost (slice_set ds d y)) layout (sized_cells units lost t ds ready.drives_are) ready.sound fades).1;
+      many = λ e z at. let w = was e z at in ap length w.2 ∙ are.many e w.0 w.1;
+      sized = λ e z at. let w = was e z at in subst (IsSized (unit_bytes t)) (sym w.2) (are.sized e w.0 w.1);
+      there = λ g k m at. let r = are.there g k m at in (omega (arith, r.0, length-set ds d y), r.1);
     }
+
+-- a drive of the same units, lost at least where it was: each slot's unit that exists afterwards is what it was, and all stays sound
+pub loss_keeps : {D : Type 0} (units : D → List (List ℕ)) (lost : D → Bool) (t : Groups) (ds : List D) (d : ℕ) (x y : D) → IsLayout t → AreDrives units t ds → AreSound t (cells units lost ds)
+    → d < length ds → slice_get ds d ≡ Some x → units y ≡ units x → (lost x ≡ true → lost y ≡ true)
+    → KeepsUnits t (cells units lost ds) (cells units lost (slice_set ds d y)) × AreSound t (cells units lost (slice_set ds d y))
+loss_keeps units lost t ds d x y layout are sound inside there same stays =
+    slots_fade t (cells units lost ds) (cells units lost (slice_set ds d y)) layout (sized_cells units lost t ds are) sound (set_fades units lost ds d x y inside there same stays)
+
+-- and it keeps the drives ready
+pub loss_keeps_ready : {D : Type 0} (units : D → List (List ℕ)) (lost : D → Bool) (t : Groups) (ds : List D) (d : ℕ) (x y : D) → IsLayout t → IsReady units lost t ds
+    → d < length ds → slice_get ds d ≡ Some x → units y ≡ units x → (lost x ≡ true → lost y ≡ true) → IsReady units lost t (slice_set ds d y)
+loss_keeps_ready units lost t ds d x y layout ready inside there same stays = record {
+  drives_are = drives_set t ds d x y ready.drives_are inside there same;
+  sound = (loss_keeps units lost t ds d x y layout ready.drives_are ready.sound inside there same stays).1;
+}
+
+-- one more behind others leaves them where they were
+get-more : {X : Type 0} (xs : List X) (y : X) (d : ℕ) → d < length xs → slice_get (xs ++ y ∷ []) d ≡ slice_get xs d
+get-more [] y d h = absurd (omega arith)
+get-more (x ∷ xs) y zero h = refl
+get-more (x ∷ xs) y (suc d) h = get-more xs y d (omega arith)
 
 -- a fact of each of several holds of each of one more
 pub each_more : {X : Type 0} (P : X → Type 0) (xs : List X) (y : X) → ((d : ℕ) (x : X) → slice_get xs d ≡ Some x → P x) → P y → (d : ℕ) (x : X) → slice_get (xs ++ y ∷ []) d ≡ Some x → P x
@@ -135,6 +124,32 @@ each_more P [] y h p zero x e = subst P (same_Some y x e) p
 each_more P [] y h p (suc d) x e = absurd (none-some x e)
 each_more P (z ∷ xs) y h p zero x e = h 0 x e
 each_more P (z ∷ xs) y h p (suc d) x e = each_more P xs y (λ k w f. h (suc k) w f) p d x e
+
+-- a drive more, with the array's sizes: the drives are those of the groups, every slot's unit is what it was, and all stays sound
+pub drive_more : {D : Type 0} (units : D → List (List ℕ)) (lost : D → Bool) (t : Groups) (ds : List D) (y : D) → AreGroups t → AreDrives units t ds
+    → length (units y) ≡ t.extents * extent_units t.segments → IsSized (unit_bytes t) (units y)
+    → AreDrives units t (ds ++ y ∷ [])
+    × ((slot : ℕ) → unit_of t (cells units lost (ds ++ y ∷ [])) slot ≡ unit_of t (cells units lost ds) slot)
+    × (AreSound t (cells units lost ds) → AreSound t (cells units lost (ds ++ y ∷ [])))
+drive_more units lost t ds y groups are many sized =
+    let longer = length-append ds (y ∷ []) in
+    let same : (slot : ℕ) (site : Site) → site_of t slot ≡ Some site → (x : Place) → IsOf site x → held (cells units lost (ds ++ y ∷ [])) x ≡ held (cells units lost ds) x =
+    λ slot site at x of. ap (λ o. cell units lost o x.address) (get-more ds y x.drive (site_places units t ds slot site groups are at x of).inside) in (
+      record {
+        many = each_more (λ x. length (units x) ≡ t.extents * extent_units t.segments) ds y are.many many;
+        sized = each_more (λ x. IsSized (unit_bytes t) (units x)) ds y are.sized sized;
+        there = λ g k m at. let r = are.there g k m at in (omega (arith, r.0, longer), r.1);
+      },
+      λ slot. unit_same (unit_bytes t) (cells units lost ds) (cells units lost (ds ++ y ∷ [])) (site_of t slot) (λ site at. same slot site at),
+      λ sound slot site at. (site_same (unit_bytes t) (cells units lost ds) (cells units lost (ds ++ y ∷ [])) site (same slot site at)).1 (sound slot site at),
+    )
+
+-- the same, of drives that are ready
+pub drive_more_ready : {D : Type 0} (units : D → List (List ℕ)) (lost : D → Bool) (t : Groups) (ds : List D) (y : D) → AreGroups t → IsReady units lost t ds
+    → length (units y) ≡ t.extents * extent_units t.segments → IsSized (unit_bytes t) (units y) → IsReady units lost t (ds ++ y ∷ [])
+drive_more_ready units lost t ds y groups ready many sized =
+    let more = drive_more units lost t ds y groups ready.drives_are many sized in
+    record { drives_are = more.0; sound = more.2 ready.sound }
 
 -- a fuse and a loss from outside bring no drive back
 pub fused_stays : (c : Condition) (n : ℕ) → is_gone c ≡ true → is_gone (after_fuse c n) ≡ true

@@ -75,10 +75,10 @@ data_alone n m i p r s u hi hp ne su sp fades = record {
 }
 
 -- members that are all there
-total_present : (n m : ℕ) (r : Row) (v : List ℕ) → total n m r ≡ Some v → (j : ℕ) → j < m → (r j ≡ None → ⊥)
+pub total_present : (n m : ℕ) (r : Row) (v : List ℕ) → total n m r ≡ Some v → (j : ℕ) → j < m → (r j ≡ None → ⊥)
 total_present n m r v e j low gone = none-some v (sym (total_missing n m j r low gone) ∙ e)
 
-same_or_missing : (a : Option (List ℕ)) → (a ≡ None → ⊥) → (b c : Option (List ℕ)) → or_else a b ≡ or_else a c
+pub same_or_missing : (a : Option (List ℕ)) → (a ≡ None → ⊥) → (b c : Option (List ℕ)) → or_else a b ≡ or_else a c
 same_or_missing None h b c = absurd (h refl)
 same_or_missing (Some u) h b c = refl
 

@@ -21,14 +21,20 @@ kept_in : (n : ℕ) (c new : Cells) (o : Option Site) → ((t : Site) → o ≡ 
 kept_in n c new None h v e = absurd (none-some v e)
 kept_in n c new (Some t) h v e = (h t refl).unit v e
 
+-- where the places of all sites fade, whatever becomes of others, all slots are kept
+pub slots_kept : (groups : Groups) (c new : Cells) → IsLayout groups → AreSizedCells (unit_bytes groups) c → AreSound groups c
+    → ((slot : ℕ) (t : Site) (x : Place) → site_of groups slot ≡ Some t → IsOf t x → FadesAt c new x) → KeepsUnits groups c new × AreSound groups new
+slots_kept groups c new layout sized sound fades =
+    let each : (slot : ℕ) (t : Site) → site_of groups slot ≡ Some t → KeepsAt (unit_bytes groups) c new t =
+    λ slot t at. site_fades (unit_bytes groups) c new t sized (layout.whole slot t at) (λ x of. fades slot t x at of) (sound slot t at) in (
+      λ slot v e. kept_in (unit_bytes groups) c new (site_of groups slot) (each slot) v e,
+      λ slot t at. (each slot t at).sound,
+    )
+
 -- where all fades, all slots are kept
 pub slots_fade : (groups : Groups) (c new : Cells) → IsLayout groups → AreSizedCells (unit_bytes groups) c → AreSound groups c → ((x : Place) → FadesAt c new x)
     → KeepsUnits groups c new × AreSound groups new
-slots_fade groups c new layout sized sound fades = (
-  λ slot v e. kept_in (unit_bytes groups) c new (site_of groups slot)
-      (λ t at. site_fades (unit_bytes groups) c new t sized (layout.whole slot t at) (λ x _. fades x) (sound slot t at)) v e,
-  λ slot t at. (site_fades (unit_bytes groups) c new t sized (layout.whole slot t at) (λ x _. fades x) (sound slot t at)).sound,
-)
+slots_fade groups c new layout sized sound fades = slots_kept groups c new layout sized sound (λ slot t x at of. fades x)
 
 -- a site that all fades on leaves all sites
 pub fades_leave : (n : ℕ) (c new : Cells) (site : Site) → AreSizedCells n c → IsWhole site → IsSoundAt n c site → ((x : Place) → FadesAt c new x) → LeavesSites n c new site
@@ -57,7 +63,7 @@ slot_leaves groups c new slot site layout sound at leaves = (
 pub unit_at_site : (groups : Groups) (c : Cells) (slot : ℕ) (site : Site) → site_of groups slot ≡ Some site → unit_of groups c slot ≡ unit_at (unit_bytes groups) c site
 unit_at_site groups c slot site at = ap (unit_in (unit_bytes groups) c) at
 
-ok_is : (b : Bool) (u v : List ℕ) → if_ok b u ≡ Some v → u ≡ v
+pub ok_is : (b : Bool) (u v : List ℕ) → if_ok b u ≡ Some v → u ≡ v
 ok_is true u v e = same_Some u v e
 ok_is false u v e = absurd (none-some v e)
 

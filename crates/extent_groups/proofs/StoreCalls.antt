@@ -5,12 +5,12 @@ use Rattle.extent_groups.specs.declared.place.Place.{Place}
 use Rattle.extent_groups.specs.Groups.{Groups, AreGroups}
 use Rattle.extent_groups.specs.Cells.{Cells, cells}
 use Rattle.extent_groups.specs.Units.{Site, unit_at, site_of, IsSoundAt}
-use Rattle.extent_groups.specs.Calls.{AreSized, FadesAt, NoPlace, KeepsDrives}
+use Rattle.extent_groups.specs.Calls.{AreSized, FadesAt, if_ok, NoPlace, KeepsDrives}
 use Rattle.extent_groups.specs.Layout.{IsWhole}
-use Rattle.extent_groups.specs.Stores.{unit_bytes, unit_of, AreSound, AreDrives, KeepsUnits, KeepsOthers, LeavesSites, IsOwn, IsOwnOf}
+use Rattle.extent_groups.specs.Stores.{unit_bytes, unit_of, AreSound, AreDrives, KeepsUnits, KeepsOthers, Wrote, LeavesSites}
 use Rattle.extent_groups.proofs.LayoutLaw.{layout_law}
-use Rattle.extent_groups.proofs.DriveCalls.{keeps_more, keeps_sizes, cells_sized}
-use Rattle.extent_groups.proofs.SlotWrites.{AreSizedCells, slots_fade, slot_leaves, unit_at_site}
+use Rattle.extent_groups.proofs.DriveCalls.{keeps_sizes, cells_sized}
+use Rattle.extent_groups.proofs.SlotWrites.{AreSizedCells, ok_is, slots_fade, slot_leaves, unit_at_site}
 
 -- the drives are those of the groups afterwards too
 pub drives_kept : {D : Type 0} {units : D → List (List ℕ)} {lost : D → Bool} {failures : D → ℕ} {touched : Place → Type 0} {a b : List D} (t : Groups)
@@ -49,27 +49,6 @@ read_keeps {units = units} {lost = lost} t old new are drives sound fades keeps 
     let both = slots_fade t (cells units lost old) (cells units lost new) (layout_law t are) (sized_cells units lost t old drives) sound fades in
     record { all = both.0; sound = both.1; drives = drives_kept t keeps drives }
 
--- what a write leaves
-pub record WriteKeeps {D : Type 0} (units : D → List (List ℕ)) (lost : D → Bool) (failures : D → ℕ) (t : Groups) (slot : ℕ) (old new : List D) : Type 0 where
-  pub others : KeepsOthers t (cells units lost old) (cells units lost new) slot
-  pub sound : AreSound t (cells units lost new)
-  pub touched : KeepsDrives units lost failures (IsOwnOf t slot) old new
-  pub drives : AreDrives units t new
-
-pub write_keeps : {D : Type 0} {units : D → List (List ℕ)} {lost : D → Bool} {failures : D → ℕ} (t : Groups) (slot : ℕ) (site : Site) (n : ℕ) (old new : List D)
-    → AreGroups t → AreDrives units t old → AreSound t (cells units lost old) → site_of t slot ≡ Some site → n ≡ unit_bytes t
-    → LeavesSites n (cells units lost old) (cells units lost new) site → KeepsDrives units lost failures (IsOwn site) old new
-    → WriteKeeps units lost failures t slot old new
-write_keeps {units = units} {lost = lost} t slot site n old new are drives sound at size leaves keeps =
-    let both = slot_leaves t (cells units lost old) (cells units lost new) slot site (layout_law t are) sound at
-    (subst (λ m. LeavesSites m (cells units lost old) (cells units lost new) site) size leaves) in
-    record {
-      others = both.0;
-      sound = both.1;
-      touched = keeps_more (λ x own. (site, at, own)) keeps;
-      drives = drives_kept t keeps drives;
-    }
-
 -- the unit of the slot, by that of its site
 pub slot_unit : (t : Groups) (c : Cells) (slot : ℕ) (site : Site) (n : ℕ) (a : Option (List ℕ)) → site_of t slot ≡ Some site → n ≡ unit_bytes t → unit_at n c site ≡ a → unit_of t c slot ≡ a
 slot_unit t c slot site n a at size e = unit_at_site t c slot site at ∙ ap (λ m. unit_at m c site) (sym size) ∙ e
@@ -77,3 +56,18 @@ slot_unit t c slot site n a at size e = unit_at_site t c slot site at ∙ ap (λ
 -- a slot's site is sound, for units of this length
 pub sound_site : (t : Groups) (c : Cells) (slot : ℕ) (site : Site) (n : ℕ) → site_of t slot ≡ Some site → n ≡ unit_bytes t → AreSound t c → IsSoundAt n c site
 sound_site t c slot site n at size sound = subst (λ m. IsSoundAt m c site) (sym size) (sound slot site at)
+
+-- what a write of a slot's site leaves of all slots
+pub site_wrote : {D : Type 0} (units : D → List (List ℕ)) (lost : D → Bool) (t : Groups) (slot : ℕ) (site : Site) (n : ℕ) (old new : List D) (unit : List ℕ) (ok : Bool)
+    → AreGroups t → site_of t slot ≡ Some site → n ≡ unit_bytes t → unit_at n (cells units lost new) site ≡ if_ok ok unit
+    → (IsSoundAt n (cells units lost old) site → LeavesSites n (cells units lost old) (cells units lost new) site)
+    → Wrote t (cells units lost old) (cells units lost new) slot unit
+site_wrote units lost t slot site n old new unit ok are at size is leaves =
+    let both : AreSound t (cells units lost old) → KeepsOthers t (cells units lost old) (cells units lost new) slot × AreSound t (cells units lost new) =
+    λ sound. slot_leaves t (cells units lost old) (cells units lost new) slot site (layout_law t are) sound at
+    (subst (λ m. LeavesSites m (cells units lost old) (cells units lost new) site) size (leaves (sound_site t (cells units lost old) slot site n at size sound))) in
+    record {
+      unit = λ v e. sym (ok_is ok unit v (sym (slot_unit t (cells units lost new) slot site n (if_ok ok unit) at size is) ∙ e));
+      others = λ sound. (both sound).0;
+      sound = λ sound. (both sound).1;
+    }

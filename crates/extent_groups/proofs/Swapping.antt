@@ -52,7 +52,7 @@ one_or_two x y m = elim (same_or_not x m.drive) [
 ]
 
 -- a member named by its parts
-named : (x y : ℕ) (m : Member) → x ≡ m.drive → y ≡ m.extent → Some m ≡ Some (record { drive = x; extent = y })
+pub named : (x y : ℕ) (m : Member) → x ≡ m.drive → y ≡ m.extent → Some m ≡ Some (record { drive = x; extent = y })
 named x y m p q =
     ap (λ d. let a : Member = record { drive = d; extent = m.extent } in Some a) (sym p)
     ∙ ap (λ e. let a : Member = record { drive = x; extent = e } in Some a) (sym q)

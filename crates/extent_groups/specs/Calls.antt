@@ -25,11 +25,12 @@ FadesAt c new p = Fades (held c p) (held new p)
 abbrev pub if_ok : Bool → List ℕ → Option (List ℕ)
 if_ok ok unit = if ok then Some unit else None
 
--- a read of a place: it gave what the place holds, or its drive is lost; nothing else is different, but that this drive may be lost
+-- a read of a place: it gave what the place holds, or its drive is lost; other drives hold what they held
 pub record DidRead (c new : Cells) (p : Place) (unit : List ℕ) (ok : Bool) : Type 0 where
   pub here : held new p ≡ if_ok ok unit
   pub same : ok ≡ true → (x : Place) → held new x ≡ held c x
   pub fades : (x : Place) → FadesAt c new x
+  pub elsewhere : (x : Place) → x.drive ≢ p.drive → held new x ≡ held c x
 
 -- a write of a place: it holds the unit, or its drive is lost; another place of the drive holds what it held, or the drive is lost; other drives hold what they held
 pub record DidWrite (c new : Cells) (p : Place) (unit : List ℕ) (ok : Bool) : Type 0 where
@@ -45,6 +46,10 @@ NoPlace p = ⊥
 -- one place
 abbrev pub Only : Place → Place → Type 0
 Only p x = x ≡ p
+
+-- drives that calls don't use are the same
+abbrev pub SameBut : {D : Type 0} → (ℕ → Type 0) → List D → List D → Type 0
+SameBut used old new = (d : ℕ) → (used d → ⊥) → slice_get new d ≡ slice_get old d
 
 -- what calls leave of a drive: as many units as before and as long, those untouched as they were; lost stays lost, and the drive's own failures rose by one where it is lost now, and else not
 pub record KeepsDrive {D : Type 0} (units : D → List (List ℕ)) (lost : D → Bool) (failures : D → ℕ) (touched : ℕ → Type 0) (x y : D) : Type 0 where

@@ -1,5 +1,5 @@
 -- The groups: which numbers are made, with which class and members, and what is true of every table of them.
-use Rattle.std.specs.Prelude.{◌≡◌, ℕ, ◌<◌, ◌≤◌, Option, Some, None, List, [], ◌∷◌, length, slice_get, slice_set, unwrap_or}
+use Rattle.std.specs.Prelude.{Bool, ◌==◌, ◌&&◌, ◌≡◌, ℕ, ◌<◌, ◌≤◌, Option, Some, None, List, [], ◌∷◌, length, slice_get, slice_set, unwrap_or}
 use Rattle.extents.specs.Owners.{Owners, owner_of, with_owner, row_of, IsExtent}
 use Rattle.extent_groups.specs.declared.class.Class.{Class}
 use Rattle.extent_groups.specs.declared.class.Member.{Member}
@@ -68,11 +68,26 @@ pub record IsFree (groups : Groups) (g : ℕ) : Type 0 where
   pub within : g < length groups.table
   pub free : group_at groups g ≡ None
 
+-- the members are extents that are there, all owned by the group
+abbrev pub AreOwned : Owners → List Member → ℕ → Type 0
+AreOwned owners members g = (k : ℕ) (m : Member) → slice_get members k ≡ Some m → IsExtent owners m.drive m.extent × (owner_of owners m.drive m.extent ≡ Some g)
+
+-- whether a member is this extent
+abbrev pub is_extent : ℕ → ℕ → Member → Bool
+is_extent drive extent m = (m.drive == drive) && (m.extent == extent)
+
+-- one of the members is this extent
+abbrev pub Stands : List Member → ℕ → ℕ → Type 0
+Stands members drive extent = (k : ℕ) × (slice_get members k ≡ Some (record { drive = drive; extent = extent }))
+
+-- each extent of a drive's row that is owned stands in its owner
+abbrev pub RowStands : Groups → List (Option ℕ) → ℕ → Type 0
+RowStands groups row drive = (extent g : ℕ) → slice_get row extent ≡ Some (Some g) → Stands (members_of groups g) drive extent
+
 -- the groups and the owners agree: each extent of a group is there and owned by that group, and each owned extent stands in its owner
 pub record Agree (groups : Groups) (owners : Owners) : Type 0 where
-  pub owned : (g k : ℕ) (m : Member) → slice_get (members_of groups g) k ≡ Some m → IsExtent owners m.drive m.extent × (owner_of owners m.drive m.extent ≡ Some g)
-  pub stands : (g drive extent : ℕ) → owner_of owners drive extent ≡ Some g
-      → (k : ℕ) × (slice_get (members_of groups g) k ≡ Some (record { drive = drive; extent = extent }))
+  pub owned : (g : ℕ) → AreOwned owners (members_of groups g) g
+  pub stands : (g drive extent : ℕ) → owner_of owners drive extent ≡ Some g → Stands (members_of groups g) drive extent
   pub wide : AreWide owners
 
 -- each of the members is an extent that is there

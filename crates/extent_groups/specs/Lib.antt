@@ -7,3 +7,7 @@ pub mod Kept
 pub mod Layout
 pub mod Calls
 pub mod Stores
+pub mod Missing
+pub mod Wiping
+pub mod Moving
+pub mod Roles

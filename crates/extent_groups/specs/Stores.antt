@@ -11,7 +11,7 @@ use Rattle.extent_groups.specs.Groups.{Groups, group_at, class_in, slots_in, mem
 use Rattle.extent_groups.specs.Cells.{Cells, cells}
 use Rattle.extent_groups.specs.Calls.{AreSized}
 use Rattle.extent_groups.specs.Units.{Site, Pair, InStripe, site_of, unit_at, effective_unit, IsSoundAt, IsSound}
-use Rattle.extent_groups.specs.Layout.{IsApart, AreBeside, IsWhole}
+use Rattle.extent_groups.specs.Layout.{IsOf, IsApart, AreBeside, IsWhole}
 
 -- bytes of a unit: its header and its payload
 abbrev pub unit_bytes : Groups → ℕ
@@ -49,9 +49,16 @@ KeepsUnits groups c new = (slot : ℕ) (unit : List ℕ) → unit_of groups new 
 abbrev pub KeepsOthers : Groups → Cells → Cells → ℕ → Type 0
 KeepsOthers groups c new slot = (other : ℕ) (unit : List ℕ) → other ≢ slot → unit_of groups new other ≡ Some unit → unit_of groups c other ≡ Some unit
 
+-- a write of a slot, however it ended: its effective unit, if it has one afterwards, is these bytes; where all slots were sound
+-- they are, and each other slot's effective unit that exists afterwards is what it was
+pub record Wrote (groups : Groups) (c new : Cells) (slot : ℕ) (bytes : List ℕ) : Type 0 where
+  pub unit : (v : List ℕ) → unit_of groups new slot ≡ Some v → v ≡ bytes
+  pub others : AreSound groups c → KeepsOthers groups c new slot
+  pub sound : AreSound groups c → AreSound groups new
+
 -- a refusal names the slot, whose effective unit doesn't exist
-abbrev pub IsGone : Groups → Cells → ℕ → StoreRefusal → Type 0
-IsGone groups c slot refusal = (refusal ≡ Gone slot) × (unit_of groups c slot ≡ None)
+abbrev pub NamesGone : Groups → Cells → ℕ → StoreRefusal → Type 0
+NamesGone groups c slot refusal = (refusal ≡ Gone slot) × (unit_of groups c slot ≡ None)
 
 -- the places that a write of a site may touch: both copies, or the member's and the parity's
 abbrev pub IsOwn : Site → Place → Type 0
@@ -61,6 +68,14 @@ IsOwn (InStripe row parity i) x = (slice_get row i ≡ Some x) ⊎ (slice_get ro
 -- the places that a write of a slot may touch
 abbrev pub IsOwnOf : Groups → ℕ → Place → Type 0
 IsOwnOf groups slot x = (site : Site) × (site_of groups slot ≡ Some site) × IsOwn site x
+
+-- one of the site's places is on the drive
+abbrev pub IsDriveOf : Site → ℕ → Type 0
+IsDriveOf site d = (x : Place) × IsOf site x × (x.drive ≡ d)
+
+-- a member of the group is on the drive
+abbrev pub HasMemberOn : Groups → ℕ → ℕ → Type 0
+HasMemberOn groups g d = (k : ℕ) × (m : Member) × (slice_get (members_of groups g) k ≡ Some m) × (m.drive ≡ d)
 
 -- a site's effective unit that exists afterwards is what it was, and it is sound afterwards
 pub record KeepsAt (bytes : ℕ) (c new : Cells) (t : Site) : Type 0 where

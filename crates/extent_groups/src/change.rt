@@ -63,8 +63,8 @@ fn is_any_owned(extents: &ExtentTable, members: &[Member]) -> bool
     false
 }
 
-/// Why the members make no group.
-fn put_check(extents: &ExtentTable, members: &[Member]) -> Option<GroupRefusal>
+/// Why the members make no group, none where they do.
+pub fn put_check(extents: &ExtentTable, members: &[Member]) -> Option<GroupRefusal>
     requires { AreThere extents.now members.now }
     ensures { result ≡ put_fault extents.now members.now }
 {
@@ -109,6 +109,26 @@ fn replace(kept: &mut Option<Kept>, member: usize, to: Member)
 }
 
 impl GroupTable {
+    /// Makes a group, of members that pass every check, under a free number.
+    pub fn enter_group(
+        &mut self,
+        extents: &mut ExtentTable,
+        group: u16,
+        class: Class,
+        members: Vec<Member>,
+    )
+        requires free { IsFree self.old group }
+        requires there { AreThere extents.old members.items }
+        requires fine { put_fault extents.old members.items ≡ None }
+        requires agree { Agree self.old extents.old }
+        ensures made { self.new ≡ with_group self.old group (Some (record { class = class; members = members.items })) }
+        ensures owned { extents.new ≡ with_owners extents.old members.items (Some group) }
+        ensures agree { Agree self.new extents.new }
+    {
+        give(extents, &members, Some(group));
+        self.groups[group as usize] = Some(Kept { class, members });
+    }
+
     /// Makes a group under a free number; refused, with nothing changed, where the members make none or memory is out.
     pub fn put_group(
         &mut self,
@@ -134,11 +154,7 @@ impl GroupTable {
         let Ok(kept) = Vec::from_slice(alloc, members) else {
             return Err(GroupRefusal::Memory);
         };
-        give(extents, members, Some(group));
-        self.groups[group as usize] = Some(Kept {
-            class,
-            members: kept,
-        });
+        self.enter_group(extents, group, class, kept);
         Ok(())
     }
 

@@ -26,7 +26,7 @@ pub struct Stripe {
     pub parity: u8,
 }
 
-ghost use Rattle.extent_groups.specs.Geometry.{spot_at, copies_of, stripe_of, data_member};
+ghost use Rattle.extent_groups.specs.Geometry.{spot_at, copies_of, parity_of, stripe_of, data_member};
 
 /// The unit of a segment's position.
 fn spot_of(members: u8, position: u16, unit: u16) -> Spot
@@ -56,6 +56,14 @@ pub(crate) fn two_copies(members: u8, index: u16) -> Copies
     }
 }
 
+/// The member that holds the parity of a row.
+pub(crate) fn parity_at(members: u8, row: u8) -> u8
+    requires { 1 ≤ members }
+    ensures { result ≡ parity_of members row }
+{
+    members - 1 - row % members
+}
+
 /// The member of so many others before it that aren't the parity's.
 fn passed_over(parity: u8, others: u8) -> u8
     requires { others < 255 }
@@ -72,7 +80,7 @@ pub(crate) fn one_stripe(members: u8, index: u16) -> Stripe
 {
     let segment = (index / 2) as u8;
     let row = segment / (members - 1);
-    let parity = members - 1 - row % members;
+    let parity = parity_at(members, row);
     Stripe {
         stripe: row,
         member: passed_over(parity, segment % (members - 1)),

@@ -1,20 +1,22 @@
 //! Groups of extents, the geometry of their slots, and what a slot holds however its drives fare.
 #![tactic(auto)]
 
-#[cfg(test)]
-mod cases;
+mod agree;
 mod change;
 mod class;
 mod geometry;
+mod lookup;
 mod place;
 mod refusal;
+mod role;
 mod table;
-#[cfg(test)]
-mod tests;
+mod wipe;
 
-pub use change::are_there;
+pub use change::{are_there, put_check};
 pub use class::{Class, Member};
 pub use geometry::{Copies, Spot, Stripe};
 pub use place::{Place, read_place, write_place};
 pub use refusal::{GroupRefusal, StoreRefusal};
+pub use role::Role;
 pub use table::{GROUPS, GroupTable, SLOTS};
+pub use wipe::wipe_extent;

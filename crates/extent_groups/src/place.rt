@@ -1,7 +1,7 @@
 // Where a unit lies, and the two calls by which stores reach a drive.
-ghost use Rattle.std.specs.Prelude.{◌<◌, length};
+ghost use Rattle.std.specs.Prelude.{◌≡◌, ◌<◌, length};
 ghost use Rattle.extent_groups.specs.Cells.{cells};
-ghost use Rattle.extent_groups.specs.Calls.{AreSized, IsPlace, DidRead, DidWrite, NoPlace, Only, KeepsDrives};
+ghost use Rattle.extent_groups.specs.Calls.{AreSized, IsPlace, DidRead, DidWrite, NoPlace, Only, SameBut, KeepsDrives};
 
 use extents::Drive;
 
@@ -20,6 +20,7 @@ pub fn read_place<D: Drive>(drives: &mut [D], place: Place, unit: &mut [u8]) -> 
     requires size { AreSized D.units (length unit.old) drives.old }
     ensures read { DidRead (cells D.units D.lost drives.old) (cells D.units D.lost drives.new) place unit.new result }
     ensures drives { KeepsDrives D.units D.lost D.failures NoPlace drives.old drives.new }
+    ensures others { SameBut (λ d. d ≡ place.drive) drives.old drives.new }
 {
     drives[place.drive as usize]
         .read_unit(place.address, unit)
@@ -33,6 +34,7 @@ pub fn write_place<D: Drive>(drives: &mut [D], place: Place, unit: &[u8]) -> boo
     requires size { AreSized D.units (length unit.now) drives.old }
     ensures written { DidWrite (cells D.units D.lost drives.old) (cells D.units D.lost drives.new) place unit.now result }
     ensures drives { KeepsDrives D.units D.lost D.failures (Only place) drives.old drives.new }
+    ensures others { SameBut (λ d. d ≡ place.drive) drives.old drives.new }
 {
     drives[place.drive as usize]
         .write_unit(place.address, unit)

@@ -1,6 +1,6 @@
 // The groups by number.
 ghost use Rattle.std.specs.Prelude.{◌≡◌, ◌↔◌, IsTrue, ℕ, ◌+◌, ◌/◌, ◌<◌, ◌≤◌, Bool, length, Some, None, IfOk, OnOk, OnErr, IfErr, MatchOption, OnSome, slice_get, replicate};
-ghost use Rattle.extent_groups.specs.Geometry.{slot_count, copies_of, stripe_of, AreCopies, IsStripe};
+ghost use Rattle.extent_groups.specs.Geometry.{slot_count, copies_of, parity_of, stripe_of, AreCopies, IsStripe};
 
 use crate::{Class, Copies, Member, Place, Stripe, geometry};
 use extents::Shape;
@@ -202,5 +202,17 @@ impl GroupTable {
         ensures law { IsStripe (length (members_of self.now group)) self.now.segments index result }
     {
         geometry::one_stripe(self.members(group).len() as u8, index)
+    }
+
+    /// The member that holds the parity of an offset of a parity group.
+    pub fn parity_member(&self, group: u16, offset: u16) -> u8
+        requires parity { class_in (group_at self.now group) ≡ Some Parity }
+        requires offset { offset < extent_units self.now.segments }
+        ensures member { result ≡ parity_of (length (members_of self.now group)) (offset / 2) }
+        ensures inside { (result < length (members_of self.now group)) × (length (members_of self.now group) ≤ 8) }
+        ensures groups { AreGroups self.now }
+    {
+        let members = self.members(group).len() as u8;
+        geometry::parity_at(members, (offset / 2) as u8)
     }
 }

@@ -1,3 +1,4 @@
 pub mod UnitsIn
 pub mod Setting
 pub mod Stamps
+pub mod Headers

@@ -1,10 +1,10 @@
--- One extent gets another owner: in its row, and so in the table.
-use Rattle.std.proofs.Common.{◌≡◌, ℕ, ◌<◌, Option, List, [], length, refl, sym, ◌∙◌, ap, get_or}
+-- The table's rows as owners: how wide they are, and one extent that gets another owner.
+use Rattle.std.proofs.Common.{◌≡◌, ℕ, ◌<◌, Option, List, [], length, refl, sym, ◌∙◌, ap, arith, get_or, inl, inr}
 use Rattle.std.specs.Prelude.{map, slice_set, unwrap_or, option_map}
-use Rattle.std.proofs.lemmas.List.{map-set}
-use Rattle.std.proofs.lemmas.Option.{slice_get_read, slice_get-map}
+use Rattle.std.proofs.lemmas.List.{map-set, length-map}
+use Rattle.std.proofs.lemmas.Option.{slice_get_read, slice_get-map, slice_get_cases}
 use Rattle.extents.specs.Owners.{Owners, row_of, with_owner}
-use Rattle.extents.specs.Rows.{owners_in}
+use Rattle.extents.specs.Rows.{owners_in, AreRows}
 use Rattle.extents.specs.declared.table.Row.{Row}
 
 -- the row of a drive is what its row of the table holds
@@ -24,3 +24,14 @@ owners_in-set extents drive extent owner rows was now h e set_row =
     let all : map f (slice_set rows drive now) ≡ slice_set (map f rows) drive (slice_set (row_of (owners_in extents rows) drive) extent owner) =
     map-set f rows drive now ∙ ap (λ r. slice_set (map f rows) drive r) row in
     ap (λ (rs : List (List (Option ℕ))). let o : Owners = record { extents = extents; rows = rs } in o) all
+
+-- each row is as wide as the table says
+pub wide-owners_in : (extents : ℕ) (rows : List Row) → AreRows extents rows → (drive : ℕ) → drive < length (owners_in extents rows).rows → length (row_of (owners_in extents rows) drive) ≡ extents
+wide-owners_in extents rows are drive within =
+    let inside : drive < length rows = omega (arith, within, length-map rows (λ (row : Row). row.owners.items)) in
+    elim (slice_get_cases rows drive).1 [
+      | inl there ↦
+          ap length (row_of-owners_in extents drive rows there.0 there.1 (sym there.3))
+          ∙ ap (λ (row : Row). length row.owners.items) (sym there.3) ∙ are.wide drive there.0 there.1
+      | inr past ↦ absurd (omega (arith, past.0, inside))
+    ]

@@ -1,8 +1,12 @@
 -- The header of a unit against its 32 bytes.
-use Rattle.std.specs.Prelude.{◌≡◌, ℕ, ◌<◌, List, replicate}
+use Rattle.std.specs.Prelude.{◌≡◌, ℕ, ◌<◌, Option, Some, None, List, replicate}
+use Rattle.map_join.specs.declared.records.Record.{Record}
+use Rattle.map_join.specs.Record.{IsRecord}
 use Rattle.extents.specs.Stamp.{SpellsRecord, stamped_bytes}
 use Rattle.extents.specs.declared.header.Header.{Header}
 use Rattle.extents.specs.declared.header.Header.TheVariants.{Blank, Is}
+use Rattle.extents.specs.declared.header.HeaderFault.{HeaderFault}
+use Rattle.extents.specs.declared.header.HeaderFault.TheVariants.{BadHeader}
 
 -- the bytes spell the header: 32 zeros for a blank one, else its record
 abbrev pub Spells : List ℕ → Header → Type 0
@@ -18,3 +22,17 @@ IsWritten (Is r) = 0 < r.version
 abbrev pub header_bytes : Header → List ℕ
 header_bytes Blank = replicate 32 0
 header_bytes (Is r) = stamped_bytes r
+
+-- the record of a header, none of a blank one
+abbrev pub record_in : Header → Option Record
+record_in Blank = None
+record_in (Is r) = Some r
+
+-- a header that bytes can spell: its record's fields are in their ranges, and its version is at least 1
+abbrev pub IsHeader : Header → Type 0
+IsHeader Blank = Unit {0}
+IsHeader (Is r) = IsRecord r
+
+-- the number of a fault
+abbrev pub fault_number : HeaderFault → ℕ
+fault_number BadHeader = 1

@@ -27,7 +27,18 @@ pub enum Header {
 #[derive(Clone, Copy, Debug, PartialEq, Eq)]
 pub enum HeaderFault {
     /// They are neither blank nor spell a record.
-    BadHeader,
+    BadHeader = 1,
+}
+
+impl HeaderFault {
+    ghost use Rattle.extents.specs.Header.{fault_number};
+
+    /// The fault's number.
+    pub fn number(self) -> u8
+        ensures { result ≡ fault_number self }
+    {
+        self as u8
+    }
 }
 
 /// Whether all bytes are zero.
@@ -63,7 +74,17 @@ fn stamped(stamp: &Record) -> [u8; 32]
 }
 
 impl Header {
-    ghost use Rattle.extents.specs.Header.{Spells, header_bytes, IsWritten};
+    ghost use Rattle.extents.specs.Header.{Spells, header_bytes, IsWritten, record_in};
+
+    /// The record that the unit's payload was committed with, if any.
+    pub fn record(&self) -> Option<Record>
+        ensures { result ≡ record_in self.now }
+    {
+        match self {
+            Header::Blank => None,
+            Header::Is(record) => Some(*record),
+        }
+    }
 
     /// The 32 bytes of the header.
     pub fn encode(&self) -> [u8; 32]

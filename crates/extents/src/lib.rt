@@ -6,11 +6,9 @@ mod header;
 mod mem_drive;
 mod shape;
 mod table;
-#[cfg(test)]
-mod tests;
 
 pub use drive::{Drive, DriveLost};
 pub use header::{Header, HeaderFault};
 pub use mem_drive::MemDrive;
 pub use shape::{HEADER_BYTES, Shape, ShapeRefusal};
-pub use table::ExtentTable;
+pub use table::{DRIVES, ExtentTable};

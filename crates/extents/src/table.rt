@@ -5,6 +5,9 @@ use crate::Shape;
 use std::alloc::{AllocError, Global};
 use std::marker::Model;
 
+/// The most drives that an array has.
+pub const DRIVES: usize = 16;
+
 /// The extents of one drive.
 #[derive(Drop)]
 struct Row {
@@ -72,7 +75,7 @@ impl Model for ExtentTable {
 }
 
 impl ExtentTable {
-    ghost use Rattle.extents.specs.Owners.{IsExtent, owner_of, load_of, lowest_free_of, with_owner, with_drive, all_free};
+    ghost use Rattle.extents.specs.Owners.{IsExtent, row_of, owner_of, load_of, lowest_free_of, with_owner, with_drive, all_free};
 
     /// The table of so many drives of this shape, all extents free; refused where memory is out.
     pub fn new(alloc: Global, drives: u8, shape: &Shape) -> Result<ExtentTable, AllocError>
@@ -96,6 +99,22 @@ impl ExtentTable {
         let row = Row::new(alloc, self.extents)?;
         self.rows.push(row)?;
         Ok(())
+    }
+
+    /// How many drives the table has.
+    pub fn drives(&self) -> usize
+        ensures count { result ≡ length self.now.rows }
+        ensures wide { (drive : ℕ) → drive < length self.now.rows → length (row_of self.now drive) ≡ self.now.extents }
+    {
+        self.rows.len()
+    }
+
+    /// The owners of a drive's extents, in order.
+    pub fn owners(&self, drive: usize) -> &[Option<u16>]
+        requires { drive < length self.now.rows }
+        ensures { result.now ≡ row_of self.now drive }
+    {
+        &self.rows[drive].owners
     }
 
     /// Whether there is such a drive, and such an extent on it.

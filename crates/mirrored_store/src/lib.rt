@@ -1,15 +1,12 @@
 //! Reads and writes of mirrored slots: each lies in two copies, on two drives.
 #![tactic(auto)]
 
-#[cfg(test)]
-mod tests;
-
 ghost use Rattle.std.specs.Prelude.{◌≡◌, ◌≢◌, ◌*◌, length, Some, OnOk, IfErr};
 ghost use Rattle.extent_groups.specs.declared.class.Class.TheVariants.{Mirrored};
 ghost use Rattle.extent_groups.specs.Cells.{cells};
 ghost use Rattle.extent_groups.specs.Units.{Pair, unit_at};
 ghost use Rattle.extent_groups.specs.Calls.{AreSized, IsPlace, FadesAt, if_ok, NoPlace, KeepsDrives};
-ghost use Rattle.extent_groups.specs.Stores.{unit_bytes, unit_of, AreSound, IsSlotOf, AreDrives, KeepsUnits, KeepsOthers, IsGone, IsOwn, IsOwnOf, LeavesSites};
+ghost use Rattle.extent_groups.specs.Stores.{unit_bytes, unit_of, AreSound, IsSlotOf, AreDrives, KeepsUnits, Wrote, NamesGone, IsOwn, IsOwnOf, LeavesSites};
 
 use extent_groups::{GroupTable, Place, StoreRefusal, read_place, write_place};
 use extents::Drive;
@@ -56,11 +53,10 @@ pub fn read<D: Drive>(
     requires drives { AreDrives D.units groups.now drives.old }
     requires unit { length unit.old ≡ unit_bytes groups.now }
     requires scratch { length _scratch.old ≡ 2 * unit_bytes groups.now }
-    requires sound { AreSound groups.now (cells D.units D.lost drives.old) }
     ensures ok { OnOk result (unit_of groups.now (cells D.units D.lost drives.new) slot ≡ Some unit.new) }
-    ensures gone { IfErr result (IsGone groups.now (cells D.units D.lost drives.new) slot) }
-    ensures units { KeepsUnits groups.now (cells D.units D.lost drives.old) (cells D.units D.lost drives.new) }
-    ensures sound { AreSound groups.now (cells D.units D.lost drives.new) }
+    ensures gone { IfErr result (NamesGone groups.now (cells D.units D.lost drives.new) slot) }
+    ensures units { AreSound groups.now (cells D.units D.lost drives.old) → KeepsUnits groups.now (cells D.units D.lost drives.old) (cells D.units D.lost drives.new) }
+    ensures sound { AreSound groups.now (cells D.units D.lost drives.old) → AreSound groups.now (cells D.units D.lost drives.new) }
     ensures touched { KeepsDrives D.units D.lost D.failures NoPlace drives.old drives.new }
     ensures drives { AreDrives D.units groups.now drives.new }
 {
@@ -83,11 +79,9 @@ pub fn write<D: Drive>(
     requires drives { AreDrives D.units groups.now drives.old }
     requires unit { length unit.now ≡ unit_bytes groups.now }
     requires scratch { length _scratch.old ≡ 2 * unit_bytes groups.now }
-    requires sound { AreSound groups.now (cells D.units D.lost drives.old) }
     ensures ok { OnOk result (unit_of groups.now (cells D.units D.lost drives.new) slot ≡ Some unit.now) }
-    ensures gone { IfErr result (IsGone groups.now (cells D.units D.lost drives.new) slot) }
-    ensures others { KeepsOthers groups.now (cells D.units D.lost drives.old) (cells D.units D.lost drives.new) slot }
-    ensures sound { AreSound groups.now (cells D.units D.lost drives.new) }
+    ensures gone { IfErr result (NamesGone groups.now (cells D.units D.lost drives.new) slot) }
+    ensures wrote { Wrote groups.now (cells D.units D.lost drives.old) (cells D.units D.lost drives.new) slot unit.now }
     ensures touched { KeepsDrives D.units D.lost D.failures (IsOwnOf groups.now slot) drives.old drives.new }
     ensures drives { AreDrives D.units groups.now drives.new }
 {

@@ -125,18 +125,18 @@ parity_leaves c two new row p i home parity u h sized sound fades gone w =
 
 -- the last way, whatever comes of it
 pub last_way : (c one two new : Cells) (row : List Place) (p i : ℕ) (home parity : Place) (u : List ℕ) (ok : Bool) → IsHome row p i home parity → AreSizedCells (length u) c
-    → IsSoundAt (length u) c (InStripe row p i) → Undone c one home parity → DidWrite one two home u false
+    → Undone c one home parity → DidWrite one two home u false
     → MatchBool ok (ParityWritten (length u) two new row i p u) (ParityMissed two new row i)
-    → (unit_at (length u) new (InStripe row p i) ≡ if_ok ok u) × LeavesSites (length u) c new (InStripe row p i)
-last_way c one two new row p i home parity u true h sized sound undone w outcome =
+    → (unit_at (length u) new (InStripe row p i) ≡ if_ok ok u) × (IsSoundAt (length u) c (InStripe row p i) → LeavesSites (length u) c new (InStripe row p i))
+last_way c one two new row p i home parity u true h sized undone w outcome =
     let fades : (x : Place) → FadesAt c two x = λ x. fades_trans (held c x) (held one x) (held two x) (undone.fades x) (unwritten_fades one two home u w x) in
-    ((parity_row c two new row p i home parity u h sized fades w.here outcome).unit, parity_leaves c two new row p i home parity u h sized sound fades w.here outcome)
-last_way c one two new row p i home parity u false h sized sound undone w outcome =
+    ((parity_row c two new row p i home parity u h sized fades w.here outcome).unit, λ sound. parity_leaves c two new row p i home parity u h sized sound fades w.here outcome)
+last_way c one two new row p i home parity u false h sized undone w outcome =
     let fades : (x : Place) → FadesAt c new x =
     λ x. fades_trans (held c x) (held two x) (held new x) (fades_trans (held c x) (held one x) (held two x) (undone.fades x) (unwritten_fades one two home u w x)) (outcome.fades x) in
     let gone : row_of new row i ≡ None = ap (held_in new) h.home_is ∙ stays_gone (held two home) (held new home) (outcome.fades home) w.here in (
       both_missing (length u) (length row) i outcome.missing.0 (row_of new row) outcome.missing.1 outcome.missing.2 gone outcome.missing.3,
-      fades_leave (length u) c new (InStripe row p i) sized h.whole sound fades,
+      λ sound. fades_leave (length u) c new (InStripe row p i) sized h.whole sound fades,
     )
 
 -- the parity written after all others were read

@@ -1,14 +1,22 @@
 -- The ways of a write: unit and parity by difference, the unit alone, the parity alone; and the exclusive or of the other members.
-use Rattle.std.specs.Prelude.{◌≡◌, ◌≢◌, ℕ, ◌<◌, ◌⊎◌, Option, Some, None, List, length, slice_get, replicate}
+use Rattle.std.specs.Prelude.{◌≡◌, ◌≢◌, ℕ, ◌/◌, ◌<◌, ◌⊎◌, Option, Some, None, List, length, slice_get, replicate}
 use Rattle.extent_groups.specs.declared.place.Place.{Place}
 use Rattle.extent_groups.specs.Groups.{Groups, members_of}
+use Rattle.extent_groups.specs.Geometry.{parity_of}
 use Rattle.extent_groups.specs.Cells.{Cells, held}
-use Rattle.extent_groups.specs.Units.{plus, add, put, total, row_of, places_of}
+use Rattle.extent_groups.specs.Units.{InStripe, plus, add, put, total, row_of, unit_at, places_of}
 use Rattle.extent_groups.specs.Calls.{FadesAt, IsPlace}
+use Rattle.extent_groups.specs.Stores.{unit_bytes}
 
 -- the places at an offset of all members
 abbrev pub row_at : Groups → ℕ → ℕ → List Place
 row_at groups group offset = places_of groups.segments (members_of groups group) offset
+
+-- the parity unit at an offset of a group: what its member holds, or where that is lost the exclusive or of all the others
+abbrev pub parity_unit : Groups → Cells → ℕ → ℕ → Option (List ℕ)
+parity_unit groups c group offset =
+    let parity = parity_of (length (members_of groups group)) (offset / 2) in
+    unit_at (unit_bytes groups) c (InStripe (row_at groups group offset) parity parity)
 
 -- each place of a row is one of the drives'
 abbrev pub IsRow : {D : Type 0} → (D → List (List ℕ)) → List D → List Place → Type 0

@@ -4,17 +4,17 @@
 mod difference;
 mod exclusive_or;
 mod others;
+mod parity;
 mod stripe;
-#[cfg(test)]
-mod tests;
 
 ghost use Rattle.std.specs.Prelude.{◌≡◌, ◌*◌, length, Some, OnOk, IfErr};
 ghost use Rattle.extent_groups.specs.declared.class.Class.TheVariants.{Parity};
 ghost use Rattle.extent_groups.specs.Cells.{cells};
 ghost use Rattle.extent_groups.specs.Calls.{NoPlace, KeepsDrives};
-ghost use Rattle.extent_groups.specs.Stores.{unit_bytes, unit_of, AreSound, IsSlotOf, AreDrives, KeepsUnits, KeepsOthers, IsGone, IsOwnOf};
+ghost use Rattle.extent_groups.specs.Stores.{unit_bytes, unit_of, AreSound, IsSlotOf, AreDrives, KeepsUnits, Wrote, NamesGone, IsOwnOf};
 
 pub use exclusive_or::xor_into;
+pub use parity::read_parity;
 use extent_groups::{GroupTable, SLOTS, StoreRefusal};
 use extents::Drive;
 
@@ -30,11 +30,10 @@ pub fn read<D: Drive>(
     requires drives { AreDrives D.units groups.now drives.old }
     requires unit { length unit.old ≡ unit_bytes groups.now }
     requires scratch { length scratch.old ≡ 2 * unit_bytes groups.now }
-    requires sound { AreSound groups.now (cells D.units D.lost drives.old) }
     ensures ok { OnOk result (unit_of groups.now (cells D.units D.lost drives.new) slot ≡ Some unit.new) }
-    ensures gone { IfErr result (IsGone groups.now (cells D.units D.lost drives.new) slot) }
-    ensures units { KeepsUnits groups.now (cells D.units D.lost drives.old) (cells D.units D.lost drives.new) }
-    ensures sound { AreSound groups.now (cells D.units D.lost drives.new) }
+    ensures gone { IfErr result (NamesGone groups.now (cells D.units D.lost drives.new) slot) }
+    ensures units { AreSound groups.now (cells D.units D.lost drives.old) → KeepsUnits groups.now (cells D.units D.lost drives.old) (cells D.units D.lost drives.new) }
+    ensures sound { AreSound groups.now (cells D.units D.lost drives.old) → AreSound groups.now (cells D.units D.lost drives.new) }
     ensures touched { KeepsDrives D.units D.lost D.failures NoPlace drives.old drives.new }
     ensures drives { AreDrives D.units groups.now drives.new }
 {
@@ -65,11 +64,9 @@ pub fn write<D: Drive>(
     requires drives { AreDrives D.units groups.now drives.old }
     requires unit { length unit.now ≡ unit_bytes groups.now }
     requires scratch { length scratch.old ≡ 2 * unit_bytes groups.now }
-    requires sound { AreSound groups.now (cells D.units D.lost drives.old) }
     ensures ok { OnOk result (unit_of groups.now (cells D.units D.lost drives.new) slot ≡ Some unit.now) }
-    ensures gone { IfErr result (IsGone groups.now (cells D.units D.lost drives.new) slot) }
-    ensures others { KeepsOthers groups.now (cells D.units D.lost drives.old) (cells D.units D.lost drives.new) slot }
-    ensures sound { AreSound groups.now (cells D.units D.lost drives.new) }
+    ensures gone { IfErr result (NamesGone groups.now (cells D.units D.lost drives.new) slot) }
+    ensures wrote { Wrote groups.now (cells D.units D.lost drives.old) (cells D.units D.lost drives.new) slot unit.now }
     ensures touched { KeepsDrives D.units D.lost D.failures (IsOwnOf groups.now slot) drives.old drives.new }
     ensures drives { AreDrives D.units groups.now drives.new }
 {

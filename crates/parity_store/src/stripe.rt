@@ -34,7 +34,7 @@ pub(crate) fn read_stripe<D: Drive>(
     unit: &mut [u8],
     part: &mut [u8],
 ) -> bool
-    requires whole { IsWhole (InStripe (row_at groups.now group at.now.offset) at.now.parity at.now.member) }
+    requires member { at.now.member < length (row_at groups.now group at.now.offset) }
     requires few { length (members_of groups.now group) ≤ 8 }
     requires offset { at.now.offset < extent_units groups.now.segments }
     requires row { IsRow D.units drives.old (row_at groups.now group at.now.offset) }
@@ -108,9 +108,8 @@ pub(crate) fn write_stripe<D: Drive>(
     requires size { AreSized D.units (length unit.now) drives.old }
     requires old { length old.old ≡ length unit.now }
     requires sum { length sum.old ≡ length unit.now }
-    requires sound { IsSoundAt (length unit.now) (cells D.units D.lost drives.old) (InStripe (row_at groups.now group at.now.offset) at.now.parity at.now.member) }
     ensures unit { unit_at (length unit.now) (cells D.units D.lost drives.new) (InStripe (row_at groups.now group at.now.offset) at.now.parity at.now.member) ≡ if_ok result unit.now }
-    ensures leaves { LeavesSites (length unit.now) (cells D.units D.lost drives.old) (cells D.units D.lost drives.new) (InStripe (row_at groups.now group at.now.offset) at.now.parity at.now.member) }
+    ensures leaves { IsSoundAt (length unit.now) (cells D.units D.lost drives.old) (InStripe (row_at groups.now group at.now.offset) at.now.parity at.now.member) → LeavesSites (length unit.now) (cells D.units D.lost drives.old) (cells D.units D.lost drives.new) (InStripe (row_at groups.now group at.now.offset) at.now.parity at.now.member) }
     ensures touched { KeepsDrives D.units D.lost D.failures (IsOwn (InStripe (row_at groups.now group at.now.offset) at.now.parity at.now.member)) drives.old drives.new }
 {
     let home = groups.place(group, at.member, at.offset);

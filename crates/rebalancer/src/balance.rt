@@ -6,10 +6,10 @@ ghost use Rattle.rebalancer.specs.Balancing.{IsBalance, MayGive, PairBefore, Eve
 ghost use Rattle.rebalancer.specs.Choosing.{AreDrives, Beats, MayBeChoice, IsBestOf};
 
 use crate::Shift;
-use crate::drives::{DRIVES, is_present};
+use crate::drives::is_present;
 use crate::groups::{Carrier, first_to_give};
 use extent_groups::{GroupTable, Member};
-use extents::ExtentTable;
+use extents::{DRIVES, ExtentTable};
 
 /// A drive that may give an extent to another.
 #[derive(Clone, Copy, Debug, PartialEq, Eq)]

@@ -2,10 +2,7 @@
 ghost use Rattle.std.specs.Prelude.{◌↔◌, ◌<◌, IsTrue};
 ghost use Rattle.rebalancer.specs.Drives.{IsPresent, HasRoom};
 
-use extents::ExtentTable;
-
-/// The most drives that an array has.
-pub const DRIVES: usize = 16;
+use extents::{DRIVES, ExtentTable};
 
 /// Whether there is such a drive, and it isn't lost.
 pub(crate) fn is_present(extents: &ExtentTable, lost: &[bool; DRIVES], drive: u8) -> bool

@@ -6,10 +6,7 @@ mod drives;
 mod groups;
 mod rebuild;
 mod shift;
-#[cfg(test)]
-mod tests;
 
 pub use balance::balance_plan;
-pub use drives::DRIVES;
 pub use rebuild::rebuild_plan;
 pub use shift::Shift;

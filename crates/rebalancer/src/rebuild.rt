@@ -4,10 +4,10 @@ ghost use Rattle.rebalancer.specs.Rebuilding.{IsTarget, IsBestTarget, IsRebuild}
 ghost use Rattle.rebalancer.specs.Choosing.{IsLighter};
 
 use crate::Shift;
-use crate::drives::{DRIVES, has_room};
+use crate::drives::has_room;
 use crate::groups::{first_on, member_on};
 use extent_groups::{GroupTable, Member};
-use extents::ExtentTable;
+use extents::{DRIVES, ExtentTable};
 
 /// The next extent to move off a lost drive: that of the lowest group with a member on it, onto the present drive
 /// without a member of that group that has the least load of those with a free extent. None where the drive isn't

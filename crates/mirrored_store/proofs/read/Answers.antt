@@ -1,6 +1,6 @@
 use Rattle.std.proofs.Common.{inl, inr, refl}
 use Rattle.extent_groups.proofs.Sites.{site_places}
-use Rattle.extent_groups.proofs.StoreCalls.{read_keeps}
+use Rattle.extent_groups.proofs.StoreCalls.{read_keeps, drives_kept}
 use Rattle.mirrored_store.proofs.read.Goals as goal
 
 pub read_pair-requires-clause-first : goal.read_pair-requires-clause-first
@@ -10,19 +10,19 @@ pub read_pair-requires-clause-second : goal.read_pair-requires-clause-second
 read_pair-requires-clause-second g c = site_places _ _ _ c.args.slot _ c.pair_of.ensures.groups c.requires.drives c.pair_of.ensures.site _ (inr refl)
 
 pub returns-then-read_pair-clause-units : goal.returns-then-read_pair-clause-units
-returns-then-read_pair-clause-units g c = (read_keeps _ _ _ c.pair_of.ensures.groups c.requires.drives c.requires.sound c.read_pair.ensures.fades c.read_pair.ensures.touched).all
+returns-then-read_pair-clause-units g c = λ s. (read_keeps _ _ _ c.pair_of.ensures.groups c.requires.drives s c.read_pair.ensures.fades c.read_pair.ensures.touched).all
 
 pub returns-then-read_pair-clause-sound : goal.returns-then-read_pair-clause-sound
-returns-then-read_pair-clause-sound g c = (read_keeps _ _ _ c.pair_of.ensures.groups c.requires.drives c.requires.sound c.read_pair.ensures.fades c.read_pair.ensures.touched).sound
+returns-then-read_pair-clause-sound g c = λ s. (read_keeps _ _ _ c.pair_of.ensures.groups c.requires.drives s c.read_pair.ensures.fades c.read_pair.ensures.touched).sound
 
 pub returns-then-read_pair-clause-drives : goal.returns-then-read_pair-clause-drives
-returns-then-read_pair-clause-drives g c = (read_keeps _ _ _ c.pair_of.ensures.groups c.requires.drives c.requires.sound c.read_pair.ensures.fades c.read_pair.ensures.touched).drives
+returns-then-read_pair-clause-drives g c = drives_kept _ c.read_pair.ensures.touched c.requires.drives
 
 pub returns-clause-units : goal.returns-clause-units
-returns-clause-units g c = (read_keeps _ _ _ c.pair_of.ensures.groups c.requires.drives c.requires.sound c.read_pair.ensures.fades c.read_pair.ensures.touched).all
+returns-clause-units g c = λ s. (read_keeps _ _ _ c.pair_of.ensures.groups c.requires.drives s c.read_pair.ensures.fades c.read_pair.ensures.touched).all
 
 pub returns-clause-sound : goal.returns-clause-sound
-returns-clause-sound g c = (read_keeps _ _ _ c.pair_of.ensures.groups c.requires.drives c.requires.sound c.read_pair.ensures.fades c.read_pair.ensures.touched).sound
+returns-clause-sound g c = λ s. (read_keeps _ _ _ c.pair_of.ensures.groups c.requires.drives s c.read_pair.ensures.fades c.read_pair.ensures.touched).sound
 
 pub returns-clause-drives : goal.returns-clause-drives
-returns-clause-drives g c = (read_keeps _ _ _ c.pair_of.ensures.groups c.requires.drives c.requires.sound c.read_pair.ensures.fades c.read_pair.ensures.touched).drives
+returns-clause-drives g c = drives_kept _ c.read_pair.ensures.touched c.requires.drives

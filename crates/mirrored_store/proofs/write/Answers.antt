@@ -1,6 +1,7 @@
-use Rattle.std.proofs.Common.{inl, inr, refl}
+use Rattle.std.proofs.Common.{length, inl, inr, refl}
 use Rattle.extent_groups.proofs.Sites.{site_places}
-use Rattle.extent_groups.proofs.StoreCalls.{write_keeps, site_whole}
+use Rattle.extent_groups.proofs.StoreCalls.{site_wrote, site_whole, drives_kept}
+use Rattle.extent_groups.proofs.DriveCalls.{keeps_more}
 use Rattle.mirrored_store.proofs.write.Goals as goal
 
 pub write_pair-requires-clause-first : goal.write_pair-requires-clause-first
@@ -12,34 +13,22 @@ write_pair-requires-clause-second g c = site_places _ _ _ c.args.slot _ c.pair_o
 pub write_pair-requires-clause-apart : goal.write_pair-requires-clause-apart
 write_pair-requires-clause-apart g c = site_whole _ c.args.slot _ c.pair_of.ensures.groups c.pair_of.ensures.site
 
-pub returns-then-write_pair-clause-others : goal.returns-then-write_pair-clause-others
-returns-then-write_pair-clause-others g c =
-    (write_keeps _ _ _ _ _ _ c.pair_of.ensures.groups c.requires.drives c.requires.sound c.pair_of.ensures.site c.requires.unit c.write_pair.ensures.leaves c.write_pair.ensures.touched).others
-
-pub returns-then-write_pair-clause-sound : goal.returns-then-write_pair-clause-sound
-returns-then-write_pair-clause-sound g c =
-    (write_keeps _ _ _ _ _ _ c.pair_of.ensures.groups c.requires.drives c.requires.sound c.pair_of.ensures.site c.requires.unit c.write_pair.ensures.leaves c.write_pair.ensures.touched).sound
+pub returns-then-write_pair-clause-wrote : goal.returns-then-write_pair-clause-wrote
+returns-then-write_pair-clause-wrote g c =
+    site_wrote g.D.Drive.units g.D.Drive.lost c.args.groups.now c.args.slot _ (length c.args.unit.now) c.args.drives.now _ c.args.unit.now c.write_pair.result c.pair_of.ensures.groups c.pair_of.ensures.site c.requires.unit c.write_pair.ensures.unit (λ _. c.write_pair.ensures.leaves)
 
 pub returns-then-write_pair-clause-touched : goal.returns-then-write_pair-clause-touched
-returns-then-write_pair-clause-touched g c =
-    (write_keeps _ _ _ _ _ _ c.pair_of.ensures.groups c.requires.drives c.requires.sound c.pair_of.ensures.site c.requires.unit c.write_pair.ensures.leaves c.write_pair.ensures.touched).touched
+returns-then-write_pair-clause-touched g c = keeps_more (λ x own. (_, c.pair_of.ensures.site, own)) c.write_pair.ensures.touched
 
 pub returns-then-write_pair-clause-drives : goal.returns-then-write_pair-clause-drives
-returns-then-write_pair-clause-drives g c =
-    (write_keeps _ _ _ _ _ _ c.pair_of.ensures.groups c.requires.drives c.requires.sound c.pair_of.ensures.site c.requires.unit c.write_pair.ensures.leaves c.write_pair.ensures.touched).drives
+returns-then-write_pair-clause-drives g c = drives_kept _ c.write_pair.ensures.touched c.requires.drives
 
-pub returns-clause-others : goal.returns-clause-others
-returns-clause-others g c =
-    (write_keeps _ _ _ _ _ _ c.pair_of.ensures.groups c.requires.drives c.requires.sound c.pair_of.ensures.site c.requires.unit c.write_pair.ensures.leaves c.write_pair.ensures.touched).others
-
-pub returns-clause-sound : goal.returns-clause-sound
-returns-clause-sound g c =
-    (write_keeps _ _ _ _ _ _ c.pair_of.ensures.groups c.requires.drives c.requires.sound c.pair_of.ensures.site c.requires.unit c.write_pair.ensures.leaves c.write_pair.ensures.touched).sound
+pub returns-clause-wrote : goal.returns-clause-wrote
+returns-clause-wrote g c =
+    site_wrote g.D.Drive.units g.D.Drive.lost c.args.groups.now c.args.slot _ (length c.args.unit.now) c.args.drives.now _ c.args.unit.now c.write_pair.result c.pair_of.ensures.groups c.pair_of.ensures.site c.requires.unit c.write_pair.ensures.unit (λ _. c.write_pair.ensures.leaves)
 
 pub returns-clause-touched : goal.returns-clause-touched
-returns-clause-touched g c =
-    (write_keeps _ _ _ _ _ _ c.pair_of.ensures.groups c.requires.drives c.requires.sound c.pair_of.ensures.site c.requires.unit c.write_pair.ensures.leaves c.write_pair.ensures.touched).touched
+returns-clause-touched g c = keeps_more (λ x own. (_, c.pair_of.ensures.site, own)) c.write_pair.ensures.touched
 
 pub returns-clause-drives : goal.returns-clause-drives
-returns-clause-drives g c =
-    (write_keeps _ _ _ _ _ _ c.pair_of.ensures.groups c.requires.drives c.requires.sound c.pair_of.ensures.site c.requires.unit c.write_pair.ensures.leaves c.write_pair.ensures.touched).drives
+returns-clause-drives g c = drives_kept _ c.write_pair.ensures.touched c.requires.drives

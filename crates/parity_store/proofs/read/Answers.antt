@@ -1,27 +1,27 @@
 use Rattle.extent_groups.proofs.Sites.{site_places}
-use Rattle.extent_groups.proofs.StoreCalls.{read_keeps, site_whole}
+use Rattle.extent_groups.proofs.StoreCalls.{read_keeps, site_whole, drives_kept}
 use Rattle.parity_store.proofs.read.Goals as goal
 
-pub read_stripe-requires-clause-whole : goal.read_stripe-requires-clause-whole
-read_stripe-requires-clause-whole g c = site_whole _ c.args.slot _ c.row_of-at.ensures.groups c.row_of-at.ensures.site
+pub read_stripe-requires-clause-member : goal.read_stripe-requires-clause-member
+read_stripe-requires-clause-member g c = (site_whole _ c.args.slot _ c.row_of-at.ensures.groups c.row_of-at.ensures.site).0
 
 pub read_stripe-requires-clause-row : goal.read_stripe-requires-clause-row
 read_stripe-requires-clause-row g c = λ k x there. site_places _ _ _ c.args.slot _ c.row_of-at.ensures.groups c.requires.drives c.row_of-at.ensures.site x (k, there)
 
 pub returns-then-read_stripe-clause-units : goal.returns-then-read_stripe-clause-units
-returns-then-read_stripe-clause-units g c = (read_keeps _ _ _ c.row_of-at.ensures.groups c.requires.drives c.requires.sound c.read_stripe.ensures.fades c.read_stripe.ensures.touched).all
+returns-then-read_stripe-clause-units g c = λ s. (read_keeps _ _ _ c.row_of-at.ensures.groups c.requires.drives s c.read_stripe.ensures.fades c.read_stripe.ensures.touched).all
 
 pub returns-then-read_stripe-clause-sound : goal.returns-then-read_stripe-clause-sound
-returns-then-read_stripe-clause-sound g c = (read_keeps _ _ _ c.row_of-at.ensures.groups c.requires.drives c.requires.sound c.read_stripe.ensures.fades c.read_stripe.ensures.touched).sound
+returns-then-read_stripe-clause-sound g c = λ s. (read_keeps _ _ _ c.row_of-at.ensures.groups c.requires.drives s c.read_stripe.ensures.fades c.read_stripe.ensures.touched).sound
 
 pub returns-then-read_stripe-clause-drives : goal.returns-then-read_stripe-clause-drives
-returns-then-read_stripe-clause-drives g c = (read_keeps _ _ _ c.row_of-at.ensures.groups c.requires.drives c.requires.sound c.read_stripe.ensures.fades c.read_stripe.ensures.touched).drives
+returns-then-read_stripe-clause-drives g c = drives_kept _ c.read_stripe.ensures.touched c.requires.drives
 
 pub returns-clause-units : goal.returns-clause-units
-returns-clause-units g c = (read_keeps _ _ _ c.row_of-at.ensures.groups c.requires.drives c.requires.sound c.read_stripe.ensures.fades c.read_stripe.ensures.touched).all
+returns-clause-units g c = λ s. (read_keeps _ _ _ c.row_of-at.ensures.groups c.requires.drives s c.read_stripe.ensures.fades c.read_stripe.ensures.touched).all
 
 pub returns-clause-sound : goal.returns-clause-sound
-returns-clause-sound g c = (read_keeps _ _ _ c.row_of-at.ensures.groups c.requires.drives c.requires.sound c.read_stripe.ensures.fades c.read_stripe.ensures.touched).sound
+returns-clause-sound g c = λ s. (read_keeps _ _ _ c.row_of-at.ensures.groups c.requires.drives s c.read_stripe.ensures.fades c.read_stripe.ensures.touched).sound
 
 pub returns-clause-drives : goal.returns-clause-drives
-returns-clause-drives g c = (read_keeps _ _ _ c.row_of-at.ensures.groups c.requires.drives c.requires.sound c.read_stripe.ensures.fades c.read_stripe.ensures.touched).drives
+returns-clause-drives g c = drives_kept _ c.read_stripe.ensures.touched c.requires.drives

@@ -1,5 +1,7 @@
+use Rattle.std.proofs.Common.{length}
 use Rattle.extent_groups.proofs.Sites.{site_places}
-use Rattle.extent_groups.proofs.StoreCalls.{write_keeps, site_whole, sound_site}
+use Rattle.extent_groups.proofs.StoreCalls.{site_wrote, site_whole, drives_kept}
+use Rattle.extent_groups.proofs.DriveCalls.{keeps_more}
 use Rattle.parity_store.proofs.write.Goals as goal
 
 pub write_stripe-requires-clause-whole : goal.write_stripe-requires-clause-whole
@@ -8,37 +10,22 @@ write_stripe-requires-clause-whole g c = site_whole _ c.args.slot _ c.row_of-at.
 pub write_stripe-requires-clause-row : goal.write_stripe-requires-clause-row
 write_stripe-requires-clause-row g c = λ k x there. site_places _ _ _ c.args.slot _ c.row_of-at.ensures.groups c.requires.drives c.row_of-at.ensures.site x (k, there)
 
-pub write_stripe-requires-clause-sound : goal.write_stripe-requires-clause-sound
-write_stripe-requires-clause-sound g c = sound_site c.args.groups.now _ c.args.slot _ _ c.row_of-at.ensures.site c.requires.unit c.requires.sound
-
-pub returns-then-write_stripe-clause-others : goal.returns-then-write_stripe-clause-others
-returns-then-write_stripe-clause-others g c =
-    (write_keeps _ _ _ _ _ _ c.row_of-at.ensures.groups c.requires.drives c.requires.sound c.row_of-at.ensures.site c.requires.unit c.write_stripe.ensures.leaves c.write_stripe.ensures.touched).others
-
-pub returns-then-write_stripe-clause-sound : goal.returns-then-write_stripe-clause-sound
-returns-then-write_stripe-clause-sound g c =
-    (write_keeps _ _ _ _ _ _ c.row_of-at.ensures.groups c.requires.drives c.requires.sound c.row_of-at.ensures.site c.requires.unit c.write_stripe.ensures.leaves c.write_stripe.ensures.touched).sound
+pub returns-then-write_stripe-clause-wrote : goal.returns-then-write_stripe-clause-wrote
+returns-then-write_stripe-clause-wrote g c =
+    site_wrote g.D.Drive.units g.D.Drive.lost c.args.groups.now c.args.slot _ (length c.args.unit.now) c.args.drives.now _ c.args.unit.now c.write_stripe.result c.row_of-at.ensures.groups c.row_of-at.ensures.site c.requires.unit c.write_stripe.ensures.unit c.write_stripe.ensures.leaves
 
 pub returns-then-write_stripe-clause-touched : goal.returns-then-write_stripe-clause-touched
-returns-then-write_stripe-clause-touched g c =
-    (write_keeps _ _ _ _ _ _ c.row_of-at.ensures.groups c.requires.drives c.requires.sound c.row_of-at.ensures.site c.requires.unit c.write_stripe.ensures.leaves c.write_stripe.ensures.touched).touched
+returns-then-write_stripe-clause-touched g c = keeps_more (λ x own. (_, c.row_of-at.ensures.site, own)) c.write_stripe.ensures.touched
 
 pub returns-then-write_stripe-clause-drives : goal.returns-then-write_stripe-clause-drives
-returns-then-write_stripe-clause-drives g c =
-    (write_keeps _ _ _ _ _ _ c.row_of-at.ensures.groups c.requires.drives c.requires.sound c.row_of-at.ensures.site c.requires.unit c.write_stripe.ensures.leaves c.write_stripe.ensures.touched).drives
+returns-then-write_stripe-clause-drives g c = drives_kept _ c.write_stripe.ensures.touched c.requires.drives
 
-pub returns-clause-others : goal.returns-clause-others
-returns-clause-others g c =
-    (write_keeps _ _ _ _ _ _ c.row_of-at.ensures.groups c.requires.drives c.requires.sound c.row_of-at.ensures.site c.requires.unit c.write_stripe.ensures.leaves c.write_stripe.ensures.touched).others
-
-pub returns-clause-sound : goal.returns-clause-sound
-returns-clause-sound g c =
-    (write_keeps _ _ _ _ _ _ c.row_of-at.ensures.groups c.requires.drives c.requires.sound c.row_of-at.ensures.site c.requires.unit c.write_stripe.ensures.leaves c.write_stripe.ensures.touched).sound
+pub returns-clause-wrote : goal.returns-clause-wrote
+returns-clause-wrote g c =
+    site_wrote g.D.Drive.units g.D.Drive.lost c.args.groups.now c.args.slot _ (length c.args.unit.now) c.args.drives.now _ c.args.unit.now c.write_stripe.result c.row_of-at.ensures.groups c.row_of-at.ensures.site c.requires.unit c.write_stripe.ensures.unit c.write_stripe.ensures.leaves
 
 pub returns-clause-touched : goal.returns-clause-touched
-returns-clause-touched g c =
-    (write_keeps _ _ _ _ _ _ c.row_of-at.ensures.groups c.requires.drives c.requires.sound c.row_of-at.ensures.site c.requires.unit c.write_stripe.ensures.leaves c.write_stripe.ensures.touched).touched
+returns-clause-touched g c = keeps_more (λ x own. (_, c.row_of-at.ensures.site, own)) c.write_stripe.ensures.touched
 
 pub returns-clause-drives : goal.returns-clause-drives
-returns-clause-drives g c =
-    (write_keeps _ _ _ _ _ _ c.row_of-at.ensures.groups c.requires.drives c.requires.sound c.row_of-at.ensures.site c.requires.unit c.write_stripe.ensures.leaves c.write_stripe.ensures.touched).drives
+returns-clause-drives g c = drives_kept _ c.write_stripe.ensures.touched c.requires.drives

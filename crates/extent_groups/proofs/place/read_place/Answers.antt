@@ -2,6 +2,7 @@ use Rattle.std.proofs.Common.{ap, ◌∙◌, sym}
 use Rattle.std.specs.Prelude.{not}
 use Rattle.std.proofs.lemmas.Option.{slice_get-get_or}
 use Rattle.extent_groups.proofs.DriveCalls.{told_ok, is_err-not, did_read, keeps_one, kept_read}
+use Rattle.extent_groups.proofs.Places.{get-set_other}
 use Rattle.extent_groups.proofs.place.read_place.Goals as goal
 
 pub returns-clause-read : goal.returns-clause-read
@@ -19,3 +20,6 @@ returns-clause-drives g c =
     (kept_read g.D.Drive.units g.D.Drive.lost g.D.Drive.failures c.args.place _ _ c.is_ok.result
     (record { lost_is = c.read_unit.ensures.lost ∙ is_err-not c.read_unit.result ∙ ap not (sym c.is_ok.ensures.value); stays = c.read_unit.ensures.stays; count = c.read_unit.ensures.count })
     c.read_unit.ensures.units)
+
+pub returns-clause-others : goal.returns-clause-others
+returns-clause-others g c = λ d other. get-set_other c.args.drives.now c.args.place.drive d _ other

@@ -2,6 +2,7 @@ use Rattle.std.proofs.Common.{ap, ◌∙◌, sym}
 use Rattle.std.specs.Prelude.{not}
 use Rattle.std.proofs.lemmas.Option.{slice_get-get_or}
 use Rattle.extent_groups.proofs.DriveCalls.{told_ok, told_err, is_err-not, did_write, keeps_one, kept_write}
+use Rattle.extent_groups.proofs.Places.{get-set_other}
 use Rattle.extent_groups.proofs.place.write_place.Goals as goal
 
 pub returns-clause-written : goal.returns-clause-written
@@ -21,3 +22,6 @@ returns-clause-drives g c =
     (record { lost_is = c.write_unit.ensures.lost ∙ is_err-not c.write_unit.result ∙ ap not (sym c.is_ok.ensures.value); stays = c.write_unit.ensures.stays; count = c.write_unit.ensures.count })
     (λ e. told_ok c.write_unit.result c.write_unit.ensures.written (sym c.is_ok.ensures.value ∙ e))
     (λ e. told_err c.write_unit.result c.write_unit.ensures.unwritten (sym c.is_ok.ensures.value ∙ e)))
+
+pub returns-clause-others : goal.returns-clause-others
+returns-clause-others g c = λ d other. get-set_other c.args.drives.now c.args.place.drive d _ other

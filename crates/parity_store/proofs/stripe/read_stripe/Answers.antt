@@ -17,7 +17,7 @@ add_others-requires-clause-size g c =
 pub returns-clause-unit : goal.returns-clause-unit
 returns-clause-unit g c =
     rebuilt (length c.args.unit.now) (cells g.D.Drive.units g.D.Drive.lost c.args.drives.now) (cells g.D.Drive.units g.D.Drive.lost c.read_place.new.drives) (cells g.D.Drive.units g.D.Drive.lost c.add_others.new.drives) (row_at c.args.groups.now c.args.group c.args.at.now.offset) c.args.at.now.parity c.args.at.now.member c.place-home.result c.read_place.new.unit c.add_others.new.sum c.add_others.result
-    c.requires.whole.0 c.place-home.ensures.place c.if-read_place.ensures.read
+    c.requires.member c.place-home.ensures.place c.if-read_place.ensures.read
     (from_zeros (length c.args.unit.now) (cells g.D.Drive.units g.D.Drive.lost c.read_place.new.drives) (cells g.D.Drive.units g.D.Drive.lost c.add_others.new.drives) (row_at c.args.groups.now c.args.group c.args.at.now.offset) c.args.at.now.member c.clear.new.unit c.add_others.new.sum c.add_others.result
     (c.clear.ensures ∙ ap (λ n. replicate n 0) c.read_place.auto.unit) c.add_others.ensures.outcome)
 

@@ -1,0 +1,181 @@
+// Where slots lie, against a model of the geometry that was written apart.
+use crate::cases::PLACES;
+use crate::tables::{Tables, on};
+use extent_groups::{Class, Copies, GroupTable, Role, Spot, Stripe};
+use std::alloc::Global;
+use std::process::Abort;
+use std::test::Fail;
+
+/// The copies of a slot that is seen to be a mirrored group's.
+pub(crate) fn copies_seen(groups: &GroupTable, group: u16, index: u16) -> Option<Copies> {
+    if index >= groups.slots_of(group) {
+        return None;
+    }
+    match groups.class_of(group) {
+        Some(Class::Mirrored) => Some(groups.copies(group, index)),
+        _ => None,
+    }
+}
+
+/// The stripe of a slot that is seen to be a parity group's.
+pub(crate) fn stripe_seen(groups: &GroupTable, group: u16, index: u16) -> Option<Stripe> {
+    if index >= groups.slots_of(group) {
+        return None;
+    }
+    match groups.class_of(group) {
+        Some(Class::Parity) => Some(groups.stripe_of(group, index)),
+        _ => None,
+    }
+}
+
+/// A group of so many members, under number 0.
+fn group_of(
+    rt: &impl Abort,
+    alloc: Global,
+    class: Class,
+    members: u8,
+    segments: u8,
+) -> Result<Tables, Fail> {
+    let mut tables = Tables::new(rt, alloc, 8, segments as u32)?;
+    let all = [
+        on(0, 0),
+        on(1, 0),
+        on(2, 0),
+        on(3, 0),
+        on(4, 0),
+        on(5, 0),
+        on(6, 0),
+        on(7, 0),
+    ];
+    assert!(rt; members <= 8);
+    assert!(rt;
+        tables
+            .put(rt, alloc, 0, class, &all[..members as usize])
+            .is_ok()
+    );
+    Ok(tables)
+}
+
+fn spot(member: u8, offset: u8) -> Spot {
+    Spot {
+        member,
+        offset: offset as u16,
+    }
+}
+
+/// What lies at a unit of a group that is seen to have it.
+fn role_seen(groups: &GroupTable, group: u16, member: u8, offset: u8) -> Option<Role> {
+    if member as usize >= groups.members(group).len() {
+        return None;
+    }
+    if offset as u32 >= groups.shape().extent_units() {
+        return None;
+    }
+    Some(groups.role(group, member, offset as u16))
+}
+
+/// Whether the units of a row of the table tell the row's index.
+fn is_told_back(rt: &impl Abort, alloc: Global, row: &[u8; 8]) -> Result<bool, Fail> {
+    let [
+        class,
+        members,
+        segments,
+        index,
+        member,
+        offset,
+        other,
+        other_offset,
+    ] = *row;
+    let class = if class == 0 {
+        Class::Mirrored
+    } else {
+        Class::Parity
+    };
+    let tables = group_of(rt, alloc, class, members, segments)?;
+    let slot = Some(Role::Slot(index as u16));
+    let second = if class == Class::Mirrored {
+        slot
+    } else {
+        Some(Role::ParityUnit)
+    };
+    Ok(
+        role_seen(&tables.groups, 0, member, offset) == slot
+            && role_seen(&tables.groups, 0, other, other_offset) == second,
+    )
+}
+
+/// Whether a row of the table is what the geometry says: class, members, segments, index, and two units.
+fn is_told(rt: &impl Abort, alloc: Global, row: &[u8; 8]) -> Result<bool, Fail> {
+    let [
+        class,
+        members,
+        segments,
+        index,
+        member,
+        offset,
+        other,
+        other_offset,
+    ] = *row;
+    let class = if class == 0 {
+        Class::Mirrored
+    } else {
+        Class::Parity
+    };
+    let tables = group_of(rt, alloc, class, members, segments)?;
+    Ok(match class {
+        Class::Mirrored => copies_seen(&tables.groups, 0, index as u16)
+            == Some(Copies {
+                first: spot(member, offset),
+                second: spot(other, other_offset),
+            }),
+        Class::Parity => {
+            let told = Stripe {
+                stripe: offset / 2,
+                member,
+                offset: offset as u16,
+                parity: other,
+            };
+            stripe_seen(&tables.groups, 0, index as u16) == Some(told) && offset == other_offset
+        }
+    })
+}
+
+#[test]
+fn every_index_lies_where_the_table_says(rt: HostRuntime) -> Result<(), Fail> {
+    for row in &PLACES {
+        assert!(rt; is_told(&rt, rt.alloc(), row)?, "{row:?}");
+        assert!(rt; is_told_back(&rt, rt.alloc(), row)?, "{row:?}");
+    }
+    Ok(())
+}
+
+#[test]
+fn an_odd_segment_is_used_by_no_mirrored_slot(rt: HostRuntime) -> Result<(), Fail> {
+    for (class, members, segments, slots) in [
+        (Class::Mirrored, 3, 2, 6),
+        (Class::Mirrored, 3, 3, 8),
+        (Class::Parity, 3, 2, 8),
+        (Class::Parity, 8, 8, 112),
+    ] {
+        assert_eq!(rt;
+            group_of(&rt, rt.alloc(), class, members, segments)?
+                .groups
+                .slots_of(0),
+            slots
+        );
+    }
+    Ok(())
+}
+
+#[test]
+fn an_odd_segment_lies_on_the_last_member_unused(rt: HostRuntime) -> Result<(), Fail> {
+    let odd = group_of(&rt, rt.alloc(), Class::Mirrored, 3, 3)?;
+    for offset in 4..6 {
+        assert_eq!(rt; role_seen(&odd.groups, 0, 2, offset), Some(Role::Unused));
+        assert_eq!(rt;
+            role_seen(&odd.groups, 0, 1, offset),
+            Some(Role::Slot(offset as u16 + 2))
+        );
+    }
+    Ok(())
+}

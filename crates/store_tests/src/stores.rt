@@ -1,0 +1,307 @@
+// Both stores: one drive lost at any call, with a second one lost before or not, changes no answer.
+use crate::rig::{Rig, SIZE, is_slot};
+use crate::slow::{holds, peek};
+use extent_groups::{Class, GroupTable, Member, SLOTS, StoreRefusal};
+use extents::{Drive, MemDrive};
+use parity_store::xor_into;
+use std::alloc::{AllocError, Global};
+use std::process::Abort;
+use std::test::Fail;
+
+/// The byte that the tests write over what slots were given.
+const NEW: u8 = 200;
+
+/// The unit that a slot is given before a loss: every byte tells the slot, header and payload.
+fn given(slot: u16, at: usize) -> u8 {
+    (slot % 101) as u8 ^ (at % 97) as u8 ^ (slot / SLOTS % 2) as u8 * 128
+}
+
+fn give(unit: &mut [u8], slot: u16) {
+    for (at, byte) in unit.iter_mut().enumerate() {
+        *byte = given(slot, at);
+    }
+}
+
+fn is_given(unit: &[u8], slot: u16) -> bool {
+    unit.iter()
+        .enumerate()
+        .all(|(at, byte)| *byte == given(slot, at))
+}
+
+fn is_all(unit: &[u8], wanted: u8) -> bool {
+    unit.iter().all(|byte| *byte == wanted)
+}
+
+/// Gives each slot of both groups a unit of its own.
+fn fill(rt: &impl Abort, rig: &mut Rig) {
+    for slot in 0..2 * SLOTS {
+        if rig.has(slot) {
+            give(&mut rig.unit, slot);
+            assert!(rt; rig.write(rt, slot).is_ok());
+        }
+    }
+}
+
+/// A store under a loss: which slot is written, and which drive is lost at which of its calls, or before all.
+#[derive(Clone, Copy)]
+struct Case {
+    class: Class,
+    drives: u8,
+    segments: u32,
+    slot: u16,
+    fused: usize,
+    call: u64,
+    lost: Option<usize>,
+}
+
+/// Writes and reads a slot over a loss; the groups and drives then, and whether each call was answered.
+fn run(rt: &impl Abort, alloc: Global, case: &Case) -> Result<(Rig, bool, bool), AllocError> {
+    let mut rig = Rig::new(rt, alloc, case.class, case.drives, case.segments)?;
+    fill(rt, &mut rig);
+    if let Some(drive) = case.lost {
+        rig.lose(rt, drive);
+    }
+    rig.fuse(rt, case.fused, case.call);
+    let wrote = rig.write_all(rt, case.slot, NEW);
+    assert!(rt; wrote.is_ok() || wrote == Err(StoreRefusal::Gone(case.slot)));
+    let read = rig.read(rt, case.slot);
+    assert!(rt;
+        if read.is_ok() {
+            is_all(&rig.unit, NEW)
+        } else {
+            read == Err(StoreRefusal::Gone(case.slot))
+        }
+    );
+    rig.fuse(rt, case.fused, 1000000);
+    Ok((rig, wrote.is_ok(), read.is_ok()))
+}
+
+/// Each slot has the unit that it was last given, or is gone with a second drive; whether the written one has one.
+fn stand(
+    rt: &impl Abort,
+    case: &Case,
+    groups: &GroupTable,
+    drives: &mut [MemDrive],
+    unit: &mut [u8],
+    part: &mut [u8],
+) -> bool {
+    let mut found = false;
+    for slot in 0..2 * SLOTS {
+        if is_slot(groups, case.class, slot) {
+            let there = holds(rt, groups, drives, case.class, slot, unit, part);
+            if slot == case.slot {
+                assert!(rt; !there || is_all(unit, NEW));
+                found = there;
+            } else {
+                assert!(rt;
+                    if there {
+                        is_given(unit, slot)
+                    } else {
+                        case.lost.is_some()
+                    }
+                );
+            }
+        }
+    }
+    found
+}
+
+/// No answer is changed by the loss.
+fn swept(rt: &impl Abort, alloc: Global, case: &Case) -> Result<(), AllocError> {
+    let (rig, wrote, read) = run(rt, alloc, case)?;
+    let (groups, mut drives) = rig.open();
+    let mut unit = vec![in alloc; 0; SIZE]?;
+    let mut part = vec![in alloc; 0; SIZE]?;
+    let there = stand(rt, case, &groups, &mut drives, &mut unit, &mut part);
+    assert!(rt; case.lost.is_some() || wrote && read && there);
+    assert!(rt; wrote && read || !there);
+    Ok(())
+}
+
+/// Every drive lost at each of its calls, and at its second one with one of the first two lost before.
+fn sweep(
+    rt: &impl Abort,
+    alloc: Global,
+    class: Class,
+    drives: u8,
+    segments: u32,
+    last: u16,
+) -> Result<(), AllocError> {
+    for fused in 0..drives as usize {
+        for call in 1..6 {
+            swept(
+                rt,
+                alloc,
+                &Case {
+                    class,
+                    drives,
+                    segments,
+                    slot: last,
+                    fused,
+                    call,
+                    lost: None,
+                },
+            )?;
+        }
+        for lost in 0..2 {
+            swept(
+                rt,
+                alloc,
+                &Case {
+                    class,
+                    drives,
+                    segments,
+                    slot: 0,
+                    fused,
+                    call: 2,
+                    lost: Some(lost),
+                },
+            )?;
+        }
+    }
+    Ok(())
+}
+
+#[test]
+fn one_drive_lost_at_any_call_changes_no_answer(rt: HostRuntime) -> Result<(), Fail> {
+    for drives in [3u8, 4, 8] {
+        for segments in 1..4u32 {
+            let pairs = drives as u16 * segments as u16 / 2;
+            sweep(
+                &rt,
+                rt.alloc(),
+                Class::Mirrored,
+                drives,
+                segments,
+                2 * pairs - 1,
+            )?;
+            let units = 2 * segments as u16 * (drives as u16 - 1);
+            sweep(&rt, rt.alloc(), Class::Parity, drives, segments, units - 1)?;
+        }
+    }
+    Ok(())
+}
+
+#[test]
+fn the_exclusive_or_by_lanes_is_that_of_each_byte(rt: HostRuntime) -> Result<(), Fail> {
+    for size in [0usize, 1, 31, 32, 33, 65, 65568] {
+        let mut into = vec![in rt.alloc(); 0; size]?;
+        let mut from = vec![in rt.alloc(); 0; size]?;
+        for (at, byte) in into.iter_mut().enumerate() {
+            *byte = (at % 251) as u8;
+        }
+        for (at, byte) in from.iter_mut().enumerate() {
+            *byte = (at / 7 % 256) as u8;
+        }
+        assert_eq!(rt; into.len(), from.len());
+        xor_into(&mut into, &from);
+        let same = into.iter().enumerate().all(|(at, byte)| *byte
+            == (at % 251) as u8 ^ (at / 7 % 256) as u8);
+        assert!(rt; same, "{size}");
+    }
+    Ok(())
+}
+
+/// Whether the parity of the lowest units of the second group of three drives is this byte throughout.
+fn has_parity(rt: &impl Abort, alloc: Global, rig: Rig, wanted: u8) -> Result<bool, AllocError> {
+    let (groups, mut drives) = rig.open();
+    let mut unit = vec![in alloc; 0; SIZE]?;
+    assert!(rt; groups.members(1).len() > 2);
+    assert!(rt; groups.shape().extent_units() > 0);
+    let parity = groups.place(1, 2, 0);
+    Ok(peek(rt, &mut drives, parity, &mut unit) && is_all(&unit, wanted))
+}
+
+#[test]
+fn the_parity_is_of_header_and_payload(rt: HostRuntime) -> Result<(), Fail> {
+    let mut one = Rig::new(&rt, rt.alloc(), Class::Parity, 3, 2)?;
+    assert!(rt; one.write_all(&rt, 128, 0x5a).is_ok());
+    assert!(rt; has_parity(&rt, rt.alloc(), one, 0x5a)?);
+    let mut two = Rig::new(&rt, rt.alloc(), Class::Parity, 3, 2)?;
+    assert!(rt; two.write_all(&rt, 128, 0x5a).is_ok());
+    assert!(rt; two.write_all(&rt, 130, 0xc3).is_ok());
+    assert!(rt; has_parity(&rt, rt.alloc(), two, 0x99)?);
+    Ok(())
+}
+
+#[test]
+fn a_lost_neighbour_stays_over_a_write(rt: HostRuntime) -> Result<(), Fail> {
+    let mut rig = Rig::new(&rt, rt.alloc(), Class::Parity, 3, 2)?;
+    assert!(rt; rig.write_all(&rt, 128, 0x5a).is_ok());
+    assert!(rt; rig.write_all(&rt, 130, 0xc3).is_ok());
+    rig.lose(&rt, 1);
+    assert!(rt; rig.write_all(&rt, 128, 0xc3).is_ok());
+    assert!(rt; rig.read(&rt, 130).is_ok());
+    assert!(rt; is_all(&rig.unit, 0xc3));
+    Ok(())
+}
+
+#[test]
+fn a_write_in_a_sound_group_reaches_two_drives_alone(rt: HostRuntime) -> Result<(), Fail> {
+    let mut rig = Rig::new(&rt, rt.alloc(), Class::Parity, 8, 1)?;
+    for drive in 1..7 {
+        rig.fuse(&rt, drive, 1);
+    }
+    // The first slot is on drive 0 and its parity on drive 7.
+    rig.fuse(&rt, 0, 3);
+    rig.fuse(&rt, 7, 3);
+    assert!(rt; rig.write_all(&rt, 0, 7).is_ok());
+    let (_groups, drives) = rig.open();
+    assert!(rt; drives.iter().all(|drive| !drive.is_lost()));
+    Ok(())
+}
+
+#[test]
+fn the_parity_is_read_or_had_from_the_others(rt: HostRuntime) -> Result<(), Fail> {
+    let mut rig = Rig::new(&rt, rt.alloc(), Class::Parity, 3, 2)?;
+    assert!(rt; rig.write_all(&rt, 128, 0x5a).is_ok());
+    assert!(rt; rig.write_all(&rt, 130, 0xc3).is_ok());
+    assert!(rt; rig.read_parity(&rt, 1, 0) && is_all(&rig.unit, 0x99));
+    assert!(rt; rig.read_parity(&rt, 1, 1) && is_all(&rig.unit, 0));
+    // The parity of the first offset is on the last drive.
+    rig.lose(&rt, 2);
+    assert!(rt; rig.read_parity(&rt, 1, 0) && is_all(&rig.unit, 0x99));
+    rig.lose(&rt, 0);
+    assert!(rt; !rig.read_parity(&rt, 1, 0));
+    Ok(())
+}
+
+#[test]
+fn an_extent_is_wiped_to_its_end(rt: HostRuntime) -> Result<(), Fail> {
+    let mut rig = Rig::new(&rt, rt.alloc(), Class::Mirrored, 3, 2)?;
+    fill(&rt, &mut rig);
+    rig.unit.fill(NEW);
+    assert!(rt;
+        rig.wipe(
+            &rt,
+            Member {
+                drive: 0,
+                extent: 1
+            }
+        )
+    );
+    assert!(rt;
+        rig.wipe(
+            &rt,
+            Member {
+                drive: 1,
+                extent: 1
+            }
+        )
+    );
+    // The last pair of the group lies at the end of the extents of drives 1 and 2, the first on 0 and 1.
+    assert!(rt; rig.read(&rt, 133).is_ok() && is_all(&rig.unit, NEW));
+    assert!(rt; rig.read(&rt, 128).is_ok() && is_all(&rig.unit, NEW));
+    assert!(rt; rig.read(&rt, 5).is_ok() && is_given(&rig.unit, 5));
+    rig.lose(&rt, 0);
+    assert!(rt;
+        !rig.wipe(
+            &rt,
+            Member {
+                drive: 0,
+                extent: 1
+            }
+        )
+    );
+    Ok(())
+}

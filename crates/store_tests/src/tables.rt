@@ -1,0 +1,99 @@
+// Tables of groups and owners, and changes of them whose conditions are seen to hold.
+ghost use Rattle.std.specs.Prelude.{IfOk};
+ghost use Rattle.extent_groups.specs.Groups.{Agree};
+
+use extent_groups::{Class, GroupRefusal, GroupTable, Member, are_there};
+use extents::{ExtentTable, Shape};
+use std::alloc::{AllocError, Global};
+use std::process::Abort;
+
+/// Groups and the owners of extents.
+#[derive(Drop)]
+pub(crate) struct Tables {
+    pub(crate) groups: GroupTable,
+    pub(crate) extents: ExtentTable,
+}
+
+pub(crate) fn on(drive: u8, extent: u16) -> Member {
+    Member { drive, extent }
+}
+
+/// The shape of so many segments, with 8 extents.
+pub(crate) fn shape(rt: &impl Abort, segments: u32) -> Shape {
+    Shape::new(8, segments, 8, 16).expect(rt, "a shape")
+}
+
+impl Tables {
+    /// So many drives without groups.
+    pub(crate) fn new(
+        rt: &impl Abort,
+        alloc: Global,
+        drives: u8,
+        segments: u32,
+    ) -> Result<Tables, AllocError>
+        ensures { IfOk result (λ t. Agree t.groups t.extents) }
+    {
+        let shape = shape(rt, segments);
+        let groups = GroupTable::new(alloc, &shape)?;
+        let extents = ExtentTable::new(alloc, drives, &shape)?;
+        Ok(Tables { groups, extents })
+    }
+
+    /// Makes a group of members that are seen to be there.
+    pub(crate) fn put(
+        &mut self,
+        rt: &impl Abort,
+        alloc: Global,
+        group: u16,
+        class: Class,
+        members: &[Member],
+    ) -> Result<(), GroupRefusal>
+        requires { Agree self.old.groups self.old.extents }
+        ensures { Agree self.new.groups self.new.extents }
+    {
+        assert!(rt; are_there(&self.extents, members));
+        assert!(rt; self.groups.is_free(group));
+        self.groups
+            .put_group(alloc, &mut self.extents, group, class, members)
+    }
+
+    /// Unmakes a group.
+    pub(crate) fn take(&mut self, group: u16) -> Result<(), GroupRefusal>
+        requires { Agree self.old.groups self.old.extents }
+        ensures { Agree self.new.groups self.new.extents }
+    {
+        self.groups.take_group(&mut self.extents, group)
+    }
+
+    /// Swaps a member of a group for an extent that is seen to be there.
+    pub(crate) fn swap(
+        &mut self,
+        rt: &impl Abort,
+        group: u16,
+        member: u8,
+        to: Member,
+    ) -> Result<(), GroupRefusal>
+        requires { Agree self.old.groups self.old.extents }
+        ensures { Agree self.new.groups self.new.extents }
+    {
+        assert!(rt; self.extents.has_extent(to.drive, to.extent));
+        assert!(rt; (member as usize) < self.groups.members(group).len());
+        self.groups
+            .swap_member(&mut self.extents, group, member, to)
+    }
+
+    /// Adds a drive.
+    pub(crate) fn add_drive(&mut self, alloc: Global) -> Result<(), AllocError>
+        requires { Agree self.old.groups self.old.extents }
+        ensures { Agree self.new.groups self.new.extents }
+    {
+        self.extents.add_drive(alloc)?;
+        Ok(())
+    }
+
+    /// Whether an extent that is there is the group's.
+    pub(crate) fn is_owned_by(&self, member: Member, group: Option<u16>) -> bool {
+        self.extents.has_extent(member.drive, member.extent)
+            && self.extents.owner(member.drive, member.extent) == group
+    }
+}
