@@ -1,5 +1,5 @@
 -- What a line means: nothing, a command, or a fault.
-use Rattle.std.specs.Prelude.{◌≡◌, ℕ, ◌+◌, ◌<◌, ◌≤◌, ◌==◌, Bool, true, false, List, [], ◌∷◌, ◌++◌, length, codes, decimal}
+use Rattle.std.specs.Prelude.{◌≡◌, ℕ, ◌<◌, ◌≤◌, ◌==◌, Bool, true, false, List, [], ◌∷◌, ◌++◌, length, codes, decimal}
 use Rattle.script_words.specs.Order.{Order}
 use Rattle.script_words.specs.Spelling.{Spells}
 use Rattle.script_bench.specs.State.{State, IsDue, IsInRange, block_count}
