@@ -4,10 +4,12 @@
 all: run
 
 run:
-	@for script in one_write two_workers two_controllers a_copy_outrun; do \
+	@answers=$$(mktemp) && trap 'rm -f "$$answers"' EXIT && \
+	for script in one_write two_workers two_controllers a_copy_outrun; do \
 	    echo "== examples/$$script"; \
-	    (cd crates/raid_bench && rt run -- script < ../../examples/$$script 2>/dev/null) \
-	        | tee /dev/stderr | cmp - examples/$$script.stdout || exit 1; \
+	    (cd crates/raid_bench && rt run -- script < ../../examples/$$script 2>/dev/null) > "$$answers"; \
+	    cat "$$answers"; \
+	    cmp "$$answers" examples/$$script.stdout || exit 1; \
 	done
 
 test:

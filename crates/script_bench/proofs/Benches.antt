@@ -9,8 +9,7 @@ use Rattle.std.proofs.lemmas.List.{get_or-set_same, get_or-set_other, set-set}
 use Rattle.map_join.specs.declared.records.Record.{Record}
 use Rattle.map_join.specs.Maps.{Entries, at, IsMapOf}
 use Rattle.flat_machine.specs.Flat.{put}
-use Rattle.script_bench.specs.State.{IsMap}
-use Rattle.script_bench.specs.Carrying.{AreMapsOf}
+use Rattle.script_bench.specs.Carrying.{AreMapsOf, IsMap}
 
 -- a table with one more entry has it there, and the others elsewhere
 pub put_here : {X : Type 0} (f : ℕ → X) (place : ℕ) (x : X) → put f place x place ≡ x

@@ -1,3 +1,5 @@
 pub mod Benches
 pub mod Carried
+pub mod Hexes
+pub mod Ranges
 pub mod Said

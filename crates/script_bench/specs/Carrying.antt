@@ -1,16 +1,19 @@
 -- What carrying out a command does: to the world and the maps, and to the text of the answers.
-use Rattle.std.specs.Prelude.{◌≡◌, ℕ, ◌<◌, List, ◌++◌, slice_index_or, Result, Ok, Err, Option, Some, None}
+use Rattle.std.specs.Prelude.{◌≡◌, ℕ, ◌<◌, ◌≤◌, List, ◌++◌, slice_index_or, Result, Ok, Err, Option, Some, None}
 use Rattle.map_join.specs.declared.records.Record.{Record}
 use Rattle.map_join.specs.Maps.{Entries, at, IsMapOf}
 use Rattle.step_core.specs.Represents.{Represents}
-use Rattle.script_words.specs.Order.{Order, verb_of}
-use Rattle.script_words.specs.declared.verb.Verb.TheVariants as verb
+use Rattle.script_words.specs.Order.{Order}
 use Rattle.script_bench.specs.State.{Position, State, IsDue, IsInRange, block_count}
 use Rattle.script_bench.specs.Answers.{Answers}
 use Rattle.script_bench.specs.declared.bench.Bench.{Bench}
 use Rattle.script_bench.specs.declared.why.Failure.{Failure}
 use Rattle.script_bench.specs.declared.why.Failure.TheVariants as failure
 use Rattle.script_bench.specs.declared.why.Why.TheVariants as why
+
+-- a map's number
+abbrev pub IsMap : ℕ → Type 0
+IsMap map = map ≤ 3
 
 -- each of the four maps is that of the records that it took
 abbrev pub AreMapsOf : List Entries → (ℕ → List Record) → Type 0
@@ -27,15 +30,23 @@ Stands None None = Unit {0}
 Stands (Some bench) (Some P) = StandsAt bench P
 Stands _ _ = ⊥
 
--- the command was answered: the text is appended, and the bench stands for a state that the answer leads to
-pub record IsAnswered (state : State) (bench : Option Bench) (order : Order) (old new : List ℕ) : Type 0 where
-  pub due : IsDue state order
-  pub range : IsInRange (block_count state) order
+-- the command was carried out: its answer is appended, and the bench stands for a state that the answer leads to
+pub record IsCarried (state : State) (bench : Option Bench) (order : Order) (old new : List ℕ) : Type 0 where
   pub text : List ℕ
   pub next : State
   pub answers : Answers state order text next
   pub stands : Stands bench next
   pub out : new ≡ old ++ text
+
+-- the same from each state that the bench stood for
+abbrev pub Carries : Bench → Bench → Order → List ℕ → List ℕ → Type 0
+Carries before after order old new = (P : Position) → StandsAt before P → IsCarried (Some P) (Some after) order old new
+
+-- a command that may come and is within the limits was carried out
+pub record IsAnswered (state : State) (bench : Option Bench) (order : Order) (old new : List ℕ) : Type 0 where
+  pub due : IsDue state order
+  pub range : IsInRange (block_count state) order
+  pub carried : IsCarried state bench order old new
 
 -- a number of the command is out of its limits
 pub record IsOut (state : State) (order : Order) (old new : List ℕ) : Type 0 where
@@ -43,27 +54,9 @@ pub record IsOut (state : State) (order : Order) (old new : List ℕ) : Type 0 w
   pub range : IsInRange (block_count state) order → ⊥
   pub out : new ≡ old
 
--- the array is there already
-pub record IsAgain (order : Order) (old new : List ℕ) : Type 0 where
-  pub asked : verb_of order ≡ verb.Array
-  pub out : new ≡ old
-
--- what came of a command in a state, by the outcome
-abbrev pub Comes : Result (Unit {0}) Failure → State → Option Bench → Order → List ℕ → List ℕ → Type 0
-Comes (Ok _) state bench order old new = IsAnswered state bench order old new
-Comes (Err failure.Memory) state bench order old new = Unit {0}
-Comes (Err (failure.Wrong why.Range)) state bench order old new = IsOut state order old new
-Comes (Err (failure.Wrong why.Form)) state bench order old new = IsAgain order old new
-Comes (Err (failure.Wrong _)) state bench order old new = ⊥
-
--- the same from each state that the bench stood for
-abbrev pub Carries : Result (Unit {0}) Failure → Bench → Bench → Order → List ℕ → List ℕ → Type 0
-Carries result before after order old new =
-    (P : Position) → StandsAt before P → Comes result (Some P) (Some after) order old new
-
 -- what came of the command that makes the array
-abbrev pub Makes : Result Bench Failure → Order → List ℕ → List ℕ → Type 0
-Makes (Ok bench) order old new = IsAnswered None (Some bench) order old new
-Makes (Err failure.Memory) order old new = Unit {0}
-Makes (Err (failure.Wrong why.Range)) order old new = IsOut None order old new
-Makes (Err (failure.Wrong _)) order old new = ⊥
+abbrev pub MakesBench : Result Bench Failure → Order → List ℕ → List ℕ → Type 0
+MakesBench (Ok bench) order old new = IsAnswered None (Some bench) order old new
+MakesBench (Err failure.Memory) order old new = Unit {0}
+MakesBench (Err (failure.Wrong why.Range)) order old new = IsOut None order old new
+MakesBench (Err (failure.Wrong _)) order old new = ⊥

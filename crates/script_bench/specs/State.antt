@@ -1,11 +1,15 @@
 -- Where a script stands: before its array is made, or at a state of it and of four block maps.
-use Rattle.std.specs.Prelude.{◌≡◌, ℕ, ◌<◌, ◌≤◌, List, [], length, Option, Some, None}
-use Rattle.std.specs.List.{All}
+use Rattle.std.specs.Prelude.{◌≡◌, ℕ, ◌<◌, ◌≤◌, List, [], Option, Some, None}
+use Rattle.std.specs.List.{All, AllByRecursion}
 use Rattle.map_join.specs.declared.records.Record.{Record}
 use Rattle.flat_machine.specs.Flat.{Flat}
 use Rattle.flat_machine.specs.Sizes.{Sizes, AreSizes}
-use Rattle.script_words.specs.Order.{Order}
+use Rattle.script_words.specs.Order.{Order, Number, Behind, Told, Members, behind_of, numbers_of, verb_of}
 use Rattle.script_words.specs.Order as o
+use Rattle.script_words.specs.Spelling.{IsSized}
+use Rattle.script_words.specs.declared.verb.Kind.{Kind}
+use Rattle.script_words.specs.declared.verb.Kind.TheVariants as kind
+use Rattle.script_words.specs.declared.verb.Verb.TheVariants as verb
 use Rattle.script_words.specs.declared.command.Named.{Named}
 
 -- a state of the array, and of each of the four maps the records that it took or merged
@@ -33,25 +37,33 @@ block_count (Some P) = P.flat.sizes.blocks
 
 -- whether a command may come: the array once and first, every other one behind it, and a payload of the array's length
 abbrev pub IsDue : State → Order → Type 0
-IsDue None (o.Array drives extents segments payload blocks) = Unit {0}
-IsDue None _ = ⊥
-IsDue (Some P) (o.Array drives extents segments payload blocks) = ⊥
-IsDue (Some P) (o.Fill worker slot payload) = length payload ≡ P.flat.sizes.payload
-IsDue (Some P) _ = Unit {0}
+IsDue None order = verb_of order ≡ verb.Array
+IsDue (Some P) order = (verb_of order ≡ verb.Array → ⊥) × IsSized P.flat.sizes.payload order
 
--- a drive's and an extent's number within the limits
+-- the limit of each kind of number, with so many blocks; the array has a rule of its own for its sizes
+abbrev pub IsKindInRange : ℕ → Kind → ℕ → Type 0
+IsKindInRange count kind.Worker n = n ≤ 7
+IsKindInRange count kind.Slot n = n ≤ 65535
+IsKindInRange count kind.Block n = n < count
+IsKindInRange count kind.Drive n = n ≤ 15
+IsKindInRange count kind.Extent n = n ≤ 511
+IsKindInRange count kind.Group n = n ≤ 511
+IsKindInRange count kind.Map n = n ≤ 3
+IsKindInRange count kind.Size n = Unit {0}
+
+abbrev pub IsNumberInRange : ℕ → Number → Type 0
+IsNumberInRange count n = IsKindInRange count n.kind n.value
+
+-- a member's drive and extent within the limits
 pub record IsMemberInRange (member : Named) : Type 0 where
-  pub drive : member.drive ≤ 15
-  pub extent : member.extent ≤ 511
+  pub drive : IsKindInRange 0 kind.Drive member.drive
+  pub extent : IsKindInRange 0 kind.Extent member.extent
 
--- a worker's and a slot's number within the limits
-pub record IsHandInRange (worker slot : ℕ) : Type 0 where
-  pub worker_is : worker ≤ 7
-  pub slot_is : slot ≤ 65535
-
--- a map's number
-abbrev pub IsMap : ℕ → Type 0
-IsMap map = map ≤ 3
+-- what stands behind the numbers within the limits: a record's block is one of the array's
+abbrev pub IsBehindInRange : ℕ → Behind → Type 0
+IsBehindInRange count (Told r) = IsKindInRange count kind.Block r.block
+IsBehindInRange count (Members level members) = All IsMemberInRange members
+IsBehindInRange count _ = Unit {0}
 
 -- the number of drives and the sizes of an array within the limits
 pub record IsArrayInRange (drives : ℕ) (sizes : Sizes) : Type 0 where
@@ -59,21 +71,17 @@ pub record IsArrayInRange (drives : ℕ) (sizes : Sizes) : Type 0 where
   pub most : drives ≤ 16
   pub limits : AreSizes sizes
 
--- every number of the command is within its limits, with so many blocks
-abbrev pub IsInRange : ℕ → Order → Type 0
-IsInRange count (o.Array drives extents segments payload blocks) = IsArrayInRange drives (sizes_of extents segments payload blocks)
-IsInRange count (o.Make class members) = All IsMemberInRange members
-IsInRange count (o.Claim worker slot) = IsHandInRange worker slot
-IsInRange count (o.Release worker slot) = IsHandInRange worker slot
-IsInRange count (o.Fill worker slot payload) = IsHandInRange worker slot
-IsInRange count (o.Copy worker slot block) = IsHandInRange worker slot × (block < count)
-IsInRange count (o.Commit worker slot block) = IsHandInRange worker slot × (block < count)
-IsInRange count (o.Discard worker slot) = IsHandInRange worker slot
-IsInRange count (o.Read block) = block < count
-IsInRange count (o.At r) = r.block < count
-IsInRange count (o.Take map r) = IsMap map × (r.block < count)
-IsInRange count (o.Merge into from) = IsMap into × IsMap from
-IsInRange count (o.Same left right) = IsMap left × IsMap right
-IsInRange count (o.Show map) = IsMap map
-IsInRange count o.Map = Unit {0}
-IsInRange count o.Log = Unit {0}
+-- an array's numbers go together
+abbrev pub IsFit : Order → Type 0
+IsFit (o.Array drives extents segments payload blocks) = IsArrayInRange drives (sizes_of extents segments payload blocks)
+IsFit _ = Unit {0}
+
+-- each number of the command, and what stands behind them, is within the limits, with so many blocks
+pub record IsWithin (count : ℕ) (order : Order) : Type 0 where
+  pub numbers : AllByRecursion (IsNumberInRange count) (numbers_of order)
+  pub behind : IsBehindInRange count (behind_of order)
+
+-- the command is within the limits
+pub record IsInRange (count : ℕ) (order : Order) : Type 0 where
+  pub within : IsWithin count order
+  pub fit : IsFit order

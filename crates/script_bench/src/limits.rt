@@ -1,13 +1,15 @@
 //! Numbers as they are written, and within their limits.
-ghost use Rattle.std.specs.Prelude.{◌≡◌, ◌<◌, ◌≤◌, IfSome, IfNone, IfOk};
+ghost use Rattle.std.specs.Prelude.{◌≡◌, ◌↔◌, ◌<◌, ◌≤◌, ℕ, List, length, slice_index, slice_index_or, IfSome, IfNone, IfOk, IsTrue};
 ghost use Rattle.std.specs.List.{All};
-ghost use Rattle.script_bench.specs.State.{IsArrayInRange, IsHandInRange, IsMap, IsMemberInRange, sizes_of};
+ghost use Rattle.script_words.specs.Order.{behind_of, order_of, tail_of};
+ghost use Rattle.script_bench.specs.State.{IsArrayInRange, IsBehindInRange, IsKindInRange, IsMemberInRange, IsWithin, sizes_of};
+ghost use Rattle.script_words.specs.declared.verb.Kind.{Kind};
 ghost use Rattle.script_bench.specs.Answers.{members_named};
 ghost use Rattle.flat_machine.specs.Sizes.{AreSizes};
 
-use script_words::Named;
+use script_words::{Command, Kind, Named, Tail};
 use std::alloc::{AllocError, Global};
-use step_core::{Member, Shape, World};
+use step_core::{Member, Shape};
 
 /// The greatest number of a worker.
 const LAST_WORKER: u64 = 7;
@@ -24,6 +26,9 @@ const LAST_DRIVE: u64 = 15;
 /// The greatest number of an extent.
 const LAST_EXTENT: u64 = 511;
 
+/// The greatest number of a group.
+const LAST_GROUP: u64 = 511;
+
 /// The fewest drives of an array.
 const FEWEST_DRIVES: u64 = 3;
 
@@ -33,57 +38,80 @@ const MOST_DRIVES: u64 = 16;
 /// The greatest size that is told to the array.
 const LAST_SIZE: u64 = 65_536;
 
-/// A worker and a slot.
-pub fn hand_of(worker: u64, slot: u64) -> Option<(u8, u16)>
-    ensures some { IfSome result (λ hand. (hand.0 ≡ worker) × (hand.1 ≡ slot) × IsHandInRange worker slot) }
-    ensures none { IfNone result (IsHandInRange worker slot → ⊥) }
+/// Whether the numbers of a command and what stands behind them are within the limits, with so many blocks.
+pub fn is_in_range(command: &Command, blocks: u32) -> bool
+    ensures { (bytes : List ℕ) → IsTrue result ↔ IsWithin blocks (order_of «command».now bytes) }
 {
-    if worker > LAST_WORKER || slot > LAST_SLOT {
-        return None;
-    }
-    Some((worker as u8, slot as u16))
+    let row = command.verb.row();
+    are_numbers_in_range(row.kinds, &command.numbers, blocks)
+        && is_tail_in_range(row.tail, command, blocks)
 }
 
-/// A block of the world.
-pub fn block_of(world: &World, block: u64) -> Option<u32>
-    ensures some { IfSome result (λ b. (b ≡ block) × (block < world.now.array.sizes.blocks)) }
-    ensures none { IfNone result (block < world.now.array.sizes.blocks → ⊥) }
+// Whether each number is within the limit of its kind.
+fn are_numbers_in_range(kinds: &[Kind], numbers: &[u64], blocks: u32) -> bool
+    requires { length kinds.now ≤ length numbers.now }
+    ensures { IsTrue result ↔ ((k : ℕ) (d : Kind) → k < length kinds.now →
+        IsKindInRange blocks (slice_index_or kinds.now k d) (slice_index numbers.now k)) }
 {
-    let blocks = world.array().shape().blocks();
-    if block >= u64::from(blocks) {
-        return None;
+    for (place, kind) in kinds.iter().enumerate() {
+        if !is_kind_in_range(*kind, numbers[place], blocks) {
+            return false;
+        }
     }
-    Some(block as u32)
+    true
 }
 
-/// One of the four maps.
-pub fn map_of(map: u64) -> Option<usize>
-    ensures some { IfSome result (λ m. (m ≡ map) × IsMap map) }
-    ensures none { IfNone result (IsMap map → ⊥) }
+// Whether a number is within the limit of its kind.
+fn is_kind_in_range(kind: Kind, number: u64, blocks: u32) -> bool
+    ensures { IsTrue result ↔ IsKindInRange blocks kind number }
 {
-    if map > LAST_MAP {
-        return None;
+    match kind {
+        Kind::Worker => number <= LAST_WORKER,
+        Kind::Slot => number <= LAST_SLOT,
+        Kind::Block => number < u64::from(blocks),
+        Kind::Drive => number <= LAST_DRIVE,
+        Kind::Extent => number <= LAST_EXTENT,
+        Kind::Group => number <= LAST_GROUP,
+        Kind::Map => number <= LAST_MAP,
+        Kind::Size => true,
     }
-    Some(map as usize)
 }
 
-/// The members, where each is within the limits.
-pub fn members_in_range(alloc: Global, named: &[Named]) -> Result<Option<Vec<Member>>, AllocError>
-    ensures some { IfOk result (λ found. IfSome found (λ members.
-        (members.items ≡ members_named named.now) × All IsMemberInRange named.now)) }
-    ensures none { IfOk result (λ found. IfNone found (All IsMemberInRange named.now → ⊥)) }
+// Whether what stands behind the numbers is within the limits.
+fn is_tail_in_range(tail: Tail, command: &Command, blocks: u32) -> bool
+    requires { tail ≡ tail_of «command».now.verb }
+    ensures { (bytes : List ℕ) → IsTrue result ↔ IsBehindInRange blocks (behind_of (order_of «command».now bytes)) }
+{
+    match tail {
+        Tail::Nothing | Tail::Payload => true,
+        Tail::Record => command.record.block < blocks,
+        Tail::Members => are_in_range(&command.members),
+    }
+}
+
+// Whether each member's numbers are within the limits.
+fn are_in_range(members: &[Named]) -> bool
+    ensures { IsTrue result ↔ All IsMemberInRange members.now }
+{
+    members.iter().all(|member| {
+        is_kind_in_range(Kind::Drive, member.drive, 0)
+            && is_kind_in_range(Kind::Extent, member.extent, 0)
+    })
+}
+
+/// The members that are named, which are within the limits.
+pub fn members_of(alloc: Global, named: &[Named]) -> Result<Vec<Member>, AllocError>
+    requires { All IsMemberInRange named.now }
+    ensures { IfOk result (λ members. members.items ≡ members_named named.now) }
 {
     let mut members = Vec::new(alloc);
     for name in named {
-        if name.drive > LAST_DRIVE || name.extent > LAST_EXTENT {
-            return Ok(None);
-        }
         members.push(Member {
             drive: name.drive as u8,
             extent: name.extent as u16,
         })?;
     }
-    Ok(Some(members))
+    Ok(members)
 }
 
 /// The number of drives and the shape of an array.

@@ -4,15 +4,12 @@ ghost use Rattle.map_join.specs.declared.records.Record.{Record};
 ghost use Rattle.map_join.specs.Record.{record_at};
 ghost use Rattle.map_join.specs.Maps.{at, IsDifference};
 ghost use Rattle.flat_machine.specs.Flat.{put};
-ghost use Rattle.script_bench.specs.State.{IsMap};
-ghost use Rattle.script_bench.specs.Carrying.{AreMapsOf, Carries};
+ghost use Rattle.script_bench.specs.Carrying.{AreMapsOf, Carries, IsMap};
 ghost use Rattle.script_words.specs.Order as o;
 ghost use Rattle.script_bench.specs.Text.{record_text};
 
 use crate::bench::Bench;
-use crate::limits::{block_of, map_of};
 use crate::texts::{put, put_difference, put_listing, put_record};
-use crate::why::{Failure, Why};
 use map_join::{BlockMap, MapRefusal, Record};
 use std::alloc::{AllocError, Global};
 use std::mem;
@@ -21,26 +18,18 @@ use std::mem;
 pub fn take(
     alloc: Global,
     bench: &mut Bench,
-    map: u64,
+    map: usize,
     record: Record,
     out: &mut Vec<u8>,
-) -> Result<(), Failure>
-    requires { 0 < «record».version }
-    ensures { Carries result bench.old bench.new (o.Take map «record») out.old.items out.new.items }
+) -> Result<(), AllocError>
+    requires written { 0 < «record».version }
+    requires map { IsMap map }
+    ensures { OnOk result (Carries bench.old bench.new (o.Take map «record») out.old.items out.new.items) }
 {
-    let Some(map) = map_of(map) else {
-        return Err(Failure::Wrong(Why::Range))
-    };
-    let Some(_) = block_of(&bench.world, u64::from(record.block)) else {
-        return Err(Failure::Wrong(Why::Range));
-    };
     let Ok(newest) = take_into(alloc, &mut bench.maps, map, record) else {
-        return Err(Failure::Memory)
+        return Err(AllocError)
     };
-    match put_took(out, &newest) {
-        Ok(()) => Ok(()),
-        Err(_) => Err(Failure::Memory),
-    }
+    put_took(out, &newest)
 }
 
 // Takes the record into one of the maps, and gives that map's record of its block.
@@ -69,26 +58,19 @@ fn take_into(
 pub fn merge(
     alloc: Global,
     bench: &mut Bench,
-    into: u64,
-    from: u64,
+    into: usize,
+    from: usize,
     out: &mut Vec<u8>,
-) -> Result<(), Failure>
-    ensures { Carries result bench.old bench.new (o.Merge into from) out.old.items out.new.items }
+) -> Result<(), AllocError>
+    requires into { IsMap into }
+    requires from { IsMap from }
+    ensures { OnOk result (Carries bench.old bench.new (o.Merge into from) out.old.items out.new.items) }
 {
-    let Some(into) = map_of(into) else {
-        return Err(Failure::Wrong(Why::Range))
-    };
-    let Some(from) = map_of(from) else {
-        return Err(Failure::Wrong(Why::Range))
-    };
     match join(alloc, &mut bench.maps, into, from) {
         Ok(()) => {}
-        Err(_) => return Err(Failure::Memory),
+        Err(_) => return Err(AllocError),
     }
-    match put(out, b"merged") {
-        Ok(()) => Ok(()),
-        Err(_) => Err(Failure::Memory),
-    }
+    put(out, b"merged")
 }
 
 // Joins one of the maps with another one.
@@ -109,19 +91,17 @@ fn join(alloc: Global, maps: &mut [BlockMap], into: usize, from: usize) -> Resul
 }
 
 /// Tells the lowest block of which two maps have different keys, if there is one.
-pub fn same(bench: &mut Bench, left: u64, right: u64, out: &mut Vec<u8>) -> Result<(), Failure>
-    ensures { Carries result bench.old bench.new (o.Same left right) out.old.items out.new.items }
+pub fn same(
+    bench: &mut Bench,
+    left: usize,
+    right: usize,
+    out: &mut Vec<u8>,
+) -> Result<(), AllocError>
+    requires left { IsMap left }
+    requires right { IsMap right }
+    ensures { OnOk result (Carries bench.old bench.new (o.Same left right) out.old.items out.new.items) }
 {
-    let Some(left) = map_of(left) else {
-        return Err(Failure::Wrong(Why::Range))
-    };
-    let Some(right) = map_of(right) else {
-        return Err(Failure::Wrong(Why::Range))
-    };
-    match put_difference(out, difference(&bench.maps, left, right)) {
-        Ok(()) => Ok(()),
-        Err(_) => Err(Failure::Memory),
-    }
+    put_difference(out, difference(&bench.maps, left, right))
 }
 
 // The lowest block of which two of the maps have different keys.
@@ -135,19 +115,19 @@ fn difference(maps: &[BlockMap], left: usize, right: usize) -> Option<u32>
 }
 
 /// Lists a map's records.
-pub fn show(alloc: Global, bench: &mut Bench, map: u64, out: &mut Vec<u8>) -> Result<(), Failure>
-    ensures { Carries result bench.old bench.new (o.Show map) out.old.items out.new.items }
+pub fn show(
+    alloc: Global,
+    bench: &mut Bench,
+    map: usize,
+    out: &mut Vec<u8>,
+) -> Result<(), AllocError>
+    requires { IsMap map }
+    ensures { OnOk result (Carries bench.old bench.new (o.Show map) out.old.items out.new.items) }
 {
-    let Some(map) = map_of(map) else {
-        return Err(Failure::Wrong(Why::Range))
-    };
     let Ok(records) = bench.maps[map].to_list(alloc) else {
-        return Err(Failure::Memory)
+        return Err(AllocError)
     };
-    match put_listing(out, b"map ", &records) {
-        Ok(()) => Ok(()),
-        Err(_) => Err(Failure::Memory),
-    }
+    put_listing(out, b"map ", &records)
 }
 
 // The answer to a record that was taken.

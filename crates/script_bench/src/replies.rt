@@ -1,16 +1,16 @@
 //! A line that is read for its words, and the reply to it.
 ghost use Rattle.std.specs.Prelude.{◌≤◌, length, Some};
 ghost use Rattle.script_bench.specs.State.{Position, State};
-ghost use Rattle.script_bench.specs.Carrying.{Stands, Makes};
+ghost use Rattle.script_bench.specs.Carrying.{Stands, MakesBench};
 ghost use Rattle.script_bench.specs.Replies.{Replies, Starts};
 ghost use Rattle.script_words.specs.Order as o;
 
 use crate::bench::Bench;
 use crate::carry::carry_out;
-use crate::limits::array_in_range;
-use script_words::{Command, command_of};
+use crate::limits::{array_in_range, is_in_range};
 use crate::texts::put;
 use crate::why::{Failure, Why};
+use script_words::{Command, Verb, command_of};
 use std::alloc::Global;
 use step_core::World;
 
@@ -47,14 +47,11 @@ fn first(alloc: Global, line: &[u8], out: &mut Vec<u8>) -> Result<Bench, Failure
         Ok(None) => return Err(Failure::Wrong(Why::Form)),
         Err(_) => return Err(Failure::Memory),
     };
-    match command {
-        Command::Array {
-            drives,
-            extents,
-            segments,
-            payload,
-            blocks,
-        } => begin(alloc, drives, extents, segments, payload, blocks, out),
+    match command.verb {
+        Verb::Array => {
+            let [drives, extents, segments, payload, blocks] = command.numbers;
+            begin(alloc, drives, extents, segments, payload, blocks, out)
+        }
         _ => Err(Failure::Wrong(Why::Form)),
     }
 }
@@ -69,7 +66,7 @@ fn begin(
     blocks: u64,
     out: &mut Vec<u8>,
 ) -> Result<Bench, Failure>
-    ensures { Makes result (o.Array drives extents segments payload blocks) out.old.items out.new.items }
+    ensures { MakesBench result (o.Array drives extents segments payload blocks) out.old.items out.new.items }
 {
     let Some((drives, shape)) = array_in_range(drives, extents, segments, payload, blocks) else {
         return Err(Failure::Wrong(Why::Range));
@@ -95,10 +92,21 @@ fn later(
     ensures { (P : Position) → Stands (Some bench.old) (Some P) →
         Replies result (Some P) (Some bench.new) line.now out.old.items out.new.items }
 {
-    let size = bench.world.array().shape().payload() as usize;
-    match command_of(alloc, line, &mut payload[..size]) {
-        Ok(Some(command)) => carry_out(alloc, bench, &payload[..size], command, out),
-        Ok(None) => Err(Failure::Wrong(Why::Form)),
+    let shape = bench.world.array().shape();
+    let payload = &mut payload[..shape.payload() as usize];
+    let command = match command_of(alloc, line, payload) {
+        Ok(Some(command)) => command,
+        Ok(None) => return Err(Failure::Wrong(Why::Form)),
+        Err(_) => return Err(Failure::Memory),
+    };
+    if let Verb::Array = command.verb {
+        return Err(Failure::Wrong(Why::Form));
+    }
+    if !is_in_range(&command, shape.blocks()) {
+        return Err(Failure::Wrong(Why::Range));
+    }
+    match carry_out(alloc, bench, payload, &command, out) {
+        Ok(()) => Ok(()),
         Err(_) => Err(Failure::Memory),
     }
 }

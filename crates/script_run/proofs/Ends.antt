@@ -1,5 +1,5 @@
 -- How turns lead to a script's end.
-use Rattle.std.proofs.Common.{◌≡◌, ℕ, List, [], ◌++◌, ◌⊎◌, Option, Some, None, refl, sym, ap, ◌∙◌, inl, inr, append_assoc, append-nil, take}
+use Rattle.std.proofs.Common.{◌≡◌, ℕ, List, [], ◌++◌, ◌⊎◌, Option, Some, None, refl, sym, ap, ◌∙◌, inl, inr, append_assoc, append-nil, take, length, ◌≤◌}
 use Rattle.std.specs.Prelude.{IfSome}
 use Rattle.std.specs.Io.KnownBytes.{Appends, Consumes, IsAtEnd, Keeps}
 use Rattle.std.proofs.KnownBytes.{Appends-nil, Appends-trans}
@@ -65,6 +65,7 @@ turn_on None (Some xs) (Some ys) chunk old state new held now consumed on = reco
   lines = on.lines;
   text_is = rw consumed (text_more old.line.items chunk on.whole new.line.items [] ys on.text_is);
   open_line = on.open_line;
+  short = on.short;
   bytes = on.bytes;
   wrote = on.wrote;
   leads = on.leads;
@@ -98,16 +99,17 @@ turn_on (Some end.ReadFault) before after chunk old state new held now consumed 
 
 -- nothing was read nor written
 pub part_none : (before after : Option (List ℕ)) (script : Script) (state : State) (held : Option (List ℕ)) → Keeps before after
-    → IsOpen script.line.items → Stands script.bench state → PartSaid before after script state script held held
-part_none None after script state held kept open_line stands = (state, stands)
-part_none (Some xs) None script state held kept open_line stands = absurd kept
-part_none (Some xs) (Some ys) script state held kept open_line stands = record {
+    → IsOpen script.line.items → length script.line.items ≤ 131200 → Stands script.bench state → PartSaid before after script state script held held
+part_none None after script state held kept open_line short stands = (state, stands)
+part_none (Some xs) None script state held kept open_line short stands = absurd kept
+part_none (Some xs) (Some ys) script state held kept open_line short stands = record {
   next = state;
   stands = stands;
   whole = [];
   lines = inl refl;
   text_is = ap (λ rest. script.line.items ++ rest) (sym kept);
   open_line = open_line;
+  short = short;
   bytes = [];
   wrote = Appends-nil held;
   leads = leads_none script.number state;
@@ -123,6 +125,7 @@ join_parts xs ys zs old state mid new held wrote now a b = record {
   lines = lines_more a.whole b.whole a.lines b.lines;
   text_is = text_join (old.line.items ++ xs) a.whole (mid.line.items ++ ys) b.whole (new.line.items ++ zs) a.text_is b.text_is;
   open_line = b.open_line;
+  short = b.short;
   bytes = a.bytes ++ b.bytes;
   wrote = Appends-trans held wrote now a.bytes b.bytes a.wrote b.wrote;
   leads = leads_more old.number state a.whole a.bytes mid.number a.next b.whole b.bytes new.number b.next a.leads b.leads;
@@ -265,6 +268,7 @@ run_said end.ReadFault (Some xs) (Some ys) start new held now number line turned
   left_is = refl;
   lines = turned.lines;
   open_line = turned.open_line;
+  short = turned.short;
   out = turned.bytes;
   wrote = turned.wrote;
   says =

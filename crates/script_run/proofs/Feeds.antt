@@ -6,7 +6,7 @@ use Rattle.script_bench.specs.State.{State}
 use Rattle.script_bench.specs.Carrying.{Stands}
 use Rattle.script_bench.specs.Meaning.{Means, Wrong, fault_line, most_bytes}
 use Rattle.script_run.specs.Says.{Tells, lines_of}
-use Rattle.script_run.specs.Feeding.{Answered, Closes, Faults, Feeds, IsAlong, IsAnswered, IsClosed, IsCut, IsLineTold, IsLineWrong, IsShort, IsStopped, Leads}
+use Rattle.script_run.specs.Feeding.{Answered, Closes, Faults, Feeds, IsAlong, IsLineAnswered, IsClosed, IsCut, IsLineTold, IsLineWrong, IsUnfinished, IsStopped, Leads}
 use Rattle.script_bench.specs.declared.bench.Bench.{Bench}
 use Rattle.script_run.specs.declared.end.End.{End}
 use Rattle.script_run.specs.declared.end.End.TheVariants as end
@@ -110,7 +110,7 @@ along_stopped old state mid new chunk part rest a b = record {
 
 -- no memory in the next part
 along_short : (old : Script) (state : State) (mid new : Script) (chunk part rest : List ℕ)
-    (a : IsAlong old state mid chunk (part ++ rest)) → IsShort mid a.next new part → IsShort old state new chunk
+    (a : IsAlong old state mid chunk (part ++ rest)) → IsUnfinished mid a.next new part → IsUnfinished old state new chunk
 along_short old state mid new chunk part rest a b = record {
   bytes = a.bytes ++ b.bytes;
   out = b.out ∙ ap (λ xs. xs ++ b.bytes) a.out ∙ append_assoc old.out.items a.bytes b.bytes;
@@ -123,7 +123,7 @@ along_short old state mid new chunk part rest a b = record {
 
 -- no memory, and nothing more was appended
 pub short_none : (old : Script) (state : State) (new : Script) (chunk : List ℕ) → new.out.items ≡ old.out.items
-    → IsShort old state new chunk
+    → IsUnfinished old state new chunk
 short_none old state new chunk out = record {
   bytes = [];
   out = out ∙ sym (append-nil old.out.items);
@@ -145,7 +145,7 @@ along_open old state new part stands number line out = record {
 }
 
 -- the open line ended and was answered
-pub along_answered : (old : Script) (state : State) (new : Script) → IsOpen old.line.items → IsAnswered old state new
+pub along_answered : (old : Script) (state : State) (new : Script) → IsOpen old.line.items → IsLineAnswered old state new
     → IsAlong old state new (10 ∷ []) []
 along_answered old state new none answered = let t = answered.told in record {
   next = t.next;
@@ -249,7 +249,7 @@ turn_stopped stop.Fault old state mid full new chunk rest part back cut along fe
 pub turn_done : (old : Script) (state : State) (mid full new : Script) (chunk rest part back : List ℕ)
     → rest ≡ part ++ 10 ∷ back → IsAlong old state mid chunk rest
     → ((s : State) → Stands mid.bench s → IsAlong mid s full part []) → IsOpen full.line.items
-    → ((s : State) → Stands full.bench s → IsAnswered full s new) → IsAlong old state new chunk back
+    → ((s : State) → Stands full.bench s → IsLineAnswered full s new) → IsAlong old state new chunk back
 turn_done old state mid full new chunk rest part back cut along fed none answered =
     let a = turn_taken old state mid full chunk rest part back cut along fed in
     along_more old state full new chunk (10 ∷ []) back a

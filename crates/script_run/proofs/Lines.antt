@@ -27,14 +27,14 @@ wrong_line (Err stop.Fault) n state bench line old new reason told means = recor
 pub answered_line : (r : Result (Unit {0}) Stop) (n : ℕ) (state : State) (bench : Option Bench) (line old mid new : List ℕ)
     → Counts n line → IsReplied state bench line old mid → OnOk r (new ≡ mid ++ 10 ∷ []) → OnErr r (r ≡ Err stop.Memory)
     → LineComes r n state bench line old new
-answered_line (Ok u) n state bench line old mid new counts replied ok err = let a = replied.answered in record {
+answered_line (Ok u) n state bench line old mid new counts replied ok err = let a = replied.answered.carried in record {
   next = a.next;
   stands = a.stands;
   bytes = a.text ++ 10 ∷ [];
   out = ok ∙ ap (λ xs. xs ++ 10 ∷ []) a.out ∙ append_assoc old a.text (10 ∷ []);
   told = λ lines more last rest. (
     Do replied.order,
-    (counts, record { spells = replied.spells; due = a.due }, a.range),
+    (counts, record { spells = replied.spells; due = replied.answered.due }, replied.answered.range),
     (a.text, a.next, more, a.answers, append_assoc a.text (10 ∷ []) more, rest),
   );
 }

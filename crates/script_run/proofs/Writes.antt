@@ -5,7 +5,7 @@ use Rattle.std.proofs.KnownBytes.{Appends-trans}
 use Rattle.std.proofs.lemmas.List.{take_all}
 use Rattle.script_bench.specs.State.{State}
 use Rattle.script_run.specs.Says.{Tells, lines_of}
-use Rattle.script_run.specs.Feeding.{Closes, Feeds, IsCut, IsShort}
+use Rattle.script_run.specs.Feeding.{Closes, Feeds, IsCut, IsUnfinished}
 use Rattle.script_run.specs.Turns.{IsBroken, IsBrokenOff, IsCutSaid, IsFronted, IsPartWritten}
 use Rattle.script_run.specs.declared.end.End.{End}
 use Rattle.script_run.specs.declared.end.End.TheVariants as end
@@ -138,7 +138,7 @@ broken_closed (Err stop.Fault) old state new held now wrote closed told empty pa
 
 -- a chunk without memory, whose whole answers were written
 pub cut_written : (old : Script) (state : State) (new : Script) (chunk : List ℕ) (held now : Option (List ℕ)) (wrote : List ℕ)
-    → IsShort old state new chunk → Appends held now wrote → wrote ≡ new.out.items → old.out.items ≡ [] → IsCutSaid old state chunk held now
+    → IsUnfinished old state new chunk → Appends held now wrote → wrote ≡ new.out.items → old.out.items ≡ [] → IsCutSaid old state chunk held now
 cut_written old state new chunk held now wrote short appended told empty = record {
   bytes = short.bytes;
   wrote = wrote_bytes held now wrote new.out.items old.out.items short.bytes appended told short.out empty;

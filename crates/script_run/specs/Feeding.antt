@@ -60,6 +60,7 @@ pub record IsScript (script : Script) : Type 0 where
   pub number : script.number ≤ 1000001
   pub room : 65536 ≤ length script.payload.items
   pub short : length script.line.items ≤ 131200
+  pub soon : 1 ≤ length script.line.items → script.number ≤ 1000000
   pub open_line : IsOpen script.line.items
 
 -- of the chunk all but the rest was read: whole lines were answered, and behind them a line is open
@@ -88,7 +89,7 @@ pub record IsCut (n : ℕ) (state : State) (text out : List ℕ) : Type 0 where
   pub told : Tells n state (lines_of whole) out end.Whole
 
 -- there was no memory: whole lines were answered, and nothing else was appended
-pub record IsShort (old : Script) (state : State) (new : Script) (chunk : List ℕ) : Type 0 where
+pub record IsUnfinished (old : Script) (state : State) (new : Script) (chunk : List ℕ) : Type 0 where
   pub bytes : List ℕ
   pub out : new.out.items ≡ old.out.items ++ bytes
   pub cut : IsCut old.number state (old.line.items ++ chunk) bytes
@@ -96,7 +97,7 @@ pub record IsShort (old : Script) (state : State) (new : Script) (chunk : List �
 -- what came of a chunk, by the outcome
 abbrev pub Feeds : Result (Unit {0}) Stop → Script → State → Script → List ℕ → Type 0
 Feeds (Ok _) old state new chunk = IsAlong old state new chunk []
-Feeds (Err stop.Memory) old state new chunk = IsShort old state new chunk
+Feeds (Err stop.Memory) old state new chunk = IsUnfinished old state new chunk
 Feeds (Err stop.Fault) old state new chunk = IsStopped old state new chunk
 
 -- nothing comes behind the open line
@@ -108,17 +109,17 @@ pub record IsClosed (old : Script) (state : State) (new : Script) (last : End) :
 -- what came of the end behind the open line, by the outcome
 abbrev pub Closes : Result (Unit {0}) Stop → Script → State → Script → Type 0
 Closes (Ok _) old state new = IsClosed old state new end.Whole
-Closes (Err stop.Memory) old state new = IsShort old state new []
+Closes (Err stop.Memory) old state new = IsUnfinished old state new []
 Closes (Err stop.Fault) old state new = IsClosed old state new end.Fault
 
 -- the open line was answered: a new one is open
-pub record IsAnswered (old : Script) (state : State) (new : Script) : Type 0 where
+pub record IsLineAnswered (old : Script) (state : State) (new : Script) : Type 0 where
   pub number : new.number ≡ old.number + 1
   pub line : new.line.items ≡ []
   pub told : IsLineTold old.number state new.bench old.line.items old.out.items new.out.items
 
 -- what came of the open line, by the outcome: without memory nothing is appended
 abbrev pub Answered : Result (Unit {0}) Stop → Script → State → Script → Type 0
-Answered (Ok _) old state new = IsAnswered old state new
+Answered (Ok _) old state new = IsLineAnswered old state new
 Answered (Err stop.Memory) old state new = new.out.items ≡ old.out.items
 Answered (Err stop.Fault) old state new = IsLineWrong old.number state old.line.items old.out.items new.out.items

@@ -1,9 +1,10 @@
 -- Turns of a script: one read, the answers to the lines that ended in it, and one write.
-use Rattle.std.specs.Prelude.{◌≡◌, ℕ, ◌<◌, List, [], ◌++◌, length, Option, Some, None, ◌⊎◌}
+use Rattle.std.specs.Prelude.{◌≡◌, ℕ, ◌<◌, ◌≤◌, List, [], ◌++◌, length, Option, Some, None, ◌⊎◌}
 use Rattle.std.specs.Io.KnownBytes.{Appends}
 use Rattle.script_run.specs.Opens.{AreLines, IsOpen}
 use Rattle.script_bench.specs.State.{State}
 use Rattle.script_bench.specs.Carrying.{Stands}
+use Rattle.script_bench.specs.Meaning.{most_bytes}
 use Rattle.script_run.specs.Says.{Says, Tells, lines_of}
 use Rattle.script_run.specs.Feeding.{IsCut, Leads, Left}
 use Rattle.script_run.specs.declared.end.End.{End}
@@ -26,6 +27,7 @@ pub record IsPartSaid (old : Script) (state : State) (new : Script) (input rest 
   pub lines : AreLines whole
   pub text_is : old.line.items ++ input ≡ whole ++ (new.line.items ++ rest)
   pub open_line : IsOpen new.line.items
+  pub short : length new.line.items ≤ most_bytes
   pub bytes : List ℕ
   pub wrote : Appends held now bytes
   pub leads : Leads old.number state whole bytes new.number next
@@ -128,6 +130,7 @@ pub record IsSaidSoFar (script : List ℕ) (left held now : Option (List ℕ)) :
   pub left_is : left ≡ Some rest
   pub lines : AreLines whole
   pub open_line : IsOpen line
+  pub short : length line ≤ most_bytes
   pub out : List ℕ
   pub wrote : Appends held now out
   pub says : Says whole out end.Whole

@@ -6,8 +6,8 @@ ghost use Rattle.script_bench.specs.Carrying.{Stands};
 
 use crate::line::{MOST_BYTES, MOST_LINES, answer_line, wrong};
 use crate::stop::Stop;
-use script_bench::{Bench, Why};
 use memchr::memchr;
+use script_bench::{Bench, Why};
 use std::alloc::Global;
 
 /// What ends a line.

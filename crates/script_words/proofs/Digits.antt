@@ -5,7 +5,7 @@ use Rattle.std.specs.Int.{IsInRange}
 use Rattle.std.proofs.lemmas.Fmt.{decimal-digits_value, decimal_nonempty, decimal_digit, first_decimal, length-decimal-le, digits_decimal}
 use Rattle.std.proofs.lemmas.List.{drop_all}
 use Rattle.std.proofs.lemmas.Str.Parse.{IsNumeralModel, tells_by_index, numerals_by_fold, digits_value_short}
-use Rattle.script_words.specs.Number.{IsShort}
+use Rattle.script_words.specs.Number.{IsWritable}
 
 -- the number that digits spell from the left, after the number so far
 abbrev pub read_on : ℕ → List ℕ → ℕ
@@ -39,22 +39,22 @@ grown_fits n i d small below digit =
 
 -- digits without a leading zero are the number that they spell
 pub told_number : (word : List ℕ) (n : ℕ) → AreDigits word → 0 < length word → length word ≤ 10
-    → (get_or word 0 0 ≡ 48 → length word ≡ 1) → read_on 0 word ≡ n → IsShort n × (word ≡ decimal n)
+    → (get_or word 0 0 ≡ 48 → length word ≡ 1) → read_on 0 word ≡ n → IsWritable n × (word ≡ decimal n)
 told_number word n digits some few lead told =
     let small = digits_value_short own word 10 digits few in
     let e = decimal-digits_value own word digits some lead (omega arith) in
     (rw (← told) small, sym (ap decimal (sym told) ∙ e))
 
 -- a short number is spelled by digits
-pub digit_of : (word : List ℕ) (n : ℕ) → IsShort n → word ≡ decimal n → AreDigits word
+pub digit_of : (word : List ℕ) (n : ℕ) → IsWritable n → word ≡ decimal n → AreDigits word
 digit_of word n short e = rw e (digits_decimal own n (omega arith))
 
 -- and by one to ten of them
-pub length_of : (word : List ℕ) (n : ℕ) → IsShort n → word ≡ decimal n → (0 < length word) × (length word ≤ 10)
+pub length_of : (word : List ℕ) (n : ℕ) → IsWritable n → word ≡ decimal n → (0 < length word) × (length word ≤ 10)
 length_of word n short e = rw e (decimal_nonempty n (omega arith), length-decimal-le 10 n (omega arith) short (omega arith))
 
 -- and begins with no zero, but for zero itself
-pub lead_of : (word : List ℕ) (n : ℕ) → IsShort n → word ≡ decimal n → get_or word 0 0 ≡ 48 → length word ≡ 1
+pub lead_of : (word : List ℕ) (n : ℕ) → IsWritable n → word ≡ decimal n → get_or word 0 0 ≡ 48 → length word ≡ 1
 lead_of word zero short e lead = rw e (ap length (decimal_digit 0 (omega arith)))
 lead_of word (suc n) short e lead =
     let first = first_decimal (suc n) (omega arith) (omega arith) in

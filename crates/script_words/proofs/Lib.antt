@@ -1,8 +1,7 @@
 pub mod Digits
-pub mod Hexes
 pub mod Members
 pub mod Numbers
 pub mod Records
 pub mod Spellings
 pub mod Splits
-pub mod Verbs
+pub mod Table

@@ -1,15 +1,12 @@
--- Words that name no record.
-use Rattle.std.proofs.Common.{◌≡◌, ℕ, List, [], ◌∷◌, Ok, Err, Result, sym, ◌∙◌, arith, decimal}
-use Rattle.std.specs.Prelude.{MatchResult}
-use Rattle.hex.specs.Hex.{decode_sized}
+-- Words that name no record, and digits that are no payload.
+use Rattle.std.proofs.Common.{◌≡◌, ℕ, List, [], ◌∷◌, Ok, Err, Result, sym, ◌∙◌, arith}
+use Rattle.std.specs.Prelude.{MatchResult, IfNone}
+use Rattle.hex.specs.Hex.{decode_of, decode_sized}
 use Rattle.hex.specs.declared.error.FromHexError.{FromHexError}
 use Rattle.hex.proofs.HexLemmas.{decode_of-ok, decode_sized-twice}
 use Rattle.map_join.specs.declared.records.Record.{Record}
-use Rattle.script_words.specs.Order as o
-use Rattle.script_words.specs.Order.{Order}
-use Rattle.script_words.specs.Reading.{IsFound}
-use Rattle.script_words.specs.Spelling.{IsRecordWord}
-use Rattle.script_words.specs.declared.verb.Verb.TheVariants as verb
+use Rattle.std.proofs.Common.{length, Option, Some, None}
+use Rattle.script_words.specs.Spelling.{IsRecordWord, PayloadAlone, RecordAlone}
 
 -- digits that aren't those of twelve bytes
 pub no_record : (word : List ℕ) (result : Result (Unit {0}) FromHexError) (e : FromHexError) (P : List ℕ → Type 0)
@@ -23,21 +20,29 @@ no_record word result e P value refused r named =
     let ok = told.0 in
     cc (sym ok ∙ refused)
 
--- a word that names no record is no record to take
-pub no_take : (size : ℕ) (ws : List (List ℕ)) (map : ℕ) (word : List ℕ) → ws ≡ decimal map ∷ word ∷ []
-    → ((r : Record) → IsRecordWord r word → ⊥) → (order : Order) → IsFound verb.Take size ws order → ⊥
-no_take size ws map word spelled none (o.Take m r) found =
-    let f = found.follows in
-    let same : f.word ≡ word = let told = sym f.spelled ∙ spelled in cc in
-    let named : IsRecordWord r word = rw (← same) f.named in
+-- a word that names no record is none alone
+pub not_alone : (ws : List (List ℕ)) (word : List ℕ) → ws ≡ word ∷ [] → ((r : Record) → IsRecordWord r word → ⊥)
+    → (r : Record) → RecordAlone r ws → ⊥
+not_alone ws word spelled none r alone =
+    let same : alone.word ≡ word = let told = sym alone.spelled ∙ spelled in cc in
+    let named : IsRecordWord r word = rw (← same) alone.named in
     none r named
-no_take size ws map word spelled none _ found = let asked = found.asked in cc asked
 
-pub no_at : (size : ℕ) (ws : List (List ℕ)) (word : List ℕ) → ws ≡ word ∷ []
-    → ((r : Record) → IsRecordWord r word → ⊥) → (order : Order) → IsFound verb.At size ws order → ⊥
-no_at size ws word spelled none (o.At r) found =
-    let f = found.follows in
-    let same : f.word ≡ word = let told = sym f.spelled ∙ spelled in cc in
-    let named : IsRecordWord r word = rw (← same) f.named in
-    none r named
-no_at size ws word spelled none _ found = let asked = found.asked in cc asked
+-- digits that were refused are no payload of this size
+pub no_payload : (size : ℕ) (ws : List (List ℕ)) (digits : List ℕ) (result : Result (Unit {0}) FromHexError) (e : FromHexError)
+    (P : List ℕ → Type 0) → ws ≡ digits ∷ []
+    → MatchResult (decode_sized digits size) (λ bytes. (result ≡ Ok tt) × P bytes) (λ f. result ≡ Err f) → result ≡ Err e
+    → (payload : List ℕ) → length payload ≡ size → PayloadAlone payload ws → ⊥
+no_payload size ws digits result e P spelled value refused payload long alone =
+    let same : alone.digits ≡ digits = let told = sym alone.spelled ∙ spelled in cc in
+    let decoded : decode_of digits ≡ Ok payload = rw (← same) alone.decoded in
+    let twice = (decode_of-ok digits payload decoded).2 in
+    let sized : decode_sized digits size ≡ Ok payload = decode_sized-twice digits size (omega arith) ∙ decoded in
+    let told = rw sized at value in
+    let ok = told.0 in
+    cc (sym ok ∙ refused)
+
+pub none_alone : (ws : List (List ℕ)) (word : List ℕ) (result : Option Record) → ws ≡ word ∷ []
+    → IfNone result ((r : Record) → IsRecordWord r word → ⊥) → IfNone result ((r : Record) → RecordAlone r ws → ⊥)
+none_alone ws word None spelled none = not_alone ws word spelled none
+none_alone ws word (Some r) spelled none = tt

@@ -1,29 +1,28 @@
 -- The words of a spelled line are the words that spell it.
-use Rattle.std.proofs.Common.{◌≡◌, ℕ, ◌==◌, true, List, [], ◌∷◌, Ok, Err, Result, length, get_or, refl, sym, ap, ◌∙◌, arith, map, decimal, codes, rules, eqb-true, Option, Some, None}
-use Rattle.std.specs.Prelude.{MatchResult, IfOk}
+use Rattle.std.proofs.Common.{◌≡◌, ℕ, ◌≤◌, ◌==◌, true, List, [], ◌∷◌, ◌++◌, Ok, Err, Result, length, get_or, refl, sym, ap, ◌∙◌, arith, map, take, slice_index, decimal, codes, rules, eqb-true, length-take, Option, Some, None}
+use Rattle.std.specs.Prelude.{IfOk}
 use Rattle.std.specs.List.{AllByRecursion, All}
 use Rattle.std.proofs.lemmas.List.Elements.{All-from_get_or, All-from_recursion, All-append, All-cons}
-use Rattle.std.specs.Str.{bytes_eq}
-use Rattle.std.proofs.lemmas.Slice.Eq.{bytes_eq-Decides}
 use Rattle.std.proofs.lemmas.List.Splits.{join_with_byte-slice_split}
-use Rattle.hex.specs.Hex.{decode_of, decode_sized, is_hex_digit}
-use Rattle.hex.specs.declared.error.FromHexError.{FromHexError}
-use Rattle.hex.proofs.HexLemmas.{decode_of-ok, decode_sized-twice}
-use Rattle.script_words.specs.Number.{IsShort}
-use Rattle.script_words.specs.Verb.{word_of}
-use Rattle.script_words.specs.Words.{words, AreNumbers}
-use Rattle.script_words.specs.Order as o
-use Rattle.script_words.specs.Order.{Order, verb_of}
+use Rattle.hex.specs.Hex.{decode_of, is_hex_digit}
+use Rattle.hex.proofs.HexLemmas.{decode_of-ok}
+use Rattle.map_join.specs.declared.records.Record.{Record}
+use Rattle.script_words.specs.Number.{IsWritable}
+use Rattle.script_words.specs.Words.{words}
+use Rattle.script_words.specs.Order.{Order, Behind, Nothing, Told, Content, Members, behind_of, kind_behind, kinds_of, ordered, tail_of, values_of, verb_of, word_of}
 use Rattle.script_words.specs.Reading.{Finds, IsFound, IsRead, Reads}
 use Rattle.script_words.specs.declared.command.Command.{Command}
-use Rattle.script_words.specs.Spelling.{member_word, line_of, Follows, IsClassWord, IsShortMember, IsSized, Spells}
+use Rattle.script_words.specs.Spelling.{member_word, line_of, ClassAndMembers, Follows, IsBehind, IsClassWord, IsLong, IsSized, IsWritableMember, PayloadAlone, RecordAlone, Spells}
 use Rattle.flat_machine.specs.declared.group.Class.{Class}
 use Rattle.flat_machine.specs.declared.group.Class.TheVariants as class
 use Rattle.script_words.specs.declared.command.Named.{Named}
 use Rattle.script_words.specs.declared.verb.Verb.{Verb}
-use Rattle.script_words.specs.declared.verb.Verb.TheVariants as verb
+use Rattle.script_words.specs.declared.verb.Tail.{Tail}
+use Rattle.script_words.specs.declared.verb.Tail.TheVariants as tail
 use Rattle.script_words.proofs.Members.{digits_differ}
+use Rattle.script_words.proofs.Numbers.{rest_again}
 use Rattle.script_words.proofs.Splits.{Differs, one_part, first_part, not_true}
+use Rattle.script_words.proofs.Table.{behind_again, behind_as, count_again, one_verb, tail_again, values_again, verb_again, verb_word}
 
 -- a word without a space
 abbrev pub IsWord : List ℕ → Type 0
@@ -36,79 +35,19 @@ words_again word [] first rest = one_part 32 word first
 words_again word (next ∷ ws) first rest =
     first_part 32 word (line_of (next ∷ ws)) first ∙ ap (λ later. word ∷ later) (words_again next ws rest.0 rest.1)
 
--- a verb's word has no space
-pub verb_word : (asked : Verb) → IsWord (word_of asked)
-verb_word verb.Array = All-from_recursion (Differs 32) (codes "array") (search rules)
-verb_word verb.Make = All-from_recursion (Differs 32) (codes "make") (search rules)
-verb_word verb.Claim = All-from_recursion (Differs 32) (codes "claim") (search rules)
-verb_word verb.Release = All-from_recursion (Differs 32) (codes "release") (search rules)
-verb_word verb.Fill = All-from_recursion (Differs 32) (codes "fill") (search rules)
-verb_word verb.Commit = All-from_recursion (Differs 32) (codes "commit") (search rules)
-verb_word verb.Read = All-from_recursion (Differs 32) (codes "read") (search rules)
-verb_word verb.Copy = All-from_recursion (Differs 32) (codes "copy") (search rules)
-verb_word verb.Discard = All-from_recursion (Differs 32) (codes "discard") (search rules)
-verb_word verb.At = All-from_recursion (Differs 32) (codes "at") (search rules)
-verb_word verb.Take = All-from_recursion (Differs 32) (codes "take") (search rules)
-verb_word verb.Merge = All-from_recursion (Differs 32) (codes "merge") (search rules)
-verb_word verb.Same = All-from_recursion (Differs 32) (codes "same") (search rules)
-verb_word verb.Show = All-from_recursion (Differs 32) (codes "show") (search rules)
-verb_word verb.Map = All-from_recursion (Differs 32) (codes "map") (search rules)
-verb_word verb.Log = All-from_recursion (Differs 32) (codes "log") (search rules)
-
--- two verbs have two words
-same_verb : (a b : Verb) → bytes_eq (word_of a) (word_of b) ≡ true → a ≡ b
-same_verb verb.Array verb.Array e = refl
-same_verb verb.Array _ e = cc e
-same_verb verb.Make verb.Make e = refl
-same_verb verb.Make _ e = cc e
-same_verb verb.Claim verb.Claim e = refl
-same_verb verb.Claim _ e = cc e
-same_verb verb.Release verb.Release e = refl
-same_verb verb.Release _ e = cc e
-same_verb verb.Fill verb.Fill e = refl
-same_verb verb.Fill _ e = cc e
-same_verb verb.Commit verb.Commit e = refl
-same_verb verb.Commit _ e = cc e
-same_verb verb.Read verb.Read e = refl
-same_verb verb.Read _ e = cc e
-same_verb verb.Copy verb.Copy e = refl
-same_verb verb.Copy _ e = cc e
-same_verb verb.Discard verb.Discard e = refl
-same_verb verb.Discard _ e = cc e
-same_verb verb.At verb.At e = refl
-same_verb verb.At _ e = cc e
-same_verb verb.Take verb.Take e = refl
-same_verb verb.Take _ e = cc e
-same_verb verb.Merge verb.Merge e = refl
-same_verb verb.Merge _ e = cc e
-same_verb verb.Same verb.Same e = refl
-same_verb verb.Same _ e = cc e
-same_verb verb.Show verb.Show e = refl
-same_verb verb.Show _ e = cc e
-same_verb verb.Map verb.Map e = refl
-same_verb verb.Map _ e = cc e
-same_verb verb.Log verb.Log e = refl
-same_verb verb.Log _ e = cc e
-
-pub one_verb : (a b : Verb) → word_of a ≡ word_of b → a ≡ b
-one_verb a b e = same_verb a b ((bytes_eq-Decides (word_of a) (word_of b)).1 e)
-
 -- nor has a number
-number_words : (ns : List ℕ) → AllByRecursion IsShort ns → AllByRecursion IsWord (map decimal ns)
+number_words : (ns : List ℕ) → AllByRecursion IsWritable ns → AllByRecursion IsWord (map decimal ns)
 number_words [] short = tt
 number_words (n ∷ ns) short = (digits_differ 32 n (omega arith) short.0, number_words ns short.1)
 
-numbers_words : (ns : List ℕ) (ws : List (List ℕ)) → AreNumbers ns ws → AllByRecursion IsWord ws
-numbers_words ns ws are = rw are.spelled (number_words ns are.short)
-
 -- nor a member
-member_is_word : (member : Named) → IsShortMember member → IsWord (member_word member)
+member_is_word : (member : Named) → IsWritableMember member → IsWord (member_word member)
 member_is_word member short =
     All-append (Differs 32) (decimal member.drive) (46 ∷ decimal member.extent)
     (digits_differ 32 member.drive (omega arith) short.drive)
     (All-cons (Differs 32) 46 (decimal member.extent) refl (digits_differ 32 member.extent (omega arith) short.extent))
 
-member_words : (members : List Named) → AllByRecursion IsShortMember members → AllByRecursion IsWord (map member_word members)
+member_words : (members : List Named) → AllByRecursion IsWritableMember members → AllByRecursion IsWord (map member_word members)
 member_words [] short = tt
 member_words (m ∷ members) short = (member_is_word m short.0, member_words members short.1)
 
@@ -129,29 +68,20 @@ hex_word digits bytes decoded =
     All-from_get_or (Differs 32) digits 0 (λ k below. no_space_digit (get_or digits k 0) (pass k 0 below))
 
 -- nor any word behind a verb
+behind_words : (behind : Behind) (ws : List (List ℕ)) → IsBehind behind ws → AllByRecursion IsWord ws
+behind_words Nothing ws is = rw is tt
+behind_words (Told r) ws is = rw is.spelled (hex_word is.word is.named.bytes is.named.decoded, tt)
+behind_words (Content payload) ws is = rw is.spelled (hex_word is.digits payload is.decoded, tt)
+behind_words (Members level members) ws is =
+    rw is.spelled (class_word level is.word is.named, rw is.listed.spelled (member_words members is.listed.short))
+
+words_on : (front back : List (List ℕ)) → AllByRecursion IsWord front → AllByRecursion IsWord back → AllByRecursion IsWord (front ++ back)
+words_on [] back first second = second
+words_on (word ∷ front) back first second = (first.0, words_on front back first.1 second)
+
 follow_words : (order : Order) (ws : List (List ℕ)) → Follows order ws → AllByRecursion IsWord ws
-follow_words (o.Array a b c d e) ws f = numbers_words _ ws f
-follow_words (o.Make class members) ws f =
-    rw f.spelled (class_word class f.word f.named, rw f.listed.spelled (member_words members f.listed.short))
-follow_words (o.Claim a b) ws f = numbers_words _ ws f
-follow_words (o.Release a b) ws f = numbers_words _ ws f
-follow_words (o.Fill w s payload) ws f =
-    rw f.spelled (
-      digits_differ 32 w (omega arith) f.worker_short,
-      (digits_differ 32 s (omega arith) f.slot_short, (hex_word f.digits payload f.decoded, tt)),
-    )
-follow_words (o.Commit a b c) ws f = numbers_words _ ws f
-follow_words (o.Read a) ws f = numbers_words _ ws f
-follow_words (o.Copy a b c) ws f = numbers_words _ ws f
-follow_words (o.Discard a b) ws f = numbers_words _ ws f
-follow_words (o.At r) ws f = rw f.spelled (hex_word f.word f.named.bytes f.named.decoded, tt)
-follow_words (o.Take map r) ws f =
-    rw f.spelled (digits_differ 32 map (omega arith) f.map_short, (hex_word f.word f.named.bytes f.named.decoded, tt))
-follow_words (o.Merge a b) ws f = numbers_words _ ws f
-follow_words (o.Same a b) ws f = numbers_words _ ws f
-follow_words (o.Show a) ws f = numbers_words _ ws f
-follow_words o.Map ws f = rw f tt
-follow_words o.Log ws f = rw f tt
+follow_words order ws f =
+    rw f.spelled (words_on _ f.rest (number_words (values_of order) f.writable) (behind_words (behind_of order) f.rest f.behind))
 
 -- the words of a line that spells a command
 pub spelled_words : (order : Order) (line : List ℕ) (s : Spells order line) → words line ≡ word_of (verb_of order) ∷ s.rest
@@ -186,22 +116,66 @@ pub unspelled : (size : ℕ) (line word : List ℕ) (ws : List (List ℕ)) → w
 unspelled size line word ws cut none order read =
     let told = sym cut ∙ spelled_words order line read.spells in none (verb_of order) (cc)
 
--- digits that were refused are no payload of this size
-pub no_payload : (size : ℕ) (ws : List (List ℕ)) (w s : ℕ) (digits : List ℕ) (r : Result (Unit {0}) FromHexError) (e : FromHexError)
-    (P : List ℕ → Type 0) → ws ≡ decimal w ∷ decimal s ∷ digits ∷ []
-    → MatchResult (decode_sized digits size) (λ bytes. (r ≡ Ok tt) × P bytes) (λ f. r ≡ Err f) → r ≡ Err e
-    → (order : Order) → IsFound verb.Fill size ws order → ⊥
-no_payload size ws w s digits r e P spelled value refused (o.Fill w' s' payload) found =
+-- a command that was read behind its verb
+pub found_as : (asked : Verb) (t : Tail) (size count : ℕ) (ns : List ℕ) (r : Record) (payload : List ℕ) (level : Class) (members : List Named)
+    (ws back : List (List ℕ)) → length ns ≡ 5 → count ≡ length (kinds_of asked) → tail_of asked ≡ t
+    → AllByRecursion IsWritable (take count ns) → ws ≡ map decimal (take count ns) ++ back
+    → IsBehind (behind_as t r payload level members) back → IsLong size (behind_as t r payload level members)
+    → IsFound asked size ws (ordered asked (λ i. slice_index ns i) r payload level members)
+found_as asked t size count ns r payload level members ws back five counted tailed writable spelled behind long =
+    let values = values_again asked ns r payload level members five in
+    let tail_is = behind_again asked (λ i. slice_index ns i) r payload level members
+    ∙ ap (λ k. behind_as k r payload level members) tailed in
+    record {
+      asked = verb_again asked (λ i. slice_index ns i) r payload level members;
+      sized = rw tail_is long;
+      follows = record {
+        rest = back;
+        writable = rw (values, ← counted) writable;
+        behind = rw tail_is behind;
+        spelled = rw (values, ← counted) spelled;
+      };
+    }
+
+-- without its numbers no command of the verb stands there
+pub no_numbers : (asked : Verb) (size count : ℕ) (ws : List (List ℕ)) → count ≡ length (kinds_of asked)
+    → ((ns : List ℕ) (rest : List (List ℕ)) → length ns ≡ count → AllByRecursion IsWritable ns → ws ≡ map decimal ns ++ rest → ⊥)
+    → (order : Order) → IsFound asked size ws order → ⊥
+no_numbers asked size count ws counted none order found =
     let f = found.follows in
-    let same : f.digits ≡ digits = let told = sym f.spelled ∙ spelled in cc in
-    let decoded : decode_of digits ≡ Ok payload = rw (← same) f.decoded in
-    let twice = (decode_of-ok digits payload decoded).2 in
-    let size_is : length payload ≡ size = found.sized in
-    let sized : decode_sized digits size ≡ Ok payload = decode_sized-twice digits size (omega arith) ∙ decoded in
-    let told = rw sized at value in
-    let ok = told.0 in
-    cc (sym ok ∙ refused)
-no_payload size ws w s digits r e P spelled value refused _ found = let asked = found.asked in cc asked
+    none (values_of order) f.rest (count_again order ∙ ap (λ v. length (kinds_of v)) found.asked ∙ sym counted) f.writable f.spelled
+
+-- nor without what stands behind them
+pub no_behind : (asked : Verb) (t : Tail) (size count : ℕ) (ns : List ℕ) (ws back : List (List ℕ)) → length ns ≡ 5 → count ≤ 5
+    → count ≡ length (kinds_of asked) → tail_of asked ≡ t → ws ≡ map decimal (take count ns) ++ back
+    → ((behind : Behind) → kind_behind behind ≡ t → IsLong size behind → IsBehind behind back → ⊥)
+    → (order : Order) → IsFound asked size ws order → ⊥
+no_behind asked t size count ns ws back five few counted tailed spelled none order found =
+    let f = found.follows in
+    let as_many : length (values_of order) ≡ length (take count ns) =
+    count_again order ∙ ap (λ v. length (kinds_of v)) found.asked ∙ sym counted ∙ omega (arith, length-take count ns) in
+    let same : f.rest ≡ back = rest_again (values_of order) (take count ns) f.rest back as_many (sym f.spelled ∙ spelled) in
+    none (behind_of order) (tail_again order ∙ ap tail_of found.asked ∙ tailed) found.sized (rw same at f.behind)
+
+pub no_end : (back : List (List ℕ)) → (back ≡ [] → ⊥) → (size : ℕ) (behind : Behind) → kind_behind behind ≡ tail.Nothing → IsLong size behind
+    → IsBehind behind back → ⊥
+no_end back none size Nothing is long there = none there
+no_end back none size _ is long there = cc is
+
+pub no_record_behind : (back : List (List ℕ)) → ((r : Record) → RecordAlone r back → ⊥) → (size : ℕ) (behind : Behind)
+    → kind_behind behind ≡ tail.Record → IsLong size behind → IsBehind behind back → ⊥
+no_record_behind back none size (Told r) is long there = none r there
+no_record_behind back none size _ is long there = cc is
+
+pub no_payload_behind : (back : List (List ℕ)) (size : ℕ) → ((bytes : List ℕ) → length bytes ≡ size → PayloadAlone bytes back → ⊥)
+    → (behind : Behind) → kind_behind behind ≡ tail.Payload → IsLong size behind → IsBehind behind back → ⊥
+no_payload_behind back size none (Content payload) is long there = none payload long there
+no_payload_behind back size none _ is long there = cc is
+
+pub no_members_behind : (back : List (List ℕ)) → ((level : Class) (members : List Named) → ClassAndMembers level members back → ⊥) → (size : ℕ)
+    (behind : Behind) → kind_behind behind ≡ tail.Members → IsLong size behind → IsBehind behind back → ⊥
+no_members_behind back none size (Members level members) is long there = none level members there
+no_members_behind back none size _ is long there = cc is
 
 -- what was found behind the first word is what the line spells
 read_line : (asked : Verb) (size : ℕ) (line word bytes : List ℕ) (ws : List (List ℕ)) (found : Option Command)

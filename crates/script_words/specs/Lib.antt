@@ -1,6 +1,5 @@
 pub mod Number
 pub mod Parts
-pub mod Verb
 pub mod Words
 pub mod Order
 pub mod Spelling

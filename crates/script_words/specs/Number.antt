@@ -2,5 +2,5 @@
 use Rattle.std.specs.Prelude.{ℕ, ◌<◌, ◌^◌}
 
 -- a number of at most ten digits, which is how many a script may write
-abbrev pub IsShort : ℕ → Type 0
-IsShort n = n < 10 ^ 10
+abbrev pub IsWritable : ℕ → Type 0
+IsWritable n = n < 10 ^ 10

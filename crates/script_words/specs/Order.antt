@@ -1,12 +1,16 @@
--- A command as plain data: its numbers, its record, and the payload of a fill.
-use Rattle.std.specs.Prelude.{ℕ, List}
+-- A command as plain data, and the table of commands: each one's word, its numbers, and what stands behind them.
+use Rattle.std.specs.Prelude.{ℕ, List, [], ◌∷◌, map, codes, slice_index}
 use Rattle.map_join.specs.declared.records.Record.{Record}
 use Rattle.flat_machine.specs.declared.group.Class.{Class}
+use Rattle.flat_machine.specs.declared.group.Class.TheVariants as class
 use Rattle.script_words.specs.declared.command.Named.{Named}
 use Rattle.script_words.specs.declared.command.Command.{Command}
-use Rattle.script_words.specs.declared.command.Command.TheVariants as made
 use Rattle.script_words.specs.declared.verb.Verb.{Verb}
 use Rattle.script_words.specs.declared.verb.Verb.TheVariants as verb
+use Rattle.script_words.specs.declared.verb.Kind.{Kind}
+use Rattle.script_words.specs.declared.verb.Kind.TheVariants as kind
+use Rattle.script_words.specs.declared.verb.Tail.{Tail}
+use Rattle.script_words.specs.declared.verb.Tail.TheVariants as tail
 
 -- a command
 pub data Order : Type 0 where
@@ -27,40 +31,133 @@ pub data Order : Type 0 where
   Map : Order
   Log : Order
 
--- what a command asks for
+-- a number, and what it stands for
+pub record Number : Type 0 where
+  pub kind : Kind
+  pub value : ℕ
+
+-- what stands behind a command's numbers
+pub data Behind : Type 0 where
+  Nothing : Behind
+  Told : Record → Behind
+  Content : List ℕ → Behind
+  Members : Class → List Named → Behind
+
+-- a command as it is written
+pub record Shape : Type 0 where
+  pub verb : Verb
+  pub numbers : List Number
+  pub behind : Behind
+
+abbrev pub form : Verb → List Number → Behind → Shape
+form asked ns rest = record { verb = asked; numbers = ns; behind = rest }
+
+-- a number of each kind
+abbrev pub worker : ℕ → Number
+worker n = record { kind = kind.Worker; value = n }
+
+abbrev pub slot : ℕ → Number
+slot n = record { kind = kind.Slot; value = n }
+
+abbrev pub block : ℕ → Number
+block n = record { kind = kind.Block; value = n }
+
+abbrev pub table : ℕ → Number
+table n = record { kind = kind.Map; value = n }
+
+abbrev pub size : ℕ → Number
+size n = record { kind = kind.Size; value = n }
+
+-- the word that a verb is written as
+abbrev pub word_of : Verb → List ℕ
+word_of verb.Array = codes "array"
+word_of verb.Make = codes "make"
+word_of verb.Claim = codes "claim"
+word_of verb.Release = codes "release"
+word_of verb.Fill = codes "fill"
+word_of verb.Copy = codes "copy"
+word_of verb.Commit = codes "commit"
+word_of verb.Discard = codes "discard"
+word_of verb.Read = codes "read"
+word_of verb.At = codes "at"
+word_of verb.Take = codes "take"
+word_of verb.Merge = codes "merge"
+word_of verb.Same = codes "same"
+word_of verb.Show = codes "show"
+word_of verb.Map = codes "map"
+word_of verb.Log = codes "log"
+
+-- how each command is written: a row of the table
+abbrev pub shape : Order → Shape
+shape (Array drives extents segments payload blocks) =
+    form verb.Array (size drives ∷ size extents ∷ size segments ∷ size payload ∷ size blocks ∷ []) Nothing
+shape (Make level members) = form verb.Make [] (Members level members)
+shape (Claim w s) = form verb.Claim (worker w ∷ slot s ∷ []) Nothing
+shape (Release w s) = form verb.Release (worker w ∷ slot s ∷ []) Nothing
+shape (Fill w s payload) = form verb.Fill (worker w ∷ slot s ∷ []) (Content payload)
+shape (Copy w s b) = form verb.Copy (worker w ∷ slot s ∷ block b ∷ []) Nothing
+shape (Commit w s b) = form verb.Commit (worker w ∷ slot s ∷ block b ∷ []) Nothing
+shape (Discard w s) = form verb.Discard (worker w ∷ slot s ∷ []) Nothing
+shape (Read b) = form verb.Read (block b ∷ []) Nothing
+shape (At r) = form verb.At [] (Told r)
+shape (Take m r) = form verb.Take (table m ∷ []) (Told r)
+shape (Merge into from) = form verb.Merge (table into ∷ table from ∷ []) Nothing
+shape (Same left right) = form verb.Same (table left ∷ table right ∷ []) Nothing
+shape (Show m) = form verb.Show (table m ∷ []) Nothing
+shape Map = form verb.Map [] Nothing
+shape Log = form verb.Log [] Nothing
+
+-- what a command asks for, its numbers, and what stands behind them
 abbrev pub verb_of : Order → Verb
-verb_of (Array drives extents segments payload blocks) = verb.Array
-verb_of (Make class members) = verb.Make
-verb_of (Claim worker slot) = verb.Claim
-verb_of (Release worker slot) = verb.Release
-verb_of (Fill worker slot payload) = verb.Fill
-verb_of (Copy worker slot block) = verb.Copy
-verb_of (Commit worker slot block) = verb.Commit
-verb_of (Discard worker slot) = verb.Discard
-verb_of (Read block) = verb.Read
-verb_of (At r) = verb.At
-verb_of (Take map r) = verb.Take
-verb_of (Merge into from) = verb.Merge
-verb_of (Same left right) = verb.Same
-verb_of (Show map) = verb.Show
-verb_of Map = verb.Map
-verb_of Log = verb.Log
+verb_of order = (shape order).verb
+
+abbrev pub numbers_of : Order → List Number
+numbers_of order = (shape order).numbers
+
+abbrev pub behind_of : Order → Behind
+behind_of order = (shape order).behind
+
+abbrev pub values_of : Order → List ℕ
+values_of order = map (λ n. n.value) (numbers_of order)
+
+-- the command of a verb with these numbers in order, and with what stands behind them
+abbrev pub ordered : Verb → (ℕ → ℕ) → Record → List ℕ → Class → List Named → Order
+ordered verb.Array n r payload level members = Array (n 0) (n 1) (n 2) (n 3) (n 4)
+ordered verb.Make n r payload level members = Make level members
+ordered verb.Claim n r payload level members = Claim (n 0) (n 1)
+ordered verb.Release n r payload level members = Release (n 0) (n 1)
+ordered verb.Fill n r payload level members = Fill (n 0) (n 1) payload
+ordered verb.Copy n r payload level members = Copy (n 0) (n 1) (n 2)
+ordered verb.Commit n r payload level members = Commit (n 0) (n 1) (n 2)
+ordered verb.Discard n r payload level members = Discard (n 0) (n 1)
+ordered verb.Read n r payload level members = Read (n 0)
+ordered verb.At n r payload level members = At r
+ordered verb.Take n r payload level members = Take (n 0) r
+ordered verb.Merge n r payload level members = Merge (n 0) (n 1)
+ordered verb.Same n r payload level members = Same (n 0) (n 1)
+ordered verb.Show n r payload level members = Show (n 0)
+ordered verb.Map n r payload level members = Map
+ordered verb.Log n r payload level members = Log
 
 -- a command of the program, with the payload that stands in the buffer
 abbrev pub order_of : Command → List ℕ → Order
-order_of (made.Array drives extents segments payload blocks) bytes = Array drives extents segments payload blocks
-order_of (made.Make class members) bytes = Make class members.items
-order_of (made.Claim worker slot) bytes = Claim worker slot
-order_of (made.Release worker slot) bytes = Release worker slot
-order_of (made.Fill worker slot) bytes = Fill worker slot bytes
-order_of (made.Copy worker slot block) bytes = Copy worker slot block
-order_of (made.Commit worker slot block) bytes = Commit worker slot block
-order_of (made.Discard worker slot) bytes = Discard worker slot
-order_of (made.Read block) bytes = Read block
-order_of (made.At r) bytes = At r
-order_of (made.Take map r) bytes = Take map r
-order_of (made.Merge into from) bytes = Merge into from
-order_of (made.Same left right) bytes = Same left right
-order_of (made.Show map) bytes = Show map
-order_of made.Map bytes = Map
-order_of made.Log bytes = Log
+order_of command bytes =
+    ordered command.verb (λ i. slice_index command.numbers i) command.record bytes command.class command.members.items
+
+-- the shape of every command of a verb
+abbrev pub sample : Verb → Shape
+sample asked = shape (ordered asked (λ i. 0) (record { block = 0; version = 0; hop = 0; place = 0 }) [] class.Mirrored [])
+
+-- what each of a verb's numbers stands for
+abbrev pub kinds_of : Verb → List Kind
+kinds_of asked = map (λ n. n.kind) (sample asked).numbers
+
+-- what stands behind a verb's numbers
+abbrev pub kind_behind : Behind → Tail
+kind_behind Nothing = tail.Nothing
+kind_behind (Told r) = tail.Record
+kind_behind (Content payload) = tail.Payload
+kind_behind (Members level members) = tail.Members
+
+abbrev pub tail_of : Verb → Tail
+tail_of asked = kind_behind (sample asked).behind

@@ -1,15 +1,16 @@
 //! A line of a script as a command: numbers, members, records and verbs as they are spelled.
 #![tactic(auto)]
 
-mod arguments;
 mod command;
 mod member;
 mod number;
 mod parse;
 mod parts;
+mod payload;
 mod record;
 mod verb;
 mod words;
 
 pub use command::{Command, Named};
 pub use parse::command_of;
+pub use verb::{Kind, Row, Tail, Verb};

@@ -1,14 +1,14 @@
 //! Numbers as a script writes them: `0`, or a digit 1 to 9 and at most nine digits more.
 ghost use Rattle.std.specs.Prelude.{◌≡◌, ℕ, IfSome, IfNone, decimal};
-ghost use Rattle.script_words.specs.Number.{IsShort};
+ghost use Rattle.script_words.specs.Number.{IsWritable};
 
 /// The most digits of a number.
 const MOST_DIGITS: usize = 10;
 
 /// The number that the word spells, if it spells one.
 pub fn number_of(word: &[u8]) -> Option<u64>
-    ensures some { IfSome result (λ n. IsShort n × (word.now ≡ decimal n)) }
-    ensures none { IfNone result ((n : ℕ) → IsShort n → word.now ≡ decimal n → ⊥) }
+    ensures some { IfSome result (λ n. IsWritable n × (word.now ≡ decimal n)) }
+    ensures none { IfNone result ((n : ℕ) → IsWritable n → word.now ≡ decimal n → ⊥) }
 {
     if word.is_empty() || word.len() > MOST_DIGITS {
         return None;

@@ -4,14 +4,24 @@ ghost use Rattle.script_words.specs.Parts.{text_of};
 ghost use Rattle.script_words.specs.Words.{words_left};
 ghost use Rattle.script_words.specs.Reading.{Finds, Reads};
 
-use crate::arguments::{
-    array_of, at_of, claim_of, commit_of, copy_of, discard_of, fill_of, log_of, make_of, map_of,
-    merge_of, read_of, release_of, same_of, show_of, take_of,
-};
-use crate::command::Command;
+use crate::command::{Command, MOST_NUMBERS};
+use crate::member::class_and_members;
 use crate::parts::{SPACE, cut};
-use crate::verb::{Verb, verb_of};
+use crate::payload::put_payload;
+use crate::record::last_record;
+use crate::verb::{Tail, Verb, verb_of};
+use crate::words::{is_end, next_numbers};
+use flat_machine::Class;
+use map_join::Record;
 use std::alloc::{AllocError, Global};
+
+/// The record of a command that names none.
+const NO_RECORD: Record = Record {
+    block: 0,
+    version: 0,
+    hop: 0,
+    place: 0,
+};
 
 /// The command that the line spells, if it spells one. The payload of a fill, which has to be as long as the
 /// buffer, is put there.
@@ -33,27 +43,47 @@ pub fn command_of(
 fn follow(
     alloc: Global,
     verb: Verb,
-    rest: Option<&[u8]>,
+    words: Option<&[u8]>,
     payload: &mut [u8],
 ) -> Result<Option<Command>, AllocError>
-    ensures { IfOk result (Finds verb (length payload.old) (words_left (text_of rest.entry)) payload.new) }
+    ensures { IfOk result (Finds verb (length payload.old) (words_left (text_of words.entry)) payload.new) }
 {
-    match verb {
-        Verb::Array => Ok(array_of(rest)),
-        Verb::Make => make_of(alloc, rest),
-        Verb::Claim => Ok(claim_of(rest)),
-        Verb::Release => Ok(release_of(rest)),
-        Verb::Fill => Ok(fill_of(rest, payload)),
-        Verb::Copy => Ok(copy_of(rest)),
-        Verb::Commit => Ok(commit_of(rest)),
-        Verb::Discard => Ok(discard_of(rest)),
-        Verb::Read => Ok(read_of(rest)),
-        Verb::At => Ok(at_of(rest)),
-        Verb::Take => Ok(take_of(rest)),
-        Verb::Merge => Ok(merge_of(rest)),
-        Verb::Same => Ok(same_of(rest)),
-        Verb::Show => Ok(show_of(rest)),
-        Verb::Map => Ok(map_of(rest)),
-        Verb::Log => Ok(log_of(rest)),
+    let row = verb.row();
+    let mut numbers = [0; MOST_NUMBERS];
+    let Some(rest) = next_numbers(&mut numbers, row.kinds.len(), words) else {
+        return Ok(None)
+    };
+    let mut command = Command {
+        verb,
+        numbers,
+        record: NO_RECORD,
+        class: Class::Mirrored,
+        members: Vec::new(alloc),
+    };
+    match row.tail {
+        Tail::Nothing => {
+            if !is_end(rest) {
+                return Ok(None);
+            }
+        }
+        Tail::Record => {
+            let Some(record) = last_record(rest) else {
+                return Ok(None)
+            };
+            command.record = record;
+        }
+        Tail::Payload => {
+            if !put_payload(rest, payload) {
+                return Ok(None);
+            }
+        }
+        Tail::Members => {
+            let Some((class, members)) = class_and_members(alloc, rest)? else {
+                return Ok(None)
+            };
+            command.class = class;
+            command.members = members;
+        }
     }
+    Ok(Some(command))
 }

@@ -1,16 +1,19 @@
 //! A record, as a script names it.
 ghost use Rattle.std.specs.Prelude.{IfSome, IfNone};
 ghost use Rattle.map_join.specs.declared.records.Record.{Record};
-ghost use Rattle.script_words.specs.Spelling.{IsRecordWord};
+ghost use Rattle.script_words.specs.Parts.{text_of};
+ghost use Rattle.script_words.specs.Words.{words_left};
+ghost use Rattle.script_words.specs.Spelling.{IsRecordWord, RecordAlone};
 
+use crate::words::last_word;
 use hex::decode_to_slice;
 use map_join::Record;
 
 /// The bytes of a record.
 const RECORD_LEN: usize = 12;
 
-/// The record that the word spells, if it spells one.
-pub fn record_of(word: &[u8]) -> Option<Record>
+// The record that the word spells, if it spells one.
+fn record_of(word: &[u8]) -> Option<Record>
     ensures some { IfSome result (λ r. IsRecordWord r word.now) }
     ensures none { IfNone result ((r : Record) → IsRecordWord r word.now → ⊥) }
 {
@@ -23,4 +26,15 @@ pub fn record_of(word: &[u8]) -> Option<Record>
         Ok(record) => Some(record),
         Err(_) => None,
     }
+}
+
+/// The one record that is left.
+pub fn last_record(text: Option<&[u8]>) -> Option<Record>
+    ensures some { IfSome result (λ r. RecordAlone r (words_left (text_of text.entry))) }
+    ensures none { IfNone result ((r : Record) → RecordAlone r (words_left (text_of text.entry)) → ⊥) }
+{
+    let Some(word) = last_word(text) else {
+        return None
+    };
+    record_of(word)
 }

@@ -1,6 +1,6 @@
-//! The words that commands begin with.
-ghost use Rattle.std.specs.Prelude.{◌≡◌, IfSome, IfNone};
-ghost use Rattle.script_words.specs.Verb.{word_of};
+//! The table of commands: a row says a verb's word, the kinds of its numbers, and what stands behind them.
+ghost use Rattle.std.specs.Prelude.{◌≡◌, ◌≤◌, length, IfSome, IfNone};
+ghost use Rattle.script_words.specs.Order.{word_of, kinds_of, tail_of};
 
 /// What a command asks for.
 #[derive(Clone, Copy)]
@@ -21,6 +21,39 @@ pub enum Verb {
     Show,
     Map,
     Log,
+}
+
+/// What a number of a command stands for.
+#[derive(Clone, Copy)]
+pub enum Kind {
+    Worker,
+    Slot,
+    Block,
+    Drive,
+    Extent,
+    Group,
+    Map,
+    /// A number of drives, or a size of the array.
+    Size,
+}
+
+/// What stands behind a command's numbers.
+#[derive(Clone, Copy)]
+pub enum Tail {
+    Nothing,
+    Record,
+    Payload,
+    /// A class of groups, and three to eight members.
+    Members,
+}
+
+/// A row of the table.
+#[derive(Clone, Copy)]
+pub struct Row {
+    /// The word as a script writes it.
+    pub word: &'static [u8],
+    pub kinds: &'static [Kind],
+    pub tail: Tail,
 }
 
 /// Every verb, the most frequent ones first.
@@ -44,27 +77,94 @@ const VERBS: [Verb; 16] = [
 ];
 
 impl Verb {
-    /// The word as a script writes it.
-    pub fn word(self) -> &'static [u8]
-        ensures { result.now ≡ word_of self }
+    /// The verb's row of the table.
+    pub fn row(self) -> Row
+        ensures word { result.word.now ≡ word_of self }
+        ensures kinds { result.kinds.now ≡ kinds_of self }
+        ensures few { length result.kinds.now ≤ 5 }
+        ensures tail { result.tail ≡ tail_of self }
     {
         match self {
-            Verb::Array => b"array",
-            Verb::Make => b"make",
-            Verb::Claim => b"claim",
-            Verb::Release => b"release",
-            Verb::Fill => b"fill",
-            Verb::Copy => b"copy",
-            Verb::Commit => b"commit",
-            Verb::Discard => b"discard",
-            Verb::Read => b"read",
-            Verb::At => b"at",
-            Verb::Take => b"take",
-            Verb::Merge => b"merge",
-            Verb::Same => b"same",
-            Verb::Show => b"show",
-            Verb::Map => b"map",
-            Verb::Log => b"log",
+            Verb::Array => Row {
+                word: b"array",
+                kinds: &[Kind::Size, Kind::Size, Kind::Size, Kind::Size, Kind::Size],
+                tail: Tail::Nothing,
+            },
+            Verb::Make => Row {
+                word: b"make",
+                kinds: &[],
+                tail: Tail::Members,
+            },
+            Verb::Claim => Row {
+                word: b"claim",
+                kinds: &[Kind::Worker, Kind::Slot],
+                tail: Tail::Nothing,
+            },
+            Verb::Release => Row {
+                word: b"release",
+                kinds: &[Kind::Worker, Kind::Slot],
+                tail: Tail::Nothing,
+            },
+            Verb::Fill => Row {
+                word: b"fill",
+                kinds: &[Kind::Worker, Kind::Slot],
+                tail: Tail::Payload,
+            },
+            Verb::Copy => Row {
+                word: b"copy",
+                kinds: &[Kind::Worker, Kind::Slot, Kind::Block],
+                tail: Tail::Nothing,
+            },
+            Verb::Commit => Row {
+                word: b"commit",
+                kinds: &[Kind::Worker, Kind::Slot, Kind::Block],
+                tail: Tail::Nothing,
+            },
+            Verb::Discard => Row {
+                word: b"discard",
+                kinds: &[Kind::Worker, Kind::Slot],
+                tail: Tail::Nothing,
+            },
+            Verb::Read => Row {
+                word: b"read",
+                kinds: &[Kind::Block],
+                tail: Tail::Nothing,
+            },
+            Verb::At => Row {
+                word: b"at",
+                kinds: &[],
+                tail: Tail::Record,
+            },
+            Verb::Take => Row {
+                word: b"take",
+                kinds: &[Kind::Map],
+                tail: Tail::Record,
+            },
+            Verb::Merge => Row {
+                word: b"merge",
+                kinds: &[Kind::Map, Kind::Map],
+                tail: Tail::Nothing,
+            },
+            Verb::Same => Row {
+                word: b"same",
+                kinds: &[Kind::Map, Kind::Map],
+                tail: Tail::Nothing,
+            },
+            Verb::Show => Row {
+                word: b"show",
+                kinds: &[Kind::Map],
+                tail: Tail::Nothing,
+            },
+            Verb::Map => Row {
+                word: b"map",
+                kinds: &[],
+                tail: Tail::Nothing,
+            },
+            Verb::Log => Row {
+                word: b"log",
+                kinds: &[],
+                tail: Tail::Nothing,
+            },
         }
     }
 }
@@ -75,7 +175,7 @@ pub fn verb_of(word: &[u8]) -> Option<Verb>
     ensures none { IfNone result ((verb : Verb) → word.now ≡ word_of verb → ⊥) }
 {
     for verb in VERBS {
-        if word == verb.word() {
+        if word == verb.row().word {
             return Some(verb);
         }
     }

@@ -3,12 +3,8 @@ use Rattle.script_words.specs.Order as o
 use Rattle.script_bench.proofs.Carried.{told_step}
 use Rattle.script_bench.proofs.carry.copy.Goals as goal
 
-pub returns-in-Ok : goal.returns-in-Ok
-returns-in-Ok c P stands =
-    let hand = c.in-Some.ensures.some in
-    let block = c.in-Some-block_of.ensures.some in
-    let took = rw (hand.0, hand.1, block.0) at (c.in-Ok.ensures.ok P.flat stands.world) in
-    told_step c.tell.result P _ (o.Copy c.args.worker c.args.slot c.args.block)
-    (s.Copy c.args.worker c.args.slot c.args.block) _ _ _
-    c.tell.ensures.ok c.tell.ensures.err tt (hand.2, rw stands.world.array.tables.sizes block.1) took
-    stands.maps (λ text t steps. steps)
+pub returns : goal.returns
+returns c =
+    told_step c.put_answer.result c.args.bench.now _ (o.Copy c.args.worker c.args.slot c.args.block)
+    (s.Copy c.args.worker c.args.slot c.args.block) _ _ _ c.put_answer.ensures
+    (λ P stands. c.in_ok-answer.ensures.ok P.flat stands.world) (λ P stands. stands.maps) (λ P text t steps. steps)

@@ -4,8 +4,7 @@ use Rattle.script_bench.proofs.Carried.{told_step}
 use Rattle.script_bench.proofs.carry.discard.Goals as goal
 
 pub returns : goal.returns
-returns c P stands =
-    let hand = c.in-Some.ensures.some in
-    let took = rw (hand.0, hand.1) at (c.discard-answer.ensures.flat P.flat stands.world) in
-    told_step c.tell.result P _ (o.Discard c.args.worker c.args.slot) (s.Discard c.args.worker c.args.slot) _ _ _
-    c.tell.ensures.ok c.tell.ensures.err tt hand.2 took stands.maps (λ text t steps. steps)
+returns c =
+    told_step c.put_answer.result c.args.bench.now _ (o.Discard c.args.worker c.args.slot)
+    (s.Discard c.args.worker c.args.slot) _ _ _ c.put_answer.ensures
+    (λ P stands. c.discard-answer.ensures.flat P.flat stands.world) (λ P stands. stands.maps) (λ P text t steps. steps)

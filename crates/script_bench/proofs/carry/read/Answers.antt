@@ -3,10 +3,8 @@ use Rattle.script_words.specs.Order as o
 use Rattle.script_bench.proofs.Carried.{told_step}
 use Rattle.script_bench.proofs.carry.read.Goals as goal
 
-pub returns-in-Ok : goal.returns-in-Ok
-returns-in-Ok c P stands =
-    let block = c.in-Some.ensures.some in
-    let case = rw block.0 at (c.in-Ok.ensures.ok P.flat stands.world) in
-    told_step c.tell.result P _ (o.Read c.args.block) (s.Read c.args.block) _ _ _
-    c.tell.ensures.ok c.tell.ensures.err tt (rw stands.world.array.tables.sizes block.1) (P.flat, case, stands.world)
-    stands.maps (λ text t steps. steps)
+pub returns : goal.returns
+returns c =
+    told_step c.put_answer.result c.args.bench.now _ (o.Read c.args.block)
+    (s.Read c.args.block) _ _ _ c.put_answer.ensures
+    (λ P stands. (P.flat, c.in_ok-answer.ensures.ok P.flat stands.world, stands.world)) (λ P stands. stands.maps) (λ P text t steps. steps)

@@ -1,8 +1,10 @@
-use Rattle.script_bench.proofs.Carried.{told_at}
+use Rattle.flat_machine.specs.Steps as s
+use Rattle.script_words.specs.Order as o
+use Rattle.script_bench.proofs.Carried.{told_step}
 use Rattle.script_bench.proofs.carry.read_at.Goals as goal
 
-pub returns-in-Ok-put_answer : goal.returns-in-Ok-put_answer
-returns-in-Ok-put_answer c P stands =
-    let block = c.in-Some.ensures.some in
-    told_at P c.args.bench.now c.args.record _ _ _ (rw (stands.world.array.tables.sizes, ← c.from.ensures) block.1) stands
-    (c.in-Ok.ensures.ok P.flat stands.world) c.in-Ok-put_answer.ensures
+pub returns : goal.returns
+returns c =
+    told_step c.put_answer.result c.args.bench.now _ (o.At c.args.record)
+    (s.ReadAt c.args.record) _ _ _ c.put_answer.ensures
+    (λ P stands. (P.flat, c.in_ok-answer.ensures.ok P.flat stands.world, stands.world)) (λ P stands. stands.maps) (λ P text t steps. steps)

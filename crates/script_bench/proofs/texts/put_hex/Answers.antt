@@ -1,5 +1,5 @@
 use Rattle.std.proofs.Common.{◌≤◌, length, arith}
-use Rattle.script_words.proofs.Hexes.{hex_step, hex_done}
+use Rattle.script_bench.proofs.Hexes.{hex_step, hex_done}
 use Rattle.script_bench.proofs.texts.put_hex.Goals as goal
 
 pub loop-byte-preserved : goal.loop-byte-preserved

@@ -15,6 +15,7 @@ returns-in-Ok-clause-said g c state stands =
       lines = a.lines;
       text_is = a.text_is;
       open_line = c.in-Ok.ensures.keeps.open_line;
+      short = c.in-Ok.ensures.keeps.short;
       bytes = a.bytes;
       wrote = wrote_bytes _ _ _ _ _ a.bytes (c.write_out.ensures.whole c.if-not-write_out.false) c.deref.ensures.value a.out c.requires.written;
       leads = a.leads;

@@ -1,43 +1,29 @@
+use Rattle.std.proofs.Common.{◌≡◌, length, ap, sym, ◌∙◌, arith}
+use Rattle.script_words.specs.declared.verb.Tail.TheVariants as tail
+use Rattle.script_words.proofs.Spellings.{found_as}
 use Rattle.script_words.proofs.parse.follow.Goals as goal
+use Rattle.script_words.proofs.parse.follow.Goals.{in-Nothing+else-not-is_end, in-Record+in-Some-last_record, in-Payload+else-not-put_payload, in-Members+in_ok-class-in-Members+in-Some-2}
 
-pub returns-in-Array : goal.returns-in-Array
-returns-in-Array c = rw c.in-Array.is (c.array_of.ensures _ _)
-
-pub returns-in-Claim : goal.returns-in-Claim
-returns-in-Claim c = rw c.in-Claim.is (c.claim_of.ensures _ _)
-
-pub returns-in-Release : goal.returns-in-Release
-returns-in-Release c = rw c.in-Release.is (c.release_of.ensures _ _)
-
-pub returns-in-Commit : goal.returns-in-Commit
-returns-in-Commit c = rw c.in-Commit.is (c.commit_of.ensures _ _)
-
-pub returns-in-Read : goal.returns-in-Read
-returns-in-Read c = rw c.in-Read.is (c.read_of.ensures _ _)
-
-pub returns-in-Take : goal.returns-in-Take
-returns-in-Take c = rw c.in-Take.is (c.take_of.ensures _ _)
-
-pub returns-in-Merge : goal.returns-in-Merge
-returns-in-Merge c = rw c.in-Merge.is (c.merge_of.ensures _ _)
-
-pub returns-in-Same : goal.returns-in-Same
-returns-in-Same c = rw c.in-Same.is (c.same_of.ensures _ _)
-
-pub returns-in-Show : goal.returns-in-Show
-returns-in-Show c = rw c.in-Show.is (c.show_of.ensures _ _)
-
-pub returns-in-Copy : goal.returns-in-Copy
-returns-in-Copy c = rw c.in-Copy.is (c.copy_of.ensures _ _)
-
-pub returns-in-Discard : goal.returns-in-Discard
-returns-in-Discard c = rw c.in-Discard.is (c.discard_of.ensures _ _)
-
-pub returns-in-At : goal.returns-in-At
-returns-in-At c = rw c.in-At.is (c.at_of.ensures _ _)
-
-pub returns-in-Map : goal.returns-in-Map
-returns-in-Map c = rw c.in-Map.is (c.map_of.ensures _ _)
-
-pub returns-in-Log : goal.returns-in-Log
-returns-in-Log c = rw c.in-Log.is (c.log_of.ensures _ _)
+pub returns : goal.returns
+returns c =
+    let row = c.row-row.ensures in
+    let numbers = c.in-Some.ensures.some in
+    let five : length c.next_numbers.new.numbers ≡ 5 = omega arith in
+    elim c.match-row.branch [
+      | in-Nothing+else-not-is_end w ↦
+          rw (w.command-is, w.payload-is)
+          (found_as c.args.verb tail.Nothing _ _ c.next_numbers.new.numbers _ _ _ _ _ _ five (ap length row.kinds)
+          (sym row.tail ∙ w.in-Nothing.is) numbers.0 numbers.1 (w.is_end.ensures.0 w.if-not-is_end.false) tt)
+      | in-Record+in-Some-last_record w ↦
+          rw (w.command-is, w.payload-is)
+          (found_as c.args.verb tail.Record _ _ c.next_numbers.new.numbers _ _ _ _ _ _ five (ap length row.kinds)
+          (sym row.tail ∙ w.in-Record.is) numbers.0 numbers.1 w.in-Some-last_record.ensures.some tt)
+      | in-Payload+else-not-put_payload w ↦
+          rw (w.command-is, w.payload-is)
+          (found_as c.args.verb tail.Payload _ _ c.next_numbers.new.numbers _ _ _ _ _ _ five (ap length row.kinds)
+          (sym row.tail ∙ w.in-Payload.is) numbers.0 numbers.1 (w.put_payload.ensures.put w.if-not-put_payload.false) w.put_payload.auto.payload)
+      | in-Members+in_ok-class-in-Members+in-Some-2 w ↦
+          rw (w.command-is, w.payload-is)
+          (found_as c.args.verb tail.Members _ _ c.next_numbers.new.numbers _ _ _ _ _ _ five (ap length row.kinds)
+          (sym row.tail ∙ w.in-Members.is) numbers.0 numbers.1 (rw w.in-Some-2.is at w.in_ok-class-in-Members.ensures.some) tt)
+    ]

@@ -1,6 +1,6 @@
 use Rattle.std.proofs.Common.{◌<◌, arith, sym, ap, ◌∙◌}
-use Rattle.script_words.specs.Verb.{word_of}
-use Rattle.script_words.proofs.Verbs.{place_of, place_below, at_place}
+use Rattle.script_words.specs.Order.{word_of}
+use Rattle.script_words.proofs.Table.{place_of, place_below, at_place}
 use Rattle.script_words.proofs.verb.verb_of.Goals as goal
 
 pub returns-clause-none : goal.returns-clause-none

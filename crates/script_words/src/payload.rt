@@ -1,0 +1,23 @@
+//! A payload, as a script writes it.
+ghost use Rattle.std.specs.Prelude.{◌≡◌, ℕ, List, length, true, false};
+ghost use Rattle.script_words.specs.Parts.{text_of};
+ghost use Rattle.script_words.specs.Words.{words_left};
+ghost use Rattle.script_words.specs.Spelling.{PayloadAlone};
+
+use crate::words::last_word;
+use hex::decode_to_slice;
+
+/// Puts the payload that is left into the buffer, where it fills it.
+pub fn put_payload(text: Option<&[u8]>, payload: &mut [u8]) -> bool
+    ensures put { result ≡ true → PayloadAlone payload.new (words_left (text_of text.entry)) }
+    ensures none { result ≡ false → (bytes : List ℕ) → length bytes ≡ length payload.old →
+        PayloadAlone bytes (words_left (text_of text.entry)) → ⊥ }
+{
+    let Some(digits) = last_word(text) else {
+        return false
+    };
+    match decode_to_slice(digits, payload) {
+        Ok(()) => true,
+        Err(_) => false,
+    }
+}
