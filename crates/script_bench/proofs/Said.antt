@@ -1,5 +1,5 @@
 -- Which commands a line may say.
-use Rattle.std.proofs.Common.{◌≡◌, ℕ, List, length, Some, None, refl, sym, ap, ◌∙◌, ◌≤◌, take, length-take, arith}
+use Rattle.std.proofs.Common.{◌≡◌, ℕ, List, length, Some, None, refl, sym, ap, subst, ◌∙◌, ◌≤◌, take, length-take, arith}
 use Rattle.script_words.specs.Order.{Order, Behind, Content, Told, behind_of, kind_behind, tail_of, verb_of}
 use Rattle.script_words.specs.Spelling.{Spells, IsBehind, IsLong, IsOfWrite, IsWritten}
 use Rattle.script_words.specs.Reading.{IsRead}
@@ -7,8 +7,12 @@ use Rattle.script_words.specs.declared.verb.Verb.TheVariants as verb
 use Rattle.script_words.specs.declared.verb.Tail.TheVariants as tail
 use Rattle.script_words.proofs.Spellings.{spelled_words}
 use Rattle.script_words.proofs.Table.{one_verb, tail_again}
-use Rattle.script_bench.specs.State.{Position}
-use Rattle.script_bench.specs.Replies.{IsUnsaid}
+use Rattle.script_words.specs.Order as o
+use Rattle.script_words.specs.Spelling.{IsSized}
+use Rattle.script_bench.specs.declared.bench.Bench.{Bench}
+use Rattle.script_bench.specs.State.{Position, IsFit, IsWithin}
+use Rattle.script_bench.specs.Carrying.{IsCarried}
+use Rattle.script_bench.specs.Replies.{IsUnsaid, IsReplied}
 
 -- a line has one verb
 pub line_verb : (line : List ℕ) (a b : Order) → Spells a line → Spells b line → verb_of a ≡ verb_of b
@@ -65,3 +69,22 @@ unsaid_first size line out none = record {
 pub buffer_size : (P : Position) (size : ℕ) (buffer : List ℕ) → P.flat.sizes.payload ≡ size → size ≤ length buffer
     → P.flat.sizes.payload ≡ length (take size buffer)
 buffer_size P size buffer e room = omega (arith, length-take size buffer)
+
+-- an order that isn't the array's has no rule of its own
+fit_later : (order : Order) → (verb_of order ≡ verb.Array → ⊥) → IsFit order
+fit_later (o.Array drives extents segments payload blocks) other = absurd (other refl)
+fit_later _ other = tt
+
+-- a command that was read, may come and is within the limits, and was carried out, is replied to
+pub replied : (P : Position) (bench : Bench) (size blocks : ℕ) (line old new : List ℕ) (order : Order) → P.flat.sizes.payload ≡ size → P.flat.sizes.blocks ≡ blocks
+    → IsRead size line order → (verb_of order ≡ verb.Array → ⊥) → IsWithin blocks order → IsCarried (Some P) (Some bench) order old new
+    → IsReplied (Some P) (Some bench) line old new
+replied P bench size blocks line old new order long many read other within carried = record {
+  order = order;
+  spells = read.spells;
+  answered = record {
+    due = (other, subst (λ n. IsSized n order) (sym long) read.sized);
+    range = record { within = subst (λ n. IsWithin n order) (sym many) within; fit = fit_later order other };
+    carried = carried;
+  };
+}
