@@ -10,6 +10,7 @@ use map_join::Live;
 
 /// Says which slots are free.
 pub trait Free {
+    /// The slot is free.
     ghost free: { Self → ℕ → Type 0 };
 
     /// Whether the slot is free.

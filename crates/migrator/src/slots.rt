@@ -10,8 +10,10 @@ use std::alloc::{AllocError, Global};
 
 /// Says which groups are picked, and which slots of these.
 pub(crate) trait Picks {
+    /// The group is picked.
     ghost group_is: { Self → ℕ → Type 0 };
 
+    /// The slot is picked, where its group is.
     ghost slot_is: { Self → ℕ → Type 0 };
 
     fn picks_group(&self, group: u16) -> bool
