@@ -1,13 +1,12 @@
 -- A test of tables from outside: what its parts tell of groups and owners.
-use Rattle.std.proofs.Common.{◌≡◌, ℕ, zero, suc, ◌<◌, ◌≤◌, inl, inr, Bool, true, false, Option, Some, None, List, [], ◌∷◌, length, refl, sym, ◌∙◌, ap, subst, arith, eq-eqb}
+use Rattle.std.proofs.Common.{◌≡◌, ℕ, suc, ◌<◌, ◌≤◌, inl, inr, Bool, true, false, Option, Some, None, List, [], ◌∷◌, length, refl, sym, ◌∙◌, ap, arith, eq-eqb}
 use Rattle.std.specs.Prelude.{◌==◌, ◌&&◌, ◌||◌, slice_get, unwrap_or}
 use Rattle.std.specs.List.{list_any}
-use Rattle.std.proofs.lemmas.Bool.{cases_lt}
 use Rattle.std.proofs.lemmas.Bool.Decides.{nat_tests}
 use Rattle.std.proofs.lemmas.Option.{none-some, slice_get_past, slice_get_cases}
 use Rattle.extents.specs.Owners.{Owners, owner_of, row_of}
 use Rattle.extent_groups.specs.declared.class.Member.{Member}
-use Rattle.extent_groups.specs.Groups.{Groups, group_at, members_of, AreGroups, AreWide, AreOwned, Stands, RowStands, Agree, is_extent}
+use Rattle.extent_groups.specs.Groups.{Groups, members_of, AreGroups, AreWide, AreOwned, Stands, RowStands, Agree, is_extent}
 use Rattle.extent_groups.proofs.Fresh.{no_members}
 use Rattle.extent_groups.proofs.GroupsLemmas.{any_in}
 use Rattle.extent_groups.proofs.Swapping.{named}

@@ -10,12 +10,12 @@ use Rattle.extent_groups.specs.declared.class.Class.TheVariants.{Mirrored, Parit
 use Rattle.extent_groups.specs.declared.class.Member.{Member}
 use Rattle.extent_groups.specs.declared.place.Place.{Place}
 use Rattle.extent_groups.specs.Geometry.{slot_count, copies_of, stripe_of}
-use Rattle.extent_groups.specs.Groups.{Group, Groups, group_at, members_in, with_group, with_member, AreGroups, Agree}
-use Rattle.extent_groups.specs.Cells.{Cells, cells, held}
+use Rattle.extent_groups.specs.Groups.{Group, Groups, group_at, with_group, with_member, AreGroups, Agree}
+use Rattle.extent_groups.specs.Cells.{Cells, held}
 use Rattle.extent_groups.specs.Calls.{Fades, FadesAt}
 use Rattle.extent_groups.specs.Units.{Site, Pair, InStripe, total, others, or_else, held_in, row_of, unit_at, unit_in, site_in, site_of, site_of_index, place_of, places_of, place_at, IsSoundAt}
 use Rattle.extent_groups.specs.Layout.{IsOf, IsWhole}
-use Rattle.extent_groups.specs.Stores.{unit_bytes, unit_of, AreSound, KeepsAt}
+use Rattle.extent_groups.specs.Stores.{unit_bytes, unit_of, AreSound}
 use Rattle.extent_groups.specs.Moving.{member_unit, IsCopied}
 use Rattle.extent_groups.proofs.Places.{get-set_same, get-set_other, same_or_not}
 use Rattle.extent_groups.proofs.GeometryLaws.{copies_law, stripe_law}

@@ -9,7 +9,7 @@ use Rattle.extent_groups.specs.declared.geometry.Spot.{Spot}
 use Rattle.extent_groups.specs.declared.role.Role.{Role}
 use Rattle.extent_groups.specs.declared.role.Role.TheVariants.{Slot, ParityUnit, Unused}
 use Rattle.extent_groups.specs.Groups.{Group, IsFormed, class_in, slots_in, members_in}
-use Rattle.extent_groups.specs.Geometry.{slot_count, spot_at, copies_of, stripe_of, parity_of, data_member, copy_index, stripe_index}
+use Rattle.extent_groups.specs.Geometry.{slot_count, spot_at, parity_of, data_member, copy_index, stripe_index}
 use Rattle.extent_groups.specs.Roles.{LiesAt, IsRole, IsRoleIn, mirrored_role, parity_role}
 use Rattle.extent_groups.proofs.GeometryLaws.{copies_law}
 use Rattle.extent_groups.proofs.LayoutLaw.{one_address}

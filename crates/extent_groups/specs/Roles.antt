@@ -1,8 +1,7 @@
 -- What lies at an offset of a member of a group: the way back from a unit to its slot.
-use Rattle.std.specs.Prelude.{◌≡◌, ℕ, ◌+◌, ◌*◌, ◌/◌, ◌%◌, ◌<◌, ◌==◌, ◌⊎◌, nat_lt, if◌then◌else◌, Option, Some, None, length}
+use Rattle.std.specs.Prelude.{◌≡◌, ℕ, ◌/◌, ◌<◌, ◌==◌, ◌⊎◌, nat_lt, if◌then◌else◌, Option, Some, None, length}
 use Rattle.extent_groups.specs.declared.class.Class.{Class}
 use Rattle.extent_groups.specs.declared.class.Class.TheVariants.{Mirrored, Parity}
-use Rattle.extent_groups.specs.declared.geometry.Spot.{Spot}
 use Rattle.extent_groups.specs.declared.role.Role.{Role}
 use Rattle.extent_groups.specs.declared.role.Role.TheVariants.{Slot, ParityUnit, Unused}
 use Rattle.extent_groups.specs.Geometry.{slot_count, copies_of, stripe_of, parity_of, copy_index, stripe_index}

@@ -14,9 +14,9 @@ ghost use Rattle.extent_groups.specs.Calls.{NoPlace, KeepsDrives};
 ghost use Rattle.extent_groups.specs.Stores.{unit_bytes, unit_of, AreSound, IsSlotOf, AreDrives, KeepsUnits, Wrote, NamesGone, IsOwnOf};
 
 pub use exclusive_or::xor_into;
-pub use parity::read_parity;
 use extent_groups::{GroupTable, SLOTS, StoreRefusal};
 use extents::Drive;
+pub use parity::read_parity;
 
 /// Reads the effective unit of a slot, with two buffers of a unit's length; refused where the unit's drive and another member's are lost.
 pub fn read<D: Drive>(
