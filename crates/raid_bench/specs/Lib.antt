@@ -1,1 +1,1 @@
-pub mod Dashes
+pub mod Asked

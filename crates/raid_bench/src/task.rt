@@ -1,24 +1,23 @@
 //! What the command line asks for.
-ghost use Rattle.std.specs.Prelude.{◌≡◌, true, None, string_bytes};
-ghost use Rattle.std.specs.List.{list_any};
-ghost use Rattle.raid_bench.specs.Dashes.{is_dashed as begins};
+ghost use Rattle.std.specs.Prelude.{◌≡◌, ◌↔◌, IfOk, IsTrue, None, Some, codes, map, string_bytes};
+ghost use Rattle.raid_bench.specs.Asked.{AreScript};
 
 use clap::Command;
-use clap::error::ErrorKind;
 use std::alloc::{AllocError, Global};
 
 /// What the program is asked to do.
-#[derive(Clone, Copy, Debug, PartialEq, Eq)]
+#[derive(Clone, Copy)]
 pub enum Task {
     /// Answer the script on standard input.
     Script,
 }
 
-/// The task that the words ask for, if they ask for one. A word that begins with `-` asks for none.
+/// The task that the words ask for, if they ask for one.
 pub fn task_of(alloc: Global, words: &[String]) -> Result<Option<Task>, AllocError>
-    ensures { list_any (λ word. begins (string_bytes word)) words.now ≡ true → result ≡ Ok None }
+    ensures script { AreScript (map string_bytes words.now) → IfOk result (λ task. task ≡ Some Task.Script) }
+    ensures other { (AreScript (map string_bytes words.now) → ⊥) → result ≡ Ok None }
 {
-    if is_any_dashed(words) {
+    if !are_script(words) {
         return Ok(None);
     }
     let command = Command::new(alloc, "raid_bench")
@@ -27,31 +26,26 @@ pub fn task_of(alloc: Global, words: &[String]) -> Result<Option<Task>, AllocErr
         .disable_help_subcommand(true)
         .subcommand_required(true)
         .subcommand(Command::new(alloc, "script").disable_help_flag(true))?;
+    // These words are refused for want of memory alone.
     match command.try_get_matches_from(words) {
-        Ok(matches) => match matches.subcommand_name() {
-            Some("script") => Ok(Some(Task::Script)),
-            _ => Ok(None),
-        },
-        Err(error) => match error.kind() {
-            ErrorKind::OutOfMemory => Err(AllocError),
-            _ => Ok(None),
-        },
+        Ok(_) => Ok(Some(Task::Script)),
+        Err(_) => Err(AllocError),
     }
 }
 
-// Whether one of the words begins with a dash.
-fn is_any_dashed(words: &[String]) -> bool
-    ensures { result ≡ list_any (λ word. begins (string_bytes word)) words.now }
+// Whether the words are the one for a script, alone.
+fn are_script(words: &[String]) -> bool
+    ensures { IsTrue result ↔ AreScript (map string_bytes words.now) }
 {
-    words.iter().any(|word| is_dashed(word.as_bytes()))
+    match words {
+        [word] => is_script(word.as_bytes()),
+        _ => false,
+    }
 }
 
-// Whether the word begins with a dash.
-fn is_dashed(word: &[u8]) -> bool
-    ensures { result ≡ begins word.now }
+// Whether the word is the one for a script.
+fn is_script(word: &[u8]) -> bool
+    ensures { IsTrue result ↔ (word.now ≡ codes "script") }
 {
-    match word.first() {
-        Some(byte) => *byte == b'-',
-        None => false,
-    }
+    word == b"script".as_slice()
 }

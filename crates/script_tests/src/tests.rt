@@ -53,6 +53,80 @@ impl Write for Full {
     }
 }
 
+/// Gives its bytes one at a time.
+#[derive(Drop)]
+struct Slow<'a> {
+    bytes: &'a [u8],
+}
+
+impl Read for Slow<'_> {
+    fn read(&mut self, buf: &mut [u8]) -> io::Result<usize> {
+        let count = self.bytes.len().min(buf.len()).min(1);
+        buf[..count].copy_from_slice(&self.bytes[..count]);
+        self.bytes = &self.bytes[count..];
+        Ok(count)
+    }
+}
+
+/// Answers one error in front of its bytes, or behind the first of them, and then goes on.
+#[derive(Drop)]
+struct Stumbling<'a> {
+    front: &'a [u8],
+    stumbled: bool,
+    rest: &'a [u8],
+}
+
+impl Read for Stumbling<'_> {
+    fn read(&mut self, buf: &mut [u8]) -> io::Result<usize> {
+        if self.front.is_empty() && !self.stumbled {
+            self.stumbled = true;
+            return Err(io::Error::from(ErrorKind::Interrupted));
+        }
+        let bytes = if self.stumbled { self.rest } else { self.front };
+        let count = bytes.len().min(buf.len());
+        buf[..count].copy_from_slice(&bytes[..count]);
+        if self.stumbled {
+            self.rest = &bytes[count..];
+        } else {
+            self.front = &bytes[count..];
+        }
+        Ok(count)
+    }
+}
+
+/// Takes so many bytes, then once none, or answers an error, and then takes all.
+#[derive(Drop)]
+struct Balking {
+    taken: Vec<u8>,
+    room: usize,
+    fails: bool,
+    balked: bool,
+}
+
+impl Write for Balking {
+    fn write(&mut self, buf: &[u8]) -> io::Result<usize> {
+        let count = if self.balked {
+            buf.len()
+        } else {
+            buf.len().min(self.room)
+        };
+        if count == 0 {
+            self.balked = true;
+            if self.fails {
+                return Err(io::Error::from(ErrorKind::Interrupted));
+            }
+            return Ok(0);
+        }
+        self.taken.extend_from_slice(&buf[..count])?;
+        self.room -= count.min(self.room);
+        Ok(count)
+    }
+
+    fn flush(&mut self) -> io::Result<()> {
+        Ok(())
+    }
+}
+
 #[test]
 fn scripts_are_answered_line_by_line(rt: HostRuntime) -> Result<(), Fail> {
     let cases = [
@@ -124,6 +198,60 @@ fn a_full_writer_has_a_front_of_the_answers(rt: HostRuntime) -> Result<(), Fail>
                 FIRST_ANSWERS.as_bytes().get(..room)
             );
         }
+    }
+    Ok(())
+}
+
+#[test]
+fn a_reader_of_one_byte_a_call_is_read_to_its_end(rt: HostRuntime) -> Result<(), Fail> {
+    let mut script = Vec::new(rt.alloc());
+    for _ in 0..50_000 {
+        script.extend_from_slice(b"#\n")?;
+    }
+    script.extend_from_slice(FIRST.as_bytes())?;
+    let mut reader = Slow { bytes: &script };
+    let mut out = Vec::new(rt.alloc());
+    assert_eq!(rt; run_script(rt.alloc(), &mut reader, &mut out), End::Whole);
+    assert_eq!(rt; out.as_slice(), FIRST_ANSWERS.as_bytes());
+    Ok(())
+}
+
+#[test]
+fn a_read_that_failed_is_not_tried_again(rt: HostRuntime) -> Result<(), Fail> {
+    for (count, answers) in [(0, ""), (17, "array\n"), (46, "array\nmade 0\nclaimed 0\n")] {
+        let mut reader = Stumbling {
+            front: FIRST.as_bytes().get(..count).ok_or("short")?,
+            stumbled: false,
+            rest: FIRST.as_bytes().get(count..).ok_or("short")?,
+        };
+        let mut out = Vec::new(rt.alloc());
+        assert_eq!(rt;
+            run_script(rt.alloc(), &mut reader, &mut out),
+            End::ReadFault
+        );
+        assert_eq!(rt; out.as_slice(), answers.as_bytes());
+    }
+    Ok(())
+}
+
+#[test]
+fn a_write_that_failed_is_not_tried_again(rt: HostRuntime) -> Result<(), Fail> {
+    for (room, fails) in [(0, false), (0, true), (7, false), (7, true)] {
+        let mut writer = Balking {
+            taken: Vec::new(rt.alloc()),
+            room,
+            fails,
+            balked: false,
+        };
+        let mut reader = FIRST.as_bytes();
+        assert_eq!(rt;
+            run_script(rt.alloc(), &mut reader, &mut writer),
+            End::WriteFault
+        );
+        assert_eq!(rt;
+            Some(writer.taken.as_slice()),
+            FIRST_ANSWERS.as_bytes().get(..room)
+        );
     }
     Ok(())
 }
