@@ -55,6 +55,24 @@ fn an_array_hands_claims_back(rt: HostRuntime) -> Result<(), Fail> {
 }
 
 #[test]
+fn a_slot_that_the_array_holds_is_in_use(rt: HostRuntime) -> Result<(), Fail> {
+    let alloc = rt.alloc();
+    let mut array: Array<Plain> = Array::new(alloc, Shape::new(8, 2, 8, 16)?, 3)?;
+    let members = [member(0, 0), member(1, 0), member(2, 0)];
+    array.make_group(alloc, Class::Mirrored, &members)?;
+    assert_eq!(rt; (array.shape().payload(), array.shape().blocks()), (8, 16));
+    let Ok(_ticket) = array.fill(alloc, Plain { slot: 0 }, &[7u8; 8]) else {
+        panic!(rt; "not filled")
+    };
+    let again = array.fill(alloc, Plain { slot: 0 }, &[7u8; 8]);
+    assert!(rt; matches!(again, Err((Refusal::InUse, Plain { slot: 0 }))));
+    assert_eq!(rt; array.shape().blocks(), 16);
+    let copied = array.copy(alloc, Plain { slot: 0 }, 3);
+    assert!(rt; matches!(copied, Err((Refusal::InUse, Plain { slot: 0 }))));
+    Ok(())
+}
+
+#[test]
 fn a_record_is_read_at_its_place_or_learned(rt: HostRuntime) -> Result<(), Fail> {
     let alloc = rt.alloc();
     let world = written(&rt)?;

@@ -1,16 +1,16 @@
--- A claim and a release keep what is true of every state.
-use Rattle.std.proofs.Common.{◌≡◌, ℕ, ◌<◌, Bool, true, false, refl, sym, ap, ◌∙◌, subst, ◌⊎◌, inl, inr, None}
+-- A claim and a release keep what is true of every state: only a worker's holder comes or goes.
+use Rattle.std.proofs.Common.{◌≡◌, ℕ, Bool, refl, ap, ◌∙◌, subst, sym, ◌⊎◌, inl, inr}
 use Rattle.std.proofs.lemmas.Bool.{cases_eq}
 use Rattle.map_join.specs.Record.{record_of}
-use Rattle.flat_machine.specs.Flat.{Flat, Holder, Worker, Block, with_pair, without_pair, IsFree}
-use Rattle.flat_machine.specs.History.{HoldersStand, IsHistory}
-use Rattle.flat_machine.proofs.Pairs.{with_else, without_else, just_one, with_just, without_nobody}
-use Rattle.flat_machine.proofs.Slots.{nobody_stands, worker_stands, free_waits, worker_waits, holders_same, block_same, apart}
+use Rattle.flat_machine.specs.Flat.{Flat, Holder, Worker, Block, IsArrays, for_block, with_pair, without_pair}
+use Rattle.flat_machine.specs.History.{IsHistory}
+use Rattle.flat_machine.proofs.Pairs.{with_else, without_else, with_arrays, without_arrays}
+use Rattle.flat_machine.proofs.Slots.{arrays_same, block_same}
 
--- the holders of one slot change, which no block held
-held_kept : (F : Flat) (keys : ℕ → ℕ) (held : ℕ → Holder → Bool) (s : ℕ) → IsHistory F keys → ((b : ℕ) → F.held s (Block b) ≡ true → ⊥)
-    → ((t : ℕ) → (t ≡ s → ⊥) → held t ≡ F.held t) → HoldersStand F.groups keys s (held s) (F.tickets s) → IsHistory (record F { held = held }) keys
-held_kept F keys held s is free rest here = record {
+-- where the array's own holders stay, all stays
+pub arrays_kept : (F : Flat) (keys : ℕ → ℕ) (held : ℕ → Holder → Bool) → IsHistory F keys → ((t : ℕ) (k : Holder) → IsArrays k → held t k ≡ F.held t k)
+    → IsHistory (record F { held = held }) keys
+arrays_kept F keys held is same = record {
   limits = is.limits;
   groups = is.groups;
   records = is.records;
@@ -19,27 +19,28 @@ held_kept F keys held s is free rest here = record {
   map = is.map;
   writes = is.writes;
   versions = is.versions;
-  holders = λ t. holders t (cases_eq t s);
+  holders = λ t. arrays_same F.groups keys t (F.held t) (held t) (F.tickets t) (same t) (is.holders t);
   units = is.units;
-  written = λ b. block_same F (record F { held = held }) b (keys b) refl
-      (λ has. (refl, ap (λ (h : Holder → Bool). h (Block b)) (rest (record_of b (keys b)).place (apart F.held (record_of b (keys b)).place s b has (free b))) ∙ has))
-      (is.written b);
+  written = λ b. block_same F (record F { held = held }) b (keys b) refl (λ has. (refl, same (record_of b (keys b)).place (Block b) (for_block b) ∙ has)) (is.written b);
 }
+
+-- a worker's pair more, or one less, at one slot
+pub with_worker : (F : Flat) (w s t : ℕ) (k : Holder) → IsArrays k → with_pair F.held s (Worker w) t k ≡ F.held t k
+with_worker F w s t k of = go (cases_eq t s)
   where
-    holders : (t : ℕ) → (t ≡ s) ⊎ (t ≡ s → ⊥) → HoldersStand F.groups keys t (held t) (F.tickets t)
-    holders t (inl e) = subst (λ n. HoldersStand F.groups keys n (held n) (F.tickets n)) (sym e) here
-    holders t (inr ne) = holders_same F.groups keys t (F.held t) (held t) (F.tickets t) (F.tickets t) (rest t ne) refl (is.holders t)
+    go : (t ≡ s) ⊎ (t ≡ s → ⊥) → with_pair F.held s (Worker w) t k ≡ F.held t k
+    go (inl e) = subst (λ (n : ℕ). with_pair F.held s (Worker w) n k ≡ F.held n k) (sym e) (with_arrays F.held s w k of)
+    go (inr ne) = ap (λ (h : Holder → Bool). h k) (with_else F.held s (Worker w) t ne)
 
-pub claim_keeps : (F : Flat) (keys : ℕ → ℕ) (w s : ℕ) → IsHistory F keys → s < 65536 → IsFree F s → IsHistory (record F { held = with_pair F.held s (Worker w) }) keys
-claim_keeps F keys w s is inside free =
-    held_kept F keys (with_pair F.held s (Worker w)) s is (λ b has. let bad : true ≡ false = sym has ∙ free (Block b) in cc) (λ t ne. with_else F.held s (Worker w) t ne)
-    (holders_same F.groups keys s (with_pair F.held s (Worker w) s) (with_pair F.held s (Worker w) s) None (F.tickets s) refl
-    (free_waits F.groups keys s (F.held s) (F.tickets s) (is.holders s) free) (worker_stands F.groups keys s (with_pair F.held s (Worker w) s) w inside (with_just F.held s (Worker w) free)))
+pub without_worker : (F : Flat) (w s t : ℕ) (k : Holder) → IsArrays k → without_pair F.held s (Worker w) t k ≡ F.held t k
+without_worker F w s t k of = go (cases_eq t s)
+  where
+    go : (t ≡ s) ⊎ (t ≡ s → ⊥) → without_pair F.held s (Worker w) t k ≡ F.held t k
+    go (inl e) = subst (λ (n : ℕ). without_pair F.held s (Worker w) n k ≡ F.held n k) (sym e) (without_arrays F.held s w k of)
+    go (inr ne) = ap (λ (h : Holder → Bool). h k) (without_else F.held s (Worker w) t ne)
 
-pub release_keeps : (F : Flat) (keys : ℕ → ℕ) (w s : ℕ) → IsHistory F keys → F.held s (Worker w) ≡ true → IsHistory (record F { held = without_pair F.held s (Worker w) }) keys
-release_keeps F keys w s is mine =
-    held_kept F keys (without_pair F.held s (Worker w)) s is
-    (λ b has. let e : Block b ≡ Worker w = (is.holders s).once (Block b) (Worker w) has mine in cc) (λ t ne. without_else F.held s (Worker w) t ne)
-    (holders_same F.groups keys s (without_pair F.held s (Worker w) s) (without_pair F.held s (Worker w) s) None (F.tickets s) refl
-    (worker_waits F.groups keys s (F.held s) (F.tickets s) w (is.holders s) mine)
-    (nobody_stands F.groups keys s (without_pair F.held s (Worker w) s) (without_nobody F.held s (Worker w) (just_one (F.held s) (Worker w) (is.holders s).once mine))))
+pub claim_keeps : (F : Flat) (keys : ℕ → ℕ) (w s : ℕ) → IsHistory F keys → IsHistory (record F { held = with_pair F.held s (Worker w) }) keys
+claim_keeps F keys w s is = arrays_kept F keys (with_pair F.held s (Worker w)) is (with_worker F w s)
+
+pub release_keeps : (F : Flat) (keys : ℕ → ℕ) (w s : ℕ) → IsHistory F keys → IsHistory (record F { held = without_pair F.held s (Worker w) }) keys
+release_keeps F keys w s is = arrays_kept F keys (without_pair F.held s (Worker w)) is (without_worker F w s)

@@ -9,14 +9,14 @@ use Rattle.map_join.specs.Record.{key_of, record_of, stamp, stamp_of, stamp_in, 
 use Rattle.map_join.specs.Maps.{IsMapOf, join, only}
 use Rattle.map_join.proofs.Joins.{took, only_here, only_else}
 use Rattle.flat_machine.specs.declared.group.Class.{Class}
-use Rattle.flat_machine.specs.Flat.{Flat, Write, Content, Payload, bytes_of, Holder, Ticket, Block, Waiting, Fresh, Moved, content_of, record_in, header_for, Stored, content_in, waiting_unit, class_of, put, last_write, IsNewest}
+use Rattle.flat_machine.specs.Flat.{Flat, IsArrays, for_ticket, for_block, Write, Content, Payload, bytes_of, Holder, Ticket, Block, Waiting, Fresh, Moved, content_of, record_in, header_for, Stored, content_in, waiting_unit, class_of, put, last_write, IsNewest}
 use Rattle.flat_machine.specs.Cases.{committed, stamped, longest_log}
 use Rattle.flat_machine.specs.History.{AreLimits, ComesNext, IsWrite, IsWriteChain, IsWriteOf, IsHeaderOf, HoldersStand, UnitStands, WaitingStands, IsCopy, IsAt, BlockStands, IsHistory}
 use Rattle.flat_machine.proofs.Pairs.{put_here, put_else, just_held}
 use Rattle.flat_machine.proofs.Newest.{newest_zero, newest_record, newest_unique, same_map, told_again, key_least}
 use Rattle.flat_machine.proofs.Writes.{chained, write_most}
 use Rattle.flat_machine.proofs.Passing.{Passes, passed}
-use Rattle.flat_machine.proofs.Slots.{worker_stands, block_stands, block_waits, holders_same, units_same, block_same, apart}
+use Rattle.flat_machine.proofs.Slots.{nobody_stands, worker_nobody, block_stands, block_waits, holders_same, units_same, block_same, apart}
 
 -- the record that a commit emits
 abbrev pub emitted_by : ℕ → ℕ → ℕ → ℕ → Record
@@ -58,7 +58,7 @@ module _ (F : Flat) (keys : ℕ → ℕ) (w s b : ℕ) (found : Option Record) (
       (took F.emitted (emitted_by b s v h) keys (join keys (only (emitted_by b s v h))) (λ n. refl) ready.history.map)
 
   slot_small : s < 65536
-  slot_small = (ready.history.holders s).inside (Ticket w) ready.mine
+  slot_small = (ready.history.holders s).inside (Ticket w) (for_ticket w) ready.mine
 
   above : keys b < key_of (emitted_by b s v h)
   above = let e = ready.above in omega arith
@@ -79,8 +79,8 @@ module _ (F : Flat) (keys : ℕ → ℕ) (w s b : ℕ) (found : Option Record) (
   again : record_of b (M b) ≡ emitted_by b s v h
   again = ap (record_of b) key_here ∙ told_again (emitted_by b s v h) ready.ok
 
-  passes : Passes F w s b found
-  passes = passed F keys w s b found ready.history ready.newest ready.mine
+  passes : Passes IsArrays F w s b found
+  passes = passed IsArrays F keys w s b found (λ t. (ready.history.holders t).once) (for_ticket w) (for_block b) ready.history ready.newest ready.mine
 
   -- the place of a block with a key is its newest record's
   placed : (d t : ℕ) → d ≡ b → 0 < keys d → (record_of d (keys d)).place ≡ t → ((q : Record) → found ≡ Some q → t ≡ q.place → ⊥) → ⊥
@@ -128,7 +128,7 @@ module _ (F : Flat) (keys : ℕ → ℕ) (w s b : ℕ) (found : Option Record) (
       old q is = holders_same F.groups M q.place (G.held q.place) (G.held q.place) None (put F.tickets s None q.place) refl
           (put_else F.tickets s None q.place (passes.apart q is)
           ∙ block_waits F.groups keys q.place (F.held q.place) (F.tickets q.place) b (ready.history.holders q.place) (passes.held q is))
-          (worker_stands F.groups M q.place (G.held q.place) w ((ready.history.holders q.place).inside (Block b) (passes.held q is)) (passes.old q is))
+          (nobody_stands F.groups M q.place (G.held q.place) (worker_nobody (G.held q.place) w (passes.old q is)))
 
       by_found : (o : Option Record) → found ≡ o → (t ≡ s → ⊥) → P t
       by_found None none ne = kept ne (λ q is. let bad : None ≡ Some q = sym none ∙ is in cc)
@@ -272,7 +272,7 @@ module _ (F : Flat) (keys : ℕ → ℕ) (w s b : ℕ) (found : Option Record) (
           header = stamped_record (emitted_by b s v h) (content_of c);
           content = stamped_content F.sizes.payload (emitted_by b s v h) (content_of c) ∙ sym ready.last.3;
         });
-        place = subst (λ (q : Record). G.held q.place (Block b) ≡ true) (sym again) (just_held (G.held s) (Block b) passes.here);
+        place = subst (λ (q : Record). G.held q.place (Block b) ≡ true) (sym again) (just_held IsArrays (G.held s) (Block b) passes.here (for_block b));
       },
     )),
   )
@@ -287,7 +287,7 @@ module _ (F : Flat) (keys : ℕ → ℕ) (w s b : ℕ) (found : Option Record) (
 
           off : (q : Record) → found ≡ Some q → (record_of d (keys d)).place ≡ q.place → ⊥
           off q is = apart F.held (record_of d (keys d)).place q.place d has
-              (λ other. let e : Block d ≡ Block b = (ready.history.holders q.place).once (Block d) (Block b) other (passes.held q is) in ne (cc))
+              (λ other. let e : Block d ≡ Block b = (ready.history.holders q.place).once (Block d) (Block b) (for_block d) (for_block b) other (passes.held q is) in ne (cc))
 
   limits : AreLimits F.sizes F.drives (length (F.emitted ++ emitted_by b s v h ∷ []))
   limits =

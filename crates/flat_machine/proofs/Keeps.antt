@@ -10,7 +10,7 @@ use Rattle.flat_machine.specs.declared.group.Class.TheVariants.{Mirrored}
 use Rattle.flat_machine.specs.declared.group.Member.{Member}
 use Rattle.flat_machine.specs.declared.refusal.Refusal.TheVariants.{NoGroup, WrongClass, InUse, NoTicket, Outrun, VersionSpent, HopsSpent, Unwritten, Ahead, ExtentTaken, SameDrive, LogFull, Full, BadMember}
 use Rattle.flat_machine.specs.Sizes.{AreSizes, Sizes}
-use Rattle.flat_machine.specs.Flat.{Flat, Write, Content, Payload, bytes_of, IsSized, Ticket, Waiting, Fresh, Moved, waiting_unit, class_of, last_write, IsNewest, new_flat}
+use Rattle.flat_machine.specs.Flat.{Flat, for_ticket, Write, Content, Payload, bytes_of, IsSized, Ticket, Waiting, Fresh, Moved, waiting_unit, class_of, last_write, IsNewest, new_flat}
 use Rattle.flat_machine.specs.Steps.{FlatStep, Claim, Release, Fill, Copy, Commit, Discard, Read, ReadAt, Make, FlatAnswer, Claimed, Taken, Released, NotHeld, Filled, Copied, Committed, Discarded, Found, FoundAt, MadeGroup, Refused}
 use Rattle.flat_machine.specs.Cases.{Case, ClaimCase, ReleaseCase, FillCase, CopyCase, CommitCase, CommitWith, DiscardCase, ReadCase, ReadAtCase, MakeCase, IsFor, HasStamp, next_version, last_version, longest_log, committed, CopyPasses}
 use Rattle.flat_machine.specs.History.{IsWrite, IsWriteOf, IsCopy, IsHistory, IsStep}
@@ -69,7 +69,7 @@ fresh_ok : (F : Flat) (keys : ℕ → ℕ) (w s b : ℕ) (found : Option Record)
 fresh_ok F keys w s b found is mine block most =
     let one = next_positive found in
     let blocks = is.limits.sizes.blocks.1 in
-    let slot = (is.holders s).inside (Ticket w) mine in
+    let slot = (is.holders s).inside (Ticket w) (for_ticket w) mine in
     record { block = omega arith; written = omega arith; version = omega arith; hop = omega arith; place = omega arith }
 
 pub fresh_ready : (F : Flat) (keys : ℕ → ℕ) (w s b : ℕ) (found : Option Record) (x : Content) → IsHistory F keys → IsNewest F.emitted b found → F.tickets s ≡ Some (Fresh x)
@@ -121,7 +121,7 @@ moved_ready F keys w s b (Some q) c v h x is newest ticket mine same block stamp
   block = block;
   ok =
       let blocks = is.limits.sizes.blocks.1 in
-      let slot = (is.holders s).inside (Ticket w) mine in
+      let slot = (is.holders s).inside (Ticket w) (for_ticket w) mine in
       let written = ranges.written in let version = ranges.version in
       let hop = copy.hop in let e = stamps.0 in
       record { block = omega arith; written = omega arith; version = omega arith; hop = omega arith; place = omega arith };
@@ -186,17 +186,17 @@ commits F G keys M w s b found (Some (Moved c v h x)) (Committed r) is block min
     (moved_ready F keys w s b found c v h x is newest ticket mine for block case.0 case.1) (subst (λ (E : Flat). IsMapOf E.emitted M) same map))
 commits F G keys M w s b found _ _ is block mine for newest ticket case map = absurd case
 
-claims : (F G : Flat) (keys M : ℕ → ℕ) (w s : ℕ) (answer : FlatAnswer) → IsHistory F keys → s < 65536 → ClaimCase F w s answer G → IsMapOf G.emitted M → IsHistory G M
-claims F G keys M w s (Claimed t) is inside case map = goes F G _ keys M (claim_keeps F keys w s is inside case.1) case.2 map
-claims F G keys M w s (Taken t) is inside case map = stays F G keys M is case.2 map
-claims F G keys M w s _ is inside case map = absurd case
+claims : (F G : Flat) (keys M : ℕ → ℕ) (w s : ℕ) (answer : FlatAnswer) → IsHistory F keys → ClaimCase F w s answer G → IsMapOf G.emitted M → IsHistory G M
+claims F G keys M w s (Claimed t) is case map = goes F G _ keys M (claim_keeps F keys w s is) case.2 map
+claims F G keys M w s (Taken t) is case map = stays F G keys M is case.2 map
+claims F G keys M w s _ is case map = absurd case
 
 releases : (F G : Flat) (keys M : ℕ → ℕ) (w s : ℕ) (answer : FlatAnswer) → IsHistory F keys → ReleaseCase F w s answer G → IsMapOf G.emitted M → IsHistory G M
-releases F G keys M w s (Released t) is case map = goes F G _ keys M (release_keeps F keys w s is case.1) case.2 map
+releases F G keys M w s (Released t) is case map = goes F G _ keys M (release_keeps F keys w s is) case.2 map
 releases F G keys M w s (NotHeld t) is case map = stays F G keys M is case.2 map
 releases F G keys M w s _ is case map = absurd case
 
-fills : (F G : Flat) (keys M : ℕ → ℕ) (w s : ℕ) (x : Content) (answer : FlatAnswer) → IsHistory F keys → IsSized F.sizes.payload x → FillCase F w s x answer G → IsMapOf G.emitted M
+fills : (F G : Flat) (keys M : ℕ → ℕ) (w s : ℕ) (x : Content) (answer : FlatAnswer) → IsHistory F keys → (s < 65536) × IsSized F.sizes.payload x → FillCase F w s x answer G → IsMapOf G.emitted M
     → IsHistory G M
 fills F G keys M w s x (NotHeld t) is fits case map = stays F G keys M is case.2 map
 fills F G keys M w s x (Refused NoGroup) is fits case map = stays F G keys M is case.2 map
@@ -204,7 +204,7 @@ fills F G keys M w s x (Refused WrongClass) is fits case map = stays F G keys M 
 fills F G keys M w s x (Refused InUse) is fits case map = stays F G keys M is case.3 map
 fills F G keys M w s x (Filled t) is fits case map =
     let class : class_of F s ≡ Some Mirrored = case.1.1 in
-    goes F G _ keys M (ticket_keeps F keys w s (Fresh x) is case.1.0 (λ none. let bad : None ≡ Some Mirrored = sym none ∙ class in cc) fits class) case.2 map
+    goes F G _ keys M (ticket_keeps F keys w s (Fresh x) is fits.0 case.1.2 (λ none. let bad : None ≡ Some Mirrored = sym none ∙ class in cc) fits.1 class) case.2 map
 fills F G keys M w s x _ is fits case map = absurd case
 
 -- what a copy of the newest record's version and hop rests on
@@ -230,20 +230,20 @@ copy_rests F keys w s b r x is passes last = record {
 write_sized : (F : Flat) (keys : ℕ → ℕ) (b : ℕ) (x : Write) → IsHistory F keys → last_write F.writes b ≡ Some x → IsSized F.sizes.payload x.content
 write_sized F keys b x is last = (is.writes x (last_there F.writes b x last).0).sized
 
-copies : (F G : Flat) (keys M : ℕ → ℕ) (w s b : ℕ) (answer : FlatAnswer) → IsHistory F keys → CopyCase F w s b answer G → IsMapOf G.emitted M → IsHistory G M
-copies F G keys M w s b (NotHeld t) is case map = stays F G keys M is case.2 map
-copies F G keys M w s b (Refused NoGroup) is case map = stays F G keys M is case.2 map
-copies F G keys M w s b (Refused InUse) is case map = stays F G keys M is case.3 map
-copies F G keys M w s b (Refused Unwritten) is case map = stays F G keys M is case.4 map
-copies F G keys M w s b (Refused HopsSpent) is case map = stays F G keys M is case.4 map
-copies F G keys M w s b (Copied t) is case map =
+copies : (F G : Flat) (keys M : ℕ → ℕ) (w s b : ℕ) (answer : FlatAnswer) → IsHistory F keys → s < 65536 → CopyCase F w s b answer G → IsMapOf G.emitted M → IsHistory G M
+copies F G keys M w s b (NotHeld t) is inside case map = stays F G keys M is case.2 map
+copies F G keys M w s b (Refused NoGroup) is inside case map = stays F G keys M is case.2 map
+copies F G keys M w s b (Refused InUse) is inside case map = stays F G keys M is case.3 map
+copies F G keys M w s b (Refused Unwritten) is inside case map = stays F G keys M is case.4 map
+copies F G keys M w s b (Refused HopsSpent) is inside case map = stays F G keys M is case.4 map
+copies F G keys M w s b (Copied t) is inside case map =
     let r = case.1.0 in
     let x = case.1.1 in
     let passes : CopyPasses F w s b r = case.1.2 in
     goes F G _ keys M
-    (ticket_keeps F keys w s (Moved b r.version r.hop x.content) is passes.0 passes.1 (write_sized F keys b x is case.1.3) (copy_rests F keys w s b r x is passes case.1.3))
+    (ticket_keeps F keys w s (Moved b r.version r.hop x.content) is inside passes.2 passes.1 (write_sized F keys b x is case.1.3) (copy_rests F keys w s b r x is passes case.1.3))
     case.1.4 map
-copies F G keys M w s b _ is case map = absurd case
+copies F G keys M w s b _ is inside case map = absurd case
 
 commit_cases : (F G : Flat) (keys M : ℕ → ℕ) (w s b : ℕ) (answer : FlatAnswer) → IsHistory F keys → b < F.sizes.blocks → CommitCase F w s b answer G → IsMapOf G.emitted M
     → IsHistory G M
@@ -275,10 +275,10 @@ looks F G keys M r _ is case map = absurd case
 
 -- a step of numbers that there are, whatever its answer
 pub step_keeps : (F G : Flat) (keys M : ℕ → ℕ) (step : FlatStep) (answer : FlatAnswer) → IsHistory F keys → IsStep F.sizes step → Case F step answer G → IsMapOf G.emitted M → IsHistory G M
-step_keeps F G keys M (Claim w s) answer is fits case map = claims F G keys M w s answer is fits case map
+step_keeps F G keys M (Claim w s) answer is fits case map = claims F G keys M w s answer is case map
 step_keeps F G keys M (Release w s) answer is fits case map = releases F G keys M w s answer is case map
 step_keeps F G keys M (Fill w s x) answer is fits case map = fills F G keys M w s x answer is fits case map
-step_keeps F G keys M (Copy w s b) answer is fits case map = copies F G keys M w s b answer is case map
+step_keeps F G keys M (Copy w s b) answer is fits case map = copies F G keys M w s b answer is fits.0 case map
 step_keeps F G keys M (Commit w s b) answer is fits case map = commit_cases F G keys M w s b answer is fits case map
 step_keeps F G keys M (Discard w s) answer is fits case map = discards F G keys M w s answer is case map
 step_keeps F G keys M (Read b) answer is fits case map = reads F G keys M b answer is case map
@@ -297,8 +297,8 @@ new_history sizes drives are least most = record {
   writes = λ w has. absurd (unwritten w has);
   versions = tt;
   holders = λ s. record {
-    once = λ j k hj. absurd (cc);
-    inside = λ k hk. absurd (cc);
+    once = λ j k of_j of_k hj. absurd (cc);
+    inside = λ k of hk. absurd (cc);
     waits = λ c e. absurd (cc);
     waiting = λ w hw. absurd (cc);
     block = λ b hb. absurd (cc);

@@ -8,3 +8,4 @@ pub mod Tickets
 pub mod Commits
 pub mod Makes
 pub mod Keeps
+pub mod Holding

@@ -111,8 +111,8 @@ module _ (F : Flat) (keys : ℕ → ℕ) (class : Class) (members : List Member)
 
   holders : (s : ℕ) → HoldersStand G.groups keys s (G.held s) (F.tickets s)
   holders s = record {
-    once = λ j k hj hk. old.once j k (held_was s j hj) (held_was s k hk);
-    inside = λ k hk. old.inside k (held_was s k hk);
+    once = λ j k of_j of_k hj hk. old.once j k of_j of_k (held_was s j hj) (held_was s k hk);
+    inside = λ k of hk. old.inside k of (held_was s k hk);
     waits = λ c e. let y = old.waits c e in (y.0, and_true (F.held s (Ticket y.0)) ∙ y.1);
     waiting = λ w hw. old.waiting w (held_was s (Ticket w) hw);
     block = λ b hb. old.block b (held_was s (Block b) hb);

@@ -4,58 +4,64 @@ use Rattle.map_join.specs.declared.records.Record.{Record}
 use Rattle.map_join.specs.Record.{record_of}
 use Rattle.flat_machine.specs.declared.group.Class.{Class}
 use Rattle.flat_machine.specs.Groups.{Made}
-use Rattle.flat_machine.specs.Flat.{Flat, Write, Content, Holder, Worker, Ticket, Block, Shut, Waiting, Stored, last_write}
+use Rattle.flat_machine.specs.Flat.{Flat, Write, Content, Holder, Worker, Ticket, Block, Shut, IsArrays, for_ticket, for_block, for_shut, Waiting, Stored, last_write}
 use Rattle.flat_machine.specs.History.{HoldersStand, UnitStands, IsAt, BlockStands}
-use Rattle.flat_machine.proofs.Pairs.{IsNobodys, IsJust, just_once, just_is}
+use Rattle.flat_machine.proofs.Pairs.{IsNobodys, IsJust, just_once, just_is, just_held, not_workers}
 
--- nobody holds it, a worker does, a ticket does, or a block
-pub nobody_stands : (groups : ℕ → Option Made) (keys : ℕ → ℕ) (s : ℕ) (h : Holder → Bool) → IsNobodys h → HoldersStand groups keys s h None
+-- the array holds it for nobody, for a ticket, or for a block
+pub nobody_stands : (groups : ℕ → Option Made) (keys : ℕ → ℕ) (s : ℕ) (h : Holder → Bool) → IsNobodys IsArrays h → HoldersStand groups keys s h None
 nobody_stands groups keys s h free = record {
-  once = λ j k hj hk. absurd (no j hj);
-  inside = λ k hk. absurd (no k hk);
+  once = λ j k of_j of_k hj hk. absurd (no_one j of_j hj);
+  inside = λ k of hk. absurd (no_one k of hk);
   waits = λ c is. absurd (cc);
-  waiting = λ w hw. absurd (no (Ticket w) hw);
-  block = λ b hb. absurd (no (Block b) hb);
-  shut = λ g hg. absurd (no (Shut g) hg);
+  waiting = λ w hw. absurd (no_one (Ticket w) (for_ticket w) hw);
+  block = λ b hb. absurd (no_one (Block b) (for_block b) hb);
+  shut = λ g hg. absurd (no_one (Shut g) (for_shut g) hg);
 }
   where
-    no : (k : Holder) → h k ≡ true → ⊥
-    no k hk = let bad : true ≡ false = sym hk ∙ free k in cc
+    no_one : (k : Holder) → IsArrays k → h k ≡ true → ⊥
+    no_one k of hk = let bad : true ≡ false = sym hk ∙ free k of in cc
 
-pub worker_stands : (groups : ℕ → Option Made) (keys : ℕ → ℕ) (s : ℕ) (h : Holder → Bool) (w : ℕ) → s < 65536 → IsJust h (Worker w) → HoldersStand groups keys s h None
-worker_stands groups keys s h w inside is = record {
-  once = just_once h (Worker w) is;
-  inside = λ k hk. inside;
-  waits = λ c e. absurd (cc);
-  waiting = λ v hv. let e : Ticket v ≡ Worker w = just_is h (Worker w) (Ticket v) is hv in absurd (cc);
-  block = λ b hb. let e : Block b ≡ Worker w = just_is h (Worker w) (Block b) is hb in absurd (cc);
-  shut = λ g hg. let e : Shut g ≡ Worker w = just_is h (Worker w) (Shut g) is hg in absurd (cc);
-}
+-- a worker alone is nobody to the array
+pub worker_nobody : (h : Holder → Bool) (w : ℕ) → IsJust IsArrays h (Worker w) → IsNobodys IsArrays h
+worker_nobody h w is j of = is j of ∙ not_workers j w of
 
-pub ticket_stands : (groups : ℕ → Option Made) (keys : ℕ → ℕ) (s : ℕ) (h : Holder → Bool) (w : ℕ) (c : Waiting) → s < 65536 → IsJust h (Ticket w) → h (Ticket w) ≡ true
+pub ticket_stands : (groups : ℕ → Option Made) (keys : ℕ → ℕ) (s : ℕ) (h : Holder → Bool) (w : ℕ) (c : Waiting) → s < 65536 → IsJust IsArrays h (Ticket w)
     → HoldersStand groups keys s h (Some c)
-ticket_stands groups keys s h w c inside is mine = record {
-  once = just_once h (Ticket w) is;
-  inside = λ k hk. inside;
-  waits = λ d e. (w, mine);
+ticket_stands groups keys s h w c inside is = record {
+  once = just_once IsArrays h (Ticket w) is;
+  inside = λ k of hk. inside;
+  waits = λ d e. (w, just_held IsArrays h (Ticket w) is (for_ticket w));
   waiting = λ v hv none. cc;
-  block = λ b hb. let e : Block b ≡ Ticket w = just_is h (Ticket w) (Block b) is hb in absurd (cc);
-  shut = λ g hg. let e : Shut g ≡ Ticket w = just_is h (Ticket w) (Shut g) is hg in absurd (cc);
+  block = λ b hb. let e : Block b ≡ Ticket w = just_is IsArrays h (Ticket w) (Block b) is (for_block b) hb in absurd (cc);
+  shut = λ g hg. let e : Shut g ≡ Ticket w = just_is IsArrays h (Ticket w) (Shut g) is (for_shut g) hg in absurd (cc);
 }
 
-pub block_stands : (groups : ℕ → Option Made) (keys : ℕ → ℕ) (s : ℕ) (h : Holder → Bool) (b : ℕ) → s < 65536 → IsJust h (Block b) → 0 < keys b
+pub block_stands : (groups : ℕ → Option Made) (keys : ℕ → ℕ) (s : ℕ) (h : Holder → Bool) (b : ℕ) → s < 65536 → IsJust IsArrays h (Block b) → 0 < keys b
     → (record_of b (keys b)).place ≡ s → HoldersStand groups keys s h None
 block_stands groups keys s h b inside is some place = record {
-  once = just_once h (Block b) is;
-  inside = λ k hk. inside;
+  once = just_once IsArrays h (Block b) is;
+  inside = λ k of hk. inside;
   waits = λ d e. absurd (cc);
-  waiting = λ v hv. let e : Ticket v ≡ Block b = just_is h (Block b) (Ticket v) is hv in absurd (cc);
+  waiting = λ v hv. let e : Ticket v ≡ Block b = just_is IsArrays h (Block b) (Ticket v) is (for_ticket v) hv in absurd (cc);
   block = λ c hc.
-      let e : Block c ≡ Block b = just_is h (Block b) (Block c) is hc in
+      let e : Block c ≡ Block b = just_is IsArrays h (Block b) (Block c) is (for_block c) hc in
       let same : c ≡ b = cc in
       let P : ℕ → Type 0 = λ n. (0 < keys n) × ((record_of n (keys n)).place ≡ s) in
       subst P (sym same) (some, place);
-  shut = λ g hg. let e : Shut g ≡ Block b = just_is h (Block b) (Shut g) is hg in absurd (cc);
+  shut = λ g hg. let e : Shut g ≡ Block b = just_is IsArrays h (Block b) (Shut g) is (for_shut g) hg in absurd (cc);
+}
+
+-- what stands of the array's own holders stands where these are the same
+pub arrays_same : (groups : ℕ → Option Made) (keys : ℕ → ℕ) (s : ℕ) (h k : Holder → Bool) (t : Option Waiting) → ((j : Holder) → IsArrays j → k j ≡ h j)
+    → HoldersStand groups keys s h t → HoldersStand groups keys s k t
+arrays_same groups keys s h k t same is = record {
+  once = λ i j of_i of_j hi hj. is.once i j of_i of_j (sym (same i of_i) ∙ hi) (sym (same j of_j) ∙ hj);
+  inside = λ j of hj. is.inside j of (sym (same j of) ∙ hj);
+  waits = λ c e. let y = is.waits c e in (y.0, same (Ticket y.0) (for_ticket y.0) ∙ y.1);
+  waiting = λ w hw. is.waiting w (sym (same (Ticket w) (for_ticket w)) ∙ hw);
+  block = λ b hb. is.block b (sym (same (Block b) (for_block b)) ∙ hb);
+  shut = λ g hg. is.shut g (sym (same (Shut g) (for_shut g)) ∙ hg);
 }
 
 -- nothing waits where another than a ticket holds the slot, or nobody
@@ -63,16 +69,12 @@ nothing : (t : Option Waiting) → ((c : Waiting) → t ≡ Some c → ⊥) → 
 nothing None never = refl
 nothing (Some c) never = absurd (never c refl)
 
-pub free_waits : (groups : ℕ → Option Made) (keys : ℕ → ℕ) (s : ℕ) (h : Holder → Bool) (t : Option Waiting) → HoldersStand groups keys s h t → IsNobodys h → t ≡ None
-free_waits groups keys s h t is free = nothing t (λ c e. let y = is.waits c e in let bad : true ≡ false = sym y.1 ∙ free (Ticket y.0) in cc)
-
-pub worker_waits : (groups : ℕ → Option Made) (keys : ℕ → ℕ) (s : ℕ) (h : Holder → Bool) (t : Option Waiting) (w : ℕ) → HoldersStand groups keys s h t
-    → h (Worker w) ≡ true → t ≡ None
-worker_waits groups keys s h t w is held = nothing t (λ c e. let y = is.waits c e in let bad : Ticket y.0 ≡ Worker w = is.once (Ticket y.0) (Worker w) y.1 held in cc)
+pub free_waits : (groups : ℕ → Option Made) (keys : ℕ → ℕ) (s : ℕ) (h : Holder → Bool) (t : Option Waiting) → HoldersStand groups keys s h t → IsNobodys IsArrays h → t ≡ None
+free_waits groups keys s h t is free = nothing t (λ c e. let y = is.waits c e in let bad : true ≡ false = sym y.1 ∙ free (Ticket y.0) (for_ticket y.0) in cc)
 
 pub block_waits : (groups : ℕ → Option Made) (keys : ℕ → ℕ) (s : ℕ) (h : Holder → Bool) (t : Option Waiting) (b : ℕ) → HoldersStand groups keys s h t
     → h (Block b) ≡ true → t ≡ None
-block_waits groups keys s h t b is held = nothing t (λ c e. let y = is.waits c e in let bad : Ticket y.0 ≡ Block b = is.once (Ticket y.0) (Block b) y.1 held in cc)
+block_waits groups keys s h t b is held = nothing t (λ c e. let y = is.waits c e in let bad : Ticket y.0 ≡ Block b = is.once (Ticket y.0) (Block b) (for_ticket y.0) (for_block b) y.1 held in cc)
 
 -- holders and ticket, or ticket and unit, that are the same stand the same
 pub holders_same : (groups : ℕ → Option Made) (keys : ℕ → ℕ) (s : ℕ) (h k : Holder → Bool) (t u : Option Waiting) → k ≡ h → u ≡ t
@@ -107,11 +109,15 @@ pub block_same : (F G : Flat) (b key : ℕ) → last_write G.writes b ≡ last_w
     → BlockStands F b key → BlockStands G b key
 block_same F G b key last stays is = (
   λ none. last ∙ is.0 none,
-  λ some. let y = is.1 some in (y.0, last ∙ y.1, record {
-    version = y.2.version;
-    unit = at_same F.units G.units (record_of b key) y.0.content (stays y.2.place).0 y.2.unit;
-    place = (stays y.2.place).1;
-  }),
+  λ some. let y = is.1 some in (
+    y.0,
+    last ∙ y.1,
+    record {
+      version = y.2.version;
+      unit = at_same F.units G.units (record_of b key) y.0.content (stays y.2.place).0 y.2.unit;
+      place = (stays y.2.place).1;
+    },
+  ),
 )
 
 -- a slot that a block holds isn't one that it doesn't

@@ -1,14 +1,14 @@
 -- A slot that is made to wait, and one whose ticket is given up, keep what is true of every state.
-use Rattle.std.proofs.Common.{◌≡◌, ◌≢◌, ℕ, ◌<◌, Bool, true, is_some, length, refl, sym, ap, ◌∙◌, subst, ◌⊎◌, inl, inr, Option, Some, None}
+use Rattle.std.proofs.Common.{◌≡◌, ◌≢◌, ℕ, ◌<◌, Bool, true, false, is_some, length, refl, sym, ap, ◌∙◌, subst, ◌⊎◌, inl, inr, Option, Some, None}
 use Rattle.std.proofs.lemmas.Bool.{cases_eq}
 use Rattle.std.proofs.lemmas.Option.{same_Some}
 use Rattle.map_join.specs.Record.{record_of}
 use Rattle.flat_machine.specs.declared.group.Class.{Class}
-use Rattle.flat_machine.specs.Flat.{Flat, Content, Payload, IsSized, Holder, Worker, Ticket, Block, Waiting, content_of, Stored, waiting_unit, class_of, put, turned}
+use Rattle.flat_machine.specs.Flat.{Flat, IsArrays, for_ticket, for_block, IsKept, Content, Payload, IsSized, Holder, Worker, Ticket, Block, Waiting, content_of, Stored, waiting_unit, class_of, put, turned}
 use Rattle.flat_machine.specs.Cases.{ticketed, discarded}
 use Rattle.flat_machine.specs.History.{HoldersStand, UnitStands, WaitingStands, IsHistory}
-use Rattle.flat_machine.proofs.Pairs.{put_here, put_else, turned_else, just_one, just_held, turned_just, IsJust}
-use Rattle.flat_machine.proofs.Slots.{worker_stands, ticket_stands, holders_same, units_same, unit_ended, block_same, apart}
+use Rattle.flat_machine.proofs.Pairs.{put_here, put_else, turned_else, just_one, turned_just, turned_free, IsJust}
+use Rattle.flat_machine.proofs.Slots.{nobody_stands, worker_nobody, ticket_stands, holders_same, units_same, unit_ended, block_same, apart}
 
 -- one slot changes, which no block held
 slot_kept : (F : Flat) (keys : ℕ → ℕ) (held : ℕ → Holder → Bool) (tickets : ℕ → Option Waiting) (units : ℕ → Option Stored) (s : ℕ) → IsHistory F keys
@@ -42,6 +42,11 @@ slot_kept F keys held tickets units s is free rest others elsewhere here unit = 
     stored t (inr ne) = units_same F.sizes.payload F.emitted F.writes keys t (class_of F t) (F.tickets t) (tickets t) (F.units t) (units t)
         (others t ne) (elsewhere t ne) (is.units t)
 
+-- a holder that isn't
+pub unheld : (b : Bool) → (b ≡ true → ⊥) → b ≡ false
+unheld true never = absurd (never refl)
+unheld false never = refl
+
 -- bytes of a content that fits are as long as a payload
 sized_bytes : (size : ℕ) (x : Content) → IsSized size x → length (waiting_unit size x).payload ≡ size
 sized_bytes size (Payload x) e = e
@@ -50,25 +55,22 @@ there_is : (class : Option Class) → class ≢ None → true ≡ is_some class
 there_is (Some c) some = refl
 there_is None some = absurd (some refl)
 
-pub ticket_keeps : (F : Flat) (keys : ℕ → ℕ) (w s : ℕ) (c : Waiting) → IsHistory F keys → F.held s (Worker w) ≡ true → class_of F s ≢ None
+pub ticket_keeps : (F : Flat) (keys : ℕ → ℕ) (w s : ℕ) (c : Waiting) → IsHistory F keys → s < 65536 → (IsKept F s → ⊥) → class_of F s ≢ None
     → IsSized F.sizes.payload (content_of c) → WaitingStands (class_of F s) F.writes keys c → IsHistory (ticketed F w s c) keys
-ticket_keeps F keys w s c is mine there fits rests =
+ticket_keeps F keys w s c is inside free there fits rests =
     slot_kept F keys (turned F.held s (Worker w) (Ticket w)) (put F.tickets s (Some c)) (put F.units s (Some u)) s is
-    (λ b has. let e : Block b ≡ Worker w = (is.holders s).once (Block b) (Worker w) has mine in cc)
+    (λ b has. free (Block b, for_block b, has))
     (λ t ne. turned_else F.held s (Worker w) (Ticket w) t ne) (λ t ne. put_else F.tickets s (Some c) t ne) (λ t ne. put_else F.units s (Some u) t ne)
     (holders_same F.groups keys s (turned F.held s (Worker w) (Ticket w) s) (turned F.held s (Worker w) (Ticket w) s) (Some c) (put F.tickets s (Some c) s) refl
-    (put_here F.tickets s (Some c)) (ticket_stands F.groups keys s (turned F.held s (Worker w) (Ticket w) s) w c inside now (just_held _ (Ticket w) now)))
+    (put_here F.tickets s (Some c)) (ticket_stands F.groups keys s (turned F.held s (Worker w) (Ticket w) s) w c inside now))
     (units_same F.sizes.payload F.emitted F.writes keys s (class_of F s) (Some c) (put F.tickets s (Some c) s) (Some u) (put F.units s (Some u) s)
     (put_here F.tickets s (Some c)) (put_here F.units s (Some u)) unit)
   where
     u : Stored
     u = waiting_unit F.sizes.payload (content_of c)
 
-    inside : s < 65536
-    inside = (is.holders s).inside (Worker w) mine
-
-    now : IsJust (turned F.held s (Worker w) (Ticket w) s) (Ticket w)
-    now = turned_just F.held s (Worker w) (Ticket w) (just_one (F.held s) (Worker w) (is.holders s).once mine)
+    now : IsJust IsArrays (turned F.held s (Worker w) (Ticket w) s) (Ticket w)
+    now = turned_free IsArrays F.held s (Worker w) (Ticket w) (λ k of. unheld (F.held s k) (λ e. free (k, of, e)))
 
     unit : UnitStands F.sizes.payload F.emitted F.writes keys s (class_of F s) (Some c) (Some u)
     unit = record {
@@ -83,16 +85,13 @@ ticket_keeps F keys w s c is mine there fits rests =
 pub discard_keeps : (F : Flat) (keys : ℕ → ℕ) (w s : ℕ) → IsHistory F keys → F.held s (Ticket w) ≡ true → IsHistory (discarded F w s) keys
 discard_keeps F keys w s is mine =
     slot_kept F keys (turned F.held s (Ticket w) (Worker w)) (put F.tickets s None) F.units s is
-    (λ b has. let e : Block b ≡ Ticket w = (is.holders s).once (Block b) (Ticket w) has mine in cc)
+    (λ b has. let e : Block b ≡ Ticket w = (is.holders s).once (Block b) (Ticket w) (for_block b) (for_ticket w) has mine in cc)
     (λ t ne. turned_else F.held s (Ticket w) (Worker w) t ne) (λ t ne. put_else F.tickets s None t ne) (λ t ne. refl)
     (holders_same F.groups keys s (turned F.held s (Ticket w) (Worker w) s) (turned F.held s (Ticket w) (Worker w) s) None (put F.tickets s None s) refl
-    (put_here F.tickets s None) (worker_stands F.groups keys s (turned F.held s (Ticket w) (Worker w) s) w inside now))
+    (put_here F.tickets s None) (nobody_stands F.groups keys s (turned F.held s (Ticket w) (Worker w) s) (worker_nobody (turned F.held s (Ticket w) (Worker w) s) w now)))
     (units_same F.sizes.payload F.emitted F.writes keys s (class_of F s) None (put F.tickets s None s) (F.units s) (F.units s)
     (put_here F.tickets s None) refl
     (unit_ended F.sizes.payload F.emitted F.writes keys s (class_of F s) (F.tickets s) (F.units s) (is.units s)))
   where
-    inside : s < 65536
-    inside = (is.holders s).inside (Ticket w) mine
-
-    now : IsJust (turned F.held s (Ticket w) (Worker w) s) (Worker w)
-    now = turned_just F.held s (Ticket w) (Worker w) (just_one (F.held s) (Ticket w) (is.holders s).once mine)
+    now : IsJust IsArrays (turned F.held s (Ticket w) (Worker w) s) (Worker w)
+    now = turned_just IsArrays F.held s (Ticket w) (Worker w) (just_one IsArrays (F.held s) (Ticket w) (is.holders s).once (for_ticket w) mine)

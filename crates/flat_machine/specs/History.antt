@@ -7,7 +7,7 @@ use Rattle.flat_machine.specs.declared.group.Class.{Class}
 use Rattle.flat_machine.specs.declared.group.Class.TheVariants.{Mirrored}
 use Rattle.flat_machine.specs.Sizes.{Sizes, AreSizes}
 use Rattle.flat_machine.specs.Groups.{Made, AreGroups}
-use Rattle.flat_machine.specs.Flat.{Flat, Content, IsSized, Write, Holder, Ticket, Block, Shut, Waiting, Fresh, Moved, content_of, record_in, Stored, content_in, waiting_unit, class_of, last_write, IsNewest}
+use Rattle.flat_machine.specs.Flat.{Flat, Content, IsSized, Write, Holder, Ticket, Block, Shut, Waiting, Fresh, Moved, content_of, record_in, Stored, content_in, waiting_unit, class_of, last_write, IsNewest, IsArrays, HeldOnce}
 use Rattle.flat_machine.specs.Steps.{FlatStep, Claim, Release, Fill, Copy, Commit, Discard, Read, ReadAt, Make}
 use Rattle.flat_machine.specs.Cases.{last_hop, longest_log}
 
@@ -38,11 +38,11 @@ IsWriteChain before [] = Unit {0}
 IsWriteChain before (w ∷ writes) =
     ((x : Write) → last_write before w.block ≡ Some x → w.version ≡ x.version + 1) × IsWriteChain (before ++ w ∷ []) writes
 
--- who holds one slot: at most one; a ticket's holder exactly where something waits; a block exactly of its newest place; and
--- an unmade group's number only a slot of that group
+-- whom the array itself holds a slot for: at most one; a ticket exactly where something waits; a block exactly of its newest
+-- place; and an unmade group's number only a slot of that group. Nothing is said of workers.
 pub record HoldersStand (groups : ℕ → Option Made) (keys : ℕ → ℕ) (s : ℕ) (held : Holder → Bool) (ticket : Option Waiting) : Type 0 where
-  pub once : (j k : Holder) → held j ≡ true → held k ≡ true → j ≡ k
-  pub inside : (k : Holder) → held k ≡ true → s < 65536
+  pub once : (j k : Holder) → IsArrays j → IsArrays k → held j ≡ true → held k ≡ true → j ≡ k
+  pub inside : (k : Holder) → IsArrays k → held k ≡ true → s < 65536
   pub waits : (c : Waiting) → ticket ≡ Some c → (w : ℕ) × (held (Ticket w) ≡ true)
   pub waiting : (w : ℕ) → held (Ticket w) ≡ true → ticket ≢ None
   pub block : (b : ℕ) → held (Block b) ≡ true → (0 < keys b) × ((record_of b (keys b)).place ≡ s)
@@ -119,12 +119,17 @@ pub record IsHistory (F : Flat) (keys : ℕ → ℕ) : Type 0 where
   -- of each block: its last write, and its newest place
   pub written : (b : ℕ) → BlockStands F b (keys b)
 
+-- no slot has two holders, workers among them, and each slot that is held is one of the 65,536
+pub record AreHeld (F : Flat) : Type 0 where
+  pub once : HeldOnce F
+  pub inside : (s : ℕ) (k : Holder) → F.held s k ≡ true → s < 65536
+
 -- a step of numbers that there are: slots below 65,536, blocks of the array, and contents that fit its units
 abbrev pub IsStep : Sizes → FlatStep → Type 0
 IsStep z (Claim w s) = s < 65536
 IsStep z (Release w s) = Unit {0}
-IsStep z (Fill w s x) = IsSized z.payload x
-IsStep z (Copy w s b) = b < z.blocks
+IsStep z (Fill w s x) = (s < 65536) × IsSized z.payload x
+IsStep z (Copy w s b) = (s < 65536) × (b < z.blocks)
 IsStep z (Commit w s b) = b < z.blocks
 IsStep z (Discard w s) = Unit {0}
 IsStep z (Read b) = Unit {0}

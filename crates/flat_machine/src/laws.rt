@@ -5,12 +5,15 @@ ghost use Rattle.flat_machine.specs.Sizes.{Sizes, AreSizes};
 ghost use Rattle.flat_machine.specs.Flat.{Flat, new_flat};
 ghost use Rattle.flat_machine.specs.Steps.{FlatStep, FlatAnswer};
 ghost use Rattle.flat_machine.specs.Cases.{Case};
-ghost use Rattle.flat_machine.specs.History.{IsHistory, IsStep};
+ghost use Rattle.flat_machine.specs.History.{IsHistory, AreHeld, IsStep};
 
-/// What is true of every state: a new array's has it, and each case of each step keeps it.
+/// What is true of every state, and that no slot has two holders: so it is of a new array's, and each case
+/// of each step keeps it.
 pub fn history_laws()
     ensures new { (sizes : Sizes) (drives : ℕ) → AreSizes sizes → 3 ≤ drives → drives ≤ 16 → IsHistory (new_flat sizes drives) (λ _. 0) }
     ensures kept { (F G : Flat) (keys map : ℕ → ℕ) (step : FlatStep) (answer : FlatAnswer)
         → IsHistory F keys → IsStep F.sizes step → Case F step answer G → IsMapOf G.emitted map → IsHistory G map }
-{
-}
+    ensures none { (sizes : Sizes) (drives : ℕ) → AreHeld (new_flat sizes drives) }
+    ensures held { (F G : Flat) (keys : ℕ → ℕ) (step : FlatStep) (answer : FlatAnswer)
+        → IsHistory F keys → AreHeld F → IsStep F.sizes step → Case F step answer G → AreHeld G }
+{}

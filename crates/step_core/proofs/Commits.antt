@@ -8,7 +8,7 @@ use Rattle.map_join.specs.declared.records.Record.{Record}
 use Rattle.map_join.specs.Record.{key_of, record_of, record_at, IsRecord}
 use Rattle.map_join.specs.Maps.{IsSame, IsMapOf, join, only}
 use Rattle.map_join.proofs.Joins.{took, only_here, only_else}
-use Rattle.flat_machine.specs.Flat.{Flat, Write, Content, Stored, header_for, put}
+use Rattle.flat_machine.specs.Flat.{Flat, Write, Content, Stored, header_for, put, IsArrays}
 use Rattle.flat_machine.specs.Cases.{committed, stamped}
 use Rattle.flat_machine.proofs.Pairs.{put_here, put_else}
 use Rattle.flat_machine.proofs.Newest.{told_again, told_at, untold_at, key_least, place_small}
@@ -263,7 +263,7 @@ commit_map a F b found r s shows whole is inside above =
 
 -- the tables after a commit are the state's after it
 pub commit_tables : (a : ArrayView) (F : Flat) (w s b : ℕ) (writes : List Write) (x : Content) (r : Record) → s < 65536 → is_waiting (kept_at a s) ≡ true → IsWhole a → ShowsArray a F
-    → Passes F w s b (record_at b (key_at a b))
+    → Passes IsArrays F w s b (record_at b (key_at a b))
     → InTables (commit_view a s b (record_at b (key_at a b)) r) (committed F w s b (record_at b (key_at a b)) writes x r)
 commit_tables a F w s b writes x r inside waits whole shows passes = record {
   sizes = shows.tables.sizes;

@@ -7,7 +7,7 @@ use Rattle.map_join.specs.Record.{key_of, record_of, record_at, IsRecord}
 use Rattle.flat_machine.specs.declared.refusal.Refusal.{Refusal}
 use Rattle.flat_machine.specs.declared.refusal.Refusal.TheVariants.{NoTicket, Outrun, VersionSpent, LogFull}
 use Rattle.flat_machine.specs.Sizes.{Sizes}
-use Rattle.flat_machine.specs.Flat.{Flat, Write, Content, Ticket, Waiting, Fresh, Moved, or_else, IsNewest}
+use Rattle.flat_machine.specs.Flat.{Flat, Write, Content, Ticket, Waiting, Fresh, Moved, or_else, IsNewest, IsArrays, for_ticket, for_block}
 use Rattle.flat_machine.specs.Steps.{Commit, Committed, Refused}
 use Rattle.flat_machine.specs.Cases.{CommitCase, CommitWith, CommitPasses, IsFor, HasStamp, IsWanted, committed, next_version, last_version, longest_log}
 use Rattle.flat_machine.proofs.Pairs.{equal, equal_back}
@@ -157,7 +157,7 @@ carried a F w s b c x v h writes whole inside block waits shows ready case = (
       (Commit w s b) (Committed (emitted_by b s v h)) shows (in_blocks a F b shows block) case
       (commit_map a F b (record_at b (key_at a b)) (emitted_by b s v h) s shows whole refl block above)
       (commit_tables a F w s b writes x (emitted_by b s v h) inside waits whole shows
-      (passed F (key_at a) w s b (record_at b (key_at a b)) shows.history (newest_told a F b shows) ready.mine)),
+      (passed IsArrays F (key_at a) w s b (record_at b (key_at a b)) (λ t. (shows.history.holders t).once) (for_ticket w) (for_block b) shows.history (newest_told a F b shows) ready.mine)),
 )
   where
     above : key_at a b < key_of (emitted_by b s v h)
@@ -170,16 +170,15 @@ commit_fresh a F w s b x whole inside block waits ticket mine left room shows =
     carried a F w s b (Fresh x) x (next_version (record_at b (key_at a b))) 0
     (F.writes ++ record { block = b; version = next_version (record_at b (key_at a b)); content = x } ∷ []) whole inside block (ap is_waiting waits) shows
     (fresh_ready F (key_at a) w s b (record_at b (key_at a b)) x shows.history (newest_told a F b shows) ticket mine (in_blocks a F b shows block)
-    (version_most a b whole left) (short a F shows room))
-    (
+    (version_most a b whole left) (short a F shows room)) (
       mine,
       subst (λ c. IsFor c b) (sym ticket) tt,
       (
         record_at b (key_at a b),
         newest_told a F b shows,
         subst (λ c. CommitWith F w s b (record_at b (key_at a b)) c (Committed (emitted_by b s (next_version (record_at b (key_at a b))) 0))
-        (committed F w s b (record_at b (key_at a b)) (F.writes ++ record { block = b; version = next_version (record_at b (key_at a b)); content = x } ∷ []) x
-        (emitted_by b s (next_version (record_at b (key_at a b))) 0))) (sym ticket)
+            (committed F w s b (record_at b (key_at a b)) (F.writes ++ record { block = b; version = next_version (record_at b (key_at a b)); content = x } ∷ []) x
+            (emitted_by b s (next_version (record_at b (key_at a b))) 0))) (sym ticket)
             (version_most a b whole left, short a F shows room, refl, refl),
       ),
     )
@@ -190,15 +189,14 @@ commit_moved : (a : ArrayView) (F : Flat) (w s b : ℕ) (q : Record) (x : Conten
 commit_moved a F w s b q x whole inside block waits ticket mine now room shows =
     carried a F w s b (Moved q.block q.version q.hop x) x q.version (q.hop + 1) F.writes whole inside block (ap is_waiting waits) shows
     (moved_ready F (key_at a) w s b (record_at b (key_at a b)) q.block q.version q.hop x shows.history (newest_told a F b shows) ticket mine now.block (in_blocks a F b shows block)
-    stamps (short a F shows room))
-    (
+    stamps (short a F shows room)) (
       mine,
       subst (λ c. IsFor c b) (sym ticket) now.block,
       (
         record_at b (key_at a b),
         newest_told a F b shows,
         subst (λ c. CommitWith F w s b (record_at b (key_at a b)) c (Committed (emitted_by b s q.version (q.hop + 1)))
-        (committed F w s b (record_at b (key_at a b)) F.writes x (emitted_by b s q.version (q.hop + 1)))) (sym ticket) (stamps, short a F shows room, refl, refl),
+            (committed F w s b (record_at b (key_at a b)) F.writes x (emitted_by b s q.version (q.hop + 1)))) (sym ticket) (stamps, short a F shows room, refl, refl),
       ),
     )
   where

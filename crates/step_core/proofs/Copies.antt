@@ -66,9 +66,9 @@ copy_case a F w s b r u inside block found unit none whole shows held = (
   ticketed F w s (Moved b r.version r.hop y.0.content),
   case,
   shows_after a (copy_view a s r u.payload) F (ticketed F w s (Moved b r.version r.hop y.0.content)) (Copy w s b) (Copied s) shows
-      (subst (λ (z : Sizes). b < z.blocks) (sym shows.tables.sizes) block) case shows.history.map
+      (inside, subst (λ (z : Sizes). b < z.blocks) (sym shows.tables.sizes) block) case shows.history.map
       (wait_tables a F w s (Moving r) (Moved b r.version r.hop y.0.content) u.payload inside refl (y.0.content, ap (λ n. Some (Moved n r.version r.hop y.0.content)) at)
-      (ap (waiting_unit F.sizes.payload) (sym y.2)) whole shows held),
+      (ap (waiting_unit F.sizes.payload) (sym y.2)) whole shows (copy_passes a F w s b r found none shows held).2),
 )
   where
     y : (x : Write) × (last_write F.writes b ≡ Some x) × (content_in u ≡ x.content) × (x.version ≡ r.version)

@@ -4,7 +4,7 @@ use Rattle.std.proofs.lemmas.List.{length-set, get_or-set_same, get_or-set_other
 use Rattle.std.proofs.lemmas.Bool.{cases_eq}
 use Rattle.map_join.specs.Record.{record_of}
 use Rattle.flat_machine.specs.declared.refusal.Refusal.TheVariants.{NoTicket}
-use Rattle.flat_machine.specs.Flat.{Flat, Worker, Ticket, put, turned}
+use Rattle.flat_machine.specs.Flat.{Flat, Worker, Ticket, put, turned, IsArrays, for_ticket}
 use Rattle.flat_machine.specs.Steps.{Discard, Discarded, Refused}
 use Rattle.flat_machine.specs.Cases.{DiscardCase, discarded}
 use Rattle.flat_machine.proofs.Pairs.{put_here, put_else, turned_else, turned_just, just_one, IsJust}
@@ -68,8 +68,8 @@ discard_case a F w s inside waits whole shows mine =
     kept_room : s < length a.kept
     kept_room = let e = whole.room.kept in omega arith
 
-    just : IsJust (turned F.held s (Ticket w) (Worker w) s) (Worker w)
-    just = turned_just F.held s (Ticket w) (Worker w) (just_one (F.held s) (Ticket w) (shows.history.holders s).once mine)
+    just : IsJust IsArrays (turned F.held s (Ticket w) (Worker w) s) (Worker w)
+    just = turned_just IsArrays F.held s (Ticket w) (Worker w) (just_one IsArrays (F.held s) (Ticket w) (shows.history.holders s).once (for_ticket w) mine)
 
     here : P s
     here = slot_same Nothing (kept_at (discard_view a s) s) (unit_at a s) (unit_at a s) (turned F.held s (Ticket w) (Worker w) s) (turned F.held s (Ticket w) (Worker w) s)

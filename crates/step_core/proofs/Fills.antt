@@ -10,15 +10,16 @@ use Rattle.flat_machine.specs.declared.group.Class.TheVariants.{Mirrored, Parity
 use Rattle.flat_machine.specs.declared.refusal.Refusal.{Refusal}
 use Rattle.flat_machine.specs.Sizes.{Sizes}
 use Rattle.flat_machine.specs.Groups.{class_in, class_at}
-use Rattle.flat_machine.specs.Flat.{Flat, Content, Payload, Worker, Ticket, Waiting, Fresh, content_of, Stored, waiting_unit, put, turned, class_of}
+use Rattle.flat_machine.specs.Flat.{Flat, Content, Payload, Worker, Ticket, Waiting, Fresh, content_of, Stored, waiting_unit, put, turned, class_of, IsArrays, IsKept}
 use Rattle.flat_machine.specs.Steps.{Fill, Filled, Refused}
 use Rattle.flat_machine.specs.Cases.{FillCase, FillPasses, ticketed}
-use Rattle.flat_machine.proofs.Pairs.{put_here, put_else, turned_else, turned_just, just_one, IsJust}
+use Rattle.flat_machine.proofs.Pairs.{put_here, put_else, turned_else, IsJust, turned_free}
 use Rattle.step_core.specs.Changes.{wait_view, fill_view, fill_reason, fill_reason_of, MayRefuse}
 use Rattle.step_core.specs.Views.{Kept, Nothing, Pending, Moving, Newest, ArrayView, kept_at, unit_at, key_at, group_at, is_kept, is_waiting, IsWhole}
 use Rattle.step_core.specs.Represents.{ArraySlot, IsTicketOf, InTables, ShowsArray}
 use Rattle.step_core.proofs.Slots.{ticket_slot, slot_same, one_slot, shows_after}
 use Rattle.step_core.proofs.Kepts.{kept_iff, unkept, waiting_newest}
+use Rattle.flat_machine.proofs.Tickets.{unheld}
 
 -- the class of a slot is what is seen of it
 pub class_seen : (a : ArrayView) (F : Flat) (s : ℕ) → ShowsArray a F → class_of F s ≡ class_at a.sizes.segments (group_at a) s
@@ -85,9 +86,9 @@ wait_whole a s kept x inside free waits moves long whole = record {
 
 -- the tables after a slot was made to wait are the state's in which it does
 pub wait_tables : (a : ArrayView) (F : Flat) (w s : ℕ) (kept : Kept) (c : Waiting) (x : List ℕ) → s < 65536 → is_waiting kept ≡ true → IsTicketOf kept (Some c)
-    → waiting_unit F.sizes.payload (content_of c) ≡ record { header = None; payload = x } → IsWhole a → ShowsArray a F → F.held s (Worker w) ≡ true
+    → waiting_unit F.sizes.payload (content_of c) ≡ record { header = None; payload = x } → IsWhole a → ShowsArray a F → (IsKept F s → ⊥)
     → InTables (wait_view a s kept x) (ticketed F w s c)
-wait_tables a F w s kept c x inside waits ticket unit whole shows held = record {
+wait_tables a F w s kept c x inside waits ticket unit whole shows free = record {
   sizes = shows.tables.sizes;
   drives = shows.tables.drives;
   log = shows.tables.log;
@@ -107,8 +108,8 @@ wait_tables a F w s kept c x inside waits ticket unit whole shows held = record 
     units_room : s < length a.units
     units_room = let e = whole.room.units in omega arith
 
-    just : IsJust (turned F.held s (Worker w) (Ticket w) s) (Ticket w)
-    just = turned_just F.held s (Worker w) (Ticket w) (just_one (F.held s) (Worker w) (shows.history.holders s).once held)
+    just : IsJust IsArrays (turned F.held s (Worker w) (Ticket w) s) (Ticket w)
+    just = turned_free IsArrays F.held s (Worker w) (Ticket w) (λ k of. unheld (F.held s k) (λ e. free (k, of, e)))
 
     here : P s
     here = slot_same kept (kept_at (wait_view a s kept x) s) (Some u) (unit_at (wait_view a s kept x) s) (turned F.held s (Worker w) (Ticket w) s) (turned F.held s (Worker w) (Ticket w) s)
@@ -154,8 +155,8 @@ fill_case a F w s x inside none long whole shows held =
       ticketed F w s (Fresh (Payload x)),
       case,
       shows_after a (fill_view a s x) F (ticketed F w s (Fresh (Payload x))) (Fill w s (Payload x)) (Filled s) shows
-          (long ∙ ap (λ (z : Sizes). z.payload) (sym shows.tables.sizes)) case shows.history.map
-          (wait_tables a F w s Pending (Fresh (Payload x)) x inside refl (Payload x, refl) refl whole shows held),
+          (inside, long ∙ ap (λ (z : Sizes). z.payload) (sym shows.tables.sizes)) case shows.history.map
+          (wait_tables a F w s Pending (Fresh (Payload x)) x inside refl (Payload x, refl) refl whole shows case.1.2),
     )
 
 -- and where something does, it is the flat machine's refusal

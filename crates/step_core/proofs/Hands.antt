@@ -1,18 +1,19 @@
 -- Workers claim and release, and the array stands for the state after it as it stood before.
-use Rattle.std.proofs.Common.{◌≡◌, ℕ, ◌<◌, Bool, true, false, ◌&&◌, ◌||◌, not, length, refl, sym, ap, ◌∙◌, subst, ◌⊎◌, inl, inr}
+use Rattle.std.proofs.Common.{◌≡◌, ℕ, ◌<◌, Bool, true, false, not, length, refl, sym, ap, ◌∙◌, subst}
 use Rattle.std.proofs.Math.ListN.{set}
 use Rattle.std.proofs.lemmas.List.{get_or-set_same, get_or-set_other}
-use Rattle.std.proofs.lemmas.Bool.{cases_eq}
-use Rattle.flat_machine.specs.Flat.{Flat, Holder, Worker, Ticket, Block, Shut, with_pair, without_pair, IsArrays, for_ticket, for_block, for_shut, IsFree}
+use Rattle.flat_machine.specs.Flat.{Flat, Holder, Worker, Ticket, Block, Shut, with_pair, without_pair, IsArrays, for_block, for_shut, IsFree}
 use Rattle.flat_machine.specs.Steps.{Claim, Claimed, Taken, Release, Released, NotHeld}
 use Rattle.flat_machine.specs.Cases.{ClaimCase, ReleaseCase}
-use Rattle.flat_machine.proofs.Pairs.{equal, with_here, with_else, with_just, without_here, without_else, without_nobody, just_one, IsNobodys}
+use Rattle.flat_machine.proofs.Pairs.{equal, with_else, with_just, without_else, without_nobody, just_one, IsNobodys, Any}
 use Rattle.step_core.specs.declared.hand.Hand.{Hand}
 use Rattle.step_core.specs.declared.hand.Hand.TheVariants.{Empty, Holds, Waits}
 use Rattle.step_core.specs.Views.{Kept, Nothing, Pending, Moving, Newest, ArrayView, WorldView, kept_at, unit_at, key_at, hand_at, is_kept, has_no_holder}
 use Rattle.step_core.specs.Represents.{HandSlot, ArraySlot, InTables, Represents, is_claim, is_ticket}
 use Rattle.step_core.proofs.Kepts.{kept_iff, nothing_kept}
 use Rattle.step_core.proofs.Slots.{worker_hand, one_slot, shows_after}
+use Rattle.flat_machine.proofs.Holding.{step_holds, once_any}
+use Rattle.flat_machine.proofs.Claims.{with_worker, without_worker}
 
 -- F with other holders
 abbrev pub with_held : Flat → (ℕ → Holder → Bool) → Flat
@@ -72,7 +73,8 @@ claim_case v F w s small inside free rep = (
   case,
   record {
     array = shows_after v.array v.array F G (Claim w s) (Claimed s) rep.array small case rep.array.history.map (hands_move v.array F H kept rep.array.tables);
-    hands = one_hand v F G s (Holds w) inside rep.hands (λ t ne. with_else F.held s (Worker w) t ne) (worker_hand (H s) w (with_just F.held s (Worker w) is_free));
+    held = step_holds F G (key_at v.array) (Claim w s) (Claimed s) rep.array.history rep.held small case;
+    hands = one_hand v F G s (Holds w) inside rep.hands (λ t ne. with_else F.held s (Worker w) t ne) (worker_hand (H s) w (with_just Any F.held s (Worker w) (λ k of. is_free k)));
   },
 )
   where
@@ -92,16 +94,7 @@ claim_case v F w s small inside free rep = (
     case = (refl, is_free, refl)
 
     kept : (t : ℕ) (k : Holder) → IsArrays k → H t k ≡ F.held t k
-    kept t k of = go (cases_eq t s)
-      where
-        at : (j : Holder) → IsArrays j → H s j ≡ F.held s j
-        at _ (for_ticket u) = with_here F.held s (Worker w) (Ticket u) ∙ ap (λ b. b || false) (is_free (Ticket u)) ∙ sym (is_free (Ticket u))
-        at _ (for_block u) = with_here F.held s (Worker w) (Block u) ∙ ap (λ b. b || false) (is_free (Block u)) ∙ sym (is_free (Block u))
-        at _ (for_shut u) = with_here F.held s (Worker w) (Shut u) ∙ ap (λ b. b || false) (is_free (Shut u)) ∙ sym (is_free (Shut u))
-
-        go : (t ≡ s) ⊎ (t ≡ s → ⊥) → H t k ≡ F.held t k
-        go (inl e) = subst (λ (n : ℕ). H n k ≡ F.held n k) (sym e) (at k of)
-        go (inr ne) = ap (λ (h : Holder → Bool). h k) (with_else F.held s (Worker w) t ne)
+    kept = with_worker F w s
 
 -- a slot with a holder is taken
 pub taken_case : (v : WorldView) (F : Flat) (w s : ℕ) → has_no_holder (kept_at v.array s) (hand_at v.hands s) ≡ false → Represents v F
@@ -121,12 +114,8 @@ taken_case v F w s held rep = (refl, holder (hand_at v.hands s) refl, refl)
     holder (Holds u) e = (Worker u, (rep.hands s).claims u ∙ ap (λ h. is_claim h u) e ∙ equal u u refl)
     holder (Waits u) e = (Ticket u, (rep.hands s).tickets u ∙ ap (λ h. is_ticket h u) e ∙ equal u u refl)
 
-and_true : (b : Bool) → (b && true) ≡ b
-and_true true = refl
-and_true false = refl
-
-nobody_hand : (h : Holder → Bool) → IsNobodys h → HandSlot Empty h
-nobody_hand h free = record { claims = λ w. free (Worker w); tickets = λ w. free (Ticket w) }
+nobody_hand : (h : Holder → Bool) → IsNobodys Any h → HandSlot Empty h
+nobody_hand h free = record { claims = λ w. free (Worker w) tt; tickets = λ w. free (Ticket w) tt }
 
 pub release_case : (v : WorldView) (F : Flat) (w s : ℕ) → s < length v.hands → is_claim (hand_at v.hands s) w ≡ true → Represents v F
     → (G : Flat) × (ReleaseCase F w s (Released s) G) × (Represents (with_hand v s Empty) G)
@@ -135,8 +124,9 @@ release_case v F w s inside is_held rep = (
   case,
   record {
     array = shows_after v.array v.array F G (Release w s) (Released s) rep.array tt case rep.array.history.map (hands_move v.array F H kept rep.array.tables);
+    held = step_holds F G (key_at v.array) (Release w s) (Released s) rep.array.history rep.held tt case;
     hands = one_hand v F G s Empty inside rep.hands (λ t ne. without_else F.held s (Worker w) t ne)
-        (nobody_hand (H s) (without_nobody F.held s (Worker w) (just_one (F.held s) (Worker w) (rep.array.history.holders s).once held)));
+        (nobody_hand (H s) (without_nobody Any F.held s (Worker w) (just_one Any (F.held s) (Worker w) (once_any F rep.held s) tt held)));
   },
 )
   where
@@ -153,16 +143,7 @@ release_case v F w s inside is_held rep = (
     case = (refl, held, refl)
 
     kept : (t : ℕ) (k : Holder) → IsArrays k → H t k ≡ F.held t k
-    kept t k of = go (cases_eq t s)
-      where
-        at : (j : Holder) → IsArrays j → H s j ≡ F.held s j
-        at _ (for_ticket u) = without_here F.held s (Worker w) (Ticket u) ∙ and_true (F.held s (Ticket u))
-        at _ (for_block u) = without_here F.held s (Worker w) (Block u) ∙ and_true (F.held s (Block u))
-        at _ (for_shut u) = without_here F.held s (Worker w) (Shut u) ∙ and_true (F.held s (Shut u))
-
-        go : (t ≡ s) ⊎ (t ≡ s → ⊥) → H t k ≡ F.held t k
-        go (inl e) = subst (λ (n : ℕ). H n k ≡ F.held n k) (sym e) (at k of)
-        go (inr ne) = ap (λ (h : Holder → Bool). h k) (without_else F.held s (Worker w) t ne)
+    kept = without_worker F w s
 
 -- a worker without a claim of the slot has nothing to release
 pub unheld_case : (v : WorldView) (F : Flat) (w s : ℕ) → is_claim (hand_at v.hands s) w ≡ false → Represents v F → ReleaseCase F w s (NotHeld s) F

@@ -215,9 +215,13 @@ make_passes a F members g reason lowest shows = (
 pub make_case : (a b : ArrayView) (F : Flat) (class : Class) (members : List Member) (g : ℕ) → IsWhole a → IsMakeReason a members None → IsLowestFree (group_at a) g
     → Entered a g class members b → ShowsArray a F
     → (G : Flat) × (MakeCase F class members (MadeGroup g) G) × (ShowsArray b G)
-make_case a b F class members g whole reason lowest e shows = (made F class members g, case, subst (λ (v : ArrayView). ShowsArray v (made F class members g)) (sym e.rest)
-    (shows_after a (entered a b.units g class members) F (made F class members g) (Make class members) (MadeGroup g) shows tt case shows.history.map
-    (entered_tables a b F g class members whole lowest.limit e shows)))
+make_case a b F class members g whole reason lowest e shows = (
+  made F class members g,
+  case,
+  subst (λ (v : ArrayView). ShowsArray v (made F class members g)) (sym e.rest)
+      (shows_after a (entered a b.units g class members) F (made F class members g) (Make class members) (MadeGroup g) shows tt case shows.history.map
+      (entered_tables a b F g class members whole lowest.limit e shows)),
+)
   where
     case : MakeCase F class members (MadeGroup g) (made F class members g)
     case = (make_passes a F members g reason lowest shows, refl)

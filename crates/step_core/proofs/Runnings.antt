@@ -25,7 +25,7 @@ run_more F M G (s ∷ steps) (a ∷ answers) step answer run case = (run.0, run.
 -- every state that a world stands for
 pub stands : (w : WorldView) (F : Flat) → Represents w F → Stands w F
 stands w F rep = record {
-  once = λ s. (rep.array.history.holders s).once;
+  once = rep.held.once;
   map = rep.array.history.map;
   read = λ b. ((rep.array.history.written b).0, λ some. let y = (rep.array.history.written b).1 some in (y.0, y.1, y.2.unit));
   every = λ records M same is. map_unique records F.emitted M (key_at w.array) same is rep.array.history.map;

@@ -2,12 +2,12 @@
 use Rattle.std.proofs.Common.{◌≡◌, ℕ, Bool, true, false, refl, sym, ap, ◌∙◌, subst, ◌⊎◌, inl, inr, Option, None}
 use Rattle.std.proofs.lemmas.Bool.{cases_eq}
 use Rattle.map_join.specs.Maps.{IsMapOf}
-use Rattle.flat_machine.specs.Flat.{Flat, Holder, Worker, Ticket, Block, Shut, Waiting, Stored}
+use Rattle.flat_machine.specs.Flat.{Flat, Holder, Worker, Ticket, Block, Shut, Waiting, Stored, IsArrays, for_block, for_shut}
 use Rattle.flat_machine.specs.Steps.{FlatStep, FlatAnswer}
 use Rattle.flat_machine.specs.Cases.{Case}
 use Rattle.flat_machine.specs.History.{IsStep}
 use Rattle.flat_machine.proofs.Keeps.{step_keeps}
-use Rattle.flat_machine.proofs.Pairs.{flip, IsJust}
+use Rattle.flat_machine.proofs.Pairs.{flip, IsJust, Any}
 use Rattle.step_core.specs.declared.hand.Hand.TheVariants.{Empty, Holds, Waits}
 use Rattle.step_core.specs.Views.{Kept, Nothing, Pending, Moving, Newest, ArrayView, key_at, is_waiting}
 use Rattle.step_core.specs.Represents.{ArraySlot, InTables, ShowsArray, HandSlot, IsTicketOf, is_newest}
@@ -20,25 +20,25 @@ waiting_none Nothing e b = absurd (cc)
 waiting_none (Newest c) e b = absurd (cc)
 
 -- a slot that a worker holds, one that a ticket holds, and one that a block holds
-pub worker_slot : (o u : Option Stored) (h : Holder → Bool) (w : ℕ) (t : Option Waiting) → IsJust h (Worker w) → t ≡ None → u ≡ o → ArraySlot Nothing o h t u
-worker_slot o u h w t is none unit = record { blocks = λ b. is (Block b); shut = λ g. is (Shut g); waits = none; unit_is = unit }
+pub worker_slot : (o u : Option Stored) (h : Holder → Bool) (w : ℕ) (t : Option Waiting) → IsJust IsArrays h (Worker w) → t ≡ None → u ≡ o → ArraySlot Nothing o h t u
+worker_slot o u h w t is none unit = record { blocks = λ b. is (Block b) (for_block b); shut = λ g. is (Shut g) (for_shut g); waits = none; unit_is = unit }
 
-pub ticket_slot : (k : Kept) (o u : Option Stored) (h : Holder → Bool) (w : ℕ) (t : Option Waiting) → is_waiting k ≡ true → IsJust h (Ticket w) → IsTicketOf k t → u ≡ o
+pub ticket_slot : (k : Kept) (o u : Option Stored) (h : Holder → Bool) (w : ℕ) (t : Option Waiting) → is_waiting k ≡ true → IsJust IsArrays h (Ticket w) → IsTicketOf k t → u ≡ o
     → ArraySlot k o h t u
-ticket_slot k o u h w t waits is ticket unit = record { blocks = λ b. is (Block b) ∙ sym (waiting_none k waits b); shut = λ g. is (Shut g); waits = ticket; unit_is = unit }
+ticket_slot k o u h w t waits is ticket unit = record { blocks = λ b. is (Block b) (for_block b) ∙ sym (waiting_none k waits b); shut = λ g. is (Shut g) (for_shut g); waits = ticket; unit_is = unit }
 
-pub block_slot : (o u : Option Stored) (h : Holder → Bool) (b : ℕ) (t : Option Waiting) → IsJust h (Block b) → t ≡ None → u ≡ o → ArraySlot (Newest b) o h t u
-block_slot o u h b t is none unit = record { blocks = λ c. is (Block c) ∙ flip c b; shut = λ g. is (Shut g); waits = none; unit_is = unit }
+pub block_slot : (o u : Option Stored) (h : Holder → Bool) (b : ℕ) (t : Option Waiting) → IsJust IsArrays h (Block b) → t ≡ None → u ≡ o → ArraySlot (Newest b) o h t u
+block_slot o u h b t is none unit = record { blocks = λ c. is (Block c) (for_block c) ∙ flip c b; shut = λ g. is (Shut g) (for_shut g); waits = none; unit_is = unit }
 
 -- whose hand a slot is in
-pub worker_hand : (h : Holder → Bool) (w : ℕ) → IsJust h (Worker w) → HandSlot (Holds w) h
-worker_hand h w is = record { claims = λ v. is (Worker v) ∙ flip v w; tickets = λ v. is (Ticket v) }
+pub worker_hand : (h : Holder → Bool) (w : ℕ) → IsJust Any h (Worker w) → HandSlot (Holds w) h
+worker_hand h w is = record { claims = λ v. is (Worker v) tt ∙ flip v w; tickets = λ v. is (Ticket v) tt }
 
-pub ticket_hand : (h : Holder → Bool) (w : ℕ) → IsJust h (Ticket w) → HandSlot (Waits w) h
-ticket_hand h w is = record { claims = λ v. is (Worker v); tickets = λ v. is (Ticket v) ∙ flip v w }
+pub ticket_hand : (h : Holder → Bool) (w : ℕ) → IsJust Any h (Ticket w) → HandSlot (Waits w) h
+ticket_hand h w is = record { claims = λ v. is (Worker v) tt; tickets = λ v. is (Ticket v) tt ∙ flip v w }
 
-pub block_hand : (h : Holder → Bool) (b : ℕ) → IsJust h (Block b) → HandSlot Empty h
-block_hand h b is = record { claims = λ v. is (Worker v); tickets = λ v. is (Ticket v) }
+pub block_hand : (h : Holder → Bool) (b : ℕ) → IsJust Any h (Block b) → HandSlot Empty h
+block_hand h b is = record { claims = λ v. is (Worker v) tt; tickets = λ v. is (Ticket v) tt }
 
 -- what is told of a slot stays where nothing of it changed
 pub slot_same : (k l : Kept) (o p : Option Stored) (g h : Holder → Bool) (t r : Option Waiting) (u v : Option Stored) → l ≡ k → p ≡ o → h ≡ g → r ≡ t → v ≡ u

@@ -9,10 +9,10 @@ use Rattle.map_join.specs.Record.{record_at, IsRecord}
 use Rattle.flat_machine.specs.declared.group.Class.{Class}
 use Rattle.flat_machine.specs.declared.group.Member.{Member}
 use Rattle.flat_machine.specs.Flat.{Flat, Write, Content, Worker, Ticket, Waiting, Fresh, Moved, IsNewest, turned}
-use Rattle.flat_machine.specs.Steps.{Filled, Copied, Committed, Discarded, MadeGroup}
+use Rattle.flat_machine.specs.Steps.{Filled, Copied, Committed, Discarded, MadeGroup, Fill, Copy, Commit, Discard, Make}
 use Rattle.flat_machine.specs.Cases.{FillCase, CopyCase, ticketed, CommitCase, CommitWith, committed, DiscardCase, discarded, MakeCase, made}
 use Rattle.flat_machine.proofs.Newest.{newest_unique, place_small}
-use Rattle.flat_machine.proofs.Pairs.{turned_else, turned_just, just_one}
+use Rattle.flat_machine.proofs.Pairs.{turned_else, turned_just, just_one, Any}
 use Rattle.flat_machine.proofs.Passing.{Passes, passed, passed_on}
 use Rattle.step_core.specs.declared.hand.Hand.{Hand}
 use Rattle.step_core.specs.declared.hand.Hand.TheVariants.{Empty, Holds, Waits}
@@ -22,6 +22,8 @@ use Rattle.step_core.specs.Represents.{HandSlot, ShowsArray, Represents, is_clai
 use Rattle.step_core.proofs.Newest.{newest_told}
 use Rattle.step_core.proofs.Hands.{one_hand}
 use Rattle.step_core.proofs.Slots.{worker_hand, ticket_hand, block_hand, one_slot}
+use Rattle.flat_machine.proofs.Holding.{step_holds, once_any}
+use Rattle.flat_machine.specs.History.{IsStep}
 
 -- the hands of a state that is another by an equation
 hands_as : (hs : List Hand) (G E : Flat) → G ≡ E → ((t : ℕ) → HandSlot (hand_at hs t) (E.held t)) → (t : ℕ) → HandSlot (hand_at hs t) (G.held t)
@@ -32,44 +34,56 @@ ticket_hands : (v : WorldView) (F : Flat) (w s : ℕ) (c : Waiting) → s < leng
     → (t : ℕ) → HandSlot (hand_at (set v.hands s (Waits w)) t) ((ticketed F w s c).held t)
 ticket_hands v F w s c inside rep held =
     one_hand v F (ticketed F w s c) s (Waits w) inside rep.hands (λ t ne. turned_else F.held s (Worker w) (Ticket w) t ne)
-    (ticket_hand (turned F.held s (Worker w) (Ticket w) s) w (turned_just F.held s (Worker w) (Ticket w) (just_one (F.held s) (Worker w) (rep.array.history.holders s).once held)))
+    (ticket_hand (turned F.held s (Worker w) (Ticket w) s) w (turned_just Any F.held s (Worker w) (Ticket w) (just_one Any (F.held s) (Worker w) (once_any F rep.held s) tt held)))
 
 discard_hands : (v : WorldView) (F : Flat) (w s : ℕ) → s < length v.hands → Represents v F → F.held s (Ticket w) ≡ true
     → (t : ℕ) → HandSlot (hand_at (set v.hands s (Holds w)) t) ((discarded F w s).held t)
 discard_hands v F w s inside rep held =
     one_hand v F (discarded F w s) s (Holds w) inside rep.hands (λ t ne. turned_else F.held s (Ticket w) (Worker w) t ne)
-    (worker_hand (turned F.held s (Ticket w) (Worker w) s) w (turned_just F.held s (Ticket w) (Worker w) (just_one (F.held s) (Ticket w) (rep.array.history.holders s).once held)))
+    (worker_hand (turned F.held s (Ticket w) (Worker w) s) w (turned_just Any F.held s (Ticket w) (Worker w) (just_one Any (F.held s) (Ticket w) (once_any F rep.held s) tt held)))
 
-pub fill_world : (v : WorldView) (F : Flat) (w s : ℕ) (x : Content) (a : ArrayView) → s < length v.hands → Represents v F → is_claim (hand_at v.hands s) w ≡ true
+pub fill_world : (v : WorldView) (F : Flat) (w s : ℕ) (x : Content) (a : ArrayView) → s < length v.hands → IsStep F.sizes (Fill w s x) → Represents v F → is_claim (hand_at v.hands s) w ≡ true
     → (t : ℕ) → t ≡ s → (G : Flat) × (FillCase F w t x (Filled t) G) × (ShowsArray a G)
     → (G : Flat) × (FillCase F w s x (Filled s) G) × (Represents (record { array = a; hands = set v.hands s (Waits w) }) G)
-fill_world v F w s x a inside rep held t same z =
-    let y : (G : Flat) × (FillCase F w s x (Filled s) G) × (ShowsArray a G) = subst (λ n. (G : Flat) × (FillCase F w n x (Filled n) G) × (ShowsArray a G)) same z in
-    (y.0, y.1, record {
-      array = y.2;
-      hands = hands_as (set v.hands s (Waits w)) y.0 (ticketed F w s (Fresh x)) y.1.2 (ticket_hands v F w s (Fresh x) inside rep ((rep.hands s).claims w ∙ held));
-    })
+fill_world v F w s x a inside fits rep held t same z =
+    let y : (G : Flat) × (FillCase F w s x (Filled s) G) × (ShowsArray a G) = subst (λ n. (G : Flat) × (FillCase F w n x (Filled n) G) × (ShowsArray a G)) same z in (
+      y.0,
+      y.1,
+      record {
+        array = y.2;
+        held = step_holds F y.0 (key_at v.array) (Fill w s x) (Filled s) rep.array.history rep.held fits y.1;
+        hands = hands_as (set v.hands s (Waits w)) y.0 (ticketed F w s (Fresh x)) y.1.2 (ticket_hands v F w s (Fresh x) inside rep ((rep.hands s).claims w ∙ held));
+      },
+    )
 
-pub copy_world : (v : WorldView) (F : Flat) (w s b : ℕ) (a : ArrayView) → s < length v.hands → Represents v F → is_claim (hand_at v.hands s) w ≡ true
+pub copy_world : (v : WorldView) (F : Flat) (w s b : ℕ) (a : ArrayView) → s < length v.hands → IsStep F.sizes (Copy w s b) → Represents v F → is_claim (hand_at v.hands s) w ≡ true
     → (t : ℕ) → t ≡ s → (G : Flat) × (CopyCase F w t b (Copied t) G) × (ShowsArray a G)
     → (G : Flat) × (CopyCase F w s b (Copied s) G) × (Represents (record { array = a; hands = set v.hands s (Waits w) }) G)
-copy_world v F w s b a inside rep held t same z =
+copy_world v F w s b a inside fits rep held t same z =
     let y : (G : Flat) × (CopyCase F w s b (Copied s) G) × (ShowsArray a G) = subst (λ n. (G : Flat) × (CopyCase F w n b (Copied n) G) × (ShowsArray a G)) same z in
-    let c : Waiting = Moved b y.1.1.0.version y.1.1.0.hop y.1.1.1.content in
-    (y.0, y.1, record {
-      array = y.2;
-      hands = hands_as (set v.hands s (Waits w)) y.0 (ticketed F w s c) y.1.1.4 (ticket_hands v F w s c inside rep ((rep.hands s).claims w ∙ held));
-    })
+    let c : Waiting = Moved b y.1.1.0.version y.1.1.0.hop y.1.1.1.content in (
+      y.0,
+      y.1,
+      record {
+        array = y.2;
+        held = step_holds F y.0 (key_at v.array) (Copy w s b) (Copied s) rep.array.history rep.held fits y.1;
+        hands = hands_as (set v.hands s (Waits w)) y.0 (ticketed F w s c) y.1.1.4 (ticket_hands v F w s c inside rep ((rep.hands s).claims w ∙ held));
+      },
+    )
 
 pub discard_world : (v : WorldView) (F : Flat) (w s : ℕ) (a : ArrayView) → s < length v.hands → Represents v F → is_ticket (hand_at v.hands s) w ≡ true
     → (t : ℕ) → t ≡ s → (G : Flat) × (DiscardCase F w t (Discarded t) G) × (ShowsArray a G)
     → (G : Flat) × (DiscardCase F w s (Discarded s) G) × (Represents (record { array = a; hands = set v.hands s (Holds w) }) G)
 discard_world v F w s a inside rep held t same z =
-    let y : (G : Flat) × (DiscardCase F w s (Discarded s) G) × (ShowsArray a G) = subst (λ n. (G : Flat) × (DiscardCase F w n (Discarded n) G) × (ShowsArray a G)) same z in
-    (y.0, y.1, record {
-      array = y.2;
-      hands = hands_as (set v.hands s (Holds w)) y.0 (discarded F w s) y.1.2 (discard_hands v F w s inside rep ((rep.hands s).tickets w ∙ held));
-    })
+    let y : (G : Flat) × (DiscardCase F w s (Discarded s) G) × (ShowsArray a G) = subst (λ n. (G : Flat) × (DiscardCase F w n (Discarded n) G) × (ShowsArray a G)) same z in (
+      y.0,
+      y.1,
+      record {
+        array = y.2;
+        held = step_holds F y.0 (key_at v.array) (Discard w s) (Discarded s) rep.array.history rep.held tt y.1;
+        hands = hands_as (set v.hands s (Holds w)) y.0 (discarded F w s) y.1.2 (discard_hands v F w s inside rep ((rep.hands s).tickets w ∙ held));
+      },
+    )
 
 -- the state that a commit leaves, told by the newest record
 commit_leaves : (F G : Flat) (w s b : ℕ) (found : Option Record) (r : Record) → ((q : Record) → Contains F.emitted q → IsRecord q) → IsNewest F.emitted b found → CommitCase F w s b (Committed r) G
@@ -82,7 +96,7 @@ commit_leaves F G w s b found r all newest y =
     of (Some (Fresh x)) z = (_, x, z.3)
     of (Some (Moved d i h x)) z = (_, x, z.3)
 
-commit_hands : (v : WorldView) (F : Flat) (w s b : ℕ) (found : Option Record) → s < length v.hands → ((q : Record) → found ≡ Some q → q.place < length v.hands) → Represents v F → Passes F w s b found
+commit_hands : (v : WorldView) (F : Flat) (w s b : ℕ) (found : Option Record) → s < length v.hands → ((q : Record) → found ≡ Some q → q.place < length v.hands) → Represents v F → Passes Any F w s b found
     → (t : ℕ) → HandSlot (hand_at (passed_hands v.hands s w found) t) (passed_on F w s b found t)
 commit_hands v F w s b found inside small rep passes = by found refl
   where
@@ -120,19 +134,23 @@ commit_hands v F w s b found inside small rep passes = by found refl
             go (inl n) = subst P (sym n) (old q is)
             go (inr away) = same t ne (λ p p_is n. away (n ∙ ap (λ (x : Record). x.place) (same_Some p q (sym p_is ∙ is))))
 
-pub commit_world : (v : WorldView) (F : Flat) (w s b : ℕ) (r : Record) (a : ArrayView) → s < 65536 → length v.hands ≡ 65536 → Represents v F → is_ticket (hand_at v.hands s) w ≡ true
+pub commit_world : (v : WorldView) (F : Flat) (w s b : ℕ) (r : Record) (a : ArrayView) → s < 65536 → b < F.sizes.blocks → length v.hands ≡ 65536 → Represents v F → is_ticket (hand_at v.hands s) w ≡ true
     → (G : Flat) × (CommitCase F w s b (Committed r) G) × (ShowsArray a G)
     → (G : Flat) × (CommitCase F w s b (Committed r) G) × (Represents (record { array = a; hands = passed_hands v.hands s w (record_at b (key_at v.array b)) }) G)
-commit_world v F w s b r a inside room rep held y =
+commit_world v F w s b r a inside block room rep held y =
     let found = record_at b (key_at v.array b) in
     let newest : IsNewest F.emitted b found = newest_told v.array F b rep.array in
     let leaves = commit_leaves F y.0 w s b found r rep.array.history.records newest y.1 in
-    let passes : Passes F w s b found = passed F (key_at v.array) w s b found rep.array.history newest ((rep.hands s).tickets w ∙ held) in
-    let small : (q : Record) → found ≡ Some q → q.place < length v.hands = λ q e. let low = place_small b (key_at v.array b) q e in omega arith in
-    (y.0, y.1, record {
-      array = y.2;
-      hands = hands_as (passed_hands v.hands s w found) y.0 (committed F w s b found leaves.0 leaves.1 r) leaves.2 (commit_hands v F w s b found (omega arith) small rep passes);
-    })
+    let passes : Passes Any F w s b found = passed Any F (key_at v.array) w s b found (once_any F rep.held) tt tt rep.array.history newest ((rep.hands s).tickets w ∙ held) in
+    let small : (q : Record) → found ≡ Some q → q.place < length v.hands = λ q e. let low = place_small b (key_at v.array b) q e in omega arith in (
+      y.0,
+      y.1,
+      record {
+        array = y.2;
+        held = step_holds F y.0 (key_at v.array) (Commit w s b) (Committed r) rep.array.history rep.held block y.1;
+        hands = hands_as (passed_hands v.hands s w found) y.0 (committed F w s b found leaves.0 leaves.1 r) leaves.2 (commit_hands v F w s b found (omega arith) small rep passes);
+      },
+    )
 
 -- a commit's case, with slot and record as they are named elsewhere
 pub commit_as : (a : ArrayView) (F : Flat) (w b t s : ℕ) (q r : Record) → t ≡ s → q ≡ r → (G : Flat) × (CommitCase F w t b (Committed q) G) × (ShowsArray a G)
@@ -149,10 +167,15 @@ and_true false = refl
 pub make_world : (v : WorldView) (F : Flat) (class : Class) (members : List Member) (g : ℕ) (a : ArrayView) → Represents v F
     → (G : Flat) × (MakeCase F class members (MadeGroup g) G) × (ShowsArray a G)
     → (G : Flat) × (MakeCase F class members (MadeGroup g) G) × (Represents (record { array = a; hands = v.hands }) G)
-make_world v F class members g a rep y = (y.0, y.1, record {
-  array = y.2;
-  hands = hands_as v.hands y.0 (made F class members g) y.1.1 (λ t. let h = rep.hands t in record {
-    claims = λ w. and_true (F.held t (Worker w)) ∙ h.claims w;
-    tickets = λ w. and_true (F.held t (Ticket w)) ∙ h.tickets w;
-  });
-})
+make_world v F class members g a rep y = (
+  y.0,
+  y.1,
+  record {
+    array = y.2;
+    held = step_holds F y.0 (key_at v.array) (Make class members) (MadeGroup g) rep.array.history rep.held tt y.1;
+    hands = hands_as v.hands y.0 (made F class members g) y.1.1 (λ t. let h = rep.hands t in record {
+      claims = λ w. and_true (F.held t (Worker w)) ∙ h.claims w;
+      tickets = λ w. and_true (F.held t (Ticket w)) ∙ h.tickets w;
+    });
+  },
+)

@@ -2,7 +2,7 @@
 -- with it.
 use Rattle.std.specs.Prelude.{◌≡◌, ℕ, ◌==◌, Bool, false, Option, Some, None}
 use Rattle.flat_machine.specs.Flat.{Flat, Content, Holder, Worker, Ticket, Block, Shut, Waiting, Fresh, Moved, Stored}
-use Rattle.flat_machine.specs.History.{IsHistory}
+use Rattle.flat_machine.specs.History.{IsHistory, AreHeld}
 use Rattle.step_core.specs.declared.hand.Hand.{Hand}
 use Rattle.step_core.specs.declared.hand.Hand.TheVariants.{Holds, Waits}
 use Rattle.step_core.specs.Views.{Kept, Pending, Moving, Newest, ArrayView, WorldView, kept_at, hand_at, group_at, unit_at, key_at}
@@ -33,7 +33,8 @@ pub record InTables (a : ArrayView) (F : Flat) : Type 0 where
   pub groups : (g : ℕ) → F.groups g ≡ group_at a g
   pub slots : (s : ℕ) → ArraySlot (kept_at a s) (unit_at a s) (F.held s) (F.tickets s) (F.units s)
 
--- an array stands for a flat state: one that steps can leave, whose map are the array's keys, and the tables are its
+-- an array stands for a flat state: all is true of it that is after any steps, with the array's keys as the map of its log,
+-- and the array's tables are its. Which slots workers hold is left free
 pub record ShowsArray (a : ArrayView) (F : Flat) : Type 0 where
   pub history : IsHistory F (key_at a)
   pub tables : InTables a F
@@ -52,7 +53,8 @@ pub record HandSlot (hand : Hand) (held : Holder → Bool) : Type 0 where
   pub claims : (w : ℕ) → held (Worker w) ≡ is_claim hand w
   pub tickets : (w : ℕ) → held (Ticket w) ≡ is_ticket hand w
 
--- a world stands for a flat state: its array does, and of each slot its hands say who has it
+-- a world stands for a flat state: its array does, no slot has two holders, and of each slot its hands say who has it
 pub record Represents (w : WorldView) (F : Flat) : Type 0 where
   pub array : ShowsArray w.array F
+  pub held : AreHeld F
   pub hands : (s : ℕ) → HandSlot (hand_at w.hands s) (F.held s)

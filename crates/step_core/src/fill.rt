@@ -10,8 +10,8 @@ ghost use Rattle.step_core.specs.Represents.{ShowsArray};
 use crate::array::Array;
 use crate::hold::{Hold, Ticket};
 use crate::place::{Place, put_in};
-use flat_machine::{Class, Refusal};
 use crate::stored::StoredUnit;
+use flat_machine::{Class, Refusal};
 use std::alloc::Global;
 
 impl<C: Hold> Array<C> {

@@ -13,8 +13,8 @@ ghost use Rattle.step_core.specs.Represents.{ShowsArray};
 use crate::array::{Array, SLOTS_OF_A_GROUP};
 use crate::group::{Group, slot_count};
 use crate::hold::Hold;
-use flat_machine::{Class, Member, Refusal};
 use crate::stored::StoredUnit;
+use flat_machine::{Class, Member, Refusal};
 use std::alloc::{AllocError, Global};
 
 impl<C: Hold> Array<C> {

@@ -1,7 +1,6 @@
 // Steps of a world, and their answers.
-use flat_machine::{Class, Member};
 use crate::read::At;
-use flat_machine::Refusal;
+use flat_machine::{Class, Member, Refusal};
 use map_join::Record;
 
 /// A step. Workers are numbered from 0 to 7.

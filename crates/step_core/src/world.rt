@@ -11,12 +11,11 @@ ghost use Rattle.step_core.specs.Changes.{passed_hands};
 ghost use Rattle.step_core.specs.Represents.{Represents, is_claim, is_ticket};
 
 use crate::array::{Array, SLOTS};
-use flat_machine::{Class, Member};
 use crate::hand::Hand;
 use crate::hold::{Plain, Ticket};
-use flat_machine::Refusal;
 use crate::shape::Shape;
 use crate::step::Answer;
+use flat_machine::{Class, Member, Refusal};
 use map_join::Record;
 use std::alloc::{AllocError, Global};
 use std::marker::Model;

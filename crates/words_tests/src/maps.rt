@@ -1,8 +1,8 @@
 ghost use Rattle.std.specs.Prelude.{◌≡◌, ◌<◌};
 ghost use Rattle.map_words.specs.Places.{blocks_of};
 
-use map_words::{CloseRefusal, MapWords, Naming, SplitRefusal, Taker, Unnamed};
 use map_join::{BlockMap, Record};
+use map_words::{CloseRefusal, MapWords, Naming, SplitRefusal, Taker, Unnamed};
 use std::alloc::Global;
 use std::marker::Brand;
 use std::process::Abort;
