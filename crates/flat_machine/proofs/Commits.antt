@@ -5,11 +5,12 @@ use Rattle.std.proofs.lemmas.List.Elements.{Contains-push_cases}
 use Rattle.std.proofs.lemmas.Bool.{cases_eq}
 use Rattle.std.proofs.lemmas.Option.{same_Some}
 use Rattle.map_join.specs.declared.records.Record.{Record}
+use Rattle.extents.specs.Header.{record_in}
 use Rattle.map_join.specs.Record.{key_of, record_of, stamp, stamp_of, stamp_in, IsRecord}
 use Rattle.map_join.specs.Maps.{IsMapOf, join, only}
 use Rattle.map_join.proofs.Joins.{took, only_here, only_else}
-use Rattle.flat_machine.specs.declared.group.Class.{Class}
-use Rattle.flat_machine.specs.Flat.{Flat, IsArrays, for_ticket, for_block, Write, Content, Payload, bytes_of, Holder, Ticket, Block, Waiting, Fresh, Moved, content_of, record_in, header_for, Stored, content_in, waiting_unit, class_of, put, last_write, IsNewest}
+use Rattle.extent_groups.specs.declared.class.Class.{Class}
+use Rattle.flat_machine.specs.Flat.{Flat, IsArrays, for_ticket, for_block, Write, Content, Payload, bytes_of, Holder, Ticket, Block, Waiting, Fresh, Moved, content_of, header_for, Stored, content_in, waiting_unit, class_of, put, last_write, IsNewest}
 use Rattle.flat_machine.specs.Cases.{committed, stamped, longest_log}
 use Rattle.flat_machine.specs.History.{AreLimits, ComesNext, IsWrite, IsWriteChain, IsWriteOf, IsHeaderOf, HoldersStand, UnitStands, WaitingStands, IsCopy, IsAt, BlockStands, IsHistory}
 use Rattle.flat_machine.proofs.Pairs.{put_here, put_else, just_held}
@@ -35,14 +36,14 @@ pub record IsReady (F : Flat) (keys : ℕ → ℕ) (w s b : ℕ) (found : Option
   pub newest : IsNewest F.emitted b found
   pub ticket : F.tickets s ≡ Some c
   pub mine : F.held s (Ticket w) ≡ true
-  pub block : b < F.sizes.blocks
+  pub block : b < F.groups.blocks
   pub ok : IsRecord (emitted_by b s v h)
   pub above : stamp_in (keys b) < stamp v h
   pub next : (n : Record) → found ≡ Some n → ComesNext n (emitted_by b s v h)
   pub room : length F.emitted < longest_log
   pub last : (x : Write) × (last_write writes b ≡ Some x) × (x.version ≡ v) × (x.content ≡ content_of c)
   pub others : (d : ℕ) → (d ≡ b → ⊥) → last_write writes d ≡ last_write F.writes d
-  pub all : (x : Write) → Contains writes x → IsWrite F.sizes.payload x
+  pub all : (x : Write) → Contains writes x → IsWrite F.groups.payload x
   pub versions : IsWriteChain [] writes
   pub stays : (x : Write) → Contains F.writes x → Contains writes x
   -- a write that is new is of no record emitted before
@@ -191,9 +192,9 @@ module _ (F : Flat) (keys : ℕ → ℕ) (w s b : ℕ) (found : Option Record) (
 
   -- the unit of the slot, stamped
   abbrev stored_now : Stored
-  stored_now = record { header = header_for (emitted_by b s v h) (content_of c); payload = bytes_of F.sizes.payload (content_of c) }
+  stored_now = record { header = header_for (emitted_by b s v h) (content_of c); payload = bytes_of F.groups.payload (content_of c) }
 
-  was_unit : F.units s ≡ Some (waiting_unit F.sizes.payload (content_of c))
+  was_unit : F.units s ≡ Some (waiting_unit F.groups.payload (content_of c))
   was_unit = (ready.history.units s).blank c ready.ticket
 
   unit_now : G.units s ≡ Some stored_now
@@ -202,16 +203,16 @@ module _ (F : Flat) (keys : ℕ → ℕ) (w s b : ℕ) (found : Option Record) (
   unit_else : (t : ℕ) → (t ≡ s → ⊥) → G.units t ≡ F.units t
   unit_else t ne = put_else F.units s _ t ne
 
-  unit_here : UnitStands F.sizes.payload (F.emitted ++ emitted_by b s v h ∷ []) writes M s (class_of F s) None (Some stored_now)
+  unit_here : UnitStands F.groups.payload (F.emitted ++ emitted_by b s v h ∷ []) writes M s (class_of F s) None (Some stored_now)
   unit_here = record {
     there = ap is_some (sym was_unit) ∙ (ready.history.units s).there;
-    sized = λ u e. subst (λ (y : Stored). length y.payload ≡ F.sizes.payload) (same_Some stored_now u e) ((ready.history.units s).sized _ was_unit);
+    sized = λ u e. subst (λ (y : Stored). length y.payload ≡ F.groups.payload) (same_Some stored_now u e) ((ready.history.units s).sized _ was_unit);
     header = λ u q e told. subst (IsHeaderOf M s) (header_is u q e told) (record {
       ranges = ready.ok;
       place = refl;
       newest = inl (sym key_here);
     });
-    content = λ u q z e told has wrote of. ap content_in (sym (same_Some stored_now u e)) ∙ stamped_content F.sizes.payload (emitted_by b s v h) (content_of c)
+    content = λ u q z e told has wrote of. ap content_in (sym (same_Some stored_now u e)) ∙ stamped_content F.groups.payload (emitted_by b s v h) (content_of c)
         ∙ sym ready.last.3 ∙ ap (λ (x : Write). x.content) (last_is q z wrote (ap (λ (p : Record). p.block) (header_is u q e told)) (ap (λ (p : Record). p.version) (header_is u q e told)) of);
     blank = λ d e. absurd (cc);
     rests = λ d e. absurd (cc);
@@ -229,8 +230,8 @@ module _ (F : Flat) (keys : ℕ → ℕ) (w s b : ℕ) (found : Option Record) (
           let version : z.version ≡ most.newest.version = of.1 ∙ sym version_is ∙ sym ready.last.2 ∙ ap (λ (x : Write). x.version) (sym newest) in
           sym newest ∙ sym (most.same version)
 
-  unit_kept : (t : ℕ) → (t ≡ s → ⊥) → UnitStands F.sizes.payload F.emitted F.writes keys t (class_of F t) (F.tickets t) (F.units t)
-      → UnitStands F.sizes.payload (F.emitted ++ emitted_by b s v h ∷ []) writes M t (class_of F t) (F.tickets t) (F.units t)
+  unit_kept : (t : ℕ) → (t ≡ s → ⊥) → UnitStands F.groups.payload F.emitted F.writes keys t (class_of F t) (F.tickets t) (F.units t)
+      → UnitStands F.groups.payload (F.emitted ++ emitted_by b s v h ∷ []) writes M t (class_of F t) (F.tickets t) (F.units t)
   unit_kept t ne is = record {
     there = is.there;
     sized = is.sized;
@@ -250,12 +251,12 @@ module _ (F : Flat) (keys : ℕ → ℕ) (w s b : ℕ) (found : Option Record) (
           by (inr none) = absurd (none q old of)
       same u q z e told wrote of (inr now) = absurd (ne (sym (is.header u q e told).place ∙ ap (λ (p : Record). p.place) (sym now)))
 
-  units : (t : ℕ) → (t ≡ s) ⊎ (t ≡ s → ⊥) → UnitStands F.sizes.payload (F.emitted ++ emitted_by b s v h ∷ []) writes M t (class_of F t) (put F.tickets s None t) (G.units t)
-  units t (inl e) = subst (λ n. UnitStands F.sizes.payload (F.emitted ++ emitted_by b s v h ∷ []) writes M n (class_of F n) (put F.tickets s None n) (G.units n)) (sym e)
-      (units_same F.sizes.payload (F.emitted ++ emitted_by b s v h ∷ []) writes M s (class_of F s) None (put F.tickets s None s) (Some stored_now) (G.units s)
+  units : (t : ℕ) → (t ≡ s) ⊎ (t ≡ s → ⊥) → UnitStands F.groups.payload (F.emitted ++ emitted_by b s v h ∷ []) writes M t (class_of F t) (put F.tickets s None t) (G.units t)
+  units t (inl e) = subst (λ n. UnitStands F.groups.payload (F.emitted ++ emitted_by b s v h ∷ []) writes M n (class_of F n) (put F.tickets s None n) (G.units n)) (sym e)
+      (units_same F.groups.payload (F.emitted ++ emitted_by b s v h ∷ []) writes M s (class_of F s) None (put F.tickets s None s) (Some stored_now) (G.units s)
       (put_here F.tickets s None) unit_now unit_here)
   units t (inr ne) =
-      units_same F.sizes.payload (F.emitted ++ emitted_by b s v h ∷ []) writes M t (class_of F t) (F.tickets t) (put F.tickets s None t) (F.units t) (G.units t)
+      units_same F.groups.payload (F.emitted ++ emitted_by b s v h ∷ []) writes M t (class_of F t) (F.tickets t) (put F.tickets s None t) (F.units t) (G.units t)
       (put_else F.tickets s None t ne) (unit_else t ne) (unit_kept t ne (ready.history.units t))
 
   written : (d : ℕ) → (d ≡ b) ⊎ (d ≡ b → ⊥) → BlockStands G d (M d)
@@ -270,7 +271,7 @@ module _ (F : Flat) (keys : ℕ → ℕ) (w s b : ℕ) (found : Option Record) (
           stored = stored_now;
           there = unit_now;
           header = stamped_record (emitted_by b s v h) (content_of c);
-          content = stamped_content F.sizes.payload (emitted_by b s v h) (content_of c) ∙ sym ready.last.3;
+          content = stamped_content F.groups.payload (emitted_by b s v h) (content_of c) ∙ sym ready.last.3;
         });
         place = subst (λ (q : Record). G.held q.place (Block b) ≡ true) (sym again) (just_held IsArrays (G.held s) (Block b) passes.here (for_block b));
       },
@@ -289,7 +290,7 @@ module _ (F : Flat) (keys : ℕ → ℕ) (w s b : ℕ) (found : Option Record) (
           off q is = apart F.held (record_of d (keys d)).place q.place d has
               (λ other. let e : Block d ≡ Block b = (ready.history.holders q.place).once (Block d) (Block b) (for_block d) (for_block b) other (passes.held q is) in ne (cc))
 
-  limits : AreLimits F.sizes F.drives (length (F.emitted ++ emitted_by b s v h ∷ []))
+  limits : AreLimits F.groups F.drives (length (F.emitted ++ emitted_by b s v h ∷ []))
   limits =
       let room = ready.room in
       let long : length (F.emitted ++ emitted_by b s v h ∷ []) ≡ length F.emitted + 1 = length-append F.emitted (emitted_by b s v h ∷ []) in
@@ -304,9 +305,9 @@ module _ (F : Flat) (keys : ℕ → ℕ) (w s b : ℕ) (found : Option Record) (
   records q (inl there) = ready.history.records q there
   records q (inr is) = subst IsRecord is ready.ok
 
-  blocks : (q : Record) → Contains F.emitted q ⊎ (emitted_by b s v h ≡ q) → q.block < F.sizes.blocks
+  blocks : (q : Record) → Contains F.emitted q ⊎ (emitted_by b s v h ≡ q) → q.block < F.groups.blocks
   blocks q (inl there) = ready.history.blocks q there
-  blocks q (inr is) = subst (λ (p : Record). p.block < F.sizes.blocks) is ready.block
+  blocks q (inr is) = subst (λ (p : Record). p.block < F.groups.blocks) is ready.block
 
   next : (n : Record) → IsNewest F.emitted b (Some n) → ComesNext n (emitted_by b s v h)
   next n newest = ready.next n (newest_unique F.emitted b ready.history.records found (Some n) ready.newest newest)

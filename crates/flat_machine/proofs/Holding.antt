@@ -3,12 +3,12 @@ use Rattle.std.proofs.Common.{◌≡◌, ℕ, ◌<◌, Bool, true, false, not, �
 use Rattle.std.proofs.lemmas.Bool.{cases_eq}
 use Rattle.std.proofs.lemmas.Option.{same_Some}
 use Rattle.map_join.specs.declared.records.Record.{Record}
-use Rattle.flat_machine.specs.declared.group.Class.{Class}
-use Rattle.flat_machine.specs.declared.group.Member.{Member}
-use Rattle.flat_machine.specs.declared.refusal.Refusal.TheVariants.{NoGroup, WrongClass, InUse, NoTicket, Outrun, VersionSpent, HopsSpent, Unwritten, Ahead, ExtentTaken, SameDrive, LogFull, Full, BadMember}
+use Rattle.extent_groups.specs.declared.class.Class.{Class}
+use Rattle.extent_groups.specs.declared.class.Member.{Member}
+use Rattle.flat_machine.specs.declared.refusal.Refusal.TheVariants.{NoGroup, WrongClass, InUse, NoTicket, Outrun, VersionSpent, HopsSpent, Unwritten, Gone, DriveLost, Ahead, ExtentTaken, SameDrive, LogFull, Full, BadMember}
 use Rattle.flat_machine.specs.Flat.{Flat, Content, Holder, Worker, Ticket, Block, Shut, Waiting, Fresh, Moved, same_holder, with_pair, without_pair, turned, IsNewest}
-use Rattle.flat_machine.specs.Steps.{FlatStep, Claim, Release, Fill, Copy, Commit, Discard, Read, ReadAt, Make, FlatAnswer, Claimed, Taken, Released, NotHeld, Filled, Copied, Committed, Discarded, Found, FoundAt, MadeGroup, Refused}
-use Rattle.flat_machine.specs.Cases.{Case, ClaimCase, ReleaseCase, FillCase, CopyCase, CommitCase, CommitWith, DiscardCase, ReadCase, ReadAtCase, MakeCase}
+use Rattle.flat_machine.specs.Steps.{FlatStep, Claim, Release, Fill, Copy, Commit, Discard, Read, ReadAt, Make, Lose, FlatAnswer, Claimed, Taken, Released, NotHeld, Filled, Copied, Committed, Discarded, Found, FoundAt, MadeGroup, LostDrive, Refused}
+use Rattle.flat_machine.specs.Cases.{Case, ClaimCase, ReleaseCase, FillCase, CopyCase, CommitCase, CommitWith, DiscardCase, ReadCase, ReadAtCase, MakeCase, LoseCase, Leaves}
 use Rattle.flat_machine.specs.History.{IsHistory, AreHeld, IsStep}
 use Rattle.flat_machine.proofs.Pairs.{Any, IsOnce, IsJust, just_one, just_once, with_just, with_else, without_here, without_else, turned_just, turned_else}
 use Rattle.flat_machine.proofs.Passing.{Passes, passed, passed_on}
@@ -88,17 +88,24 @@ passes_hold F G w s b found is mine passes same = held_as G (λ t. subst (λ (h 
     within = by Q (λ j has. is.inside s (Ticket w) mine) (λ q e j has. is.inside q.place (Block b) (passes.held q e))
         (λ t ne off j has. is.inside t j (sym (ap (λ (h : Holder → Bool). h j) (passes.rest t ne off)) ∙ has))
 
-stays : (F G : Flat) → AreHeld F → G ≡ F → AreHeld G
-stays F G is leaves = subst AreHeld (sym leaves) is
+-- the same holders, where drives failed
+fared : (x G : Flat) → AreHeld x → Leaves x G → AreHeld G
+fared x G is leaves = subst AreHeld (sym leaves.same) (record { once = is.once; inside = is.inside })
+
+stays : (F G : Flat) → AreHeld F → Leaves F G → AreHeld G
+stays F G is leaves = fared F G is leaves
+
+same_held : (x G : Flat) → Leaves x G → G.held ≡ x.held
+same_held x G leaves = ap (λ (E : Flat). E.held) leaves.same
 
 claims : (F G : Flat) (w s : ℕ) (answer : FlatAnswer) → AreHeld F → s < 65536 → ClaimCase F w s answer G → AreHeld G
-claims F G w s (Claimed t) is inside case = subst AreHeld (sym case.2)
-    (one_now F (record F { held = with_pair F.held s (Worker w) }) s (Worker w) is inside (with_just Any F.held s (Worker w) (λ j of. case.1 j)) (λ t ne. with_else F.held s (Worker w) t ne))
+claims F G w s (Claimed t) is inside case = fared _ G
+    (one_now F (record F { held = with_pair F.held s (Worker w) }) s (Worker w) is inside (with_just Any F.held s (Worker w) (λ j of. case.1 j)) (λ t ne. with_else F.held s (Worker w) t ne)) case.2
 claims F G w s (Taken t) is inside case = stays F G is case.2
 claims F G w s _ is inside case = absurd case
 
 releases : (F G : Flat) (w s : ℕ) (answer : FlatAnswer) → AreHeld F → ReleaseCase F w s answer G → AreHeld G
-releases F G w s (Released t) is case = subst AreHeld (sym case.2) (fewer F (record F { held = without_pair F.held s (Worker w) }) is (without_was F s (Worker w)))
+releases F G w s (Released t) is case = fared _ G (fewer F (record F { held = without_pair F.held s (Worker w) }) is (without_was F s (Worker w))) case.2
 releases F G w s (NotHeld t) is case = stays F G is case.2
 releases F G w s _ is case = absurd case
 
@@ -107,7 +114,8 @@ fills F G w s x (NotHeld t) is case = stays F G is case.2
 fills F G w s x (Refused NoGroup) is case = stays F G is case.2
 fills F G w s x (Refused WrongClass) is case = stays F G is case.2
 fills F G w s x (Refused InUse) is case = stays F G is case.3
-fills F G w s x (Filled t) is case = turned_holds F G s (Worker w) (Ticket w) is case.1.0 (ap (λ (E : Flat). E.held) case.2)
+fills F G w s x (Refused (Gone t)) is case = stays F G is case.3
+fills F G w s x (Filled t) is case = turned_holds F G s (Worker w) (Ticket w) is case.1.0 (same_held _ G case.3)
 fills F G w s x _ is case = absurd case
 
 copies : (F G : Flat) (w s b : ℕ) (answer : FlatAnswer) → AreHeld F → CopyCase F w s b answer G → AreHeld G
@@ -116,19 +124,22 @@ copies F G w s b (Refused NoGroup) is case = stays F G is case.2
 copies F G w s b (Refused InUse) is case = stays F G is case.3
 copies F G w s b (Refused Unwritten) is case = stays F G is case.4
 copies F G w s b (Refused HopsSpent) is case = stays F G is case.4
-copies F G w s b (Copied t) is case = turned_holds F G s (Worker w) (Ticket w) is case.1.2.0 (ap (λ (E : Flat). E.held) case.1.4)
+copies F G w s b (Refused (Gone t)) is case = stays F G is case.1
+copies F G w s b (Copied t) is case = turned_holds F G s (Worker w) (Ticket w) is case.1.2.0 (same_held _ G case.1.6)
 copies F G w s b _ is case = absurd case
 
 commits : (F G : Flat) (keys : ℕ → ℕ) (w s b : ℕ) (found : Option Record) (ticket : Option Waiting) (answer : FlatAnswer) → IsHistory F keys → AreHeld F
     → F.held s (Ticket w) ≡ true → IsNewest F.emitted b found → CommitWith F w s b found ticket answer G → AreHeld G
 commits F G keys w s b found (Some (Fresh x)) (Refused VersionSpent) history is mine newest case = stays F G is case.1
 commits F G keys w s b found (Some (Fresh x)) (Refused LogFull) history is mine newest case = stays F G is case.2
+commits F G keys w s b found (Some (Fresh x)) (Refused (Gone t)) history is mine newest case = stays F G is case.4
 commits F G keys w s b found (Some (Fresh x)) (Committed r) history is mine newest case =
-    passes_hold F G w s b found is mine (passed Any F keys w s b found (once_any F is) tt tt history newest mine) (ap (λ (E : Flat). E.held) case.3)
+    passes_hold F G w s b found is mine (passed Any F keys w s b found (once_any F is) tt tt history newest mine) (same_held _ G case.4)
 commits F G keys w s b found (Some (Moved c v h x)) (Refused (Outrun n)) history is mine newest case = stays F G is case.2
 commits F G keys w s b found (Some (Moved c v h x)) (Refused LogFull) history is mine newest case = stays F G is case.2
+commits F G keys w s b found (Some (Moved c v h x)) (Refused (Gone t)) history is mine newest case = stays F G is case.4
 commits F G keys w s b found (Some (Moved c v h x)) (Committed r) history is mine newest case =
-    passes_hold F G w s b found is mine (passed Any F keys w s b found (once_any F is) tt tt history newest mine) (ap (λ (E : Flat). E.held) case.3)
+    passes_hold F G w s b found is mine (passed Any F keys w s b found (once_any F is) tt tt history newest mine) (same_held _ G case.4)
 commits F G keys w s b found _ _ history is mine newest case = absurd case
 
 commit_cases : (F G : Flat) (keys : ℕ → ℕ) (w s b : ℕ) (answer : FlatAnswer) → IsHistory F keys → AreHeld F → CommitCase F w s b answer G → AreHeld G
@@ -137,29 +148,37 @@ commit_cases F G keys w s b answer history is case = commits F G keys w s b case
 
 discards : (F G : Flat) (w s : ℕ) (answer : FlatAnswer) → AreHeld F → DiscardCase F w s answer G → AreHeld G
 discards F G w s (Refused NoTicket) is case = stays F G is case.1
-discards F G w s (Discarded t) is case = turned_holds F G s (Ticket w) (Worker w) is case.1 (ap (λ (E : Flat). E.held) case.2)
+discards F G w s (Discarded t) is case = turned_holds F G s (Ticket w) (Worker w) is case.1 (same_held _ G case.2)
 discards F G w s _ is case = absurd case
 
 makes : (F G : Flat) (class : Class) (members : List Member) (answer : FlatAnswer) → AreHeld F → MakeCase F class members answer G → AreHeld G
 makes F G class members (Refused BadMember) is case = stays F G is case.1
 makes F G class members (Refused SameDrive) is case = stays F G is case.2
 makes F G class members (Refused ExtentTaken) is case = stays F G is case.3
-makes F G class members (Refused Full) is case = stays F G is case.4
+makes F G class members (Refused (DriveLost d)) is case = stays F G is case.2
+makes F G class members (Refused Full) is case = stays F G is case.3
 makes F G class members (MadeGroup g) is case =
-    fewer F G is (λ t k has. and_left (F.held t k) (not (same_holder k (Shut g))) (sym (ap (λ (E : Flat). E.held t k) case.1) ∙ has))
+    fewer F G is (λ t k has. and_left (F.held t k) (not (same_holder k (Shut g))) (sym (ap (λ (h : ℕ → Holder → Bool). h t k) (same_held _ G case.2)) ∙ has))
 makes F G class members _ is case = absurd case
 
 reads : (F G : Flat) (b : ℕ) (answer : FlatAnswer) → AreHeld F → ReadCase F b answer G → AreHeld G
-reads F G b (Found found) is case = stays F G is case.1
+reads F G b (Found found) is case = stays F G is case.2
+reads F G b (Refused (Gone t)) is case = stays F G is case.1
 reads F G b _ is case = absurd case
 
 looks : (F G : Flat) (r : Record) (answer : FlatAnswer) → AreHeld F → ReadAtCase F r answer G → AreHeld G
 looks F G r (Refused (Ahead found)) is case = stays F G is case.2
-looks F G r (FoundAt seen) is case = stays F G is case.2
+looks F G r (Refused (Gone t)) is case = stays F G is case.3
+looks F G r (FoundAt seen) is case = stays F G is case.3
 looks F G r _ is case = absurd case
 
+loses : (F G : Flat) (d : ℕ) (answer : FlatAnswer) → AreHeld F → LoseCase F d answer G → AreHeld G
+loses F G d (LostDrive e) is case = fared _ G (record { once = is.once; inside = is.inside }) case.2
+loses F G d (Refused BadMember) is case = stays F G is case.1
+loses F G d _ is case = absurd case
+
 -- a step of numbers that there are, whatever its answer
-pub step_holds : (F G : Flat) (keys : ℕ → ℕ) (step : FlatStep) (answer : FlatAnswer) → IsHistory F keys → AreHeld F → IsStep F.sizes step → Case F step answer G → AreHeld G
+pub step_holds : (F G : Flat) (keys : ℕ → ℕ) (step : FlatStep) (answer : FlatAnswer) → IsHistory F keys → AreHeld F → IsStep F.groups step → Case F step answer G → AreHeld G
 step_holds F G keys (Claim w s) answer history is fits case = claims F G w s answer is fits case
 step_holds F G keys (Release w s) answer history is fits case = releases F G w s answer is case
 step_holds F G keys (Fill w s x) answer history is fits case = fills F G w s x answer is case
@@ -169,3 +188,4 @@ step_holds F G keys (Discard w s) answer history is fits case = discards F G w s
 step_holds F G keys (Read b) answer history is fits case = reads F G b answer is case
 step_holds F G keys (ReadAt r) answer history is fits case = looks F G r answer is case
 step_holds F G keys (Make class members) answer history is fits case = makes F G class members answer is case
+step_holds F G keys (Lose d) answer history is fits case = loses F G d answer is case

@@ -1,18 +1,20 @@
 -- Each case of the flat machine keeps what is true of every state.
-use Rattle.std.proofs.Common.{◌≡◌, ℕ, ◌+◌, ◌<◌, ◌≤◌, true, List, [], ◌∷◌, ◌++◌, length, Contains, refl, sym, ap, ◌∙◌, subst, arith, ◌⊎◌, inl, inr, Option, Some, None}
+use Rattle.std.proofs.Common.{◌≡◌, ℕ, ◌+◌, ◌<◌, ◌≤◌, ◌/◌, ◌%◌, is_some, Bool, true, List, [], ◌∷◌, ◌++◌, length, Contains, refl, sym, ap, ◌∙◌, subst, arith, ◌⊎◌, inl, inr, Option, Some, None}
 use Rattle.std.proofs.lemmas.List.Elements.{Contains-append_left, Contains-push_cases}
 use Rattle.std.proofs.lemmas.Option.{same_Some}
 use Rattle.map_join.specs.declared.records.Record.{Record}
 use Rattle.map_join.specs.Record.{key_of, stamp, stamp_in, IsRecord}
 use Rattle.map_join.specs.Maps.{IsMapOf}
-use Rattle.flat_machine.specs.declared.group.Class.{Class}
-use Rattle.flat_machine.specs.declared.group.Class.TheVariants.{Mirrored}
-use Rattle.flat_machine.specs.declared.group.Member.{Member}
-use Rattle.flat_machine.specs.declared.refusal.Refusal.TheVariants.{NoGroup, WrongClass, InUse, NoTicket, Outrun, VersionSpent, HopsSpent, Unwritten, Ahead, ExtentTaken, SameDrive, LogFull, Full, BadMember}
-use Rattle.flat_machine.specs.Sizes.{AreSizes, Sizes}
-use Rattle.flat_machine.specs.Flat.{Flat, for_ticket, Write, Content, Payload, bytes_of, IsSized, Ticket, Waiting, Fresh, Moved, waiting_unit, class_of, last_write, IsNewest, new_flat}
-use Rattle.flat_machine.specs.Steps.{FlatStep, Claim, Release, Fill, Copy, Commit, Discard, Read, ReadAt, Make, FlatAnswer, Claimed, Taken, Released, NotHeld, Filled, Copied, Committed, Discarded, Found, FoundAt, MadeGroup, Refused}
-use Rattle.flat_machine.specs.Cases.{Case, ClaimCase, ReleaseCase, FillCase, CopyCase, CommitCase, CommitWith, DiscardCase, ReadCase, ReadAtCase, MakeCase, IsFor, HasStamp, next_version, last_version, longest_log, committed, CopyPasses}
+use Rattle.extent_groups.specs.declared.class.Class.{Class}
+use Rattle.extent_groups.specs.declared.class.Class.TheVariants.{Mirrored}
+use Rattle.extent_groups.specs.declared.class.Member.{Member}
+use Rattle.flat_machine.specs.declared.refusal.Refusal.TheVariants.{NoGroup, WrongClass, InUse, NoTicket, Outrun, VersionSpent, HopsSpent, Unwritten, Gone, DriveLost, Ahead, ExtentTaken, SameDrive, LogFull, Full, BadMember}
+use Rattle.extent_groups.specs.Groups.{Groups}
+use Rattle.extent_groups.proofs.Fresh.{free_groups, no_members}
+use Rattle.flat_machine.specs.Groups.{AreSizes, IsEmpty, class_below}
+use Rattle.flat_machine.specs.Flat.{Flat, for_ticket, Write, Content, Payload, bytes_of, IsSized, Ticket, Waiting, Fresh, Moved, waiting_unit, class_of, last_write, IsNewest, new_flat, put}
+use Rattle.flat_machine.specs.Steps.{FlatStep, Claim, Release, Fill, Copy, Commit, Discard, Read, ReadAt, Make, Lose, FlatAnswer, Claimed, Taken, Released, NotHeld, Filled, Copied, Committed, Discarded, Found, FoundAt, MadeGroup, LostDrive, Refused}
+use Rattle.flat_machine.specs.Cases.{Case, ClaimCase, ReleaseCase, FillCase, CopyCase, CommitCase, CommitWith, DiscardCase, ReadCase, ReadAtCase, MakeCase, LoseCase, Leaves, IsFor, HasStamp, next_version, last_version, longest_log, committed, CopyPasses}
 use Rattle.flat_machine.specs.History.{IsWrite, IsWriteOf, IsCopy, IsHistory, IsStep}
 use Rattle.flat_machine.proofs.Newest.{newest_key, newest_zero, newest_record, same_map, key_least}
 use Rattle.flat_machine.proofs.Writes.{last_here, last_else, last_there, write_chained, write_most}
@@ -20,6 +22,7 @@ use Rattle.flat_machine.proofs.Claims.{claim_keeps, release_keeps}
 use Rattle.flat_machine.proofs.Tickets.{ticket_keeps, discard_keeps}
 use Rattle.flat_machine.proofs.Commits.{emitted_by, IsReady, commit_keeps}
 use Rattle.flat_machine.proofs.Makes.{make_keeps}
+use Rattle.flat_machine.proofs.Slots.{block_same}
 
 -- a content fits where its bytes do
 fits_bytes : (size : ℕ) (x : Content) → length (bytes_of size x) ≡ size → IsSized size x
@@ -64,16 +67,16 @@ unused F keys b (Some n) is newest q has at e =
     absurd (omega arith)
 
 -- the record that a commit of a fresh content emits is in range
-fresh_ok : (F : Flat) (keys : ℕ → ℕ) (w s b : ℕ) (found : Option Record) → IsHistory F keys → F.held s (Ticket w) ≡ true → b < F.sizes.blocks → next_version found ≤ last_version
+fresh_ok : (F : Flat) (keys : ℕ → ℕ) (w s b : ℕ) (found : Option Record) → IsHistory F keys → F.held s (Ticket w) ≡ true → b < F.groups.blocks → next_version found ≤ last_version
     → IsRecord (emitted_by b s (next_version found) 0)
 fresh_ok F keys w s b found is mine block most =
     let one = next_positive found in
-    let blocks = is.limits.sizes.blocks.1 in
+    let blocks = is.limits.sizes.some_blocks.1 in
     let slot = (is.holders s).inside (Ticket w) (for_ticket w) mine in
     record { block = omega arith; written = omega arith; version = omega arith; hop = omega arith; place = omega arith }
 
 pub fresh_ready : (F : Flat) (keys : ℕ → ℕ) (w s b : ℕ) (found : Option Record) (x : Content) → IsHistory F keys → IsNewest F.emitted b found → F.tickets s ≡ Some (Fresh x)
-    → F.held s (Ticket w) ≡ true → b < F.sizes.blocks → next_version found ≤ last_version → length F.emitted < longest_log
+    → F.held s (Ticket w) ≡ true → b < F.groups.blocks → next_version found ≤ last_version → length F.emitted < longest_log
     → IsReady F keys w s b found (Fresh x) (next_version found) 0 (F.writes ++ record { block = b; version = next_version found; content = x } ∷ [])
 fresh_ready F keys w s b found x is newest ticket mine block most room = record {
   history = is;
@@ -96,11 +99,11 @@ fresh_ready F keys w s b found x is newest ticket mine block most room = record 
     new : Write
     new = record { block = b; version = next_version found; content = x }
 
-    all : (z : Write) → (Contains F.writes z) ⊎ (new ≡ z) → IsWrite F.sizes.payload z
+    all : (z : Write) → (Contains F.writes z) ⊎ (new ≡ z) → IsWrite F.groups.payload z
     all z (inl old) = is.writes z old
-    all z (inr e) = subst (IsWrite F.sizes.payload) e (record {
+    all z (inr e) = subst (IsWrite F.groups.payload) e (record {
       version = next_positive found;
-      sized = fits_bytes F.sizes.payload x ((is.units s).sized (waiting_unit F.sizes.payload x) ((is.units s).blank (Fresh x) ticket));
+      sized = fits_bytes F.groups.payload x ((is.units s).sized (waiting_unit F.groups.payload x) ((is.units s).blank (Fresh x) ticket));
     })
 
     grown : (z : Write) → (Contains F.writes z) ⊎ (new ≡ z) → (Contains F.writes z) ⊎ ((q : Record) → Contains F.emitted q → IsWriteOf q z → ⊥)
@@ -110,7 +113,7 @@ fresh_ready F keys w s b found x is newest ticket mine block most room = record 
 
 -- a copy's version and hop are the newest's
 pub moved_ready : (F : Flat) (keys : ℕ → ℕ) (w s b : ℕ) (found : Option Record) (c v h : ℕ) (x : Content) → IsHistory F keys → IsNewest F.emitted b found
-    → F.tickets s ≡ Some (Moved c v h x) → F.held s (Ticket w) ≡ true → c ≡ b → b < F.sizes.blocks → HasStamp found v h → length F.emitted < longest_log
+    → F.tickets s ≡ Some (Moved c v h x) → F.held s (Ticket w) ≡ true → c ≡ b → b < F.groups.blocks → HasStamp found v h → length F.emitted < longest_log
     → IsReady F keys w s b found (Moved c v h x) v (h + 1) F.writes
 moved_ready F keys w s b None c v h x is newest ticket mine same block stamps room = absurd stamps
 moved_ready F keys w s b (Some q) c v h x is newest ticket mine same block stamps room = record {
@@ -120,7 +123,7 @@ moved_ready F keys w s b (Some q) c v h x is newest ticket mine same block stamp
   mine = mine;
   block = block;
   ok =
-      let blocks = is.limits.sizes.blocks.1 in
+      let blocks = is.limits.sizes.some_blocks.1 in
       let slot = (is.holders s).inside (Ticket w) (for_ticket w) mine in
       let written = ranges.written in let version = ranges.version in
       let hop = copy.hop in let e = stamps.0 in
@@ -155,56 +158,73 @@ moved_ready F keys w s b (Some q) c v h x is newest ticket mine same block stamp
         let version : v ≡ most.newest.version = omega arith in
         (most.newest, most.last, sym version, ap (λ (z : Write). z.content) (sym (most.same version)))
 
--- the same map, where the log stays
-stays : (F G : Flat) (keys M : ℕ → ℕ) → IsHistory F keys → G ≡ F → IsMapOf G.emitted M → IsHistory G M
+-- drives that failed change nothing of it
+fared : (F : Flat) (lost : ℕ → Bool) (failures : ℕ → ℕ) (keys : ℕ → ℕ) → IsHistory F keys → IsHistory (record F { lost = lost; failures = failures }) keys
+fared F lost failures keys is = record {
+  limits = is.limits;
+  groups = is.groups;
+  records = is.records;
+  blocks = is.blocks;
+  chain = is.chain;
+  map = is.map;
+  writes = is.writes;
+  versions = is.versions;
+  holders = is.holders;
+  units = is.units;
+  written = λ b. block_same F (record F { lost = lost; failures = failures }) b (keys b) refl (λ has. (refl, has)) (is.written b);
+}
+
+-- the same log, where drives failed
+stays : (F G : Flat) (keys M : ℕ → ℕ) → IsHistory F keys → Leaves F G → IsMapOf G.emitted M → IsHistory G M
 stays F G keys M is leaves map =
-    subst (λ (E : Flat). IsHistory E M) (sym leaves)
-    (subst (IsHistory F) (same_map F.emitted keys M is.map (subst (λ (E : Flat). IsMapOf E.emitted M) leaves map)) is)
+    subst (λ (E : Flat). IsHistory E M) (sym leaves.same) (fared F G.lost G.failures M
+    (subst (IsHistory F) (same_map F.emitted keys M is.map (subst (λ (E : Flat). IsMapOf E.emitted M) leaves.same map)) is))
 
--- another state with the same log
-goes : (F G H : Flat) (keys M : ℕ → ℕ) → IsHistory H keys → G ≡ H → IsMapOf G.emitted M → IsHistory G M
-goes F G H keys M is leaves map = stays H G keys M is leaves map
+-- a longer log, where drives failed
+grows : (F G : Flat) (M : ℕ → ℕ) (x : Flat) → Leaves x G → IsMapOf G.emitted M → (IsMapOf x.emitted M → IsHistory x M) → IsHistory G M
+grows F G M x leaves map keeps =
+    subst (λ (E : Flat). IsHistory E M) (sym leaves.same) (fared x G.lost G.failures M (keeps (subst (λ (E : Flat). IsMapOf E.emitted M) leaves.same map)))
 
-commits : (F G : Flat) (keys M : ℕ → ℕ) (w s b : ℕ) (found : Option Record) (ticket : Option Waiting) (answer : FlatAnswer) → IsHistory F keys → b < F.sizes.blocks
+commits : (F G : Flat) (keys M : ℕ → ℕ) (w s b : ℕ) (found : Option Record) (ticket : Option Waiting) (answer : FlatAnswer) → IsHistory F keys → b < F.groups.blocks
     → F.held s (Ticket w) ≡ true → IsFor ticket b → IsNewest F.emitted b found → F.tickets s ≡ ticket → CommitWith F w s b found ticket answer G → IsMapOf G.emitted M
     → IsHistory G M
 commits F G keys M w s b found (Some (Fresh x)) (Refused VersionSpent) is block mine for newest ticket case map = stays F G keys M is case.1 map
 commits F G keys M w s b found (Some (Fresh x)) (Refused LogFull) is block mine for newest ticket case map = stays F G keys M is case.2 map
+commits F G keys M w s b found (Some (Fresh x)) (Refused (Gone t)) is block mine for newest ticket case map = stays F G keys M is case.4 map
 commits F G keys M w s b found (Some (Fresh x)) (Committed r) is block mine for newest ticket case map =
-    let same : G ≡ committed F w s b found (F.writes ++ record { block = b; version = next_version found; content = x } ∷ []) x (emitted_by b s (next_version found) 0) =
-    case.3 ∙ ap (committed F w s b found (F.writes ++ record { block = b; version = next_version found; content = x } ∷ []) x) case.2
-    in
-    subst (λ (E : Flat). IsHistory E M) (sym same)
-    (commit_keeps F keys w s b found (Fresh x) (next_version found) 0 (F.writes ++ record { block = b; version = next_version found; content = x } ∷ []) M
-    (fresh_ready F keys w s b found x is newest ticket mine block case.0 case.1) (subst (λ (E : Flat). IsMapOf E.emitted M) same map))
+    let writes : List Write = F.writes ++ record { block = b; version = next_version found; content = x } ∷ [] in
+    let left : Leaves (committed F w s b found writes x (emitted_by b s (next_version found) 0)) G = subst (λ (n : Record). Leaves (committed F w s b found writes x n) G) case.3 case.4 in
+    grows F G M (committed F w s b found writes x (emitted_by b s (next_version found) 0)) left map
+    (commit_keeps F keys w s b found (Fresh x) (next_version found) 0 writes M (fresh_ready F keys w s b found x is newest ticket mine block case.0 case.1))
 commits F G keys M w s b found (Some (Moved c v h x)) (Refused (Outrun n)) is block mine for newest ticket case map = stays F G keys M is case.2 map
 commits F G keys M w s b found (Some (Moved c v h x)) (Refused LogFull) is block mine for newest ticket case map = stays F G keys M is case.2 map
+commits F G keys M w s b found (Some (Moved c v h x)) (Refused (Gone t)) is block mine for newest ticket case map = stays F G keys M is case.4 map
 commits F G keys M w s b found (Some (Moved c v h x)) (Committed r) is block mine for newest ticket case map =
-    let same : G ≡ committed F w s b found F.writes x (emitted_by b s v (h + 1)) = case.3 ∙ ap (committed F w s b found F.writes x) case.2 in
-    subst (λ (E : Flat). IsHistory E M) (sym same)
-    (commit_keeps F keys w s b found (Moved c v h x) v (h + 1) F.writes M
-    (moved_ready F keys w s b found c v h x is newest ticket mine for block case.0 case.1) (subst (λ (E : Flat). IsMapOf E.emitted M) same map))
+    let left : Leaves (committed F w s b found F.writes x (emitted_by b s v (h + 1))) G = subst (λ (n : Record). Leaves (committed F w s b found F.writes x n) G) case.3 case.4 in
+    grows F G M (committed F w s b found F.writes x (emitted_by b s v (h + 1))) left map
+    (commit_keeps F keys w s b found (Moved c v h x) v (h + 1) F.writes M (moved_ready F keys w s b found c v h x is newest ticket mine for block case.0 case.1))
 commits F G keys M w s b found _ _ is block mine for newest ticket case map = absurd case
 
 claims : (F G : Flat) (keys M : ℕ → ℕ) (w s : ℕ) (answer : FlatAnswer) → IsHistory F keys → ClaimCase F w s answer G → IsMapOf G.emitted M → IsHistory G M
-claims F G keys M w s (Claimed t) is case map = goes F G _ keys M (claim_keeps F keys w s is) case.2 map
+claims F G keys M w s (Claimed t) is case map = stays _ G keys M (claim_keeps F keys w s is) case.2 map
 claims F G keys M w s (Taken t) is case map = stays F G keys M is case.2 map
 claims F G keys M w s _ is case map = absurd case
 
 releases : (F G : Flat) (keys M : ℕ → ℕ) (w s : ℕ) (answer : FlatAnswer) → IsHistory F keys → ReleaseCase F w s answer G → IsMapOf G.emitted M → IsHistory G M
-releases F G keys M w s (Released t) is case map = goes F G _ keys M (release_keeps F keys w s is) case.2 map
+releases F G keys M w s (Released t) is case map = stays _ G keys M (release_keeps F keys w s is) case.2 map
 releases F G keys M w s (NotHeld t) is case map = stays F G keys M is case.2 map
 releases F G keys M w s _ is case map = absurd case
 
-fills : (F G : Flat) (keys M : ℕ → ℕ) (w s : ℕ) (x : Content) (answer : FlatAnswer) → IsHistory F keys → (s < 65536) × IsSized F.sizes.payload x → FillCase F w s x answer G → IsMapOf G.emitted M
+fills : (F G : Flat) (keys M : ℕ → ℕ) (w s : ℕ) (x : Content) (answer : FlatAnswer) → IsHistory F keys → (s < 65536) × IsSized F.groups.payload x → FillCase F w s x answer G → IsMapOf G.emitted M
     → IsHistory G M
 fills F G keys M w s x (NotHeld t) is fits case map = stays F G keys M is case.2 map
 fills F G keys M w s x (Refused NoGroup) is fits case map = stays F G keys M is case.2 map
 fills F G keys M w s x (Refused WrongClass) is fits case map = stays F G keys M is case.2 map
 fills F G keys M w s x (Refused InUse) is fits case map = stays F G keys M is case.3 map
+fills F G keys M w s x (Refused (Gone t)) is fits case map = stays F G keys M is case.3 map
 fills F G keys M w s x (Filled t) is fits case map =
     let class : class_of F s ≡ Some Mirrored = case.1.1 in
-    goes F G _ keys M (ticket_keeps F keys w s (Fresh x) is fits.0 case.1.2 (λ none. let bad : None ≡ Some Mirrored = sym none ∙ class in cc) fits.1 class) case.2 map
+    stays _ G keys M (ticket_keeps F keys w s (Fresh x) is fits.0 case.1.2 (λ none. let bad : None ≡ Some Mirrored = sym none ∙ class in cc) fits.1 class) case.3 map
 fills F G keys M w s x _ is fits case map = absurd case
 
 -- what a copy of the newest record's version and hop rests on
@@ -227,7 +247,7 @@ copy_rests F keys w s b r x is passes last = record {
     key : keys b ≡ key_of r
     key = newest_key F.emitted keys b r is.map passes.3
 
-write_sized : (F : Flat) (keys : ℕ → ℕ) (b : ℕ) (x : Write) → IsHistory F keys → last_write F.writes b ≡ Some x → IsSized F.sizes.payload x.content
+write_sized : (F : Flat) (keys : ℕ → ℕ) (b : ℕ) (x : Write) → IsHistory F keys → last_write F.writes b ≡ Some x → IsSized F.groups.payload x.content
 write_sized F keys b x is last = (is.writes x (last_there F.writes b x last).0).sized
 
 copies : (F G : Flat) (keys M : ℕ → ℕ) (w s b : ℕ) (answer : FlatAnswer) → IsHistory F keys → s < 65536 → CopyCase F w s b answer G → IsMapOf G.emitted M → IsHistory G M
@@ -236,23 +256,24 @@ copies F G keys M w s b (Refused NoGroup) is inside case map = stays F G keys M 
 copies F G keys M w s b (Refused InUse) is inside case map = stays F G keys M is case.3 map
 copies F G keys M w s b (Refused Unwritten) is inside case map = stays F G keys M is case.4 map
 copies F G keys M w s b (Refused HopsSpent) is inside case map = stays F G keys M is case.4 map
+copies F G keys M w s b (Refused (Gone t)) is inside case map = stays F G keys M is case.1 map
 copies F G keys M w s b (Copied t) is inside case map =
     let r = case.1.0 in
     let x = case.1.1 in
     let passes : CopyPasses F w s b r = case.1.2 in
-    goes F G _ keys M
+    stays _ G keys M
     (ticket_keeps F keys w s (Moved b r.version r.hop x.content) is inside passes.2 passes.1 (write_sized F keys b x is case.1.3) (copy_rests F keys w s b r x is passes case.1.3))
-    case.1.4 map
+    case.1.6 map
 copies F G keys M w s b _ is inside case map = absurd case
 
-commit_cases : (F G : Flat) (keys M : ℕ → ℕ) (w s b : ℕ) (answer : FlatAnswer) → IsHistory F keys → b < F.sizes.blocks → CommitCase F w s b answer G → IsMapOf G.emitted M
+commit_cases : (F G : Flat) (keys M : ℕ → ℕ) (w s b : ℕ) (answer : FlatAnswer) → IsHistory F keys → b < F.groups.blocks → CommitCase F w s b answer G → IsMapOf G.emitted M
     → IsHistory G M
 commit_cases F G keys M w s b (Refused NoTicket) is block case map = stays F G keys M is case.1 map
 commit_cases F G keys M w s b answer is block case map = commits F G keys M w s b case.2.0 (F.tickets s) answer is block case.0 case.1 case.2.1 refl case.2.2 map
 
 discards : (F G : Flat) (keys M : ℕ → ℕ) (w s : ℕ) (answer : FlatAnswer) → IsHistory F keys → DiscardCase F w s answer G → IsMapOf G.emitted M → IsHistory G M
 discards F G keys M w s (Refused NoTicket) is case map = stays F G keys M is case.1 map
-discards F G keys M w s (Discarded t) is case map = goes F G _ keys M (discard_keeps F keys w s is case.1) case.2 map
+discards F G keys M w s (Discarded t) is case map = stays _ G keys M (discard_keeps F keys w s is case.1) case.2 map
 discards F G keys M w s _ is case map = absurd case
 
 makes : (F G : Flat) (keys M : ℕ → ℕ) (class : Class) (members : List Member) (answer : FlatAnswer) → IsHistory F keys → MakeCase F class members answer G → IsMapOf G.emitted M
@@ -260,21 +281,29 @@ makes : (F G : Flat) (keys M : ℕ → ℕ) (class : Class) (members : List Memb
 makes F G keys M class members (Refused BadMember) is case map = stays F G keys M is case.1 map
 makes F G keys M class members (Refused SameDrive) is case map = stays F G keys M is case.2 map
 makes F G keys M class members (Refused ExtentTaken) is case map = stays F G keys M is case.3 map
-makes F G keys M class members (Refused Full) is case map = stays F G keys M is case.4 map
-makes F G keys M class members (MadeGroup g) is case map = goes F G _ keys M (make_keeps F keys class members g is case.0) case.1 map
+makes F G keys M class members (Refused (DriveLost d)) is case map = stays F G keys M is case.2 map
+makes F G keys M class members (Refused Full) is case map = stays F G keys M is case.3 map
+makes F G keys M class members (MadeGroup g) is case map = stays _ G keys M (make_keeps F keys class members g is case.0) case.2 map
 makes F G keys M class members _ is case map = absurd case
 
 reads : (F G : Flat) (keys M : ℕ → ℕ) (b : ℕ) (answer : FlatAnswer) → IsHistory F keys → ReadCase F b answer G → IsMapOf G.emitted M → IsHistory G M
-reads F G keys M b (Found found) is case map = stays F G keys M is case.1 map
+reads F G keys M b (Found found) is case map = stays F G keys M is case.2 map
+reads F G keys M b (Refused (Gone t)) is case map = stays F G keys M is case.1 map
 reads F G keys M b _ is case map = absurd case
 
 looks : (F G : Flat) (keys M : ℕ → ℕ) (r : Record) (answer : FlatAnswer) → IsHistory F keys → ReadAtCase F r answer G → IsMapOf G.emitted M → IsHistory G M
 looks F G keys M r (Refused (Ahead found)) is case map = stays F G keys M is case.2 map
-looks F G keys M r (FoundAt seen) is case map = stays F G keys M is case.2 map
+looks F G keys M r (Refused (Gone t)) is case map = stays F G keys M is case.3 map
+looks F G keys M r (FoundAt seen) is case map = stays F G keys M is case.3 map
 looks F G keys M r _ is case map = absurd case
 
+loses : (F G : Flat) (keys M : ℕ → ℕ) (d : ℕ) (answer : FlatAnswer) → IsHistory F keys → LoseCase F d answer G → IsMapOf G.emitted M → IsHistory G M
+loses F G keys M d (LostDrive e) is case map = stays _ G keys M (fared F (put F.lost d true) F.failures keys is) case.2 map
+loses F G keys M d (Refused BadMember) is case map = stays F G keys M is case.1 map
+loses F G keys M d _ is case map = absurd case
+
 -- a step of numbers that there are, whatever its answer
-pub step_keeps : (F G : Flat) (keys M : ℕ → ℕ) (step : FlatStep) (answer : FlatAnswer) → IsHistory F keys → IsStep F.sizes step → Case F step answer G → IsMapOf G.emitted M → IsHistory G M
+pub step_keeps : (F G : Flat) (keys M : ℕ → ℕ) (step : FlatStep) (answer : FlatAnswer) → IsHistory F keys → IsStep F.groups step → Case F step answer G → IsMapOf G.emitted M → IsHistory G M
 step_keeps F G keys M (Claim w s) answer is fits case map = claims F G keys M w s answer is case map
 step_keeps F G keys M (Release w s) answer is fits case map = releases F G keys M w s answer is case map
 step_keeps F G keys M (Fill w s x) answer is fits case map = fills F G keys M w s x answer is fits case map
@@ -284,12 +313,17 @@ step_keeps F G keys M (Discard w s) answer is fits case map = discards F G keys 
 step_keeps F G keys M (Read b) answer is fits case map = reads F G keys M b answer is case map
 step_keeps F G keys M (ReadAt r) answer is fits case map = looks F G keys M r answer is case map
 step_keeps F G keys M (Make class members) answer is fits case map = makes F G keys M class members answer is case map
+step_keeps F G keys M (Lose d) answer is fits case map = loses F G keys M d answer is case map
 
 -- a new array's state
-pub new_history : (sizes : Sizes) (drives : ℕ) → AreSizes sizes → 3 ≤ drives → drives ≤ 16 → IsHistory (new_flat sizes drives) (λ _. 0)
-new_history sizes drives are least most = record {
+pub new_history : (groups : Groups) (drives : ℕ) (lost : ℕ → Bool) (failures : ℕ → ℕ) → AreSizes groups → IsEmpty groups → 3 ≤ drives → drives ≤ 16
+    → IsHistory (new_flat groups drives lost failures) (λ _. 0)
+new_history groups drives lost failures are empty least most = record {
   limits = record { sizes = are; least = least; most = most; log = omega arith };
-  groups = record { limit = λ g made is. absurd (cc); members = λ g made is. absurd (cc); owned = λ g h m n is. absurd (cc) };
+  groups = record {
+    table = free_groups groups empty.free empty.numbers are.some_segments.0 are.some_segments.1;
+    there = λ g k m at. absurd (no_members groups g k m (empty.free g) at);
+  };
   records = λ r has. absurd (not_there r has);
   blocks = λ r has. absurd (not_there r has);
   chain = tt;
@@ -305,7 +339,7 @@ new_history sizes drives are least most = record {
     shut = λ g hg. absurd (cc);
   };
   units = λ s. record {
-    there = refl;
+    there = ap is_some (sym (ap (λ o. class_below groups.segments o (s % 128)) (empty.free (s / 128))));
     sized = λ u e. absurd (cc);
     header = λ u r e. absurd (cc);
     content = λ u r w e. absurd (cc);

@@ -1,56 +1,75 @@
 -- Making a group keeps what is true of every state.
 use Rattle.std.proofs.Common.{◌≡◌, ℕ, ◌/◌, ◌%◌, ◌<◌, Bool, true, false, not, ◌==◌, ◌&&◌, cond, nat_lt, is_some, List, length, replicate, refl, sym, ap, ◌∙◌, subst, arith, ◌⊎◌, inl, inr, Option, Some, None}
-use Rattle.std.proofs.lemmas.List.{length-replicate}
+use Rattle.std.specs.Prelude.{slice_get}
+use Rattle.std.proofs.lemmas.List.{length-replicate, length-set}
 use Rattle.std.proofs.lemmas.Bool.{cases_eq}
 use Rattle.std.proofs.lemmas.Bool.Decides.{nat_tests}
 use Rattle.std.proofs.lemmas.Option.{same_Some}
 use Rattle.map_join.specs.Record.{record_of}
-use Rattle.flat_machine.specs.declared.group.Class.{Class}
-use Rattle.flat_machine.specs.declared.group.Member.{Member}
-use Rattle.flat_machine.specs.Groups.{Made, slot_count, class_in, AreMembers, AreApart, HaveCommon, AreGroups}
-use Rattle.flat_machine.specs.Flat.{Flat, Holder, Ticket, Block, Shut, same_holder, Waiting, Stored, waiting_unit, content_of, class_of, put}
+use Rattle.extents.specs.Header.{record_in}
+use Rattle.extent_groups.specs.declared.class.Class.{Class}
+use Rattle.extent_groups.specs.declared.class.Member.{Member}
+use Rattle.extent_groups.specs.Geometry.{slot_count}
+use Rattle.extent_groups.specs.Groups.{Group, Groups, group_at, members_of, with_group, IsFormed, Stands}
+use Rattle.extent_groups.proofs.GroupsLemmas.{group_same, group_other}
+use Rattle.extent_groups.proofs.Agreement.{members_same, members_other}
+use Rattle.flat_machine.specs.Groups.{class_below, AreMembers, AreApart, AreUnowned, GroupsStand}
+use Rattle.flat_machine.specs.Flat.{Flat, Holder, Ticket, Block, Shut, same_holder, Waiting, blank_header, Stored, waiting_unit, content_of, class_of}
 use Rattle.flat_machine.specs.Cases.{made, MakePasses}
 use Rattle.flat_machine.specs.History.{HoldersStand, UnitStands, BlockStands, IsHistory}
-use Rattle.flat_machine.proofs.Pairs.{equal, put_here, put_else}
+use Rattle.flat_machine.proofs.Pairs.{equal}
 use Rattle.flat_machine.proofs.Slots.{block_same}
 
--- an extent of two lists is one of the second and the first
-common_flip : (ms ns : List Member) → HaveCommon ms ns → HaveCommon ns ms
-common_flip ms ns (k, x, short, at, (j, low, is)) = (j, x, low, is, (k, short, at))
+-- an extent of a list
+stands_of : (ms : List Member) (k : ℕ) (m : Member) → slice_get ms k ≡ Some m → Stands ms m.drive m.extent
+stands_of ms k m at = (k, at)
+
+stands_as : (ms : List Member) (k : ℕ) (m n : Member) → slice_get ms k ≡ Some m → m.drive ≡ n.drive → m.extent ≡ n.extent → Stands ms n.drive n.extent
+stands_as ms k m n at drive extent = subst (λ e. Stands ms n.drive e) extent (subst (λ d. Stands ms d m.extent) drive (stands_of ms k m at))
 
 -- a group more among groups none of which has one of its members
-pub groups_more : (extents drives : ℕ) (groups : ℕ → Option Made) (g : ℕ) (new : Made) → AreGroups extents drives groups → g < 512
-    → AreMembers extents drives new.members → AreApart new.members → ((h : ℕ) (m : Made) → groups h ≡ Some m → HaveCommon m.members new.members → ⊥)
-    → AreGroups extents drives (put groups g (Some new))
-groups_more extents drives groups g new all limit are spread unowned = record {
-  limit = λ h m is. under h m is (cases_eq h g);
-  members = λ h m is. members_now h m is (cases_eq h g);
-  owned = λ h i m n h_is i_is common. owned h i m n h_is i_is common (cases_eq h g) (cases_eq i g);
+pub groups_more : (groups : Groups) (drives g : ℕ) (new : Group) → GroupsStand groups drives → g < 512 → AreMembers groups.extents drives new.members
+    → AreApart new.members → AreUnowned groups new.members → GroupsStand (with_group groups g (Some new)) drives
+groups_more groups drives g new all limit are spread unowned = record {
+  table = record {
+    segments = all.table.segments;
+    numbers = length-set groups.table g (Some new) ∙ all.table.numbers;
+    formed = λ h group is. formed h group is (cases_eq h g);
+    apart = λ h i j k a b at bt drive extent. apart h i j k a b at bt drive extent (cases_eq h g) (cases_eq i g);
+  };
+  there = λ h k m at. there h k m at (cases_eq h g);
 }
   where
-    here : (h : ℕ) (m : Made) → put groups g (Some new) h ≡ Some m → h ≡ g → new ≡ m
-    here h m is same = same_Some new m (sym (put_here groups g (Some new)) ∙ ap (put groups g (Some new)) (sym same) ∙ is)
+    within : g < length groups.table
+    within = let n = all.table.numbers in omega arith
 
-    was : (h : ℕ) (m : Made) → put groups g (Some new) h ≡ Some m → (h ≡ g → ⊥) → groups h ≡ Some m
-    was h m is ne = sym (put_else groups g (Some new) h ne) ∙ is
+    here : (h : ℕ) → h ≡ g → members_of (with_group groups g (Some new)) h ≡ new.members
+    here h same = ap (members_of (with_group groups g (Some new))) same ∙ members_same groups g (Some new) within
 
-    under : (h : ℕ) (m : Made) → put groups g (Some new) h ≡ Some m → (h ≡ g) ⊎ (h ≡ g → ⊥) → h < 512
-    under h m is (inl same) = omega arith
-    under h m is (inr ne) = all.limit h m (was h m is ne)
+    formed : (h : ℕ) (group : Group) → group_at (with_group groups g (Some new)) h ≡ Some group → (h ≡ g) ⊎ (h ≡ g → ⊥) → IsFormed group.members
+    formed h group is (inl same) =
+        let e : new ≡ group = same_Some new group (sym (group_same groups g (Some new) within) ∙ ap (group_at (with_group groups g (Some new))) (sym same) ∙ is) in
+        subst (λ (x : Group). IsFormed x.members) e (record { enough = are.least; few = are.most; spread = spread })
+    formed h group is (inr ne) = all.table.formed h group (sym (group_other groups g h (Some new) ne) ∙ is)
 
-    members_now : (h : ℕ) (m : Made) → put groups g (Some new) h ≡ Some m → (h ≡ g) ⊎ (h ≡ g → ⊥) → (AreMembers extents drives m.members) × (AreApart m.members)
-    members_now h m is (inl same) =
-        subst (λ (n : Made). (AreMembers extents drives n.members) × (AreApart n.members)) (here h m is same) (are, spread)
-    members_now h m is (inr ne) = all.members h m (was h m is ne)
+    there : (h k : ℕ) (m : Member) → slice_get (members_of (with_group groups g (Some new)) h) k ≡ Some m → (h ≡ g) ⊎ (h ≡ g → ⊥)
+        → (m.drive < drives) × (m.extent < groups.extents)
+    there h k m at (inl same) = are.there k m (ap (λ ms. slice_get ms k) (sym (here h same)) ∙ at)
+    there h k m at (inr ne) = all.there h k m (ap (λ ms. slice_get ms k) (sym (members_other groups g h (Some new) ne)) ∙ at)
 
-    owned : (h i : ℕ) (m n : Made) → put groups g (Some new) h ≡ Some m → put groups g (Some new) i ≡ Some n → HaveCommon m.members n.members
+    apart : (h i j k : ℕ) (a b : Member) → slice_get (members_of (with_group groups g (Some new)) h) j ≡ Some a
+        → slice_get (members_of (with_group groups g (Some new)) i) k ≡ Some b → a.drive ≡ b.drive → a.extent ≡ b.extent
         → (h ≡ g) ⊎ (h ≡ g → ⊥) → (i ≡ g) ⊎ (i ≡ g → ⊥) → h ≡ i
-    owned h i m n h_is i_is common (inl a) (inl b) = a ∙ sym b
-    owned h i m n h_is i_is common (inr a) (inr b) = all.owned h i m n (was h m h_is a) (was i n i_is b) common
-    owned h i m n h_is i_is common (inr a) (inl b) =
-        absurd (unowned h m (was h m h_is a) (subst (λ (x : Made). HaveCommon m.members x.members) (sym (here i n i_is b)) common))
-    owned h i m n h_is i_is common (inl a) (inr b) =
-        absurd (unowned i n (was i n i_is b) (common_flip new.members n.members (subst (λ (x : Made). HaveCommon x.members n.members) (sym (here h m h_is a)) common)))
+    apart h i j k a b at bt drive extent (inl x) (inl y) = x ∙ sym y
+    apart h i j k a b at bt drive extent (inr x) (inr y) =
+        all.table.apart h i j k a b (ap (λ ms. slice_get ms j) (sym (members_other groups g h (Some new) x)) ∙ at)
+        (ap (λ ms. slice_get ms k) (sym (members_other groups g i (Some new) y)) ∙ bt) drive extent
+    apart h i j k a b at bt drive extent (inl x) (inr y) =
+        absurd (unowned i b.drive b.extent (stands_of (members_of groups i) k b (ap (λ ms. slice_get ms k) (sym (members_other groups g i (Some new) y)) ∙ bt))
+        (stands_as new.members j a b (ap (λ ms. slice_get ms j) (sym (here h x)) ∙ at) drive extent))
+    apart h i j k a b at bt drive extent (inr x) (inl y) =
+        absurd (unowned h a.drive a.extent (stands_of (members_of groups h) j a (ap (λ ms. slice_get ms j) (sym (members_other groups g h (Some new) x)) ∙ at))
+        (stands_as new.members k b a (ap (λ ms. slice_get ms k) (sym (here i y)) ∙ bt) (sym drive) (sym extent)))
 
 and_true : (b : Bool) → (b && true) ≡ b
 and_true true = refl
@@ -70,23 +89,26 @@ no_unit None class there none = refl
 no_unit (Some u) class there none = let bad : true ≡ false = there ∙ ap is_some none in absurd (cc)
 
 module _ (F : Flat) (keys : ℕ → ℕ) (class : Class) (members : List Member) (g : ℕ) (is : IsHistory F keys) (passes : MakePasses F members g) where
-  abbrev new : Made
+  abbrev new : Group
   new = record { class = class; members = members }
 
   abbrev G : Flat
   G = made F class members g
 
-  free : F.groups g ≡ None
-  free = passes.3.free
+  within : g < length F.groups.table
+  within = let n = is.groups.table.numbers in let limit = passes.2.limit in omega arith
+
+  free : group_at F.groups g ≡ None
+  free = passes.2.free
 
   class_was : (s : ℕ) → s / 128 ≡ g → class_of F s ≡ None
-  class_was s same = ap (λ o. class_in F.sizes.segments o (s % 128)) (ap F.groups same ∙ free)
+  class_was s same = ap (λ o. class_below F.groups.segments o (s % 128)) (ap (group_at F.groups) same ∙ free)
 
-  class_now : (s : ℕ) → s / 128 ≡ g → class_of G s ≡ class_in F.sizes.segments (Some new) (s % 128)
-  class_now s same = ap (λ o. class_in F.sizes.segments o (s % 128)) (ap G.groups same ∙ put_here F.groups g (Some new))
+  class_now : (s : ℕ) → s / 128 ≡ g → class_of G s ≡ class_below F.groups.segments (Some new) (s % 128)
+  class_now s same = ap (λ o. class_below F.groups.segments o (s % 128)) (ap (group_at G.groups) same ∙ group_same F.groups g (Some new) within)
 
   class_else : (s : ℕ) → (s / 128 ≡ g → ⊥) → class_of G s ≡ class_of F s
-  class_else s ne = ap (λ o. class_in F.sizes.segments o (s % 128)) (put_else F.groups g (Some new) (s / 128) ne)
+  class_else s ne = ap (λ o. class_below F.groups.segments o (s % 128)) (group_other F.groups g (s / 128) (Some new) ne)
 
   bare : (s : ℕ) → s / 128 ≡ g → F.units s ≡ None
   bare s same = no_unit (F.units s) (class_of F s) (is.units s).there (class_was s same)
@@ -95,16 +117,16 @@ module _ (F : Flat) (keys : ℕ → ℕ) (class : Class) (members : List Member)
   unit_else s ne = grind (arith, nat_tests)
 
   abbrev blank : Stored
-  blank = record { header = None; payload = replicate F.sizes.payload 0 }
+  blank = record { header = blank_header; payload = replicate F.groups.payload 0 }
 
   -- a slot of the group, which was no slot before
-  unit_here : (s : ℕ) → s / 128 ≡ g → G.units s ≡ cond (nat_lt (s % 128) (slot_count F.sizes.segments class (length members))) (Some blank) None
+  unit_here : (s : ℕ) → s / 128 ≡ g → G.units s ≡ cond (nat_lt (s % 128) (slot_count class (length members) F.groups.segments)) (Some blank) None
   unit_here s same =
-      ap (λ b. cond (b && nat_lt (s % 128) (slot_count F.sizes.segments class (length members))) (Some blank) (F.units s)) (equal (s / 128) g same)
-      ∙ ap (λ o. cond (nat_lt (s % 128) (slot_count F.sizes.segments class (length members))) (Some blank) o) (bare s same)
+      ap (λ b. cond (b && nat_lt (s % 128) (slot_count class (length members) F.groups.segments)) (Some blank) (F.units s)) (equal (s / 128) g same)
+      ∙ ap (λ o. cond (nat_lt (s % 128) (slot_count class (length members) F.groups.segments)) (Some blank) o) (bare s same)
 
   no_ticket : (s : ℕ) → s / 128 ≡ g → (c : Waiting) → F.tickets s ≡ Some c → ⊥
-  no_ticket s same c waits = let bad : None ≡ Some (waiting_unit F.sizes.payload (content_of c)) = sym (bare s same) ∙ (is.units s).blank c waits in cc
+  no_ticket s same c waits = let bad : None ≡ Some (waiting_unit F.groups.payload (content_of c)) = sym (bare s same) ∙ (is.units s).blank c waits in cc
 
   held_was : (s : ℕ) (k : Holder) → G.held s k ≡ true → F.held s k ≡ true
   held_was s k has = and_left (F.held s k) (not (same_holder k (Shut g))) has
@@ -116,7 +138,7 @@ module _ (F : Flat) (keys : ℕ → ℕ) (class : Class) (members : List Member)
     waits = λ c e. let y = old.waits c e in (y.0, and_true (F.held s (Ticket y.0)) ∙ y.1);
     waiting = λ w hw. old.waiting w (held_was s (Ticket w) hw);
     block = λ b hb. old.block b (held_was s (Block b) hb);
-    shut = λ h hh. let y = old.shut h (held_was s (Shut h) hh) in (y.0, put_else F.groups g (Some new) h (other h hh) ∙ y.1);
+    shut = λ h hh. let y = old.shut h (held_was s (Shut h) hh) in (y.0, group_other F.groups g h (Some new) (other h hh) ∙ y.1);
   }
     where
       old : HoldersStand F.groups keys s (F.held s) (F.tickets s)
@@ -129,17 +151,17 @@ module _ (F : Flat) (keys : ℕ → ℕ) (class : Class) (members : List Member)
           let bad : true ≡ false = sym on ∙ off in
           cc
 
-  units : (s : ℕ) → (s / 128 ≡ g) ⊎ (s / 128 ≡ g → ⊥) → UnitStands F.sizes.payload F.emitted F.writes keys s (class_of G s) (F.tickets s) (G.units s)
-  units s (inl same) = subst (UnitStands F.sizes.payload F.emitted F.writes keys s (class_of G s) (F.tickets s)) (sym (unit_here s same))
-      (subst (λ o. UnitStands F.sizes.payload F.emitted F.writes keys s o (F.tickets s) (cond (nat_lt (s % 128) (slot_count F.sizes.segments class (length members))) (Some blank) None))
-      (sym (class_now s same)) (now (nat_lt (s % 128) (slot_count F.sizes.segments class (length members)))))
+  units : (s : ℕ) → (s / 128 ≡ g) ⊎ (s / 128 ≡ g → ⊥) → UnitStands F.groups.payload F.emitted F.writes keys s (class_of G s) (F.tickets s) (G.units s)
+  units s (inl same) = subst (UnitStands F.groups.payload F.emitted F.writes keys s (class_of G s) (F.tickets s)) (sym (unit_here s same))
+      (subst (λ o. UnitStands F.groups.payload F.emitted F.writes keys s o (F.tickets s) (cond (nat_lt (s % 128) (slot_count class (length members) F.groups.segments)) (Some blank) None))
+      (sym (class_now s same)) (now (nat_lt (s % 128) (slot_count class (length members) F.groups.segments))))
     where
-      now : (q : Bool) → UnitStands F.sizes.payload F.emitted F.writes keys s (cond q (Some class) None) (F.tickets s) (cond q (Some blank) None)
+      now : (q : Bool) → UnitStands F.groups.payload F.emitted F.writes keys s (cond q (Some class) None) (F.tickets s) (cond q (Some blank) None)
       now true = record {
         there = refl;
-        sized = λ u e. ap (λ (y : Stored). length y.payload) (sym (same_Some blank u e)) ∙ length-replicate F.sizes.payload 0;
-        header = λ u r e told. let bad : None ≡ Some r = ap (λ (y : Stored). y.header) (same_Some blank u e) ∙ told in absurd (cc);
-        content = λ u r w e told. let bad : None ≡ Some r = ap (λ (y : Stored). y.header) (same_Some blank u e) ∙ told in absurd (cc);
+        sized = λ u e. ap (λ (y : Stored). length y.payload) (sym (same_Some blank u e)) ∙ length-replicate F.groups.payload 0;
+        header = λ u r e told. let bad : None ≡ Some r = ap (λ (y : Stored). record_in y.header) (same_Some blank u e) ∙ told in absurd (cc);
+        content = λ u r w e told. let bad : None ≡ Some r = ap (λ (y : Stored). record_in y.header) (same_Some blank u e) ∙ told in absurd (cc);
         blank = λ c e. absurd (no_ticket s same c e);
         rests = λ c e. absurd (no_ticket s same c e);
       }
@@ -151,8 +173,8 @@ module _ (F : Flat) (keys : ℕ → ℕ) (class : Class) (members : List Member)
         blank = λ c e. absurd (no_ticket s same c e);
         rests = λ c e. absurd (no_ticket s same c e);
       }
-  units s (inr ne) = subst (UnitStands F.sizes.payload F.emitted F.writes keys s (class_of G s) (F.tickets s)) (sym (unit_else s ne))
-      (subst (λ o. UnitStands F.sizes.payload F.emitted F.writes keys s o (F.tickets s) (F.units s)) (sym (class_else s ne)) (is.units s))
+  units s (inr ne) = subst (UnitStands F.groups.payload F.emitted F.writes keys s (class_of G s) (F.tickets s)) (sym (unit_else s ne))
+      (subst (λ o. UnitStands F.groups.payload F.emitted F.writes keys s o (F.tickets s) (F.units s)) (sym (class_else s ne)) (is.units s))
 
   written : (b : ℕ) → BlockStands G b (keys b)
   written b = block_same F G b (keys b) refl stays (is.written b)
@@ -170,8 +192,8 @@ module _ (F : Flat) (keys : ℕ → ℕ) (class : Class) (members : List Member)
 
   pub make_keeps : IsHistory (made F class members g) keys
   make_keeps = record {
-    limits = is.limits;
-    groups = groups_more F.sizes.extents F.drives F.groups g new is.groups passes.3.limit passes.0 passes.1 passes.2;
+    limits = record { sizes = is.limits.sizes; least = is.limits.least; most = is.limits.most; log = is.limits.log };
+    groups = groups_more F.groups F.drives g new is.groups passes.2.limit passes.0.members_are passes.0.apart passes.0.unowned;
     records = is.records;
     blocks = is.blocks;
     chain = is.chain;

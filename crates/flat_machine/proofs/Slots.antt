@@ -2,14 +2,14 @@
 use Rattle.std.proofs.Common.{◌≡◌, ℕ, ◌<◌, Bool, true, false, List, refl, sym, ◌∙◌, subst, Option, Some, None}
 use Rattle.map_join.specs.declared.records.Record.{Record}
 use Rattle.map_join.specs.Record.{record_of}
-use Rattle.flat_machine.specs.declared.group.Class.{Class}
-use Rattle.flat_machine.specs.Groups.{Made}
+use Rattle.extent_groups.specs.declared.class.Class.{Class}
+use Rattle.extent_groups.specs.Groups.{Groups}
 use Rattle.flat_machine.specs.Flat.{Flat, Write, Content, Holder, Worker, Ticket, Block, Shut, IsArrays, for_ticket, for_block, for_shut, Waiting, Stored, last_write}
 use Rattle.flat_machine.specs.History.{HoldersStand, UnitStands, IsAt, BlockStands}
 use Rattle.flat_machine.proofs.Pairs.{IsNobodys, IsJust, just_once, just_is, just_held, not_workers}
 
 -- the array holds it for nobody, for a ticket, or for a block
-pub nobody_stands : (groups : ℕ → Option Made) (keys : ℕ → ℕ) (s : ℕ) (h : Holder → Bool) → IsNobodys IsArrays h → HoldersStand groups keys s h None
+pub nobody_stands : (groups : Groups) (keys : ℕ → ℕ) (s : ℕ) (h : Holder → Bool) → IsNobodys IsArrays h → HoldersStand groups keys s h None
 nobody_stands groups keys s h free = record {
   once = λ j k of_j of_k hj hk. absurd (no_one j of_j hj);
   inside = λ k of hk. absurd (no_one k of hk);
@@ -26,7 +26,7 @@ nobody_stands groups keys s h free = record {
 pub worker_nobody : (h : Holder → Bool) (w : ℕ) → IsJust IsArrays h (Worker w) → IsNobodys IsArrays h
 worker_nobody h w is j of = is j of ∙ not_workers j w of
 
-pub ticket_stands : (groups : ℕ → Option Made) (keys : ℕ → ℕ) (s : ℕ) (h : Holder → Bool) (w : ℕ) (c : Waiting) → s < 65536 → IsJust IsArrays h (Ticket w)
+pub ticket_stands : (groups : Groups) (keys : ℕ → ℕ) (s : ℕ) (h : Holder → Bool) (w : ℕ) (c : Waiting) → s < 65536 → IsJust IsArrays h (Ticket w)
     → HoldersStand groups keys s h (Some c)
 ticket_stands groups keys s h w c inside is = record {
   once = just_once IsArrays h (Ticket w) is;
@@ -37,7 +37,7 @@ ticket_stands groups keys s h w c inside is = record {
   shut = λ g hg. let e : Shut g ≡ Ticket w = just_is IsArrays h (Ticket w) (Shut g) is (for_shut g) hg in absurd (cc);
 }
 
-pub block_stands : (groups : ℕ → Option Made) (keys : ℕ → ℕ) (s : ℕ) (h : Holder → Bool) (b : ℕ) → s < 65536 → IsJust IsArrays h (Block b) → 0 < keys b
+pub block_stands : (groups : Groups) (keys : ℕ → ℕ) (s : ℕ) (h : Holder → Bool) (b : ℕ) → s < 65536 → IsJust IsArrays h (Block b) → 0 < keys b
     → (record_of b (keys b)).place ≡ s → HoldersStand groups keys s h None
 block_stands groups keys s h b inside is some place = record {
   once = just_once IsArrays h (Block b) is;
@@ -53,7 +53,7 @@ block_stands groups keys s h b inside is some place = record {
 }
 
 -- what stands of the array's own holders stands where these are the same
-pub arrays_same : (groups : ℕ → Option Made) (keys : ℕ → ℕ) (s : ℕ) (h k : Holder → Bool) (t : Option Waiting) → ((j : Holder) → IsArrays j → k j ≡ h j)
+pub arrays_same : (groups : Groups) (keys : ℕ → ℕ) (s : ℕ) (h k : Holder → Bool) (t : Option Waiting) → ((j : Holder) → IsArrays j → k j ≡ h j)
     → HoldersStand groups keys s h t → HoldersStand groups keys s k t
 arrays_same groups keys s h k t same is = record {
   once = λ i j of_i of_j hi hj. is.once i j of_i of_j (sym (same i of_i) ∙ hi) (sym (same j of_j) ∙ hj);
@@ -69,15 +69,15 @@ nothing : (t : Option Waiting) → ((c : Waiting) → t ≡ Some c → ⊥) → 
 nothing None never = refl
 nothing (Some c) never = absurd (never c refl)
 
-pub free_waits : (groups : ℕ → Option Made) (keys : ℕ → ℕ) (s : ℕ) (h : Holder → Bool) (t : Option Waiting) → HoldersStand groups keys s h t → IsNobodys IsArrays h → t ≡ None
+pub free_waits : (groups : Groups) (keys : ℕ → ℕ) (s : ℕ) (h : Holder → Bool) (t : Option Waiting) → HoldersStand groups keys s h t → IsNobodys IsArrays h → t ≡ None
 free_waits groups keys s h t is free = nothing t (λ c e. let y = is.waits c e in let bad : true ≡ false = sym y.1 ∙ free (Ticket y.0) (for_ticket y.0) in cc)
 
-pub block_waits : (groups : ℕ → Option Made) (keys : ℕ → ℕ) (s : ℕ) (h : Holder → Bool) (t : Option Waiting) (b : ℕ) → HoldersStand groups keys s h t
+pub block_waits : (groups : Groups) (keys : ℕ → ℕ) (s : ℕ) (h : Holder → Bool) (t : Option Waiting) (b : ℕ) → HoldersStand groups keys s h t
     → h (Block b) ≡ true → t ≡ None
 block_waits groups keys s h t b is held = nothing t (λ c e. let y = is.waits c e in let bad : Ticket y.0 ≡ Block b = is.once (Ticket y.0) (Block b) (for_ticket y.0) (for_block b) y.1 held in cc)
 
 -- holders and ticket, or ticket and unit, that are the same stand the same
-pub holders_same : (groups : ℕ → Option Made) (keys : ℕ → ℕ) (s : ℕ) (h k : Holder → Bool) (t u : Option Waiting) → k ≡ h → u ≡ t
+pub holders_same : (groups : Groups) (keys : ℕ → ℕ) (s : ℕ) (h k : Holder → Bool) (t u : Option Waiting) → k ≡ h → u ≡ t
     → HoldersStand groups keys s h t → HoldersStand groups keys s k u
 holders_same groups keys s h k t u held ticket is =
     subst (λ x. HoldersStand groups keys s x u) (sym held) (subst (HoldersStand groups keys s h) (sym ticket) is)

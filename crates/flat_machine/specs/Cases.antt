@@ -2,18 +2,34 @@
 -- case; what never comes is impossible.
 use Rattle.std.specs.Prelude.{◌≡◌, ◌≢◌, ◌⊎◌, ℕ, ◌+◌, ◌/◌, ◌%◌, ◌<◌, ◌≤◌, ◌==◌, ◌&&◌, not, nat_lt, Bool, true, false, if◌then◌else◌, List, [], ◌∷◌, ◌++◌, length, replicate, Option, Some, None}
 use Rattle.map_join.specs.declared.records.Record.{Record}
-use Rattle.flat_machine.specs.declared.group.Class.{Class}
-use Rattle.flat_machine.specs.declared.group.Class.TheVariants.{Mirrored, Parity}
-use Rattle.flat_machine.specs.declared.group.Member.{Member}
-use Rattle.flat_machine.specs.declared.refusal.Refusal.TheVariants.{NoGroup, WrongClass, InUse, NoTicket, Outrun, VersionSpent, HopsSpent, Unwritten, Ahead, ExtentTaken, SameDrive, LogFull, Full, BadMember}
-use Rattle.flat_machine.specs.Groups.{slot_count, AreMembers, AreApart, AreUnowned, IsLowestFree, IsFull}
-use Rattle.flat_machine.specs.Flat.{Flat, Write, Holder, Worker, Ticket, Block, Shut, Content, Waiting, Fresh, Moved, content_of, Header, blank_header, record_in, header_for, Stored, content_in, waiting_unit, put, with_pair, without_pair, turned, same_holder, IsFree, IsKept, class_of, last_write, IsNewest}
+use Rattle.extents.specs.Units.{loss}
+use Rattle.extents.specs.declared.header.Header.{Header}
+use Rattle.extents.specs.Header.{record_in}
+use Rattle.extent_groups.specs.declared.class.Class.{Class}
+use Rattle.extent_groups.specs.declared.class.Class.TheVariants.{Mirrored, Parity}
+use Rattle.extent_groups.specs.declared.class.Member.{Member}
+use Rattle.extent_groups.specs.Geometry.{slot_count}
+use Rattle.extent_groups.specs.Groups.{with_group}
+use Rattle.extent_groups.specs.Missing.{IsGone}
+use Rattle.flat_machine.specs.declared.refusal.Refusal.TheVariants.{NoGroup, WrongClass, InUse, NoTicket, Outrun, VersionSpent, HopsSpent, Unwritten, Gone, DriveLost, Ahead, ExtentTaken, SameDrive, LogFull, Full, BadMember}
+use Rattle.flat_machine.specs.Groups.{AreMembers, AreApart, AreUnowned, ArePresent, IsFirstLost, IsLowestFree, IsFull}
+use Rattle.flat_machine.specs.Flat.{Flat, Write, Holder, Worker, Ticket, Block, Shut, Content, Waiting, Fresh, Moved, content_of, blank_header, header_for, Stored, content_in, waiting_unit, put, with_pair, without_pair, turned, same_holder, IsFree, IsKept, class_of, last_write, IsNewest}
 use Rattle.map_join.specs.Record.{key_of}
-use Rattle.flat_machine.specs.Steps.{FlatStep, Claim, Release, Fill, Copy, Commit, Discard, Read, ReadAt, Make, Version, Seen, Data, Stale, FlatAnswer, Claimed, Taken, Released, NotHeld, Filled, Copied, Committed, Discarded, Found, FoundAt, MadeGroup, Refused}
+use Rattle.flat_machine.specs.Steps.{FlatStep, Claim, Release, Fill, Copy, Commit, Discard, Read, ReadAt, Make, Lose, Version, Seen, Data, Stale, FlatAnswer, Claimed, Taken, Released, NotHeld, Filled, Copied, Committed, Discarded, Found, FoundAt, MadeGroup, LostDrive, Refused}
 
--- G is the state x
-abbrev pub Leaves : Flat → Flat → Type 0
-Leaves x G = G ≡ x
+-- how a drive fares: once lost it stays lost, and its own failures rose by one where it is lost now and wasn't, and else not
+pub record Fares (was is : Bool) (before after : ℕ) : Type 0 where
+  pub stays : was ≡ true → is ≡ true
+  pub count : after ≡ before + loss was is
+
+-- G is the state x, but for drives that failed
+pub record Leaves (x G : Flat) : Type 0 where
+  pub same : G ≡ record x { lost = G.lost; failures = G.failures }
+  pub drives : (d : ℕ) → Fares (x.lost d) (G.lost d) (x.failures d) (G.failures d)
+
+-- the unit of a slot is gone, as its drives fare in a state
+abbrev pub IsGoneIn : Flat → ℕ → Type 0
+IsGoneIn F s = IsGone F.groups F.lost s
 
 -- the greatest version, the greatest hop of a version, and the longest log
 abbrev pub last_version : ℕ
@@ -42,7 +58,7 @@ abbrev pub ticketed : Flat → ℕ → ℕ → Waiting → Flat
 ticketed F w s waiting = record F {
   held = turned F.held s (Worker w) (Ticket w);
   tickets = put F.tickets s (Some waiting);
-  units = put F.units s (Some (waiting_unit F.sizes.payload (content_of waiting)));
+  units = put F.units s (Some (waiting_unit F.groups.payload (content_of waiting)));
 }
 
 -- nothing that a fill tests before it takes memory speaks against it
@@ -55,7 +71,8 @@ FillCase F w s x (NotHeld t) G = (t ≡ s) × (F.held s (Worker w) ≡ false) ×
 FillCase F w s x (Refused NoGroup) G = (F.held s (Worker w) ≡ true) × (class_of F s ≡ None) × (Leaves F G)
 FillCase F w s x (Refused WrongClass) G = (F.held s (Worker w) ≡ true) × (class_of F s ≡ Some Parity) × (Leaves F G)
 FillCase F w s x (Refused InUse) G = (F.held s (Worker w) ≡ true) × (class_of F s ≡ Some Mirrored) × (IsKept F s) × (Leaves F G)
-FillCase F w s x (Filled t) G = (t ≡ s) × (FillPasses F w s) × (Leaves (ticketed F w s (Fresh x)) G)
+FillCase F w s x (Refused (Gone t)) G = (t ≡ s) × (FillPasses F w s) × (IsGoneIn G s) × (Leaves F G)
+FillCase F w s x (Filled t) G = (t ≡ s) × (FillPasses F w s) × (IsGoneIn G s → ⊥) × (Leaves (ticketed F w s (Fresh x)) G)
 FillCase F w s x _ G = ⊥
 
 -- nothing that a copy of the record tests before it takes memory speaks against it
@@ -63,7 +80,8 @@ abbrev pub CopyPasses : Flat → ℕ → ℕ → ℕ → Record → Type 0
 CopyPasses F w s b r =
     (F.held s (Worker w) ≡ true) × (class_of F s ≢ None) × (IsKept F s → ⊥) × (IsNewest F.emitted b (Some r)) × (r.hop < last_hop)
 
--- copy: the content of a block's last write into a slot that the worker holds, in a group of either class
+-- copy: the content of a block's last write into a slot that the worker holds, in a group of either class; the source is read
+-- before the slot is written, and drives may fail at either
 abbrev pub CopyCase : Flat → ℕ → ℕ → ℕ → FlatAnswer → Flat → Type 0
 CopyCase F w s b (NotHeld t) G = (t ≡ s) × (F.held s (Worker w) ≡ false) × (Leaves F G)
 CopyCase F w s b (Refused NoGroup) G = (F.held s (Worker w) ≡ true) × (class_of F s ≡ None) × (Leaves F G)
@@ -73,8 +91,12 @@ CopyCase F w s b (Refused Unwritten) G =
 CopyCase F w s b (Refused HopsSpent) G =
     (F.held s (Worker w) ≡ true) × (class_of F s ≢ None) × (IsKept F s → ⊥)
     × ((r : Record) × (IsNewest F.emitted b (Some r)) × (last_hop ≤ r.hop)) × (Leaves F G)
+CopyCase F w s b (Refused (Gone t)) G =
+    ((r : Record) × (CopyPasses F w s b r)
+    × (((t ≡ r.place) × (IsGoneIn G r.place)) ⊎ ((t ≡ s) × (IsGoneIn F r.place → ⊥) × (IsGoneIn G s)))) × (Leaves F G)
 CopyCase F w s b (Copied t) G =
     (t ≡ s) × ((r : Record) × (x : Write) × (CopyPasses F w s b r) × (last_write F.writes b ≡ Some x)
+    × (IsGoneIn F r.place → ⊥) × (IsGoneIn G s → ⊥)
     × (Leaves (ticketed F w s (Moved b r.version r.hop x.content)) G))
 CopyCase F w s b _ G = ⊥
 
@@ -120,14 +142,18 @@ IsFor (Some (Moved c v h x)) b = c ≡ b
 abbrev pub CommitWith : Flat → ℕ → ℕ → ℕ → Option Record → Option Waiting → FlatAnswer → Flat → Type 0
 CommitWith F w s b found (Some (Fresh x)) (Refused VersionSpent) G = (next_version found ≡ last_version + 1) × (Leaves F G)
 CommitWith F w s b found (Some (Fresh x)) (Refused LogFull) G = (next_version found ≤ last_version) × (longest_log ≤ length F.emitted) × (Leaves F G)
+CommitWith F w s b found (Some (Fresh x)) (Refused (Gone t)) G =
+    (next_version found ≤ last_version) × (length F.emitted < longest_log) × (t ≡ s) × (IsGoneIn G s) × (Leaves F G)
 CommitWith F w s b found (Some (Fresh x)) (Committed r) G =
-    (next_version found ≤ last_version) × (length F.emitted < longest_log)
+    (next_version found ≤ last_version) × (length F.emitted < longest_log) × (IsGoneIn G s → ⊥)
     × (r ≡ record { block = b; version = next_version found; hop = 0; place = s })
     × (Leaves (committed F w s b found (F.writes ++ record { block = b; version = next_version found; content = x } ∷ []) x r) G)
 CommitWith F w s b found (Some (Moved c v h x)) (Refused (Outrun n)) G = (found ≡ Some n) × (HasStamp found v h → ⊥) × (Leaves F G)
 CommitWith F w s b found (Some (Moved c v h x)) (Refused LogFull) G = (HasStamp found v h) × (longest_log ≤ length F.emitted) × (Leaves F G)
+CommitWith F w s b found (Some (Moved c v h x)) (Refused (Gone t)) G =
+    (HasStamp found v h) × (length F.emitted < longest_log) × (t ≡ s) × (IsGoneIn G s) × (Leaves F G)
 CommitWith F w s b found (Some (Moved c v h x)) (Committed r) G =
-    (HasStamp found v h) × (length F.emitted < longest_log)
+    (HasStamp found v h) × (length F.emitted < longest_log) × (IsGoneIn G s → ⊥)
     × (r ≡ record { block = b; version = v; hop = h + 1; place = s })
     × (Leaves (committed F w s b found F.writes x r) G)
 CommitWith F w s b found _ _ G = ⊥
@@ -157,9 +183,11 @@ abbrev pub found_of : Option Write → Option Version
 found_of None = None
 found_of (Some w) = Some (record { version = w.version; content = w.content })
 
--- read: the last acknowledged write of the block
+-- read: the last acknowledged write of the block, where the unit at its newest place isn't gone
 abbrev pub ReadCase : Flat → ℕ → FlatAnswer → Flat → Type 0
-ReadCase F b (Found answer) G = (answer ≡ found_of (last_write F.writes b)) × (Leaves F G)
+ReadCase F b (Found answer) G =
+    (answer ≡ found_of (last_write F.writes b)) × ((r : Record) → IsNewest F.emitted b (Some r) → IsGoneIn G r.place → ⊥) × (Leaves F G)
+ReadCase F b (Refused (Gone t)) G = ((r : Record) × (IsNewest F.emitted b (Some r)) × (t ≡ r.place) × (IsGoneIn G t)) × (Leaves F G)
 ReadCase F b _ G = ⊥
 
 -- what is seen at the place of a record: the content where the record in the unit's header is exactly it, else that record
@@ -174,11 +202,15 @@ abbrev pub IsAhead : Record → Option Record → Type 0
 IsAhead r None = Unit {0}
 IsAhead r (Some n) = key_of n < key_of r
 
+-- a record is at most the newest of its block
+abbrev pub IsBehind : Flat → Record → Type 0
+IsBehind F r = (n : Record) × (IsNewest F.emitted r.block (Some n)) × (key_of r ≤ key_of n)
+
 -- read at a record's place: what is seen there, where the record isn't ahead of the newest
 abbrev pub ReadAtCase : Flat → Record → FlatAnswer → Flat → Type 0
 ReadAtCase F r (Refused (Ahead found)) G = (IsNewest F.emitted r.block found) × (IsAhead r found) × (Leaves F G)
-ReadAtCase F r (FoundAt seen) G =
-    ((n : Record) × (IsNewest F.emitted r.block (Some n)) × (key_of r ≤ key_of n)) × (IsSeen (F.units r.place) r seen) × (Leaves F G)
+ReadAtCase F r (Refused (Gone t)) G = (IsBehind F r) × (t ≡ r.place) × (IsGoneIn G t) × (Leaves F G)
+ReadAtCase F r (FoundAt seen) G = (IsBehind F r) × (IsGoneIn G r.place → ⊥) × (IsSeen (F.units r.place) r seen) × (Leaves F G)
 ReadAtCase F r _ G = ⊥
 
 -- what is learned of a record whose place was seen: the record with its content, or where that is stale the newest record
@@ -197,26 +229,38 @@ wiped units payload g count slot =
 abbrev pub made : Flat → Class → List Member → ℕ → Flat
 made F class members g = record F {
   held = λ slot k. F.held slot k && not (same_holder k (Shut g));
-  groups = put F.groups g (Some (record { class = class; members = members }));
-  units = wiped F.units F.sizes.payload g (slot_count F.sizes.segments class (length members));
+  groups = with_group F.groups g (Some (record { class = class; members = members }));
+  units = wiped F.units F.groups.payload g (slot_count class (length members) F.groups.segments);
 }
+
+-- the members can be a group's: three to eight extents that are there, on different drives, and of no group
+pub record AreFit (F : Flat) (members : List Member) : Type 0 where
+  pub members_are : AreMembers F.groups.extents F.drives members
+  pub apart : AreApart members
+  pub unowned : AreUnowned F.groups members
 
 -- nothing that making a group tests before it takes memory speaks against it
 abbrev pub MakePasses : Flat → List Member → ℕ → Type 0
-MakePasses F members g =
-    (AreMembers F.sizes.extents F.drives members) × (AreApart members) × (AreUnowned F.groups members) × (IsLowestFree F.groups g)
+MakePasses F members g = (AreFit F members) × (ArePresent F.lost members) × (IsLowestFree F.groups g)
 
--- make: the lowest number that isn't made
+-- make: the lowest number that isn't made. A drive that is lost is told before any unit is written, or once it fails while the
+-- extents are wiped: then all members before it were
 abbrev pub MakeCase : Flat → Class → List Member → FlatAnswer → Flat → Type 0
-MakeCase F class members (Refused BadMember) G = (AreMembers F.sizes.extents F.drives members → ⊥) × (Leaves F G)
-MakeCase F class members (Refused SameDrive) G =
-    (AreMembers F.sizes.extents F.drives members) × (AreApart members → ⊥) × (Leaves F G)
+MakeCase F class members (Refused BadMember) G = (AreMembers F.groups.extents F.drives members → ⊥) × (Leaves F G)
+MakeCase F class members (Refused SameDrive) G = (AreMembers F.groups.extents F.drives members) × (AreApart members → ⊥) × (Leaves F G)
 MakeCase F class members (Refused ExtentTaken) G =
-    (AreMembers F.sizes.extents F.drives members) × (AreApart members) × (AreUnowned F.groups members → ⊥) × (Leaves F G)
-MakeCase F class members (Refused Full) G =
-    (AreMembers F.sizes.extents F.drives members) × (AreApart members) × (AreUnowned F.groups members) × (IsFull F.groups) × (Leaves F G)
-MakeCase F class members (MadeGroup g) G = (MakePasses F members g) × (Leaves (made F class members g) G)
+    (AreMembers F.groups.extents F.drives members) × (AreApart members) × (AreUnowned F.groups members → ⊥) × (Leaves F G)
+MakeCase F class members (Refused (DriveLost d)) G =
+    (AreFit F members) × ((IsFirstLost F.lost members d) ⊎ (((g : ℕ) × MakePasses F members g) × (IsFirstLost G.lost members d))) × (Leaves F G)
+MakeCase F class members (Refused Full) G = (AreFit F members) × (ArePresent F.lost members) × (IsFull F.groups) × (Leaves F G)
+MakeCase F class members (MadeGroup g) G = (MakePasses F members g) × (ArePresent G.lost members) × (Leaves (made F class members g) G)
 MakeCase F class members _ G = ⊥
+
+-- lose: the drive is lost from outside, which is no failure of its own
+abbrev pub LoseCase : Flat → ℕ → FlatAnswer → Flat → Type 0
+LoseCase F d (LostDrive e) G = (e ≡ d) × (d < F.drives) × (Leaves (record F { lost = put F.lost d true }) G)
+LoseCase F d (Refused BadMember) G = (F.drives ≤ d) × (Leaves F G)
+LoseCase F d _ G = ⊥
 
 -- the flat machine: the case of a step
 abbrev pub Case : Flat → FlatStep → FlatAnswer → Flat → Type 0
@@ -229,6 +273,7 @@ Case F (Discard w s) answer G = DiscardCase F w s answer G
 Case F (Read b) answer G = ReadCase F b answer G
 Case F (ReadAt r) answer G = ReadAtCase F r answer G
 Case F (Make class members) answer G = MakeCase F class members answer G
+Case F (Lose d) answer G = LoseCase F d answer G
 
 -- a commit of a ticket, given the newest record of the block, passes all that is tested before memory is taken
 abbrev pub CommitPasses : Flat → Option Record → Option Waiting → Type 0
@@ -243,13 +288,12 @@ IsWanted F (Copy w s b) = (r : Record) × CopyPasses F w s b r
 IsWanted F (Commit w s b) = (F.held s (Ticket w) ≡ true) × (IsFor (F.tickets s) b)
     × ((found : Option Record) × (IsNewest F.emitted b found) × CommitPasses F found (F.tickets s))
 IsWanted F (Read b) = (r : Record) × IsNewest F.emitted b (Some r)
-IsWanted F (ReadAt r) = (n : Record) × (IsNewest F.emitted r.block (Some n)) × (key_of r ≤ key_of n)
-    × ((x : Content) × IsSeen (F.units r.place) r (Data x))
+IsWanted F (ReadAt r) = IsBehind F r
 IsWanted F (Make class members) = (g : ℕ) × MakePasses F members g
 IsWanted F _ = ⊥
 
 -- a run of the flat machine over a list of steps, with one answer for each
 abbrev pub Runs : Flat → List FlatStep → List FlatAnswer → Flat → Type 0
-Runs F [] [] G = Leaves F G
+Runs F [] [] G = G ≡ F
 Runs F (step ∷ steps) (answer ∷ answers) G = (M : Flat) × (Case F step answer M) × (Runs M steps answers G)
 Runs F _ _ G = ⊥

@@ -3,9 +3,12 @@
 use Rattle.std.specs.Prelude.{◌≡◌, ℕ, ◌≤◌, ◌==◌, ◌||◌, ◌&&◌, not, Bool, true, false, if◌then◌else◌, List, [], ◌∷◌, length, Contains, Option, Some, None}
 use Rattle.map_join.specs.declared.records.Record.{Record}
 use Rattle.map_join.specs.Record.{key_of}
-use Rattle.flat_machine.specs.declared.group.Class.{Class}
-use Rattle.flat_machine.specs.Sizes.{Sizes}
-use Rattle.flat_machine.specs.Groups.{Made, class_at}
+use Rattle.extents.specs.declared.header.Header.{Header}
+use Rattle.extents.specs.declared.header.Header.TheVariants.{Blank, Is}
+use Rattle.extents.specs.Header.{record_in}
+use Rattle.extent_groups.specs.declared.class.Class.{Class}
+use Rattle.extent_groups.specs.Groups.{Groups}
+use Rattle.flat_machine.specs.Groups.{class_at}
 
 -- what a block holds: a payload
 pub data Content : Type 0 where
@@ -42,18 +45,12 @@ abbrev pub content_of : Waiting → Content
 content_of (Fresh content) = content
 content_of (Moved block version hop content) = content
 
--- a unit's header: blank, or a record; and the words by which it is read and written
-abbrev pub Header : Type 0
-Header = Option Record
-
+-- the headers of a unit whose content waits, and of one whose content was committed with a record; `record_in` reads a header
 abbrev pub blank_header : Header
-blank_header = None
-
-abbrev pub record_in : Header → Option Record
-record_in header = header
+blank_header = Blank
 
 abbrev pub header_for : Record → Content → Header
-header_for r content = Some r
+header_for r content = Is r
 
 -- a unit: its header and its payload
 pub record Stored : Type 0 where
@@ -68,27 +65,30 @@ content_in u = Payload u.payload
 abbrev pub waiting_unit : ℕ → Content → Stored
 waiting_unit size content = record { header = blank_header; payload = bytes_of size content }
 
--- the flat state
+-- the flat state: the groups, with the sizes of the array; how many drives there are, which of these numbers are of a lost drive
+-- or of none, and how often each failed by itself; and what was written, emitted, held and stored
 pub record Flat : Type 0 where
-  pub sizes : Sizes
+  pub groups : Groups
   pub drives : ℕ
+  pub lost : ℕ → Bool
+  pub failures : ℕ → ℕ
   pub writes : List Write
   pub emitted : List Record
   pub held : ℕ → Holder → Bool
   pub tickets : ℕ → Option Waiting
-  pub groups : ℕ → Option Made
   pub units : ℕ → Option Stored
 
--- a new array: nothing written, nothing held, no group made
-abbrev pub new_flat : Sizes → ℕ → Flat
-new_flat sizes drives = record {
-  sizes = sizes;
+-- a new array: nothing written, nothing held, and no unit, as no group is made
+abbrev pub new_flat : Groups → ℕ → (ℕ → Bool) → (ℕ → ℕ) → Flat
+new_flat groups drives lost failures = record {
+  groups = groups;
   drives = drives;
+  lost = lost;
+  failures = failures;
   writes = [];
   emitted = [];
   held = λ _ _. false;
   tickets = λ _. None;
-  groups = λ _. None;
   units = λ _. None;
 }
 
@@ -135,7 +135,7 @@ HeldOnce F = (slot : ℕ) (j k : Holder) → F.held slot j ≡ true → F.held s
 
 -- the class of a slot, none where no made group has it
 abbrev pub class_of : Flat → ℕ → Option Class
-class_of F slot = class_at F.sizes.segments F.groups slot
+class_of F slot = class_at F.groups slot
 
 -- the last acknowledged write of a block
 abbrev pub or_else : {X : Type 0} → Option X → Option X → Option X

@@ -3,16 +3,17 @@ use Rattle.std.specs.Prelude.{◌≡◌, ◌≢◌, ◌⊎◌, ℕ, ◌+◌, ◌
 use Rattle.map_join.specs.declared.records.Record.{Record}
 use Rattle.map_join.specs.Record.{key_of, record_of, IsRecord, stamp, stamp_of, stamp_in}
 use Rattle.map_join.specs.Maps.{IsMapOf}
-use Rattle.flat_machine.specs.declared.group.Class.{Class}
-use Rattle.flat_machine.specs.declared.group.Class.TheVariants.{Mirrored}
-use Rattle.flat_machine.specs.Sizes.{Sizes, AreSizes}
-use Rattle.flat_machine.specs.Groups.{Made, AreGroups}
-use Rattle.flat_machine.specs.Flat.{Flat, Content, IsSized, Write, Holder, Ticket, Block, Shut, Waiting, Fresh, Moved, content_of, record_in, Stored, content_in, waiting_unit, class_of, last_write, IsNewest, IsArrays, HeldOnce}
-use Rattle.flat_machine.specs.Steps.{FlatStep, Claim, Release, Fill, Copy, Commit, Discard, Read, ReadAt, Make}
+use Rattle.extents.specs.Header.{record_in}
+use Rattle.extent_groups.specs.declared.class.Class.{Class}
+use Rattle.extent_groups.specs.declared.class.Class.TheVariants.{Mirrored}
+use Rattle.extent_groups.specs.Groups.{Groups, group_at}
+use Rattle.flat_machine.specs.Groups.{AreSizes, GroupsStand}
+use Rattle.flat_machine.specs.Flat.{Flat, Content, IsSized, Write, Holder, Ticket, Block, Shut, Waiting, Fresh, Moved, content_of, Stored, content_in, waiting_unit, class_of, last_write, IsNewest, IsArrays, HeldOnce}
+use Rattle.flat_machine.specs.Steps.{FlatStep, Claim, Release, Fill, Copy, Commit, Discard, Read, ReadAt, Make, Lose}
 use Rattle.flat_machine.specs.Cases.{last_hop, longest_log}
 
 -- sizes, a number of drives and a number of emitted records that an array can have
-pub record AreLimits (z : Sizes) (drives records : ℕ) : Type 0 where
+pub record AreLimits (z : Groups) (drives records : ℕ) : Type 0 where
   pub sizes : AreSizes z
   pub least : 3 ≤ drives
   pub most : drives ≤ 16
@@ -40,13 +41,13 @@ IsWriteChain before (w ∷ writes) =
 
 -- whom the array itself holds a slot for: at most one; a ticket exactly where something waits; a block exactly of its newest
 -- place; and an unmade group's number only a slot of that group. Nothing is said of workers.
-pub record HoldersStand (groups : ℕ → Option Made) (keys : ℕ → ℕ) (s : ℕ) (held : Holder → Bool) (ticket : Option Waiting) : Type 0 where
+pub record HoldersStand (groups : Groups) (keys : ℕ → ℕ) (s : ℕ) (held : Holder → Bool) (ticket : Option Waiting) : Type 0 where
   pub once : (j k : Holder) → IsArrays j → IsArrays k → held j ≡ true → held k ≡ true → j ≡ k
   pub inside : (k : Holder) → IsArrays k → held k ≡ true → s < 65536
   pub waits : (c : Waiting) → ticket ≡ Some c → (w : ℕ) × (held (Ticket w) ≡ true)
   pub waiting : (w : ℕ) → held (Ticket w) ≡ true → ticket ≢ None
   pub block : (b : ℕ) → held (Block b) ≡ true → (0 < keys b) × ((record_of b (keys b)).place ≡ s)
-  pub shut : (g : ℕ) → held (Shut g) ≡ true → (g ≡ s / 128) × (groups g ≡ None)
+  pub shut : (g : ℕ) → held (Shut g) ≡ true → (g ≡ s / 128) × (group_at groups g ≡ None)
 
 -- a record in the header of a slot's unit is of that very slot: the newest of its block, or one of a stamp below the newest's
 pub record IsHeaderOf (keys : ℕ → ℕ) (s : ℕ) (r : Record) : Type 0 where
@@ -103,19 +104,19 @@ BlockStands F b key = (key ≡ 0 → last_write F.writes b ≡ None) × (0 < key
 -- what is true of a flat state after any steps, where `keys` is the map of its log
 pub record IsHistory (F : Flat) (keys : ℕ → ℕ) : Type 0 where
   -- sizes, drives and groups are within the limits of every array
-  pub limits : AreLimits F.sizes F.drives (length F.emitted)
-  pub groups : AreGroups F.sizes.extents F.drives F.groups
+  pub limits : AreLimits F.groups F.drives (length F.emitted)
+  pub groups : GroupsStand F.groups F.drives
   -- the emitted records are of the array's blocks, each comes next after those of its block, and the keys are their map
   pub records : (r : Record) → Contains F.emitted r → IsRecord r
-  pub blocks : (r : Record) → Contains F.emitted r → r.block < F.sizes.blocks
+  pub blocks : (r : Record) → Contains F.emitted r → r.block < F.groups.blocks
   pub chain : IsChain [] F.emitted
   pub map : IsMapOf F.emitted keys
   -- the acknowledged writes of a block have one version after another
-  pub writes : (w : Write) → Contains F.writes w → IsWrite F.sizes.payload w
+  pub writes : (w : Write) → Contains F.writes w → IsWrite F.groups.payload w
   pub versions : IsWriteChain [] F.writes
   -- of each slot: its holders, and its unit
   pub holders : (s : ℕ) → HoldersStand F.groups keys s (F.held s) (F.tickets s)
-  pub units : (s : ℕ) → UnitStands F.sizes.payload F.emitted F.writes keys s (class_of F s) (F.tickets s) (F.units s)
+  pub units : (s : ℕ) → UnitStands F.groups.payload F.emitted F.writes keys s (class_of F s) (F.tickets s) (F.units s)
   -- of each block: its last write, and its newest place
   pub written : (b : ℕ) → BlockStands F b (keys b)
 
@@ -125,7 +126,7 @@ pub record AreHeld (F : Flat) : Type 0 where
   pub inside : (s : ℕ) (k : Holder) → F.held s k ≡ true → s < 65536
 
 -- a step of numbers that there are: slots below 65,536, blocks of the array, and contents that fit its units
-abbrev pub IsStep : Sizes → FlatStep → Type 0
+abbrev pub IsStep : Groups → FlatStep → Type 0
 IsStep z (Claim w s) = s < 65536
 IsStep z (Release w s) = Unit {0}
 IsStep z (Fill w s x) = (s < 65536) × IsSized z.payload x
@@ -135,3 +136,4 @@ IsStep z (Discard w s) = Unit {0}
 IsStep z (Read b) = Unit {0}
 IsStep z (ReadAt r) = Unit {0}
 IsStep z (Make class members) = Unit {0}
+IsStep z (Lose d) = Unit {0}

@@ -1,4 +1,3 @@
-pub mod Sizes
 pub mod Groups
 pub mod Flat
 pub mod Steps

@@ -1,8 +1,8 @@
 -- The steps of the flat machine, and their answers, as plain data.
 use Rattle.std.specs.Prelude.{ℕ, List, Option}
 use Rattle.map_join.specs.declared.records.Record.{Record}
-use Rattle.flat_machine.specs.declared.group.Class.{Class}
-use Rattle.flat_machine.specs.declared.group.Member.{Member}
+use Rattle.extent_groups.specs.declared.class.Class.{Class}
+use Rattle.extent_groups.specs.declared.class.Member.{Member}
 use Rattle.flat_machine.specs.declared.refusal.Refusal.{Refusal}
 use Rattle.flat_machine.specs.Flat.{Content}
 
@@ -17,6 +17,7 @@ pub data FlatStep : Type 0 where
   Read : ℕ → FlatStep
   ReadAt : Record → FlatStep
   Make : Class → List Member → FlatStep
+  Lose : ℕ → FlatStep
 
 -- what is read of a block: its version and content
 pub record Version : Type 0 where
@@ -42,4 +43,5 @@ pub data FlatAnswer : Type 0 where
   Found : Option Version → FlatAnswer
   FoundAt : Seen → FlatAnswer
   MadeGroup : ℕ → FlatAnswer
+  LostDrive : ℕ → FlatAnswer
   Refused : Refusal → FlatAnswer

@@ -1,7 +1,8 @@
 // Laws of the flat machine, each the contract of a function that does nothing.
-ghost use Rattle.std.specs.Prelude.{ℕ, ◌≤◌};
+ghost use Rattle.std.specs.Prelude.{ℕ, ◌≤◌, Bool};
+ghost use Rattle.extent_groups.specs.Groups.{Groups};
 ghost use Rattle.map_join.specs.Maps.{IsMapOf};
-ghost use Rattle.flat_machine.specs.Sizes.{Sizes, AreSizes};
+ghost use Rattle.flat_machine.specs.Groups.{AreSizes, IsEmpty};
 ghost use Rattle.flat_machine.specs.Flat.{Flat, new_flat};
 ghost use Rattle.flat_machine.specs.Steps.{FlatStep, FlatAnswer};
 ghost use Rattle.flat_machine.specs.Cases.{Case};
@@ -10,10 +11,11 @@ ghost use Rattle.flat_machine.specs.History.{IsHistory, AreHeld, IsStep};
 /// What is true of every state, and that no slot has two holders: so it is of a new array's, and each case
 /// of each step keeps it.
 pub fn history_laws()
-    ensures new { (sizes : Sizes) (drives : ℕ) → AreSizes sizes → 3 ≤ drives → drives ≤ 16 → IsHistory (new_flat sizes drives) (λ _. 0) }
+    ensures new { (groups : Groups) (drives : ℕ) (lost : ℕ → Bool) (failures : ℕ → ℕ) → AreSizes groups → IsEmpty groups → 3 ≤ drives → drives ≤ 16
+        → IsHistory (new_flat groups drives lost failures) (λ _. 0) }
     ensures kept { (F G : Flat) (keys map : ℕ → ℕ) (step : FlatStep) (answer : FlatAnswer)
-        → IsHistory F keys → IsStep F.sizes step → Case F step answer G → IsMapOf G.emitted map → IsHistory G map }
-    ensures none { (sizes : Sizes) (drives : ℕ) → AreHeld (new_flat sizes drives) }
+        → IsHistory F keys → IsStep F.groups step → Case F step answer G → IsMapOf G.emitted map → IsHistory G map }
+    ensures none { (groups : Groups) (drives : ℕ) (lost : ℕ → Bool) (failures : ℕ → ℕ) → AreHeld (new_flat groups drives lost failures) }
     ensures held { (F G : Flat) (keys : ℕ → ℕ) (step : FlatStep) (answer : FlatAnswer)
-        → IsHistory F keys → AreHeld F → IsStep F.sizes step → Case F step answer G → AreHeld G }
+        → IsHistory F keys → AreHeld F → IsStep F.groups step → Case F step answer G → AreHeld G }
 {}
