@@ -111,7 +111,7 @@ one_missing t missing slot site x y groups most at of also mx my =
     xa ∙ ap (λ (m : Member). m.drive) same ∙ sym yb
 
 -- no slot is gone then
-never_gone : (t : Groups) (missing : ℕ → Bool) (slot : ℕ) (site : Site) → AreGroups t → MissAtMostOne t missing → site_of t slot ≡ Some site → IsWhole site → IsGoneAt missing site → ⊥
+pub never_gone : (t : Groups) (missing : ℕ → Bool) (slot : ℕ) (site : Site) → AreGroups t → MissAtMostOne t missing → site_of t slot ≡ Some site → IsWhole site → IsGoneAt missing site → ⊥
 never_gone t missing slot (Pair p q) groups most at whole gone =
     whole (one_missing t missing slot (Pair p q) p q groups most at (inl refl) (inr refl) gone.0 gone.1)
 never_gone t missing slot (InStripe row parity i) groups most at whole gone =

@@ -79,6 +79,7 @@ impl GroupTable {
     pub fn new(alloc: Global, shape: &Shape) -> Result<GroupTable, AllocError>
         ensures shape { IfOk result (λ t. IsShapeOf shape.now t.extents t.segments t.payload t.blocks) }
         ensures free { IfOk result (λ t. (g : ℕ) → group_at t g ≡ None) }
+        ensures groups { IfOk result AreGroups }
         ensures agree { IfOk result (λ t. (drives : ℕ) → Agree t (all_free drives shape.now.extents)) }
     {
         Ok(GroupTable {

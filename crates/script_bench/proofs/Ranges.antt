@@ -2,7 +2,7 @@
 use Rattle.std.proofs.Common.{◌≡◌, ℕ, zero, suc, ◌<◌, List, [], ◌∷◌, length, refl, arith, slice_index_or}
 use Rattle.std.specs.List.{AllByRecursion}
 use Rattle.map_join.specs.declared.records.Record.{Record}
-use Rattle.flat_machine.specs.declared.group.Class.{Class}
+use Rattle.extent_groups.specs.declared.class.Class.{Class}
 use Rattle.script_words.specs.Order.{Number, kinds_of, numbers_of, ordered}
 use Rattle.script_words.specs.declared.command.Named.{Named}
 use Rattle.script_words.specs.declared.verb.Kind.{Kind}

@@ -7,7 +7,7 @@ use Rattle.flat_machine.specs.Flat.{Flat, Payload, new_flat, put}
 use Rattle.flat_machine.specs.Steps.{FlatStep, FlatAnswer}
 use Rattle.flat_machine.specs.Steps as s
 use Rattle.flat_machine.specs.Cases.{Case}
-use Rattle.flat_machine.specs.declared.group.Member.{Member}
+use Rattle.extent_groups.specs.declared.class.Member.{Member}
 use Rattle.std.specs.Prelude.{map}
 use Rattle.script_words.specs.Order.{Order}
 use Rattle.script_words.specs.Order as o

@@ -33,12 +33,12 @@ sizes_of extents segments payload blocks =
 -- how many blocks there are
 abbrev pub block_count : State → ℕ
 block_count None = 0
-block_count (Some P) = P.flat.sizes.blocks
+block_count (Some P) = P.flat.groups.blocks
 
 -- whether a command may come: the array once and first, every other one behind it, and a payload of the array's length
 abbrev pub IsDue : State → Order → Type 0
 IsDue None order = verb_of order ≡ verb.Array
-IsDue (Some P) order = (verb_of order ≡ verb.Array → ⊥) × IsSized P.flat.sizes.payload order
+IsDue (Some P) order = (verb_of order ≡ verb.Array → ⊥) × IsSized P.flat.groups.payload order
 
 -- the limit of each kind of number, with so many blocks; the array has a rule of its own for its sizes
 abbrev pub IsKindInRange : ℕ → Kind → ℕ → Type 0

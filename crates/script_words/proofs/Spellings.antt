@@ -13,8 +13,8 @@ use Rattle.script_words.specs.Order.{Order, Behind, Nothing, Told, Content, Memb
 use Rattle.script_words.specs.Reading.{Finds, IsFound, IsRead, Reads}
 use Rattle.script_words.specs.declared.command.Command.{Command}
 use Rattle.script_words.specs.Spelling.{member_word, line_of, ClassAndMembers, Follows, IsBehind, IsClassWord, IsLong, IsSized, IsWritableMember, PayloadAlone, RecordAlone, Spells}
-use Rattle.flat_machine.specs.declared.group.Class.{Class}
-use Rattle.flat_machine.specs.declared.group.Class.TheVariants as class
+use Rattle.extent_groups.specs.declared.class.Class.{Class}
+use Rattle.extent_groups.specs.declared.class.Class.TheVariants as class
 use Rattle.script_words.specs.declared.command.Named.{Named}
 use Rattle.script_words.specs.declared.verb.Verb.{Verb}
 use Rattle.script_words.specs.declared.verb.Tail.{Tail}

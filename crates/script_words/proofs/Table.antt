@@ -4,7 +4,7 @@ use Rattle.std.specs.List.{All}
 use Rattle.std.specs.Str.{bytes_eq}
 use Rattle.std.proofs.lemmas.List.Elements.{All-from_recursion}
 use Rattle.map_join.specs.declared.records.Record.{Record}
-use Rattle.flat_machine.specs.declared.group.Class.{Class}
+use Rattle.extent_groups.specs.declared.class.Class.{Class}
 use Rattle.script_words.specs.Order as o
 use Rattle.script_words.specs.Order.{Order, Behind, Nothing, Told, Content, Members, behind_of, kind_behind, kinds_of, ordered, tail_of, values_of, verb_of, word_of}
 use Rattle.script_words.specs.declared.command.Named.{Named}

@@ -6,8 +6,8 @@ use Rattle.map_join.specs.Record.{Spells as RecordSpells}
 use Rattle.map_join.specs.declared.records.Record.{Record}
 use Rattle.script_words.specs.Number.{IsWritable}
 use Rattle.script_words.specs.Order.{Order, Behind, Nothing, Told, Content, Members, word_of, verb_of, values_of, behind_of}
-use Rattle.flat_machine.specs.declared.group.Class.{Class}
-use Rattle.flat_machine.specs.declared.group.Class.TheVariants as class
+use Rattle.extent_groups.specs.declared.class.Class.{Class}
+use Rattle.extent_groups.specs.declared.class.Class.TheVariants as class
 use Rattle.script_words.specs.declared.command.Named.{Named}
 
 -- a member is written as its drive, a dot and its extent

@@ -8,6 +8,7 @@ use Rattle.map_join.specs.declared.records.Record.{Record}
 use Rattle.map_join.specs.Record.{key_of, record_of, record_at, IsRecord}
 use Rattle.map_join.specs.Maps.{IsSame, IsMapOf, join, only}
 use Rattle.map_join.proofs.Joins.{took, only_here, only_else}
+use Rattle.extents.specs.declared.header.Header.TheVariants.{Is}
 use Rattle.flat_machine.specs.Flat.{Flat, Write, Content, Stored, header_for, put, IsArrays}
 use Rattle.flat_machine.specs.Cases.{committed, stamped}
 use Rattle.flat_machine.proofs.Pairs.{put_here, put_else}
@@ -78,13 +79,12 @@ pub waits_unit : (a : ArrayView) (s : ℕ) → IsWhole a → is_waiting (kept_at
 waits_unit a s whole waits = unit_of (unit_at a s) (whole.stored s (waiting_kept (kept_at a s) waits))
 
 -- an array is whole after a commit
-pub commit_whole : (a : ArrayView) (s b v h : ℕ) → IsWhole a → s < 65536 → b < a.sizes.blocks → is_waiting (kept_at a s) ≡ true → IsRecord (emitted_by b s v h)
+pub commit_whole : (a : ArrayView) (s b v h : ℕ) → IsWhole a → s < 65536 → b < a.groups.blocks → is_waiting (kept_at a s) ≡ true → IsRecord (emitted_by b s v h)
     → IsWhole (commit_view a s b (record_at b (key_at a b)) (emitted_by b s v h))
 commit_whole a s b v h whole inside block waits ok = record {
   room = record {
     kept = length-set (passed a.kept (record_at b (key_at a b))) s (Newest b) ∙ passed_length a.kept (record_at b (key_at a b)) ∙ whole.room.kept;
     units = length-set a.units s _ ∙ whole.room.units;
-    groups = whole.room.groups;
     keys = length-set a.keys b _ ∙ whole.room.keys;
   };
   blocks = whole.blocks;
@@ -96,6 +96,9 @@ commit_whole a s b v h whole inside block waits ok = record {
   stored = λ t. stored t (cases_eq t s);
   sized = λ t x is. sized t x is (cases_eq t s);
   groups = whole.groups;
+  agree = whole.agree;
+  rows = whole.rows;
+  wide = whole.wide;
 }
   where
     r : Record
@@ -205,12 +208,12 @@ commit_whole a s b v h whole inside block waits ok = record {
             in
             let bad : Newest c ≡ Nothing = sym is ∙ gone in absurd (cc)
 
-    sized : (t : ℕ) (x : Stored) → unit_at view t ≡ Some x → (t ≡ s) ⊎ (t ≡ s → ⊥) → length x.payload ≡ a.sizes.payload
+    sized : (t : ℕ) (x : Stored) → unit_at view t ≡ Some x → (t ≡ s) ⊎ (t ≡ s → ⊥) → length x.payload ≡ a.groups.payload
     sized t x is (inl e) =
         let u = waits_unit a s whole waits in
         let room = whole.room.units in
-        let now : Some (record { header = Some r; payload = u.0.payload }) ≡ Some x =
-        sym (ap (unit_at view) e ∙ get_or-set_same a.units s _ None (omega arith) ∙ ap (λ o. stamped o (Some r)) u.1) ∙ is
+        let now : Some (record { header = Is r; payload = u.0.payload }) ≡ Some x =
+        sym (ap (unit_at view) e ∙ get_or-set_same a.units s _ None (omega arith) ∙ ap (λ o. stamped o (Is r)) u.1) ∙ is
         in
         ap (λ (y : Stored). length y.payload) (sym (some_is _ _ now)) ∙ whole.sized s u.0 u.1
     sized t x is (inr ne) = whole.sized t x (sym (get_or-set_other a.units s t _ None ne) ∙ is)
@@ -220,7 +223,7 @@ commit_whole a s b v h whole inside block waits ok = record {
         let u = waits_unit a s whole waits in
         let room = whole.room.units in
         let long : s < length a.units = omega arith in
-        ap (λ n. is_some (unit_at view n)) e ∙ ap is_some (get_or-set_same a.units s _ None long) ∙ ap (λ o. is_some (stamped o (Some r))) u.1
+        ap (λ n. is_some (unit_at view n)) e ∙ ap is_some (get_or-set_same a.units s _ None long) ∙ ap (λ o. is_some (stamped o (Is r))) u.1
     stored t (inr ne) kept = ap is_some (get_or-set_other a.units s t _ None ne) ∙ whole.stored t before
       where
         before : kept_at a t ≡ Nothing → ⊥
@@ -249,7 +252,7 @@ key_set keys r inside above block = go (cases_eq block r.block)
         omega arith
 
 -- the map of a log that grows by a commit's record is the table's
-pub commit_map : (a : ArrayView) (F : Flat) (b : ℕ) (found : Option Record) (r : Record) (s : ℕ) → ShowsArray a F → IsWhole a → r.block ≡ b → b < a.sizes.blocks → key_at a b < key_of r
+pub commit_map : (a : ArrayView) (F : Flat) (b : ℕ) (found : Option Record) (r : Record) (s : ℕ) → ShowsArray a F → IsWhole a → r.block ≡ b → b < a.groups.blocks → key_at a b < key_of r
     → IsMapOf (F.emitted ++ r ∷ []) (key_at (commit_view a s b found r))
 commit_map a F b found r s shows whole is inside above =
     took F.emitted r (key_at a) (key_at (commit_view a s b found r))
@@ -266,7 +269,7 @@ pub commit_tables : (a : ArrayView) (F : Flat) (w s b : ℕ) (writes : List Writ
     → Passes IsArrays F w s b (record_at b (key_at a b))
     → InTables (commit_view a s b (record_at b (key_at a b)) r) (committed F w s b (record_at b (key_at a b)) writes x r)
 commit_tables a F w s b writes x r inside waits whole shows passes = record {
-  sizes = shows.tables.sizes;
+  lost = shows.tables.lost;
   drives = shows.tables.drives;
   log = ap (λ l. l ++ r ∷ []) shows.tables.log;
   groups = shows.tables.groups;
@@ -290,16 +293,16 @@ commit_tables a F w s b writes x r inside waits whole shows passes = record {
         (passed_on F w s b (record_at b (key_at a b)) t) (put F.tickets s None t) (put F.units s (stamped (F.units s) (header_for r x)) t)
 
     here : P s
-    here = slot_same (Newest b) (kept_at (commit_view a s b (record_at b (key_at a b)) r) s) (stamped (unit_at a s) (Some r)) (unit_at (commit_view a s b (record_at b (key_at a b)) r) s)
+    here = slot_same (Newest b) (kept_at (commit_view a s b (record_at b (key_at a b)) r) s) (stamped (unit_at a s) (Is r)) (unit_at (commit_view a s b (record_at b (key_at a b)) r) s)
         (passed_on F w s b (record_at b (key_at a b)) s) (passed_on F w s b (record_at b (key_at a b)) s) None (put F.tickets s None s)
         (stamped (F.units s) (header_for r x)) (put F.units s (stamped (F.units s) (header_for r x)) s)
-        (kept_here a s b (record_at b (key_at a b)) r kept_room) (get_or-set_same a.units s (stamped (unit_at a s) (Some r)) None units_room) refl
+        (kept_here a s b (record_at b (key_at a b)) r kept_room) (get_or-set_same a.units s (stamped (unit_at a s) (Is r)) None units_room) refl
         (put_here F.tickets s None) (put_here F.units s (stamped (F.units s) (header_for r x)))
-        (block_slot (stamped (unit_at a s) (Some r)) (stamped (F.units s) (header_for r x)) (passed_on F w s b (record_at b (key_at a b)) s) b None passes.here refl
-        (ap (λ o. stamped o (Some r)) (shows.tables.slots s).unit_is))
+        (block_slot (stamped (unit_at a s) (Is r)) (stamped (F.units s) (header_for r x)) (passed_on F w s b (record_at b (key_at a b)) s) b None passes.here refl
+        (ap (λ o. stamped o (Is r)) (shows.tables.slots s).unit_is))
 
     unit_else : (t : ℕ) → (t ≡ s → ⊥) → unit_at (commit_view a s b (record_at b (key_at a b)) r) t ≡ unit_at a t
-    unit_else t ne = get_or-set_other a.units s t (stamped (unit_at a s) (Some r)) None ne
+    unit_else t ne = get_or-set_other a.units s t (stamped (unit_at a s) (Is r)) None ne
 
     same : (t : ℕ) → (t ≡ s → ⊥) → ((q : Record) → record_at b (key_at a b) ≡ Some q → t ≡ q.place → ⊥) → P t
     same t ne off = slot_same (kept_at a t) (kept_at (commit_view a s b (record_at b (key_at a b)) r) t) (unit_at a t) (unit_at (commit_view a s b (record_at b (key_at a b)) r) t)

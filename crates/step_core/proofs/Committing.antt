@@ -6,7 +6,7 @@ use Rattle.map_join.specs.declared.records.Record.{Record}
 use Rattle.map_join.specs.Record.{key_of, record_of, record_at, IsRecord}
 use Rattle.flat_machine.specs.declared.refusal.Refusal.{Refusal}
 use Rattle.flat_machine.specs.declared.refusal.Refusal.TheVariants.{NoTicket, Outrun, VersionSpent, LogFull}
-use Rattle.flat_machine.specs.Sizes.{Sizes}
+use Rattle.extent_groups.specs.Groups.{Groups}
 use Rattle.flat_machine.specs.Flat.{Flat, Write, Content, Ticket, Waiting, Fresh, Moved, or_else, IsNewest, IsArrays, for_ticket, for_block}
 use Rattle.flat_machine.specs.Steps.{Commit, Committed, Refused}
 use Rattle.flat_machine.specs.Cases.{CommitCase, CommitWith, CommitPasses, IsFor, HasStamp, IsWanted, committed, next_version, last_version, longest_log}
@@ -19,6 +19,7 @@ use Rattle.step_core.specs.Changes.{commit_view, commit_record, commit_reason, c
 use Rattle.step_core.specs.Views.{Kept, Nothing, Pending, Moving, Newest, is_waiting, ArrayView, kept_at, key_at, IsWhole}
 use Rattle.step_core.specs.Represents.{ShowsArray, IsTicketOf}
 use Rattle.step_core.proofs.Newest.{newest_told}
+use Rattle.step_core.proofs.Fares.{itself, none_gone}
 use Rattle.step_core.proofs.Slots.{shows_after}
 use Rattle.step_core.proofs.Kepts.{ticket_held, unticketed}
 use Rattle.step_core.proofs.Commits.{commit_map, commit_tables}
@@ -96,7 +97,7 @@ version_most a b whole none =
     omega arith
 
 -- the record that a commit emits is in range
-fresh_ok : (a : ArrayView) (s b : ℕ) → IsWhole a → s < 65536 → b < a.sizes.blocks → version_reason (record_at b (key_at a b)) ≡ None
+fresh_ok : (a : ArrayView) (s b : ℕ) → IsWhole a → s < 65536 → b < a.groups.blocks → version_reason (record_at b (key_at a b)) ≡ None
     → IsRecord (emitted_by b s (next_version (record_at b (key_at a b))) 0)
 fresh_ok a s b whole inside block none =
     let n = whole.blocks in
@@ -107,7 +108,7 @@ fresh_ok a s b whole inside block none =
     one None = omega arith
     one (Some q) = omega arith
 
-moved_ok : (a : ArrayView) (s b : ℕ) (q : Record) → IsWhole a → s < 65536 → b < a.sizes.blocks → kept_at a s ≡ Moving q
+moved_ok : (a : ArrayView) (s b : ℕ) (q : Record) → IsWhole a → s < 65536 → b < a.groups.blocks → kept_at a s ≡ Moving q
     → IsStamped q b (record_at b (key_at a b)) → IsRecord (emitted_by b s q.version (q.hop + 1))
 moved_ok a s b q whole inside block is now =
     let n = whole.blocks in
@@ -118,7 +119,7 @@ moved_ok a s b q whole inside block is now =
     let moves = whole.moving s q is in
     record { block = omega arith; written = omega arith; version = omega arith; hop = omega arith; place = omega arith }
 
-pub commit_ok : (a : ArrayView) (s b : ℕ) → IsWhole a → s < 65536 → b < a.sizes.blocks → commit_reason a s b (record_at b (key_at a b)) ≡ None
+pub commit_ok : (a : ArrayView) (s b : ℕ) → IsWhole a → s < 65536 → b < a.groups.blocks → commit_reason a s b (record_at b (key_at a b)) ≡ None
     → IsRecord (commit_record a s b (record_at b (key_at a b)))
 commit_ok a s b whole inside block none = go (kept_at a s) refl none
   where
@@ -142,11 +143,11 @@ IsCommit a F w s b v h =
 short : (a : ArrayView) (F : Flat) → ShowsArray a F → full_reason a ≡ None → length F.emitted < longest_log
 short a F shows none = subst (λ (l : List Record). length l < longest_log) (sym shows.tables.log) (room_left a none)
 
-in_blocks : (a : ArrayView) (F : Flat) (b : ℕ) → ShowsArray a F → b < a.sizes.blocks → b < F.sizes.blocks
-in_blocks a F b shows block = subst (λ (z : Sizes). b < z.blocks) (sym shows.tables.sizes) block
+in_blocks : (a : ArrayView) (F : Flat) (b : ℕ) → ShowsArray a F → b < a.groups.blocks → b < F.groups.blocks
+in_blocks a F b shows block = subst (λ (z : Groups). b < z.blocks) (sym shows.tables.groups) block
 
 -- what is ready to be committed, and is the flat machine's case, is
-carried : (a : ArrayView) (F : Flat) (w s b : ℕ) (c : Waiting) (x : Content) (v h : ℕ) (writes : List Write) → IsWhole a → s < 65536 → b < a.sizes.blocks → is_waiting (kept_at a s) ≡ true
+carried : (a : ArrayView) (F : Flat) (w s b : ℕ) (c : Waiting) (x : Content) (v h : ℕ) (writes : List Write) → IsWhole a → s < 65536 → b < a.groups.blocks → is_waiting (kept_at a s) ≡ true
     → ShowsArray a F → IsReady F (key_at a) w s b (record_at b (key_at a b)) c v h writes
     → CommitCase F w s b (Committed (emitted_by b s v h)) (committed F w s b (record_at b (key_at a b)) writes x (emitted_by b s v h))
     → IsCommit a F w s b v h
@@ -163,7 +164,7 @@ carried a F w s b c x v h writes whole inside block waits shows ready case = (
     above : key_at a b < key_of (emitted_by b s v h)
     above = let e = ready.above in omega arith
 
-commit_fresh : (a : ArrayView) (F : Flat) (w s b : ℕ) (x : Content) → IsWhole a → s < 65536 → b < a.sizes.blocks → kept_at a s ≡ Pending → F.tickets s ≡ Some (Fresh x)
+commit_fresh : (a : ArrayView) (F : Flat) (w s b : ℕ) (x : Content) → IsWhole a → s < 65536 → b < a.groups.blocks → kept_at a s ≡ Pending → F.tickets s ≡ Some (Fresh x)
     → F.held s (Ticket w) ≡ true → version_reason (record_at b (key_at a b)) ≡ None → full_reason a ≡ None → ShowsArray a F
     → IsCommit a F w s b (next_version (record_at b (key_at a b))) 0
 commit_fresh a F w s b x whole inside block waits ticket mine left room shows =
@@ -179,11 +180,11 @@ commit_fresh a F w s b x whole inside block waits ticket mine left room shows =
         subst (λ c. CommitWith F w s b (record_at b (key_at a b)) c (Committed (emitted_by b s (next_version (record_at b (key_at a b))) 0))
             (committed F w s b (record_at b (key_at a b)) (F.writes ++ record { block = b; version = next_version (record_at b (key_at a b)); content = x } ∷ []) x
             (emitted_by b s (next_version (record_at b (key_at a b))) 0))) (sym ticket)
-            (version_most a b whole left, short a F shows room, refl, refl),
+            (version_most a b whole left, short a F shows room, none_gone a F shows s, refl, itself _),
       ),
     )
 
-commit_moved : (a : ArrayView) (F : Flat) (w s b : ℕ) (q : Record) (x : Content) → IsWhole a → s < 65536 → b < a.sizes.blocks → kept_at a s ≡ Moving q
+commit_moved : (a : ArrayView) (F : Flat) (w s b : ℕ) (q : Record) (x : Content) → IsWhole a → s < 65536 → b < a.groups.blocks → kept_at a s ≡ Moving q
     → F.tickets s ≡ Some (Moved q.block q.version q.hop x) → F.held s (Ticket w) ≡ true → IsStamped q b (record_at b (key_at a b)) → full_reason a ≡ None → ShowsArray a F
     → IsCommit a F w s b q.version (q.hop + 1)
 commit_moved a F w s b q x whole inside block waits ticket mine now room shows =
@@ -196,7 +197,7 @@ commit_moved a F w s b q x whole inside block waits ticket mine now room shows =
         record_at b (key_at a b),
         newest_told a F b shows,
         subst (λ c. CommitWith F w s b (record_at b (key_at a b)) c (Committed (emitted_by b s q.version (q.hop + 1)))
-            (committed F w s b (record_at b (key_at a b)) F.writes x (emitted_by b s q.version (q.hop + 1)))) (sym ticket) (stamps, short a F shows room, refl, refl),
+            (committed F w s b (record_at b (key_at a b)) F.writes x (emitted_by b s q.version (q.hop + 1)))) (sym ticket) (stamps, short a F shows room, none_gone a F shows s, refl, itself _),
       ),
     )
   where
@@ -204,7 +205,7 @@ commit_moved a F w s b q x whole inside block waits ticket mine now room shows =
     stamps = subst (λ o. HasStamp o q.version q.hop) (sym now.found_is) (now.version, now.hop)
 
 -- where nothing speaks against it, the commit is the flat machine's
-pub commit_case : (a : ArrayView) (F : Flat) (w s b : ℕ) → IsWhole a → s < 65536 → b < a.sizes.blocks
+pub commit_case : (a : ArrayView) (F : Flat) (w s b : ℕ) → IsWhole a → s < 65536 → b < a.groups.blocks
     → commit_reason a s b (record_at b (key_at a b)) ≡ None → ShowsArray a F → (F.tickets s ≢ None → F.held s (Ticket w) ≡ true)
     → (G : Flat) × (CommitCase F w s b (Committed (commit_record a s b (record_at b (key_at a b)))) G)
     × (ShowsArray (commit_view a s b (record_at b (key_at a b)) (commit_record a s b (record_at b (key_at a b)))) G)
@@ -260,7 +261,7 @@ commit_refused a F w s b q whole some shows mine = go (kept_at a s) refl some
     P r = MayRefuse r (IsWanted F (Commit w s b)) (CommitCase F w s b (Refused r) F)
 
     no_ticket : is_waiting (kept_at a s) ≡ false → Some NoTicket ≡ Some q → P q
-    no_ticket waits e = subst P (same_Some _ _ e) (inl (unticketed a F w s waits shows), refl)
+    no_ticket waits e = subst P (same_Some _ _ e) (inl (unticketed a F w s waits shows), itself F)
 
     -- what the flat machine asks of any answer but that there is no ticket
     with_ticket : (c : Waiting) (r : Refusal) → F.tickets s ≡ Some c → F.held s (Ticket w) ≡ true → IsFor (Some c) b
@@ -281,8 +282,8 @@ commit_refused a F w s b q whole some shows mine = go (kept_at a s) refl some
 
     fresh : (x : Content) → F.tickets s ≡ Some (Fresh x) → F.held s (Ticket w) ≡ true → (p : Bool) → (next_version (record_at b (key_at a b)) == last_version + 1) ≡ p
         → or_else (cond p (Some VersionSpent) None) (full_reason a) ≡ Some q → P q
-    fresh x t held true is_p e = subst P (same_Some _ _ e) (with_ticket (Fresh x) VersionSpent t held tt (equal_back _ _ is_p, refl))
-    fresh x t held false is_p e = full _ refl e (λ long. with_ticket (Fresh x) LogFull t held tt (under, long, refl))
+    fresh x t held true is_p e = subst P (same_Some _ _ e) (with_ticket (Fresh x) VersionSpent t held tt (equal_back _ _ is_p, itself F))
+    fresh x t held false is_p e = full _ refl e (λ long. with_ticket (Fresh x) LogFull t held tt (under, long, itself F))
       where
         under : next_version (record_at b (key_at a b)) ≤ last_version
         under =
@@ -291,7 +292,7 @@ commit_refused a F w s b q whole some shows mine = go (kept_at a s) refl some
             omega arith
 
     another : (m : Record) (x : Content) → F.tickets s ≡ Some (Moved m.block m.version m.hop x) → (m.block ≡ b → ⊥) → Some NoTicket ≡ Some q → P q
-    another m x t ne e = subst P (same_Some _ _ e) (inr (λ for. ne (subst (λ c. IsFor c b) t for)), refl)
+    another m x t ne e = subst P (same_Some _ _ e) (inr (λ for. ne (subst (λ c. IsFor c b) t for)), itself F)
 
     unwritten : (m : Record) (x : Content) → F.tickets s ≡ Some (Moved m.block m.version m.hop x) → record_at b (key_at a b) ≡ None → m.block ≡ b → ⊥
     unwritten m x t none same =
@@ -303,7 +304,7 @@ commit_refused a F w s b q whole some shows mine = go (kept_at a s) refl some
     outrun : (m n : Record) (x : Content) → F.tickets s ≡ Some (Moved m.block m.version m.hop x) → F.held s (Ticket w) ≡ true → record_at b (key_at a b) ≡ Some n → m.block ≡ b
         → (HasStamp (Some n) m.version m.hop → ⊥) → Some (Outrun n) ≡ Some q → P q
     outrun m n x t held told same passed e = subst P (same_Some _ _ e)
-        (with_ticket (Moved m.block m.version m.hop x) (Outrun n) t held same (told, (λ has. passed (subst (λ o. HasStamp o m.version m.hop) told has)), refl))
+        (with_ticket (Moved m.block m.version m.hop x) (Outrun n) t held same (told, (λ has. passed (subst (λ o. HasStamp o m.version m.hop) told has)), itself F))
 
     copy : (m : Record) (x : Content) → F.tickets s ≡ Some (Moved m.block m.version m.hop x) → F.held s (Ticket w) ≡ true → (o : Option Record) → record_at b (key_at a b) ≡ o
         → or_else (stamp_reason m b o) (full_reason a) ≡ Some q → P q
@@ -316,7 +317,7 @@ commit_refused a F w s b q whole some shows mine = go (kept_at a s) refl some
         at true is_i false is_j k is_k e = outrun m n x t held told (equal_back _ _ is_i) (λ has. let no : true ≡ false = sym (equal _ _ has.0) ∙ is_j in cc) e
         at true is_i true is_j false is_k e = outrun m n x t held told (equal_back _ _ is_i) (λ has. let no : true ≡ false = sym (equal _ _ has.1) ∙ is_k in cc) e
         at true is_i true is_j true is_k e = full _ refl e (λ long. with_ticket (Moved m.block m.version m.hop x) LogFull t held (equal_back _ _ is_i)
-            (subst (λ o. HasStamp o m.version m.hop) (sym told) (equal_back _ _ is_j, equal_back _ _ is_k), long, refl))
+            (subst (λ o. HasStamp o m.version m.hop) (sym told) (equal_back _ _ is_j, equal_back _ _ is_k), long, itself F))
 
     go : (k : Kept) → kept_at a s ≡ k → commit_reason_of a k b (record_at b (key_at a b)) ≡ Some q → P q
     go Nothing is e = no_ticket (ap is_waiting is) e

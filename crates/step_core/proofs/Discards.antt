@@ -11,6 +11,7 @@ use Rattle.flat_machine.proofs.Pairs.{put_here, put_else, turned_else, turned_ju
 use Rattle.step_core.specs.Changes.{discard_view}
 use Rattle.step_core.specs.Views.{Kept, Nothing, Moving, Newest, ArrayView, kept_at, unit_at, key_at, is_waiting, IsWhole}
 use Rattle.step_core.specs.Represents.{ArraySlot, InTables, ShowsArray}
+use Rattle.step_core.proofs.Fares.{itself}
 use Rattle.step_core.proofs.Slots.{worker_slot, slot_same, one_slot, shows_after}
 use Rattle.step_core.proofs.Kepts.{waiting_newest, unticketed}
 
@@ -20,7 +21,6 @@ discard_whole a s inside waits whole = record {
   room = record {
     kept = length-set a.kept s Nothing ∙ whole.room.kept;
     units = whole.room.units;
-    groups = whole.room.groups;
     keys = whole.room.keys;
   };
   blocks = whole.blocks;
@@ -32,6 +32,9 @@ discard_whole a s inside waits whole = record {
   stored = λ t kept. whole.stored t (λ none. kept (nothing t none (cases_eq t s)));
   sized = whole.sized;
   groups = whole.groups;
+  agree = whole.agree;
+  rows = whole.rows;
+  wide = whole.wide;
 }
   where
     here : kept_at (discard_view a s) s ≡ Nothing
@@ -60,7 +63,7 @@ discard_case a F w s inside waits whole shows mine =
     (discarded F w s, case, shows_after a (discard_view a s) F (discarded F w s) (Discard w s) (Discarded s) shows tt case shows.history.map tables)
   where
     case : DiscardCase F w s (Discarded s) (discarded F w s)
-    case = (refl, mine, refl)
+    case = (refl, mine, itself (discarded F w s))
 
     P : ℕ → Type 0
     P t = ArraySlot (kept_at (discard_view a s) t) (unit_at a t) ((discarded F w s).held t) ((discarded F w s).tickets t) (F.units t)
@@ -84,7 +87,7 @@ discard_case a F w s inside waits whole shows mine =
 
     tables : InTables (discard_view a s) (discarded F w s)
     tables = record {
-      sizes = shows.tables.sizes;
+      lost = shows.tables.lost;
       drives = shows.tables.drives;
       log = shows.tables.log;
       groups = shows.tables.groups;
@@ -93,4 +96,4 @@ discard_case a F w s inside waits whole shows mine =
 
 -- where nothing waits there is no ticket
 pub discard_refused : (a : ArrayView) (F : Flat) (w s : ℕ) → is_waiting (kept_at a s) ≡ false → ShowsArray a F → DiscardCase F w s (Refused NoTicket) F
-discard_refused a F w s waits shows = (unticketed a F w s waits shows, refl)
+discard_refused a F w s waits shows = (unticketed a F w s waits shows, itself F)

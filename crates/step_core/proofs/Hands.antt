@@ -11,6 +11,7 @@ use Rattle.step_core.specs.declared.hand.Hand.TheVariants.{Empty, Holds, Waits}
 use Rattle.step_core.specs.Views.{Kept, Nothing, Pending, Moving, Newest, ArrayView, WorldView, kept_at, unit_at, key_at, hand_at, is_kept, has_no_holder}
 use Rattle.step_core.specs.Represents.{HandSlot, ArraySlot, InTables, Represents, is_claim, is_ticket}
 use Rattle.step_core.proofs.Kepts.{kept_iff, nothing_kept}
+use Rattle.step_core.proofs.Fares.{itself}
 use Rattle.step_core.proofs.Slots.{worker_hand, one_slot, shows_after}
 use Rattle.flat_machine.proofs.Holding.{step_holds, once_any}
 use Rattle.flat_machine.proofs.Claims.{with_worker, without_worker}
@@ -23,7 +24,7 @@ with_held F held = record F { held = held }
 pub hands_move : (a : ArrayView) (F : Flat) (H : ℕ → Holder → Bool) → ((t : ℕ) (k : Holder) → IsArrays k → H t k ≡ F.held t k)
     → InTables a F → InTables a (with_held F H)
 hands_move a F H same is = record {
-  sizes = is.sizes;
+  lost = is.lost;
   drives = is.drives;
   log = is.log;
   groups = is.groups;
@@ -91,7 +92,7 @@ claim_case v F w s small inside free rep = (
     is_free = free_holder v F s rep none.0 none.1
 
     case : ClaimCase F w s (Claimed s) (with_held F (with_pair F.held s (Worker w)))
-    case = (refl, is_free, refl)
+    case = (refl, is_free, itself (with_held F (with_pair F.held s (Worker w))))
 
     kept : (t : ℕ) (k : Holder) → IsArrays k → H t k ≡ F.held t k
     kept = with_worker F w s
@@ -99,7 +100,7 @@ claim_case v F w s small inside free rep = (
 -- a slot with a holder is taken
 pub taken_case : (v : WorldView) (F : Flat) (w s : ℕ) → has_no_holder (kept_at v.array s) (hand_at v.hands s) ≡ false → Represents v F
     → ClaimCase F w s (Taken s) F
-taken_case v F w s held rep = (refl, holder (hand_at v.hands s) refl, refl)
+taken_case v F w s held rep = (refl, holder (hand_at v.hands s) refl, itself F)
   where
     kept_of_not : (k : Kept) → not (is_kept k) ≡ false → is_kept k ≡ true
     kept_of_not Nothing e = absurd (cc)
@@ -140,14 +141,14 @@ release_case v F w s inside is_held rep = (
     held = (rep.hands s).claims w ∙ is_held
 
     case : ReleaseCase F w s (Released s) (with_held F (without_pair F.held s (Worker w)))
-    case = (refl, held, refl)
+    case = (refl, held, itself (with_held F (without_pair F.held s (Worker w))))
 
     kept : (t : ℕ) (k : Holder) → IsArrays k → H t k ≡ F.held t k
     kept = without_worker F w s
 
 -- a worker without a claim of the slot has nothing to release
 pub unheld_case : (v : WorldView) (F : Flat) (w s : ℕ) → is_claim (hand_at v.hands s) w ≡ false → Represents v F → ReleaseCase F w s (NotHeld s) F
-unheld_case v F w s held rep = (refl, (rep.hands s).claims w ∙ held, refl)
+unheld_case v F w s held rep = (refl, (rep.hands s).claims w ∙ held, itself F)
 
 -- what holds of some state for one world does for an equal one
 pub as_world : (P : Flat → Type 0) (u v : WorldView) → u ≡ v → (G : Flat) × (P G) × (Represents v G) → (G : Flat) × (P G) × (Represents u G)

@@ -1,7 +1,7 @@
 -- What the array keeps of a slot is what the flat state's holders say.
 use Rattle.std.proofs.Common.{◌≡◌, ◌≢◌, ◌↔◌, ℕ, Bool, true, false, IsTrue, refl, sym, ap, ◌∙◌, Option, Some, None}
 use Rattle.flat_machine.specs.Flat.{Flat, Holder, Ticket, Block, IsArrays, for_ticket, for_block, for_shut, IsKept, Waiting, Fresh, Moved, Stored}
-use Rattle.flat_machine.specs.Groups.{Made}
+use Rattle.extent_groups.specs.Groups.{Groups}
 use Rattle.flat_machine.specs.History.{HoldersStand}
 use Rattle.flat_machine.proofs.Pairs.{equal}
 use Rattle.step_core.specs.Views.{Kept, Nothing, Pending, Moving, Newest, ArrayView, kept_at, key_at, is_kept, is_waiting}
@@ -27,20 +27,20 @@ ticket_there Nothing t e is = absurd (cc)
 ticket_there (Newest b) t e is = absurd (cc)
 
 -- what is kept is held by a ticket or a block, and what isn't by neither
-kept_holder : (groups : ℕ → Option Made) (keys : ℕ → ℕ) (s : ℕ) (kept : Kept) (o u : Option Stored) (held : Holder → Bool) (t : Option Waiting)
+kept_holder : (groups : Groups) (keys : ℕ → ℕ) (s : ℕ) (kept : Kept) (o u : Option Stored) (held : Holder → Bool) (t : Option Waiting)
     → HoldersStand groups keys s held t → ArraySlot kept o held t u → IsTrue (is_kept kept) → (k : Holder) × (IsArrays k) × (held k ≡ true)
 kept_holder groups keys s Nothing o u held t is slot e = absurd (cc)
 kept_holder groups keys s Pending o u held t is slot e = let w = is.waits (Fresh slot.waits.0) slot.waits.1 in (Ticket w.0, for_ticket w.0, w.1)
 kept_holder groups keys s (Moving r) o u held t is slot e = let w = is.waits (Moved r.block r.version r.hop slot.waits.0) slot.waits.1 in (Ticket w.0, for_ticket w.0, w.1)
 kept_holder groups keys s (Newest b) o u held t is slot e = (Block b, for_block b, slot.blocks b ∙ equal b b refl)
 
-pub nothing_kept : (groups : ℕ → Option Made) (keys : ℕ → ℕ) (s : ℕ) (o u : Option Stored) (held : Holder → Bool) (t : Option Waiting)
+pub nothing_kept : (groups : Groups) (keys : ℕ → ℕ) (s : ℕ) (o u : Option Stored) (held : Holder → Bool) (t : Option Waiting)
     → HoldersStand groups keys s held t → ArraySlot Nothing o held t u → (k : Holder) → IsArrays k → held k ≡ false
 nothing_kept groups keys s o u held t is slot _ (for_ticket w) = never (held (Ticket w)) (λ e. is.waiting w e slot.waits)
 nothing_kept groups keys s o u held t is slot _ (for_block b) = slot.blocks b
 nothing_kept groups keys s o u held t is slot _ (for_shut g) = slot.shut g
 
-holder_kept : (groups : ℕ → Option Made) (keys : ℕ → ℕ) (s : ℕ) (kept : Kept) (o u : Option Stored) (held : Holder → Bool) (t : Option Waiting)
+holder_kept : (groups : Groups) (keys : ℕ → ℕ) (s : ℕ) (kept : Kept) (o u : Option Stored) (held : Holder → Bool) (t : Option Waiting)
     → HoldersStand groups keys s held t → ArraySlot kept o held t u → (k : Holder) → IsArrays k → held k ≡ true → IsTrue (is_kept kept)
 holder_kept groups keys s Nothing o u held t is slot k of e = let bad : true ≡ false = sym e ∙ nothing_kept groups keys s o u held t is slot k of in absurd (cc)
 holder_kept groups keys s Pending o u held t is slot k of e = refl

@@ -1,5 +1,6 @@
 pub mod Tables
 pub mod Kepts
+pub mod Fares
 pub mod Slots
 pub mod Newest
 pub mod Fills

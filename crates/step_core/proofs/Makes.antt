@@ -1,125 +1,133 @@
--- The tests that come before a group is made.
-use Rattle.std.proofs.Common.{◌≡◌, ◌≢◌, ℕ, ◌+◌, ◌<◌, ◌≤◌, true, List, length, get_or, take, Any, All, refl, sym, ap, ◌∙◌, subst, arith, ◌⊎◌, inl, inr, Option, Some, None, is_some}
-use Rattle.std.proofs.lemmas.List.{get_or-take, length-take-le}
-use Rattle.flat_machine.specs.declared.group.Member.{Member}
+-- The tests that come before a group is made, and its units put into the table.
+use Rattle.std.proofs.Common.{◌≡◌, ◌≢◌, ℕ, zero, suc, ◌+◌, ◌<◌, ◌≤◌, Bool, true, false, ◌==◌, ◌||◌, cond, List, [], ◌∷◌, length, get_or, All, refl, sym, ap, ◌∙◌, subst, arith, ◌⊎◌, inl, inr, Option, Some, None, is_some, nat_lt}
+use Rattle.std.specs.Prelude.{slice_get}
+use Rattle.std.specs.List.{list_any}
 use Rattle.std.proofs.lemmas.List.{length-map}
-use Rattle.std.proofs.lemmas.Option.{same_Some}
-use Rattle.std.specs.Option.{option_map, IsSomeAnd}
-use Rattle.step_core.specs.declared.group.Group.{Group}
+use Rattle.std.specs.Option.{option_map}
 use Rattle.std.proofs.Math.ListN.{set}
 use Rattle.std.proofs.lemmas.List.{get_or-set_same, get_or-set_other}
 use Rattle.std.proofs.lemmas.Bool.{cases_eq}
 use Rattle.std.proofs.lemmas.Bool.Decides.{nat_tests}
+use Rattle.extents.specs.Owners.{Owners, owner_of}
+use Rattle.extent_groups.specs.declared.class.Member.{Member}
+use Rattle.extent_groups.specs.declared.refusal.GroupRefusal.{GroupRefusal}
+use Rattle.extent_groups.specs.declared.refusal.GroupRefusal.TheVariants as fault
+use Rattle.extent_groups.specs.Faults.{is_on, shares_drive, is_owned, put_fault}
+use Rattle.extent_groups.specs.Groups.{Groups, group_at, members_of, AreThere, AreGroups, IsFree, Agree, Stands}
+use Rattle.extent_groups.proofs.GroupsLemmas.{none_owned, spread_of}
+use Rattle.flat_machine.specs.Groups.{AreMembers, AreApart, AreUnowned, IsLowestFree}
+use Rattle.flat_machine.proofs.Pairs.{equal_back}
 use Rattle.step_core.specs.declared.stored.StoredUnit.{StoredUnit}
 use Rattle.flat_machine.specs.Flat.{Stored}
-use Rattle.step_core.specs.Making.{ArePlaced, placed}
-use Rattle.step_core.specs.Kept.{made_of, groups_of, stored_of, units_of}
-use Rattle.flat_machine.specs.Groups.{Made, AreApart, AreUnowned, HaveCommon, IsLowestFree}
-use Rattle.step_core.proofs.Tables.{get_or_any, get_or_past, group_there}
+use Rattle.step_core.specs.Making.{ArePlaced, placed, told_of, IsMakeReason}
+use Rattle.step_core.specs.Kept.{stored_of, units_of}
+use Rattle.step_core.specs.Views.{ArrayView, IsWhole}
 
--- a member whose drive stands before it speaks against them
-pub apart_not : (ms : List Member) (i drive : ℕ) → ((d : Member) → (get_or ms i d).drive ≡ drive) → i < length ms
-    → Any (λ m. m.drive ≡ drive) (take i ms) → AreApart ms → ⊥
-apart_not ms i drive is inside (k, x, short, at, same) apart =
-    let long = length-take-le i ms (omega arith) in
-    let before : k < i = omega arith in
-    apart k i x before inside (ap (λ (m : Member). m.drive) (sym (get_or-take i ms k x before) ∙ at) ∙ same ∙ sym (is x))
-
--- one member more whose drive stands nowhere before it
-pub apart_more : (ms : List Member) (i drive : ℕ) → ((d : Member) → (get_or ms i d).drive ≡ drive) → i < length ms
-    → (Any (λ m. m.drive ≡ drive) (take i ms) → ⊥)
-    → ((j k : ℕ) (d : Member) → j < k → k < i → (get_or ms j d).drive ≢ (get_or ms k d).drive)
-    → (j k : ℕ) (d : Member) → j < k → k < i + 1 → (get_or ms j d).drive ≢ (get_or ms k d).drive
-apart_more ms i drive is inside none so_far j k d below high same = go (last k)
+-- an element that passes a test
+any_true : {X : Type 0} (p : X → Bool) (xs : List X) → list_any p xs ≡ true → (k : ℕ) × (x : X) × (slice_get xs k ≡ Some x) × (p x ≡ true)
+any_true p [] e = absurd (cc)
+any_true {X} p (x ∷ xs) e = go (p x) refl (λ f. any_true p xs f)
   where
-    last : (n : ℕ) → (n < i) ⊎ (n ≡ i) ⊎ (i < n)
-    last n = grind arith
+    go : (b : Bool) → p x ≡ b → (list_any p xs ≡ true → (k : ℕ) × (y : X) × (slice_get xs k ≡ Some y) × (p y ≡ true))
+        → (k : ℕ) × (y : X) × (slice_get (x ∷ xs) k ≡ Some y) × (p y ≡ true)
+    go true is later = (0, x, refl, is)
+    go false is later = let r = later (sym (ap (λ b. b || list_any p xs) is) ∙ e) in (suc r.0, r.1, r.2, r.3)
 
-    go : (k < i) ⊎ (k ≡ i) ⊎ (i < k) → ⊥
-    go (inl h) = so_far j k d below h same
-    go (inr (inl e)) =
-        let long = length-take-le i ms (omega arith) in
-        let before : j < i = omega arith in
-        let short : j < length (take i ms) = omega arith in
-        none (j, get_or ms j d, short, get_or-take i ms j (get_or ms j d) before ∙ get_or_any ms j (get_or ms j d) d (omega arith), same ∙ ap (λ n. (get_or ms n d).drive) e ∙ is d)
-    go (inr (inr h)) = omega arith
+next_apart : (m : Member) (ms : List Member) → AreApart (m ∷ ms) → AreApart ms
+next_apart m ms apart j k a b at bt d = let e : suc j ≡ suc k = apart (suc j) (suc k) a b at bt d in omega arith
 
--- one group more that is there
-pub made_more : (groups : List (Option Group)) (i : ℕ) (x : Option Group) → i < length groups → x ≡ get_or groups i x → is_some x ≡ true
-    → ((h : ℕ) → h < i → get_or (groups_of groups) h None ≢ None) → (h : ℕ) → h < i + 1 → get_or (groups_of groups) h None ≢ None
-made_more groups i x inside is some so_far h high none = go (last h)
+-- two members on one drive speak against them
+shared_not : (ms : List Member) → shares_drive ms ≡ true → AreApart ms → ⊥
+shared_not [] e apart = cc
+shared_not (m ∷ ms) e apart = go (is_on m.drive ms) refl (λ f. shared_not ms f)
   where
-    last : (n : ℕ) → (n < i) ⊎ (i ≤ n)
-    last n = grind arith
+    go : (b : Bool) → is_on m.drive ms ≡ b → (shares_drive ms ≡ true → AreApart ms → ⊥) → ⊥
+    go true is later =
+        let r = any_true (λ (n : Member). n.drive == m.drive) ms is in
+        let bad : 0 ≡ suc r.0 = apart 0 (suc r.0) m r.1 refl r.2 (sym (equal_back r.1.drive m.drive r.3)) in
+        omega arith
+    go false is later = later (sym (ap (λ b. b || shares_drive ms) is) ∙ e) (next_apart m ms apart)
 
-    go : (h < i) ⊎ (i ≤ h) → ⊥
-    go (inl low) = so_far h low none
-    go (inr top) =
-        let e : h ≡ i = omega arith in
-        let seen : option_map made_of x ≡ None = ap (option_map made_of) is ∙ sym (group_there groups i x inside) ∙ ap (λ n. get_or (groups_of groups) n None) (sym e) ∙ none in
-        there x some seen
-      where
-        there : (o : Option Group) → is_some o ≡ true → option_map made_of o ≡ None → ⊥
-        there (Some g) t e = cc
-        there None t e = cc
+some_of : (o : Option ℕ) → is_some o ≡ true → (n : ℕ) × (o ≡ Some n)
+some_of (Some n) e = (n, refl)
+some_of None e = absurd (cc)
 
--- the groups before one that isn't there are, so its number is the lowest free one
-pub lowest_is : (groups : List (Option Group)) (i : ℕ) (x : Option Group) → i < length groups → length groups ≡ 512 → x ≡ get_or groups i x → x ≡ None
-    → ((h : ℕ) → h < i → get_or (groups_of groups) h None ≢ None) → IsLowestFree (λ g. get_or (groups_of groups) g None) i
-lowest_is groups i x inside long is none so_far = record {
-  limit = omega arith;
-  free = group_there groups i x inside ∙ ap (option_map made_of) (sym is ∙ none);
+-- an extent that is owned speaks against the members, and where none is no group has one
+owned_not : (groups : Groups) (owners : Owners) (ms : List Member) → Agree groups owners → list_any (is_owned owners) ms ≡ true → AreUnowned groups ms → ⊥
+owned_not groups owners ms agree e unowned =
+    let r = any_true (is_owned owners) ms e in
+    let g = some_of (owner_of owners r.1.drive r.1.extent) r.3 in
+    unowned g.0 r.1.drive r.1.extent (agree.stands g.0 r.1.drive r.1.extent g.1) (r.0, r.2)
+
+unowned_of : (groups : Groups) (owners : Owners) (ms : List Member) → Agree groups owners → list_any (is_owned owners) ms ≡ false → AreUnowned groups ms
+unowned_of groups owners ms agree none g drive extent theirs mine =
+    let m : Member = record { drive = drive; extent = extent } in
+    let free : owner_of owners drive extent ≡ None = none_owned owners ms mine.0 m none mine.1 in
+    let owned : owner_of owners drive extent ≡ Some g = (agree.owned g theirs.0 m theirs.1).1 in
+    let bad : None ≡ Some g = sym free ∙ owned in
+    cc
+
+-- the tests of the extents are those of the flat machine
+pub members_of_test : (a : ArrayView) (ms : List Member) → IsWhole a → (3 ≤ length ms) × (length ms ≤ 8) × AreThere a.owners ms → AreMembers a.groups.extents a.drives ms
+members_of_test a ms whole are = record {
+  least = are.0;
+  most = are.1;
+  there = λ k m at.
+      let is = are.2 k m at in
+      let within = is.within in let inside = is.inside in let rows = whole.rows in let wide = whole.wide in
+      (omega arith, omega arith);
+}
+
+pub test_of_members : (a : ArrayView) (ms : List Member) → IsWhole a → AreMembers a.groups.extents a.drives ms → (3 ≤ length ms) × (length ms ≤ 8) × AreThere a.owners ms
+test_of_members a ms whole are = (
+  are.least,
+  are.most,
+  λ k m at.
+      let low = (are.there k m at).0 in let small = (are.there k m at).1 in let rows = whole.rows in let wide = whole.wide in
+      record { within = omega arith; inside = omega arith },
+)
+
+-- what the test finds of three to eight members
+abbrev last : Bool → Bool → Option GroupRefusal
+last x y = cond x (Some fault.SameDrive) (cond y (Some fault.ExtentTaken) None)
+
+-- why members make no group is told by what the test of them found
+pub reason_told : (a : ArrayView) (ms : List Member) → IsWhole a → (3 ≤ length ms) × (length ms ≤ 8) × AreThere a.owners ms → IsMakeReason a ms (told_of (put_fault a.owners ms))
+reason_told a ms whole are = subst (λ o. IsMakeReason a ms (told_of o)) (sym is) (go (shares_drive ms) refl (list_any (is_owned a.owners) ms) refl)
+  where
+    few : (n : ℕ) → 3 ≤ n → nat_lt n 3 ≡ false
+    few n h = grind (arith, nat_tests)
+
+    many : (n : ℕ) → n ≤ 8 → nat_lt 8 n ≡ false
+    many n h = grind (arith, nat_tests)
+
+    is : put_fault a.owners ms ≡ last (shares_drive ms) (list_any (is_owned a.owners) ms)
+    is = ap (λ b. cond b (Some fault.TooFew) (cond (nat_lt 8 (length ms)) (Some fault.TooMany) (last (shares_drive ms) (list_any (is_owned a.owners) ms)))) (few (length ms) are.0)
+        ∙ ap (λ b. cond b (Some fault.TooMany) (last (shares_drive ms) (list_any (is_owned a.owners) ms))) (many (length ms) are.1)
+
+    go : (x : Bool) → shares_drive ms ≡ x → (y : Bool) → list_any (is_owned a.owners) ms ≡ y → IsMakeReason a ms (told_of (last (shares_drive ms) (list_any (is_owned a.owners) ms)))
+    go true is_x y is_y = subst (λ b. IsMakeReason a ms (told_of (last b (list_any (is_owned a.owners) ms)))) (sym is_x) (members_of_test a ms whole are, shared_not ms is_x)
+    go false is_x true is_y = subst (λ b. IsMakeReason a ms (told_of (last b (list_any (is_owned a.owners) ms)))) (sym is_x)
+        (subst (λ b. IsMakeReason a ms (told_of (last false b))) (sym is_y) (members_of_test a ms whole are, spread_of ms is_x, owned_not a.groups a.owners ms whole.agree is_y))
+    go false is_x false is_y = subst (λ b. IsMakeReason a ms (told_of (last b (list_any (is_owned a.owners) ms)))) (sym is_x)
+        (subst (λ b. IsMakeReason a ms (told_of (last false b))) (sym is_y) (members_of_test a ms whole are, spread_of ms is_x, unowned_of a.groups a.owners ms whole.agree is_y))
+
+-- the numbers before one that is free are made, so it is the lowest
+pub lowest_is : (groups : Groups) (n : ℕ) → AreGroups groups → IsFree groups n → ((h : ℕ) → h < n → group_at groups h ≢ None) → IsLowestFree groups n
+lowest_is groups n are free so_far = record {
+  limit = let within = free.within in let numbers = are.numbers in omega arith;
+  free = free.free;
   below = so_far;
 }
 
--- a group with one of the members speaks against them
-pub owned_not : (groups : List (Option Group)) (i : ℕ) (x : Option Group) (members : List Member) → i < length groups → x ≡ get_or groups i x
-    → IsSomeAnd x (λ g. HaveCommon g.members.items members) → AreUnowned (λ g. get_or (groups_of groups) g None) members → ⊥
-owned_not groups i x members inside is owns unowned = go x refl owns
+-- one number more that is made
+pub made_more : (groups : Groups) (n : ℕ) → AreGroups groups → n < 512 → (IsFree groups n → ⊥) → ((h : ℕ) → h < n → group_at groups h ≢ None)
+    → (h : ℕ) → h < n + 1 → group_at groups h ≢ None
+made_more groups n are low made so_far h high none = go (cases_eq h n)
   where
-    go : (o : Option Group) → x ≡ o → IsSomeAnd o (λ g. HaveCommon g.members.items members) → ⊥
-    go (Some g) e common = unowned i (made_of g) (group_there groups i x inside ∙ ap (option_map made_of) (sym is ∙ e)) common
-    go None e none = none
-
-pub unowned_more : (groups : List (Option Group)) (i : ℕ) (x : Option Group) (members : List Member) → i < length groups → x ≡ get_or groups i x
-    → (IsSomeAnd x (λ g. HaveCommon g.members.items members) → ⊥)
-    → ((g : ℕ) (made : Made) → g < i → get_or (groups_of groups) g None ≡ Some made → HaveCommon made.members members → ⊥)
-    → (g : ℕ) (made : Made) → g < i + 1 → get_or (groups_of groups) g None ≡ Some made → HaveCommon made.members members → ⊥
-unowned_more groups i x members inside is none so_far g made high here common = go (last g)
-  where
-    last : (n : ℕ) → (n < i) ⊎ (i ≤ n)
-    last n = grind arith
-
-    go : (g < i) ⊎ (i ≤ g) → ⊥
-    go (inl low) = so_far g made low here common
-    go (inr top) =
-        let e : g ≡ i = omega arith in
-        let seen : option_map made_of x ≡ Some made =
-        ap (option_map made_of) is ∙ sym (group_there groups i x inside) ∙ ap (λ n. get_or (groups_of groups) n None) (sym e) ∙ here
-        in
-        there x refl seen
-      where
-        there : (o : Option Group) → x ≡ o → option_map made_of o ≡ Some made → ⊥
-        there (Some q) is_q e =
-            let same : made_of q ≡ made = same_Some _ _ e in
-            none (subst (λ o. IsSomeAnd o (λ y. HaveCommon y.members.items members)) (sym is_q) (subst (λ (m : Made). HaveCommon m.members members) (sym same) common))
-        there None is_q e = cc
-
--- where no group below the table's end has one, none has
-pub unowned_all : (groups : List (Option Group)) (i : ℕ) (members : List Member) → length groups ≤ i
-    → ((g : ℕ) (made : Made) → g < i → get_or (groups_of groups) g None ≡ Some made → HaveCommon made.members members → ⊥)
-    → AreUnowned (λ g. get_or (groups_of groups) g None) members
-unowned_all groups i members end all g made here common = go (side g i)
-  where
-    side : (m n : ℕ) → (m < n) ⊎ (n ≤ m)
-    side m n = grind arith
-
-    go : (g < i) ⊎ (i ≤ g) → ⊥
-    go (inl h) = all g made h here common
-    go (inr h) =
-        let long = length-map groups (option_map made_of) in
-        let bad : None ≡ Some made = sym (get_or_past (groups_of groups) g None (omega arith)) ∙ here in
-        cc
+    go : (h ≡ n) ⊎ (h ≡ n → ⊥) → ⊥
+    go (inl e) = made (record { within = let numbers = are.numbers in omega arith; free = ap (group_at groups) (sym e) ∙ none })
+    go (inr ne) = so_far h (omega arith) none
 
 -- a unit more of those that are alike, in the table
 pub placed_more : (old : List (Option StoredUnit)) (from : ℕ) (units : List StoredUnit) (new next : List (Option StoredUnit)) (i : ℕ) (x : StoredUnit)

@@ -17,7 +17,7 @@ pub newest_is : (a : ArrayView) (F : Flat) (block : ℕ) (o : Option Record) →
 newest_is a F block o shows found = subst (IsNewest F.emitted block) found (newest_told a F block shows)
 
 -- a map that has the keys of all blocks below a number that no block reaches, and no more, is the table's
-pub map_whole : (a : ArrayView) (M : ℕ → ℕ) (i : ℕ) → IsRoomy a → a.sizes.blocks ≤ i
+pub map_whole : (a : ArrayView) (M : ℕ → ℕ) (i : ℕ) → IsRoomy a → a.groups.blocks ≤ i
     → ((b : ℕ) → b < i → M b ≡ key_at a b) → ((b : ℕ) → i ≤ b → M b ≡ 0) → IsSame M (key_at a)
 map_whole a M i room end before rest b = go (side b i)
   where

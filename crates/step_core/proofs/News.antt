@@ -1,13 +1,17 @@
 -- A new array stands for the new flat state.
-use Rattle.std.proofs.Common.{◌≡◌, ℕ, ◌≤◌, List, get_or, refl, sym, ap, ◌∙◌, subst, arith, Option, None}
+use Rattle.std.proofs.Common.{◌≡◌, ℕ, ◌≤◌, nat_le, List, get_or, refl, sym, ap, ◌∙◌, subst, arith, Option, None}
 use Rattle.std.proofs.Math.ListN.{get_or-map}
 use Rattle.std.specs.Option.{option_map}
 use Rattle.step_core.specs.declared.place.Place.{Place}
 use Rattle.step_core.specs.declared.place.Place.TheVariants as place
 use Rattle.step_core.specs.declared.stored.StoredUnit.{StoredUnit}
-use Rattle.step_core.specs.declared.group.Group.{Group}
-use Rattle.flat_machine.specs.Sizes.{Sizes, AreSizes}
-use Rattle.step_core.specs.Kept.{kept_of, kepts_of, stored_of, units_of, made_of, groups_of}
+use Rattle.flat_machine.specs.Groups.{AreSizes}
+use Rattle.step_core.specs.Kept.{kept_of, kepts_of, stored_of, units_of}
+use Rattle.extents.specs.declared.shape.Shape.{Shape}
+use Rattle.extents.specs.Shapes.{IsShapeOf}
+use Rattle.extents.specs.Sizes.{IsExtentCount, IsSegmentCount, IsPayloadSize, IsBlockCount}
+use Rattle.extent_groups.specs.Groups.{Groups}
+use Rattle.extent_groups.proofs.Fresh.{free_groups, no_members}
 use Rattle.flat_machine.specs.Flat.{new_flat}
 use Rattle.flat_machine.specs.History.{IsHistory}
 use Rattle.flat_machine.proofs.Keeps.{new_history}
@@ -20,13 +24,10 @@ none_kept places all s = get_or-map kept_of places s place.Free ∙ ap kept_of (
 pub none_stored : (units : List (Option StoredUnit)) → ((s : ℕ) → get_or units s None ≡ None) → (s : ℕ) → get_or (units_of units) s None ≡ None
 none_stored units all s = get_or-map (option_map stored_of) units s None ∙ ap (option_map stored_of) (all s)
 
-pub none_made : (groups : List (Option Group)) → ((g : ℕ) → get_or groups g None ≡ None) → (g : ℕ) → get_or (groups_of groups) g None ≡ None
-none_made groups all g = get_or-map (option_map made_of) groups g None ∙ ap (option_map made_of) (all g)
-
-pub new_whole : (z : Sizes) (d : ℕ) (a : ArrayView) → IsNew z d a → z.blocks ≤ 65536 → IsWhole a
-new_whole z d a new narrow = record {
+pub new_whole : (d : ℕ) (a : ArrayView) → IsNew d a → AreSizes a.groups → IsWhole a
+new_whole d a new sizes = record {
   room = new.room;
-  blocks = subst (λ (y : Sizes). y.blocks ≤ 65536) (sym new.sizes_are) narrow;
+  blocks = sizes.some_blocks.1;
   fit = λ b. let e = new.keys b in omega arith;
   keys = λ b some. let e = new.keys b in absurd (omega arith);
   newest = λ b some. let e = new.keys b in absurd (omega arith);
@@ -35,20 +36,31 @@ new_whole z d a new narrow = record {
   stored = λ s kept. absurd (kept (new.kept s));
   sized = λ s u is. let e = new.units s in absurd (cc);
   groups = record {
-    limit = λ g made is. let e = new.groups g in absurd (cc);
-    members = λ g made is. let e = new.groups g in absurd (cc);
-    owned = λ g h m n is. let e = new.groups g in absurd (cc);
+    table = free_groups a.groups new.empty.free new.empty.numbers sizes.some_segments.0 sizes.some_segments.1;
+    there = λ g k m at. absurd (no_members a.groups g k m (new.empty.free g) at);
   };
+  agree = new.agree;
+  rows = new.rows ∙ sym new.drives_are;
+  wide = new.wide;
 }
 
-pub new_shows : (z : Sizes) (d : ℕ) (a : ArrayView) → IsNew z d a → AreSizes z → 3 ≤ d → d ≤ 16 → ShowsArray a (new_flat z d)
-new_shows z d a new sizes least most = record {
-  history = subst (IsHistory (new_flat z d)) (sym keys_are) (new_history z d sizes least most);
+-- the sizes of a shape are within their limits
+pub shape_sizes : (z : Shape) (g : Groups) → IsShapeOf z g.extents g.segments g.payload g.blocks → AreSizes g
+shape_sizes z g is = record {
+  some_extents = subst IsExtentCount is.of_extents z.in_range.some_extents;
+  some_segments = subst IsSegmentCount is.of_segments z.in_range.some_segments;
+  some_payload = subst IsPayloadSize is.of_payload z.in_range.some_payload;
+  some_blocks = subst IsBlockCount is.of_blocks z.in_range.some_blocks;
+}
+
+pub new_shows : (d : ℕ) (a : ArrayView) → IsNew d a → AreSizes a.groups → 3 ≤ d → d ≤ 16 → ShowsArray a (new_flat a.groups d (nat_le d) (λ _. 0))
+new_shows d a new sizes least most = record {
+  history = subst (IsHistory (new_flat a.groups d (nat_le d) (λ _. 0))) (sym keys_are) (new_history a.groups d (nat_le d) (λ _. 0) sizes new.empty least most);
   tables = record {
-    sizes = sym new.sizes_are;
+    groups = refl;
     drives = sym new.drives_are;
+    lost = λ e. ap (λ n. nat_le n e) (sym new.drives_are);
     log = sym new.log;
-    groups = λ g. sym (new.groups g);
     slots = λ s. rw (new.kept s, new.units s) (record { blocks = λ b. refl; shut = λ g. refl; waits = refl; unit_is = refl });
   };
 }

@@ -3,14 +3,14 @@ use Rattle.std.proofs.Common.{◌≡◌, ℕ, zero, suc, ◌+◌, ◌<◌, ◌�
 use Rattle.std.proofs.lemmas.List.{map_more, map-append}
 use Rattle.std.proofs.lemmas.List.Elements.{All-get_or}
 use Rattle.step_core.specs.declared.step.Step.{Step}
+use Rattle.step_core.specs.declared.step.Step.TheVariants as step
 use Rattle.step_core.specs.declared.step.Answer.{Answer}
-use Rattle.flat_machine.specs.Sizes.{Sizes}
 use Rattle.step_core.specs.Told.{flat_step, flat_answer, FitsStep}
 use Rattle.flat_machine.specs.Steps.{FlatStep, FlatAnswer}
 use Rattle.flat_machine.specs.Cases.{Case, Runs}
 use Rattle.flat_machine.specs.Flat.{Flat}
 use Rattle.flat_machine.proofs.Newest.{map_unique}
-use Rattle.step_core.specs.Views.{WorldView, key_at}
+use Rattle.step_core.specs.Views.{ArrayView, WorldView, SameSizes, key_at}
 use Rattle.step_core.specs.Represents.{Represents}
 use Rattle.step_core.specs.Headline.{Stands}
 
@@ -31,10 +31,28 @@ stands w F rep = record {
   every = λ records M same is. map_unique records F.emitted M (key_at w.array) same is rep.array.history.map;
 }
 
--- a step of a list that fits sizes fits sizes that are the same
-pub fits_at : (steps : List Step) (i : ℕ) (step : Step) → i < length steps → step ≡ get_or steps i step → (y z : Sizes) → y ≡ z → All (FitsStep z) steps → FitsStep y step
-fits_at steps i step inside is y z same all =
-    subst (λ v. FitsStep v step) (sym same) (subst (FitsStep z) (sym is) (All-get_or (FitsStep z) steps i step inside all))
+-- a step that fits an array fits one of the same sizes
+fits_same : (a b : ArrayView) (step : Step) → SameSizes a b → FitsStep a.groups step → FitsStep b.groups step
+fits_same a b (step.Claim w s) same fits = fits
+fits_same a b (step.Release w s) same fits = fits
+fits_same a b (step.Fill w s payload) same fits = (fits.0, fits.1 ∙ sym same.payload)
+fits_same a b (step.Copy w s c) same fits = (fits.0, subst (λ n. c < n) (sym same.blocks) fits.1)
+fits_same a b (step.Commit w s c) same fits = (fits.0, subst (λ n. c < n) (sym same.blocks) fits.1)
+fits_same a b (step.Discard w s) same fits = fits
+fits_same a b (step.Read c) same fits = subst (λ n. c < n) (sym same.blocks) fits
+fits_same a b (step.ReadAt r) same fits = subst (λ n. r.block < n) (sym same.blocks) fits
+fits_same a b (step.Make class members) same fits = fits
+
+pub fits_at : (steps : List Step) (i : ℕ) (one : Step) → i < length steps → one ≡ get_or steps i one → (a b : ArrayView) → SameSizes a b → All (FitsStep a.groups) steps
+    → FitsStep b.groups one
+fits_at steps i one inside is a b same all =
+    fits_same a b one same (subst (FitsStep a.groups) (sym is) (All-get_or (FitsStep a.groups) steps i one inside all))
+
+pub sizes_same : (a : ArrayView) → SameSizes a a
+sizes_same a = record { payload = refl; blocks = refl }
+
+pub sizes_again : (a b c : ArrayView) → SameSizes a b → SameSizes b c → SameSizes a c
+sizes_again a b c one two = record { payload = two.payload ∙ one.payload; blocks = two.blocks ∙ one.blocks }
 
 -- a run over the first steps goes one step further
 pub runs_step : (F M G : Flat) (steps : List Step) (answers next : List Answer) (i : ℕ) (step : Step) (answer : Answer)

@@ -10,6 +10,8 @@ use Rattle.flat_machine.specs.Cases.{ReadAtCase, IsSeen, IsAhead, IsWanted}
 use Rattle.step_core.specs.Changes.{MayRefuse}
 use Rattle.step_core.specs.Views.{ArrayView, unit_at, key_at}
 use Rattle.step_core.specs.Represents.{ShowsArray}
+use Rattle.extents.specs.Header.{record_in}
+use Rattle.step_core.proofs.Fares.{itself, none_gone}
 use Rattle.step_core.proofs.Newest.{newest_told, newest_is}
 
 -- a record that is ahead of the newest is refused
@@ -18,21 +20,21 @@ pub ahead_case : (W : Type 0) (a : ArrayView) (F : Flat) (r : Record) (q : Refus
     → MayRefuse q W (ReadAtCase F r (Refused q) F)
 ahead_case W a F r q shows is ahead =
     subst (λ p. MayRefuse p W (ReadAtCase F r (Refused p) F)) (sym is)
-    (newest_told a F r.block shows, ahead, refl)
+    (newest_told a F r.block shows, ahead, itself F)
 
 -- of any other, what lies at its place is seen
 pub seen_case : (a : ArrayView) (F : Flat) (r n : Record) (seen : Seen) → ShowsArray a F → record_at r.block (key_at a r.block) ≡ Some n
     → key_of r ≤ key_of n → IsSeen (unit_at a r.place) r seen → ReadAtCase F r (FoundAt seen) F
 seen_case a F r n seen shows found most is =
-    ((n, newest_is a F r.block (Some n) shows found, most), subst (λ o. IsSeen o r seen) (sym (shows.tables.slots r.place).unit_is) is, refl)
+    ((n, newest_is a F r.block (Some n) shows found, most), none_gone a F shows r.place, subst (λ o. IsSeen o r seen) (sym (shows.tables.slots r.place).unit_is) is, itself F)
 
 -- also where memory is wanted for its payload
 pub data_case : (a : ArrayView) (F : Flat) (r n : Record) (u : Stored) → ShowsArray a F → record_at r.block (key_at a r.block) ≡ Some n
-    → key_of r ≤ key_of n → unit_at a r.place ≡ Some u → u.header ≡ Some r → ReadAtCase F r (FoundAt (Data (content_in u))) F
+    → key_of r ≤ key_of n → unit_at a r.place ≡ Some u → record_in u.header ≡ Some r → ReadAtCase F r (FoundAt (Data (content_in u))) F
 data_case a F r n u shows found most unit header =
     seen_case a F r n (Data (content_in u)) shows found most (subst (λ o. IsSeen o r (Data (content_in u))) (sym unit) (header, refl))
 
 pub wanted_case : (a : ArrayView) (F : Flat) (r n : Record) (u : Stored) → ShowsArray a F → record_at r.block (key_at a r.block) ≡ Some n
-    → key_of r ≤ key_of n → unit_at a r.place ≡ Some u → u.header ≡ Some r → IsWanted F (ReadAt r)
+    → key_of r ≤ key_of n → unit_at a r.place ≡ Some u → record_in u.header ≡ Some r → IsWanted F (ReadAt r)
 wanted_case a F r n u shows found most unit header =
-    let x = data_case a F r n u shows found most unit header in (x.0.0, x.0.1, x.0.2, (content_in u, x.1))
+    (n, newest_is a F r.block (Some n) shows found, most)

@@ -59,7 +59,7 @@ one_slot P s here rest t = go (cases_eq t s)
     go (inr ne) = rest t ne
 
 -- an array after a step stands for the state after it, where its tables and its map are that state's
-pub shows_after : (a b : ArrayView) (F G : Flat) (step : FlatStep) (answer : FlatAnswer) → ShowsArray a F → IsStep F.sizes step → Case F step answer G
+pub shows_after : (a b : ArrayView) (F G : Flat) (step : FlatStep) (answer : FlatAnswer) → ShowsArray a F → IsStep F.groups step → Case F step answer G
     → IsMapOf G.emitted (key_at b) → InTables b G → ShowsArray b G
 shows_after a b F G step answer shows fits case map tables =
     record { history = step_keeps F G (key_at a) (key_at b) step answer shows.history fits case map; tables = tables }

@@ -8,8 +8,7 @@ use Rattle.step_core.specs.declared.place.Place.{Place}
 use Rattle.step_core.specs.declared.place.Place.TheVariants as place
 use Rattle.std.specs.Option.{option_map}
 use Rattle.step_core.specs.declared.stored.StoredUnit.{StoredUnit}
-use Rattle.step_core.specs.declared.group.Group.{Group}
-use Rattle.step_core.specs.Kept.{kept_of, kepts_of, stored_of, units_of, made_of, groups_of, IsOf, AreOf}
+use Rattle.step_core.specs.Kept.{kept_of, kepts_of, stored_of, units_of, IsOf, AreOf}
 use Rattle.step_core.specs.Views.{Nothing}
 
 -- what is kept at a place
@@ -24,16 +23,9 @@ kepts_set places s p = map-set kept_of places s p
 pub units_set : (units : List (Option StoredUnit)) (s : ℕ) (u : StoredUnit) → units_of (set units s (Some u)) ≡ set (units_of units) s (Some (stored_of u))
 units_set units s u = map-set (option_map stored_of) units s (Some u)
 
-pub groups_set : (groups : List (Option Group)) (g : ℕ) (q : Group) → groups_of (set groups g (Some q)) ≡ set (groups_of groups) g (Some (made_of q))
-groups_set groups g q = map-set (option_map made_of) groups g (Some q)
-
 pub unit_there : (units : List (Option StoredUnit)) (s : ℕ) (d : Option StoredUnit) → s < length units
     → get_or (units_of units) s None ≡ option_map stored_of (get_or units s d)
 unit_there units s d h = get_or-map (option_map stored_of) units s d None h
-
-pub group_there : (groups : List (Option Group)) (s : ℕ) (d : Option Group) → s < length groups
-    → get_or (groups_of groups) s None ≡ option_map made_of (get_or groups s d)
-group_there groups s d h = get_or-map (option_map made_of) groups s d None h
 
 -- one place with a claim of its slot put in, each place has a claim of its slot
 pub claims_put : {C : Type 0} (names : C → ℕ) (places : List (Place C)) (s : ℕ) (p : Place C)

@@ -6,11 +6,11 @@ use Rattle.std.proofs.lemmas.Bool.{cases_eq}
 use Rattle.std.proofs.lemmas.Option.{same_Some}
 use Rattle.map_join.specs.declared.records.Record.{Record}
 use Rattle.map_join.specs.Record.{record_at, IsRecord}
-use Rattle.flat_machine.specs.declared.group.Class.{Class}
-use Rattle.flat_machine.specs.declared.group.Member.{Member}
+use Rattle.extent_groups.specs.declared.class.Class.{Class}
+use Rattle.extent_groups.specs.declared.class.Member.{Member}
 use Rattle.flat_machine.specs.Flat.{Flat, Write, Content, Worker, Ticket, Waiting, Fresh, Moved, IsNewest, turned}
 use Rattle.flat_machine.specs.Steps.{Filled, Copied, Committed, Discarded, MadeGroup, Fill, Copy, Commit, Discard, Make}
-use Rattle.flat_machine.specs.Cases.{FillCase, CopyCase, ticketed, CommitCase, CommitWith, committed, DiscardCase, discarded, MakeCase, made}
+use Rattle.flat_machine.specs.Cases.{FillCase, CopyCase, ticketed, CommitCase, CommitWith, committed, DiscardCase, discarded, MakeCase, made, Leaves}
 use Rattle.flat_machine.proofs.Newest.{newest_unique, place_small}
 use Rattle.flat_machine.proofs.Pairs.{turned_else, turned_just, just_one, Any}
 use Rattle.flat_machine.proofs.Passing.{Passes, passed, passed_on}
@@ -25,9 +25,9 @@ use Rattle.step_core.proofs.Slots.{worker_hand, ticket_hand, block_hand, one_slo
 use Rattle.flat_machine.proofs.Holding.{step_holds, once_any}
 use Rattle.flat_machine.specs.History.{IsStep}
 
--- the hands of a state that is another by an equation
-hands_as : (hs : List Hand) (G E : Flat) → G ≡ E → ((t : ℕ) → HandSlot (hand_at hs t) (E.held t)) → (t : ℕ) → HandSlot (hand_at hs t) (G.held t)
-hands_as hs G E leaves hands t = subst (λ (H : Flat). HandSlot (hand_at hs t) (H.held t)) (sym leaves) (hands t)
+-- the hands of a state that another left
+hands_as : (hs : List Hand) (G E : Flat) → Leaves E G → ((t : ℕ) → HandSlot (hand_at hs t) (E.held t)) → (t : ℕ) → HandSlot (hand_at hs t) (G.held t)
+hands_as hs G E leaves hands t = subst (λ (H : Flat). HandSlot (hand_at hs t) (H.held t)) (sym leaves.same) (hands t)
 
 -- a worker's claim that became a ticket, and the other way round
 ticket_hands : (v : WorldView) (F : Flat) (w s : ℕ) (c : Waiting) → s < length v.hands → Represents v F → F.held s (Worker w) ≡ true
@@ -42,7 +42,7 @@ discard_hands v F w s inside rep held =
     one_hand v F (discarded F w s) s (Holds w) inside rep.hands (λ t ne. turned_else F.held s (Ticket w) (Worker w) t ne)
     (worker_hand (turned F.held s (Ticket w) (Worker w) s) w (turned_just Any F.held s (Ticket w) (Worker w) (just_one Any (F.held s) (Ticket w) (once_any F rep.held s) tt held)))
 
-pub fill_world : (v : WorldView) (F : Flat) (w s : ℕ) (x : Content) (a : ArrayView) → s < length v.hands → IsStep F.sizes (Fill w s x) → Represents v F → is_claim (hand_at v.hands s) w ≡ true
+pub fill_world : (v : WorldView) (F : Flat) (w s : ℕ) (x : Content) (a : ArrayView) → s < length v.hands → IsStep F.groups (Fill w s x) → Represents v F → is_claim (hand_at v.hands s) w ≡ true
     → (t : ℕ) → t ≡ s → (G : Flat) × (FillCase F w t x (Filled t) G) × (ShowsArray a G)
     → (G : Flat) × (FillCase F w s x (Filled s) G) × (Represents (record { array = a; hands = set v.hands s (Waits w) }) G)
 fill_world v F w s x a inside fits rep held t same z =
@@ -52,11 +52,11 @@ fill_world v F w s x a inside fits rep held t same z =
       record {
         array = y.2;
         held = step_holds F y.0 (key_at v.array) (Fill w s x) (Filled s) rep.array.history rep.held fits y.1;
-        hands = hands_as (set v.hands s (Waits w)) y.0 (ticketed F w s (Fresh x)) y.1.2 (ticket_hands v F w s (Fresh x) inside rep ((rep.hands s).claims w ∙ held));
+        hands = hands_as (set v.hands s (Waits w)) y.0 (ticketed F w s (Fresh x)) y.1.3 (ticket_hands v F w s (Fresh x) inside rep ((rep.hands s).claims w ∙ held));
       },
     )
 
-pub copy_world : (v : WorldView) (F : Flat) (w s b : ℕ) (a : ArrayView) → s < length v.hands → IsStep F.sizes (Copy w s b) → Represents v F → is_claim (hand_at v.hands s) w ≡ true
+pub copy_world : (v : WorldView) (F : Flat) (w s b : ℕ) (a : ArrayView) → s < length v.hands → IsStep F.groups (Copy w s b) → Represents v F → is_claim (hand_at v.hands s) w ≡ true
     → (t : ℕ) → t ≡ s → (G : Flat) × (CopyCase F w t b (Copied t) G) × (ShowsArray a G)
     → (G : Flat) × (CopyCase F w s b (Copied s) G) × (Represents (record { array = a; hands = set v.hands s (Waits w) }) G)
 copy_world v F w s b a inside fits rep held t same z =
@@ -67,7 +67,7 @@ copy_world v F w s b a inside fits rep held t same z =
       record {
         array = y.2;
         held = step_holds F y.0 (key_at v.array) (Copy w s b) (Copied s) rep.array.history rep.held fits y.1;
-        hands = hands_as (set v.hands s (Waits w)) y.0 (ticketed F w s c) y.1.1.4 (ticket_hands v F w s c inside rep ((rep.hands s).claims w ∙ held));
+        hands = hands_as (set v.hands s (Waits w)) y.0 (ticketed F w s c) y.1.1.6 (ticket_hands v F w s c inside rep ((rep.hands s).claims w ∙ held));
       },
     )
 
@@ -87,14 +87,14 @@ discard_world v F w s a inside rep held t same z =
 
 -- the state that a commit leaves, told by the newest record
 commit_leaves : (F G : Flat) (w s b : ℕ) (found : Option Record) (r : Record) → ((q : Record) → Contains F.emitted q → IsRecord q) → IsNewest F.emitted b found → CommitCase F w s b (Committed r) G
-    → (writes : List Write) × (x : Content) × (G ≡ committed F w s b found writes x r)
+    → (writes : List Write) × (x : Content) × (Leaves (committed F w s b found writes x r) G)
 commit_leaves F G w s b found r all newest y =
     of (F.tickets s) (subst (λ o. CommitWith F w s b o (F.tickets s) (Committed r) G) (newest_unique F.emitted b all y.2.0 found y.2.1 newest) y.2.2)
   where
-    of : (c : Option Waiting) → CommitWith F w s b found c (Committed r) G → (writes : List Write) × (x : Content) × (G ≡ committed F w s b found writes x r)
+    of : (c : Option Waiting) → CommitWith F w s b found c (Committed r) G → (writes : List Write) × (x : Content) × (Leaves (committed F w s b found writes x r) G)
     of None z = absurd z
-    of (Some (Fresh x)) z = (_, x, z.3)
-    of (Some (Moved d i h x)) z = (_, x, z.3)
+    of (Some (Fresh x)) z = (_, x, z.4)
+    of (Some (Moved d i h x)) z = (_, x, z.4)
 
 commit_hands : (v : WorldView) (F : Flat) (w s b : ℕ) (found : Option Record) → s < length v.hands → ((q : Record) → found ≡ Some q → q.place < length v.hands) → Represents v F → Passes Any F w s b found
     → (t : ℕ) → HandSlot (hand_at (passed_hands v.hands s w found) t) (passed_on F w s b found t)
@@ -134,7 +134,7 @@ commit_hands v F w s b found inside small rep passes = by found refl
             go (inl n) = subst P (sym n) (old q is)
             go (inr away) = same t ne (λ p p_is n. away (n ∙ ap (λ (x : Record). x.place) (same_Some p q (sym p_is ∙ is))))
 
-pub commit_world : (v : WorldView) (F : Flat) (w s b : ℕ) (r : Record) (a : ArrayView) → s < 65536 → b < F.sizes.blocks → length v.hands ≡ 65536 → Represents v F → is_ticket (hand_at v.hands s) w ≡ true
+pub commit_world : (v : WorldView) (F : Flat) (w s b : ℕ) (r : Record) (a : ArrayView) → s < 65536 → b < F.groups.blocks → length v.hands ≡ 65536 → Represents v F → is_ticket (hand_at v.hands s) w ≡ true
     → (G : Flat) × (CommitCase F w s b (Committed r) G) × (ShowsArray a G)
     → (G : Flat) × (CommitCase F w s b (Committed r) G) × (Represents (record { array = a; hands = passed_hands v.hands s w (record_at b (key_at v.array b)) }) G)
 commit_world v F w s b r a inside block room rep held y =
@@ -173,7 +173,7 @@ make_world v F class members g a rep y = (
   record {
     array = y.2;
     held = step_holds F y.0 (key_at v.array) (Make class members) (MadeGroup g) rep.array.history rep.held tt y.1;
-    hands = hands_as v.hands y.0 (made F class members g) y.1.1 (λ t. let h = rep.hands t in record {
+    hands = hands_as v.hands y.0 (made F class members g) y.1.2 (λ t. let h = rep.hands t in record {
       claims = λ w. and_true (F.held t (Worker w)) ∙ h.claims w;
       tickets = λ w. and_true (F.held t (Ticket w)) ∙ h.tickets w;
     });

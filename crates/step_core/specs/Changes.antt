@@ -2,16 +2,17 @@
 use Rattle.std.specs.Prelude.{◌≡◌, ℕ, ◌+◌, ◌==◌, ◌&&◌, Bool, nat_le, List, [], ◌∷◌, ◌++◌, length, slice_set, if◌then◌else◌, Option, Some, None}
 use Rattle.map_join.specs.declared.records.Record.{Record}
 use Rattle.map_join.specs.Record.{key_of}
-use Rattle.flat_machine.specs.declared.group.Class.{Class}
-use Rattle.flat_machine.specs.declared.group.Class.TheVariants.{Mirrored, Parity}
+use Rattle.extent_groups.specs.declared.class.Class.{Class}
+use Rattle.extent_groups.specs.declared.class.Class.TheVariants.{Mirrored, Parity}
 use Rattle.flat_machine.specs.declared.refusal.Refusal.{Refusal}
 use Rattle.flat_machine.specs.declared.refusal.Refusal.TheVariants.{Memory, NoGroup, WrongClass, InUse, NoTicket, Outrun, VersionSpent, HopsSpent, Unwritten, LogFull}
 use Rattle.step_core.specs.declared.hand.Hand.{Hand}
 use Rattle.step_core.specs.declared.hand.Hand.TheVariants.{Empty, Holds}
 use Rattle.flat_machine.specs.Groups.{class_at}
-use Rattle.flat_machine.specs.Flat.{or_else}
+use Rattle.flat_machine.specs.Flat.{or_else, blank_header}
+use Rattle.extents.specs.declared.header.Header.TheVariants.{Is}
 use Rattle.flat_machine.specs.Cases.{stamped, next_version, last_version, last_hop, longest_log}
-use Rattle.step_core.specs.Views.{Kept, Nothing, Pending, Moving, Newest, ArrayView, kept_at, unit_at, group_at}
+use Rattle.step_core.specs.Views.{Kept, Nothing, Pending, Moving, Newest, ArrayView, kept_at, unit_at}
 
 -- memory is wanted only where the step would be carried out, and any other refusal is the case p
 abbrev pub MayRefuse : Refusal → Type 0 → Type 0 → Type 0
@@ -22,7 +23,7 @@ MayRefuse _ done p = p
 abbrev pub wait_view : ArrayView → ℕ → Kept → List ℕ → ArrayView
 wait_view a slot kept payload = record a {
   kept = slice_set a.kept slot kept;
-  units = slice_set a.units slot (Some (record { header = None; payload = payload }));
+  units = slice_set a.units slot (Some (record { header = blank_header; payload = payload }));
 }
 
 -- the array after a fill, and after a copy of a record's payload
@@ -40,7 +41,7 @@ fill_reason_of (Some Mirrored) Nothing = None
 fill_reason_of (Some Mirrored) _ = Some InUse
 
 abbrev pub fill_reason : ArrayView → ℕ → Option Refusal
-fill_reason a slot = fill_reason_of (class_at a.sizes.segments (group_at a) slot) (kept_at a slot)
+fill_reason a slot = fill_reason_of (class_at a.groups slot) (kept_at a slot)
 
 -- why a block's newest payload can't be copied into the slot
 abbrev pub copy_reason_of : Option Class → Kept → Option Record → Option Refusal
@@ -50,7 +51,7 @@ copy_reason_of (Some class) Nothing (Some r) = if nat_le last_hop r.hop then Som
 copy_reason_of (Some class) _ _ = Some InUse
 
 abbrev pub copy_reason : ArrayView → ℕ → Option Record → Option Refusal
-copy_reason a slot found = copy_reason_of (class_at a.sizes.segments (group_at a) slot) (kept_at a slot) found
+copy_reason a slot found = copy_reason_of (class_at a.groups slot) (kept_at a slot) found
 
 -- the array after a ticket was given up
 abbrev pub discard_view : ArrayView → ℕ → ArrayView
@@ -67,7 +68,7 @@ commit_view a slot block found r = record a {
   log = a.log ++ r ∷ [];
   keys = slice_set a.keys block (key_of r);
   kept = slice_set (passed a.kept found) slot (Newest block);
-  units = slice_set a.units slot (stamped (unit_at a slot) (Some r));
+  units = slice_set a.units slot (stamped (unit_at a slot) (Is r));
 }
 
 -- why what is kept of a slot can't be committed to a block, given the newest record of the block: last of all the log is full

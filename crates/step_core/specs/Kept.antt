@@ -4,8 +4,6 @@ use Rattle.std.specs.Option.{option_map}
 use Rattle.step_core.specs.declared.place.Place.{Place}
 use Rattle.step_core.specs.declared.place.Place.TheVariants as place
 use Rattle.step_core.specs.declared.stored.StoredUnit.{StoredUnit}
-use Rattle.step_core.specs.declared.group.Group.{Group}
-use Rattle.flat_machine.specs.Groups.{Made}
 use Rattle.flat_machine.specs.Flat.{Stored}
 use Rattle.step_core.specs.Views.{Kept, Nothing, Pending, Moving, Newest}
 
@@ -31,16 +29,9 @@ AreOf names places = (slot : ℕ) → slot < length places → IsOf names slot (
 abbrev pub stored_of : StoredUnit → Stored
 stored_of u = record { header = u.header; payload = u.payload.items }
 
--- a group as plain data
-abbrev pub made_of : Group → Made
-made_of g = record { class = g.class; members = g.members.items }
-
 -- the parts of an array as plain data
 abbrev pub units_of : List (Option StoredUnit) → List (Option Stored)
 units_of units = map (option_map stored_of) units
-
-abbrev pub groups_of : List (Option Group) → List (Option Made)
-groups_of groups = map (option_map made_of) groups
 
 abbrev pub kepts_of : {C : Type 0} → List (Place C) → List Kept
 kepts_of places = map kept_of places

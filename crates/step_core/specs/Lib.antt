@@ -1,4 +1,3 @@
-pub mod Shapes
 pub mod Views
 pub mod Represents
 pub mod Kept
@@ -7,12 +6,11 @@ pub mod Inside
 pub mod Changes
 pub mod Making
 pub mod Headline
-pub use Rattle.flat_machine.specs.Sizes
 pub use Rattle.flat_machine.specs.Groups
 pub use Rattle.flat_machine.specs.Flat
 pub use Rattle.flat_machine.specs.Steps
 pub use Rattle.flat_machine.specs.Cases
 pub use Rattle.flat_machine.specs.Numbers
-pub use Rattle.flat_machine.specs.declared.group.Class
-pub use Rattle.flat_machine.specs.declared.group.Member
+pub use Rattle.extent_groups.specs.declared.class.Class
+pub use Rattle.extent_groups.specs.declared.class.Member
 pub use Rattle.flat_machine.specs.declared.refusal.Refusal

@@ -1,11 +1,11 @@
 -- When an array or a world stands for a flat state: what is true of that state by itself, and what their tables have to do
 -- with it.
-use Rattle.std.specs.Prelude.{◌≡◌, ℕ, ◌==◌, Bool, false, Option, Some, None}
+use Rattle.std.specs.Prelude.{◌≡◌, ℕ, nat_le, ◌==◌, Bool, false, Option, Some, None}
 use Rattle.flat_machine.specs.Flat.{Flat, Content, Holder, Worker, Ticket, Block, Shut, Waiting, Fresh, Moved, Stored}
 use Rattle.flat_machine.specs.History.{IsHistory, AreHeld}
 use Rattle.step_core.specs.declared.hand.Hand.{Hand}
 use Rattle.step_core.specs.declared.hand.Hand.TheVariants.{Holds, Waits}
-use Rattle.step_core.specs.Views.{Kept, Pending, Moving, Newest, ArrayView, WorldView, kept_at, hand_at, group_at, unit_at, key_at}
+use Rattle.step_core.specs.Views.{Kept, Pending, Moving, Newest, ArrayView, WorldView, kept_at, hand_at, unit_at, key_at}
 
 -- the slot is the newest place of the block
 abbrev pub is_newest : Kept → ℕ → Bool
@@ -25,12 +25,12 @@ pub record ArraySlot (kept : Kept) (stored : Option Stored) (held : Holder → B
   pub waits : IsTicketOf kept ticket
   pub unit_is : unit ≡ stored
 
--- the array's tables are the flat state's
+-- the array's tables are the flat state's, and no drive that there is is lost
 pub record InTables (a : ArrayView) (F : Flat) : Type 0 where
-  pub sizes : F.sizes ≡ a.sizes
+  pub groups : F.groups ≡ a.groups
   pub drives : F.drives ≡ a.drives
+  pub lost : (d : ℕ) → F.lost d ≡ nat_le a.drives d
   pub log : F.emitted ≡ a.log
-  pub groups : (g : ℕ) → F.groups g ≡ group_at a g
   pub slots : (s : ℕ) → ArraySlot (kept_at a s) (unit_at a s) (F.held s) (F.tickets s) (F.units s)
 
 -- an array stands for a flat state: all is true of it that is after any steps, with the array's keys as the map of its log,

@@ -6,7 +6,7 @@ use Rattle.step_core.specs.declared.step.Answer.{Answer}
 use Rattle.step_core.specs.declared.step.Answer.TheVariants as answer
 use Rattle.step_core.specs.declared.step.Step.{Step}
 use Rattle.step_core.specs.declared.step.Step.TheVariants as step
-use Rattle.flat_machine.specs.Sizes.{Sizes}
+use Rattle.extent_groups.specs.Groups.{Groups}
 use Rattle.flat_machine.specs.Flat.{Payload}
 use Rattle.step_core.specs.declared.read.At.{At}
 use Rattle.step_core.specs.declared.read.At.TheVariants as at
@@ -53,8 +53,8 @@ flat_step (step.Read b) = Read b
 flat_step (step.ReadAt r) = ReadAt r
 flat_step (step.Make class members) = Make class members.items
 
--- a step of eight workers, over blocks and payloads of these sizes
-abbrev pub FitsStep : Sizes → Step → Type 0
+-- a step of eight workers, over blocks and payloads of an array's sizes
+abbrev pub FitsStep : Groups → Step → Type 0
 FitsStep z (step.Claim w s) = w < 8
 FitsStep z (step.Release w s) = w < 8
 FitsStep z (step.Fill w s payload) = (w < 8) × (length payload.items ≡ z.payload)

@@ -2,8 +2,9 @@
 use Rattle.std.specs.Prelude.{◌≡◌, ◌≢◌, ℕ, ◌<◌, ◌≤◌, ◌^◌, Bool, true, false, is_some, not, List, [], slice_index, slice_index_or, length, Option, Some, None}
 use Rattle.map_join.specs.declared.records.Record.{Record}
 use Rattle.map_join.specs.Record.{record_of}
-use Rattle.flat_machine.specs.Sizes.{Sizes}
-use Rattle.flat_machine.specs.Groups.{Made, AreGroups}
+use Rattle.extents.specs.Owners.{Owners}
+use Rattle.extent_groups.specs.Groups.{Groups, Agree}
+use Rattle.flat_machine.specs.Groups.{GroupsStand, IsEmpty}
 use Rattle.flat_machine.specs.Flat.{Stored}
 use Rattle.step_core.specs.declared.hand.Hand.{Hand}
 use Rattle.step_core.specs.declared.hand.Hand.TheVariants.{Empty, Holds, Waits}
@@ -30,30 +31,28 @@ is_waiting Pending = true
 is_waiting (Moving r) = true
 is_waiting (Newest block) = false
 
--- an array: its log, the key of each block (0 for none), of each slot what is kept and what its unit holds, and its groups
+-- an array: its groups, with its sizes, and who owns which extent; its log, the key of each block (0 for none), and of each slot
+-- what is kept and what its unit holds
 pub record ArrayView : Type 0 where
-  pub sizes : Sizes
+  pub groups : Groups
+  pub owners : Owners
   pub drives : ℕ
   pub log : List Record
   pub keys : List ℕ
   pub kept : List Kept
   pub units : List (Option Stored)
-  pub groups : List (Option Made)
 
 -- a world: an array and the workers' hands, by slot
 pub record WorldView : Type 0 where
   pub array : ArrayView
   pub hands : List Hand
 
--- the tables at a slot, a group or a block; past their ends there is nothing
+-- the tables at a slot or a block; past their ends there is nothing
 abbrev pub kept_at : ArrayView → ℕ → Kept
 kept_at a slot = slice_index_or a.kept slot Nothing
 
 abbrev pub unit_at : ArrayView → ℕ → Option Stored
 unit_at a slot = slice_index_or a.units slot None
-
-abbrev pub group_at : ArrayView → ℕ → Option Made
-group_at a g = slice_index_or a.groups g None
 
 abbrev pub key_at : ArrayView → ℕ → ℕ
 key_at a block = slice_index a.keys block
@@ -67,38 +66,44 @@ has_no_holder kept Empty = not (is_kept kept)
 has_no_holder kept (Holds w) = false
 has_no_holder kept (Waits w) = false
 
--- the tables have a place for each slot, group and block
+-- the tables have a place for each slot and block
 pub record IsRoomy (a : ArrayView) : Type 0 where
   pub kept : length a.kept ≡ 65536
   pub units : length a.units ≡ 65536
-  pub groups : length a.groups ≡ 512
-  pub keys : length a.keys ≡ a.sizes.blocks
+  pub keys : length a.keys ≡ a.groups.blocks
 
 -- what every array keeps: each key is a record's, whose place and no other is kept for that block; what is copied can move
--- on; what is kept has a unit; units have the payload's length; and groups have members that can be one, and share none
+-- on; what is kept has a unit; units have the payload's length; and
+-- groups stand, and agree with the owners of the extents
 pub record IsWhole (a : ArrayView) : Type 0 where
   pub room : IsRoomy a
-  pub blocks : a.sizes.blocks ≤ 65536
+  pub blocks : a.groups.blocks ≤ 65536
   pub keys : (b : ℕ) → 0 < key_at a b → 2 ^ 32 ≤ key_at a b
   pub fit : (b : ℕ) → key_at a b < 2 ^ 64
   pub newest : (b : ℕ) → 0 < key_at a b → kept_at a (record_of b (key_at a b)).place ≡ Newest b
   pub only : (s b : ℕ) → kept_at a s ≡ Newest b → (0 < key_at a b) × ((record_of b (key_at a b)).place ≡ s)
   pub moving : (s : ℕ) (r : Record) → kept_at a s ≡ Moving r → r.hop < 65535
   pub stored : (s : ℕ) → kept_at a s ≢ Nothing → is_some (unit_at a s) ≡ true
-  pub sized : (s : ℕ) (u : Stored) → unit_at a s ≡ Some u → length u.payload ≡ a.sizes.payload
-  pub groups : AreGroups a.sizes.extents a.drives (group_at a)
+  pub sized : (s : ℕ) (u : Stored) → unit_at a s ≡ Some u → length u.payload ≡ a.groups.payload
+  pub groups : GroupsStand a.groups a.drives
+  pub agree : Agree a.groups a.owners
+  pub rows : length a.owners.rows ≡ a.drives
+  pub wide : a.owners.extents ≡ a.groups.extents
 
 -- an array to which nothing has happened
-pub record IsNew (sizes : Sizes) (drives : ℕ) (a : ArrayView) : Type 0 where
-  pub sizes_are : a.sizes ≡ sizes
+pub record IsNew (drives : ℕ) (a : ArrayView) : Type 0 where
+  pub empty : IsEmpty a.groups
+  pub agree : Agree a.groups a.owners
+  pub rows : length a.owners.rows ≡ drives
+  pub wide : a.owners.extents ≡ a.groups.extents
   pub drives_are : a.drives ≡ drives
   pub log : a.log ≡ []
   pub keys : (b : ℕ) → key_at a b ≡ 0
   pub kept : (s : ℕ) → kept_at a s ≡ Nothing
   pub units : (s : ℕ) → unit_at a s ≡ None
-  pub groups : (g : ℕ) → group_at a g ≡ None
   pub room : IsRoomy a
 
--- two worlds of the same sizes
-abbrev pub SameSizes : WorldView → WorldView → Type 0
-SameSizes old new = new.array.sizes ≡ old.array.sizes
+-- two arrays of the same sizes
+pub record SameSizes (a b : ArrayView) : Type 0 where
+  pub payload : b.groups.payload ≡ a.groups.payload
+  pub blocks : b.groups.blocks ≡ a.groups.blocks

@@ -1,29 +1,22 @@
 // The array: its tables, and the small reads of them.
-ghost use Rattle.std.specs.Prelude.{◌≡◌, ℕ, ◌<◌, ◌≤◌, length, drop, slice_index, slice_index_or, None, IsTrue, ◌↔◌, IfOk, IfErr, OnOk};
+ghost use Rattle.std.specs.Prelude.{◌≡◌, ℕ, ◌<◌, ◌≤◌, length, drop, slice_index, slice_index_or, nat_le, None, IsTrue, ◌↔◌, IfOk, IfErr, OnOk};
 ghost use Rattle.map_join.specs.Record.{record_at};
 ghost use Rattle.map_join.specs.Maps.{at, IsSame, IsMapOf};
-ghost use Rattle.flat_machine.specs.Groups.{class_at, class_in};
-ghost use Rattle.std.specs.Option.{ForSome, option_map};
-ghost use Rattle.step_core.specs.Kept.{made_of};
+ghost use Rattle.extents.specs.Shapes.{IsShapeOf};
+ghost use Rattle.flat_machine.specs.Groups.{class_at};
 ghost use Rattle.flat_machine.specs.Flat.{Flat, new_flat, put, IsKept, IsNewest};
-ghost use Rattle.step_core.specs.Views.{kept_at, key_at, group_at, is_kept, is_waiting, IsNew, IsWhole};
+ghost use Rattle.step_core.specs.Views.{kept_at, key_at, is_kept, is_waiting, IsNew, IsWhole};
 ghost use Rattle.step_core.specs.Represents.{ShowsArray};
 
-use crate::group::{Group, slot_count};
 use crate::hold::Hold;
 use crate::place::Place;
-use crate::shape::Shape;
 use crate::stored::StoredUnit;
+use extent_groups::{GroupTable, SLOTS as SLOTS_OF_A_GROUP};
+use extents::{ExtentTable, Shape};
 use flat_machine::{Class, Refusal};
 use map_join::{BlockMap, MapRefusal, Record};
 use std::alloc::{AllocError, Global};
 use std::marker::Model;
-
-/// Slot numbers that a group takes up, of which it has the first ones.
-pub(crate) const SLOTS_OF_A_GROUP: u16 = 128;
-
-/// Group numbers.
-pub(crate) const GROUPS: usize = 512;
 
 /// Slot numbers of an array.
 pub(crate) const SLOTS: usize = 65_536;
@@ -31,7 +24,8 @@ pub(crate) const SLOTS: usize = 65_536;
 /// The array: drives and groups, the log of emitted records, and of each slot what the array keeps.
 #[derive(Drop)]
 pub struct Array<C: Hold> {
-    pub(crate) shape: Shape,
+    pub(crate) groups: GroupTable,
+    pub(crate) extents: ExtentTable,
     pub(crate) drives: u8,
     pub(crate) log: Vec<Record>,
     /// The key of each block, 0 where it was never written.
@@ -39,12 +33,11 @@ pub struct Array<C: Hold> {
     pub(crate) places: Vec<Place<C>>,
     /// The unit of each slot of a made group.
     pub(crate) units: Vec<Option<StoredUnit>>,
-    pub(crate) groups: Vec<Option<Group>>,
 }
 
 impl<C: Hold> Model for Array<C> {
     ghost use Rattle.step_core.specs.Views.{ArrayView, IsWhole};
-    ghost use Rattle.step_core.specs.Kept.{kepts_of, units_of, groups_of, AreOf};
+    ghost use Rattle.step_core.specs.Kept.{kepts_of, units_of, AreOf};
     ghost use Rattle.step_core.specs.Inside.{seen};
 
     ghost Value = { ArrayView };
@@ -58,7 +51,8 @@ impl<C: Hold> Array<C> {
     /// A new array: no group is made and nothing is written. There are 3 to 16 drives.
     pub fn new(alloc: Global, shape: Shape, drives: u8) -> Result<Array<C>, Refusal>
         requires { (3 ≤ drives) × (drives ≤ 16) }
-        ensures ok { IfOk result (λ array. ShowsArray array (new_flat shape drives)) }
+        ensures sizes { IfOk result (λ array. IsShapeOf shape array.groups.extents array.groups.segments array.groups.payload array.groups.blocks) }
+        ensures ok { IfOk result (λ array. ShowsArray array (new_flat array.groups drives (nat_le drives) (λ _. 0))) }
         ensures err { IfErr result (λ refusal. refusal ≡ Refusal.Memory) }
     {
         match tables(alloc, shape, drives) {
@@ -69,9 +63,23 @@ impl<C: Hold> Array<C> {
 
     /// The sizes that the array was made with.
     pub fn shape(&self) -> Shape
-        ensures { result ≡ self.now.sizes }
+        ensures { IsShapeOf result self.now.groups.extents self.now.groups.segments self.now.groups.payload self.now.groups.blocks }
     {
-        self.shape
+        self.groups.shape()
+    }
+
+    /// The groups, by number.
+    pub fn groups(&self) -> &GroupTable
+        ensures { result.now ≡ self.now.groups }
+    {
+        &self.groups
+    }
+
+    /// Which group owns which extent.
+    pub fn extents(&self) -> &ExtentTable
+        ensures { result.now ≡ self.now.owners }
+    {
+        &self.extents
     }
 
     /// How many drives there are.
@@ -114,7 +122,7 @@ impl<C: Hold> Array<C> {
 
     /// The newest record of a block.
     pub fn newest(&self, block: u32) -> Option<Record>
-        requires { block < self.now.sizes.blocks }
+        requires { block < self.now.groups.blocks }
         ensures value { result ≡ record_at block (key_at self.now block) }
         ensures flat { (F : Flat) → ShowsArray self.now F → IsNewest F.emitted block result }
     {
@@ -122,7 +130,7 @@ impl<C: Hold> Array<C> {
     }
 
     pub(crate) fn told(&self, block: u32) -> Option<Record>
-        requires { block < self.now.sizes.blocks }
+        requires { block < self.now.groups.blocks }
         ensures value { result ≡ record_at block (key_at self.now block) }
         ensures whole { IsWhole self.now }
     {
@@ -150,7 +158,7 @@ impl<C: Hold> Array<C> {
         ensures err { IfErr result (λ refusal. refusal ≡ Refusal.Memory) }
     {
         let mut map = BlockMap::new(alloc);
-        for block in 0..self.shape.blocks() {
+        for block in 0..self.groups.shape().blocks {
             match self.take_newest(alloc, block, &mut map) {
                 Ok(()) => {}
                 Err(_) => return Err(Refusal::Memory),
@@ -161,7 +169,7 @@ impl<C: Hold> Array<C> {
 
     // Takes the newest record of a block into a map that has none of it.
     fn take_newest(&self, alloc: Global, block: u32, map: &mut BlockMap) -> Result<(), MapRefusal>
-        requires inside { block < self.now.sizes.blocks }
+        requires inside { block < self.now.groups.blocks }
         requires none { at map.old block ≡ 0 }
         ensures { OnOk result (IsSame (at map.new) (put (at map.old) block (key_at self.now block))) }
     {
@@ -173,45 +181,35 @@ impl<C: Hold> Array<C> {
 
     // The class of a slot, none where no made group has it.
     pub(crate) fn class_of(&self, slot: u16) -> Option<Class>
-        ensures { result ≡ class_at self.now.sizes.segments (group_at self.now) slot }
+        ensures { result ≡ class_at self.now.groups slot }
     {
-        let group = &self.groups[usize::from(slot / SLOTS_OF_A_GROUP)];
-        class_in(self.shape.segments(), group, slot % SLOTS_OF_A_GROUP)
-    }
-}
-
-// The class of a group where it has a slot of that index.
-fn class_in(segments: u32, group: &Option<Group>, index: u16) -> Option<Class>
-    requires segments { segments ≤ 8 }
-    requires members { ForSome group.now (λ g. (3 ≤ length g.members.items) × (length g.members.items ≤ 8)) }
-    ensures { result ≡ class_in segments (option_map made_of group.now) index }
-{
-    let Some(group) = group else {
-        return None;
-    };
-    let count = slot_count(segments, group.class, group.members.len() as u32);
-    if u32::from(index) < count {
-        Some(group.class)
-    } else {
-        None
+        let group = slot / SLOTS_OF_A_GROUP;
+        let class = self.groups.class_of(group)?;
+        if slot % SLOTS_OF_A_GROUP < self.groups.slots_of(group) {
+            Some(class)
+        } else {
+            None
+        }
     }
 }
 
 fn tables<C: Hold>(alloc: Global, shape: Shape, drives: u8) -> Result<Array<C>, AllocError>
-    ensures { IfOk result (IsNew shape drives) }
+    ensures new { IfOk result (IsNew drives) }
+    ensures sizes { IfOk result (λ array. IsShapeOf shape array.groups.extents array.groups.segments array.groups.payload array.groups.blocks) }
 {
-    let keys = zeros(alloc, shape.blocks())?;
+    let groups = GroupTable::new(alloc, &shape)?;
+    let extents = ExtentTable::new(alloc, drives, &shape)?;
+    let keys = zeros(alloc, shape.blocks)?;
     let units = no_units(alloc, SLOTS)?;
-    let groups = no_groups(alloc, GROUPS)?;
     let places = free_places(alloc, SLOTS)?;
     Ok(Array {
-        shape,
+        groups,
+        extents,
         drives,
         log: Vec::new(alloc),
         keys,
         places,
         units,
-        groups,
     })
 }
 
@@ -242,15 +240,4 @@ fn no_units(alloc: Global, count: usize) -> Result<Vec<Option<StoredUnit>>, Allo
         units.push_reserved(None);
     }
     Ok(units)
-}
-
-fn no_groups(alloc: Global, count: usize) -> Result<Vec<Option<Group>>, AllocError>
-    ensures len { IfOk result (λ groups. length groups.items ≡ count) }
-    ensures none { IfOk result (λ groups. (g : ℕ) → slice_index_or groups.items g None ≡ None) }
-{
-    let mut groups = Vec::with_capacity(alloc, count)?;
-    for _made in 0..count {
-        groups.push_reserved(None);
-    }
-    Ok(groups)
 }

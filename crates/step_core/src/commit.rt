@@ -3,6 +3,7 @@ ghost use Rattle.std.specs.Prelude.{◌≡◌, ◌≢◌, ℕ, ◌+◌, ◌<◌,
 ghost use Rattle.std.specs.Option.{ForSome};
 ghost use Rattle.map_join.specs.Record.{key_of, record_at};
 ghost use Rattle.map_join.specs.declared.records.Record.{Record};
+ghost use Rattle.extents.specs.declared.header.Header.TheVariants.{Is};
 ghost use Rattle.flat_machine.specs.Steps as say;
 ghost use Rattle.flat_machine.specs.Flat.{Flat, Ticket as ticket_of, IsNewest};
 ghost use Rattle.flat_machine.specs.Cases.{CommitCase, IsWanted, next_version, stamped};
@@ -15,6 +16,7 @@ use crate::array::Array;
 use crate::hold::{Hold, Ticket};
 use crate::place::{Place, put_in, take_out, take_waiting};
 use crate::stored::StoredUnit;
+use extents::Header;
 use flat_machine::Refusal;
 use map_join::Record;
 use std::alloc::Global;
@@ -71,7 +73,7 @@ impl<C: Hold> Array<C> {
         ticket: Ticket,
         block: u32,
     ) -> Result<Done<C>, (Refusal, Ticket)>
-        requires { block < self.old.sizes.blocks }
+        requires { block < self.old.groups.blocks }
         ensures done { IfOk result (λ done.
             (self.new ≡ commit_view self.old ticket block (record_at block (key_at self.old block)) done.emitted)
             × (done.emitted ≡ commit_record self.old ticket block (record_at block (key_at self.old block)))
@@ -126,10 +128,10 @@ impl<C: Hold> Array<C> {
 #[tactic(auto, using(crate::proofs::Tables::units_set, crate::proofs::Tables::unit_there))]
 fn stamp(units: &mut Vec<Option<StoredUnit>>, slot: u16, told: Record)
     requires { slot < vec_len units.old }
-    ensures { units_of units.new.items ≡ slice_set (units_of units.old.items) slot (stamped (slice_index_or (units_of units.old.items) slot None) (Some told)) }
+    ensures { units_of units.new.items ≡ slice_set (units_of units.old.items) slot (stamped (slice_index_or (units_of units.old.items) slot None) (Is told)) }
 {
     if let Some(unit) = &mut units[usize::from(slot)] {
-        unit.header = Some(told);
+        unit.header = Header::Is(told);
     }
 }
 

@@ -24,7 +24,7 @@ impl<C: Hold> Array<C> {
     /// Copies a block's newest payload into a slot of either class, under a blank header: it waits for
     /// its commit, and until then the block stays where it is.
     pub fn copy(&mut self, alloc: Global, claim: C, block: u32) -> Result<Ticket, (Refusal, C)>
-        requires { block < self.old.sizes.blocks }
+        requires { block < self.old.groups.blocks }
         ensures ticket { IfOk result (λ ticket. (ticket ≡ C.names claim)
             × ((r : Record) × (u : Stored) × (record_at block (key_at self.old block) ≡ Some r) × (unit_at self.old r.place ≡ Some u)
             × (self.new ≡ copy_view self.old ticket r u.payload))) }

@@ -1,19 +1,23 @@
 // A group is made.
 ghost use Rattle.std.specs.Prelude.{◌≡◌, ◌↔◌, ℕ, ◌+◌, ◌<◌, ◌≤◌, [], length, vec_len, replicate, slice_index_or, slice_set, All, Any, Contains, IsTrue, IsNone, IsSomeAnd, IfSome, MatchResult, IfOk, OnOk, OnErr, Some, None};
-ghost use Rattle.flat_machine.specs.Groups.{AreMembers, AreApart, AreUnowned, HaveCommon, IsLowestFree, IsFull};
+ghost use Rattle.extent_groups.specs.Faults.{put_fault};
+ghost use Rattle.extent_groups.specs.Geometry.{slot_count};
+ghost use Rattle.extent_groups.specs.Groups.{group_at, AreThere};
+ghost use Rattle.flat_machine.specs.Groups.{IsLowestFree, IsFull};
 ghost use Rattle.flat_machine.specs.Steps as say;
 ghost use Rattle.flat_machine.specs.Flat.{Flat};
 ghost use Rattle.flat_machine.specs.Cases.{IsWanted, MakeCase};
-ghost use Rattle.step_core.specs.Views.{group_at, IsWhole};
-ghost use Rattle.step_core.specs.Kept.{units_of, groups_of, stored_of, made_of};
+ghost use Rattle.step_core.specs.Views.{IsWhole, SameSizes};
+ghost use Rattle.step_core.specs.Kept.{units_of, stored_of};
 ghost use Rattle.step_core.specs.Changes.{MayRefuse};
-ghost use Rattle.step_core.specs.Making.{IsMakeReason, Entered, IsBlankUnit, ArePlaced};
+ghost use Rattle.step_core.specs.Making.{told_of, IsMakeReason, Entered, IsBlankUnit, ArePlaced};
 ghost use Rattle.step_core.specs.Represents.{ShowsArray};
 
-use crate::array::{Array, SLOTS_OF_A_GROUP};
-use crate::group::{Group, slot_count};
+use crate::array::Array;
 use crate::hold::Hold;
 use crate::stored::StoredUnit;
+use extent_groups::{GROUPS, GroupRefusal, GroupTable, SLOTS as SLOTS_OF_A_GROUP, are_there, put_check};
+use extents::{ExtentTable, Header};
 use flat_machine::{Class, Member, Refusal};
 use std::alloc::{AllocError, Global};
 
@@ -28,7 +32,7 @@ impl<C: Hold> Array<C> {
     ) -> Result<(u16, Vec<C>), Refusal>
         ensures none { IfOk result (λ made. made.1.items ≡ []) }
         ensures err { OnErr result (self.new ≡ self.old) }
-        ensures rest { (self.new.kept ≡ self.old.kept) × (self.new.sizes ≡ self.old.sizes) }
+        ensures rest { (self.new.kept ≡ self.old.kept) × SameSizes self.old self.new }
         ensures flat { (F : Flat) → ShowsArray self.old F
             → MatchResult result
             (λ made. (G : Flat) × MakeCase F class members.now (say.MadeGroup made.0) G × ShowsArray self.new G)
@@ -52,18 +56,13 @@ impl<C: Hold> Array<C> {
     // Why a group of these members can't be made, a free number aside.
     fn make_fault(&self, members: &[Member]) -> Option<Refusal>
         ensures reason { IsMakeReason self.now members.now result }
+        ensures fits { result ≡ None → AreThere self.now.owners members.now × (put_fault self.now.owners members.now ≡ None) }
         ensures whole { IsWhole self.now }
     {
-        if !are_members(self.shape.extents(), self.drives, members) {
+        if !are_members(&self.extents, members) {
             return Some(Refusal::BadMember);
         }
-        if !are_apart(members) {
-            return Some(Refusal::SameDrive);
-        }
-        if !are_unowned(&self.groups, members) {
-            return Some(Refusal::ExtentTaken);
-        }
-        None
+        told(put_check(&self.extents, members))
     }
 
     // Enters a group under a number that is free. All memory is taken before the first change.
@@ -74,111 +73,73 @@ impl<C: Hold> Array<C> {
         class: Class,
         members: &[Member],
     ) -> Result<(), AllocError>
-        requires free { group_at self.old number ≡ None }
+        requires free { group_at self.old.groups number ≡ None }
         requires limit { number < 512 }
+        requires there { AreThere self.old.owners members.now }
+        requires fine { put_fault self.old.owners members.now ≡ None }
         requires reason { IsMakeReason self.old members.now None }
         ensures ok { OnOk result (Entered self.old number class members.now self.new) }
         ensures err { OnErr result (self.new ≡ self.old) }
     {
-        let count = slot_count(self.shape.segments(), class, members.len() as u32);
+        let shape = self.groups.shape();
+        let count = slot_count(shape.segments, class, members.len() as u32);
         let members = members.to_vec(alloc)?;
-        let blank = blank_units(alloc, count as usize, self.shape.payload() as usize)?;
+        let blank = blank_units(alloc, count as usize, shape.payload as usize)?;
         place_units(
             &mut self.units,
             usize::from(number) * usize::from(SLOTS_OF_A_GROUP),
             blank,
         );
-        put_group(&mut self.groups, number, Group { class, members });
+        self.groups
+            .enter_group(&mut self.extents, number, class, members);
         Ok(())
     }
 }
 
-#[tactic(auto, using(crate::proofs::Tables::groups_set))]
-fn put_group(groups: &mut Vec<Option<Group>>, number: u16, group: Group)
-    requires { number < vec_len groups.old }
-    ensures value { groups_of groups.new.items ≡ slice_set (groups_of groups.old.items) number (Some (made_of group)) }
-    ensures room { vec_len groups.new ≡ vec_len groups.old }
+// The refusal of a fault.
+fn told(fault: Option<GroupRefusal>) -> Option<Refusal>
+    ensures value { result ≡ told_of fault }
+    ensures none { result ≡ None → fault ≡ None }
 {
-    groups[usize::from(number)] = Some(group);
+    match fault {
+        None => None,
+        Some(GroupRefusal::SameDrive) => Some(Refusal::SameDrive),
+        Some(_) => Some(Refusal::ExtentTaken),
+    }
 }
 
 // Three to eight members, each an extent that is there.
-fn are_members(extents: u32, drives: u8, members: &[Member]) -> bool
-    ensures { IsTrue result ↔ AreMembers extents drives members.now }
+fn are_members(extents: &ExtentTable, members: &[Member]) -> bool
+    ensures { IsTrue result ↔ ((3 ≤ length members.now) × (length members.now ≤ 8) × AreThere extents.now members.now) }
 {
-    members.len() >= 3 && members.len() <= 8 && are_there(extents, drives, members)
-}
-
-fn are_there(extents: u32, drives: u8, members: &[Member]) -> bool
-    ensures { IsTrue result ↔ All (λ m. (m.drive < drives) × (m.extent < extents)) members.now }
-{
-    members.iter().all(|member| member.drive < drives && u32::from(member.extent) < extents)
-}
-
-// No two members on one drive.
-fn are_apart(members: &[Member]) -> bool
-    ensures { IsTrue result ↔ AreApart members.now }
-{
-    for (i, member) in members.iter().enumerate() {
-        if has_drive(&members[..i], member.drive) {
-            return false;
-        }
-    }
-    true
-}
-
-fn has_drive(members: &[Member], drive: u8) -> bool
-    ensures { IsTrue result ↔ Any (λ m. m.drive ≡ drive) members.now }
-{
-    members.iter().any(|member| member.drive == drive)
-}
-
-// No group has one of the members.
-fn are_unowned(groups: &[Option<Group>], members: &[Member]) -> bool
-    ensures { IsTrue result ↔ AreUnowned (λ g. slice_index_or (groups_of groups.now) g None) members.now }
-{
-    for group in groups {
-        if owns_one(group, members) {
-            return false;
-        }
-    }
-    true
-}
-
-fn owns_one(group: &Option<Group>, members: &[Member]) -> bool
-    ensures { IsTrue result ↔ IsSomeAnd group.now (λ g. HaveCommon g.members.items members.now) }
-{
-    match group {
-        None => false,
-        Some(group) => have_common(&group.members, members),
-    }
-}
-
-fn have_common(owned: &[Member], members: &[Member]) -> bool
-    ensures { IsTrue result ↔ HaveCommon owned.now members.now }
-{
-    owned.iter().any(|member| is_among(members, *member))
-}
-
-fn is_among(members: &[Member], member: Member) -> bool
-    ensures { IsTrue result ↔ Contains members.now member }
-{
-    members.contains(&member)
+    members.len() >= 3 && members.len() <= 8 && are_there(extents, members)
 }
 
 // The lowest number of which there is no group.
-fn lowest_free(groups: &[Option<Group>]) -> Option<u16>
-    requires { length groups.now ≡ 512 }
-    ensures some { IfSome result (IsLowestFree (λ g. slice_index_or (groups_of groups.now) g None)) }
-    ensures none { IsNone result → IsFull (λ g. slice_index_or (groups_of groups.now) g None) }
+fn lowest_free(groups: &GroupTable) -> Option<u16>
+    ensures some { IfSome result (IsLowestFree groups.now) }
+    ensures none { IsNone result → IsFull groups.now }
 {
-    for (i, group) in groups.iter().enumerate() {
-        match group {
-            None => return Some(i as u16),
-            Some(_) => {}
+    let _members = groups.members(0);
+    for number in 0..GROUPS as u16 {
+        if groups.is_free(number) {
+            return Some(number);
         }
     }
     None
+}
+
+// How many slots a group of that many members has.
+fn slot_count(segments: u32, class: Class, members: u32) -> u32
+    requires segments { segments ≤ 8 }
+    requires members { (1 ≤ members) × (members ≤ 8) }
+    ensures value { result ≡ slot_count class members segments }
+    ensures limit { result ≤ 128 }
+{
+    match class {
+        Class::Mirrored => 2 * (members * segments / 2),
+        Class::Parity => 2 * segments * (members - 1),
+    }
 }
 
 fn blank_units(alloc: Global, count: usize, payload: usize) -> Result<Vec<StoredUnit>, AllocError>
@@ -188,7 +149,7 @@ fn blank_units(alloc: Global, count: usize, payload: usize) -> Result<Vec<Stored
     let mut units = Vec::with_capacity(alloc, count)?;
     for i in 0..count {
         units.push(StoredUnit {
-            header: None,
+            header: Header::Blank,
             payload: zeros(alloc, payload)?,
         })?;
     }

@@ -59,7 +59,7 @@ impl<C: Hold> Array<C> {
     /// The record with its payload, or where its place is stale the newest record of its block with
     /// the payload of the last write. Refused as `read_at` is.
     pub fn read_or_learn(&self, alloc: Global, asked: Record) -> Result<Reading, Refusal>
-        requires { asked.block < self.now.sizes.blocks }
+        requires { asked.block < self.now.groups.blocks }
         ensures flat { (F : Flat) → ShowsArray self.now F → MatchResult result
             (λ reading. (seen : Seen) × ReadAtCase F asked (say.FoundAt seen) F × IsLearned F asked seen reading.told (Payload reading.payload))
             (λ refusal. MayRefuse refusal

@@ -43,7 +43,7 @@ impl World {
     /// Whether the step's worker, block and payload are of this world: a worker below 8, a block that
     /// the array has, and a payload of its length.
     pub fn fits(&self, step: &Step) -> bool
-        ensures { IsTrue result ↔ FitsStep self.now.array.sizes step.now }
+        ensures { IsTrue result ↔ FitsStep self.now.array.groups step.now }
     {
         let shape = self.array().shape();
         match step {
@@ -53,20 +53,20 @@ impl World {
                 worker,
                 slot: _,
                 payload,
-            } => *worker < WORKERS && payload.len() == shape.payload() as usize,
+            } => *worker < WORKERS && payload.len() == shape.payload as usize,
             Step::Copy {
                 worker,
                 slot: _,
                 block,
-            } => *worker < WORKERS && *block < shape.blocks(),
+            } => *worker < WORKERS && *block < shape.blocks,
             Step::Commit {
                 worker,
                 slot: _,
                 block,
-            } => *worker < WORKERS && *block < shape.blocks(),
+            } => *worker < WORKERS && *block < shape.blocks,
             Step::Discard { worker, slot: _ } => *worker < WORKERS,
-            Step::Read { block } => *block < shape.blocks(),
-            Step::ReadAt { record } => record.block < shape.blocks(),
+            Step::Read { block } => *block < shape.blocks,
+            Step::ReadAt { record } => record.block < shape.blocks,
             Step::Make {
                 class: _,
                 members: _,
@@ -76,12 +76,12 @@ impl World {
 
     /// Carries out a step that fits. Only want of memory stops it, and then nothing has changed.
     pub fn step(&mut self, alloc: Global, step: &Step) -> Result<Answer, AllocError>
-        requires { FitsStep self.old.array.sizes step.now }
+        requires { FitsStep self.old.array.groups step.now }
         ensures ok { IfOk result (λ answer. (F : Flat) → Represents self.old F
             → (G : Flat) × Case F (flat_step step.now) (flat_answer answer) G × Represents self.new G) }
         ensures err { OnErr result (self.new ≡ self.old) }
         ensures wants { OnErr result ((F : Flat) → Represents self.old F → IsWanted F (flat_step step.now)) }
-        ensures room { SameSizes self.old self.new }
+        ensures room { SameSizes self.old.array self.new.array }
     {
         match step {
             Step::Claim { worker, slot } => Ok(self.claim(*worker, *slot)),
@@ -111,7 +111,7 @@ impl World {
 
 /// Runs a world over steps that fit it.
 pub fn run_steps(alloc: Global, mut world: World, steps: &[Step]) -> Result<Run, Stopped>
-    requires { All (FitsStep world.array.sizes) steps.now }
+    requires { All (FitsStep world.array.groups) steps.now }
     ensures { (F : Flat) → Represents world F → MatchResult result
         (λ run. (G : Flat) × Runs F (map flat_step steps.now) (map flat_answer run.answers.items) G × Represents run.world G × Stands run.world G)
         (λ stop. (G : Flat) × Runs F (map flat_step (take stop.at steps.now)) (map flat_answer stop.answers.items) G × Represents stop.world G × Stands stop.world G

@@ -1,6 +1,7 @@
 // An array with eight workers, who hold plain claims.
-ghost use Rattle.std.specs.Prelude.{◌≡◌, ℕ, ◌<◌, ◌≤◌, List, length, IfOk, IfErr, OnErr, Some};
+ghost use Rattle.std.specs.Prelude.{◌≡◌, ℕ, ◌<◌, ◌≤◌, List, length, nat_le, IfOk, IfErr, OnErr, Some};
 ghost use Rattle.map_join.specs.declared.records.Record.{Record};
+ghost use Rattle.extents.specs.Shapes.{IsShapeOf};
 ghost use Rattle.flat_machine.specs.Steps as say;
 ghost use Rattle.flat_machine.specs.Steps.{Version};
 ghost use Rattle.flat_machine.specs.Flat.{Flat, Payload, new_flat};
@@ -13,8 +14,8 @@ ghost use Rattle.step_core.specs.Represents.{Represents, is_claim, is_ticket};
 use crate::array::{Array, SLOTS};
 use crate::hand::Hand;
 use crate::hold::{Plain, Ticket};
-use crate::shape::Shape;
 use crate::step::Answer;
+use extents::Shape;
 use flat_machine::{Class, Member, Refusal};
 use map_join::Record;
 use std::alloc::{AllocError, Global};
@@ -42,8 +43,8 @@ impl World {
     /// A new world: a new array, and empty hands. There are 3 to 16 drives.
     pub fn new(alloc: Global, shape: Shape, drives: u8) -> Result<World, Refusal>
         requires { (3 ≤ drives) × (drives ≤ 16) }
-        ensures ok { IfOk result (λ world. Represents world (new_flat shape drives)) }
-        ensures sizes { IfOk result (λ world. world.array.sizes ≡ shape) }
+        ensures ok { IfOk result (λ world. Represents world (new_flat world.array.groups drives (nat_le drives) (λ _. 0))) }
+        ensures sizes { IfOk result (λ world. IsShapeOf shape world.array.groups.extents world.array.groups.segments world.array.groups.payload world.array.groups.blocks) }
         ensures err { IfErr result (λ refusal. refusal ≡ Refusal.Memory) }
     {
         let array = Array::new(alloc, shape, drives)?;
@@ -96,7 +97,7 @@ impl World {
     pub fn claim(&mut self, worker: u8, slot: u16) -> Answer
         ensures flat { (F : Flat) → Represents self.old F
             → (G : Flat) × Case F (say.Claim worker slot) (flat_answer result) G × Represents self.new G }
-        ensures room { SameSizes self.old self.new }
+        ensures room { SameSizes self.old.array self.new.array }
     {
         if self.is_free(slot) {
             self.hands[usize::from(slot)] = Hand::Holds(worker);
@@ -110,7 +111,7 @@ impl World {
     pub fn release(&mut self, worker: u8, slot: u16) -> Answer
         ensures flat { (F : Flat) → Represents self.old F
             → (G : Flat) × Case F (say.Release worker slot) (flat_answer result) G × Represents self.new G }
-        ensures room { SameSizes self.old self.new }
+        ensures room { SameSizes self.old.array self.new.array }
     {
         if self.holds(worker, slot) {
             self.hands[usize::from(slot)] = Hand::Empty;
@@ -128,12 +129,12 @@ impl World {
         slot: u16,
         payload: &[u8],
     ) -> Result<Answer, AllocError>
-        requires { length payload.now ≡ self.old.array.sizes.payload }
+        requires { length payload.now ≡ self.old.array.groups.payload }
         ensures ok { IfOk result (λ answer. (F : Flat) → Represents self.old F
             → (G : Flat) × Case F (say.Fill worker slot (Payload payload.now)) (flat_answer answer) G × Represents self.new G) }
         ensures err { OnErr result (self.new ≡ self.old) }
         ensures wants { OnErr result ((F : Flat) → Represents self.old F → IsWanted F (say.Fill worker slot (Payload payload.now))) }
-        ensures room { SameSizes self.old self.new }
+        ensures room { SameSizes self.old.array self.new.array }
     {
         if !self.holds(worker, slot) {
             return Ok(Answer::NotHeld(slot));
@@ -156,12 +157,12 @@ impl World {
         slot: u16,
         block: u32,
     ) -> Result<Answer, AllocError>
-        requires { block < self.old.array.sizes.blocks }
+        requires { block < self.old.array.groups.blocks }
         ensures ok { IfOk result (λ answer. (F : Flat) → Represents self.old F
             → (G : Flat) × Case F (say.Copy worker slot block) (flat_answer answer) G × Represents self.new G) }
         ensures err { OnErr result (self.new ≡ self.old) }
         ensures wants { OnErr result ((F : Flat) → Represents self.old F → IsWanted F (say.Copy worker slot block)) }
-        ensures room { SameSizes self.old self.new }
+        ensures room { SameSizes self.old.array self.new.array }
     {
         if !self.holds(worker, slot) {
             return Ok(Answer::NotHeld(slot));
@@ -184,12 +185,12 @@ impl World {
         slot: u16,
         block: u32,
     ) -> Result<Answer, AllocError>
-        requires { block < self.old.array.sizes.blocks }
+        requires { block < self.old.array.groups.blocks }
         ensures ok { IfOk result (λ answer. (F : Flat) → Represents self.old F
             → (G : Flat) × Case F (say.Commit worker slot block) (flat_answer answer) G × Represents self.new G) }
         ensures err { OnErr result (self.new ≡ self.old) }
         ensures wants { OnErr result ((F : Flat) → Represents self.old F → IsWanted F (say.Commit worker slot block)) }
-        ensures room { SameSizes self.old self.new }
+        ensures room { SameSizes self.old.array self.new.array }
     {
         if !self.waits(worker, slot) {
             return Ok(Answer::Refused(Refusal::NoTicket));
@@ -209,7 +210,7 @@ impl World {
     pub fn discard(&mut self, worker: u8, slot: u16) -> Answer
         ensures flat { (F : Flat) → Represents self.old F
             → (G : Flat) × Case F (say.Discard worker slot) (flat_answer result) G × Represents self.new G }
-        ensures room { SameSizes self.old self.new }
+        ensures room { SameSizes self.old.array self.new.array }
     {
         if !self.waits(worker, slot) {
             return Answer::Refused(Refusal::NoTicket);
@@ -225,7 +226,7 @@ impl World {
 
     /// Reads at a record's place.
     pub fn read_at(&self, alloc: Global, asked: Record) -> Result<Answer, AllocError>
-        requires { asked.block < self.now.array.sizes.blocks }
+        requires { asked.block < self.now.array.groups.blocks }
         ensures ok { IfOk result (λ answer. (F : Flat) → Represents self.now F → Case F (say.ReadAt asked) (flat_answer answer) F) }
         ensures wants { OnErr result ((F : Flat) → Represents self.now F → IsWanted F (say.ReadAt asked)) }
     {
@@ -238,13 +239,14 @@ impl World {
 
     /// Reads a block.
     pub fn read(&self, alloc: Global, block: u32) -> Result<Answer, AllocError>
-        requires { block < self.now.array.sizes.blocks }
+        requires { block < self.now.array.groups.blocks }
         ensures ok { IfOk result (λ answer. (F : Flat) → Represents self.now F → Case F (say.Read block) (flat_answer answer) F) }
         ensures wants { OnErr result ((F : Flat) → Represents self.now F → IsWanted F (say.Read block)) }
     {
         match self.array.read(alloc, block) {
             Ok(found) => Ok(Answer::Read(found)),
-            Err(_) => Err(AllocError),
+            Err(Refusal::Memory) => Err(AllocError),
+            Err(refusal) => Ok(Answer::Refused(refusal)),
         }
     }
 
@@ -259,7 +261,7 @@ impl World {
             → (G : Flat) × Case F (say.Make class members.now) (flat_answer answer) G × Represents self.new G) }
         ensures err { OnErr result (self.new ≡ self.old) }
         ensures wants { OnErr result ((F : Flat) → Represents self.old F → IsWanted F (say.Make class members.now)) }
-        ensures room { SameSizes self.old self.new }
+        ensures room { SameSizes self.old.array self.new.array }
     {
         let (group, _claims) = match self.array.make_group(alloc, class, members) {
             Ok(made) => made,

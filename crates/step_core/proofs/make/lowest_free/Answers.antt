@@ -1,11 +1,12 @@
-use Rattle.std.proofs.Common.{ap, is_some}
+use Rattle.std.proofs.Common.{refl, rules}
 use Rattle.step_core.proofs.Makes.{made_more, lowest_is}
 use Rattle.step_core.proofs.make.lowest_free.Goals as goal
 
-pub loop-i-preserved : goal.loop-i-preserved
-loop-i-preserved c =
-    made_more c.args.groups.now c.loop-i.i c.index-groups-i.result c.loop-i-test.true c.index-groups-i.is (ap is_some c.in-Some.is) c.loop-i.invariant
+pub returns-then-is_free-clause-some : goal.returns-then-is_free-clause-some
+returns-then-is_free-clause-some c =
+    lowest_is c.args.groups.now c.loop-number.number c.members-members.ensures.groups (c.if-is_free.ensures.0 refl) c.loop-number.invariant
 
-pub returns-in-None-clause-some : goal.returns-in-None-clause-some
-returns-in-None-clause-some c =
-    lowest_is c.args.groups.now c.loop-i.i c.index-groups-i.result c.loop-i-test.true c.requires c.index-groups-i.is c.in-None.is c.loop-i.invariant
+pub loop-number-preserved : goal.loop-number-preserved
+loop-number-preserved c =
+    made_more c.args.groups.now c.loop-number.number c.members-members.ensures.groups c.loop-number-test.true (λ free. let t = c.if-is_free.ensures.1 free in absurd (cc))
+    c.loop-number.invariant

@@ -1,6 +1,6 @@
-use Rattle.std.proofs.Common.{◌≢◌, ℕ, ◌<◌, get_or, None}
-use Rattle.step_core.specs.Kept.{groups_of}
+use Rattle.std.proofs.Common.{◌≢◌, ℕ, ◌<◌, None}
+use Rattle.extent_groups.specs.Groups.{group_at}
 use Rattle.step_core.proofs.make.lowest_free.Given as goal
 
-abbrev pub invariant-loop-i : goal.invariant-loop-i
-invariant-loop-i l = (h : ℕ) → h < l.i → get_or (groups_of l.groups) h None ≢ None
+abbrev pub invariant-loop-number : goal.invariant-loop-number
+invariant-loop-number l = (h : ℕ) → h < l.number → group_at l.groups h ≢ None

@@ -4,7 +4,7 @@ use Rattle.flat_machine.specs.Cases.{Runs}
 use Rattle.step_core.specs.Views.{WorldView}
 use Rattle.step_core.specs.Represents.{Represents}
 use Rattle.step_core.specs.Told.{flat_step, flat_answer}
-use Rattle.step_core.proofs.Runnings.{stands, fits_at, runs_step, take_past, some_steps}
+use Rattle.step_core.proofs.Runnings.{stands, fits_at, sizes_same, sizes_again, runs_step, take_past, some_steps}
 use Rattle.step_core.proofs.run.run_steps.Goals as goal
 
 pub step-requires : goal.step-requires
@@ -21,7 +21,7 @@ loop-at-preserved c = record {
             c.loop-at-test.true c.index-steps-at.is c.push_reserved.ensures.items x.1 y.1,
         y.2,
       );
-  sizes = search rules;
+  sizes = sizes_again _ _ _ c.loop-at.invariant.sizes c.step.ensures.room;
   count = search rules;
   room = search rules;
 }

@@ -10,6 +10,9 @@ invariant_of-result c =
     free_groups _ (λ g. all_numbers_free c.args.shape.now c.in_ok-free_numbers.field-0.items 512 g c.in_ok-free_numbers.ensures)
     (length-map _ _ ∙ ap length c.in_ok-free_numbers.ensures ∙ length-replicate {A = Option Kept} 512 None) within.0 within.1
 
+pub returns-clause-groups : goal.returns-clause-groups
+returns-clause-groups c = invariant_of-result c
+
 pub returns-clause-free : goal.returns-clause-free
 returns-clause-free c = λ g. all_numbers_free c.args.shape.now c.in_ok-free_numbers.field-0.items 512 g c.in_ok-free_numbers.ensures
 

@@ -1,14 +1,17 @@
-use Rattle.std.proofs.Common.{rules, sym, subst, slice_index_or, None}
-use Rattle.flat_machine.specs.Groups.{AreUnowned}
-use Rattle.step_core.specs.Views.{ArrayView, group_at}
-use Rattle.step_core.specs.Kept.{groups_of}
+use Rattle.std.proofs.Common.{sym, subst, ap, ◌∙◌, length, ◌≤◌, refl}
+use Rattle.extents.specs.Owners.{Owners}
+use Rattle.extent_groups.specs.Faults.{put_fault}
+use Rattle.extent_groups.specs.Groups.{AreThere}
+use Rattle.step_core.specs.Views.{ArrayView, IsWhole}
+use Rattle.step_core.specs.Making.{told_of, IsMakeReason}
+use Rattle.step_core.proofs.Makes.{reason_told}
 use Rattle.step_core.proofs.array.Array.make_fault.Goals as goal
 
-pub returns-then-not-are_unowned-clause-reason : goal.returns-then-not-are_unowned-clause-reason
-returns-then-not-are_unowned-clause-reason g c = (
-  search rules,
-  search rules,
-  λ unowned. let t = c.are_unowned.ensures.1
-      (subst (λ gs. AreUnowned (λ n. slice_index_or (groups_of gs) n None) c.args.members.now) (sym c.deref.ensures.value)
-      (subst (λ (v : ArrayView). AreUnowned (group_at v) c.args.members.now) (sym c.self.view_is) unowned)) in absurd (cc),
-)
+pub returns-clause-reason : goal.returns-clause-reason
+returns-clause-reason g c =
+    let owners = ap (λ (v : ArrayView). v.owners) c.self.view_is in
+    let are = c.are_members.ensures.0 c.if-not-are_members.false in
+    subst (IsMakeReason c.args.self.now c.args.members.now)
+    (sym (c.told.ensures.value ∙ ap told_of (c.put_check.ensures ∙ ap (λ o. put_fault o c.args.members.now) owners)))
+    (reason_told c.args.self.now c.args.members.now (subst IsWhole c.self.view_is c.self.invariant.0)
+    (are.0, are.1, subst (λ o. AreThere o c.args.members.now) owners are.2))

@@ -8,7 +8,7 @@ use Rattle.step_core.specs.Represents.{ShowsArray, is_claim}
 use Rattle.step_core.proofs.Hands.{as_world}
 use Rattle.step_core.proofs.Worlds.{copy_world}
 use Rattle.step_core.proofs.world.World.copy.Goals as goal
-use Rattle.flat_machine.specs.Sizes.{Sizes}
+use Rattle.extent_groups.specs.Groups.{Groups}
 
 pub returns-in-Ok-clause-ok : goal.returns-in-Ok-clause-ok
 returns-in-Ok-clause-ok c F rep =
@@ -19,6 +19,6 @@ returns-in-Ok-clause-ok c F rep =
     let held : is_claim (hand_at v.hands s) w ≡ true = search rules in
     let t = c.in-Ok.ensures.ticket in
     as_world (λ G. CopyCase F w s c.args.block (Copied s) G) _ (record { array = c.copy.new.self; hands = set v.hands s (Waits w) }) (search rules)
-    (copy_world v F w s c.args.block c.copy.new.self (search rules) (search rules, subst (λ (z : Sizes). c.args.block < z.blocks) (sym rep.array.tables.sizes) c.requires) rep held c.in-Ok._ticket t.0
+    (copy_world v F w s c.args.block c.copy.new.self (search rules) (search rules, subst (λ (z : Groups). c.args.block < z.blocks) (sym rep.array.tables.groups) c.requires) rep held c.in-Ok._ticket t.0
     (c.in-Ok.ensures.flat F w (subst (λ (a : ArrayView). ShowsArray a F) (sym array) rep.array)
     ((rep.hands s).claims w ∙ held)))

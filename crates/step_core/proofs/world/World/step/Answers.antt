@@ -4,7 +4,7 @@ use Rattle.std.specs.declared.alloc.AllocError.{AllocError}
 use Rattle.step_core.specs.declared.step.Answer.{Answer}
 use Rattle.flat_machine.specs.Flat.{Flat}
 use Rattle.flat_machine.specs.Steps.{FlatStep, Fill, Make}
-use Rattle.flat_machine.specs.declared.group.Member.{Member}
+use Rattle.extent_groups.specs.declared.class.Member.{Member}
 use Rattle.flat_machine.specs.Cases.{Case, IsWanted}
 use Rattle.step_core.specs.Told.{flat_step, flat_answer}
 use Rattle.step_core.specs.Views.{WorldView}
