@@ -5,7 +5,6 @@ use Rattle.map_join.specs.declared.records.Record.{Record}
 use Rattle.map_join.specs.Record.{key_of}
 use Rattle.extents.specs.declared.header.Header.{Header}
 use Rattle.extents.specs.declared.header.Header.TheVariants.{Blank, Is}
-use Rattle.extents.specs.Header.{record_in}
 use Rattle.extent_groups.specs.declared.class.Class.{Class}
 use Rattle.extent_groups.specs.Groups.{Groups}
 use Rattle.flat_machine.specs.Groups.{class_at}

@@ -1,8 +1,10 @@
 -- What each command answers, and the state after it.
-use Rattle.std.specs.Prelude.{◌≡◌, ℕ, List, [], ◌∷◌, ◌++◌, codes, Option, Some, None}
+use Rattle.std.specs.Prelude.{◌≡◌, ℕ, nat_le, List, [], ◌∷◌, ◌++◌, codes, Option, Some, None}
 use Rattle.map_join.specs.declared.records.Record.{Record}
 use Rattle.map_join.specs.Record.{record_at}
 use Rattle.map_join.specs.Maps.{IsMapOf, IsListOf, IsDifference}
+use Rattle.extent_groups.specs.Groups.{Groups}
+use Rattle.flat_machine.specs.Groups.{IsEmpty}
 use Rattle.flat_machine.specs.Flat.{Flat, Payload, new_flat, put}
 use Rattle.flat_machine.specs.Steps.{FlatStep, FlatAnswer}
 use Rattle.flat_machine.specs.Steps as s
@@ -11,7 +13,7 @@ use Rattle.extent_groups.specs.declared.class.Member.{Member}
 use Rattle.std.specs.Prelude.{map}
 use Rattle.script_words.specs.Order.{Order}
 use Rattle.script_words.specs.Order as o
-use Rattle.script_bench.specs.State.{Position, State, nothing_taken, sizes_of}
+use Rattle.script_bench.specs.State.{Position, State, nothing_taken}
 use Rattle.script_bench.specs.Text.{answer_text, asked_version, difference_text, listing, record_text}
 use Rattle.script_words.specs.declared.command.Named.{Named}
 
@@ -63,10 +65,20 @@ pub record Compares (left right : List Record) (text : List ℕ) : Type 0 where
   pub differs : IsDifference left_keys right_keys lowest
   pub text_is : text ≡ difference_text lowest
 
--- a new array
+-- groups of an array of these sizes, none of which is made
+pub record AreNoGroups (groups : Groups) (extents segments payload blocks : ℕ) : Type 0 where
+  pub of_extents : groups.extents ≡ extents
+  pub of_segments : groups.segments ≡ segments
+  pub of_payload : groups.payload ≡ payload
+  pub of_blocks : groups.blocks ≡ blocks
+  pub empty : IsEmpty groups
+
+-- a new array: none of its drives is lost, and none has failed
 pub record Begins (drives extents segments payload blocks : ℕ) (text : List ℕ) (t : State) : Type 0 where
+  pub groups : Groups
+  pub none : AreNoGroups groups extents segments payload blocks
   pub text_is : text ≡ codes "array"
-  pub state_is : t ≡ Some (record { flat = new_flat (sizes_of extents segments payload blocks) drives; taken = nothing_taken })
+  pub state_is : t ≡ Some (record { flat = new_flat groups drives (nat_le drives) (λ _. 0); taken = nothing_taken })
 
 -- the members that a command names
 abbrev pub members_named : List Named → List Member

@@ -3,7 +3,7 @@ use Rattle.std.specs.Prelude.{◌≡◌, ℕ, ◌<◌, ◌≤◌, List, [], Opti
 use Rattle.std.specs.List.{All, AllByRecursion}
 use Rattle.map_join.specs.declared.records.Record.{Record}
 use Rattle.flat_machine.specs.Flat.{Flat}
-use Rattle.flat_machine.specs.Sizes.{Sizes, AreSizes}
+use Rattle.extents.specs.Sizes.{AreInRange}
 use Rattle.script_words.specs.Order.{Order, Number, Behind, Told, Members, behind_of, numbers_of, verb_of}
 use Rattle.script_words.specs.Order as o
 use Rattle.script_words.specs.Spelling.{IsSized}
@@ -24,11 +24,6 @@ State = Option Position
 -- no map took a record yet
 abbrev pub nothing_taken : ℕ → List Record
 nothing_taken map = []
-
--- the sizes that an array command names
-abbrev pub sizes_of : ℕ → ℕ → ℕ → ℕ → Sizes
-sizes_of extents segments payload blocks =
-    record { extents = extents; segments = segments; payload = payload; blocks = blocks }
 
 -- how many blocks there are
 abbrev pub block_count : State → ℕ
@@ -66,14 +61,14 @@ IsBehindInRange count (Members level members) = All IsMemberInRange members
 IsBehindInRange count _ = Unit {0}
 
 -- the number of drives and the sizes of an array within the limits
-pub record IsArrayInRange (drives : ℕ) (sizes : Sizes) : Type 0 where
+pub record IsArrayInRange (drives extents segments payload blocks : ℕ) : Type 0 where
   pub least : 3 ≤ drives
   pub most : drives ≤ 16
-  pub limits : AreSizes sizes
+  pub limits : AreInRange extents segments payload blocks
 
 -- an array's numbers go together
 abbrev pub IsFit : Order → Type 0
-IsFit (o.Array drives extents segments payload blocks) = IsArrayInRange drives (sizes_of extents segments payload blocks)
+IsFit (o.Array drives extents segments payload blocks) = IsArrayInRange drives extents segments payload blocks
 IsFit _ = Unit {0}
 
 -- each number of the command, and what stands behind them, is within the limits, with so many blocks

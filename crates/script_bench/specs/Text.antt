@@ -70,6 +70,7 @@ answer_text asked (s.Discarded slot) = codes "discarded " ++ decimal slot
 answer_text asked (s.Found found) = found_text found
 answer_text asked (s.FoundAt seen) = seen_text asked seen
 answer_text asked (s.MadeGroup group) = codes "made " ++ decimal group
+answer_text asked (s.LostDrive drive) = codes "lost " ++ decimal drive
 answer_text asked (s.Refused r) = codes "refused " ++ (decimal (number_of r) ++ detail r)
 
 -- the lowest block of which two maps differ, if they do

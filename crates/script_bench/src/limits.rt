@@ -2,10 +2,11 @@
 ghost use Rattle.std.specs.Prelude.{◌≡◌, ◌↔◌, ◌<◌, ◌≤◌, ℕ, List, length, slice_index, slice_index_or, IfSome, IfNone, IfOk, IsTrue};
 ghost use Rattle.std.specs.List.{All};
 ghost use Rattle.script_words.specs.Order.{behind_of, order_of, tail_of};
-ghost use Rattle.script_bench.specs.State.{IsArrayInRange, IsBehindInRange, IsKindInRange, IsMemberInRange, IsWithin, sizes_of};
+ghost use Rattle.script_bench.specs.State.{IsArrayInRange, IsBehindInRange, IsKindInRange, IsMemberInRange, IsWithin};
 ghost use Rattle.script_words.specs.declared.verb.Kind.{Kind};
 ghost use Rattle.script_bench.specs.Answers.{members_named};
-ghost use Rattle.flat_machine.specs.Sizes.{AreSizes};
+ghost use Rattle.extents.specs.Shapes.{IsShapeOf};
+ghost use Rattle.extents.specs.Sizes.{AreInRange};
 
 use script_words::{Command, Kind, Named, Tail};
 use std::alloc::{AllocError, Global};
@@ -122,9 +123,9 @@ pub fn array_in_range(
     payload: u64,
     blocks: u64,
 ) -> Option<(u8, Shape)>
-    ensures some { IfSome result (λ found. (found.0 ≡ drives) × (found.1 ≡ sizes_of extents segments payload blocks)
-        × IsArrayInRange drives (sizes_of extents segments payload blocks)) }
-    ensures none { IfNone result (IsArrayInRange drives (sizes_of extents segments payload blocks) → ⊥) }
+    ensures some { IfSome result (λ found. (found.0 ≡ drives) × IsShapeOf found.1 extents segments payload blocks
+        × IsArrayInRange drives extents segments payload blocks) }
+    ensures none { IfNone result (IsArrayInRange drives extents segments payload blocks → ⊥) }
 {
     if drives < FEWEST_DRIVES || drives > MOST_DRIVES {
         return None;
@@ -137,9 +138,9 @@ pub fn array_in_range(
 
 // The shape with these sizes.
 fn shape_of(extents: u64, segments: u64, payload: u64, blocks: u64) -> Option<Shape>
-    ensures some { IfSome result (λ shape. (shape ≡ sizes_of extents segments payload blocks)
-        × AreSizes (sizes_of extents segments payload blocks)) }
-    ensures none { IfNone result (AreSizes (sizes_of extents segments payload blocks) → ⊥) }
+    ensures some { IfSome result (λ shape. IsShapeOf shape extents segments payload blocks
+        × AreInRange extents segments payload blocks) }
+    ensures none { IfNone result (AreInRange extents segments payload blocks → ⊥) }
 {
     if extents > LAST_SIZE || segments > LAST_SIZE || payload > LAST_SIZE || blocks > LAST_SIZE {
         return None;

@@ -93,7 +93,7 @@ fn later(
         Replies result (Some P) (Some bench.new) line.now out.old.items out.new.items }
 {
     let shape = bench.world.array().shape();
-    let payload = &mut payload[..shape.payload() as usize];
+    let payload = &mut payload[..shape.payload as usize];
     let command = match command_of(alloc, line, payload) {
         Ok(Some(command)) => command,
         Ok(None) => return Err(Failure::Wrong(Why::Form)),
@@ -102,7 +102,7 @@ fn later(
     if let Verb::Array = command.verb {
         return Err(Failure::Wrong(Why::Form));
     }
-    if !is_in_range(&command, shape.blocks()) {
+    if !is_in_range(&command, shape.blocks) {
         return Err(Failure::Wrong(Why::Range));
     }
     match carry_out(alloc, bench, payload, &command, out) {

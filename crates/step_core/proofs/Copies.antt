@@ -79,8 +79,18 @@ copy_case a F w s b r u inside block found unit none whole shows held = (
     at = sym (newest_is a F b (Some r) shows found).1
 
     case : CopyCase F w s b (Copied s) (ticketed F w s (Moved b r.version r.hop y.0.content))
-    case = (refl, (r, y.0, copy_passes a F w s b r found none shows held, y.1, none_gone a F shows r.place, none_gone a F shows s,
-      itself (ticketed F w s (Moved b r.version r.hop y.0.content))))
+    case = (
+      refl,
+      (
+        r,
+        y.0,
+        copy_passes a F w s b r found none shows held,
+        y.1,
+        none_gone a F shows r.place,
+        none_gone a F shows s,
+        itself (ticketed F w s (Moved b r.version r.hop y.0.content)),
+      ),
+    )
 
 -- and where something does, it is the flat machine's refusal
 pub copy_refused : (a : ArrayView) (F : Flat) (w s b : ℕ) (q : Refusal) → copy_reason a s (record_at b (key_at a b)) ≡ Some q → ShowsArray a F → F.held s (Worker w) ≡ true

@@ -25,9 +25,9 @@ pub none_gone : (a : ArrayView) (F : Flat) → ShowsArray a F → (s : ℕ) → 
 none_gone a F shows s gone =
     never_gone F.groups F.lost s gone.0 shows.history.groups.table
     (λ g j k m n m_at n_at m_gone n_gone.
-        let low = (shows.history.groups.there g j m m_at).0 in
-        let drives = shows.tables.drives in
-        let is : F.lost m.drive ≡ false = shows.tables.lost m.drive ∙ not_past m.drive a.drives (omega arith) in
-        let bad : true ≡ false = sym m_gone ∙ is in
-        absurd (cc))
+    let low = (shows.history.groups.there g j m m_at).0 in
+    let drives = shows.tables.drives in
+    let is : F.lost m.drive ≡ false = shows.tables.lost m.drive ∙ not_past m.drive a.drives (omega arith) in
+    let bad : true ≡ false = sym m_gone ∙ is in
+    absurd (cc))
     gone.1 (site_whole F.groups s gone.0 shows.history.groups.table gone.1) gone.2

@@ -1,5 +1,5 @@
 -- The tests that come before a group is made, and its units put into the table.
-use Rattle.std.proofs.Common.{◌≡◌, ◌≢◌, ℕ, zero, suc, ◌+◌, ◌<◌, ◌≤◌, Bool, true, false, ◌==◌, ◌||◌, cond, List, [], ◌∷◌, length, get_or, All, refl, sym, ap, ◌∙◌, subst, arith, ◌⊎◌, inl, inr, Option, Some, None, is_some, nat_lt}
+use Rattle.std.proofs.Common.{◌≡◌, ◌≢◌, ℕ, suc, ◌+◌, ◌<◌, ◌≤◌, Bool, true, false, ◌==◌, ◌||◌, cond, List, [], ◌∷◌, length, get_or, All, refl, sym, ap, ◌∙◌, subst, arith, ◌⊎◌, inl, inr, Option, Some, None, is_some, nat_lt}
 use Rattle.std.specs.Prelude.{slice_get}
 use Rattle.std.specs.List.{list_any}
 use Rattle.std.proofs.lemmas.List.{length-map}
@@ -13,7 +13,7 @@ use Rattle.extent_groups.specs.declared.class.Member.{Member}
 use Rattle.extent_groups.specs.declared.refusal.GroupRefusal.{GroupRefusal}
 use Rattle.extent_groups.specs.declared.refusal.GroupRefusal.TheVariants as fault
 use Rattle.extent_groups.specs.Faults.{is_on, shares_drive, is_owned, put_fault}
-use Rattle.extent_groups.specs.Groups.{Groups, group_at, members_of, AreThere, AreGroups, IsFree, Agree, Stands}
+use Rattle.extent_groups.specs.Groups.{Groups, group_at, AreThere, AreGroups, IsFree, Agree}
 use Rattle.extent_groups.proofs.GroupsLemmas.{none_owned, spread_of}
 use Rattle.flat_machine.specs.Groups.{AreMembers, AreApart, AreUnowned, IsLowestFree}
 use Rattle.flat_machine.proofs.Pairs.{equal_back}

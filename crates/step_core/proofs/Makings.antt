@@ -1,8 +1,6 @@
 -- Making a group in what is seen of an array is the flat machine's case.
 use Rattle.std.proofs.Common.{◌≡◌, ℕ, ◌+◌, ◌*◌, ◌/◌, ◌%◌, ◌<◌, ◌≤◌, Bool, true, false, not, ◌==◌, ◌&&◌, cond, nat_lt, nat_le, is_some, All, List, length, get_or, refl, sym, ap, ◌∙◌, subst, arith, ◌⊎◌, inl, inr, Option, Some, None}
-use Rattle.std.proofs.Math.ListN.{set}
-use Rattle.std.proofs.lemmas.List.{length-replicate, length-set, get_or-set_same, get_or-set_other}
-use Rattle.std.proofs.lemmas.Bool.{cases_eq}
+use Rattle.std.proofs.lemmas.List.{length-replicate}
 use Rattle.std.proofs.lemmas.Bool.Decides.{nat_tests}
 use Rattle.std.proofs.lemmas.Option.{same_Some}
 use Rattle.extent_groups.specs.declared.class.Class.{Class}
@@ -10,14 +8,12 @@ use Rattle.extent_groups.specs.declared.class.Member.{Member}
 use Rattle.flat_machine.specs.declared.refusal.Refusal.{Refusal}
 use Rattle.flat_machine.specs.declared.refusal.Refusal.TheVariants.{BadMember, SameDrive, ExtentTaken, Full}
 use Rattle.flat_machine.specs.Steps.{Make, MadeGroup, Refused}
-use Rattle.extents.specs.Owners.{Owners}
 use Rattle.extent_groups.specs.Geometry.{slot_count}
 use Rattle.extent_groups.specs.Groups.{Groups, with_group, with_owners, Agree}
 use Rattle.extent_groups.proofs.Readiness.{rows_given, extents_given}
 use Rattle.flat_machine.specs.Groups.{AreMembers, AreUnowned, ArePresent, IsLowestFree, IsFull}
-use Rattle.flat_machine.specs.Flat.{Flat, Block, Stored, put}
+use Rattle.flat_machine.specs.Flat.{Flat, Block, Stored}
 use Rattle.flat_machine.specs.Cases.{made, wiped, MakeCase, MakePasses, AreFit, IsWanted}
-use Rattle.flat_machine.proofs.Pairs.{put_here, put_else}
 use Rattle.flat_machine.proofs.Makes.{groups_more}
 use Rattle.step_core.specs.Changes.{MayRefuse}
 use Rattle.step_core.specs.Making.{blank, placed, Entered, ArePlaced, IsBlankUnit, IsMakeReason}

@@ -1,5 +1,5 @@
 -- What making a group changes in what is seen of an array.
-use Rattle.std.specs.Prelude.{◌≡◌, ℕ, ◌+◌, ◌*◌, ◌≤◌, ◌&&◌, nat_lt, nat_le, if◌then◌else◌, List, All, length, replicate, slice_index_or, slice_set, Option, Some, None}
+use Rattle.std.specs.Prelude.{◌≡◌, ℕ, ◌+◌, ◌*◌, ◌≤◌, ◌&&◌, nat_lt, nat_le, if◌then◌else◌, List, All, length, replicate, slice_index_or, Option, Some, None}
 use Rattle.extent_groups.specs.declared.class.Class.{Class}
 use Rattle.extent_groups.specs.declared.class.Member.{Member}
 use Rattle.extent_groups.specs.declared.refusal.GroupRefusal.{GroupRefusal}
@@ -7,7 +7,6 @@ use Rattle.extent_groups.specs.declared.refusal.GroupRefusal.TheVariants as faul
 use Rattle.flat_machine.specs.declared.refusal.Refusal.{Refusal}
 use Rattle.flat_machine.specs.declared.refusal.Refusal.TheVariants.{BadMember, SameDrive, ExtentTaken}
 use Rattle.step_core.specs.declared.stored.StoredUnit.{StoredUnit}
-use Rattle.extents.specs.Owners.{Owners}
 use Rattle.extent_groups.specs.Geometry.{slot_count}
 use Rattle.extent_groups.specs.Groups.{with_group, with_owners, Agree}
 use Rattle.flat_machine.specs.Groups.{AreMembers, AreApart, AreUnowned}

@@ -3,7 +3,7 @@ ghost use Rattle.std.specs.Prelude.{◌≡◌, ℕ, ◌<◌, ◌≤◌, length, 
 ghost use Rattle.map_join.specs.Record.{record_at};
 ghost use Rattle.map_join.specs.Maps.{at, IsSame, IsMapOf};
 ghost use Rattle.extents.specs.Shapes.{IsShapeOf};
-ghost use Rattle.flat_machine.specs.Groups.{class_at};
+ghost use Rattle.flat_machine.specs.Groups.{class_at, IsEmpty};
 ghost use Rattle.flat_machine.specs.Flat.{Flat, new_flat, put, IsKept, IsNewest};
 ghost use Rattle.step_core.specs.Views.{kept_at, key_at, is_kept, is_waiting, IsNew, IsWhole};
 ghost use Rattle.step_core.specs.Represents.{ShowsArray};
@@ -52,6 +52,7 @@ impl<C: Hold> Array<C> {
     pub fn new(alloc: Global, shape: Shape, drives: u8) -> Result<Array<C>, Refusal>
         requires { (3 ≤ drives) × (drives ≤ 16) }
         ensures sizes { IfOk result (λ array. IsShapeOf shape array.groups.extents array.groups.segments array.groups.payload array.groups.blocks) }
+        ensures empty { IfOk result (λ array. IsEmpty array.groups) }
         ensures ok { IfOk result (λ array. ShowsArray array (new_flat array.groups drives (nat_le drives) (λ _. 0))) }
         ensures err { IfErr result (λ refusal. refusal ≡ Refusal.Memory) }
     {

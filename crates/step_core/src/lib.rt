@@ -19,11 +19,11 @@ mod world;
 
 pub use array::Array;
 pub use commit::{Done, Emitted};
+pub use extents::{Shape, ShapeRefusal};
 pub use flat_machine::{Class, Member, Refusal};
 pub use hold::{Hold, Plain, Ticket};
 pub use read::At;
 pub use reading::Reading;
 pub use run::{Run, Stopped, represented_stands, run_steps};
-pub use extents::{Shape, ShapeRefusal};
 pub use step::{Answer, Step};
 pub use world::World;

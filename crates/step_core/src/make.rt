@@ -16,7 +16,9 @@ ghost use Rattle.step_core.specs.Represents.{ShowsArray};
 use crate::array::Array;
 use crate::hold::Hold;
 use crate::stored::StoredUnit;
-use extent_groups::{GROUPS, GroupRefusal, GroupTable, SLOTS as SLOTS_OF_A_GROUP, are_there, put_check};
+use extent_groups::{
+    GROUPS, GroupRefusal, GroupTable, SLOTS as SLOTS_OF_A_GROUP, are_there, put_check,
+};
 use extents::{ExtentTable, Header};
 use flat_machine::{Class, Member, Refusal};
 use std::alloc::{AllocError, Global};

@@ -2,6 +2,7 @@
 ghost use Rattle.std.specs.Prelude.{◌≡◌, ℕ, ◌<◌, ◌≤◌, List, length, nat_le, IfOk, IfErr, OnErr, Some};
 ghost use Rattle.map_join.specs.declared.records.Record.{Record};
 ghost use Rattle.extents.specs.Shapes.{IsShapeOf};
+ghost use Rattle.flat_machine.specs.Groups.{IsEmpty};
 ghost use Rattle.flat_machine.specs.Steps as say;
 ghost use Rattle.flat_machine.specs.Steps.{Version};
 ghost use Rattle.flat_machine.specs.Flat.{Flat, Payload, new_flat};
@@ -44,6 +45,7 @@ impl World {
     pub fn new(alloc: Global, shape: Shape, drives: u8) -> Result<World, Refusal>
         requires { (3 ≤ drives) × (drives ≤ 16) }
         ensures ok { IfOk result (λ world. Represents world (new_flat world.array.groups drives (nat_le drives) (λ _. 0))) }
+        ensures empty { IfOk result (λ world. IsEmpty world.array.groups) }
         ensures sizes { IfOk result (λ world. IsShapeOf shape world.array.groups.extents world.array.groups.segments world.array.groups.payload world.array.groups.blocks) }
         ensures err { IfErr result (λ refusal. refusal ≡ Refusal.Memory) }
     {

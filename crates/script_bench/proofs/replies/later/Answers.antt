@@ -1,22 +1,26 @@
 use Rattle.std.proofs.Common.{◌≤◌, length, arith, ap, sym, ◌∙◌, refl, rules}
+use Rattle.extent_groups.specs.Groups.{Groups}
+use Rattle.step_core.specs.Views.{ArrayView}
 use Rattle.script_words.specs.Order.{order_of}
 use Rattle.script_bench.proofs.Said.{buffer_size, unsaid, replied}
 use Rattle.script_bench.proofs.replies.later.Goals as goal
 
 pub returns-in-Ok-None : goal.returns-in-Ok-None
 returns-in-Ok-None c P stands =
-    let sizes = stands.world.array.tables.sizes ∙ ap (λ a. a.sizes) (sym c.array.ensures) ∙ sym c.shape-shape.ensures in
-    let room : c.payload.result ≤ length c.args.payload.now = omega arith in
+    let groups = stands.world.array.tables.groups ∙ ap (λ (a : ArrayView). a.groups) (sym c.array.ensures) in
+    let size = ap (λ (z : Groups). z.payload) groups ∙ sym c.shape-shape.ensures.of_payload in
+    let room : c.shape-shape.result.payload ≤ length c.args.payload.now = omega arith in
     unsaid P _ c.args.line.now c.args.out.now.items
-    (buffer_size P c.payload.result c.args.payload.now (ap (λ z. z.payload) sizes ∙ sym c.payload.ensures.value) room)
+    (buffer_size P c.shape-shape.result.payload c.args.payload.now size room)
     (rw c.in-Ok-None.field-0-is at c.in-Ok-None.ensures)
 
 pub returns-in-Ok : goal.returns-in-Ok
 returns-in-Ok c P stands =
-    let sizes = stands.world.array.tables.sizes ∙ ap (λ a. a.sizes) (sym c.array.ensures) ∙ sym c.shape-shape.ensures in
-    let room : c.payload.result ≤ length c.args.payload.now = omega arith in
+    let groups = stands.world.array.tables.groups ∙ ap (λ (a : ArrayView). a.groups) (sym c.array.ensures) in
+    let size = ap (λ (z : Groups). z.payload) groups ∙ sym c.shape-shape.ensures.of_payload in
+    let room : c.shape-shape.result.payload ≤ length c.args.payload.now = omega arith in
     let bytes = c.command_of.new.payload in
     replied P c.carry_out.new.bench _ _ c.args.line.now c.args.out.now.items c.carry_out.new.out.items (order_of c.in-Ok-Some.command bytes)
-    (buffer_size P c.payload.result c.args.payload.now (ap (λ z. z.payload) sizes ∙ sym c.payload.ensures.value) room)
-    (ap (λ z. z.blocks) sizes ∙ search rules)
+    (buffer_size P c.shape-shape.result.payload c.args.payload.now size room)
+    (ap (λ (z : Groups). z.blocks) groups ∙ sym c.shape-shape.ensures.of_blocks)
     (rw c.in-Ok-Some.field-0-is at c.in-Ok-Some.ensures) (search rules) ((c.if-not-is_in_range.ensures bytes).0 refl) (c.in-Ok.ensures P stands)

@@ -1,4 +1,4 @@
-use Rattle.std.proofs.Common.{refl, rules}
+use Rattle.std.proofs.Common.{refl}
 use Rattle.step_core.proofs.Makes.{made_more, lowest_is}
 use Rattle.step_core.proofs.make.lowest_free.Goals as goal
 

@@ -4,7 +4,7 @@ use Rattle.flat_machine.specs.Cases.{Runs}
 use Rattle.step_core.specs.Views.{WorldView}
 use Rattle.step_core.specs.Represents.{Represents}
 use Rattle.step_core.specs.Told.{flat_step, flat_answer}
-use Rattle.step_core.proofs.Runnings.{stands, fits_at, sizes_same, sizes_again, runs_step, take_past, some_steps}
+use Rattle.step_core.proofs.Runnings.{stands, fits_at, sizes_again, runs_step, take_past, some_steps}
 use Rattle.step_core.proofs.run.run_steps.Goals as goal
 
 pub step-requires : goal.step-requires

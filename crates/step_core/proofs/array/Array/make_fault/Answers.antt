@@ -1,5 +1,4 @@
-use Rattle.std.proofs.Common.{sym, subst, ap, ◌∙◌, length, ◌≤◌, refl}
-use Rattle.extents.specs.Owners.{Owners}
+use Rattle.std.proofs.Common.{sym, subst, ap, ◌∙◌}
 use Rattle.extent_groups.specs.Faults.{put_fault}
 use Rattle.extent_groups.specs.Groups.{AreThere}
 use Rattle.step_core.specs.Views.{ArrayView, IsWhole}

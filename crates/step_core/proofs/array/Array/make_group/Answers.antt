@@ -1,5 +1,4 @@
 use Rattle.std.proofs.Common.{rules, subst}
-use Rattle.extent_groups.specs.Groups.{Groups}
 use Rattle.flat_machine.specs.Groups.{IsLowestFree, IsFull}
 use Rattle.step_core.specs.Views.{ArrayView}
 use Rattle.step_core.specs.Making.{IsMakeReason}

@@ -1,0 +1,42 @@
+use Rattle.std.proofs.Common.{ℕ, nat_le, codes, refl, sym, ap, subst, ◌∙◌, rules, Some}
+use Rattle.extent_groups.specs.Groups.{Groups}
+use Rattle.flat_machine.specs.Flat.{new_flat}
+use Rattle.step_core.specs.Views.{WorldView}
+use Rattle.step_core.specs.Represents.{Represents}
+use Rattle.script_bench.specs.State.{State, nothing_taken}
+use Rattle.script_bench.proofs.replies.begin.Goals as goal
+
+-- where a new array stands
+abbrev begun : Groups → ℕ → State
+begun groups drives = Some (record { flat = new_flat groups drives (nat_le drives) (λ _. 0); taken = nothing_taken })
+
+pub returns-in-Ok-put : goal.returns-in-Ok-put
+returns-in-Ok-put c =
+    let some = c.in-Some.ensures.some in
+    let sizes = c.in-Ok.ensures.sizes in
+    let groups = c.in-Ok.world.array.groups in
+    record {
+      due = refl;
+      range = record { within = search rules; fit = some.2 };
+      carried = record {
+        text = codes "array";
+        next = begun groups c.in-Some.drives;
+        answers = record {
+          groups = groups;
+          none = record {
+            of_extents = sym sizes.of_extents ∙ some.1.of_extents;
+            of_segments = sym sizes.of_segments ∙ some.1.of_segments;
+            of_payload = sym sizes.of_payload ∙ some.1.of_payload;
+            of_blocks = sym sizes.of_blocks ∙ some.1.of_blocks;
+            empty = c.in-Ok.ensures.empty;
+          };
+          text_is = refl;
+          state_is = ap (begun groups) some.0;
+        };
+        stands = record {
+          world = subst (λ (w : WorldView). Represents w (new_flat groups c.in-Some.drives (nat_le c.in-Some.drives) (λ _. 0))) (sym c.new-in-Ok-put.ensures.world) c.in-Ok.ensures.ok;
+          maps = c.new-in-Ok-put.ensures.maps;
+        };
+        out = c.in-Ok-put.ensures;
+      };
+    }
