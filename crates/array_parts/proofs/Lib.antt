@@ -1,0 +1,6 @@
+pub mod Reading
+mod Fitting
+pub mod Wiping
+pub mod Making
+mod Setting
+pub mod Shows

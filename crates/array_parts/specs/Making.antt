@@ -1,0 +1,37 @@
+-- Extents wiped one after another, for a group that is to be made of them.
+use Rattle.std.specs.Prelude.{◌≡◌, ℕ, ◌<◌, Bool, Some, List, slice_get}
+use Rattle.flat_machine.specs.declared.refusal.Refusal.{Refusal}
+use Rattle.flat_machine.specs.declared.refusal.Refusal.TheVariants.{DriveLost}
+use Rattle.flat_machine.specs.Groups.{IsFirstLost}
+use Rattle.extents.specs.Sizes.{extent_units}
+use Rattle.extent_groups.specs.declared.class.Member.{Member}
+use Rattle.extent_groups.specs.declared.place.Place.{Place}
+use Rattle.extent_groups.specs.Cells.{Cells, cells}
+use Rattle.extent_groups.specs.Calls.{SameBut, KeepsDrives}
+use Rattle.extent_groups.specs.Wiping.{HasExtent, IsIn, HoldBelow}
+
+-- the drives have the extents of all members
+abbrev pub HaveExtents : {D : Type 0} → (D → List (List ℕ)) → ℕ → List D → List Member → Type 0
+HaveExtents units segments drives members = (k : ℕ) (m : Member) → slice_get members k ≡ Some m → HasExtent units segments drives m
+
+-- every unit of the extents of the members below a number holds these bytes, those too that no slot uses
+abbrev pub AreWiped : ℕ → List Member → List ℕ → ℕ → Cells → Type 0
+AreWiped segments members bytes bound c = (k : ℕ) (m : Member) → k < bound → slice_get members k ≡ Some m → HoldBelow segments m bytes (extent_units segments) c
+
+-- the place is in the extent of one of the members
+abbrev pub IsInOne : ℕ → List Member → Place → Type 0
+IsInOne segments members x = (k : ℕ) × (m : Member) × (slice_get members k ≡ Some m) × IsIn segments m x
+
+-- one of the members is on the drive
+abbrev pub HasOn : List Member → ℕ → Type 0
+HasOn members d = (k : ℕ) × (m : Member) × (slice_get members k ≡ Some m) × (d ≡ m.drive)
+
+-- the refusal names that drive
+abbrev pub TellsLost : (ℕ → Bool) → List Member → Refusal → Type 0
+TellsLost missing members refusal = (d : ℕ) × (refusal ≡ DriveLost d) × IsFirstLost missing members d
+
+-- the extents of the members below a number were wiped with these bytes, one after another
+pub record AreWipedTo {D : Type 0} (units : D → List (List ℕ)) (lost : D → Bool) (failures : D → ℕ) (segments : ℕ) (members : List Member) (bytes : List ℕ) (bound : ℕ) (old new : List D) : Type 0 where
+  pub wiped : AreWiped segments members bytes bound (cells units lost new)
+  pub others : SameBut (HasOn members) old new
+  pub touched : KeepsDrives units lost failures (IsInOne segments members) old new

@@ -1,0 +1,104 @@
+// Making a group: its extents are wiped, and then it enters the table.
+ghost use Rattle.std.specs.Prelude.{◌≡◌, ◌≢◌, ◌≤◌, ◌/◌, ℕ, List, length, None, Some, OnOk, OnErr, IfErr, replicate};
+ghost use Rattle.extent_groups.specs.Calls.{AreSized, KeepsDrives, SameBut};
+ghost use Rattle.extent_groups.specs.Cells.{cells};
+ghost use Rattle.extent_groups.specs.Faults.{put_fault};
+ghost use Rattle.extent_groups.specs.Groups.{AreThere, IsFree, with_group, with_owners};
+ghost use Rattle.extent_groups.specs.Missing.{missing_of};
+ghost use Rattle.extent_groups.specs.Stores.{unit_bytes, unit_of, AreSound};
+ghost use Rattle.flat_machine.specs.Groups.{AreApart, ArePresent, IsFirstLost};
+ghost use Rattle.array_parts.specs.Fit.{IsFit};
+ghost use Rattle.array_parts.specs.Losses.{AllFare, KeepsTables};
+ghost use Rattle.array_parts.specs.Making.{HaveExtents, AreWiped, IsInOne, HasOn, TellsLost};
+ghost use Rattle.array_parts.specs.Slots.{cells_in, missing_in};
+
+use crate::Parts;
+use extent_groups::{Class, Member, wipe_extent};
+use extents::{Drive, Shape};
+use flat_machine::Refusal;
+
+/// Writes zeros over each unit of the members' extents; refused with the first drive that is lost.
+fn wipe_members<D: Drive>(
+    drives: &mut [D],
+    shape: &Shape,
+    members: &[Member],
+    zeros: &[u8],
+) -> Result<(), u8>
+    requires there { HaveExtents D.units shape.now.segments drives.old members.now }
+    requires spread { AreApart members.now }
+    requires some { 1 ≤ shape.now.segments }
+    requires size { AreSized D.units (length zeros.now) drives.old }
+    ensures wiped { OnOk result (AreWiped shape.now.segments members.now zeros.now (length members.now) (cells D.units D.lost drives.new)) }
+    ensures lost { IfErr result (IsFirstLost (missing_of D.lost drives.new) members.now) }
+    ensures others { SameBut (HasOn members.now) drives.old drives.new }
+    ensures touched { KeepsDrives D.units D.lost D.failures (IsInOne shape.now.segments members.now) drives.old drives.new }
+{
+    for member in members {
+        if !wipe_extent(drives, shape, *member, zeros) {
+            return Err(member.drive);
+        }
+    }
+    Ok(())
+}
+
+impl<D: Drive> Parts<D> {
+    /// Writes zeros over each unit of the members' extents; refused with the first drive that is lost.
+    fn wipe(&mut self, members: &[Member], zeros: &[u8]) -> Result<(), u8>
+        requires fit { IsFit D.units self.old }
+        requires there { AreThere self.old.extents members.now }
+        requires spread { AreApart members.now }
+        requires size { length zeros.now ≡ unit_bytes self.old.groups }
+        ensures wiped { OnOk result (AreWiped self.old.groups.segments members.now zeros.now (length members.now) (cells_in D.units D.lost self.new)) }
+        ensures lost { IfErr result (IsFirstLost (missing_in D.lost self.new) members.now) }
+        ensures others { SameBut (HasOn members.now) self.old.drives.items self.new.drives.items }
+        ensures touched { KeepsDrives D.units D.lost D.failures (IsInOne self.old.groups.segments members.now) self.old.drives.items self.new.drives.items }
+        ensures tables { KeepsTables self.old self.new }
+    {
+        let drives: &mut [D] = &mut self.drives;
+        wipe_members(drives, &self.shape, members, zeros)
+    }
+
+    /// Makes a group under a free number, of members that pass every check, with a unit of zeros to wipe their
+    /// extents with; where a member's drive is lost the tables are as they were.
+    pub fn make(
+        &mut self,
+        group: u16,
+        class: Class,
+        members: Vec<Member>,
+        zeros: &[u8],
+    ) -> Result<(), Refusal>
+        requires fit { IsFit D.units self.old }
+        requires free { IsFree self.old.groups group }
+        requires there { AreThere self.old.extents members.items }
+        requires fine { put_fault self.old.extents members.items ≡ None }
+        requires zeros { zeros.now ≡ replicate (unit_bytes self.old.groups) 0 }
+
+        // The tables.
+        ensures shape { self.new.shape ≡ self.old.shape }
+        ensures made { OnOk result (self.new.groups ≡ with_group self.old.groups group (Some (record { class = class; members = members.items }))) }
+        ensures owned { OnOk result (self.new.extents ≡ with_owners self.old.extents members.items (Some group)) }
+        ensures err { OnErr result (KeepsTables self.old self.new) }
+
+        // The drives of the group, and its units.
+        ensures wiped { OnOk result (AreWiped self.old.groups.segments members.items zeros.now (length members.items) (cells_in D.units D.lost self.new)) }
+        ensures present { OnOk result (ArePresent (missing_in D.lost self.new) members.items) }
+        ensures blank { OnOk result ((slot : ℕ) (unit : List ℕ) → slot / 128 ≡ group → unit_of self.new.groups (cells_in D.units D.lost self.new) slot ≡ Some unit → unit ≡ zeros.now) }
+        ensures lost { IfErr result (TellsLost (missing_in D.lost self.new) members.items) }
+
+        // All others.
+        ensures others { AreSound self.old.groups (cells_in D.units D.lost self.old) → ((slot : ℕ) (unit : List ℕ) → slot / 128 ≢ group
+            → unit_of self.new.groups (cells_in D.units D.lost self.new) slot ≡ Some unit → unit_of self.old.groups (cells_in D.units D.lost self.old) slot ≡ Some unit) }
+        ensures sound { AreSound self.old.groups (cells_in D.units D.lost self.old) → AreSound self.new.groups (cells_in D.units D.lost self.new) }
+        ensures touched { KeepsDrives D.units D.lost D.failures (IsInOne self.old.groups.segments members.items) self.old.drives.items self.new.drives.items }
+        ensures elsewhere { SameBut (HasOn members.items) self.old.drives.items self.new.drives.items }
+        ensures fares { AllFare D.lost D.failures self.old.drives.items self.new.drives.items }
+        ensures fit { IsFit D.units self.new }
+    {
+        if let Err(drive) = self.wipe(&members, zeros) {
+            return Err(Refusal::DriveLost(drive));
+        }
+        self.groups
+            .enter_group(&mut self.extents, group, class, members);
+        Ok(())
+    }
+}

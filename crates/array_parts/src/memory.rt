@@ -1,0 +1,46 @@
+// Drives in memory that are lost from outside.
+ghost use Rattle.std.specs.Prelude.{◌≡◌, ◌<◌, ◌≤◌, ℕ, true, length, OnOk, slice_get, Some};
+ghost use Rattle.extents.specs.Condition.{Held, is_gone, after_loss, after_fuse};
+ghost use Rattle.extent_groups.specs.Calls.{SameBut};
+ghost use Rattle.extent_groups.specs.Stores.{AreSound, KeepsUnits};
+ghost use Rattle.flat_machine.specs.Flat.{put};
+ghost use Rattle.array_parts.specs.Fit.{IsFit};
+ghost use Rattle.array_parts.specs.Losses.{KeepsTables, failures_of};
+ghost use Rattle.array_parts.specs.Memory.{held_units, held_lost, held_failures, IsSetTo};
+ghost use Rattle.array_parts.specs.Slots.{cells_in, missing_in};
+
+use crate::Parts;
+use extents::MemDrive;
+
+impl Parts<MemDrive> {
+    /// Loses a drive from outside.
+    pub fn lose(&mut self, drive: u8)
+        requires fit { IsFit held_units self.old }
+        requires drive { drive < length self.old.drives.items }
+        ensures lost { IsSetTo after_loss self.old.drives.items self.new.drives.items drive }
+        ensures missing { (d : ℕ) → missing_in held_lost self.new d ≡ put (missing_in held_lost self.old) drive true d }
+        ensures failures { (d : ℕ) → failures_of held_failures self.new.drives.items d ≡ failures_of held_failures self.old.drives.items d }
+        ensures units { AreSound self.old.groups (cells_in held_units held_lost self.old) → KeepsUnits self.old.groups (cells_in held_units held_lost self.old) (cells_in held_units held_lost self.new) }
+        ensures sound { AreSound self.old.groups (cells_in held_units held_lost self.old) → AreSound self.new.groups (cells_in held_units held_lost self.new) }
+        ensures tables { KeepsTables self.old self.new }
+        ensures fit { IsFit held_units self.new }
+    {
+        self.drives[drive as usize].lose();
+    }
+
+    /// Loses a drive at the given read or write of it from now on, counted from 1, and for all later ones.
+    pub fn fuse(&mut self, drive: u8, calls: u64)
+        requires fit { IsFit held_units self.old }
+        requires drive { drive < length self.old.drives.items }
+        requires calls { 1 ≤ calls }
+        ensures fused { IsSetTo (λ c. after_fuse c calls) self.old.drives.items self.new.drives.items drive }
+        ensures missing { (d : ℕ) → missing_in held_lost self.new d ≡ missing_in held_lost self.old d }
+        ensures failures { (d : ℕ) → failures_of held_failures self.new.drives.items d ≡ failures_of held_failures self.old.drives.items d }
+        ensures units { AreSound self.old.groups (cells_in held_units held_lost self.old) → KeepsUnits self.old.groups (cells_in held_units held_lost self.old) (cells_in held_units held_lost self.new) }
+        ensures sound { AreSound self.old.groups (cells_in held_units held_lost self.old) → AreSound self.new.groups (cells_in held_units held_lost self.new) }
+        ensures tables { KeepsTables self.old self.new }
+        ensures fit { IsFit held_units self.new }
+    {
+        self.drives[drive as usize].fuse(calls);
+    }
+}

@@ -1,0 +1,112 @@
+// What an array consists of, without what is remembered of its blocks.
+ghost use Rattle.std.specs.Prelude.{◌≡◌, ◌*◌, ◌≤◌, ◌↔◌, ℕ, length, slice_get, None, Some, OnOk, OnErr, IfOk, IfErr, IsTrue};
+ghost use Rattle.extents.specs.Shapes.{IsShapeOf};
+ghost use Rattle.extents.specs.Sizes.{extent_units};
+ghost use Rattle.extents.specs.declared.shape.TheConstants.{HEADER_BYTES};
+ghost use Rattle.extent_groups.specs.Groups.{group_at};
+ghost use Rattle.extent_groups.specs.Calls.{AreSized, KeepsDrives};
+ghost use Rattle.extent_groups.specs.Missing.{IsGone};
+ghost use Rattle.extent_groups.specs.Stores.{unit_bytes, unit_of, AreSound, KeepsUnits, Wrote, IsOwnOf};
+ghost use Rattle.array_parts.specs.Fit.{IsFit, HaveUnits};
+ghost use Rattle.array_parts.specs.Losses.{AllFare, KeepsTables, LosesOnly};
+ghost use Rattle.array_parts.specs.Slots.{IsSlot, cells_in, missing_in, TellsGone};
+
+use crate::slots::{read_slot, write_slot};
+use extent_groups::GroupTable;
+use extents::{Drive, ExtentTable, Shape};
+use flat_machine::Refusal;
+
+/// The parts of an array: whoever recovers one may put them together.
+#[derive(Drop)]
+pub struct Parts<D> {
+    pub shape: Shape,
+    pub groups: GroupTable,
+    /// The group that owns each extent of each drive.
+    pub extents: ExtentTable,
+    pub drives: Vec<D>,
+}
+
+/// Whether the shape is that of the groups.
+fn is_shape_of(shape: &Shape, groups: &GroupTable) -> bool
+    ensures { IsTrue result ↔ IsShapeOf shape.now groups.now.extents groups.now.segments groups.now.payload groups.now.blocks }
+{
+    let other = groups.shape();
+    shape.extents == other.extents
+        && shape.segments == other.segments
+        && shape.payload == other.payload
+        && shape.blocks == other.blocks
+}
+
+/// Whether each drive has so many units.
+fn have_units<D: Drive>(drives: &[D], units: u32) -> bool
+    ensures { IsTrue result ↔ HaveUnits D.units drives.now units }
+{
+    drives.iter().all(|drive| drive.units() == units)
+}
+
+impl<D: Drive> Parts<D> {
+    /// Whether the parts fit one another; a drive doesn't tell how many bytes a unit has.
+    pub fn is_fit(&self) -> bool
+        requires { AreSized D.units (unit_bytes self.now.groups) self.now.drives.items }
+        ensures { IsTrue result ↔ IsFit D.units self.now }
+    {
+        let _groups = self.groups.members(0);
+        let count = self.drives.len();
+        if count < 3 || count > 16 || self.extents.drives() != count {
+            return false;
+        }
+        if !is_shape_of(&self.shape, &self.groups) {
+            return false;
+        }
+        if self.extents.owners(0).len() != self.shape.extents as usize {
+            return false;
+        }
+        have_units(&self.drives, self.shape.drive_units()) && self.groups.agrees(&self.extents)
+    }
+
+    /// Reads the effective unit of a slot, with two buffers of a unit's length.
+    pub fn read(&mut self, slot: u16, unit: &mut [u8], scratch: &mut [u8]) -> Result<(), Refusal>
+        requires fit { IsFit D.units self.old }
+        requires slot { IsSlot self.old.groups slot }
+        requires unit { length unit.old ≡ unit_bytes self.old.groups }
+        requires scratch { length scratch.old ≡ 2 * unit_bytes self.old.groups }
+        ensures ok { OnOk result (unit_of self.new.groups (cells_in D.units D.lost self.new) slot ≡ Some unit.new) }
+        ensures there { OnOk result (IsGone self.new.groups (missing_in D.lost self.new) slot → ⊥) }
+        ensures gone { IfErr result (TellsGone D.units D.lost self.new slot) }
+
+        // No unit changes: where all was sound it is, and each unit that exists afterwards is what it was.
+        ensures units { AreSound self.old.groups (cells_in D.units D.lost self.old) → KeepsUnits self.old.groups (cells_in D.units D.lost self.old) (cells_in D.units D.lost self.new) }
+        ensures sound { AreSound self.old.groups (cells_in D.units D.lost self.old) → AreSound self.new.groups (cells_in D.units D.lost self.new) }
+        ensures only { LosesOnly D.units D.lost D.failures self.old self.new }
+        ensures fares { AllFare D.lost D.failures self.old.drives.items self.new.drives.items }
+        ensures fit { IsFit D.units self.new }
+    {
+        let drives: &mut [D] = &mut self.drives;
+        match read_slot(&self.groups, drives, slot, unit, scratch) {
+            Ok(()) => Ok(()),
+            Err(_) => Err(Refusal::Gone(slot)),
+        }
+    }
+
+    /// Writes the unit of a slot, with two buffers of a unit's length.
+    pub fn write(&mut self, slot: u16, unit: &[u8], scratch: &mut [u8]) -> Result<(), Refusal>
+        requires fit { IsFit D.units self.old }
+        requires slot { IsSlot self.old.groups slot }
+        requires unit { length unit.now ≡ unit_bytes self.old.groups }
+        requires scratch { length scratch.old ≡ 2 * unit_bytes self.old.groups }
+        ensures ok { OnOk result (unit_of self.new.groups (cells_in D.units D.lost self.new) slot ≡ Some unit.now) }
+        ensures there { OnOk result (IsGone self.new.groups (missing_in D.lost self.new) slot → ⊥) }
+        ensures gone { IfErr result (TellsGone D.units D.lost self.new slot) }
+        ensures wrote { Wrote self.old.groups (cells_in D.units D.lost self.old) (cells_in D.units D.lost self.new) slot unit.now }
+        ensures touched { KeepsDrives D.units D.lost D.failures (IsOwnOf self.old.groups slot) self.old.drives.items self.new.drives.items }
+        ensures tables { KeepsTables self.old self.new }
+        ensures fares { AllFare D.lost D.failures self.old.drives.items self.new.drives.items }
+        ensures fit { IsFit D.units self.new }
+    {
+        let drives: &mut [D] = &mut self.drives;
+        match write_slot(&self.groups, drives, slot, unit, scratch) {
+            Ok(()) => Ok(()),
+            Err(_) => Err(Refusal::Gone(slot)),
+        }
+    }
+}

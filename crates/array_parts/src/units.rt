@@ -1,0 +1,76 @@
+// Whoever has units under slot numbers.
+ghost use Rattle.std.specs.Prelude.{◌≡◌, ◌*◌, length, Some, None, OnOk, IfErr};
+ghost use Rattle.flat_machine.specs.declared.refusal.Refusal.TheVariants.{Gone};
+ghost use Rattle.extent_groups.specs.Groups.{Groups};
+ghost use Rattle.extent_groups.specs.Cells.{Cells, cells};
+ghost use Rattle.extent_groups.specs.Stores.{unit_bytes, unit_of, AreSound, KeepsUnits};
+ghost use Rattle.array_parts.specs.Fit.{IsFit};
+ghost use Rattle.array_parts.specs.Losses.{LosesOnly};
+ghost use Rattle.array_parts.specs.Laws.{loses_none, loses_more};
+ghost use Rattle.array_parts.specs.Slots.{IsSlot};
+
+use crate::Parts;
+use extent_groups::GroupTable;
+use extents::Drive;
+use flat_machine::Refusal;
+
+/// Whoever has the effective units of the slots of made groups.
+pub trait Units {
+    /// The groups of the slots.
+    ghost groups: { Self → Groups };
+
+    /// What the drives hold.
+    ghost cells: { Self → Cells };
+
+    /// When a unit may be read.
+    ghost fits: { Self → Type 0 };
+
+    /// What reads leave of it: all but which drives are lost.
+    ghost leaves: { Self → Self → Type 0 };
+
+    /// The groups of the slots.
+    fn groups(&self) -> &GroupTable
+        ensures { result.now ≡ groups self.now };
+
+    /// Reads the effective unit of a slot, with two buffers of a unit's length.
+    fn unit(&mut self, slot: u16, unit: &mut [u8], scratch: &mut [u8]) -> Result<(), Refusal>
+        requires fits { fits self.old }
+        requires slot { IsSlot (groups self.old) slot }
+        requires unit { length unit.old ≡ unit_bytes (groups self.old) }
+        requires scratch { length scratch.old ≡ 2 * unit_bytes (groups self.old) }
+        ensures ok { OnOk result (unit_of (groups self.new) (cells self.new) slot ≡ Some unit.new) }
+        ensures gone { IfErr result (λ e. (e ≡ Gone slot) × (unit_of (groups self.new) (cells self.new) slot ≡ None)) }
+        ensures units { AreSound (groups self.old) (cells self.old) → KeepsUnits (groups self.old) (cells self.old) (cells self.new) }
+        ensures sound { AreSound (groups self.old) (cells self.old) → AreSound (groups self.new) (cells self.new) }
+        ensures groups { groups self.new ≡ groups self.old }
+        ensures fits { fits self.new }
+        ensures leaves { leaves self.old self.new };
+
+    /// No read leaves all as it was.
+    ghost none: { (x : Self) → leaves x x };
+
+    /// And what one read after another leaves is left.
+    ghost more: { (x y z : Self) → leaves x y → leaves y z → leaves x z };
+}
+
+impl<D: Drive> Units for Parts<D> {
+    ghost groups = { λ p. p.groups };
+
+    ghost cells = { λ p. cells D.units D.lost p.drives.items };
+
+    ghost fits = { λ p. IsFit D.units p };
+
+    ghost leaves = { λ p q. LosesOnly D.units D.lost D.failures p q };
+
+    fn groups(&self) -> &GroupTable {
+        &self.groups
+    }
+
+    fn unit(&mut self, slot: u16, unit: &mut [u8], scratch: &mut [u8]) -> Result<(), Refusal> {
+        self.read(slot, unit, scratch)
+    }
+
+    ghost none = { λ p. loses_none D.units D.lost D.failures p };
+
+    ghost more = { λ p q r one two. loses_more D.units D.lost D.failures p q r one two };
+}
