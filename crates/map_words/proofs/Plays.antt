@@ -16,7 +16,7 @@ use Rattle.map_words.specs.declared.view.View.{View}
 use Rattle.map_words.specs.Places.{word_of}
 use Rattle.map_words.specs.TakeRule.{knows, found_at, whole, steps, TakenBy, FoundBy, Tells, TakeRule}
 use Rattle.map_words.specs.Steps.{Took, Saw, Closed, Weighed, IsKeyOrNone, kept_half, given_half, both_views}
-use Rattle.map_words.specs.Answers.{IsNewest, IsGreatest, AreExact}
+use Rattle.map_words.specs.Answers.{IsNewest, IsGreatest, AreExact, HasTaken, HasFound}
 use Rattle.map_words.proofs.Keys.{same_record, told_key}
 use Rattle.map_words.proofs.Shares.{shares_at, shares_two}
 use Rattle.map_words.proofs.Carried.{word, relabelled}
@@ -72,9 +72,8 @@ sees {S} n slots id block me inside live away s rule homes here fits = (
 
     told : Saw {S = S} (step slots (word_of block) 0 0 none) me old (after, me.1)
     told b e = let same : block ≡ b = omega arith in
-        subst (λ (c : ℕ). IsNewest me.0 c old × IsKeyOrNone old × (time : ℕ)
-        × ◌≡◌ {A = Me S View} (after, me.1) (knows me.0.share me.0.taken (me.0.found ++ found_at c time old old ∷ []), [])) same
-        (newest n s.words s.views id me.0 block rule here inside, is_key n s.words s.views block rule inside, steps s.views, λ i. (after, away i))
+        subst (λ (c : ℕ). IsNewest me.0 c old × IsKeyOrNone old × HasFound me.0 c old after × (me.1 ≡ [])) same
+        (newest n s.words s.views id me.0 block rule here inside, is_key n s.words s.views block rule inside, (steps s.views, refl), away)
 
 -- a take: the word becomes the greater of itself and the record's key
 pub takes : {S : Type 0} (n slots id : ℕ) (r : Record) (me : Me S View) → IsRecord r → r.block < n → 0 < me.0.share → me.1 ≡ []
@@ -117,10 +116,9 @@ takes {S} n slots id r me is inside live away s rule homes here fits = (
 
     told : Took {S = S} (step slots (word_of r.block) (key_of r) 0 none) me old (after, me.1)
     told q isq place key = let blocks : r.block ≡ q.block = omega arith in
-        subst (λ (p : Record). IsNewest me.0 p.block old × (time : ℕ)
-        × ◌≡◌ {A = Me S View} (after, me.1) (knows me.0.share (me.0.taken ++ p ∷ []) (me.0.found ++ found_at p.block time old (max old (key_of p)) ∷ []), []))
+        subst (λ (p : Record). IsNewest me.0 p.block old × HasTaken me.0 p old after × (me.1 ≡ []))
         (same_record r q is isq blocks (sym key))
-        (newest n s.words s.views id me.0 r.block rule here inside, steps s.views, λ i. (after, away i))
+        (newest n s.words s.views id me.0 r.block rule here inside, (steps s.views, refl), away)
 
 -- a load by the seat that has the whole share
 pub closes : {S : Type 0} (n slots id block : ℕ) (me : Me S View) → block < n → me.0.share ≡ whole

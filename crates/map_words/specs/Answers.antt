@@ -1,10 +1,10 @@
 -- What the answers of takes and finds have to do with what their Taker took and found.
-use Rattle.std.specs.Prelude.{◌≡◌, ℕ, ◌<◌, ◌≤◌, List, Option, Some, None, Contains}
+use Rattle.std.specs.Prelude.{◌≡◌, ℕ, ◌<◌, ◌≤◌, List, Option, Some, None, Contains, max, [], ◌∷◌, ◌++◌}
 use Rattle.map_join.specs.declared.records.Record.{Record}
 use Rattle.map_join.specs.Record.{key_of}
 use Rattle.map_words.specs.declared.view.Found.{Found}
 use Rattle.map_words.specs.declared.view.View.{View}
-use Rattle.map_words.specs.TakeRule.{Tells, IsLeft}
+use Rattle.map_words.specs.TakeRule.{knows, found_at, Tells, IsLeft}
 
 -- this key is at least that of every record of the block that the Taker took, and at least every key of it that it found
 pub record IsNewest (taker : View) (block key : ℕ) : Type 0 where
@@ -26,6 +26,16 @@ pub record IsExact (taker : View) (f : Found) : Type 0 where
 -- all steps at this block are that
 abbrev pub AreExact : View → ℕ → Type 0
 AreExact taker block = (f : Found) → Contains taker.found f → f.block ≡ block → IsExact taker f
+
+-- one step more, which took this record, found this key, and left the greater of the two
+abbrev pub HasTaken : View → Record → ℕ → View → Type 0
+HasTaken before r found after = (time : ℕ)
+    × (after ≡ knows before.share (before.taken ++ r ∷ []) (before.found ++ found_at r.block time found (max found (key_of r)) ∷ []))
+
+-- one step more, which found this key at this block and left it there
+abbrev pub HasFound : View → ℕ → ℕ → View → Type 0
+HasFound before block found after = (time : ℕ)
+    × (after ≡ knows before.share before.taken (before.found ++ found_at block time found found ∷ []))
 
 -- the key of a record, or 0 of none
 abbrev pub key_in : Option Record → ℕ

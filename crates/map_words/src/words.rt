@@ -1,11 +1,10 @@
 // The table of words, and the steps on it.
-ghost use Rattle.std.specs.Prelude.{◌≡◌, ◌≢◌, ℕ, ◌+◌, ◌-◌, ◌/◌, ◌<◌, ◌≤◌, max, [], ◌∷◌, ◌++◌, IsOk, IfOk, IfErr, IfSome, OnOk, OnErr, All};
+ghost use Rattle.std.specs.Prelude.{◌≡◌, ◌≢◌, ℕ, ◌+◌, ◌-◌, ◌/◌, ◌<◌, ◌≤◌, [], ◌∷◌, ◌++◌, IsOk, IfOk, IfErr, IfSome, OnOk, OnErr, All};
 ghost use Rattle.map_join.specs.Maps.{at, IsMapOf};
 ghost use Rattle.map_words.specs.Places.{word_of, blocks_of};
-ghost use Rattle.map_words.specs.TakeRule.{knows, found_at, opening, whole};
+ghost use Rattle.map_words.specs.TakeRule.{opening, whole};
 ghost use Rattle.map_words.specs.Steps.{kept_half, given_half, both_views};
-ghost use Rattle.map_join.specs.Record.{key_of};
-ghost use Rattle.map_words.specs.Answers.{IsNewest, IsGreatest, IsExact, AreExact, key_in};
+ghost use Rattle.map_words.specs.Answers.{IsNewest, IsGreatest, IsExact, AreExact, HasTaken, HasFound, key_in};
 ghost use Rattle.map_words.specs.Refused.{IsOpen};
 
 use crate::naming::Naming;
@@ -154,7 +153,7 @@ impl<N: Naming> MapWords<N> {
         requires written { 0 < «record».version }
         ensures newest { IsNewest taker.old «record».block result }
         // from now on the record is taken, and the answer found, by a step that left the greater of the two
-        ensures taken { (time : ℕ) × (taker.new ≡ knows taker.old.share (taker.old.taken ++ «record» ∷ []) (taker.old.found ++ found_at «record».block time result (max result (key_of «record»)) ∷ [])) }
+        ensures taken { HasTaken taker.old «record» result taker.new }
     {
         let place = place_of(record.block);
         self.table
@@ -168,7 +167,7 @@ impl<N: Naming> MapWords<N> {
         ensures newest { IsNewest taker.old block (key_in result) }
         ensures block { IfSome result (λ r. (r.block ≡ block) × (0 < r.version)) }
         // from now on the answer is found, by a step that left it there
-        ensures found { (time : ℕ) × (taker.new ≡ knows taker.old.share taker.old.taken (taker.old.found ++ found_at block time (key_in result) (key_in result) ∷ [])) }
+        ensures found { HasFound taker.old block (key_in result) taker.new }
     {
         let key = self
             .table

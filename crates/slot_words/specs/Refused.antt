@@ -26,6 +26,10 @@ IsWhy slot before after (Moved word) = (word % 2 ≡ 0) × HasTried slot before 
 abbrev pub IsRefused : ℕ → Sights → Sights → ClaimRefusal → Type 0
 IsRefused slot before after refusal = HasLooked slot before after × IsWhy slot before after refusal
 
+-- the same of what the Pass remembered at some moment before
+abbrev pub WasRefused : ℕ → Sights → ClaimRefusal → Type 0
+WasRefused slot after refusal = (before : Sights) × IsRefused slot before after refusal
+
 -- the same of an exchange that sought the even word `seen`, and then saw this
 abbrev pub IsMissed : ℕ → Sight → ClaimRefusal → Type 0
 IsMissed seen stepped (Taken word) = (word % 2 ≡ 1) × (stepped.word ≡ word)

@@ -2,6 +2,7 @@
 use Rattle.std.specs.Prelude.{◌≡◌, ℕ, ◌+◌, ◌<◌, ◌++◌, nat_lt, Bool, true, false, List, []}
 use Rattle.slot_words.specs.declared.view.Held.{Held}
 use Rattle.slot_words.specs.declared.view.Sight.{Sight}
+use Rattle.slot_words.specs.declared.view.View.{View}
 use Rattle.slot_words.specs.Places.{word_of}
 use Rattle.slot_words.specs.ClaimRule.{sight_at}
 
@@ -42,3 +43,7 @@ pub record IsNext (slot : ℕ) (before : Sight) (count : ℕ) (after : Sight) (m
   pub place : after.place ≡ word_of slot
   pub newer : before.time < after.time
   pub counted : more ≡ count + 1
+
+-- the seat made one step more, at this slot's word
+abbrev pub HasStepped : ℕ → View → View → Type 0
+HasStepped slot before after = IsNext slot before.sight before.steps after.sight after.steps

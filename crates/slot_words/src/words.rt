@@ -1,8 +1,8 @@
 // The table of words, and the steps on it.
 ghost use Rattle.std.specs.Prelude.{◌≡◌, ◌≢◌, ◌↔◌, ℕ, ◌+◌, ◌-◌, ◌*◌, ◌/◌, ◌%◌, ◌^◌, ◌<◌, ◌≤◌, [], ◌∷◌, length, slice_index, All, Contains, IfOk, IfErr, IfSome, None, OnErr};
 ghost use Rattle.slot_words.specs.Places.{word_of, slots_of};
-ghost use Rattle.slot_words.specs.Sight.{Sights, IsNext, no_sights, both_sights};
-ghost use Rattle.slot_words.specs.Refused.{HasLooked, IsRefused, IsMissed};
+ghost use Rattle.slot_words.specs.Sight.{HasStepped, no_sights, both_sights};
+ghost use Rattle.slot_words.specs.Refused.{HasLooked, IsRefused, WasRefused, IsMissed};
 ghost use Rattle.slot_words.specs.Idle.{IsIdle};
 
 use crate::claim::{Claim, ClaimRefusal, NoneFree};
@@ -153,7 +153,7 @@ impl<N: Naming> SlotWords<N> {
         requires seat { IsIdle N.table seat.old }
         ensures ok { IfOk result (λ c. (c.slot ≡ slot) × (2 * c.generation ≡ seen + 2)) }
         ensures err { IfErr result (IsMissed seen seat.new.me.0.sight) }
-        ensures tried { OnErr result (IsNext slot seat.old.me.0.sight seat.old.me.0.steps seat.new.me.0.sight seat.new.me.0.steps) }
+        ensures tried { OnErr result (HasStepped slot seat.old.me.0 seat.new.me.0) }
         ensures idle { IsIdle N.table seat.new }
     {
         let generation = seen / 2 + 1;
@@ -183,7 +183,7 @@ impl<N: Naming> SlotWords<N> {
         ensures ok { IfOk result (λ c. Contains slots.now c.slot) }
         ensures empty { IfErr result (λ e. e.0 ≡ None ↔ slots.now ≡ []) }
         // the refusal is of the last slot listed
-        ensures last { IfErr result (λ e. IfSome e.0 (λ r. (before : Sights) × IsRefused (slice_index slots.now (length slots.now - 1)) before pass.new r)) }
+        ensures last { IfErr result (λ e. IfSome e.0 (WasRefused (slice_index slots.now (length slots.now - 1)) pass.new)) }
         ensures looks { OnErr result (pass.new.looks ≡ pass.old.looks + length slots.now) }
     {
         let mut last = None;
