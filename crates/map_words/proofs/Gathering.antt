@@ -9,11 +9,11 @@ use Rattle.map_join.specs.Maps.{IsSame, join, only, IsMapOf}
 use Rattle.map_join.proofs.Joins.{only_here, only_else}
 use Rattle.map_words.specs.declared.view.Found.{Found}
 use Rattle.map_words.specs.declared.view.View.{View}
-use Rattle.map_words.specs.Answers.{IsGreatest, IsNewest}
+use Rattle.map_words.specs.Answers.{IsGreatest, IsNewest, IsExact, AreExact}
 
--- a block's key is the greatest that the Taker took of it, and at least all that it found
+-- a block's key is the greatest that the Taker took of it, and at least all that it found, each of which was exact
 abbrev pub IsLast : View → ℕ → ℕ → Type 0
-IsLast v block key = IsGreatest v.taken block key × IsNewest v block key
+IsLast v block key = IsGreatest v.taken block key × IsNewest v block key × AreExact v block
 
 -- each block below `count` has its last key in the map, and no other block any
 pub record Gathered (v : View) (count : ℕ) (M : ℕ → ℕ) : Type 0 where
@@ -72,3 +72,9 @@ pub tops : (v : View) (count : ℕ) (M : ℕ → ℕ) → Gathered v count M →
 tops v count M so inside k d small =
     let f : Found = slice_index_or v.found k d in
     (so.done f.block (inside k d small)).1.found f (contained v.found k d small) refl
+
+-- and each was exact
+pub exacts : (v : View) (count : ℕ) (M : ℕ → ℕ) → Gathered v count M → All (λ (f : Found). f.block < count) v.found → All (IsExact v) v.found
+exacts v count M so inside k d small =
+    let f : Found = slice_index_or v.found k d in
+    (so.done f.block (inside k d small)).2 f (contained v.found k d small) refl

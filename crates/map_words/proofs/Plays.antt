@@ -1,5 +1,5 @@
 -- Each kind of step keeps the rule and tells what it is said to tell.
-use Rattle.std.proofs.Common.{◌≡◌, ℕ, ◌<◌, ◌≤◌, ◌≢◌, ◌⊎◌, max, List, [], ◌∷◌, ◌++◌, set, get_or-set_same, get_or-set_other, length-set, Contains, sym, refl, ap, ◌∙◌, inl, inr, ⊎_elim, subst, le_refl, le_trans, arith}
+use Rattle.std.proofs.Common.{◌≡◌, ℕ, ◌<◌, ◌≤◌, ◌≢◌, ◌⊎◌, max, List, [], ◌∷◌, ◌++◌, Contains, sym, refl, ap, ◌∙◌, inl, inr, ⊎_elim, subst, le_refl, le_trans, arith}
 use Rattle.std.proofs.Math.Nat.{le-max_left, le-max_right}
 use Rattle.std.proofs.lemmas.List.{set-get_or}
 use Rattle.std.proofs.lemmas.List.Elements.{Contains-append_left, Contains-push, Contains-push_cases}
@@ -14,24 +14,39 @@ use Rattle.map_join.specs.Record.{IsRecord, key_of}
 use Rattle.map_words.specs.declared.view.Found.{Found}
 use Rattle.map_words.specs.declared.view.View.{View}
 use Rattle.map_words.specs.Places.{word_of}
-use Rattle.map_words.specs.TakeRule.{knows, found_at, whole, Tells, TakeRule}
+use Rattle.map_words.specs.TakeRule.{knows, found_at, whole, steps, TakenBy, FoundBy, Tells, TakeRule}
 use Rattle.map_words.specs.Steps.{Took, Saw, Closed, Weighed, IsKeyOrNone, kept_half, given_half, both_views}
-use Rattle.map_words.specs.Answers.{IsNewest, IsGreatest}
+use Rattle.map_words.specs.Answers.{IsNewest, IsGreatest, AreExact, HasTaken, HasFound}
 use Rattle.map_words.proofs.Keys.{same_record, told_key}
 use Rattle.map_words.proofs.Shares.{shares_at, shares_two}
-use Rattle.map_words.proofs.Carried.{word}
+use Rattle.map_words.proofs.Carried.{word, relabelled}
 use Rattle.map_words.proofs.Views.{nothing, grown, halved, summed}
 
 -- a block's word is at least all that a Taker knows of the block
-newest : (n : ℕ) (ws : List ℕ) (vs : List View) (id : ℕ) (v : View) (block : ℕ) → TakeRule n ws vs → get_elem? vs id ≡ some v → IsNewest v block (word ws block)
-newest n ws vs id v block rule here = record {
-  taken = λ r has e. subst (λ (b : ℕ). key_of r ≤ word ws b) e (rule.most id v r here has);
-  found = λ f has e. subst (λ (b : ℕ). f.key ≤ word ws b) e (rule.below id v f here has);
+newest : (n : ℕ) (ws : List ℕ) (vs : List View) (id : ℕ) (v : View) (block : ℕ) → TakeRule n ws vs → get_elem? vs id ≡ some v → block < n → IsNewest v block (word ws block)
+newest n ws vs id v block rule here inside = record {
+  taken = λ r has e. subst (λ (b : ℕ). key_of r ≤ word ws b) e (rule.most r (id, v, here, has));
+  found = λ f has e. dite (ℕ_discrete f.key 0)
+      (λ (none : f.key ≡ 0). omega arith)
+      (λ (some_key : f.key ≢ 0).
+      let t = (rule.exact f (id, v, here, has)).told (omega arith) in
+      subst (λ (k : ℕ). k ≤ word ws block) t.4 ((rule.current block inside).most t.0 t.1 (t.2 ∙ e) (rule.timed t.0 t.1)));
 }
+
+-- a block's word above 0 is told by a record that some seat took
+told_by : (n : ℕ) (ws : List ℕ) (vs : List View) (block : ℕ) → TakeRule n ws vs → block < n → 0 < word ws block
+    → (r : Record) × TakenBy vs r × Tells block (word ws block) r
+told_by n ws vs block rule inside above =
+    let t = (rule.current block inside).told above in
+    let r = rule.known t.0 t.1 (subst (λ (k : ℕ). 0 < k) (sym t.4) above) in (
+      r.0,
+      r.1,
+      subst (λ (k : ℕ). Tells block k r.0) t.4 (subst (λ (b : ℕ). Tells b t.0.left r.0) t.2 r.2),
+    )
 
 -- a block's word is no number below 2^32 but 0
 is_key : (n : ℕ) (ws : List ℕ) (vs : List View) (block : ℕ) → TakeRule n ws vs → block < n → IsKeyOrNone (word ws block)
-is_key n ws vs block rule small above = let t = rule.told block small above in told_key block (word ws block) t.2 t.5
+is_key n ws vs block rule small above = let t = told_by n ws vs block rule small above in told_key block (word ws block) t.0 t.2
 
 -- a find: the word that was found is noted
 pub sees : {S : Type 0} (n slots id block : ℕ) (me : Me S View) → block < n → 0 < me.0.share → me.1 ≡ []
@@ -40,22 +55,25 @@ sees {S} n slots id block me inside live away s rule homes here fits = (
   after,
   keeps,
   tt,
-  rw (set-get_or s.words (word_of block) 0) (grown n s.words s.words s.views id me.0 after rule here live refl refl (λ b. le_refl (word s.words b))
-      (λ r has. has) (λ b above. inl refl) (λ r has. inl has)
-      (λ f has. ⊎_elim
-      (λ (old : Contains me.0.found f). inl old)
-      (λ (new : found_at block (word s.words block) ≡ f). inr (subst (λ (g : Found). g.key ≤ word s.words g.block) new (le_refl (word s.words block))))
-      (Contains-push_cases me.0.found (found_at block (word s.words block)) f has))),
+  grown n s.words s.views id me.0 after seen rule here live refl refl inside refl refl (le_refl old)
+      (λ r has. has) (λ r has. inl has)
+      (λ above. let t = told_by n s.words s.views block rule inside above in (t.0, inr t.1, t.2)),
   told,
 )
   where
-    after : View
-    after = knows me.0.share me.0.taken (me.0.found ++ found_at block (word s.words block) ∷ [])
+    old : ℕ
+    old = word s.words block
 
-    told : Saw {S = S} (step slots (word_of block) 0 0 none) me (word s.words block) (after, me.1)
+    seen : Found
+    seen = found_at block (steps s.views) old old
+
+    after : View
+    after = knows me.0.share me.0.taken (me.0.found ++ seen ∷ [])
+
+    told : Saw {S = S} (step slots (word_of block) 0 0 none) me old (after, me.1)
     told b e = let same : block ≡ b = omega arith in
-        subst (λ (c : ℕ). IsNewest me.0 c (word s.words block) × IsKeyOrNone (word s.words block) × ◌≡◌ {A = Me S View} (after, me.1) (knows me.0.share me.0.taken (me.0.found ++ found_at c (word s.words block) ∷ []), [])) same
-        (newest n s.words s.views id me.0 block rule here, is_key n s.words s.views block rule inside, λ i. (after, away i))
+        subst (λ (c : ℕ). IsNewest me.0 c old × IsKeyOrNone old × HasFound me.0 c old after × (me.1 ≡ [])) same
+        (newest n s.words s.views id me.0 block rule here inside, is_key n s.words s.views block rule inside, (steps s.views, refl), away)
 
 -- a take: the word becomes the greater of itself and the record's key
 pub takes : {S : Type 0} (n slots id : ℕ) (r : Record) (me : Me S View) → IsRecord r → r.block < n → 0 < me.0.share → me.1 ≡ []
@@ -64,59 +82,43 @@ takes {S} n slots id r me is inside live away s rule homes here fits = (
   after,
   keeps,
   tt,
-  grown n s.words us s.views id me.0 after rule here live refl (length-set s.words (word_of r.block) (max old (key_of r))) rises
-      (λ q has. Contains-append_left me.0.taken (r ∷ []) q has) news
+  grown n s.words s.views id me.0 after made rule here live refl refl inside refl refl (le-max_left old (key_of r))
+      (λ q has. Contains-append_left me.0.taken (r ∷ []) q has)
       (λ q has. ⊎_elim
       (λ (was : Contains me.0.taken q). inl was)
-      (λ (new : r ≡ q). inr (subst (λ (p : Record). key_of p ≤ word us p.block) new (subst (λ (m : ℕ). key_of r ≤ m) (sym written) (le-max_right old (key_of r)))))
+      (λ (new : r ≡ q). inr (subst (λ (p : Record). (p.block ≡ r.block) × (key_of p ≤ most)) new (refl, le-max_right old (key_of r))))
       (Contains-push_cases me.0.taken r q has))
-      (λ f has. ⊎_elim
-      (λ (was : Contains me.0.found f). inl was)
-      (λ (new : found_at r.block old ≡ f). inr (subst (λ (g : Found). g.key ≤ word us g.block) new (subst (λ (m : ℕ). old ≤ m) (sym written) (le-max_left old (key_of r)))))
-      (Contains-push_cases me.0.found (found_at r.block old) f has)),
+      tells,
   told,
 )
   where
     old : ℕ
     old = word s.words r.block
 
-    us : List ℕ
-    us = set s.words (word_of r.block) (max old (key_of r))
+    most : ℕ
+    most = max old (key_of r)
+
+    made : Found
+    made = found_at r.block (steps s.views) old most
 
     after : View
-    after = knows me.0.share (me.0.taken ++ r ∷ []) (me.0.found ++ found_at r.block old ∷ [])
-
-    written : word us r.block ≡ max old (key_of r)
-    written = get_or-set_same s.words (word_of r.block) (max old (key_of r)) 0 (let wide = rule.wide in omega arith)
-
-    unmoved : (block : ℕ) → block ≢ r.block → word us block ≡ word s.words block
-    unmoved block ne = get_or-set_other s.words (word_of r.block) (word_of block) (max old (key_of r)) 0 (λ e. ne (omega arith))
-
-    rises : (block : ℕ) → word s.words block ≤ word us block
-    rises block = dite (ℕ_discrete block r.block)
-        (λ (e : block ≡ r.block). subst (λ (b : ℕ). word s.words b ≤ word us b) (sym e) (subst (λ (m : ℕ). old ≤ m) (sym written) (le-max_left old (key_of r))))
-        (λ (ne : block ≢ r.block). subst (λ (m : ℕ). word s.words block ≤ m) (sym (unmoved block ne)) (le_refl (word s.words block)))
+    after = knows me.0.share (me.0.taken ++ r ∷ []) (me.0.found ++ made ∷ [])
 
     greater : (a b : ℕ) → (max a b ≡ a) ⊎ (max a b ≡ b)
     greater a b = grind arith
 
-    news : (block : ℕ) → 0 < word us block → (word us block ≡ word s.words block) ⊎ ((q : Record) × Contains after.taken q × Tells block (word us block) q)
-    news block above = dite (ℕ_discrete block r.block)
-        (λ (e : block ≡ r.block). ⊎_elim
-        (λ (same : max old (key_of r) ≡ old). inl (subst (λ (b : ℕ). word us b ≡ word s.words b) (sym e) (written ∙ same)))
-        (λ (new : max old (key_of r) ≡ key_of r). inr (
-          r,
-          Contains-push me.0.taken r,
-          record { block = sym e; key = sym new ∙ sym written ∙ ap (word us) (sym e); written = is.written },
-        ))
-        (greater old (key_of r)))
-        (λ (ne : block ≢ r.block). inl (unmoved block ne))
+    tells : 0 < most → (q : Record) × (Contains after.taken q ⊎ TakenBy s.views q) × Tells r.block most q
+    tells above = ⊎_elim
+        (λ (same : most ≡ old). let t = told_by n s.words s.views r.block rule inside (subst (λ (k : ℕ). 0 < k) same above) in
+        (t.0, inr t.1, subst (λ (k : ℕ). Tells r.block k t.0) (sym same) t.2))
+        (λ (new : most ≡ key_of r). (r, inl (Contains-push me.0.taken r), record { block = refl; key = sym new; written = is.written }))
+        (greater old (key_of r))
 
     told : Took {S = S} (step slots (word_of r.block) (key_of r) 0 none) me old (after, me.1)
     told q isq place key = let blocks : r.block ≡ q.block = omega arith in
-        subst (λ (p : Record). IsNewest me.0 p.block old × ◌≡◌ {A = Me S View} (after, me.1) (knows me.0.share (me.0.taken ++ p ∷ []) (me.0.found ++ found_at p.block old ∷ []), []))
+        subst (λ (p : Record). IsNewest me.0 p.block old × HasTaken me.0 p old after × (me.1 ≡ []))
         (same_record r q is isq blocks (sym key))
-        (newest n s.words s.views id me.0 r.block rule here, λ i. (after, away i))
+        (newest n s.words s.views id me.0 r.block rule here inside, (steps s.views, refl), away)
 
 -- a load by the seat that has the whole share
 pub closes : {S : Type 0} (n slots id block : ℕ) (me : Me S View) → block < n → me.0.share ≡ whole
@@ -129,21 +131,49 @@ closes {S} n slots id block me inside all s rule homes here fits = (
   (
     refl,
     λ b e. let same : block ≡ b = omega arith in
-        subst (λ (c : ℕ). IsGreatest me.0.taken c (word s.words block) × IsNewest me.0 c (word s.words block) × IsKeyOrNone (word s.words block)) same
-        (record { told = told; most = newest-taken.taken }, newest-taken, is_key n s.words s.views block rule inside),
+        subst (λ (c : ℕ). IsGreatest me.0.taken c (word s.words block) × IsNewest me.0 c (word s.words block) × IsKeyOrNone (word s.words block) × AreExact me.0 c) same
+        (record { told = told; most = last.taken }, last, is_key n s.words s.views block rule inside, exact),
   ),
 )
   where
-    newest-taken : IsNewest me.0 block (word s.words block)
-    newest-taken = newest n s.words s.views id me.0 block rule here
+    last : IsNewest me.0 block (word s.words block)
+    last = newest n s.words s.views id me.0 block rule here inside
+
+    -- each other seat has spent its share
+    alone : (seat : ℕ) (v : View) → get_elem? s.views seat ≡ some v → seat ≢ id → (v.taken ≡ []) × (v.found ≡ [])
+    alone seat v there ne =
+        let two = shares_two s.views id seat me.0 v here there ne in
+        let within = rule.within in
+        rule.spent seat v there (omega arith)
+
+    own : (seat : ℕ) (v : View) → get_elem? s.views seat ≡ some v → seat ≡ id → v ≡ me.0
+    own seat v there e = some-injective v me.0 (sym there ∙ ap (get_elem? s.views) e ∙ here)
+
+    taken : (r : Record) → TakenBy s.views r → Contains me.0.taken r
+    taken r t = dite (ℕ_discrete t.0 id)
+        (λ (e : t.0 ≡ id). subst (λ (y : View). Contains y.taken r) (own t.0 t.1 t.2 e) t.3)
+        (λ (ne : t.0 ≢ id). absurd (nothing t.1.taken r (alone t.0 t.1 t.2 ne).0 t.3))
+
+    found : (f : Found) → FoundBy s.views f → Contains me.0.found f
+    found f t = dite (ℕ_discrete t.0 id)
+        (λ (e : t.0 ≡ id). subst (λ (y : View). Contains y.found f) (own t.0 t.1 t.2 e) t.3)
+        (λ (ne : t.0 ≢ id). absurd (nothing t.1.found f (alone t.0 t.1 t.2 ne).1 t.3))
 
     told : 0 < word s.words block → (r : Record) × Contains me.0.taken r × Tells block (word s.words block) r
-    told above = let t = rule.told block inside above in dite (ℕ_discrete t.0 id)
-        (λ (e : t.0 ≡ id). (t.2, subst (λ (y : View). Contains y.taken t.2) (some-injective t.1 me.0 (sym t.3 ∙ ap (get_elem? s.views) e ∙ here)) t.4, t.5))
-        (λ (ne : t.0 ≢ id).
-        let two = shares_two s.views id t.0 me.0 t.1 here t.3 ne in
-        let within = rule.within in
-        absurd (nothing t.1.taken t.2 (rule.spent t.0 t.1 t.3 (omega arith)).0 t.4))
+    told above = let t = told_by n s.words s.views block rule inside above in (t.0, taken t.0 t.1, t.2)
+
+    left : (f : Found) → FoundBy s.views f → 0 < f.left → (r : Record) × Contains me.0.taken r × Tells f.block f.left r
+    left f by above = let t = rule.known f by above in (t.0, taken t.0 t.1, t.2)
+
+    exact : AreExact me.0 block
+    exact f has e = record {
+      found = relabelled (FoundBy s.views) (Contains me.0.found) f.block f.time f.key found (λ g mine. (id, me.0, here, mine)) (rule.exact f (id, me.0, here, has));
+      known = λ above.
+          let t = (rule.exact f (id, me.0, here, has)).told above in
+          let r = left t.0 t.1 (subst (λ (k : ℕ). 0 < k) (sym t.4) above) in
+          (r.0, r.1, subst (λ (k : ℕ). Tells f.block k r.0) t.4 (subst (λ (c : ℕ). Tells c t.0.left r.0) t.2 r.2));
+      left = left f (id, me.0, here, has);
+    }
 
 -- no seat has more than the whole share
 pub weighs : {S : Type 0} (n slots id place : ℕ) (me : Me S View)

@@ -1,10 +1,10 @@
 -- What the answers of takes and finds have to do with what their Taker took and found.
-use Rattle.std.specs.Prelude.{◌≡◌, ℕ, ◌<◌, ◌≤◌, List, Option, Some, None, Contains}
+use Rattle.std.specs.Prelude.{◌≡◌, ℕ, ◌<◌, ◌≤◌, List, Option, Some, None, Contains, max, [], ◌∷◌, ◌++◌}
 use Rattle.map_join.specs.declared.records.Record.{Record}
 use Rattle.map_join.specs.Record.{key_of}
 use Rattle.map_words.specs.declared.view.Found.{Found}
 use Rattle.map_words.specs.declared.view.View.{View}
-use Rattle.map_words.specs.TakeRule.{Tells}
+use Rattle.map_words.specs.TakeRule.{knows, found_at, Tells, IsLeft}
 
 -- this key is at least that of every record of the block that the Taker took, and at least every key of it that it found
 pub record IsNewest (taker : View) (block key : ℕ) : Type 0 where
@@ -15,6 +15,27 @@ pub record IsNewest (taker : View) (block key : ℕ) : Type 0 where
 pub record IsGreatest (records : List Record) (block key : ℕ) : Type 0 where
   pub told : 0 < key → (r : Record) × Contains records r × Tells block key r
   pub most : (r : Record) → Contains records r → r.block ≡ block → key_of r ≤ key
+
+-- A step among all takes and finds, which this Taker has: it found the key of a record taken or 0, exactly what the steps
+-- of earlier times had left at its block, and it left the key of a record taken or 0.
+pub record IsExact (taker : View) (f : Found) : Type 0 where
+  pub found : IsLeft (Contains taker.found) f.block f.time f.key
+  pub known : 0 < f.key → (r : Record) × Contains taker.taken r × Tells f.block f.key r
+  pub left : 0 < f.left → (r : Record) × Contains taker.taken r × Tells f.block f.left r
+
+-- all steps at this block are that
+abbrev pub AreExact : View → ℕ → Type 0
+AreExact taker block = (f : Found) → Contains taker.found f → f.block ≡ block → IsExact taker f
+
+-- one step more, which took this record, found this key, and left the greater of the two
+abbrev pub HasTaken : View → Record → ℕ → View → Type 0
+HasTaken before r found after = (time : ℕ)
+    × (after ≡ knows before.share (before.taken ++ r ∷ []) (before.found ++ found_at r.block time found (max found (key_of r)) ∷ []))
+
+-- one step more, which found this key at this block and left it there
+abbrev pub HasFound : View → ℕ → ℕ → View → Type 0
+HasFound before block found after = (time : ℕ)
+    × (after ≡ knows before.share before.taken (before.found ++ found_at block time found found ∷ []))
 
 -- the key of a record, or 0 of none
 abbrev pub key_in : Option Record → ℕ

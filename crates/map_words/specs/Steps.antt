@@ -1,32 +1,34 @@
 -- What each kind of atomic step tells: of the step, the seat before, the number found, and the seat after.
-use Rattle.std.specs.Prelude.{◌≡◌, ℕ, ◌+◌, ◌-◌, ◌/◌, ◌^◌, ◌<◌, ◌≤◌, [], ◌∷◌, ◌++◌}
+use Rattle.std.specs.Prelude.{◌≡◌, ℕ, ◌+◌, ◌-◌, ◌/◌, ◌^◌, ◌<◌, ◌≤◌, [], ◌++◌}
 use Rattle.atomic_table.specs.Table.{Me, Step}
 use Rattle.map_join.specs.declared.records.Record.{Record}
 use Rattle.map_join.specs.Record.{IsRecord, key_of}
 use Rattle.map_words.specs.declared.view.View.{View}
 use Rattle.map_words.specs.Places.{word_of}
-use Rattle.map_words.specs.TakeRule.{knows, found_at, whole}
-use Rattle.map_words.specs.Answers.{IsNewest, IsGreatest}
+use Rattle.map_words.specs.TakeRule.{knows, whole}
+use Rattle.map_words.specs.Answers.{IsNewest, IsGreatest, AreExact, HasTaken, HasFound}
 
 -- no number between is the key of a record
 abbrev pub IsKeyOrNone : ℕ → Type 0
 IsKeyOrNone key = 0 < key → 2 ^ 32 ≤ key
 
--- a take: the record of this word's block and of this key is taken, and the old word is found and at least all before
+-- a take: the record of this word's block and of this key is taken, the old word is found and at least all before,
+-- and the greater of the two is left
 abbrev pub Took : {S : Type 0} → Step S → Me S View → ℕ → Me S View → Type 0
 Took s before found after = (r : Record) → IsRecord r → word_of r.block ≡ s.word → key_of r ≡ s.first
-    → IsNewest before.0 r.block found × (after ≡ (knows before.0.share (before.0.taken ++ r ∷ []) (before.0.found ++ found_at r.block found ∷ []), []))
+    → IsNewest before.0 r.block found × HasTaken before.0 r found after.0 × (after.1 ≡ [])
 
--- a find: the word is found, and at least all before
+-- a find: the word is found, at least all before, and left
 abbrev pub Saw : {S : Type 0} → Step S → Me S View → ℕ → Me S View → Type 0
 Saw s before found after = (block : ℕ) → word_of block ≡ s.word
-    → IsNewest before.0 block found × IsKeyOrNone found × (after ≡ (knows before.0.share before.0.taken (before.0.found ++ found_at block found ∷ []), []))
+    → IsNewest before.0 block found × IsKeyOrNone found × HasFound before.0 block found after.0 × (after.1 ≡ [])
 
--- a load by who has the whole share: the word is the greatest key of its block among the records taken, and nothing
--- found is above it
+-- a load by who has the whole share: the word is the greatest key of its block among the records taken, nothing found
+-- is above it, and each step on it found exactly what was there
 abbrev pub Closed : {S : Type 0} → Step S → Me S View → ℕ → Me S View → Type 0
 Closed s before found after = (after ≡ before)
-    × ((block : ℕ) → word_of block ≡ s.word → IsGreatest before.0.taken block found × IsNewest before.0 block found × IsKeyOrNone found)
+    × ((block : ℕ) → word_of block ≡ s.word
+    → IsGreatest before.0.taken block found × IsNewest before.0 block found × IsKeyOrNone found × AreExact before.0 block)
 
 -- no seat has more than the whole share
 abbrev pub Weighed : {S : Type 0} → Step S → Me S View → ℕ → Me S View → Type 0

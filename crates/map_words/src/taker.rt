@@ -1,4 +1,7 @@
 // What a Taker is, and what is refused to it.
+ghost use Rattle.std.specs.Prelude.{◌≡◌};
+ghost use Rattle.map_words.specs.Refused.{number_of};
+
 use crate::naming::Naming;
 use crate::rule::Sitting;
 use std::marker::{Model, PhantomData};
@@ -37,4 +40,16 @@ pub enum CloseRefusal {
     NotWhole(u32),
     /// There is no memory for the map.
     Memory,
+}
+
+impl CloseRefusal {
+    /// The refusal's number, 1 or 2 in the order above.
+    pub fn number(&self) -> u8
+        ensures { result ≡ number_of self.now }
+    {
+        match self {
+            CloseRefusal::NotWhole(_) => 1,
+            CloseRefusal::Memory => 2,
+        }
+    }
 }

@@ -2,14 +2,17 @@
 use map_join::Record;
 use std::collections::LinkedList;
 
-/// A key that was read at a block's word, or the 0 of a block without one.
+/// A take or a find: its place in the order of all of them, what it read at the block's word, a key or 0, and what it
+/// left there.
 #[derive(Clone, Copy)]
 pub struct Found {
     pub block: u64,
+    pub time: u64,
     pub key: u64,
+    pub left: u64,
 }
 
-/// A share of all that is taken, the records taken, and the keys found.
+/// A share of all that is taken, the records taken, and what each take and find found.
 pub struct View {
     pub share: u64,
     pub taken: LinkedList<Record>,

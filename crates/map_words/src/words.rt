@@ -2,9 +2,9 @@
 ghost use Rattle.std.specs.Prelude.{◌≡◌, ◌≢◌, ℕ, ◌+◌, ◌-◌, ◌/◌, ◌<◌, ◌≤◌, [], ◌∷◌, ◌++◌, IsOk, IfOk, IfErr, IfSome, OnOk, OnErr, All};
 ghost use Rattle.map_join.specs.Maps.{at, IsMapOf};
 ghost use Rattle.map_words.specs.Places.{word_of, blocks_of};
-ghost use Rattle.map_words.specs.TakeRule.{knows, found_at, opening, whole};
+ghost use Rattle.map_words.specs.TakeRule.{opening, whole};
 ghost use Rattle.map_words.specs.Steps.{kept_half, given_half, both_views};
-ghost use Rattle.map_words.specs.Answers.{IsNewest, IsGreatest, key_in};
+ghost use Rattle.map_words.specs.Answers.{IsNewest, IsGreatest, IsExact, AreExact, HasTaken, HasFound, key_in};
 ghost use Rattle.map_words.specs.Refused.{IsOpen};
 
 use crate::naming::Naming;
@@ -115,6 +115,7 @@ impl<N: Naming> MapWords<N> {
     pub fn split(&self, taker: &mut Taker<N>) -> Result<Taker<N>, SplitRefusal>
         ensures ok { IfOk result (λ other. other ≡ given_half taker.old) }
         ensures left { OnOk result (taker.new ≡ kept_half taker.old) }
+        ensures shared { OnOk result (1 < taker.old.share) }
         ensures err { OnErr result ((taker.old.share ≡ 1) × (taker.new ≡ taker.old)) }
     {
         let share = taker.share / 2;
@@ -132,7 +133,9 @@ impl<N: Naming> MapWords<N> {
 
     /// Adds the other Taker's share, and all that it knows.
     pub fn join(&self, taker: &mut Taker<N>, other: Taker<N>)
-        ensures { taker.new ≡ both_views taker.old other }
+        ensures both { taker.new ≡ both_views taker.old other }
+        ensures within { taker.old.share + other.share ≤ whole }
+        ensures shared { (0 < taker.old.share) × (0 < other.share) }
     {
         let Taker { share, seat, of: _ } = other;
         self.table.shared.join_seat::<Both>(&mut taker.seat, seat);
@@ -149,8 +152,8 @@ impl<N: Naming> MapWords<N> {
         requires block { «record».block < blocks_of N.table }
         requires written { 0 < «record».version }
         ensures newest { IsNewest taker.old «record».block result }
-        // from now on the record is taken, and the answer found
-        ensures taken { taker.new ≡ knows taker.old.share (taker.old.taken ++ «record» ∷ []) (taker.old.found ++ found_at «record».block result ∷ []) }
+        // from now on the record is taken, and the answer found, by a step that left the greater of the two
+        ensures taken { HasTaken taker.old «record» result taker.new }
     {
         let place = place_of(record.block);
         self.table
@@ -163,8 +166,8 @@ impl<N: Naming> MapWords<N> {
         requires { block < blocks_of N.table }
         ensures newest { IsNewest taker.old block (key_in result) }
         ensures block { IfSome result (λ r. (r.block ≡ block) × (0 < r.version)) }
-        // from now on the answer is found
-        ensures found { taker.new ≡ knows taker.old.share taker.old.taken (taker.old.found ++ found_at block (key_in result) ∷ []) }
+        // from now on the answer is found, by a step that left it there
+        ensures found { HasFound taker.old block (key_in result) taker.new }
     {
         let key = self
             .table
@@ -183,6 +186,8 @@ impl<N: Naming> MapWords<N> {
         ensures ok { IfOk result (λ map. IsMapOf taker.taken (at map)) }
         // nothing that was found is above what was taken
         ensures found { IfOk result (λ map. All (λ f. f.key ≤ at map f.block) taker.found) }
+        // all takes and finds had one order, and each found exactly what those before had left
+        ensures exact { OnOk result (All (IsExact taker) taker.found) }
         ensures err { IfErr result (λ e. IsOpen taker.share e.0) }
         ensures same { IfErr result (λ e. e.2 ≡ taker) }
     {
@@ -202,6 +207,7 @@ impl<N: Naming> MapWords<N> {
         requires found { All (λ f. f.block < blocks_of N.table) taker.old.found }
         ensures map { IfSome result (λ map. IsMapOf taker.old.taken (at map)) }
         ensures found { IfSome result (λ map. All (λ f. f.key ≤ at map f.block) taker.old.found) }
+        ensures exact { IfSome result (λ _. All (IsExact taker.old) taker.old.found) }
         ensures same { taker.new ≡ taker.old }
     {
         let mut map = BlockMap::new(alloc);
@@ -222,6 +228,7 @@ impl<N: Naming> MapWords<N> {
         requires block { block < blocks_of N.table }
         ensures greatest { IsGreatest taker.old.taken block (key_in result) }
         ensures newest { IsNewest taker.old block (key_in result) }
+        ensures exact { AreExact taker.old block }
         ensures block { IfSome result (λ r. (r.block ≡ block) × (0 < r.version)) }
         ensures same { taker.new ≡ taker.old }
     {

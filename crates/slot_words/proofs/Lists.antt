@@ -20,6 +20,12 @@ module _ {A : Type 0} where
       (λ (h : (j : ℕ) × (i ≡ length xs + j) × (get_elem? m j ≡ some a)). let b = h.1 in inr (h.0, (omega arith), h.2))
       (at_append xs m i a e)
 
+  -- an element of the second of two lists
+  pub at_behind : (l m : List A) (j : ℕ) (a : A) → get_elem? m j ≡ some a → get_elem? (l ++ m) (length l + j) ≡ some a
+  at_behind [] m j a e = let same : j ≡ 0 + j = omega arith in subst (λ (i : ℕ). get_elem? m i ≡ some a) same e
+  at_behind (x ∷ xs) m j a e = let same : suc (length xs + j) ≡ length (x ∷ xs) + j = omega arith in
+      subst (λ (i : ℕ). get_elem? (x ∷ (xs ++ m)) i ≡ some a) same (at_behind xs m j a e)
+
   -- nothing stands in an empty list
   pub nowhere : (l : List A) (i : ℕ) (a : A) → l ≡ [] → get_elem? l i ≡ some a → ⊥
   nowhere l i a e at = some-ne-none a (sym (subst (λ (k : List A). get_elem? k i ≡ some a) e at))

@@ -1,15 +1,18 @@
 -- A slot's word changes: it is claimed, or released.
-use Rattle.std.proofs.Common.{◌≡◌, ℕ, ◌+◌, ◌*◌, ◌^◌, ◌<◌, ◌≤◌, ◌≢◌, List, [], ◌∷◌, length, set, get_or, get_or-set_same, get_or-set_other, length-set, sym, ap, ◌∙◌, ⊎_elim, subst, arith}
+use Rattle.std.proofs.Common.{◌≡◌, ℕ, ◌+◌, ◌*◌, ◌^◌, ◌<◌, ◌≤◌, ◌≢◌, ◌/◌, List, [], ◌∷◌, ◌++◌, append-nil, length, set, get_or, get_or-set_same, get_or-set_other, length-set, sym, ap, ◌∙◌, ⊎_elim, subst, arith}
 use mathlib.Core.Option.{some}
 use mathlib.Core.Logic.{dite}
 use native.Mathlib.Decide.{ℕ_discrete}
 use lib.ListN.{get_elem?}
 use Rattle.slot_words.specs.declared.view.Held.{Held}
+use Rattle.slot_words.specs.declared.view.Sight.{Sight}
 use Rattle.slot_words.specs.declared.view.View.{View}
 use Rattle.slot_words.specs.Places.{word_of}
-use Rattle.slot_words.specs.ClaimRule.{Stands, ClaimRule}
+use Rattle.slot_words.specs.ClaimRule.{sight_at, Stands, steps, generation_at, ClaimRule}
 use Rattle.slot_words.proofs.Lists.{nowhere, alone}
-use Rattle.slot_words.proofs.Views.{stands_set}
+use Rattle.slot_words.proofs.Views.{stands_set, stands_again, still_stands}
+use Rattle.slot_words.proofs.Timed.{timed_next}
+use Rattle.slot_words.proofs.Winning.{won_next, won_still}
 
 -- a word stays low when a low number is written
 stays_low : (ws : List ℕ) (i x : ℕ) → i < length ws → x ≤ 2 ^ 63 + 1 → ((j : ℕ) → get_or ws j 0 ≤ 2 ^ 63 + 1) → (j : ℕ) → get_or (set ws i x) j 0 ≤ 2 ^ 63 + 1
@@ -22,9 +25,10 @@ other_word : (a b : ℕ) → a ≢ b → word_of a ≢ word_of b
 other_word a b ne e = ne (omega arith)
 
 -- a free slot is claimed: one seat comes to have the pair, and the word becomes odd
-pub claimed : (n : ℕ) (ws : List ℕ) (vs : List View) (id g : ℕ) (p : Held) (w : View) → ClaimRule n ws vs → w.pairs ≡ p ∷ [] → p.slot < n
-    → get_or ws (word_of p.slot) 0 ≡ 2 * g → p.generation ≤ 2 ^ 62 → ClaimRule n (set ws (word_of p.slot) (2 * p.generation + 1)) (set vs id w)
-claimed n ws vs id g p w rule has inside free small = record {
+pub claimed : (n : ℕ) (ws : List ℕ) (vs : List View) (id g : ℕ) (p : Held) (v w : View) → ClaimRule n ws vs → get_elem? vs id ≡ some v
+    → w.pairs ≡ p ∷ [] → w.won ≡ v.won ++ p ∷ [] → w.steps ≡ v.steps + 1 → w.sight ≡ sight_at (word_of p.slot) (2 * p.generation + 1) (steps vs + 1) → p.slot < n
+    → get_or ws (word_of p.slot) 0 ≡ 2 * g → p.generation ≡ g + 1 → p.generation ≤ 2 ^ 62 → ClaimRule n (set ws (word_of p.slot) (2 * p.generation + 1)) (set vs id w)
+claimed n ws vs id g p v w rule here has wins more sees inside free next small = record {
   wide = length-set ws (word_of p.slot) (2 * p.generation + 1) ∙ rule.wide;
   low = stays_low ws (word_of p.slot) (2 * p.generation + 1) within (omega arith) rule.low;
   current = λ s k q st. ⊎_elim
@@ -32,17 +36,20 @@ claimed n ws vs id g p w rule has inside free small = record {
       subst (λ (r : Held). get_or words (word_of r.slot) 0 ≡ 2 * r.generation + 1) (alone w.pairs k p q has h.1).1 (get_or-set_same ws (word_of p.slot) (2 * p.generation + 1) 0 within))
       (λ (h : (s ≢ id) × Stands vs s k q).
       get_or-set_other ws (word_of p.slot) (word_of q.slot) (2 * p.generation + 1) 0 (other_word q.slot p.slot (apart s k q h.1)) ∙ rule.current s k q h.1)
-      (stands_set vs id w s k q st);
+      (stands_set (λ (u : View). u.pairs) vs id w s k q st);
   once = λ s k t l q r st su e. ⊎_elim
       (λ (h : (s ≡ id) × (get_elem? w.pairs k ≡ some q)). ⊎_elim
       (λ (i : (t ≡ id) × (get_elem? w.pairs l ≡ some r)). (h.0 ∙ sym i.0, (alone w.pairs k p q has h.1).0 ∙ sym (alone w.pairs l p r has i.1).0))
       (λ (i : (t ≢ id) × Stands vs t l r). absurd (apart t l r i.1 (sym e ∙ sym (ap (λ (x : Held). x.slot) (alone w.pairs k p q has h.1).1))))
-      (stands_set vs id w t l r su))
+      (stands_set (λ (u : View). u.pairs) vs id w t l r su))
       (λ (h : (s ≢ id) × Stands vs s k q). ⊎_elim
       (λ (i : (t ≡ id) × (get_elem? w.pairs l ≡ some r)). absurd (apart s k q h.1 (e ∙ sym (ap (λ (x : Held). x.slot) (alone w.pairs l p r has i.1).1))))
       (λ (i : (t ≢ id) × Stands vs t l r). rule.once s k t l q r h.1 i.1 e)
-      (stands_set vs id w t l r su))
-      (stands_set vs id w s k q st);
+      (stands_set (λ (u : View). u.pairs) vs id w t l r su))
+      (stands_set (λ (u : View). u.pairs) vs id w s k q st);
+  won = won_next n ws vs id p v w rule.won here wins within (let e : generation_at ws p.slot ≡ g = omega arith in omega arith);
+  timed = timed_next words vs id v w rule.timed.past here more (ap (λ (s : Sight). s.time) sees)
+      (subst (λ (s : Sight). s.word ≡ get_or words s.place 0) (sym sees) (sym (get_or-set_same ws (word_of p.slot) (2 * p.generation + 1) 0 within)));
 }
   where
     words : List ℕ
@@ -58,15 +65,24 @@ claimed n ws vs id g p w rule has inside free small = record {
 
 -- a held slot is released by the seat that has its pair: the word becomes even
 pub freed : (n : ℕ) (ws : List ℕ) (vs : List View) (id : ℕ) (p : Held) (v w : View) → ClaimRule n ws vs → get_elem? vs id ≡ some v
-    → v.pairs ≡ p ∷ [] → w.pairs ≡ [] → p.slot < n → ClaimRule n (set ws (word_of p.slot) (2 * p.generation)) (set vs id w)
-freed n ws vs id p v w rule here has none inside = record {
+    → v.pairs ≡ p ∷ [] → w.pairs ≡ [] → w.won ≡ v.won → w.steps ≡ v.steps + 1 → w.sight ≡ sight_at (word_of p.slot) (2 * p.generation) (steps vs + 1) → p.slot < n
+    → ClaimRule n (set ws (word_of p.slot) (2 * p.generation)) (set vs id w)
+freed n ws vs id p v w rule here has none won more sees inside = record {
   wide = length-set ws (word_of p.slot) (2 * p.generation) ∙ rule.wide;
   low = stays_low ws (word_of p.slot) (2 * p.generation) within small rule.low;
   current = λ s k q st. let old = stood s k q st in
       get_or-set_other ws (word_of p.slot) (word_of q.slot) (2 * p.generation) 0 (other_word q.slot p.slot (λ e. old.0 (rule.once s k id 0 q p old.1 mine e).0)) ∙ rule.current s k q old.1;
   once = λ s k t l q r st su e. rule.once s k t l q r (stood s k q st).1 (stood t l r su).1 e;
+  won = won_still n ws words vs (set vs id w) rule.won same_generation
+      (stands_again (λ (u : View). u.won) vs id v w here won)
+      (still_stands (λ (u : View). u.won) vs id v w [] here (won ∙ sym (append-nil v.won)));
+  timed = timed_next words vs id v w rule.timed.past here more (ap (λ (s : Sight). s.time) sees)
+      (subst (λ (s : Sight). s.word ≡ get_or words s.place 0) (sym sees) (sym (get_or-set_same ws (word_of p.slot) (2 * p.generation) 0 within)));
 }
   where
+    words : List ℕ
+    words = set ws (word_of p.slot) (2 * p.generation)
+
     within : word_of p.slot < length ws
     within = let wide = rule.wide in omega arith
 
@@ -80,4 +96,14 @@ freed n ws vs id p v w rule here has none inside = record {
     stood s k q st = ⊎_elim
         (λ (h : (s ≡ id) × (get_elem? w.pairs k ≡ some q)). absurd (nowhere w.pairs k q none h.1))
         (λ (h : (s ≢ id) × Stands vs s k q). h)
-        (stands_set vs id w s k q st)
+        (stands_set (λ (u : View). u.pairs) vs id w s k q st)
+
+    same_generation : (slot : ℕ) → generation_at words slot ≡ generation_at ws slot
+    same_generation slot = dite (ℕ_discrete slot p.slot)
+        (λ (e : slot ≡ p.slot). subst (λ (x : ℕ). generation_at words x ≡ generation_at ws x) (sym e) here_too)
+        (λ (ne : slot ≢ p.slot). ap (λ (x : ℕ). x / 2) (get_or-set_other ws (word_of p.slot) (word_of slot) (2 * p.generation) 0 (other_word slot p.slot ne)))
+      where
+        here_too : generation_at words p.slot ≡ generation_at ws p.slot
+        here_too =
+            let is = rule.current id 0 p mine in
+            let put : get_or words (word_of p.slot) 0 ≡ 2 * p.generation = get_or-set_same ws (word_of p.slot) (2 * p.generation) 0 within in omega arith

@@ -1,8 +1,10 @@
 -- Each kind of step keeps the rule and tells what it is said to tell.
-use Rattle.std.proofs.Common.{◌≡◌, ℕ, ◌+◌, ◌*◌, ◌^◌, ◌<◌, List, [], ◌∷◌, set, get_or, Bool, true, false, eqb, sym, refl, ap, arith}
-use Rattle.std.proofs.lemmas.List.{set-get_or}
+use Rattle.std.proofs.Common.{◌≡◌, ℕ, ◌+◌, ◌*◌, ◌^◌, ◌<◌, ◌≤◌, List, [], ◌∷◌, ◌++◌, ◌∙◌, replicate, length, set, get_or, Bool, true, false, eqb, sym, refl, ap, subst, arith}
+use Rattle.std.proofs.lemmas.List.{set-get_or, get_or-replicate, get_or_past, length-replicate}
 use Rattle.std.proofs.lemmas.Bool.Decides.{nat_tests}
-use mathlib.Core.Option.{none}
+use mathlib.Core.Logic.{dite}
+use native.Mathlib.Decide.{dec_lt}
+use mathlib.Core.Option.{none, some}
 use lib.ListN.{get_elem?}
 use Rattle.atomic_table.specs.Table.{State, Me, Act, keeps, Valid, carried_after, step, Allows, Enters, Joins}
 use Rattle.atomic_table.proofs.Lists.{set_again}
@@ -10,19 +12,53 @@ use prog.Atomic.{either}
 use Rattle.slot_words.specs.declared.view.Held.{Held}
 use Rattle.slot_words.specs.declared.view.View.{View}
 use Rattle.slot_words.specs.Places.{word_of}
-use Rattle.slot_words.specs.ClaimRule.{knows, held, Stands, ClaimRule}
-use Rattle.slot_words.specs.Steps.{Sat, Taken, Freed, Differed, both_pairs}
-use Rattle.slot_words.proofs.Views.{emptied, entered, joined}
+use Rattle.slot_words.specs.ClaimRule.{knows, sight_at, blank, held, steps, StandsIn, Stands, ClaimRule}
+use Rattle.slot_words.specs.Steps.{Sat, Looked, Taken, Freed, Differed, both_pairs}
+use Rattle.slot_words.proofs.Lists.{nowhere, alone}
+use Rattle.slot_words.proofs.Timed.{timed_next}
+use Rattle.slot_words.proofs.Carried.{noted, entered, joined}
 use Rattle.slot_words.proofs.Moves.{claimed, freed}
 
 -- a load makes an empty seat
 pub sits : {S : Type 0} (n slots place : ℕ)
-    → Enters (λ (s : State S View). ClaimRule n s.words s.views) slots place (λ m w. Sat {S = S} (step slots place 0 0 none) (knows 0 0 [], []) m (w, []))
-sits n slots place s rule homes fits = (knows place (get_or s.words place 0) [], entered n s.words s.views (knows place (get_or s.words place 0) []) rule refl, (rule.low place, refl))
+    → Enters (λ (s : State S View). ClaimRule n s.words s.views) slots place (λ m w. Sat {S = S} (step slots place 0 0 none) (blank, []) m (w, []))
+sits n slots place s rule homes fits = (blank, entered n s.words s.views rule, refl)
 
 -- two seats become one
-pub glues : {S : Type 0} (n id other : ℕ) (v w : View) → Joins (λ (s : State S View). ClaimRule n s.words s.views) id v other w (both_pairs v w) (knows 0 0 [])
-glues n id other v w s rule here differ there = joined n s.words s.views id other v w (both_pairs v w) (knows 0 0 []) rule here differ there refl refl
+pub glues : {S : Type 0} (n id other : ℕ) (v w : View) → Joins (λ (s : State S View). ClaimRule n s.words s.views) id v other w (both_pairs v w) blank
+glues n id other v w s rule here differ there = joined n s.words s.views id other v w rule here differ there
+
+-- the view of a seat whose step was the last one and left this word there
+abbrev after : List View → View → ℕ → ℕ → List Held → List Held → View
+after vs v place word pairs won = knows (sight_at place word (steps vs + 1)) (v.steps + 1) pairs won
+
+-- a seat's step is after the last one that it made
+newer : (n : ℕ) (ws : List ℕ) (vs : List View) (id : ℕ) (v : View) → ClaimRule n ws vs → get_elem? vs id ≡ some v → v.sight.time < steps vs + 1
+newer n ws vs id v rule here = let h = rule.timed.past id v here in omega arith
+
+-- a step that finds this word, and changes nothing
+sees : (n : ℕ) (ws : List ℕ) (vs : List View) (id place : ℕ) (v : View) → ClaimRule n ws vs → get_elem? vs id ≡ some v
+    → ClaimRule n ws (set vs id (after vs v place (get_or ws place 0) v.pairs v.won))
+sees n ws vs id place v rule here = noted n ws vs id v w rule here refl refl (timed_next ws vs id v w rule.timed.past here refl refl refl)
+  where
+    w : View
+    w = after vs v place (get_or ws place 0) v.pairs v.won
+
+-- a look
+pub looks : {S : Type 0} (n slots id place : ℕ) (me : Me S View) → me.1 ≡ []
+    → Allows (λ (s : State S View). ClaimRule n s.words s.views) slots id me place (λ m. m) (Looked {S = S} (step slots place 0 0 none) me)
+looks {S} n slots id place me away s rule homes here fits = (
+  after s.views me.0 place (get_or s.words place 0) me.0.pairs me.0.won,
+  keeps,
+  tt,
+  rw (set-get_or s.words place 0) (sees n s.words s.views id place me.0 rule here),
+  (
+    rule.low place,
+    steps s.views + 1,
+    newer n s.words s.views id me.0 rule here,
+    λ i. (after s.views me.0 place (get_or s.words place 0) me.0.pairs me.0.won, away i),
+  ),
+)
 
 -- the exchange of a claim: it wins where it finds twice the generation before
 pub takes : {S : Type 0} (n slots id slot g sought put : ℕ) (me : Me S View) → slot < n → g < 2 ^ 62 → sought ≡ 2 * g → put ≡ 2 * (g + 1) + 1
@@ -34,22 +70,35 @@ takes {S} n slots id slot g sought put me inside below seeks puts bare away s ru
     x : ℕ
     x = get_or s.words (word_of slot) 0
 
+    p : Held
+    p = held slot (g + 1)
+
+    won : View
+    won = after s.views me.0 (word_of slot) put (p ∷ []) (me.0.won ++ p ∷ [])
+
+    lost : View
+    lost = after s.views me.0 (word_of slot) x [] me.0.won
+
+    wins : eqb x sought ≡ true → ClaimRule n (set s.words (word_of slot) (2 * (g + 1) + 1)) (set s.views id won)
+    wins e = claimed n s.words s.views id g p me.0 won rule here refl refl refl (ap (λ (m : ℕ). sight_at (word_of slot) m (steps s.views + 1)) puts)
+        inside (grind (arith, nat_tests)) refl (omega arith)
+
     go : (b : Bool) → eqb x sought ≡ b → (w : View) × (a : Act S) × Valid s.homes me.1 a
         × ClaimRule n (set s.words (word_of slot) (either (eqb x sought) put x)) (set s.views id w)
         × Taken {S = S} (step slots (word_of slot) sought put none) me x (w, carried_after me.1 a)
     go true e = (
-      knows (word_of slot) x (held slot (g + 1) ∷ []),
+      won,
       keeps,
       tt,
-      rw (e, puts) (claimed n s.words s.views id g (held slot (g + 1)) (knows (word_of slot) x (held slot (g + 1) ∷ [])) rule refl inside (grind (arith, nat_tests)) (omega arith)),
-      rw e (held slot (g + 1), refl, sym puts, λ i. (knows (word_of slot) x (held slot (g + 1) ∷ []), away i)),
+      rw e (subst (λ (m : ℕ). ClaimRule n (set s.words (word_of slot) m) (set s.views id won)) (sym puts) (wins e)),
+      rw e (p, refl, sym puts, steps s.views + 1, newer n s.words s.views id me.0 rule here, λ i. (won, away i)),
     )
     go false e = (
-      knows (word_of slot) x [],
+      lost,
       keeps,
       tt,
-      rw (e, set-get_or) (emptied n s.words s.views id (knows (word_of slot) x []) rule refl),
-      rw e (λ i. (knows (word_of slot) x [], away i)),
+      rw (e, set-get_or) (subst (λ (l : List Held). ClaimRule n s.words (set s.views id (after s.views me.0 (word_of slot) x l me.0.won))) bare (sees n s.words s.views id (word_of slot) me.0 rule here)),
+      rw e (steps s.views + 1, newer n s.words s.views id me.0 rule here, λ i. (lost, away i)),
     )
 
 -- the store of a release, by the seat that has the pair alone
@@ -57,12 +106,15 @@ pub frees : {S : Type 0} (n slots id : ℕ) (p : Held) (me : Me S View) → p.sl
     → Allows (λ (s : State S View). ClaimRule n s.words s.views) slots id me (word_of p.slot) (λ _. 2 * p.generation)
     (λ _. Freed {S = S} (step slots (word_of p.slot) (2 * p.generation) 0 none) me (2 * p.generation))
 frees {S} n slots id p me inside has away s rule homes here fits = (
-  knows (word_of p.slot) (2 * p.generation) [],
+  free,
   keeps,
   tt,
-  freed n s.words s.views id p me.0 (knows (word_of p.slot) (2 * p.generation) []) rule here has refl inside,
-  λ i. (knows (word_of p.slot) (2 * p.generation) [], away i),
+  freed n s.words s.views id p me.0 free rule here has refl refl refl refl inside,
+  (steps s.views + 1, newer n s.words s.views id me.0 rule here, λ i. (free, away i)),
 )
+  where
+    free : View
+    free = after s.views me.0 (word_of p.slot) (2 * p.generation) [] me.0.won
 
 -- a seat that has two pairs names two slots
 pub differs : {S : Type 0} (n slots id place : ℕ) (me : Me S View)
@@ -77,3 +129,34 @@ differs {S} n slots id place me s rule homes here fits = (
       let second : Stands s.views id 1 q = (me.0, here, ap (λ (l : List Held). get_elem? l 1) two) in
       let clash : 0 ≡ 1 = (rule.once id 0 id 1 p q first second same).1 in absurd (omega arith),
 )
+
+-- words that are all 0, and a seat that knows nothing
+pub begins : (n : ℕ) (ws : List ℕ) → ws ≡ replicate (n + 8) 0 → ClaimRule n ws (blank ∷ [])
+begins n ws all = record {
+  wide = long;
+  low = λ i. let e = zeros i in omega arith;
+  current = λ s k p st. absurd (without (λ (u : View). u.pairs) refl s k p st);
+  once = λ s k t l p q st su e. absurd (without (λ (u : View). u.pairs) refl s k p st);
+  won = record {
+    begun = λ slot small above. let e = zeros (word_of slot) in absurd (omega arith);
+    reached = λ s k p st. absurd (without (λ (u : View). u.won) refl s k p st);
+    single = λ s k t l p q st su e d. absurd (without (λ (u : View). u.won) refl s k p st);
+  };
+  timed = record {
+    past = λ s v at. subst (λ (u : View). u.sight.time ≤ 0) (alone (blank ∷ []) s blank v refl at).1 (omega arith);
+    latest = (0, blank, refl, refl);
+    exact = λ s v at. subst (λ (u : View). 0 < u.sight.time → u.sight.time ≡ 0 → u.sight.word ≡ get_or ws u.sight.place 0) (alone (blank ∷ []) s blank v refl at).1 (λ above same. absurd (omega arith));
+  };
+}
+  where
+    long : length ws ≡ n + 8
+    long = ap (λ (l : List ℕ). length l) all ∙ length-replicate (n + 8) 0
+
+    zeros : (i : ℕ) → get_or ws i 0 ≡ 0
+    zeros i = dite (dec_lt i (n + 8))
+        (λ (small : i < n + 8). ap (λ (l : List ℕ). get_or l i 0) all ∙ get_or-replicate (n + 8) i 0 0 small)
+        (λ (high : i < n + 8 → ⊥). get_or_past ws i 0 (let is = long in omega arith))
+
+    without : (part : View → List Held) → part blank ≡ [] → (s k : ℕ) (p : Held) → StandsIn part (blank ∷ []) s k p → ⊥
+    without part bare s k p st =
+        nowhere (part blank) k p bare (subst (λ (u : View). get_elem? (part u) k ≡ some p) (sym (alone (blank ∷ []) s blank st.0 refl st.1).1) st.2)

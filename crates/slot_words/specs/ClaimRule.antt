@@ -1,8 +1,9 @@
 -- The rule of the slot words: what is true of the words and of all claims between any two atomic steps.
-use Rattle.std.specs.Prelude.{◌≡◌, ℕ, ◌+◌, ◌*◌, ◌^◌, ◌≤◌, List, length, slice_index}
+use Rattle.std.specs.Prelude.{◌≡◌, ℕ, ◌+◌, ◌*◌, ◌/◌, ◌^◌, ◌<◌, ◌≤◌, List, [], ◌∷◌, length, slice_index}
 use mathlib.Core.Option.{some}
 use lib.ListN.{get_elem?}
 use Rattle.slot_words.specs.declared.view.Held.{Held}
+use Rattle.slot_words.specs.declared.view.Sight.{Sight}
 use Rattle.slot_words.specs.declared.view.View.{View}
 use Rattle.slot_words.specs.Places.{word_of}
 
@@ -10,13 +11,50 @@ use Rattle.slot_words.specs.Places.{word_of}
 abbrev pub held : ℕ → ℕ → Held
 held slot generation = record { slot = slot; generation = generation }
 
--- the view of a seat whose last step was on the word `place`, found `word` there, and that has these pairs
-abbrev pub knows : ℕ → ℕ → List Held → View
-knows place word pairs = record { place = place; word = word; pairs = pairs }
+-- right after the table's step number `time` this number stood at this place
+abbrev pub sight_at : ℕ → ℕ → ℕ → Sight
+sight_at place word time = record { place = place; word = word; time = time }
 
--- the pair p stands in the view of this seat, at this place
+-- the view of a seat whose last step was this, that made so many, and that has and won these pairs
+abbrev pub knows : Sight → ℕ → List Held → List Held → View
+knows sight steps pairs won = record { sight = sight; steps = steps; pairs = pairs; won = won }
+
+-- the view of a seat that made no step
+abbrev pub blank : View
+blank = knows (sight_at 0 0 0) 0 [] []
+
+-- how many steps all seats made
+abbrev pub steps : List View → ℕ
+steps [] = 0
+steps (v ∷ vs) = v.steps + steps vs
+
+-- the pair p stands in this list of this seat's view, at this place
+abbrev pub StandsIn : (View → List Held) → List View → ℕ → ℕ → Held → Type 0
+StandsIn part views seat place p = (v : View) × (get_elem? views seat ≡ some v) × (get_elem? (part v) place ≡ some p)
+
+-- the seat has this pair
 abbrev pub Stands : List View → ℕ → ℕ → Held → Type 0
-Stands views seat place p = (v : View) × (get_elem? views seat ≡ some v) × (get_elem? v.pairs place ≡ some p)
+Stands views seat place p = StandsIn (λ v. v.pairs) views seat place p
+
+-- the seat once won this pair
+abbrev pub Won : List View → ℕ → ℕ → Held → Type 0
+Won views seat place p = StandsIn (λ v. v.won) views seat place p
+
+-- the generation of a slot's word
+abbrev pub generation_at : List ℕ → ℕ → ℕ
+generation_at words slot = slice_index words (word_of slot) / 2
+
+-- No pair was won twice. A slot's generation, where it isn't 0, was won by some seat, and none above it.
+pub record IsWon (slots : ℕ) (words : List ℕ) (views : List View) : Type 0 where
+  pub begun : (slot : ℕ) → slot < slots → 0 < generation_at words slot → (seat : ℕ) × (place : ℕ) × Won views seat place (held slot (generation_at words slot))
+  pub reached : (seat place : ℕ) (p : Held) → Won views seat place p → p.generation ≤ generation_at words p.slot
+  pub single : (seat place other spot : ℕ) (p q : Held) → Won views seat place p → Won views other spot q → p.slot ≡ q.slot → p.generation ≡ q.generation → (seat ≡ other) × (place ≡ spot)
+
+-- All steps have one order, and the last one is some seat's last. What a seat saw in it still stands there.
+pub record IsTimed (words : List ℕ) (views : List View) : Type 0 where
+  pub past : (seat : ℕ) (v : View) → get_elem? views seat ≡ some v → v.sight.time ≤ steps views
+  pub latest : (seat : ℕ) × (v : View) × (get_elem? views seat ≡ some v) × (v.sight.time ≡ steps views)
+  pub exact : (seat : ℕ) (v : View) → get_elem? views seat ≡ some v → 0 < v.sight.time → v.sight.time ≡ steps views → v.sight.word ≡ slice_index words v.sight.place
 
 -- A slot's word is twice a generation, and one more where the slot is held. Where it is even no pair of any view
 -- names the slot. Where it is odd at most one does, and with that generation.
@@ -25,3 +63,5 @@ pub record ClaimRule (slots : ℕ) (words : List ℕ) (views : List View) : Type
   pub low : (i : ℕ) → slice_index words i ≤ 2 ^ 63 + 1
   pub current : (seat place : ℕ) (p : Held) → Stands views seat place p → slice_index words (word_of p.slot) ≡ 2 * p.generation + 1
   pub once : (seat place other spot : ℕ) (p q : Held) → Stands views seat place p → Stands views other spot q → p.slot ≡ q.slot → (seat ≡ other) × (place ≡ spot)
+  pub won : IsWon slots words views
+  pub timed : IsTimed words views

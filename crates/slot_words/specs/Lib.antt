@@ -1,6 +1,6 @@
 pub mod Places
 pub mod ClaimRule
-pub mod Steps
 pub mod Sight
+pub mod Steps
 pub mod Refused
 pub mod Idle

@@ -1,5 +1,7 @@
 // What a claim is, and why one is refused.
 ghost use Rattle.std.specs.Prelude.{◌≡◌, ◌<◌, ◌≤◌, [], ◌∷◌};
+ghost use Rattle.slot_words.specs.Places.{slots_of};
+ghost use Rattle.slot_words.specs.Refused.{number_of};
 
 use crate::naming::Naming;
 use crate::rule::Sitting;
@@ -14,7 +16,7 @@ pub struct Claim<N: Naming> {
 }
 
 impl<N: Naming> Model for Claim<N> {
-    ghost use Rattle.std.specs.Prelude.{◌≡◌, ◌<◌, ◌≤◌, ◌^◌, [], ◌∷◌};
+    ghost use Rattle.std.specs.Prelude.{◌≡◌, ◌<◌, ◌≤◌, ◌^◌, [], ◌∷◌, Contains};
     ghost use Rattle.slot_words.specs.declared.view.Held.{Held};
     ghost use Rattle.slot_words.specs.ClaimRule.{held};
     ghost use Rattle.slot_words.specs.Places.{slots_of};
@@ -23,13 +25,14 @@ impl<N: Naming> Model for Claim<N> {
 
     ghost view = { λ c. held c.slot c.generation };
 
-    ghost invariant = { λ c. (c.slot < slots_of N.table) × (0 < c.generation) × (c.generation ≤ 2 ^ 62) × (c.seat.table_id ≡ N.table) × (c.seat.me.0.pairs ≡ held c.slot c.generation ∷ []) × (c.seat.me.1 ≡ []) };
+    ghost invariant = { λ c. (c.slot < slots_of N.table) × (0 < c.generation) × (c.generation ≤ 2 ^ 62) × (c.seat.table_id ≡ N.table) × (c.seat.me.0.pairs ≡ held c.slot c.generation ∷ []) × (c.seat.me.1 ≡ []) × Contains c.seat.me.0.won (held c.slot c.generation) };
 }
 
 impl<N: Naming> Claim<N> {
     /// The slot's number.
     pub fn slot(&self) -> u16
-        ensures { result ≡ self.now.slot }
+        ensures same { result ≡ self.now.slot }
+        ensures below { result < slots_of N.table }
     {
         self.slot
     }
@@ -51,6 +54,19 @@ pub enum ClaimRefusal {
     Spent,
     /// The slot was free at another generation than the look had found, when this word was read there.
     Moved(u64),
+}
+
+impl ClaimRefusal {
+    /// The refusal's number, 1 to 3 in the order above.
+    pub fn number(&self) -> u8
+        ensures { result ≡ number_of self.now }
+    {
+        match self {
+            ClaimRefusal::Taken(_) => 1,
+            ClaimRefusal::Spent => 2,
+            ClaimRefusal::Moved(_) => 3,
+        }
+    }
 }
 
 /// No listed slot could be claimed: the refusal of the last try, or none where the list is empty.

@@ -5,23 +5,24 @@ use crate::naming::Naming;
 use crate::rule::Sitting;
 use std::marker::{Model, PhantomData};
 
-/// Lets its holder step on the words of the table N. It has no bytes. A contract sees what its last steps found.
+/// Lets its holder step on the words of the table N. It has no bytes. A contract sees its last look and its last exchange
+/// or store, how many there were, and what was won.
 #[derive(Drop)]
 pub struct Pass<N: Naming> {
-    // The next exchange is this seat's.
+    // The exchanges are this seat's.
     pub(crate) seat: Sitting,
-    // The last look made this seat.
+    // The looks are this seat's.
     pub(crate) look: Sitting,
     pub(crate) of: PhantomData<N>,
 }
 
 impl<N: Naming> Model for Pass<N> {
     ghost use Rattle.std.specs.Prelude.{◌≡◌, []};
-    ghost use Rattle.slot_words.specs.Sight.{Sights, sight_of};
+    ghost use Rattle.slot_words.specs.Sight.{Sights};
 
     ghost Value = { Sights };
 
-    ghost view = { λ p. record { looked = sight_of p.look.me.0; stepped = sight_of p.seat.me.0 } };
+    ghost view = { λ p. record { looked = p.look.me.0.sight; looks = p.look.me.0.steps; stepped = p.seat.me.0.sight; steps = p.seat.me.0.steps; won = p.seat.me.0.won } };
 
     ghost invariant = { λ p. (p.seat.table_id ≡ N.table) × (p.seat.me.0.pairs ≡ []) × (p.seat.me.1 ≡ []) × (p.look.table_id ≡ N.table) × (p.look.me.0.pairs ≡ []) × (p.look.me.1 ≡ []) };
 }

@@ -1,7 +1,6 @@
 // The rule of the table, and what each kind of step tells.
-ghost use Rattle.std.specs.Prelude.{[]};
-ghost use Rattle.slot_words.specs.ClaimRule.{knows, ClaimRule};
-ghost use Rattle.slot_words.specs.Steps.{Sat, Taken, Freed, Differed, both_pairs};
+ghost use Rattle.slot_words.specs.ClaimRule.{blank, ClaimRule};
+ghost use Rattle.slot_words.specs.Steps.{Sat, Looked, Taken, Freed, Differed, both_pairs};
 
 use crate::view::View;
 use atomic_table::{Join, Play, Seat, Table, TableRule};
@@ -19,7 +18,7 @@ pub struct OnceHeld;
 impl TableRule<u8, View, u64> for OnceHeld {
     ghost holds = { λ slots s. ClaimRule slots s.words s.views };
 
-    ghost first = { λ _. knows 0 0 [] };
+    ghost first = { λ _. blank };
 }
 
 /// A load that makes an empty seat.
@@ -27,6 +26,13 @@ pub struct Sits;
 
 impl Play<u8, View> for Sits {
     ghost then = { Sat };
+}
+
+/// The load of a look.
+pub struct Looks;
+
+impl Play<u8, View> for Looks {
+    ghost then = { Looked };
 }
 
 /// The exchange of a claim.
@@ -56,5 +62,5 @@ pub struct Both;
 impl Join<View> for Both {
     ghost both = { both_pairs };
 
-    ghost spent = { knows 0 0 [] };
+    ghost spent = { blank };
 }

@@ -1,19 +1,18 @@
 // The two steps that change no word: a load that makes a seat, and one that makes two seats one.
-ghost use Rattle.std.specs.Prelude.{◌≡◌, ◌+◌, ◌^◌, ◌<◌, ◌≤◌, []};
+ghost use Rattle.std.specs.Prelude.{◌≡◌, ◌<◌, []};
 ghost use Rattle.slot_words.specs.Idle.{IsIdle};
-ghost use Rattle.slot_words.specs.Sight.{sight_at, sight_of};
+ghost use Rattle.slot_words.specs.ClaimRule.{blank};
 ghost use Rattle.slot_words.specs.Steps.{both_pairs};
 
 use crate::rule::{Both, Sits, Sitting, Words};
 
-// Loads the word at this place, and makes a seat that knows what was found there.
-pub(crate) fn sit(table: &Words, place: usize) -> (u64, Sitting)
-    requires { place < table.now.shared.table_id.words }
-    ensures low { result.0 ≤ 2 ^ 63 + 1 }
-    ensures idle { IsIdle table.now.shared.table_id result.1 }
-    ensures found { sight_of result.1.me.0 ≡ sight_at place result.0 }
+// Loads word 0, and makes a seat that knows nothing.
+pub(crate) fn sit(table: &Words) -> Sitting
+    requires { 0 < table.now.shared.table_id.words }
+    ensures idle { IsIdle table.now.shared.table_id result }
+    ensures blank { result.me.0 ≡ blank }
 {
-    table.shared.load_new_seat::<Sits>(place)
+    table.shared.load_new_seat::<Sits>(0).1
 }
 
 // The first seat takes in the pairs of the other.

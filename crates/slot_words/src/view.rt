@@ -8,9 +8,19 @@ pub struct Held {
     pub generation: u64,
 }
 
-/// The word that the seat's last step was on, what that word was right then, and the pairs that the seat has.
-pub struct View {
+/// The place of the word that a step was on, what stood there right after it, and how many steps the table had had by
+/// then, this one counted.
+#[derive(Clone, Copy)]
+pub struct Sight {
     pub place: u64,
     pub word: u64,
+    pub time: u64,
+}
+
+/// The seat's last step, how many it made, the pairs that it has, and those that it ever won.
+pub struct View {
+    pub sight: Sight,
+    pub steps: u64,
     pub pairs: LinkedList<Held>,
+    pub won: LinkedList<Held>,
 }

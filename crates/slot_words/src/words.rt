@@ -1,14 +1,14 @@
 // The table of words, and the steps on it.
-ghost use Rattle.std.specs.Prelude.{◌≡◌, ◌≢◌, ◌↔◌, ℕ, ◌+◌, ◌-◌, ◌*◌, ◌/◌, ◌%◌, ◌^◌, ◌<◌, ◌≤◌, [], ◌∷◌, length, slice_index, All, Contains, IfOk, IfErr, IfSome, None};
+ghost use Rattle.std.specs.Prelude.{◌≡◌, ◌≢◌, ◌↔◌, ℕ, ◌+◌, ◌-◌, ◌*◌, ◌/◌, ◌%◌, ◌^◌, ◌<◌, ◌≤◌, [], ◌∷◌, length, slice_index, All, Contains, IfOk, IfErr, IfSome, None, OnErr};
 ghost use Rattle.slot_words.specs.Places.{word_of, slots_of};
-ghost use Rattle.slot_words.specs.Sight.{sight, sight_of};
-ghost use Rattle.slot_words.specs.Refused.{IsRefused, IsMissed};
+ghost use Rattle.slot_words.specs.Sight.{HasStepped, no_sights, both_sights};
+ghost use Rattle.slot_words.specs.Refused.{HasLooked, IsRefused, WasRefused, IsMissed};
 ghost use Rattle.slot_words.specs.Idle.{IsIdle};
 
 use crate::claim::{Claim, ClaimRefusal, NoneFree};
 use crate::naming::Naming;
 use crate::pass::Pass;
-use crate::rule::{Differs, Frees, Sitting, Takes, Words};
+use crate::rule::{Differs, Frees, Looks, Sitting, Takes, Words};
 use crate::steps::{merge, sit};
 use atomic_table::Table;
 use std::alloc::Global;
@@ -67,7 +67,7 @@ impl SlotWords<Brand> {
         let Ok((table, seat)) = Table::of_words(alloc, &words, &u64::from(slots)) else {
             return Err(TableRefusal::Memory);
         };
-        let (_, look) = sit(&table, 0);
+        let look = sit(&table);
         Ok(Unnamed { table, seat, look })
     }
 }
@@ -102,10 +102,11 @@ impl<N: Naming> SlotWords<N> {
     /// A second Pass, for another thread. The first stays as it was.
     pub fn split(&self, pass: &mut Pass<N>) -> Pass<N>
         ensures same { pass.new ≡ pass.old }
+        ensures fresh { result ≡ no_sights }
     {
         let _ = pass;
-        let (_, seat) = sit(&self.table, 0);
-        let (_, look) = sit(&self.table, 0);
+        let seat = sit(&self.table);
+        let look = sit(&self.table);
         Pass {
             seat,
             look,
@@ -113,9 +114,9 @@ impl<N: Naming> SlotWords<N> {
         }
     }
 
-    /// Takes the other Pass in. The first stays as it was.
+    /// Takes the other Pass in, with what it remembers.
     pub fn join(&self, pass: &mut Pass<N>, other: Pass<N>)
-        ensures same { pass.new ≡ pass.old }
+        ensures { pass.new ≡ both_sights pass.old other }
     {
         let Pass { seat, look, of: _ } = other;
         merge(&self.table, &mut pass.seat, seat);
@@ -125,37 +126,34 @@ impl<N: Naming> SlotWords<N> {
     /// Looks once, and where the slot is free tries one exchange to the next generation, held.
     pub fn claim(&self, pass: &mut Pass<N>, slot: u16) -> Result<Claim<N>, ClaimRefusal>
         requires { slot < slots_of N.table }
-        // the look was at this slot's word, and the claim has the generation after it
-        ensures looked { pass.new.looked ≡ sight slot pass.new.looked.word }
+        // one look more, at this slot's word; the claim has the generation after it
+        ensures looked { HasLooked slot pass.old pass.new }
         ensures ok { IfOk result (λ c. (c.slot ≡ slot) × (2 * c.generation ≡ pass.new.looked.word + 2)) }
-        ensures err { IfErr result (IsRefused slot pass.new) }
+        // the look is why, or one exchange more
+        ensures err { IfErr result (IsRefused slot pass.old pass.new) }
     {
-        let (seen, look) = sit(&self.table, place_of(slot));
-        let spare = mem::replace(&mut pass.look, look);
+        let seen = self
+            .table
+            .shared
+            .load::<Looks>(&mut pass.look, place_of(slot));
         if seen % 2 == 1 {
             return Err(ClaimRefusal::Taken(seen));
         }
         if seen == SPENT {
             return Err(ClaimRefusal::Spent);
         }
-        self.exchange(&mut pass.seat, spare, slot, seen)
+        self.exchange(&mut pass.seat, slot, seen)
     }
 
-    // Where the exchange wins the claim gets the seat, and `spare` stands in its place.
-    fn exchange(
-        &self,
-        seat: &mut Sitting,
-        spare: Sitting,
-        slot: u16,
-        seen: u64,
-    ) -> Result<Claim<N>, ClaimRefusal>
+    // Where the exchange wins the claim gets the seat, and another stands in its place.
+    fn exchange(&self, seat: &mut Sitting, slot: u16, seen: u64) -> Result<Claim<N>, ClaimRefusal>
         requires slot { slot < slots_of N.table }
         requires free { seen % 2 ≡ 0 }
         requires lasting { seen < 2 ^ 63 }
         requires seat { IsIdle N.table seat.old }
-        requires spare { IsIdle N.table spare }
         ensures ok { IfOk result (λ c. (c.slot ≡ slot) × (2 * c.generation ≡ seen + 2)) }
-        ensures err { IfErr result (IsMissed slot seen (sight_of seat.new.me.0)) }
+        ensures err { IfErr result (IsMissed seen seat.new.me.0.sight) }
+        ensures tried { OnErr result (HasStepped slot seat.old.me.0 seat.new.me.0) }
         ensures idle { IsIdle N.table seat.new }
     {
         let generation = seen / 2 + 1;
@@ -165,7 +163,7 @@ impl<N: Naming> SlotWords<N> {
             .shared
             .compare_exchange::<Takes>(seat, place_of(slot), seen, held);
         if found == seen {
-            let seat = mem::replace(seat, spare);
+            let seat = mem::replace(seat, sit(&self.table));
             Ok(Claim {
                 slot,
                 generation,
@@ -185,7 +183,8 @@ impl<N: Naming> SlotWords<N> {
         ensures ok { IfOk result (λ c. Contains slots.now c.slot) }
         ensures empty { IfErr result (λ e. e.0 ≡ None ↔ slots.now ≡ []) }
         // the refusal is of the last slot listed
-        ensures last { IfErr result (λ e. IfSome e.0 (IsRefused (slice_index slots.now (length slots.now - 1)) pass.new)) }
+        ensures last { IfErr result (λ e. IfSome e.0 (WasRefused (slice_index slots.now (length slots.now - 1)) pass.new)) }
+        ensures looks { OnErr result (pass.new.looks ≡ pass.old.looks + length slots.now) }
     {
         let mut last = None;
         for slot in slots {
@@ -199,8 +198,9 @@ impl<N: Naming> SlotWords<N> {
 
     /// Frees the slot at the claim's generation, by one store. It always succeeds.
     pub fn release(&self, pass: &mut Pass<N>, claim: Claim<N>)
-        ensures stored { pass.new.stepped ≡ sight claim.slot (2 * claim.generation) }
-        ensures same { pass.new.looked ≡ pass.old.looked }
+        ensures stored { (pass.new.stepped.place ≡ word_of claim.slot) × (pass.new.stepped.word ≡ 2 * claim.generation) }
+        ensures won { Contains pass.new.won claim }
+        ensures same { (pass.new.looked ≡ pass.old.looked) × (pass.new.looks ≡ pass.old.looks) }
     {
         let Claim {
             slot,
@@ -221,7 +221,7 @@ impl<N: Naming> SlotWords<N> {
     {
         if one.slot == other.slot {
             // No run comes in here: one seat with both pairs would break the rule.
-            let (_, empty) = sit(&self.table, 0);
+            let empty = sit(&self.table);
             let theirs = mem::replace(&mut other.seat, empty);
             merge(&self.table, &mut one.seat, theirs);
             self.table.shared.load::<Differs>(&mut one.seat, 0);

@@ -47,6 +47,7 @@ fn not_whole<N: Naming, R: Abort>(
         Ok(_) => panic!(rt; "the share is not the whole"),
         Err((refusal, words, taker)) => {
             assert_eq!(rt; refusal, CloseRefusal::NotWhole(share));
+            assert_eq!(rt; refusal.number(), 1);
             (words, taker)
         }
     }
@@ -95,7 +96,9 @@ fn closes_after_the_join<N: Naming + Send + Sync, R: Abort>(rt: &R, table: Unnam
     needs_sync(&words);
     needs_send(&taker);
     assert_eq!(rt; words.take(&mut taker, OLDER), 0);
-    let other = split_of(rt, &words, &mut taker);
+    let mut other = split_of(rt, &words, &mut taker);
+    assert!(rt; words.find(&mut other, 3) == Some(OLDER));
+    assert!(rt; words.find(&mut other, 4).is_none());
     let (words, mut taker) = not_whole(rt, words, alloc, taker, 32768);
     words.join(&mut taker, other);
     let map = closed(rt, words, alloc, taker);

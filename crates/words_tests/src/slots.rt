@@ -60,7 +60,9 @@ fn claims_one_slot_twice<N: Naming + Send + Sync, R: Abort>(rt: &R, table: Unnam
     needs_send(&first);
     assert_eq!(rt; first.slot(), 0);
     assert_eq!(rt; first.generation(), 1);
-    assert_eq!(rt; refused(rt, &words, &mut pass, 0), ClaimRefusal::Taken(3));
+    let taken = refused(rt, &words, &mut pass, 0);
+    assert_eq!(rt; taken, ClaimRefusal::Taken(3));
+    assert_eq!(rt; taken.number(), 1);
     words.release(&mut pass, first);
     let second = claimed(rt, &words, &mut pass, 0);
     assert_eq!(rt; second.generation(), 2);
@@ -71,6 +73,92 @@ fn claims_one_slot_twice<N: Naming + Send + Sync, R: Abort>(rt: &R, table: Unnam
 #[test]
 fn a_slot_gains_a_generation_with_each_claim(rt: HostRuntime) -> Result<(), Fail> {
     claims_one_slot_twice::<Brand, HostRuntime>(&rt, SlotWords::new(rt.alloc(), 8)?);
+    Ok(())
+}
+
+fn claims_what_another_released<N: Naming, R: Abort>(rt: &R, table: Unnamed)
+    requires name { table ≡ N.table }
+    requires slots { slots_of table ≡ 8 }
+{
+    let (words, mut pass) = table.named::<N>();
+    let mut second = words.split(&mut pass);
+    let claim = claimed(rt, &words, &mut pass, 5);
+    assert_eq!(rt; refused(rt, &words, &mut second, 5), ClaimRefusal::Taken(3));
+    words.release(&mut pass, claim);
+    let next = claimed(rt, &words, &mut second, 5);
+    assert_eq!(rt; next.generation(), 2);
+    assert_eq!(rt; refused(rt, &words, &mut pass, 5), ClaimRefusal::Taken(5));
+    words.release(&mut second, next);
+}
+
+#[test]
+fn a_refused_slot_is_claimed_once_it_is_released(rt: HostRuntime) -> Result<(), Fail> {
+    claims_what_another_released::<Brand, HostRuntime>(&rt, SlotWords::new(rt.alloc(), 8)?);
+    Ok(())
+}
+
+// Claims the slot at this generation and releases it; meanwhile another is answered the slot's word.
+fn claims_at<N: Naming, R: Abort>(
+    rt: &R,
+    words: &SlotWords<N>,
+    passes: (&mut Pass<N>, &mut Pass<N>),
+    slot: u16,
+    generation: u64,
+)
+    requires slot { slot < slots_of N.table }
+    requires generation { generation < 16 }
+{
+    let (pass, other) = passes;
+    let claim = claimed(rt, words, pass, slot);
+    assert_eq!(rt; claim.generation(), generation);
+    let held = ClaimRefusal::Taken(2 * generation + 1);
+    assert_eq!(rt; refused(rt, words, other, slot), held);
+    words.release(pass, claim);
+}
+
+// Claims the first of the two slots by their list, at this generation, and releases it.
+fn claims_first_at<N: Naming, R: Abort>(
+    rt: &R,
+    words: &SlotWords<N>,
+    pass: &mut Pass<N>,
+    list: &[u16; 2],
+    generation: u64,
+)
+    requires { All (λ s. s < slots_of N.table) list.now }
+{
+    match words.claim_first(pass, list) {
+        Ok(claim) => {
+            assert_eq!(rt; claim.slot(), list[0]);
+            assert_eq!(rt; claim.generation(), generation);
+            words.release(pass, claim);
+        }
+        Err(_) => panic!(rt; "slot {} is free", list[0]),
+    }
+}
+
+fn counts_each_claim<N: Naming, R: Abort>(rt: &R, table: Unnamed)
+    requires name { table ≡ N.table }
+    requires slots { slots_of table ≡ 100 }
+{
+    let (words, mut pass) = table.named::<N>();
+    let mut other = words.split(&mut pass);
+    for generation in 1..4u64 {
+        for slot in 0..100u16 {
+            claims_at(rt, &words, (&mut pass, &mut other), slot, generation);
+        }
+    }
+    for slot in 0..99u16 {
+        claims_first_at(rt, &words, &mut pass, &[slot, slot + 1], 4);
+    }
+    for slot in 0..99u16 {
+        claims_at(rt, &words, (&mut pass, &mut other), slot, 5);
+    }
+    claims_at(rt, &words, (&mut pass, &mut other), 99, 4);
+}
+
+#[test]
+fn a_hundred_slots_count_each_claim_once(rt: HostRuntime) -> Result<(), Fail> {
+    counts_each_claim::<Brand, HostRuntime>(&rt, SlotWords::new(rt.alloc(), 100)?);
     Ok(())
 }
 

@@ -17,7 +17,15 @@ load-key-requires g c = (
 
 pub invariant_of-taker : goal.invariant_of-taker
 invariant_of-taker g c = let told = c.load-key.ensures.2 c.args.block (sym c.place_of.ensures) in
-    rw told.2 ((search rules), (search rules), (search rules), (search rules), All-push (λ (f : Found). f.block < blocks_of g.N.Naming.table) c.taker.inside.seat.me.0.found (found_at c.args.block c.load-key.result) c.taker.invariant.4 c.requires, (search rules), (search rules))
+    rw told.2.1 (
+      (search rules),
+      (search rules),
+      (search rules),
+      (search rules),
+      All-push (λ (f : Found). f.block < blocks_of g.N.Naming.table) c.taker.inside.seat.me.0.found (found_at c.args.block told.2.0 c.load-key.result c.load-key.result) c.taker.invariant.4 c.requires,
+      (search rules),
+      told.3,
+    )
 
 pub returns-clause-newest : goal.returns-clause-newest
 returns-clause-newest g c =
@@ -27,4 +35,4 @@ returns-clause-newest g c =
 pub returns-clause-found : goal.returns-clause-found
 returns-clause-found g c =
     let told = c.load-key.ensures.2 c.args.block (sym c.place_of.ensures) in
-    rw (c.of_key.ensures, key_told c.args.block c.load-key.result told.1, ← c.taker.view_is) (λ i. (told.2 i).0)
+    rw (c.of_key.ensures, key_told c.args.block c.load-key.result told.1, ← c.taker.view_is) told.2

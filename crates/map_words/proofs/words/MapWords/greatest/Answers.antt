@@ -20,3 +20,8 @@ pub returns-clause-newest : goal.returns-clause-newest
 returns-clause-newest g c =
     let told = c.load-last.ensures.2.1 c.args.block (sym c.place_of.ensures) in
     rw (c.of_key.ensures, key_told c.args.block c.load-last.result told.2, ← c.taker.view_is) told.1
+
+pub returns-clause-exact : goal.returns-clause-exact
+returns-clause-exact g c =
+    let told = c.load-last.ensures.2.1 c.args.block (sym c.place_of.ensures) in
+    rw (← c.taker.view_is) told.3

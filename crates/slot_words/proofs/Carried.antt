@@ -1,0 +1,71 @@
+-- The rule goes over where no word changes: a seat looks, a seat comes, two seats become one.
+use Rattle.std.proofs.Common.{◌≡◌, ℕ, ◌≢◌, List, [], ◌∷◌, ◌++◌, length, set, sym, refl, ◌∙◌, append-nil, subst}
+use Rattle.atomic_table.proofs.Lists.{set_else}
+use mathlib.Core.Option.{some}
+use lib.ListN.{get_elem?}
+use Rattle.slot_words.specs.declared.view.Held.{Held}
+use Rattle.slot_words.specs.declared.view.View.{View}
+use Rattle.slot_words.specs.ClaimRule.{blank, Stands, IsWon, IsTimed, ClaimRule}
+use Rattle.slot_words.specs.Steps.{both_pairs}
+use Rattle.slot_words.proofs.Views.{Glued, glued_once, stands_again, still_stands, stands_before, stands_after, stood_apart, stands_together}
+use Rattle.slot_words.proofs.Timed.{timed_more, timed_both}
+use Rattle.slot_words.proofs.Winning.{won_moved, won_still}
+
+-- each pair of the new views stands in the old ones, by a relation that is one to one
+pub rearranged : (T : ℕ → ℕ → ℕ → ℕ → Type 0) (n : ℕ) (ws : List ℕ) (vs us : List View) → ClaimRule n ws vs
+    → ((s k : ℕ) (p : Held) → Stands us s k p → (a : ℕ) × (b : ℕ) × T s k a b × Stands vs a b p)
+    → ((s k t l a b : ℕ) → T s k a b → T t l a b → (s ≡ t) × (k ≡ l)) → IsWon n ws us → IsTimed ws us → ClaimRule n ws us
+rearranged T n ws vs us rule from single won timed = record {
+  wide = rule.wide;
+  low = rule.low;
+  current = λ s k p st. let f = from s k p st in rule.current f.0 f.1 p f.3;
+  once = λ s k t l p q st su e.
+      let f = from s k p st in
+      let g = from t l q su in
+      let same = rule.once f.0 f.1 g.0 g.1 p q f.3 g.3 e in
+      single s k t l g.0 g.1 (subst (λ (a : ℕ). T s k a g.1) same.0 (subst (λ (b : ℕ). T s k f.0 b) same.1 f.2)) g.2;
+  won = won;
+  timed = timed;
+}
+
+-- each pair of the new views stood at that place before
+thinned : (n : ℕ) (ws : List ℕ) (vs us : List View) → ClaimRule n ws vs
+    → ((s k : ℕ) (p : Held) → Stands us s k p → Stands vs s k p) → IsWon n ws us → IsTimed ws us → ClaimRule n ws us
+thinned n ws vs us rule from = rearranged (λ s k a b. (s ≡ a) × (k ≡ b)) n ws vs us rule
+    (λ s k p st. (s, k, (refl, refl), from s k p st))
+    (λ s k t l a b i j. (i.0 ∙ sym j.0, i.1 ∙ sym j.1))
+
+-- a seat makes a step that changes no word, and keeps its pairs
+pub noted : (n : ℕ) (ws : List ℕ) (vs : List View) (id : ℕ) (v w : View) → ClaimRule n ws vs → get_elem? vs id ≡ some v → w.pairs ≡ v.pairs → w.won ≡ v.won
+    → IsTimed ws (set vs id w) → ClaimRule n ws (set vs id w)
+noted n ws vs id v w rule here pairs won timed = thinned n ws vs (set vs id w) rule
+    (stands_again (λ (u : View). u.pairs) vs id v w here pairs)
+    (won_still n ws ws vs (set vs id w) rule.won (λ slot. refl)
+    (stands_again (λ (u : View). u.won) vs id v w here won)
+    (still_stands (λ (u : View). u.won) vs id v w [] here (won ∙ sym (append-nil v.won))))
+    timed
+
+-- a seat comes
+pub entered : (n : ℕ) (ws : List ℕ) (vs : List View) → ClaimRule n ws vs → ClaimRule n ws (vs ++ blank ∷ [])
+entered n ws vs rule = thinned n ws vs (vs ++ blank ∷ []) rule
+    (stands_before (λ (u : View). u.pairs) vs blank refl)
+    (won_still n ws ws vs (vs ++ blank ∷ []) rule.won (λ slot. refl)
+    (stands_before (λ (u : View). u.won) vs blank refl)
+    (stands_after (λ (u : View). u.won) vs blank))
+    (timed_more ws vs rule.timed)
+
+-- two seats become one
+pub joined : (n : ℕ) (ws : List ℕ) (vs : List View) (id other : ℕ) (v w : View) → ClaimRule n ws vs → get_elem? vs id ≡ some v → other ≢ id
+    → get_elem? (set vs id (both_pairs v w)) other ≡ some w → ClaimRule n ws (set (set vs id (both_pairs v w)) other blank)
+joined n ws vs id other v w rule here differ there =
+    rearranged (Glued id other (length v.pairs)) n ws vs (set (set vs id (both_pairs v w)) other blank) rule
+    (stood_apart (λ (u : View). u.pairs) vs id other v w (both_pairs v w) blank here differ was_there refl refl)
+    (λ s k t l a b i j. glued_once id other (length v.pairs) s k t l a b differ i j)
+    (won_moved (Glued id other (length v.won)) n ws ws vs (set (set vs id (both_pairs v w)) other blank) rule.won (λ slot. refl)
+    (stood_apart (λ (u : View). u.won) vs id other v w (both_pairs v w) blank here differ was_there refl refl)
+    (λ s k t l a b i j. glued_once id other (length v.won) s k t l a b differ i j)
+    (stands_together (λ (u : View). u.won) vs id other v w (both_pairs v w) blank here differ was_there refl refl))
+    (timed_both ws vs id other v w (both_pairs v w) rule.timed here differ there refl refl)
+  where
+    was_there : get_elem? vs other ≡ some w
+    was_there = sym (set_else vs id other (both_pairs v w) differ) ∙ there
