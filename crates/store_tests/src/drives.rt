@@ -1,30 +1,20 @@
 // Tests of what no clause says, and each public call once.
-ghost use Rattle.extents.specs.Shapes.{IsShapeOf};
-
+use crate::tables::shape_of;
 use extents::{Drive, DriveLost, ExtentTable, Header, HeaderFault, MemDrive, Shape, ShapeRefusal};
 use map_join::Record;
 use std::process::Abort;
 use std::test::Fail;
 
-fn shape(rt: &impl Abort) -> Shape
-    ensures { IsShapeOf result 8 2 8 16 }
-{
-    Shape::new(8, 2, 8, 16).expect(rt, "a shape")
-}
-
 #[test]
 fn the_first_size_out_of_its_limit_is_named(rt: HostRuntime) {
-    assert_eq!(rt; Shape::new(0, 2, 8, 16), Err(ShapeRefusal::Range(1)));
-    assert_eq!(rt; Shape::new(8, 9, 8, 0), Err(ShapeRefusal::Range(2)));
-    assert_eq!(rt; Shape::new(8, 2, 12, 16), Err(ShapeRefusal::Range(3)));
-    assert_eq!(rt;
-        Shape::new(512, 8, 65536, 65537),
-        Err(ShapeRefusal::Range(4))
-    );
-    assert_eq!(rt; Shape::new(512, 8, 65536, 65536).is_ok(), true);
-    assert_eq!(rt; shape(&rt).unit_bytes(), 40);
-    assert_eq!(rt; shape(&rt).drive_units(), 32);
-    assert_eq!(rt; shape(&rt).unit_address(3, 2), 14);
+    assert!(rt; Shape::new(0, 2, 8, 16) == Err(ShapeRefusal::Range(1)));
+    assert!(rt; Shape::new(8, 9, 8, 0) == Err(ShapeRefusal::Range(2)));
+    assert!(rt; Shape::new(8, 2, 12, 16) == Err(ShapeRefusal::Range(3)));
+    assert!(rt; Shape::new(512, 8, 65536, 65537) == Err(ShapeRefusal::Range(4)));
+    assert!(rt; Shape::new(512, 8, 65536, 65536).is_ok());
+    assert!(rt; shape_of(&rt, 8, 2).unit_bytes() == 40);
+    assert!(rt; shape_of(&rt, 8, 2).drive_units() == 32);
+    assert!(rt; shape_of(&rt, 8, 2).unit_address(3, 2) == 14);
 }
 
 fn first_record() -> Record {
@@ -45,43 +35,43 @@ const FIRST_HEADER: [u8; 32] = [
 #[test]
 fn a_header_is_blank_or_spells_a_record_in_all_its_bytes(rt: HostRuntime) {
     let is = Header::Is(first_record());
-    assert_eq!(rt; is.encode() == FIRST_HEADER, true);
-    assert_eq!(rt; Header::decode(&FIRST_HEADER), Ok(is));
-    assert_eq!(rt; is.record(), Some(first_record()));
-    assert_eq!(rt; Header::Blank.record(), None);
-    assert_eq!(rt; HeaderFault::BadHeader.number(), 1);
-    assert_eq!(rt; Header::Blank.encode() == [0; 32], true);
-    assert_eq!(rt; Header::decode(&[0; 32]), Ok(Header::Blank));
+    assert!(rt; is.encode() == FIRST_HEADER);
+    assert!(rt; Header::decode(&FIRST_HEADER) == Ok(is));
+    assert!(rt; is.record() == Some(first_record()));
+    assert!(rt; Header::Blank.record() == None);
+    assert!(rt; HeaderFault::BadHeader.number() == 1);
+    assert!(rt; Header::Blank.encode() == [0; 32]);
+    assert!(rt; Header::decode(&[0; 32]) == Ok(Header::Blank));
     let mut stray = FIRST_HEADER;
     stray[20] = 1;
-    assert_eq!(rt; Header::decode(&stray), Err(HeaderFault::BadHeader));
+    assert!(rt; Header::decode(&stray) == Err(HeaderFault::BadHeader));
     let mut unwritten = FIRST_HEADER;
     unwritten[11] = 0;
-    assert_eq!(rt; Header::decode(&unwritten), Err(HeaderFault::BadHeader));
+    assert!(rt; Header::decode(&unwritten) == Err(HeaderFault::BadHeader));
     let mut later = FIRST_HEADER;
     later[3] = 0x32;
-    assert_eq!(rt; Header::decode(&later), Err(HeaderFault::BadHeader));
+    assert!(rt; Header::decode(&later) == Err(HeaderFault::BadHeader));
 }
 
 fn read(rt: &impl Abort, drive: &mut MemDrive, at: u32, unit: &mut [u8]) -> Result<(), DriveLost> {
     assert!(rt; at < drive.units());
-    assert_eq!(rt; unit.len(), drive.unit_bytes());
+    assert!(rt; unit.len() == drive.unit_bytes());
     drive.read_unit(at, unit)
 }
 
 fn write(rt: &impl Abort, drive: &mut MemDrive, at: u32, unit: &[u8]) -> Result<(), DriveLost> {
     assert!(rt; at < drive.units());
-    assert_eq!(rt; unit.len(), drive.unit_bytes());
+    assert!(rt; unit.len() == drive.unit_bytes());
     drive.write_unit(at, unit)
 }
 
 #[test]
 fn a_drive_reads_as_written_until_its_fuse_burns(rt: HostRuntime) -> Result<(), Fail> {
-    let size = shape(&rt).unit_bytes();
+    let size = shape_of(&rt, 8, 2).unit_bytes();
     for fuse in 1..6 {
-        let mut drive = MemDrive::new(rt.alloc(), &shape(&rt))?;
+        let mut drive = MemDrive::new(rt.alloc(), &shape_of(&rt, 8, 2))?;
         let mut unit = vec![in rt.alloc(); 9; size]?;
-        assert_eq!(rt; drive.units(), 32);
+        assert!(rt; drive.units() == 32);
         drive.fuse(fuse);
         for call in 1..7 {
             let answered = if call % 2 == 1 {
@@ -90,8 +80,8 @@ fn a_drive_reads_as_written_until_its_fuse_burns(rt: HostRuntime) -> Result<(), 
             } else {
                 read(&rt, &mut drive, 31, &mut unit)
             };
-            assert_eq!(rt; answered.is_ok(), call < fuse);
-            assert_eq!(rt; drive.is_lost(), call >= fuse);
+            assert!(rt; answered.is_ok() == (call < fuse));
+            assert!(rt; drive.is_lost() == (call >= fuse));
         }
         let last_read = if fuse > 4 {
             3
@@ -100,22 +90,22 @@ fn a_drive_reads_as_written_until_its_fuse_burns(rt: HostRuntime) -> Result<(), 
         } else {
             9
         };
-        assert_eq!(rt; unit.iter().all(|byte| *byte == last_read), true);
+        assert!(rt; unit.iter().all(|byte| *byte == last_read));
     }
     Ok(())
 }
 
 #[test]
 fn a_new_drive_is_zero_and_a_lost_one_stays_lost(rt: HostRuntime) -> Result<(), Fail> {
-    let mut drive = MemDrive::new(rt.alloc(), &shape(&rt))?;
-    let mut unit = vec![in rt.alloc(); 9; shape(&rt).unit_bytes()]?;
-    assert_eq!(rt; read(&rt, &mut drive, 0, &mut unit), Ok(()));
-    assert_eq!(rt; unit.iter().all(|byte| *byte == 0), true);
+    let mut drive = MemDrive::new(rt.alloc(), &shape_of(&rt, 8, 2))?;
+    let mut unit = vec![in rt.alloc(); 9; shape_of(&rt, 8, 2).unit_bytes()]?;
+    assert!(rt; read(&rt, &mut drive, 0, &mut unit) == Ok(()));
+    assert!(rt; unit.iter().all(|byte| *byte == 0));
     drive.lose();
-    assert_eq!(rt; read(&rt, &mut drive, 0, &mut unit), Err(DriveLost));
+    assert!(rt; read(&rt, &mut drive, 0, &mut unit) == Err(DriveLost));
     drive.fuse(5);
-    assert_eq!(rt; write(&rt, &mut drive, 0, &unit), Err(DriveLost));
-    assert_eq!(rt; drive.is_lost(), true);
+    assert!(rt; write(&rt, &mut drive, 0, &unit) == Err(DriveLost));
+    assert!(rt; drive.is_lost());
     Ok(())
 }
 
@@ -123,21 +113,21 @@ fn a_new_drive_is_zero_and_a_lost_one_stays_lost(rt: HostRuntime) -> Result<(), 
 fn an_extent_table_knows_owners_loads_and_the_lowest_free_extent(
     rt: HostRuntime,
 ) -> Result<(), Fail> {
-    let mut table = ExtentTable::new(rt.alloc(), 3, &shape(&rt))?;
+    let mut table = ExtentTable::new(rt.alloc(), 3, &shape_of(&rt, 8, 2))?;
     table.add_drive(rt.alloc())?;
     table.set_owner(3, 0, Some(7));
     table.set_owner(3, 2, Some(9));
     table.set_owner(3, 0, Some(8));
-    assert_eq!(rt; table.owner(3, 0), Some(8));
-    assert_eq!(rt; table.load(3), 2);
-    assert_eq!(rt; table.load(0), 0);
-    assert_eq!(rt; table.lowest_free(3), Some(1));
-    assert_eq!(rt; table.has_extent(3, 7), true);
-    assert_eq!(rt; table.drives(), 4);
-    assert_eq!(rt; table.owners(3).len(), 8);
-    assert_eq!(rt; table.has_extent(4, 0), false);
+    assert!(rt; table.owner(3, 0) == Some(8));
+    assert!(rt; table.load(3) == 2);
+    assert!(rt; table.load(0) == 0);
+    assert!(rt; table.lowest_free(3) == Some(1));
+    assert!(rt; table.has_extent(3, 7));
+    assert!(rt; table.drives() == 4);
+    assert!(rt; table.owners(3).len() == 8);
+    assert!(rt; !(table.has_extent(4, 0)));
     table.set_owner(3, 0, None);
-    assert_eq!(rt; table.load(3), 1);
-    assert_eq!(rt; table.lowest_free(3), Some(0));
+    assert!(rt; table.load(3) == 1);
+    assert!(rt; table.lowest_free(3) == Some(0));
     Ok(())
 }

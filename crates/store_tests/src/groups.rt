@@ -1,6 +1,6 @@
 // Groups are made, swapped and unmade, and each refusal comes with its number's name.
 use crate::geometry::{copies_seen, stripe_seen};
-use crate::tables::{Tables, on, shape};
+use crate::tables::{Tables, on, shape_of};
 use extent_groups::{Class, Copies, GroupRefusal, Spot, Stripe};
 use extents::ExtentTable;
 use std::test::Fail;
@@ -9,10 +9,7 @@ use std::test::Fail;
 fn members_that_make_no_group_are_refused(rt: HostRuntime) -> Result<(), Fail> {
     let mut tables = Tables::new(&rt, rt.alloc(), 10, 2)?;
     let few = [on(0, 0), on(1, 0)];
-    assert_eq!(rt;
-        tables.put(&rt, rt.alloc(), 0, Class::Mirrored, &few),
-        Err(GroupRefusal::TooFew)
-    );
+    assert!(rt; tables.put(&rt, rt.alloc(), 0, Class::Mirrored, &few) == Err(GroupRefusal::TooFew));
     let nine = [
         on(0, 0),
         on(1, 0),
@@ -24,14 +21,12 @@ fn members_that_make_no_group_are_refused(rt: HostRuntime) -> Result<(), Fail> {
         on(7, 0),
         on(7, 0),
     ];
-    assert_eq!(rt;
-        tables.put(&rt, rt.alloc(), 0, Class::Mirrored, &nine),
-        Err(GroupRefusal::TooMany)
+    assert!(rt;
+        tables.put(&rt, rt.alloc(), 0, Class::Mirrored, &nine) == Err(GroupRefusal::TooMany)
     );
     let same = [on(0, 0), on(1, 0), on(0, 1)];
-    assert_eq!(rt;
-        tables.put(&rt, rt.alloc(), 0, Class::Mirrored, &same),
-        Err(GroupRefusal::SameDrive)
+    assert!(rt;
+        tables.put(&rt, rt.alloc(), 0, Class::Mirrored, &same) == Err(GroupRefusal::SameDrive)
     );
     Ok(())
 }
@@ -40,23 +35,17 @@ fn members_that_make_no_group_are_refused(rt: HostRuntime) -> Result<(), Fail> {
 fn a_group_is_made_swapped_and_unmade(rt: HostRuntime) -> Result<(), Fail> {
     let mut tables = Tables::new(&rt, rt.alloc(), 10, 2)?;
     let members = [on(0, 0), on(1, 0), on(2, 0)];
-    assert_eq!(rt;
-        tables.put(&rt, rt.alloc(), 0, Class::Mirrored, &members),
-        Ok(())
-    );
-    assert_eq!(rt; tables.groups.class_of(0), Some(Class::Mirrored));
-    assert_eq!(rt; tables.groups.slots_of(0), 6);
-    assert!(rt; tables.groups.shape() == shape(&rt, 2));
-    assert_eq!(rt;
-        tables.swap(&rt, 0, 2, on(0, 1)),
-        Err(GroupRefusal::SameDrive)
-    );
-    assert_eq!(rt; tables.swap(&rt, 0, 2, on(9, 0)), Ok(()));
-    assert_eq!(rt; tables.groups.members(0).len(), 3);
+    assert!(rt; tables.put(&rt, rt.alloc(), 0, Class::Mirrored, &members) == Ok(()));
+    assert!(rt; tables.groups.class_of(0) == Some(Class::Mirrored));
+    assert!(rt; tables.groups.slots_of(0) == 6);
+    assert!(rt; tables.groups.shape() == shape_of(&rt, 8, 2));
+    assert!(rt; tables.swap(&rt, 0, 2, on(0, 1)) == Err(GroupRefusal::SameDrive));
+    assert!(rt; tables.swap(&rt, 0, 2, on(9, 0)) == Ok(()));
+    assert!(rt; tables.groups.members(0).len() == 3);
     assert!(rt; tables.is_owned_by(on(2, 0), None));
     assert!(rt; tables.is_owned_by(on(9, 0), Some(0)));
-    assert_eq!(rt; tables.take(0), Ok(()));
-    assert_eq!(rt; tables.take(0), Err(GroupRefusal::NoGroup));
+    assert!(rt; tables.take(0) == Ok(()));
+    assert!(rt; tables.take(0) == Err(GroupRefusal::NoGroup));
     Ok(())
 }
 
@@ -64,24 +53,14 @@ fn a_group_is_made_swapped_and_unmade(rt: HostRuntime) -> Result<(), Fail> {
 fn an_owned_extent_is_refused_and_slots_are_looked_up(rt: HostRuntime) -> Result<(), Fail> {
     let mut tables = Tables::new(&rt, rt.alloc(), 10, 2)?;
     let mirrored = [on(0, 0), on(1, 0), on(2, 0)];
-    assert_eq!(rt;
-        tables.put(&rt, rt.alloc(), 0, Class::Mirrored, &mirrored),
-        Ok(())
-    );
+    assert!(rt; tables.put(&rt, rt.alloc(), 0, Class::Mirrored, &mirrored) == Ok(()));
     let over = [on(2, 0), on(3, 0), on(4, 0)];
-    assert_eq!(rt;
-        tables.put(&rt, rt.alloc(), 1, Class::Parity, &over),
-        Err(GroupRefusal::ExtentTaken)
+    assert!(rt;
+        tables.put(&rt, rt.alloc(), 1, Class::Parity, &over) == Err(GroupRefusal::ExtentTaken)
     );
     let parity = [on(3, 0), on(4, 0), on(5, 0)];
-    assert_eq!(rt;
-        tables.put(&rt, rt.alloc(), 1, Class::Parity, &parity),
-        Ok(())
-    );
-    assert_eq!(rt;
-        tables.swap(&rt, 0, 2, on(3, 0)),
-        Err(GroupRefusal::ExtentTaken)
-    );
+    assert!(rt; tables.put(&rt, rt.alloc(), 1, Class::Parity, &parity) == Ok(()));
+    assert!(rt; tables.swap(&rt, 0, 2, on(3, 0)) == Err(GroupRefusal::ExtentTaken));
     let first = Spot {
         member: 2,
         offset: 0,
@@ -90,19 +69,16 @@ fn an_owned_extent_is_refused_and_slots_are_looked_up(rt: HostRuntime) -> Result
         member: 0,
         offset: 2,
     };
-    assert_eq!(rt;
-        copies_seen(&tables.groups, 0, 2),
-        Some(Copies { first, second })
-    );
-    assert_eq!(rt; copies_seen(&tables.groups, 0, 6), None);
+    assert!(rt; copies_seen(&tables.groups, 0, 2) == Some(Copies { first, second }));
+    assert!(rt; copies_seen(&tables.groups, 0, 6) == None);
     let stripe = Stripe {
         stripe: 1,
         member: 0,
         offset: 2,
         parity: 1,
     };
-    assert_eq!(rt; stripe_seen(&tables.groups, 1, 4), Some(stripe));
-    assert_eq!(rt; stripe_seen(&tables.groups, 0, 4), None);
+    assert!(rt; stripe_seen(&tables.groups, 1, 4) == Some(stripe));
+    assert!(rt; stripe_seen(&tables.groups, 0, 4) == None);
     Ok(())
 }
 
@@ -111,12 +87,9 @@ fn groups_and_owners_that_differ_do_not_agree(rt: HostRuntime) -> Result<(), Fai
     let mut tables = Tables::new(&rt, rt.alloc(), 4, 2)?;
     let members = [on(0, 0), on(1, 0), on(2, 0)];
     assert!(rt; tables.groups.agrees(&tables.extents));
-    assert_eq!(rt;
-        tables.put(&rt, rt.alloc(), 511, Class::Parity, &members),
-        Ok(())
-    );
+    assert!(rt; tables.put(&rt, rt.alloc(), 511, Class::Parity, &members) == Ok(()));
     assert!(rt; tables.groups.agrees(&tables.extents));
-    let free = ExtentTable::new(rt.alloc(), 4, &shape(&rt, 2))?;
+    let free = ExtentTable::new(rt.alloc(), 4, &shape_of(&rt, 8, 2))?;
     assert!(rt; !tables.groups.agrees(&free));
     let Tables {
         groups,

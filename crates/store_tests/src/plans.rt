@@ -30,13 +30,12 @@ fn loads_are_evened_onto_a_new_drive(rt: HostRuntime) -> Result<(), Fail> {
         );
     }
     let lost = [false; DRIVES];
-    assert_eq!(rt; balance_plan(&tables.extents, &tables.groups, &lost), None);
+    assert!(rt; balance_plan(&tables.extents, &tables.groups, &lost) == None);
     tables.add_drive(rt.alloc())?;
     for (group, member, extent) in [(0, 0, 0), (1, 1, 1), (2, 2, 2), (3, 0, 3)] {
         let plan = balance_plan(&tables.extents, &tables.groups, &lost);
-        assert_eq!(rt;
-            plan,
-            Some(Shift {
+        assert!(rt;
+            plan == Some(Shift {
                 group,
                 member,
                 to: on(3, extent)
@@ -44,7 +43,7 @@ fn loads_are_evened_onto_a_new_drive(rt: HostRuntime) -> Result<(), Fail> {
         );
         shift(&rt, &mut tables, plan);
     }
-    assert_eq!(rt; balance_plan(&tables.extents, &tables.groups, &lost), None);
+    assert!(rt; balance_plan(&tables.extents, &tables.groups, &lost) == None);
     Ok(())
 }
 
@@ -64,19 +63,13 @@ fn a_lost_drive_is_emptied_group_by_group(rt: HostRuntime) -> Result<(), Fail> {
             .is_ok()
     );
     let mut lost = [false; DRIVES];
-    assert_eq!(rt;
-        rebuild_plan(&tables.extents, &tables.groups, &lost, 1),
-        None
-    );
+    assert!(rt; rebuild_plan(&tables.extents, &tables.groups, &lost, 1) == None);
     lost[1] = true;
     for (group, member, to) in [(0, 1, on(3, 0)), (1, 0, on(0, 1))] {
         let plan = rebuild_plan(&tables.extents, &tables.groups, &lost, 1);
-        assert_eq!(rt; plan, Some(Shift { group, member, to }));
+        assert!(rt; plan == Some(Shift { group, member, to }));
         shift(&rt, &mut tables, plan);
     }
-    assert_eq!(rt;
-        rebuild_plan(&tables.extents, &tables.groups, &lost, 1),
-        None
-    );
+    assert!(rt; rebuild_plan(&tables.extents, &tables.groups, &lost, 1) == None);
     Ok(())
 }

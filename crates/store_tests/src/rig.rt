@@ -3,12 +3,12 @@ ghost use Rattle.std.specs.Prelude.{◌≡◌, ◌*◌, ◌+◌, ℕ, length, sl
 ghost use Rattle.extents.specs.Condition.{Held};
 ghost use Rattle.extents.specs.Units.{zero_units};
 ghost use Rattle.extents.specs.Sizes.{extent_units};
-ghost use Rattle.extents.specs.Shapes.{IsShapeOf};
 ghost use Rattle.extents.specs.declared.shape.TheConstants.{HEADER_BYTES};
 ghost use Rattle.extent_groups.specs.declared.class.Class.TheVariants.{Parity};
 ghost use Rattle.extent_groups.specs.Groups.{Agree, class_in, group_at};
 ghost use Rattle.extent_groups.specs.Stores.{IsSlotOf, AreDrives};
 
+use crate::tables::shape_of;
 use extent_groups::{Class, GroupTable, Member, SLOTS, StoreRefusal, are_there, wipe_extent};
 use extents::{ExtentTable, MemDrive, Shape};
 use std::alloc::{AllocError, Global};
@@ -27,12 +27,6 @@ pub(crate) struct Rig {
     pub(crate) unit: Vec<u8>,
     scratch: Vec<u8>,
     ghost ready: { AreDrives (λ (m : Held). m.units) groups drives.items },
-}
-
-fn shape(rt: &impl Abort, segments: u32) -> Shape
-    ensures { IsShapeOf result 2 segments 8 16 }
-{
-    Shape::new(2, segments, 8, 16).expect(rt, "a shape")
 }
 
 /// So many drives of zeros.
@@ -88,7 +82,7 @@ fn set_up(
 ) -> Result<(GroupTable, Vec<MemDrive>), AllocError>
     ensures { IfOk result (λ r. AreDrives (λ (m : Held). m.units) r.0 r.1.items) }
 {
-    let shape = shape(rt, segments);
+    let shape = shape_of(rt, 2, segments);
     let mut extents = ExtentTable::new(alloc, drives, &shape)?;
     let mut groups = GroupTable::new(alloc, &shape)?;
     let first = across(alloc, drives, 0)?;

@@ -193,11 +193,11 @@ fn the_exclusive_or_by_lanes_is_that_of_each_byte(rt: HostRuntime) -> Result<(),
         for (at, byte) in from.iter_mut().enumerate() {
             *byte = (at / 7 % 256) as u8;
         }
-        assert_eq!(rt; into.len(), from.len());
+        assert!(rt; into.len() == from.len());
         xor_into(&mut into, &from);
         let same = into.iter().enumerate().all(|(at, byte)| *byte
             == (at % 251) as u8 ^ (at / 7 % 256) as u8);
-        assert!(rt; same, "{size}");
+        assert!(rt; same);
     }
     Ok(())
 }

@@ -1,5 +1,6 @@
 // Tables of groups and owners, and changes of them whose conditions are seen to hold.
 ghost use Rattle.std.specs.Prelude.{IfOk};
+ghost use Rattle.extents.specs.Shapes.{IsShapeOf};
 ghost use Rattle.extent_groups.specs.Groups.{Agree};
 
 use extent_groups::{Class, GroupRefusal, GroupTable, Member, are_there};
@@ -18,9 +19,14 @@ pub(crate) fn on(drive: u8, extent: u16) -> Member {
     Member { drive, extent }
 }
 
-/// The shape of so many segments, with 8 extents.
-pub(crate) fn shape(rt: &impl Abort, segments: u32) -> Shape {
-    Shape::new(8, segments, 8, 16).expect(rt, "a shape")
+/// The shape of so many extents and segments, with payloads of 8 bytes and 16 blocks.
+pub(crate) fn shape_of(rt: &impl Abort, extents: u32, segments: u32) -> Shape
+    ensures { IsShapeOf result extents segments 8 16 }
+{
+    let Ok(shape) = Shape::new(extents, segments, 8, 16) else {
+        panic!(rt; "no shape");
+    };
+    shape
 }
 
 impl Tables {
@@ -33,7 +39,7 @@ impl Tables {
     ) -> Result<Tables, AllocError>
         ensures { IfOk result (λ t. Agree t.groups t.extents) }
     {
-        let shape = shape(rt, segments);
+        let shape = shape_of(rt, 8, segments);
         let groups = GroupTable::new(alloc, &shape)?;
         let extents = ExtentTable::new(alloc, drives, &shape)?;
         Ok(Tables { groups, extents })

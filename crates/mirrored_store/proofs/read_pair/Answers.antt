@@ -1,4 +1,4 @@
-use Rattle.std.proofs.Common.{subst, sym}
+use Rattle.std.proofs.Common.{subst, sym, rules}
 use Rattle.extent_groups.specs.Calls.{AreSized}
 use Rattle.extent_groups.proofs.DriveCalls.{keeps_sizes, keeps_trans}
 use Rattle.mirrored_store.proofs.read_pair.Goals as goal
@@ -8,3 +8,6 @@ read_place-requires-2-clause-size g c = subst (λ n. AreSized g.D.Drive.units n 
 
 pub returns-clause-touched : goal.returns-clause-touched
 returns-clause-touched g c = keeps_trans c.read_place.ensures.drives c.read_place-2.ensures.drives
+
+pub returns-clause-unit : goal.returns-clause-unit
+returns-clause-unit g c = search rules

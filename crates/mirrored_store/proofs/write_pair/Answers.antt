@@ -1,4 +1,4 @@
-use Rattle.std.proofs.Common.{inl, inr}
+use Rattle.std.proofs.Common.{inl, inr, rules}
 use Rattle.extent_groups.proofs.DriveCalls.{keeps_sizes, keeps_trans, keeps_more, cells_sized}
 use Rattle.extent_groups.proofs.SlotWrites.{pair_leaves}
 use Rattle.mirrored_store.proofs.write_pair.Goals as goal
@@ -21,3 +21,9 @@ returns-else-one-clause-leaves g c =
 
 pub returns-else-one-clause-touched : goal.returns-else-one-clause-touched
 returns-else-one-clause-touched g c = keeps_trans (keeps_more (λ x e. inl e) c.write_place-one.ensures.drives) (keeps_more (λ x e. inr e) c.write_place-two.ensures.drives)
+
+pub returns-then-one-clause-unit : goal.returns-then-one-clause-unit
+returns-then-one-clause-unit g c = search rules
+
+pub returns-else-one-clause-unit : goal.returns-else-one-clause-unit
+returns-else-one-clause-unit g c = search rules

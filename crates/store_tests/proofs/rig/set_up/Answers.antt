@@ -19,9 +19,9 @@ returns g c =
     let segments = shape.of_segments ∙ sym (c.make-2.ensures.sizes.1 ∙ c.make.ensures.sizes.1) in
     let payload = shape.of_payload ∙ sym (c.make-2.ensures.sizes.2 ∙ c.make.ensures.sizes.2) in
     (new_drives_ready (λ (m : Held). m.units) (λ (m : Held). is_gone m.condition) c.make-2.new.groups c.make-2.new.extents c.in_ok-all.all.items c.make-2.ensures.agree
-    (c.make-2.ensures.rows.0 ∙ c.make.ensures.rows.0 ∙ ap (λ (o : Owners). length o.rows) c.in_ok-extents.ensures ∙ length-replicate c.args.drives (replicate c.shape-shape.result.extents (let none : Option ℕ = None in none)) ∙ sym c.in_ok-all.ensures.many)
+    (c.make-2.ensures.rows.0 ∙ c.make.ensures.rows.0 ∙ ap (λ (o : Owners). length o.rows) c.in_ok-extents.ensures ∙ length-replicate c.args.drives (replicate c.shape_of-shape.result.extents (let none : Option ℕ = None in none)) ∙ sym c.in_ok-all.ensures.many)
     (c.make-2.ensures.rows.1 ∙ c.make.ensures.rows.1 ∙ ap (λ (o : Owners). o.extents) c.in_ok-extents.ensures ∙ extents)
     (λ d x at. c.in_ok-all.ensures.zero d x at
-    ∙ ap (λ n. zero_units (HEADER_BYTES + n) (c.shape-shape.result.extents * extent_units c.shape-shape.result.segments)) payload
-    ∙ ap (λ n. zero_units (HEADER_BYTES + c.make-2.new.groups.payload) (n * extent_units c.shape-shape.result.segments)) extents
+    ∙ ap (λ n. zero_units (HEADER_BYTES + n) (c.shape_of-shape.result.extents * extent_units c.shape_of-shape.result.segments)) payload
+    ∙ ap (λ n. zero_units (HEADER_BYTES + c.make-2.new.groups.payload) (n * extent_units c.shape_of-shape.result.segments)) extents
     ∙ ap (λ n. zero_units (HEADER_BYTES + c.make-2.new.groups.payload) (c.make-2.new.groups.extents * extent_units n)) segments)).drives_are

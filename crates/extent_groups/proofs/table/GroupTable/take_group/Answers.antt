@@ -1,4 +1,4 @@
-use Rattle.std.proofs.Common.{sym, subst}
+use Rattle.std.proofs.Common.{sym, subst, rules}
 use Rattle.extent_groups.specs.Groups.{AreThere}
 use Rattle.extent_groups.proofs.Agreement.{members_there}
 use Rattle.extent_groups.proofs.Keeping.{is_taken}
@@ -20,3 +20,6 @@ pub returns-clause-agree : goal.returns-clause-agree
 returns-clause-agree c =
     rw (c.give.ensures, c.deref.ensures.value)
     (is_taken c.self.inside.shape _ c.args.self.now c.args.extents.now c.args.group _ c.self.view_is c.in-Some.ensures.groups c.requires c.in-Some.ensures.within c.in-Some.ensures.made).agree
+
+pub returns-clause-freed : goal.returns-clause-freed
+returns-clause-freed c = search rules

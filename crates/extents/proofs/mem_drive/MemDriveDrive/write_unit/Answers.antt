@@ -1,4 +1,4 @@
-use Rattle.std.proofs.Common.{◌≡◌, ◌≤◌, ◌*◌, length, refl, ◌∙◌, ap, arith}
+use Rattle.std.proofs.Common.{◌≡◌, ◌≤◌, ◌*◌, length, refl, ◌∙◌, ap, arith, rules}
 use Rattle.std.proofs.lemmas.List.{take_at}
 use Rattle.extents.specs.Condition.{Held}
 use Rattle.extents.proofs.UnitsIn.{units_in-written, one_of}
@@ -19,3 +19,6 @@ returns-then-spend-clause-written c =
     let room : c.self.inside.count * c.self.inside.size ≤ length c.self.inside.bytes.items = omega (arith, full) in
     rw (take_at c.store.new.bytes _ _ whole, c.store.ensures, c.deref_mut.ensures.value, ← told)
     (units_in-written _ _ c.args.at _ _ _ one.1 refl room one.0)
+
+pub returns-clause-unwritten : goal.returns-clause-unwritten
+returns-clause-unwritten c = search rules

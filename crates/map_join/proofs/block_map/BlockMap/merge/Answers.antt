@@ -1,4 +1,4 @@
-use Rattle.std.proofs.Common.{◌++◌, ◌∷◌, [], refl, sym, ◌∙◌, subst}
+use Rattle.std.proofs.Common.{◌++◌, ◌∷◌, [], refl, sym, ◌∙◌, subst, rules}
 use Rattle.std.specs.Map.Iter.{deref_pair}
 use Rattle.std.proofs.lemmas.Map.Iter.{rest_all}
 use Rattle.map_join.specs.Maps.{at}
@@ -59,3 +59,6 @@ pub returns-then-is_empty-clause-map_of : goal.returns-then-is_empty-clause-map_
 returns-then-is_empty-clause-map_of c =
     let none = sym c.self.view_is ∙ none_of c.self.inside.keys.entries (c.if-is_empty.ensures.0 refl) in
     copied_map c.take_over.result c.args.self.now c.args.other.now c.take_over.new.self none c.take_over.ensures.ok
+
+pub returns-in-Err-clause-ok : goal.returns-in-Err-clause-ok
+returns-in-Err-clause-ok c = search rules
