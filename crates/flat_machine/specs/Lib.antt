@@ -4,3 +4,4 @@ pub mod Steps
 pub mod Cases
 pub mod Numbers
 pub mod History
+pub mod Scanned

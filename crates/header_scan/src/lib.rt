@@ -1,0 +1,8 @@
+//! The map of an array, rebuilt from the headers of its units.
+#![tactic(auto)]
+
+mod fault;
+mod laws;
+
+pub use fault::ScanFault;
+pub use laws::scan_laws;

@@ -1,0 +1,7 @@
+//! Tests of an array's parts on drives, which stand above them.
+#![tactic(auto)]
+
+#[cfg(test)]
+mod rig;
+#[cfg(test)]
+mod stories;

@@ -1,0 +1,159 @@
+// The parts of an array of drives in memory, with buffers for their calls.
+ghost use Rattle.std.specs.Prelude.{◌≡◌, ◌*◌, ◌<◌, ◌≤◌, length, None, IsTrue};
+ghost use Rattle.extent_groups.specs.Calls.{AreSized};
+ghost use Rattle.extent_groups.specs.Faults.{put_fault};
+ghost use Rattle.extent_groups.specs.Groups.{AreThere, IsFree};
+ghost use Rattle.extent_groups.specs.Stores.{unit_bytes};
+ghost use Rattle.array_parts.specs.Fit.{IsFit};
+ghost use Rattle.array_parts.specs.Memory.{held_units};
+ghost use Rattle.array_parts.specs.Slots.{IsSlot};
+
+use array_parts::{Parts, Units};
+use extent_groups::{Class, GroupTable, Member, SLOTS, are_there, put_check};
+use extents::{Drive, ExtentTable, MemDrive, Shape};
+use flat_machine::Refusal;
+use std::alloc::{AllocError, Global};
+use std::process::Abort;
+
+/// Bytes of a unit, header and payload.
+pub(crate) const SIZE: usize = 40;
+
+/// Four drives of eight extents of two segments, and payloads of eight bytes.
+#[derive(Drop)]
+pub(crate) struct Rig {
+    pub(crate) parts: Parts<MemDrive>,
+    /// What the last read gave, or what the next write writes.
+    pub(crate) unit: Vec<u8>,
+    scratch: Vec<u8>,
+}
+
+/// Whether each unit of the drives has so many bytes.
+fn are_sized(drives: &[MemDrive], size: usize) -> bool
+    ensures { IsTrue result → AreSized held_units size drives.now }
+{
+    drives.iter().all(|drive| drive.unit_bytes() == size)
+}
+
+/// Whether the slot is one of a made group.
+fn is_slot(groups: &GroupTable, slot: u16) -> bool
+    ensures { IsTrue result → IsSlot groups.now slot }
+{
+    slot % SLOTS < groups.slots_of(slot / SLOTS)
+}
+
+/// Reads the effective unit of a slot of whoever has units.
+fn read_unit<U: Units>(
+    units: &mut U,
+    slot: u16,
+    unit: &mut [u8],
+    scratch: &mut [u8],
+) -> Result<(), Refusal>
+    requires fits { U.fits units.old }
+    requires slot { IsSlot (U.groups units.old) slot }
+    requires unit { length unit.old ≡ unit_bytes (U.groups units.old) }
+    requires scratch { length scratch.old ≡ 2 * unit_bytes (U.groups units.old) }
+{
+    units.unit(slot, unit, scratch)
+}
+
+impl Rig {
+    pub(crate) fn new(rt: &impl Abort, alloc: Global) -> Result<Rig, AllocError> {
+        let shape = Shape::new(8, 2, 8, 16).expect(rt, "a shape");
+        let mut drives = Vec::with_capacity(alloc, 4)?;
+        for _drive in 0..4 {
+            drives.push(MemDrive::new(alloc, &shape)?)?;
+        }
+        Ok(Rig {
+            parts: Parts {
+                shape,
+                groups: GroupTable::new(alloc, &shape)?,
+                extents: ExtentTable::new(alloc, 4, &shape)?,
+                drives,
+            },
+            unit: vec![in alloc; 0; SIZE]?,
+            scratch: vec![in alloc; 0; 2 * SIZE]?,
+        })
+    }
+
+    /// Whether the parts fit, and the buffers them.
+    fn is_ready(&self) -> bool
+        ensures fit { IsTrue result → IsFit held_units self.now.parts }
+        ensures unit { IsTrue result → length self.now.unit.items ≡ unit_bytes self.now.parts.groups }
+        ensures scratch { IsTrue result → length self.now.scratch.items ≡ 2 * unit_bytes self.now.parts.groups }
+    {
+        let size = self.parts.groups.shape().unit_bytes();
+        if self.unit.len() != size || self.scratch.len() != 2 * size {
+            return false;
+        }
+        if !are_sized(&self.parts.drives, size) {
+            return false;
+        }
+        self.parts.is_fit()
+    }
+
+    /// Reads a slot into the buffer.
+    pub(crate) fn read(&mut self, rt: &impl Abort, slot: u16) -> Result<(), Refusal> {
+        assert!(rt; self.is_ready());
+        assert!(rt; is_slot(&self.parts.groups, slot));
+        read_unit(&mut self.parts, slot, &mut self.unit, &mut self.scratch)
+    }
+
+    /// Writes a unit of one byte throughout to a slot.
+    pub(crate) fn write(&mut self, rt: &impl Abort, slot: u16, byte: u8) -> Result<(), Refusal> {
+        self.unit.fill(byte);
+        assert!(rt; self.is_ready());
+        assert!(rt; is_slot(&self.parts.groups, slot));
+        self.parts.write(slot, &self.unit, &mut self.scratch)
+    }
+
+    /// Makes a group of an extent of this number on each of three drives in turn.
+    pub(crate) fn make(
+        &mut self,
+        rt: &impl Abort,
+        alloc: Global,
+        group: u16,
+        class: Class,
+        drives: &[u8],
+        extent: u16,
+    ) -> Result<Result<(), Refusal>, AllocError> {
+        let mut members = Vec::with_capacity(alloc, drives.len())?;
+        for drive in drives {
+            members.push(Member {
+                drive: *drive,
+                extent,
+            })?;
+        }
+        assert!(rt; self.is_ready());
+        assert!(rt; self.parts.groups.shape().payload == 8);
+        assert!(rt; self.parts.groups.is_free(group));
+        assert!(rt; are_there(&self.parts.extents, &members));
+        assert!(rt; put_check(&self.parts.extents, &members).is_none());
+        let zeros = [0; SIZE];
+        Ok(self.parts.make(group, class, members, &zeros))
+    }
+
+    /// Loses a drive.
+    pub(crate) fn lose(&mut self, rt: &impl Abort, drive: u8) {
+        assert!(rt; self.is_ready());
+        assert!(rt; (drive as usize) < self.parts.drives.len());
+        self.parts.lose(drive);
+    }
+
+    /// Fuses a drive for a call of its own.
+    pub(crate) fn fuse(&mut self, rt: &impl Abort, drive: u8, calls: u64) {
+        assert!(rt; self.is_ready());
+        assert!(rt; (drive as usize) < self.parts.drives.len());
+        assert!(rt; calls >= 1);
+        self.parts.fuse(drive, calls);
+    }
+
+    /// The unit at an address of a drive, read from the drive itself.
+    pub(crate) fn peek(&mut self, rt: &impl Abort, drive: usize, at: u32) -> bool {
+        assert!(rt; drive < self.parts.drives.len());
+        assert!(rt; self.parts.drives[drive].unit_bytes() == self.unit.len());
+        assert!(rt; at < self.parts.drives[drive].units());
+        self.parts.drives[drive]
+            .read_unit(at, &mut self.unit)
+            .is_ok()
+    }
+}
