@@ -14,22 +14,22 @@ fn record(version: u32, hop: u16, place: u16) -> Record {
 
 #[test]
 fn a_key_orders_by_version_then_hop_then_place(rt: HostRuntime) {
-    assert_eq!(rt; record(1, 0, 0).key(), 4_294_967_296);
-    assert_eq!(rt; record(1, 1, 128).key(), 4_295_032_960);
-    assert_eq!(rt; record(2, 0, 5).key(), 8_589_934_597);
-    assert_eq!(rt; record(1, 65_535, 65_535).key(), 8_589_934_591);
-    assert_eq!(rt; Record::of_key(3, 4_295_032_960), Some(record(1, 1, 128)));
-    assert_eq!(rt; Record::of_key(3, 4_294_967_295), None);
+    assert!(rt; record(1, 0, 0).key() == 4_294_967_296);
+    assert!(rt; record(1, 1, 128).key() == 4_295_032_960);
+    assert!(rt; record(2, 0, 5).key() == 8_589_934_597);
+    assert!(rt; record(1, 65_535, 65_535).key() == 8_589_934_591);
+    assert!(rt; Record::of_key(3, 4_295_032_960) == Some(record(1, 1, 128)));
+    assert!(rt; Record::of_key(3, 4_294_967_295) == None);
 }
 
 #[test]
 fn twelve_bytes_spell_a_record_and_no_others_do(rt: HostRuntime) {
     let bytes = [0u8, 0, 0, 3, 0, 0, 0, 2, 0, 0, 0, 5];
-    assert_eq!(rt; record(2, 0, 5).to_bytes(), bytes);
-    assert_eq!(rt; Record::of_bytes(&bytes), Ok(record(2, 0, 5)));
-    assert_eq!(rt; Record::of_bytes(&bytes[..11]), Err(RecordFault::Length));
+    assert!(rt; record(2, 0, 5).to_bytes() == bytes);
+    assert!(rt; Record::of_bytes(&bytes) == Ok(record(2, 0, 5)));
+    assert!(rt; Record::of_bytes(&bytes[..11]) == Err(RecordFault::Length));
     let unwritten = [0u8, 0, 0, 3, 0, 0, 0, 0, 0, 0, 0, 0];
-    assert_eq!(rt; Record::of_bytes(&unwritten), Err(RecordFault::ZeroVersion));
+    assert!(rt; Record::of_bytes(&unwritten) == Err(RecordFault::ZeroVersion));
 }
 
 #[test]
@@ -52,8 +52,8 @@ fn three_records_in_any_order_and_twice_leave_the_newest(rt: HostRuntime) -> Res
             map.take(rt.alloc(), taken)?;
             map.take(rt.alloc(), taken)?;
         }
-        assert_eq!(rt; map.get(3), Some(record(2, 0, 5)));
-        assert_eq!(rt; map.get(4), None);
+        assert!(rt; map.get(3) == Some(record(2, 0, 5)));
+        assert!(rt; map.get(4) == None);
     }
     Ok(())
 }
@@ -62,33 +62,44 @@ fn three_records_in_any_order_and_twice_leave_the_newest(rt: HostRuntime) -> Res
 fn a_write_is_newer_than_the_last_move_before_it(rt: HostRuntime) -> Result<(), Fail> {
     let moved = record(1, 65_535, 65_535);
     let written = record(2, 0, 0);
-    assert_eq!(rt; written.key(), 8_589_934_592);
+    assert!(rt; written.key() == 8_589_934_592);
     for (first, second) in [(moved, written), (written, moved)] {
         let map = map_of(rt.alloc(), &[first, second])?;
-        assert_eq!(rt; map.get(3), Some(written));
+        assert!(rt; map.get(3) == Some(written));
     }
     Ok(())
 }
 
 #[test]
-fn two_maps_agree_once_the_older_one_is_merged(rt: HostRuntime) -> Result<(), Fail> {
-    let alloc = rt.alloc();
-    let newer = map_of(alloc, &[record(2, 0, 5), record(1, 0, 0)])?;
-    let mut older = map_of(alloc, &[record(1, 0, 0)])?;
-    assert_eq!(rt; older.lowest_difference(&newer), Some(3));
-    assert_eq!(rt; newer.lowest_difference(&older), Some(3));
+fn the_older_of_two_maps_differs_and_is_covered(rt: HostRuntime) -> Result<(), Fail> {
+    let newer = map_of(rt.alloc(), &[record(2, 0, 5), record(1, 0, 0)])?;
+    let older = map_of(rt.alloc(), &[record(1, 0, 0)])?;
+    assert!(rt; older.lowest_difference(&newer) == Some(3));
+    assert!(rt; newer.lowest_difference(&older) == Some(3));
     assert!(rt; !older.agrees(&newer));
     assert!(rt; newer.covers(&older) && !older.covers(&newer));
-    older.merge(alloc, &newer)?;
-    assert_eq!(rt; older.get(3), Some(record(2, 0, 5)));
-    assert_eq!(rt; older.lowest_difference(&newer), None);
+    Ok(())
+}
+
+#[test]
+fn two_maps_agree_once_the_older_one_is_merged(rt: HostRuntime) -> Result<(), Fail> {
+    let newer = map_of(rt.alloc(), &[record(2, 0, 5), record(1, 0, 0)])?;
+    let mut older = map_of(rt.alloc(), &[record(1, 0, 0)])?;
+    older.merge(rt.alloc(), &newer)?;
+    assert!(rt; older.get(3) == Some(record(2, 0, 5)));
+    assert!(rt; older.lowest_difference(&newer) == None);
     assert!(rt; older.agrees(&newer));
     assert!(rt; newer.covers(&older) && older.covers(&newer));
+    Ok(())
+}
 
-    let mut none = BlockMap::new(alloc);
-    none.merge(alloc, &BlockMap::new(alloc))?;
-    assert_eq!(rt; none.to_list(alloc)?.len(), 0);
-    assert!(rt; newer.covers(&none) && !none.agrees(&newer));
+#[test]
+fn a_map_without_blocks_is_covered_by_each(rt: HostRuntime) -> Result<(), Fail> {
+    let one = map_of(rt.alloc(), &[record(1, 0, 0)])?;
+    let mut none = BlockMap::new(rt.alloc());
+    none.merge(rt.alloc(), &BlockMap::new(rt.alloc()))?;
+    assert!(rt; none.to_list(rt.alloc())?.len() == 0);
+    assert!(rt; one.covers(&none) && !none.agrees(&one));
     Ok(())
 }
 
@@ -101,7 +112,7 @@ fn a_refused_merge_has_the_first_blocks_and_goes_on(rt: HostRuntime) -> Result<(
             let taken = first_of(block);
             assert!(rt; taken.version > 0);
             if from.take(rt.alloc(), taken) == Err(MapRefusal::Memory) {
-                assert_eq!(rt; from.get(block), None);
+                assert!(rt; from.get(block) == None);
                 from.take(rt.alloc(), taken)?;
             }
         }
@@ -113,12 +124,12 @@ fn a_refused_merge_has_the_first_blocks_and_goes_on(rt: HostRuntime) -> Result<(
             let first = (1..blocks + 1)
                 .take_while(|block| to.get(*block).is_some())
                 .count();
-            assert_eq!(rt; merged, first);
+            assert!(rt; merged == first);
             assert!(rt; !to.covers(&from) && from.covers(&to));
             to.merge(rt.alloc(), &from)?;
         }
-        assert_eq!(rt; to.get(1), Some(first_of(1)));
-        assert_eq!(rt; to.get(blocks), Some(first_of(blocks)));
+        assert!(rt; to.get(1) == Some(first_of(1)));
+        assert!(rt; to.get(blocks) == Some(first_of(blocks)));
         assert!(rt; to.agrees(&from));
     }
     Ok(())
@@ -161,8 +172,8 @@ fn a_list_is_in_block_order_and_a_copy_has_the_same(rt: HostRuntime) -> Result<(
     }
     let copy = map.copied(rt.alloc())?;
     let list = copy.to_list(rt.alloc())?;
-    assert_eq!(rt; list.len(), 3);
-    assert_eq!(rt; (list[0].block, list[1].block, list[2].block), (2, 5, 9));
+    assert!(rt; list.len() == 3);
+    assert!(rt; (list[0].block, list[1].block, list[2].block) == (2, 5, 9));
     Ok(())
 }
 
@@ -176,14 +187,14 @@ fn the_newest_records_alone_tell_which_slots_are_live(rt: HostRuntime) -> Result
         place: 5,
     };
     map.take(rt.alloc(), other)?;
-    assert_eq!(rt; map.newest(3), Some(record(1, 1, 130)));
-    assert_eq!(rt; map.newest(4), None);
-    assert_eq!(rt; map.block_at(5), Some(9));
-    assert_eq!(rt; map.block_at(130), Some(3));
-    assert_eq!(rt; map.block_at(2), None);
-    assert_eq!(rt; map.count_live(0, 5), 0);
-    assert_eq!(rt; map.count_live(0, 6), 1);
-    assert_eq!(rt; map.count_live(1, 128), 1);
-    assert_eq!(rt; map.count_live(2, 128), 0);
+    assert!(rt; map.newest(3) == Some(record(1, 1, 130)));
+    assert!(rt; map.newest(4) == None);
+    assert!(rt; map.block_at(5) == Some(9));
+    assert!(rt; map.block_at(130) == Some(3));
+    assert!(rt; map.block_at(2) == None);
+    assert!(rt; map.count_live(0, 5) == 0);
+    assert!(rt; map.count_live(0, 6) == 1);
+    assert!(rt; map.count_live(1, 128) == 1);
+    assert!(rt; map.count_live(2, 128) == 0);
     Ok(())
 }

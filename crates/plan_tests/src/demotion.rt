@@ -8,20 +8,20 @@ fn the_mirrored_block_written_longest_ago_goes_down(rt: HostRuntime) -> Result<(
     let groups = four_groups(&rt, rt.alloc())?;
     let mut map = places(rt.alloc())?;
     let mut recency = Recency::new(rt.alloc(), 16)?;
-    assert_eq!(rt; recency.len(), 16);
-    assert_eq!(rt; recency.next_to_demote(&groups, &map), Some(4));
+    assert!(rt; recency.len() == 16);
+    assert!(rt; recency.next_to_demote(&groups, &map) == Some(4));
     for block in [0u32, 1, 2, 3, 4, 5] {
         assert!(rt; (block as usize) < recency.len());
         recency.wrote(block);
     }
-    assert_eq!(rt; recency.next_to_demote(&groups, &map), Some(4));
+    assert!(rt; recency.next_to_demote(&groups, &map) == Some(4));
     assert!(rt; 4 < recency.len());
     recency.wrote(4);
-    assert_eq!(rt; recency.next_to_demote(&groups, &map), Some(5));
+    assert!(rt; recency.next_to_demote(&groups, &map) == Some(5));
     took(&mut map, rt.alloc(), 5, 2, 1, 386)?;
-    assert_eq!(rt; recency.next_to_demote(&groups, &map), Some(4));
+    assert!(rt; recency.next_to_demote(&groups, &map) == Some(4));
     took(&mut map, rt.alloc(), 4, 2, 1, 387)?;
-    assert_eq!(rt; recency.next_to_demote(&groups, &map), None);
+    assert!(rt; recency.next_to_demote(&groups, &map) == None);
     Ok(())
 }
 
@@ -34,7 +34,7 @@ fn many_writes_keep_the_order(rt: HostRuntime) -> Result<(), Fail> {
         let block = 4 + note % 2;
         assert!(rt; (block as usize) < recency.len());
         recency.wrote(block);
-        assert_eq!(rt; recency.next_to_demote(&groups, &map), Some(9 - block));
+        assert!(rt; recency.next_to_demote(&groups, &map) == Some(9 - block));
     }
     Ok(())
 }
@@ -42,7 +42,7 @@ fn many_writes_keep_the_order(rt: HostRuntime) -> Result<(), Fail> {
 #[test]
 fn the_oldest_marked_block_is_found_again(rt: HostRuntime) -> Result<(), Fail> {
     let mut ages = MarkedAges::new(rt.alloc(), 16)?;
-    assert_eq!(rt; ages.oldest_marked(), None);
+    assert!(rt; ages.oldest_marked() == None);
     for block in [4u32, 5] {
         assert!(rt; (block as usize) < ages.len());
         ages.mark(block, true);
@@ -51,14 +51,14 @@ fn the_oldest_marked_block_is_found_again(rt: HostRuntime) -> Result<(), Fail> {
         let block = 4 + note % 2;
         assert!(rt; (block as usize) < ages.len());
         ages.wrote(block);
-        assert_eq!(rt; ages.oldest_marked(), Some(9 - block));
+        assert!(rt; ages.oldest_marked() == Some(9 - block));
     }
     assert!(rt; 4 < ages.len());
     ages.mark(4, false);
-    assert_eq!(rt; ages.oldest_marked(), Some(5));
+    assert!(rt; ages.oldest_marked() == Some(5));
     assert!(rt; 3 < ages.len());
     ages.mark(3, true);
-    assert_eq!(rt; ages.oldest_marked(), Some(3));
+    assert!(rt; ages.oldest_marked() == Some(3));
     Ok(())
 }
 
@@ -68,7 +68,7 @@ fn mirrored_slots_are_listed_and_few_free_ones_want_a_demotion(
 ) -> Result<(), Fail> {
     let groups = four_groups(&rt, rt.alloc())?;
     let slots = mirror_slots(rt.alloc(), &groups)?;
-    assert_eq!(rt; slots.as_slice(), [0, 1].as_slice());
+    assert!(rt; slots.as_slice() == [0, 1].as_slice());
     assert!(rt; wants_demotion(1, 2) && !wants_demotion(2, 2));
     Ok(())
 }

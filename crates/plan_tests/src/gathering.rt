@@ -16,10 +16,10 @@ fn the_fullest_group_is_plugged_from_the_emptiest(rt: HostRuntime) -> Result<(),
         from: 258,
         to: 128,
     };
-    assert_eq!(rt; plug_plan(&groups, &map, Some(3)), Some(plug));
-    assert_eq!(rt; clean_plan(&groups, &map, Some(3), Some(386)), None);
+    assert!(rt; plug_plan(&groups, &map, Some(3)) == Some(plug));
+    assert!(rt; clean_plan(&groups, &map, Some(3), Some(386)) == None);
     took(&mut map, rt.alloc(), 6, 1, 2, 128)?;
-    assert_eq!(rt; plug_plan(&groups, &map, Some(3)), None);
+    assert!(rt; plug_plan(&groups, &map, Some(3)) == None);
     Ok(())
 }
 
@@ -33,13 +33,13 @@ fn the_last_block_of_a_group_goes_to_the_end_of_the_log(rt: HostRuntime) -> Resu
         from: 259,
         to: 386,
     };
-    assert_eq!(rt; clean_plan(&groups, &map, Some(3), Some(386)), Some(clean));
-    assert_eq!(rt; clean_plan(&groups, &map, Some(3), Some(257)), None);
-    assert_eq!(rt; clean_plan(&groups, &map, Some(3), None), None);
-    assert_eq!(rt; empty_group(&groups, &map, Some(3)), None);
+    assert!(rt; clean_plan(&groups, &map, Some(3), Some(386)) == Some(clean));
+    assert!(rt; clean_plan(&groups, &map, Some(3), Some(257)) == None);
+    assert!(rt; clean_plan(&groups, &map, Some(3), None) == None);
+    assert!(rt; empty_group(&groups, &map, Some(3)) == None);
     took(&mut map, rt.alloc(), 7, 1, 2, 386)?;
-    assert_eq!(rt; empty_group(&groups, &map, Some(3)), Some(2));
-    assert_eq!(rt; empty_group(&groups, &map, Some(2)), None);
+    assert!(rt; empty_group(&groups, &map, Some(3)) == Some(2));
+    assert!(rt; empty_group(&groups, &map, Some(2)) == None);
     Ok(())
 }
 
@@ -48,18 +48,18 @@ fn the_log_goes_on_in_its_group_and_then_in_empty_ones(rt: HostRuntime) -> Resul
     let groups = four_groups(&rt, rt.alloc())?;
     let mut map = places(rt.alloc())?;
     let mut end = LogEnd::new();
-    assert_eq!(rt; end.group(), None);
+    assert!(rt; end.group() == None);
     end.appended(385);
-    assert_eq!(rt; end.group(), Some(3));
+    assert!(rt; end.group() == Some(3));
     let slots = append_slots(rt.alloc(), &end, &groups, &map)?;
-    assert_eq!(rt; slots.as_slice(), [386, 387].as_slice());
+    assert!(rt; slots.as_slice() == [386, 387].as_slice());
     took(&mut map, rt.alloc(), 6, 1, 2, 128)?;
     took(&mut map, rt.alloc(), 7, 1, 2, 386)?;
     let slots = append_slots(rt.alloc(), &end, &groups, &map)?;
-    assert_eq!(rt; slots.as_slice(), [387, 256, 257, 258, 259].as_slice());
+    assert!(rt; slots.as_slice() == [387, 256, 257, 258, 259].as_slice());
     end.appended(128 * 5);
     let slots = append_slots(rt.alloc(), &end, &groups, &map)?;
-    assert_eq!(rt; slots.as_slice(), [256, 257, 258, 259].as_slice());
+    assert!(rt; slots.as_slice() == [256, 257, 258, 259].as_slice());
     Ok(())
 }
 
@@ -68,10 +68,10 @@ fn a_new_log_begins_with_the_lowest_parity_slot(rt: HostRuntime) -> Result<(), F
     let groups = four_groups(&rt, rt.alloc())?;
     let map = BlockMap::new(rt.alloc());
     let slots = append_slots(rt.alloc(), &LogEnd::new(), &groups, &map)?;
-    assert_eq!(rt; slots.len(), 12);
-    assert_eq!(rt; (slots[0], slots[4], slots[11]), (128, 256, 387));
-    assert_eq!(rt; empty_group(&groups, &map, None), Some(1));
-    assert_eq!(rt; plug_plan(&groups, &map, None), None);
+    assert!(rt; slots.len() == 12);
+    assert!(rt; (slots[0], slots[4], slots[11]) == (128, 256, 387));
+    assert!(rt; empty_group(&groups, &map, None) == Some(1));
+    assert!(rt; plug_plan(&groups, &map, None) == None);
     Ok(())
 }
 
@@ -91,11 +91,11 @@ fn the_first_free_slot_behind_the_log_is_found(rt: HostRuntime) -> Result<(), Fa
     let groups = four_groups(&rt, rt.alloc())?;
     let map = places(rt.alloc())?;
     let mut end = LogEnd::new();
-    assert_eq!(rt; first_append(&end, &groups, &map, &AllBut(0)), None);
+    assert!(rt; first_append(&end, &groups, &map, &AllBut(0)) == None);
     end.appended(385);
-    assert_eq!(rt; first_append(&end, &groups, &map, &AllBut(0)), Some(386));
-    assert_eq!(rt; first_append(&end, &groups, &map, &AllBut(386)), Some(387));
+    assert!(rt; first_append(&end, &groups, &map, &AllBut(0)) == Some(386));
+    assert!(rt; first_append(&end, &groups, &map, &AllBut(386)) == Some(387));
     end.appended(387);
-    assert_eq!(rt; first_append(&end, &groups, &map, &AllBut(0)), None);
+    assert!(rt; first_append(&end, &groups, &map, &AllBut(0)) == None);
     Ok(())
 }

@@ -17,7 +17,9 @@ fn on(drive: u8, extent: u16) -> Member {
 fn tables(rt: &impl Abort, alloc: Global) -> Result<(GroupTable, ExtentTable), AllocError>
     ensures { IfOk result (λ tables. Agree tables.0 tables.1) }
 {
-    let shape = Shape::new(8, 1, 8, 16).expect(rt, "a shape");
+    let Ok(shape) = Shape::new(8, 1, 8, 16) else {
+        panic!(rt; "no shape");
+    };
     Ok((
         GroupTable::new(alloc, &shape)?,
         ExtentTable::new(alloc, 4, &shape)?,
@@ -39,10 +41,7 @@ fn put(
 {
     assert!(rt; are_there(extents, members));
     assert!(rt; groups.is_free(group));
-    assert_eq!(rt;
-        groups.put_group(alloc, extents, group, class, members),
-        Ok(())
-    );
+    assert!(rt; groups.put_group(alloc, extents, group, class, members) == Ok(()));
 }
 
 /// Group 0 is mirrored, with slots 0 and 1; groups 1 to 3 are parity, with four slots each.

@@ -1,4 +1,4 @@
-use Rattle.std.proofs.Common.{inl, inr, sym, ◌∙◌, subst}
+use Rattle.std.proofs.Common.{inl, inr, sym, ◌∙◌, subst, rules}
 use Rattle.extent_groups.specs.Calls.{AreSized}
 use Rattle.extent_groups.proofs.DriveCalls.{keeps_trans, keeps_more, keeps_place, keeps_sizes}
 use Rattle.parity_store.proofs.difference.write_by_difference.Goals as goal
@@ -36,3 +36,6 @@ pub returns-clause-touched : goal.returns-clause-touched
 returns-clause-touched g c =
     keeps_trans (keeps_more (λ x never. absurd never) (keeps_trans c.read_place.ensures.drives c.read_place-2.ensures.drives))
     (keeps_trans (keeps_more (λ x e. inl e) c.write_place.ensures.drives) (keeps_more (λ x e. inr e) c.write_place-kept.ensures.drives))
+
+pub returns-clause-outcome : goal.returns-clause-outcome
+returns-clause-outcome g c = search rules
