@@ -4,3 +4,5 @@ pub mod Wiping
 pub mod Making
 mod Setting
 pub mod Shows
+pub mod Views
+pub mod Calls
