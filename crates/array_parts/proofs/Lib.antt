@@ -6,3 +6,4 @@ mod Setting
 pub mod Shows
 pub mod Views
 pub mod Calls
+pub mod Entering

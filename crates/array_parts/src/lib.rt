@@ -2,6 +2,7 @@
 #![tactic(auto)]
 
 mod carry;
+mod enter;
 mod make;
 mod memory;
 mod parts;

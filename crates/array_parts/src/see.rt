@@ -49,25 +49,25 @@ impl<D: Drive> Parts<D> {
     /// unit's length and one of two units'.
     pub fn see(
         &mut self,
-        record: &Record,
+        asked: &Record,
         payload: &mut [u8],
         unit: &mut [u8],
         scratch: &mut [u8],
     ) -> Result<Sight, Refusal>
         requires fit { IsFit D.units self.old }
-        requires slot { IsSlot self.old.groups record.now.place }
+        requires slot { IsSlot self.old.groups asked.now.place }
         requires payload { length payload.old ≡ self.old.groups.payload }
         requires unit { length unit.old ≡ unit_bytes self.old.groups }
         requires scratch { length scratch.old ≡ 2 * unit_bytes self.old.groups }
-        ensures ok { IfOk result (λ sight. SawUnit (view_of D.units D.lost D.failures self.old) (view_of D.units D.lost D.failures self.new) record.now (seen_of sight payload.new)) }
-        ensures err { IfErr result (FoundGone (view_of D.units D.lost D.failures self.old) (view_of D.units D.lost D.failures self.new) record.now.place) }
+        ensures ok { IfOk result (λ sight. SawUnit (view_of D.units D.lost D.failures self.old) (view_of D.units D.lost D.failures self.new) asked.now (seen_of sight payload.new)) }
+        ensures err { IfErr result (FoundGone (view_of D.units D.lost D.failures self.old) (view_of D.units D.lost D.failures self.new) asked.now.place) }
         ensures fit { IsFit D.units self.new }
     {
-        if let Err(refusal) = self.read(record.place, unit, scratch) {
+        if let Err(refusal) = self.read(asked.place, unit, scratch) {
             return Err(refusal);
         }
         let found = record_of(unit);
-        if found != Some(*record) {
+        if found != Some(*asked) {
             return Ok(Sight::Stale(found));
         }
         payload.copy_from_slice(&unit[HEADER_BYTES..]);
