@@ -2,7 +2,10 @@
 #![tactic(auto)]
 
 mod fault;
+mod found;
 mod laws;
+mod look;
+mod scan;
 
 pub use fault::ScanFault;
 pub use laws::scan_laws;
