@@ -32,7 +32,7 @@ begun groups start low M T sound one two = record {
 }
 
 -- headers of slots that are fine tell their own slot
-own_place : (groups : Groups) (start : Cells) (low high slot : ℕ) (r : Record) → AreFine groups low high (unit_of groups start) → HasHeader (between low high (unit_of groups start)) slot r
+pub own_place : (groups : Groups) (start : Cells) (low high slot : ℕ) (r : Record) → AreFine groups low high (unit_of groups start) → HasHeader (between low high (unit_of groups start)) slot r
     → (r.place ≡ slot) × (r.block < groups.blocks)
 own_place groups start low high slot r fine h =
     let w = within low high (unit_of groups start) slot r h in

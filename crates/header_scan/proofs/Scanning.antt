@@ -106,13 +106,13 @@ none_or : (n : ℕ) → (n ≡ 0) ⊎ (0 < n)
 none_or zero = inl refl
 none_or (suc n) = inr (omega arith)
 
-key_size : (bytes : Bytes) (block n t : ℕ) → IsNoted (HasStamp bytes block) n t → (n ≡ 0) ⊎ (2 ^ 32 ≤ n)
+pub key_size : (bytes : Bytes) (block n t : ℕ) → IsNoted (HasStamp bytes block) n t → (n ≡ 0) ⊎ (2 ^ 32 ≤ n)
 key_size bytes block n t noted = elim (none_or n) [
   | inl none ↦ inl none
   | inr some ↦ inr (let great = great_stamp bytes block (place_in n) (stamp_in n) (noted.found some) in omega (arith, great))
 ]
 
-twin_size : (bytes : Bytes) (block n t : ℕ) → IsNoted (HasStamp bytes block) n t → (t ≡ 0) ⊎ (2 ^ 32 ≤ t)
+pub twin_size : (bytes : Bytes) (block n t : ℕ) → IsNoted (HasStamp bytes block) n t → (t ≡ 0) ⊎ (2 ^ 32 ≤ t)
 twin_size bytes block n t noted = elim (none_or t) [
   | inl none ↦ inl none
   | inr some ↦ inr (let great = great_stamp bytes block (place_in t) (stamp_in t) (noted.again some).0 in omega (arith, great))

@@ -5,7 +5,8 @@ mod fault;
 mod found;
 mod laws;
 mod look;
-mod scan;
+mod pass;
 
 pub use fault::ScanFault;
 pub use laws::scan_laws;
+pub use pass::{scan, scan_groups};

@@ -6,8 +6,8 @@ use Rattle.std.specs.Prelude.{Ok, Err, IfOk}
 use Rattle.map_join.specs.Maps.{at}
 use Rattle.header_scan.specs.declared.found.Found.{Found}
 use Rattle.header_scan.specs.Found.{IsStamped, IsUnderway}
-use Rattle.header_scan.proofs.scan.scan_group.Goals.{in-Some+in-Ok-note, in_default}
-use Rattle.header_scan.proofs.scan.scan_group.Goals as goal
+use Rattle.header_scan.proofs.pass.scan_group.Goals.{in-Some+in-Ok-note, in_default}
+use Rattle.header_scan.proofs.pass.scan_group.Goals as goal
 
 pub look-requires-clause-slot : goal.look-requires-clause-slot
 look-requires-clause-slot g c =

@@ -2,7 +2,7 @@ use Rattle.std.proofs.Common.{◌≡◌, ℕ, ◌+◌, ◌*◌, ◌≤◌}
 use Rattle.map_join.specs.Maps.{at}
 use Rattle.extent_groups.specs.Cells.{Cells}
 use Rattle.header_scan.specs.Found.{IsUnderway, Keeps}
-use Rattle.header_scan.proofs.scan.scan_group.Given as goal
+use Rattle.header_scan.proofs.pass.scan_group.Given as goal
 
 abbrev pub invariant-loop-index : goal.invariant-loop-index
 invariant-loop-index g l = record {
