@@ -1,2 +1,4 @@
 pub mod Numbers
 pub mod Ranges
+pub mod Faults
+pub mod Found

@@ -2,7 +2,11 @@
 #![tactic(auto)]
 
 mod fault;
+mod found;
 mod laws;
+mod look;
+mod pass;
 
 pub use fault::ScanFault;
 pub use laws::scan_laws;
+pub use pass::{scan, scan_groups};

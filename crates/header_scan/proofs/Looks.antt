@@ -1,0 +1,52 @@
+-- What the header of a slot tells, by the slot's unit.
+use Rattle.std.proofs.Common.{◌≡◌, ℕ, ◌<◌, Option, Some, None, List, take, subst}
+use Rattle.std.specs.Prelude.{Result, Ok, Err, IfOk, IfErr}
+use Rattle.map_join.specs.declared.records.Record.{Record}
+use Rattle.extents.specs.declared.header.Header.{Header}
+use Rattle.extents.specs.declared.header.Header.TheVariants.{Blank, Is}
+use Rattle.extents.specs.declared.header.HeaderFault.{HeaderFault}
+use Rattle.extents.specs.Header.{Spells, record_in}
+use Rattle.header_scan.specs.declared.fault.ScanFault.{ScanFault}
+use Rattle.header_scan.specs.declared.fault.ScanFault.TheVariants.{BadHeader, WrongSlot}
+use Rattle.header_scan.specs.Faults.{Bytes, IsFine, Tells, IsFaultAt, IsMisfit}
+use Rattle.header_scan.specs.Found.{IsStamped}
+
+-- a header that is spelled tells this
+abbrev pub Told : List ℕ → Option Record → Type 0
+Told unit o = (h : Header) × Spells (take 32 unit) h × (record_in h ≡ o)
+
+pub tells : (blocks slot : ℕ) (bytes : Bytes) (unit : List ℕ) (told : Result (Option Record) HeaderFault) (result : Result (Option Record) ScanFault) → bytes slot ≡ Some unit → IfOk told (Told unit)
+    → IfOk result (λ o. (told ≡ Ok o) × IsFine blocks slot o) → IfOk result (Tells blocks bytes slot)
+tells blocks slot bytes unit told (Ok o) at header fine = (unit, at, subst (λ t. IfOk t (Told unit)) fine.0 header, fine.1)
+tells blocks slot bytes unit told (Err e) at header fine = tt
+
+-- a header that tells a record is that record's
+is_record : (bytes : List ℕ) (h : Header) (r : Record) → Spells bytes h → record_in h ≡ Some r → Spells bytes (Is r)
+is_record bytes Blank r told e = absurd (let both : None ≡ Some r = e in cc)
+is_record bytes (Is q) r told e = let same : q ≡ r = cc in subst (λ x. Spells bytes (Is x)) same told
+
+misfit : (blocks slot : ℕ) (bytes left : Bytes) (unit : List ℕ) (told : Result (Option Record) HeaderFault) (fault : ScanFault) → bytes slot ≡ Some unit → IfOk told (Told unit)
+    → ((h : Header) → Spells (take 32 unit) h → told ≡ Ok (record_in h)) → IsMisfit told blocks slot fault → IsFaultAt blocks bytes left slot fault
+misfit blocks slot bytes left unit (Err f) (BadHeader s) at header only is = (is, (unit, at, λ h spells. absurd (let both : Err f ≡ Ok (record_in h) = only h spells in cc)))
+misfit blocks slot bytes left unit (Ok (Some r)) (BadHeader s) at header only is =
+    (is.0, (unit, at, λ h spells. (r, (let both : Ok (Some r) ≡ Ok (record_in h) = only h spells in cc), is.1)))
+misfit blocks slot bytes left unit (Ok (Some r)) (WrongSlot s t) at header only is =
+    (is.0, is.1, (r, (unit, at, is_record (take 32 unit) header.0 r header.1 header.2), is.2, is.3))
+misfit blocks slot bytes left unit told fault at header only is = absurd is
+
+pub misfits : (blocks slot : ℕ) (bytes left : Bytes) (unit : List ℕ) (told : Result (Option Record) HeaderFault) (result : Result (Option Record) ScanFault) → bytes slot ≡ Some unit → IfOk told (Told unit)
+    → ((h : Header) → Spells (take 32 unit) h → told ≡ Ok (record_in h)) → IfErr result (IsMisfit told blocks slot) → IfErr result (IsFaultAt blocks bytes left slot)
+misfits blocks slot bytes left unit told (Ok o) at header only is = tt
+misfits blocks slot bytes left unit told (Err e) at header only is = misfit blocks slot bytes left unit told e at header only is
+
+-- a record that a header tells has a version
+record_stamped : (bytes : List ℕ) (h : Header) (o : Option Record) → Spells bytes h → record_in h ≡ o → IsStamped o
+record_stamped bytes Blank None told e = tt
+record_stamped bytes Blank (Some r) told e = absurd (let both : None ≡ Some r = e in cc)
+record_stamped bytes (Is q) None told e = tt
+record_stamped bytes (Is q) (Some r) told e = let same : q ≡ r = cc in subst (λ x. 0 < x.version) same told.written
+
+pub stamped : (unit : List ℕ) (blocks slot : ℕ) (told : Result (Option Record) HeaderFault) (result : Result (Option Record) ScanFault) → IfOk told (Told unit)
+    → IfOk result (λ o. (told ≡ Ok o) × IsFine blocks slot o) → IfOk result IsStamped
+stamped unit blocks slot told (Ok o) header fine = let h : Told unit o = subst (λ t. IfOk t (Told unit)) fine.0 header in record_stamped (take 32 unit) h.0 o h.1 h.2
+stamped unit blocks slot told (Err e) header fine = tt

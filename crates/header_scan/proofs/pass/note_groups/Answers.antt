@@ -1,0 +1,48 @@
+use Rattle.std.proofs.Common.{◌≡◌, ◌*◌, refl, ◌∙◌, subst, arith}
+use Rattle.map_join.specs.Maps.{at}
+use Rattle.header_scan.specs.Found.{IsUnderway}
+use Rattle.header_scan.proofs.Ending.{begun}
+use Rattle.header_scan.proofs.Groups.{kept_after, passed, failed}
+use Rattle.header_scan.proofs.pass.note_groups.Goals as goal
+
+pub loop-group-init : goal.loop-group-init
+loop-group-init g c = record {
+  ok = λ sound. begun (g.U.Units.groups c.args.units.now) (g.U.Units.cells c.args.units.now) (128 * c.args.first) (at c.new.result) (at c.new-2.result) sound c.new.ensures.empty c.new-2.ensures.empty;
+  keeps = λ sound. ((λ slot v e. e), sound);
+  groups = refl;
+  fits = c.requires.fits;
+  leaves = g.met.U.Units.none c.args.units.now;
+}
+
+pub loop-group-preserved : goal.loop-group-preserved
+loop-group-preserved g c = record {
+  ok = λ sound.
+      let l = c.loop-group.auto.group in
+      passed (g.U.Units.groups c.args.units.now) (g.U.Units.groups c.loop-group.units) (g.U.Units.cells c.args.units.now) (g.U.Units.cells c.loop-group.units) (g.U.Units.cells c.scan_group.new.units) (128 * c.args.first) c.loop-group.group
+      (at c.loop-group.found.newest) (at c.loop-group.found.twins) (at c.scan_group.new.found.newest) (at c.scan_group.new.found.twins) c.loop-group.invariant.groups (omega (arith, l))
+      c.in-Ok.ensures.ok (c.loop-group.invariant.ok sound);
+  keeps = kept_after (g.U.Units.groups c.args.units.now) (g.U.Units.groups c.loop-group.units) (g.U.Units.cells c.args.units.now) (g.U.Units.cells c.loop-group.units) (g.U.Units.cells c.scan_group.new.units)
+      c.loop-group.invariant.groups c.loop-group.invariant.keeps c.in-Ok.ensures.keeps;
+  groups = c.in-Ok.ensures.groups ∙ c.loop-group.invariant.groups;
+  fits = c.in-Ok.ensures.fits;
+  leaves = g.met.U.Units.more c.args.units.now c.loop-group.units c.scan_group.new.units c.loop-group.invariant.leaves c.in-Ok.ensures.leaves;
+}
+
+pub returns-in-Err-clause-err : goal.returns-in-Err-clause-err
+returns-in-Err-clause-err g c = λ sound.
+    let l = c.loop-group.auto.group in
+    let h = c.loop-group-test.true in
+    failed (g.U.Units.groups c.args.units.now) (g.U.Units.groups c.loop-group.units) (g.U.Units.cells c.args.units.now) (g.U.Units.cells c.loop-group.units) (g.U.Units.cells c.scan_group.new.units) (128 * c.args.first) (128 * c.args.end) c.loop-group.group
+    (at c.loop-group.found.newest) (at c.loop-group.found.twins) c.in-Err.fault c.loop-group.invariant.groups (omega (arith, l)) (omega (arith, h))
+    c.in-Err.ensures.err (c.loop-group.invariant.ok sound)
+
+pub returns-in-Err-clause-keeps : goal.returns-in-Err-clause-keeps
+returns-in-Err-clause-keeps g c =
+    kept_after (g.U.Units.groups c.args.units.now) (g.U.Units.groups c.loop-group.units) (g.U.Units.cells c.args.units.now) (g.U.Units.cells c.loop-group.units) (g.U.Units.cells c.scan_group.new.units)
+    c.loop-group.invariant.groups c.loop-group.invariant.keeps c.in-Err.ensures.keeps
+
+pub returns-clause-ok : goal.returns-clause-ok
+returns-clause-ok g c = λ sound.
+    let end : c.loop-group.group ≡ c.args.end = let a = c.loop-group.auto.group-end in let b = c.loop-group-test.false in let o = c.requires.order in omega (arith, a, b, o) in
+    subst (λ n. IsUnderway (g.U.Units.groups c.args.units.now) (g.U.Units.cells c.args.units.now) (g.U.Units.cells c.loop-group.units) (128 * c.args.first) (128 * n) (at c.loop-group.found.newest) (at c.loop-group.found.twins)) end
+    (c.loop-group.invariant.ok sound)

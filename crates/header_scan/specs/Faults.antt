@@ -1,0 +1,74 @@
+-- What is found in the headers of slots, and the fault that comes first.
+use Rattle.std.specs.Prelude.{◌≡◌, ◌≢◌, ◌⊎◌, ℕ, ◌<◌, ◌≤◌, nat_le, nat_lt, ◌&&◌, if◌then◌else◌, Option, Some, None, Result, Ok, Err, List, take}
+use Rattle.map_join.specs.declared.records.Record.{Record}
+use Rattle.map_join.specs.Record.{stamp_of}
+use Rattle.extents.specs.declared.header.Header.{Header}
+use Rattle.extents.specs.declared.header.HeaderFault.{HeaderFault}
+use Rattle.extents.specs.declared.shape.TheConstants.{HEADER_BYTES}
+use Rattle.extents.specs.Header.{Spells, record_in}
+use Rattle.extent_groups.specs.Groups.{Groups}
+use Rattle.flat_machine.specs.Scanned.{HasHeader}
+use Rattle.array_parts.specs.Slots.{IsSlot}
+use Rattle.header_scan.specs.declared.fault.ScanFault.{ScanFault}
+use Rattle.header_scan.specs.declared.fault.ScanFault.TheVariants.{Memory, BadHeader, WrongSlot, Twice, Gone, NoClaim}
+
+-- units by slot
+abbrev pub Bytes : Type 0
+Bytes = ℕ → Option (List ℕ)
+
+-- the units of the slots from one on, below another
+abbrev pub between : ℕ → ℕ → Bytes → Bytes
+between low high bytes slot = if nat_le low slot && nat_lt slot high then bytes slot else None
+
+-- what a header may tell at a slot: nothing, or a record of one of so many blocks and of this very slot
+abbrev pub IsFine : ℕ → ℕ → Option Record → Type 0
+IsFine blocks slot None = Unit {0}
+IsFine blocks slot (Some r) = (r.block < blocks) × (r.place ≡ slot)
+
+-- the slot's unit is there, and its header tells this, which is fine
+abbrev pub Tells : ℕ → Bytes → ℕ → Option Record → Type 0
+Tells blocks bytes slot told = (unit : List ℕ) × (bytes slot ≡ Some unit) × ((h : Header) × Spells (take HEADER_BYTES unit) h × (record_in h ≡ told)) × IsFine blocks slot told
+
+-- the fault is that of this slot, by the units as they were and by those that are left
+abbrev pub IsFaultAt : ℕ → Bytes → Bytes → ℕ → ScanFault → Type 0
+IsFaultAt blocks bytes left slot (Gone s) = (s ≡ slot) × (left slot ≡ None)
+IsFaultAt blocks bytes left slot (BadHeader s) = (s ≡ slot) × ((unit : List ℕ) × (bytes slot ≡ Some unit)
+    × ((h : Header) → Spells (take HEADER_BYTES unit) h → (r : Record) × (record_in h ≡ Some r) × (blocks ≤ r.block)))
+IsFaultAt blocks bytes left slot (WrongSlot s told) = (s ≡ slot) × (told ≢ slot) × ((r : Record) × HasHeader bytes slot r × (r.block < blocks) × (r.place ≡ told))
+IsFaultAt blocks bytes left slot Memory = ⊥
+IsFaultAt blocks bytes left slot (Twice block first second) = ⊥
+IsFaultAt blocks bytes left slot (NoClaim s) = ⊥
+
+-- the headers of the slots of groups from one on, below another, are fine
+abbrev pub AreFine : Groups → ℕ → ℕ → Bytes → Type 0
+AreFine groups low high bytes = (slot : ℕ) → IsSlot groups slot → low ≤ slot → slot < high → (told : Option Record) × Tells groups.blocks bytes slot told
+
+-- the block's greatest stamp stands at two slots, and these are its two lowest
+pub record IsTwice (bytes : Bytes) (block first second : ℕ) : Type 0 where
+  pub one : Record
+  pub other : Record
+  pub here : HasHeader bytes first one × (one.block ≡ block)
+  pub there : HasHeader bytes second other × (other.block ≡ block)
+  pub order : first < second
+  pub same : stamp_of other ≡ stamp_of one
+  pub most : (slot : ℕ) (r : Record) → HasHeader bytes slot r → r.block ≡ block → stamp_of r ≤ stamp_of one
+  pub lowest : (slot : ℕ) (r : Record) → HasHeader bytes slot r → r.block ≡ block → stamp_of r ≡ stamp_of one → (slot ≡ first) ⊎ (second ≤ slot)
+
+-- the fault of a scan of the slots of groups in a range that comes first: that of the lowest slot that has one; else the lowest
+-- block that stands twice. Want of memory may come before.
+abbrev pub IsFirstFault : Groups → ℕ → ℕ → Bytes → Bytes → ScanFault → Type 0
+IsFirstFault groups low high bytes left Memory = Unit {0}
+IsFirstFault groups low high bytes left (NoClaim slot) = ⊥
+IsFirstFault groups low high bytes left (Twice block first second) =
+    AreFine groups low high bytes
+    × IsTwice (between low high bytes) block first second
+    × ((lower p q : ℕ) → lower < block → IsTwice (between low high bytes) lower p q → ⊥)
+IsFirstFault groups low high bytes left fault = (slot : ℕ) × IsSlot groups slot × (low ≤ slot) × (slot < high) × IsFaultAt groups.blocks bytes left slot fault
+    × AreFine groups low slot bytes
+
+-- why what a header tells, if it tells anything, isn't fine at a slot
+abbrev pub IsMisfit : Result (Option Record) HeaderFault → ℕ → ℕ → ScanFault → Type 0
+IsMisfit (Err fault) blocks slot (BadHeader s) = s ≡ slot
+IsMisfit (Ok (Some r)) blocks slot (BadHeader s) = (s ≡ slot) × (blocks ≤ r.block)
+IsMisfit (Ok (Some r)) blocks slot (WrongSlot s told) = (s ≡ slot) × (told ≢ slot) × (r.block < blocks) × (r.place ≡ told)
+IsMisfit _ _ _ _ = ⊥

@@ -1,0 +1,79 @@
+// The header of one slot.
+ghost use Rattle.std.specs.Prelude.{◌≡◌, ◌*◌, ◌≤◌, length, take, IfOk, IfErr, Ok};
+ghost use Rattle.extents.specs.declared.header.Header.{Header};
+ghost use Rattle.extents.specs.declared.shape.TheConstants.{HEADER_BYTES};
+ghost use Rattle.extents.specs.Header.{Spells, record_in};
+ghost use Rattle.extent_groups.specs.Stores.{unit_bytes, unit_of, AreSound, KeepsUnits};
+ghost use Rattle.array_parts.specs.Slots.{IsSlot};
+ghost use Rattle.header_scan.specs.Faults.{IsFine, Tells, IsFaultAt, IsMisfit};
+ghost use Rattle.header_scan.specs.Found.{IsStamped};
+
+use crate::ScanFault;
+use array_parts::Units;
+use extents::{HEADER_BYTES, Header, HeaderFault};
+use map_join::Record;
+
+/// The record in the header of a unit, none where that is blank.
+fn header_of(unit: &[u8]) -> Result<Option<Record>, HeaderFault>
+    requires { HEADER_BYTES ≤ length unit.now }
+    ensures ok { IfOk result (λ o. (h : Header) × Spells (take HEADER_BYTES unit.now) h × (record_in h ≡ o)) }
+    ensures only { (h : Header) → Spells (take HEADER_BYTES unit.now) h → result ≡ Ok (record_in h) }
+{
+    let mut bytes = [0; HEADER_BYTES];
+    bytes.copy_from_slice(&unit[..HEADER_BYTES]);
+    match Header::decode(&bytes) {
+        Ok(header) => Ok(header.record()),
+        Err(fault) => Err(fault),
+    }
+}
+
+/// What a header tells at a slot, refused where that isn't one of the array's blocks in this very slot.
+fn judge(
+    told: Result<Option<Record>, HeaderFault>,
+    slot: u16,
+    blocks: u32,
+) -> Result<Option<Record>, ScanFault>
+    ensures ok { IfOk result (λ o. (told ≡ Ok o) × IsFine blocks slot o) }
+    ensures err { IfErr result (IsMisfit told blocks slot) }
+{
+    let Ok(told) = told else {
+        return Err(ScanFault::BadHeader(slot));
+    };
+    let Some(record) = told else {
+        return Ok(None);
+    };
+    if record.block >= blocks {
+        return Err(ScanFault::BadHeader(slot));
+    }
+    if record.place != slot {
+        return Err(ScanFault::WrongSlot(slot, record.place));
+    }
+    Ok(Some(record))
+}
+
+/// Reads what the header of a slot tells, with buffers of a unit and of two.
+pub(crate) fn look<U: Units>(
+    units: &mut U,
+    slot: u16,
+    blocks: u32,
+    unit: &mut [u8],
+    scratch: &mut [u8],
+) -> Result<Option<Record>, ScanFault>
+    requires fits { U.fits units.old }
+    requires slot { IsSlot (U.groups units.old) slot }
+    requires unit { length unit.old ≡ unit_bytes (U.groups units.old) }
+    requires scratch { length scratch.old ≡ 2 * unit_bytes (U.groups units.old) }
+    ensures ok { AreSound (U.groups units.old) (U.cells units.old) → IfOk result (Tells blocks (unit_of (U.groups units.old) (U.cells units.old)) slot) }
+    ensures err { AreSound (U.groups units.old) (U.cells units.old) → IfErr result (IsFaultAt blocks (unit_of (U.groups units.old) (U.cells units.old)) (unit_of (U.groups units.new) (U.cells units.new)) slot) }
+    ensures written { IfOk result IsStamped }
+    ensures units { AreSound (U.groups units.old) (U.cells units.old) → KeepsUnits (U.groups units.old) (U.cells units.old) (U.cells units.new) }
+    ensures sound { AreSound (U.groups units.old) (U.cells units.old) → AreSound (U.groups units.new) (U.cells units.new) }
+    ensures groups { U.groups units.new ≡ U.groups units.old }
+    ensures fits { U.fits units.new }
+    ensures leaves { U.leaves units.old units.new }
+{
+    match units.unit(slot, unit, scratch) {
+        Ok(()) => judge(header_of(unit), slot, blocks),
+        Err(_) => Err(ScanFault::Gone(slot)),
+    }
+}

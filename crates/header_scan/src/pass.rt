@@ -1,0 +1,164 @@
+// The map of an array from the headers of its units.
+ghost use Rattle.std.specs.Prelude.{◌≡◌, ℕ, ◌+◌, ◌*◌, ◌^◌, ◌<◌, ◌≤◌, length, OnOk, IfOk, IfErr};
+ghost use Rattle.map_join.specs.Maps.{at};
+ghost use Rattle.extent_groups.specs.Cells.{Cells};
+ghost use Rattle.extent_groups.specs.Groups.{group_at, slots_in};
+ghost use Rattle.extent_groups.specs.Stores.{unit_bytes, unit_of, AreSound};
+ghost use Rattle.flat_machine.specs.Scanned.{IsScanned};
+ghost use Rattle.header_scan.specs.Faults.{AreFine, IsFirstFault, IsTwice, between};
+ghost use Rattle.header_scan.specs.Found.{IsUnderway, Keeps};
+
+use crate::ScanFault;
+use crate::found::Found;
+use crate::look::look;
+use array_parts::Units;
+use extent_groups::{GROUPS, GroupTable, SLOTS};
+use map_join::BlockMap;
+use std::alloc::Global;
+
+/// How many slots a group has; `members` tells that there are few.
+fn count_slots(groups: &GroupTable, group: u16) -> u16
+    ensures count { result ≡ slots_in groups.now.segments (group_at groups.now group) }
+    ensures few { result < 128 }
+{
+    let _members = groups.members(group);
+    groups.slots_of(group)
+}
+
+/// Notes the headers of the slots of one group, with buffers of a unit and of two.
+pub(crate) fn scan_group<U: Units>(
+    alloc: Global,
+    units: &mut U,
+    group: u16,
+    blocks: u32,
+    unit: &mut [u8],
+    scratch: &mut [u8],
+    found: &mut Found,
+) -> Result<(), ScanFault>
+    requires fits { U.fits units.old }
+    requires group { group < 512 }
+    requires blocks { blocks ≡ (U.groups units.old).blocks }
+    requires unit { length unit.old ≡ unit_bytes (U.groups units.old) }
+    requires scratch { length scratch.old ≡ 2 * unit_bytes (U.groups units.old) }
+    ensures ok { (low : ℕ) (start : Cells) → low ≤ 128 * group
+        → IsUnderway (U.groups units.old) start (U.cells units.old) low (128 * group) (at found.old.newest) (at found.old.twins)
+        → OnOk result (IsUnderway (U.groups units.old) start (U.cells units.new) low (128 * group + 128) (at found.new.newest) (at found.new.twins)) }
+    ensures err { (low high : ℕ) (start : Cells) → low ≤ 128 * group → 128 * group + 128 ≤ high
+        → IsUnderway (U.groups units.old) start (U.cells units.old) low (128 * group) (at found.old.newest) (at found.old.twins)
+        → IfErr result (IsFirstFault (U.groups units.old) low high (unit_of (U.groups units.old) start) (unit_of (U.groups units.old) (U.cells units.new))) }
+    ensures keeps { Keeps (U.groups units.old) (U.cells units.old) (U.cells units.new) }
+    ensures groups { U.groups units.new ≡ U.groups units.old }
+    ensures fits { U.fits units.new }
+    ensures leaves { U.leaves units.old units.new }
+{
+    for index in 0..count_slots(units.groups(), group) {
+        let told = match look(units, SLOTS * group + index, blocks, unit, scratch) {
+            Ok(told) => told,
+            Err(fault) => return Err(fault),
+        };
+        if let Some(told) = told {
+            let Ok(()) = found.note(alloc, told) else {
+                return Err(ScanFault::Memory);
+            };
+        }
+    }
+    Ok(())
+}
+
+/// Notes the headers of the slots of a range of groups, with buffers of a unit and of two.
+fn note_groups<U: Units>(
+    alloc: Global,
+    units: &mut U,
+    first: u16,
+    end: u16,
+    unit: &mut [u8],
+    scratch: &mut [u8],
+) -> Result<Found, ScanFault>
+    requires fits { U.fits units.old }
+    requires order { first ≤ end }
+    requires end { end ≤ 512 }
+    requires unit { length unit.old ≡ unit_bytes (U.groups units.old) }
+    requires scratch { length scratch.old ≡ 2 * unit_bytes (U.groups units.old) }
+    ensures ok { AreSound (U.groups units.old) (U.cells units.old)
+        → IfOk result (λ f. IsUnderway (U.groups units.old) (U.cells units.old) (U.cells units.new) (128 * first) (128 * end) (at f.newest) (at f.twins)) }
+    ensures err { AreSound (U.groups units.old) (U.cells units.old)
+        → IfErr result (IsFirstFault (U.groups units.old) (128 * first) (128 * end) (unit_of (U.groups units.old) (U.cells units.old)) (unit_of (U.groups units.old) (U.cells units.new))) }
+    ensures keeps { Keeps (U.groups units.old) (U.cells units.old) (U.cells units.new) }
+    ensures groups { U.groups units.new ≡ U.groups units.old }
+    ensures fits { U.fits units.new }
+    ensures leaves { U.leaves units.old units.new }
+{
+    let blocks = units.groups().shape().blocks;
+    let mut found = Found {
+        newest: BlockMap::new(alloc),
+        twins: BlockMap::new(alloc),
+    };
+    for group in first..end {
+        match scan_group(alloc, units, group, blocks, unit, scratch, &mut found) {
+            Ok(()) => {}
+            Err(fault) => return Err(fault),
+        }
+    }
+    Ok(found)
+}
+
+/// The map of the headers of a range of groups, read in one pass; where several faults stand, the one that comes first:
+/// that of the lowest slot, and else the lowest block that stands twice. Want of memory may come before.
+pub fn scan_groups<U: Units>(
+    alloc: Global,
+    units: &mut U,
+    first: u16,
+    end: u16,
+) -> Result<BlockMap, ScanFault>
+    requires fits { U.fits units.old }
+    requires order { first ≤ end }
+    requires end { end ≤ 512 }
+    ensures map { AreSound (U.groups units.old) (U.cells units.old)
+        → IfOk result (λ m. IsScanned (between (128 * first) (128 * end) (unit_of (U.groups units.old) (U.cells units.old))) (at m)) }
+    ensures fine { AreSound (U.groups units.old) (U.cells units.old)
+        → OnOk result (AreFine (U.groups units.old) (128 * first) (128 * end) (unit_of (U.groups units.old) (U.cells units.old))) }
+    ensures once { AreSound (U.groups units.old) (U.cells units.old)
+        → OnOk result ((b p q : ℕ) → IsTwice (between (128 * first) (128 * end) (unit_of (U.groups units.old) (U.cells units.old))) b p q → ⊥) }
+    ensures fault { AreSound (U.groups units.old) (U.cells units.old)
+        → IfErr result (IsFirstFault (U.groups units.old) (128 * first) (128 * end) (unit_of (U.groups units.old) (U.cells units.old)) (unit_of (U.groups units.old) (U.cells units.new))) }
+    ensures keeps { Keeps (U.groups units.old) (U.cells units.old) (U.cells units.new) }
+    ensures groups { U.groups units.new ≡ U.groups units.old }
+    ensures fits { U.fits units.new }
+    ensures leaves { U.leaves units.old units.new }
+{
+    let shape = units.groups().shape();
+    let size = shape.unit_bytes();
+    let Ok(mut unit) = vec![in alloc; 0; size] else {
+        return Err(ScanFault::Memory);
+    };
+    let Ok(mut scratch) = vec![in alloc; 0; 2 * size] else {
+        return Err(ScanFault::Memory);
+    };
+    let found = match note_groups(alloc, units, first, end, &mut unit, &mut scratch) {
+        Ok(found) => found,
+        Err(fault) => return Err(fault),
+    };
+    match found.twice(alloc, shape.blocks) {
+        Some((block, one, other)) => Err(ScanFault::Twice(block, one, other)),
+        None => Ok(found.newest),
+    }
+}
+
+/// The map of the headers of all groups, as `scan_groups` tells it.
+pub fn scan<U: Units>(alloc: Global, units: &mut U) -> Result<BlockMap, ScanFault>
+    requires fits { U.fits units.old }
+    ensures map { AreSound (U.groups units.old) (U.cells units.old)
+        → IfOk result (λ m. IsScanned (between 0 (2 ^ 16) (unit_of (U.groups units.old) (U.cells units.old))) (at m)) }
+    ensures fine { AreSound (U.groups units.old) (U.cells units.old)
+        → OnOk result (AreFine (U.groups units.old) 0 (2 ^ 16) (unit_of (U.groups units.old) (U.cells units.old))) }
+    ensures once { AreSound (U.groups units.old) (U.cells units.old)
+        → OnOk result ((b p q : ℕ) → IsTwice (between 0 (2 ^ 16) (unit_of (U.groups units.old) (U.cells units.old))) b p q → ⊥) }
+    ensures fault { AreSound (U.groups units.old) (U.cells units.old)
+        → IfErr result (IsFirstFault (U.groups units.old) 0 (2 ^ 16) (unit_of (U.groups units.old) (U.cells units.old)) (unit_of (U.groups units.old) (U.cells units.new))) }
+    ensures keeps { Keeps (U.groups units.old) (U.cells units.old) (U.cells units.new) }
+    ensures groups { U.groups units.new ≡ U.groups units.old }
+    ensures fits { U.fits units.new }
+    ensures leaves { U.leaves units.old units.new }
+{
+    scan_groups(alloc, units, 0, GROUPS as u16)
+}
