@@ -4,3 +4,6 @@ pub mod Wiping
 pub mod Making
 mod Setting
 pub mod Shows
+pub mod Views
+pub mod Calls
+pub mod Entering

@@ -5,3 +5,4 @@ pub mod Making
 pub mod Laws
 pub mod Memory
 pub mod Shows
+pub mod Views

@@ -1,11 +1,16 @@
 //! An array's parts on drives: its shape, its groups, the owners of its extents, and the drives.
 #![tactic(auto)]
 
+mod carry;
+mod enter;
 mod make;
 mod memory;
 mod parts;
+mod see;
 mod slots;
+mod unit;
 mod units;
 
 pub use parts::Parts;
+pub use see::Sight;
 pub use units::Units;

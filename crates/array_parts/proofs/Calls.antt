@@ -1,0 +1,229 @@
+-- What calls of the drives leave, told of the parts as plain data.
+use Rattle.std.proofs.Common.{◌≡◌, ℕ, Bool, Option, Some, None, List, ◌++◌, ◌-◌, length, take, drop, inl, inr, refl, sym, ◌∙◌, ap, subst, arith, ◌+◌, true, false}
+use Rattle.std.proofs.Math.Seq.{take-length}
+use Rattle.std.proofs.lemmas.List.{length-drop}
+use Rattle.std.proofs.lemmas.Option.{none-some}
+use Rattle.extents.specs.declared.header.Header.{Header}
+use Rattle.extents.specs.Header.{header_bytes, record_in, IsHeader}
+use Rattle.extents.specs.Units.{loss}
+use Rattle.extent_groups.specs.Groups.{Groups}
+use Rattle.extent_groups.specs.Cells.{Cells}
+use Rattle.extent_groups.specs.Missing.{IsGone, IsGoneAt}
+use Rattle.extent_groups.specs.Units.{Site, Pair, InStripe}
+use Rattle.extent_groups.specs.Stores.{unit_of, AreSound, KeepsUnits, Wrote}
+use Rattle.extent_groups.proofs.Places.{same_or_not}
+use Rattle.flat_machine.specs.declared.refusal.Refusal.{Refusal}
+use Rattle.flat_machine.specs.Flat.{Stored, Payload, put}
+use Rattle.flat_machine.specs.Steps.{Seen, Data, Stale}
+use Rattle.flat_machine.specs.Cases.{Fares, IsSeen}
+use Rattle.map_join.specs.declared.records.Record.{Record}
+use Rattle.array_parts.specs.declared.parts.Parts.{Parts}
+use Rattle.array_parts.specs.Losses.{AllFare, KeepsTables}
+use Rattle.array_parts.specs.Shows.{IsUnit, ShowsUnits}
+use Rattle.array_parts.specs.Slots.{cells_in, missing_in, TellsGone}
+use Rattle.array_parts.specs.Views.{PartsView, view_of, lost_of, Shows, IsLost, DrivesFare, SameTables, Loses, FoundGone, WasPut, WasCarried, WasNotCarried, WasRead, SawUnit}
+use Rattle.array_parts.proofs.Shows.{shows_kept, shows_wrote, unit_of_header}
+use Rattle.array_parts.proofs.Views.{view_cells, view_lost, view_fares}
+
+-- what the drives of the parts show
+pub shows_in : {D : Type 0} (units : D → List (List ℕ)) (lost : D → Bool) (failures : D → ℕ) (p : Parts D) (f : ℕ → Option Stored) → Shows (view_of units lost failures p) f
+    → ShowsUnits p.groups (cells_in units lost p) f
+shows_in units lost failures p f shows = subst (λ c. ShowsUnits p.groups c f) (view_cells units lost failures p) shows
+
+pub shows_out : {D : Type 0} (units : D → List (List ℕ)) (lost : D → Bool) (failures : D → ℕ) (p : Parts D) (f : ℕ → Option Stored) → ShowsUnits p.groups (cells_in units lost p) f
+    → Shows (view_of units lost failures p) f
+shows_out units lost failures p f shows = subst (λ c. ShowsUnits p.groups c f) (sym (view_cells units lost failures p)) shows
+
+-- which of their slots are gone
+pub lost_in : {D : Type 0} (units : D → List (List ℕ)) (lost : D → Bool) (failures : D → ℕ) (p : Parts D) (slot : ℕ) → IsLost (view_of units lost failures p) slot → IsGone p.groups (missing_in lost p) slot
+lost_in units lost failures p slot gone = subst (λ m. IsGone p.groups m slot) (view_lost units lost failures p) gone
+
+pub lost_out : {D : Type 0} (units : D → List (List ℕ)) (lost : D → Bool) (failures : D → ℕ) (p : Parts D) (slot : ℕ) → IsGone p.groups (missing_in lost p) slot → IsLost (view_of units lost failures p) slot
+lost_out units lost failures p slot gone = subst (λ m. IsGone p.groups m slot) (sym (view_lost units lost failures p)) gone
+
+same_tables : {D : Type 0} (units : D → List (List ℕ)) (lost : D → Bool) (failures : D → ℕ) (p q : Parts D) → KeepsTables p q → SameTables (view_of units lost failures p) (view_of units lost failures q)
+same_tables units lost failures p q tables = record { groups = tables.groups; owners = tables.extents }
+
+-- units that are kept are shown
+kept_shows : {D : Type 0} (units : D → List (List ℕ)) (lost : D → Bool) (failures : D → ℕ) (p q : Parts D) → KeepsTables p q
+    → (AreSound p.groups (cells_in units lost p) → KeepsUnits p.groups (cells_in units lost p) (cells_in units lost q))
+    → (AreSound p.groups (cells_in units lost p) → AreSound p.groups (cells_in units lost q))
+    → (f : ℕ → Option Stored) → Shows (view_of units lost failures p) f → Shows (view_of units lost failures q) f
+kept_shows units lost failures p q tables keeps sound f shows =
+    let was = shows_in units lost failures p f shows in
+    shows_out units lost failures q f (subst (λ t. ShowsUnits t (cells_in units lost q) f) (sym tables.groups)
+    (shows_kept p.groups (cells_in units lost p) (cells_in units lost q) f was (keeps was.sound) (sound was.sound)))
+
+-- drives that were read may be lost
+pub loses_view : {D : Type 0} (units : D → List (List ℕ)) (lost : D → Bool) (failures : D → ℕ) (p q : Parts D) → KeepsTables p q → AllFare lost failures p.drives.items q.drives.items
+    → (AreSound p.groups (cells_in units lost p) → KeepsUnits p.groups (cells_in units lost p) (cells_in units lost q))
+    → (AreSound p.groups (cells_in units lost p) → AreSound q.groups (cells_in units lost q))
+    → Loses (view_of units lost failures p) (view_of units lost failures q)
+loses_view units lost failures p q tables fares keeps sound = record {
+  fares = view_fares units lost failures p q fares;
+  shows = kept_shows units lost failures p q tables keeps (λ s. subst (λ t. AreSound t (cells_in units lost q)) tables.groups (sound s));
+  rest = same_tables units lost failures p q tables;
+}
+
+-- a slot that was found gone
+pub found_gone : {D : Type 0} (units : D → List (List ℕ)) (lost : D → Bool) (failures : D → ℕ) (p q : Parts D) (slot : ℕ) (refusal : Refusal)
+    → Loses (view_of units lost failures p) (view_of units lost failures q) → TellsGone units lost q slot refusal
+    → FoundGone (view_of units lost failures p) (view_of units lost failures q) slot refusal
+found_gone units lost failures p q slot refusal loses tells = record { loses = loses; told = tells.told; gone = lost_out units lost failures q slot tells.gone }
+
+-- a write that ends with its slot gone keeps all units: the slot has none, and those of all others are kept
+wrote_none : (t : Groups) (c new : Cells) (slot : ℕ) (bytes : List ℕ) → Wrote t c new slot bytes → unit_of t new slot ≡ None → AreSound t c → KeepsUnits t c new
+wrote_none t c new slot bytes wrote none sound other v e = elim (same_or_not other slot) [
+  | inl q ↦ absurd (none-some v (sym none ∙ subst (λ s. unit_of t new s ≡ Some v) q e))
+  | inr ne ↦ wrote.others sound other v ne e
+]
+
+-- so drives may have been lost, and nothing else happened
+pub wrote_gone : {D : Type 0} (units : D → List (List ℕ)) (lost : D → Bool) (failures : D → ℕ) (p q : Parts D) (slot : ℕ) (bytes : List ℕ) (refusal : Refusal)
+    → KeepsTables p q → AllFare lost failures p.drives.items q.drives.items → Wrote p.groups (cells_in units lost p) (cells_in units lost q) slot bytes → TellsGone units lost q slot refusal
+    → FoundGone (view_of units lost failures p) (view_of units lost failures q) slot refusal
+wrote_gone units lost failures p q slot bytes refusal tables fares wrote tells =
+    let none = subst (λ t. unit_of t (cells_in units lost q) slot ≡ None) tables.groups tells.none in
+    found_gone units lost failures p q slot refusal
+    (record {
+      fares = view_fares units lost failures p q fares;
+      shows = kept_shows units lost failures p q tables (wrote_none p.groups (cells_in units lost p) (cells_in units lost q) slot bytes wrote none) wrote.sound;
+      rest = same_tables units lost failures p q tables;
+    })
+    tells
+
+-- what the drives show once a slot was written
+wrote_shows : {D : Type 0} (units : D → List (List ℕ)) (lost : D → Bool) (failures : D → ℕ) (p q : Parts D) (slot : ℕ) (bytes : List ℕ) (u : Stored) (f : ℕ → Option Stored)
+    → KeepsTables p q → Wrote p.groups (cells_in units lost p) (cells_in units lost q) slot bytes → IsUnit bytes u → Shows (view_of units lost failures p) f
+    → Shows (view_of units lost failures q) (put f slot (Some u))
+wrote_shows units lost failures p q slot bytes u f tables wrote is shows =
+    shows_out units lost failures q (put f slot (Some u)) (subst (λ t. ShowsUnits t (cells_in units lost q) (put f slot (Some u))) (sym tables.groups)
+    (shows_wrote p.groups (cells_in units lost p) (cells_in units lost q) f slot bytes u (shows_in units lost failures p f shows) wrote is))
+
+-- a slot that was written
+pub was_put : {D : Type 0} (units : D → List (List ℕ)) (lost : D → Bool) (failures : D → ℕ) (p q : Parts D) (slot : ℕ) (bytes : List ℕ) (u : Stored)
+    → KeepsTables p q → AllFare lost failures p.drives.items q.drives.items → Wrote p.groups (cells_in units lost p) (cells_in units lost q) slot bytes → IsUnit bytes u
+    → (IsGone q.groups (missing_in lost q) slot → ⊥) → WasPut (view_of units lost failures p) (view_of units lost failures q) slot u
+was_put units lost failures p q slot bytes u tables fares wrote is there = record {
+  fares = view_fares units lost failures p q fares;
+  there = λ gone. there (lost_in units lost failures q slot gone);
+  shows = λ f shows. wrote_shows units lost failures p q slot bytes u f tables wrote is shows;
+  rest = same_tables units lost failures p q tables;
+}
+
+loss_more : (a b c : Bool) → (a ≡ true → b ≡ true) → (b ≡ true → c ≡ true) → loss a b + loss b c ≡ loss a c
+loss_more true true true one two = refl
+loss_more true true false one two = absurd (let bad = two refl in cc)
+loss_more true false c one two = absurd (let bad = one refl in cc)
+loss_more false true true one two = refl
+loss_more false true false one two = absurd (let bad = two refl in cc)
+loss_more false false true one two = refl
+loss_more false false false one two = refl
+
+-- losses add up
+fare_more : (was mid is : Bool) (a b c : ℕ) → Fares was mid a b → Fares mid is b c → Fares was is a c
+fare_more was mid is a b c one two = record {
+  stays = λ h. two.stays (one.stays h);
+  count = omega (arith, one.count, two.count, loss_more was mid is one.stays two.stays);
+}
+
+pub fares_more : (a b c : PartsView) → DrivesFare a b → DrivesFare b c → DrivesFare a c
+fares_more a b c one two = record { many = two.many ∙ one.many; each = λ d. fare_more _ _ _ _ _ _ (one.each d) (two.each d) }
+
+pub tables_more : (a b c : PartsView) → SameTables a b → SameTables b c → SameTables a c
+tables_more a b c one two = record { groups = two.groups ∙ one.groups; owners = two.owners ∙ one.owners }
+
+pub loses_more : (a b c : PartsView) → Loses a b → Loses b c → Loses a c
+loses_more a b c one two = record {
+  fares = fares_more a b c one.fares two.fares;
+  shows = λ f shows. two.shows f (one.shows f shows);
+  rest = tables_more a b c one.rest two.rest;
+}
+
+gone_more : (old new : ℕ → Bool) → ((d : ℕ) → old d ≡ true → new d ≡ true) → (site : Site) → IsGoneAt old site → IsGoneAt new site
+gone_more old new stays (Pair p q) gone = (stays p.drive gone.0, stays q.drive gone.1)
+gone_more old new stays (InStripe row parity i) gone =
+    ((gone.0.0, gone.0.1, stays gone.0.0.drive gone.0.2), (gone.1.0, gone.1.1, gone.1.2, gone.1.3, stays gone.1.1.drive gone.1.4))
+
+-- and what is gone stays gone
+pub lost_more : (a b : PartsView) (slot : ℕ) → DrivesFare a b → SameTables a b → IsLost a slot → IsLost b slot
+lost_more a b slot fares rest gone =
+    subst (λ t. IsGone t (lost_of b) slot) (sym rest.groups) (gone.0, gone.1, gone_more (lost_of a) (lost_of b) (λ d h. (fares.each d).stays h) gone.0 gone.2)
+
+-- the unit that was read is one that the drives show
+pub read_shows : {D : Type 0} (units : D → List (List ℕ)) (lost : D → Bool) (failures : D → ℕ) (p : Parts D) (slot : ℕ) (bytes : List ℕ) → unit_of p.groups (cells_in units lost p) slot ≡ Some bytes
+    → (f : ℕ → Option Stored) → Shows (view_of units lost failures p) f → (u : Stored) × (f slot ≡ Some u) × IsUnit bytes u
+read_shows units lost failures p slot bytes e f shows = (shows_in units lost failures p f shows).shown slot bytes e
+
+-- a slot that was read, and then isn't gone, wasn't
+pub source_there : {D : Type 0} (units : D → List (List ℕ)) (lost : D → Bool) (failures : D → ℕ) (p q : Parts D) (slot : ℕ) → Loses (view_of units lost failures p) (view_of units lost failures q)
+    → (IsGone q.groups (missing_in lost q) slot → ⊥) → IsLost (view_of units lost failures p) slot → ⊥
+source_there units lost failures p q slot loses there gone = there (lost_in units lost failures q slot (lost_more (view_of units lost failures p) (view_of units lost failures q) slot loses.fares loses.rest gone))
+
+-- the bytes of a unit with its header replaced
+restamped : (bytes : List ℕ) (u : Stored) (h : Header) → IsHeader h → IsUnit bytes u → IsUnit (header_bytes h ++ drop 32 bytes) (record u { header = h })
+restamped bytes u h is unit = subst (λ x. IsUnit (header_bytes h ++ drop 32 bytes) (record { header = h; payload = x })) unit.1 (unit_of_header h (drop 32 bytes) is)
+
+-- a slot was read, and then one was written under another header
+pub was_carried : {D : Type 0} (units : D → List (List ℕ)) (lost : D → Bool) (failures : D → ℕ) (p m q : Parts D) (from to : ℕ) (header : Header) (read written : List ℕ)
+    → Loses (view_of units lost failures p) (view_of units lost failures m) → unit_of m.groups (cells_in units lost m) from ≡ Some read → (IsGone m.groups (missing_in lost m) from → ⊥)
+    → IsHeader header → written ≡ header_bytes header ++ drop 32 read
+    → KeepsTables m q → AllFare lost failures m.drives.items q.drives.items → Wrote m.groups (cells_in units lost m) (cells_in units lost q) to written → (IsGone q.groups (missing_in lost q) to → ⊥)
+    → WasCarried (view_of units lost failures p) (view_of units lost failures q) from to header
+was_carried units lost failures p m q from to header read written loses e there is bytes tables fares wrote target = record {
+  fares = fares_more (view_of units lost failures p) (view_of units lost failures m) (view_of units lost failures q) loses.fares (view_fares units lost failures m q fares);
+  source = source_there units lost failures p m from loses there;
+  target = λ gone. target (lost_in units lost failures q to gone);
+  shows = λ f shows.
+      (let mid = loses.shows f shows in
+      let u = read_shows units lost failures m from read e f mid in
+      (u.0, u.1, wrote_shows units lost failures m q to written (record u.0 { header = header }) f tables wrote (subst (λ b. IsUnit b (record u.0 { header = header })) (sym bytes) (restamped read u.0 header is u.2)) mid));
+  rest = tables_more (view_of units lost failures p) (view_of units lost failures m) (view_of units lost failures q) loses.rest (same_tables units lost failures m q tables);
+}
+
+-- or none was: the second is gone
+pub not_carried : {D : Type 0} (units : D → List (List ℕ)) (lost : D → Bool) (failures : D → ℕ) (p m q : Parts D) (from to : ℕ) (written : List ℕ) (refusal : Refusal)
+    → Loses (view_of units lost failures p) (view_of units lost failures m) → (IsGone m.groups (missing_in lost m) from → ⊥)
+    → KeepsTables m q → AllFare lost failures m.drives.items q.drives.items → Wrote m.groups (cells_in units lost m) (cells_in units lost q) to written → TellsGone units lost q to refusal
+    → WasNotCarried (view_of units lost failures p) (view_of units lost failures q) from to refusal
+not_carried units lost failures p m q from to written refusal loses there tables fares wrote tells =
+    let found = wrote_gone units lost failures m q to written refusal tables fares wrote tells in
+    inr (source_there units lost failures p m from loses there, record { loses = loses_more (view_of units lost failures p) (view_of units lost failures m) (view_of units lost failures q) loses found.loses; told = found.told; gone = found.gone })
+
+-- what lies behind the header, as a copy takes it
+pub behind : (bytes : List ℕ) → take (length bytes - 32) (drop 32 bytes) ≡ drop 32 bytes
+behind bytes = ap (λ n. take n (drop 32 bytes)) (sym (length-drop 32 bytes)) ∙ take-length (drop 32 bytes)
+
+-- a slot was read
+pub was_read : {D : Type 0} (units : D → List (List ℕ)) (lost : D → Bool) (failures : D → ℕ) (p q : Parts D) (slot : ℕ) (bytes payload : List ℕ)
+    → Loses (view_of units lost failures p) (view_of units lost failures q) → unit_of q.groups (cells_in units lost q) slot ≡ Some bytes → (IsGone q.groups (missing_in lost q) slot → ⊥)
+    → payload ≡ drop 32 bytes → WasRead (view_of units lost failures p) (view_of units lost failures q) slot payload
+was_read units lost failures p q slot bytes payload loses e there is = record {
+  loses = loses;
+  there = λ gone. there (lost_in units lost failures q slot gone);
+  unit = λ f shows. (let u = read_shows units lost failures q slot bytes e f (loses.shows f shows) in (u.0, u.1, is ∙ u.2.1));
+}
+
+-- and what its unit tells of a record was seen
+saw_unit : {D : Type 0} (units : D → List (List ℕ)) (lost : D → Bool) (failures : D → ℕ) (p q : Parts D) (r : Record) (bytes : List ℕ) (seen : Seen)
+    → Loses (view_of units lost failures p) (view_of units lost failures q) → unit_of q.groups (cells_in units lost q) r.place ≡ Some bytes → (IsGone q.groups (missing_in lost q) r.place → ⊥)
+    → ((u : Stored) → IsUnit bytes u → IsSeen (Some u) r seen) → SawUnit (view_of units lost failures p) (view_of units lost failures q) r seen
+saw_unit units lost failures p q r bytes seen loses e there says = record {
+  loses = loses;
+  there = λ gone. there (lost_in units lost failures q r.place gone);
+  unit = λ f shows. (let u = read_shows units lost failures q r.place bytes e f (loses.shows f shows) in (u.0, u.1, says u.0 u.2));
+}
+
+pub saw_data : {D : Type 0} (units : D → List (List ℕ)) (lost : D → Bool) (failures : D → ℕ) (p q : Parts D) (r : Record) (bytes payload : List ℕ) (found : Option Record)
+    → Loses (view_of units lost failures p) (view_of units lost failures q) → unit_of q.groups (cells_in units lost q) r.place ≡ Some bytes → (IsGone q.groups (missing_in lost q) r.place → ⊥)
+    → ((u : Stored) → IsUnit bytes u → found ≡ record_in u.header) → found ≡ Some r → payload ≡ drop 32 bytes
+    → SawUnit (view_of units lost failures p) (view_of units lost failures q) r (Data (Payload payload))
+saw_data units lost failures p q r bytes payload found loses e there told same is =
+    saw_unit units lost failures p q r bytes (Data (Payload payload)) loses e there (λ u unit. (sym (told u unit) ∙ same, ap Payload (is ∙ unit.1)))
+
+pub saw_stale : {D : Type 0} (units : D → List (List ℕ)) (lost : D → Bool) (failures : D → ℕ) (p q : Parts D) (r : Record) (bytes : List ℕ) (found : Option Record)
+    → Loses (view_of units lost failures p) (view_of units lost failures q) → unit_of q.groups (cells_in units lost q) r.place ≡ Some bytes → (IsGone q.groups (missing_in lost q) r.place → ⊥)
+    → ((u : Stored) → IsUnit bytes u → found ≡ record_in u.header) → (found ≡ Some r → ⊥)
+    → SawUnit (view_of units lost failures p) (view_of units lost failures q) r (Stale found)
+saw_stale units lost failures p q r bytes found loses e there told other =
+    saw_unit units lost failures p q r bytes (Stale found) loses e there (λ u unit. (λ h. other (told u unit ∙ h), told u unit))

@@ -1,0 +1,146 @@
+-- An array's parts as plain data, and what calls of its drives leave of its slots, told of any units that the drives show.
+use Rattle.std.specs.Prelude.{◌≡◌, ◌⊎◌, ℕ, Bool, List, length, map, Option, Some}
+use Rattle.map_join.specs.declared.records.Record.{Record}
+use Rattle.extents.specs.declared.header.Header.{Header}
+use Rattle.extents.specs.Owners.{Owners}
+use Rattle.extent_groups.specs.declared.class.Class.{Class}
+use Rattle.extent_groups.specs.declared.class.Member.{Member}
+use Rattle.extent_groups.specs.Geometry.{slot_count}
+use Rattle.extent_groups.specs.Groups.{Groups, with_group, with_owners, Agree}
+use Rattle.extent_groups.specs.Cells.{Cells, cells}
+use Rattle.extent_groups.specs.Missing.{missing_of, IsGone}
+use Rattle.flat_machine.specs.declared.refusal.Refusal.{Refusal}
+use Rattle.flat_machine.specs.declared.refusal.Refusal.TheVariants.{Gone}
+use Rattle.flat_machine.specs.Groups.{ArePresent}
+use Rattle.flat_machine.specs.Flat.{Stored, Payload, put}
+use Rattle.flat_machine.specs.Steps.{Seen, Data, Stale}
+use Rattle.flat_machine.specs.Cases.{IsSeen, wiped}
+use Rattle.array_parts.specs.declared.parts.Parts.{Parts}
+use Rattle.array_parts.specs.declared.see.Sight.{Sight}
+use Rattle.array_parts.specs.declared.see.Sight.TheVariants as sight
+use Rattle.array_parts.specs.Losses.{AllFare, failures_of}
+use Rattle.array_parts.specs.Making.{TellsLost}
+use Rattle.array_parts.specs.Shows.{ShowsUnits}
+
+-- a drive: its units, whether it is lost, and how often it failed by itself
+pub record DriveView : Type 0 where
+  pub units : List (List ℕ)
+  pub lost : Bool
+  pub failures : ℕ
+
+abbrev pub drive_units : DriveView → List (List ℕ)
+drive_units d = d.units
+
+abbrev pub drive_lost : DriveView → Bool
+drive_lost d = d.lost
+
+abbrev pub drive_failures : DriveView → ℕ
+drive_failures d = d.failures
+
+abbrev pub drive_view : {D : Type 0} → (D → List (List ℕ)) → (D → Bool) → (D → ℕ) → D → DriveView
+drive_view units lost failures drive = record { units = units drive; lost = lost drive; failures = failures drive }
+
+-- the parts of an array: its groups, with its sizes, who owns which extent, and the drives
+pub record PartsView : Type 0 where
+  pub groups : Groups
+  pub owners : Owners
+  pub drives : List DriveView
+
+abbrev pub view_of : {D : Type 0} → (D → List (List ℕ)) → (D → Bool) → (D → ℕ) → Parts D → PartsView
+view_of units lost failures parts = record {
+  groups = parts.groups;
+  owners = parts.extents;
+  drives = map (drive_view units lost failures) parts.drives.items;
+}
+
+-- what the drives hold
+abbrev pub cells_of : PartsView → Cells
+cells_of v = cells drive_units drive_lost v.drives
+
+-- which numbers are of a lost drive or of none
+abbrev pub lost_of : PartsView → ℕ → Bool
+lost_of v = missing_of drive_lost v.drives
+
+-- how often each drive failed by itself
+abbrev pub failed_of : PartsView → ℕ → ℕ
+failed_of v = failures_of drive_failures v.drives
+
+-- the drives show these units
+abbrev pub Shows : PartsView → (ℕ → Option Stored) → Type 0
+Shows v units = ShowsUnits v.groups (cells_of v) units
+
+-- the unit of a slot is gone
+abbrev pub IsLost : PartsView → ℕ → Type 0
+IsLost v slot = IsGone v.groups (lost_of v) slot
+
+-- how all drives fare
+abbrev pub DrivesFare : PartsView → PartsView → Type 0
+DrivesFare a b = AllFare drive_lost drive_failures a.drives b.drives
+
+-- nothing but the drives changed
+pub record SameTables (a b : PartsView) : Type 0 where
+  pub groups : b.groups ≡ a.groups
+  pub owners : b.owners ≡ a.owners
+
+-- drives may have been lost, and nothing else happened
+pub record Loses (a b : PartsView) : Type 0 where
+  pub fares : DrivesFare a b
+  pub shows : (units : ℕ → Option Stored) → Shows a units → Shows b units
+  pub rest : SameTables a b
+
+-- the refusal names the slot, whose unit is gone; drives may have been lost
+pub record FoundGone (a b : PartsView) (slot : ℕ) (refusal : Refusal) : Type 0 where
+  pub loses : Loses a b
+  pub told : refusal ≡ Gone slot
+  pub gone : IsLost b slot
+
+-- the slot's unit was written
+pub record WasPut (a b : PartsView) (slot : ℕ) (u : Stored) : Type 0 where
+  pub fares : DrivesFare a b
+  pub there : IsLost b slot → ⊥
+  pub shows : (units : ℕ → Option Stored) → Shows a units → Shows b (put units slot (Some u))
+  pub rest : SameTables a b
+
+-- a slot's unit was read, and written to a slot under another header
+pub record WasCarried (a b : PartsView) (from to : ℕ) (header : Header) : Type 0 where
+  pub fares : DrivesFare a b
+  pub source : IsLost a from → ⊥
+  pub target : IsLost b to → ⊥
+  pub shows : (units : ℕ → Option Stored) → Shows a units → (u : Stored) × (units from ≡ Some u) × Shows b (put units to (Some (record u { header = header })))
+  pub rest : SameTables a b
+
+-- it wasn't: the first slot is gone, or it wasn't and the second is
+abbrev pub WasNotCarried : PartsView → PartsView → ℕ → ℕ → Refusal → Type 0
+WasNotCarried a b from to refusal = FoundGone a b from refusal ⊎ ((IsLost a from → ⊥) × FoundGone a b to refusal)
+
+-- the slot's unit was read, and its payload is this
+pub record WasRead (a b : PartsView) (slot : ℕ) (payload : List ℕ) : Type 0 where
+  pub loses : Loses a b
+  pub there : IsLost b slot → ⊥
+  pub unit : (units : ℕ → Option Stored) → Shows a units → (u : Stored) × (units slot ≡ Some u) × (payload ≡ u.payload)
+
+-- what a sight of a record's place tells, given the payload that was read
+abbrev pub seen_of : Sight → List ℕ → Seen
+seen_of sight.Data payload = Data (Payload payload)
+seen_of (sight.Stale found) payload = Stale found
+
+-- what lies at a record's place was seen: the unit that is there says so
+pub record SawUnit (a b : PartsView) (r : Record) (seen : Seen) : Type 0 where
+  pub loses : Loses a b
+  pub there : IsLost b r.place → ⊥
+  pub unit : (units : ℕ → Option Stored) → Shows a units → (u : Stored) × (units r.place ≡ Some u) × IsSeen (Some u) r seen
+
+-- a group was made under a number: the tables have it and agree, no member's drive is lost, and its slots are blank
+pub record Entered (a : PartsView) (g : ℕ) (class : Class) (members : List Member) (b : PartsView) : Type 0 where
+  pub fares : DrivesFare a b
+  pub present : ArePresent (lost_of b) members
+  pub shows : (units : ℕ → Option Stored) → Shows a units
+      → Shows b (wiped units a.groups.payload g (slot_count class (length members) a.groups.segments))
+  pub groups : b.groups ≡ with_group a.groups g (Some (record { class = class; members = members }))
+  pub owners : b.owners ≡ with_owners a.owners members (Some g)
+  pub agree : Agree b.groups b.owners
+
+-- it wasn't: the refusal names the first member's drive that is lost, and drives may have been lost
+pub record FoundLost (a : PartsView) (members : List Member) (b : PartsView) (refusal : Refusal) : Type 0 where
+  pub loses : Loses a b
+  pub told : TellsLost (lost_of b) members refusal

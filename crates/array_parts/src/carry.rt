@@ -1,0 +1,63 @@
+// What the drives do for a slot: its unit is written, or another's is written there under a header of its own.
+ghost use Rattle.std.specs.Prelude.{◌≡◌, ◌*◌, length, OnOk, IfErr};
+ghost use Rattle.extents.specs.Header.{IsHeader};
+ghost use Rattle.extent_groups.specs.Stores.{unit_bytes};
+ghost use Rattle.flat_machine.specs.Flat.{Payload, waiting_unit};
+ghost use Rattle.array_parts.specs.Fit.{IsFit};
+ghost use Rattle.array_parts.specs.Slots.{IsSlot};
+ghost use Rattle.array_parts.specs.Views.{view_of, FoundGone, WasPut, WasCarried, WasNotCarried};
+
+use crate::Parts;
+use crate::unit::{put_header, put_payload};
+use extents::{Drive, Header};
+use flat_machine::Refusal;
+
+impl<D: Drive> Parts<D> {
+    /// Writes a payload under a blank header, with a buffer of a unit's length and one of two units'.
+    pub fn put(
+        &mut self,
+        slot: u16,
+        payload: &[u8],
+        unit: &mut [u8],
+        scratch: &mut [u8],
+    ) -> Result<(), Refusal>
+        requires fit { IsFit D.units self.old }
+        requires slot { IsSlot self.old.groups slot }
+        requires payload { length payload.now ≡ self.old.groups.payload }
+        requires unit { length unit.old ≡ unit_bytes self.old.groups }
+        requires scratch { length scratch.old ≡ 2 * unit_bytes self.old.groups }
+        ensures ok { OnOk result (WasPut (view_of D.units D.lost D.failures self.old) (view_of D.units D.lost D.failures self.new) slot (waiting_unit self.old.groups.payload (Payload payload.now))) }
+        ensures err { IfErr result (FoundGone (view_of D.units D.lost D.failures self.old) (view_of D.units D.lost D.failures self.new) slot) }
+        ensures fit { IsFit D.units self.new }
+    {
+        put_payload(unit, payload);
+        self.write(slot, unit, scratch)
+    }
+
+    /// Writes what a slot holds into a slot, under another header, with a buffer of a unit's length and
+    /// one of two units'.
+    pub fn carry(
+        &mut self,
+        from: u16,
+        to: u16,
+        header: &Header,
+        unit: &mut [u8],
+        scratch: &mut [u8],
+    ) -> Result<(), Refusal>
+        requires fit { IsFit D.units self.old }
+        requires from { IsSlot self.old.groups from }
+        requires to { IsSlot self.old.groups to }
+        requires header { IsHeader header.now }
+        requires unit { length unit.old ≡ unit_bytes self.old.groups }
+        requires scratch { length scratch.old ≡ 2 * unit_bytes self.old.groups }
+        ensures ok { OnOk result (WasCarried (view_of D.units D.lost D.failures self.old) (view_of D.units D.lost D.failures self.new) from to header.now) }
+        ensures err { IfErr result (WasNotCarried (view_of D.units D.lost D.failures self.old) (view_of D.units D.lost D.failures self.new) from to) }
+        ensures fit { IsFit D.units self.new }
+    {
+        if let Err(refusal) = self.read(from, unit, scratch) {
+            return Err(refusal);
+        }
+        put_header(unit, header);
+        self.write(to, unit, scratch)
+    }
+}

@@ -1,0 +1,46 @@
+// The bytes of a unit: a header of 32 bytes, and the payload behind it.
+ghost use Rattle.std.specs.Prelude.{◌≡◌, ◌+◌, ◌≤◌, ◌++◌, length, drop, replicate};
+ghost use Rattle.extents.specs.Header.{header_bytes, record_in};
+ghost use Rattle.extents.specs.declared.shape.TheConstants.{HEADER_BYTES};
+ghost use Rattle.array_parts.specs.Shows.{IsUnit};
+ghost use Rattle.flat_machine.specs.Flat.{Stored};
+
+use extents::{HEADER_BYTES, Header};
+use map_join::Record;
+
+// Puts a header before the payload that is there.
+pub(crate) fn put_header(unit: &mut [u8], header: &Header)
+    requires { HEADER_BYTES ≤ length unit.old }
+    ensures { unit.new ≡ header_bytes header.now ++ drop HEADER_BYTES unit.old }
+{
+    unit[..HEADER_BYTES].copy_from_slice(&header.encode());
+}
+
+// Puts a payload behind a blank header.
+pub(crate) fn put_payload(unit: &mut [u8], payload: &[u8])
+    requires { length unit.old ≡ HEADER_BYTES + length payload.now }
+    ensures { unit.new ≡ header_bytes Header.Blank ++ payload.now }
+{
+    put_header(unit, &Header::Blank);
+    unit[HEADER_BYTES..].copy_from_slice(payload);
+}
+
+// The record in the header, none where it is blank, or no header.
+pub(crate) fn record_of(unit: &[u8]) -> Option<Record>
+    requires { HEADER_BYTES ≤ length unit.now }
+    ensures { (u : Stored) → IsUnit unit.now u → result ≡ record_in u.header }
+{
+    let mut header = [0; HEADER_BYTES];
+    header.copy_from_slice(&unit[..HEADER_BYTES]);
+    match Header::decode(&header) {
+        Ok(header) => header.record(),
+        Err(_) => None,
+    }
+}
+
+// Makes all bytes zero.
+pub(crate) fn clear(unit: &mut [u8])
+    ensures { unit.new ≡ replicate (length unit.old) 0 }
+{
+    unit.fill(0);
+}
