@@ -159,7 +159,7 @@ moved_ready F keys w s b (Some q) c v h x is newest ticket mine same block stamp
         (most.newest, most.last, sym version, ap (λ (z : Write). z.content) (sym (most.same version)))
 
 -- drives that failed change nothing of it
-fared : (F : Flat) (lost : ℕ → Bool) (failures : ℕ → ℕ) (keys : ℕ → ℕ) → IsHistory F keys → IsHistory (record F { lost = lost; failures = failures }) keys
+pub fared : (F : Flat) (lost : ℕ → Bool) (failures : ℕ → ℕ) (keys : ℕ → ℕ) → IsHistory F keys → IsHistory (record F { lost = lost; failures = failures }) keys
 fared F lost failures keys is = record {
   limits = is.limits;
   groups = is.groups;

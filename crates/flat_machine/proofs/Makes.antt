@@ -1,5 +1,5 @@
 -- Making a group keeps what is true of every state.
-use Rattle.std.proofs.Common.{◌≡◌, ℕ, ◌/◌, ◌%◌, ◌<◌, Bool, true, false, not, ◌==◌, ◌&&◌, cond, nat_lt, is_some, List, length, replicate, refl, sym, ap, ◌∙◌, subst, arith, ◌⊎◌, inl, inr, Option, Some, None}
+use Rattle.std.proofs.Common.{◌≡◌, ◌≢◌, ℕ, ◌/◌, ◌%◌, ◌<◌, Bool, true, false, not, ◌==◌, ◌&&◌, cond, nat_lt, is_some, List, length, replicate, refl, sym, ap, ◌∙◌, subst, arith, ◌⊎◌, inl, inr, Option, Some, None}
 use Rattle.std.specs.Prelude.{slice_get}
 use Rattle.std.proofs.lemmas.List.{length-replicate, length-set}
 use Rattle.std.proofs.lemmas.Bool.{cases_eq}
@@ -13,7 +13,7 @@ use Rattle.extent_groups.specs.Geometry.{slot_count}
 use Rattle.extent_groups.specs.Groups.{Group, Groups, group_at, members_of, with_group, IsFormed, Stands}
 use Rattle.extent_groups.proofs.GroupsLemmas.{group_same, group_other}
 use Rattle.extent_groups.proofs.Agreement.{members_same, members_other}
-use Rattle.flat_machine.specs.Groups.{class_below, AreMembers, AreApart, AreUnowned, GroupsStand}
+use Rattle.flat_machine.specs.Groups.{class_at, class_below, AreMembers, AreApart, AreUnowned, GroupsStand}
 use Rattle.flat_machine.specs.Flat.{Flat, Holder, Ticket, Block, Shut, same_holder, Waiting, blank_header, Stored, waiting_unit, content_of, class_of}
 use Rattle.flat_machine.specs.Cases.{made, MakePasses}
 use Rattle.flat_machine.specs.History.{HoldersStand, UnitStands, BlockStands, IsHistory}
@@ -70,6 +70,14 @@ groups_more groups drives g new all limit are spread unowned = record {
     apart h i j k a b at bt drive extent (inr x) (inl y) =
         absurd (unowned h a.drive a.extent (stands_of (members_of groups h) j a (ap (λ ms. slice_get ms j) (sym (members_other groups g h (Some new) x)) ∙ at))
         (stands_as new.members k b a (ap (λ ms. slice_get ms k) (sym (here i y)) ∙ bt) (sym drive) (sym extent)))
+
+-- a slot of a group is one still where a group is made of a number that was free
+pub class_kept : (groups : Groups) (g : ℕ) (new : Group) (s : ℕ) → group_at groups g ≡ None → class_at groups s ≢ None → class_at (with_group groups g (Some new)) s ≢ None
+class_kept groups g new s free some = go (cases_eq (s / 128) g)
+  where
+    go : (s / 128 ≡ g) ⊎ (s / 128 ≡ g → ⊥) → class_at (with_group groups g (Some new)) s ≢ None
+    go (inl same) = absurd (some (ap (λ o. class_below groups.segments o (s % 128)) (ap (group_at groups) same ∙ free)))
+    go (inr ne) = λ none. some (sym (ap (λ o. class_below groups.segments o (s % 128)) (group_other groups g (s / 128) (Some new) ne)) ∙ none)
 
 and_true : (b : Bool) → (b && true) ≡ b
 and_true true = refl

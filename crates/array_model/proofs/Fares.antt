@@ -1,0 +1,63 @@
+-- A flat state whose drives fared as an array's did: what it leaves, and which of its slots are gone.
+use Rattle.std.proofs.Common.{◌≡◌, ℕ, ◌+◌, Bool, true, false, length, refl, sym, ◌∙◌, subst, arith}
+use Rattle.extents.specs.Units.{loss}
+use Rattle.extent_groups.specs.Groups.{Groups}
+use Rattle.extent_groups.specs.Missing.{IsGone}
+use Rattle.array_parts.specs.Views.{PartsView, IsLost, Loses, SameTables, DrivesFare, lost_of, failed_of}
+use Rattle.flat_machine.specs.Flat.{Flat}
+use Rattle.flat_machine.specs.Cases.{Fares, Leaves, IsGoneIn}
+use Rattle.flat_machine.proofs.Keeps as flat
+use Rattle.array_model.specs.Views.{ArrayView, with_parts, key_at}
+use Rattle.array_model.specs.Represents.{ShowsArray}
+
+-- the state with the drives of these parts
+abbrev pub fared : Flat → PartsView → Flat
+fared F v = record F { lost = lost_of v; failures = failed_of v }
+
+no_loss : (n : ℕ) (b : Bool) → n ≡ n + loss b b
+no_loss n true = omega arith
+no_loss n false = omega arith
+
+-- a state is what it leaves where nothing happens
+pub itself : (x : Flat) → Leaves x x
+itself x = record { same = refl; drives = λ d. record { stays = λ e. e; count = no_loss (x.failures d) (x.lost d) } }
+
+-- a state whose drives are those of an array leaves itself, with the drives that the array has then
+pub leaves : (x : Flat) (a b : PartsView) → x.lost ≡ lost_of a → x.failures ≡ failed_of a → DrivesFare a b → Leaves x (fared x b)
+leaves x a b lost failures fares = record {
+  same = refl;
+  drives = λ d. subst (λ (l : ℕ → Bool). Fares (l d) (lost_of b d) (x.failures d) (failed_of b d)) (sym lost)
+      (subst (λ (n : ℕ → ℕ). Fares (lost_of a d) (lost_of b d) (n d) (failed_of b d)) (sym failures) (fares.each d));
+}
+
+-- which slots are gone then
+pub gone_as : (F : Flat) (a v : PartsView) (s : ℕ) → F.groups ≡ a.groups → SameTables a v → IsLost v s → IsGoneIn (fared F v) s
+gone_as F a v s groups same gone = subst (λ (g : Groups). IsGone g (lost_of v) s) (sym (groups ∙ sym same.groups)) gone
+
+pub gone_back : (F : Flat) (a v : PartsView) (s : ℕ) → F.groups ≡ a.groups → SameTables a v → IsGoneIn (fared F v) s → IsLost v s
+gone_back F a v s groups same gone = subst (λ (g : Groups). IsGone g (lost_of v) s) (groups ∙ sym same.groups) gone
+
+-- which were gone before
+pub gone_before : (F : Flat) (a : PartsView) (s : ℕ) → F.groups ≡ a.groups → F.lost ≡ lost_of a → IsGoneIn F s → IsLost a s
+gone_before F a s groups lost gone = subst (λ (l : ℕ → Bool). IsGone a.groups l s) lost (subst (λ (g : Groups). IsGone g F.lost s) groups gone)
+
+-- an array that lost drives stands for the state with these drives
+pub lost_shows : (a : ArrayView) (F : Flat) (v : PartsView) → ShowsArray a F → Loses a.parts v → ShowsArray (with_parts a v) (fared F v)
+lost_shows a F v shows loses = record {
+  history = flat.fared F (lost_of v) (failed_of v) (key_at a) shows.history;
+  units = loses.shows F.units shows.units;
+  tables = record {
+    groups = shows.tables.groups ∙ sym loses.rest.groups;
+    drives = shows.tables.drives ∙ sym many;
+    lost = refl;
+    failures = refl;
+    log = shows.tables.log;
+    slots = λ s. let is = shows.tables.slots s in record { blocks = is.blocks; shut = is.shut; waits = is.waits };
+  };
+}
+  where
+    many : length v.drives ≡ length a.parts.drives
+    many = loses.fares.many
+
+pub lost_leaves : (a : ArrayView) (F : Flat) (v : PartsView) → ShowsArray a F → Loses a.parts v → Leaves F (fared F v)
+lost_leaves a F v shows loses = leaves F a.parts v shows.tables.lost shows.tables.failures loses.fares

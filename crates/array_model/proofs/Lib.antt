@@ -1,0 +1,16 @@
+pub mod Kepts
+pub mod Newest
+pub mod Wholes
+pub mod Fares
+pub mod Slots
+pub mod Finds
+pub mod Fills
+pub mod Copies
+pub mod Discards
+pub mod Commits
+pub mod Committing
+pub mod Makes
+pub mod Makings
+pub mod Seeing
+pub mod News
+pub mod Hands

@@ -1,0 +1,5 @@
+pub mod Views
+pub mod Represents
+pub mod Changes
+pub mod Making
+pub mod Reads
