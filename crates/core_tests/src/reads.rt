@@ -14,10 +14,10 @@ fn written(rt: &HostRuntime) -> Result<World, Fail> {
     let members = [member(0, 0), member(1, 0), member(2, 0)];
     world.make(alloc, Class::Mirrored, &members)?;
     world.claim(0, 0);
-    if world.array().shape().payload() == 8 {
+    if world.array().shape().payload == 8 {
         world.fill(alloc, 0, 0, &[0x11; 8])?;
     }
-    if world.array().shape().blocks() == 16 {
+    if world.array().shape().blocks == 16 {
         world.commit(alloc, 0, 0, 3)?;
     }
     Ok(world)
@@ -46,7 +46,7 @@ fn an_array_tells_its_log_its_map_and_its_slots(rt: HostRuntime) -> Result<(), F
 fn an_array_hands_claims_back(rt: HostRuntime) -> Result<(), Fail> {
     let alloc = rt.alloc();
     let mut array: Array<Plain> = Array::new(alloc, Shape::new(8, 2, 8, 16)?, 3)?;
-    assert_eq!(rt; array.shape().payload(), 8);
+    assert_eq!(rt; array.shape().payload, 8);
     let Err((refusal, claim)) = array.fill(alloc, Plain { slot: 9 }, &[7u8; 8]) else {
         panic!(rt; "filled a slot of no group")
     };
@@ -60,13 +60,13 @@ fn a_slot_that_the_array_holds_is_in_use(rt: HostRuntime) -> Result<(), Fail> {
     let mut array: Array<Plain> = Array::new(alloc, Shape::new(8, 2, 8, 16)?, 3)?;
     let members = [member(0, 0), member(1, 0), member(2, 0)];
     array.make_group(alloc, Class::Mirrored, &members)?;
-    assert_eq!(rt; (array.shape().payload(), array.shape().blocks()), (8, 16));
+    assert_eq!(rt; (array.shape().payload, array.shape().blocks), (8, 16));
     let Ok(_ticket) = array.fill(alloc, Plain { slot: 0 }, &[7u8; 8]) else {
         panic!(rt; "not filled")
     };
     let again = array.fill(alloc, Plain { slot: 0 }, &[7u8; 8]);
     assert!(rt; matches!(again, Err((Refusal::InUse, Plain { slot: 0 }))));
-    assert_eq!(rt; array.shape().blocks(), 16);
+    assert_eq!(rt; array.shape().blocks, 16);
     let copied = array.copy(alloc, Plain { slot: 0 }, 3);
     assert!(rt; matches!(copied, Err((Refusal::InUse, Plain { slot: 0 }))));
     Ok(())
@@ -76,7 +76,7 @@ fn a_slot_that_the_array_holds_is_in_use(rt: HostRuntime) -> Result<(), Fail> {
 fn a_record_is_read_at_its_place_or_learned(rt: HostRuntime) -> Result<(), Fail> {
     let alloc = rt.alloc();
     let world = written(&rt)?;
-    assert_eq!(rt; world.array().shape().blocks(), 16);
+    assert_eq!(rt; world.array().shape().blocks, 16);
     let first = Record {
         block: 3,
         version: 1,
