@@ -40,7 +40,7 @@ pub noted : (n : ℕ) (ws : List ℕ) (vs : List View) (id : ℕ) (v w : View) �
     → IsTimed ws (set vs id w) → ClaimRule n ws (set vs id w)
 noted n ws vs id v w rule here pairs won timed = thinned n ws vs (set vs id w) rule
     (stands_again (λ (u : View). u.pairs) vs id v w here pairs)
-    (won_still n ws ws vs (set vs id w) rule.won (λ slot. refl)
+    (won_still n ws ws vs (set vs id w) rule.won (λ slot. refl) (λ slot above. above)
     (stands_again (λ (u : View). u.won) vs id v w here won)
     (still_stands (λ (u : View). u.won) vs id v w [] here (won ∙ sym (append-nil v.won))))
     timed
@@ -49,7 +49,7 @@ noted n ws vs id v w rule here pairs won timed = thinned n ws vs (set vs id w) r
 pub entered : (n : ℕ) (ws : List ℕ) (vs : List View) → ClaimRule n ws vs → ClaimRule n ws (vs ++ blank ∷ [])
 entered n ws vs rule = thinned n ws vs (vs ++ blank ∷ []) rule
     (stands_before (λ (u : View). u.pairs) vs blank refl)
-    (won_still n ws ws vs (vs ++ blank ∷ []) rule.won (λ slot. refl)
+    (won_still n ws ws vs (vs ++ blank ∷ []) rule.won (λ slot. refl) (λ slot above. above)
     (stands_before (λ (u : View). u.won) vs blank refl)
     (stands_after (λ (u : View). u.won) vs blank))
     (timed_more ws vs rule.timed)
@@ -61,7 +61,7 @@ joined n ws vs id other v w rule here differ there =
     rearranged (Glued id other (length v.pairs)) n ws vs (set (set vs id (both_pairs v w)) other blank) rule
     (stood_apart (λ (u : View). u.pairs) vs id other v w (both_pairs v w) blank here differ was_there refl refl)
     (λ s k t l a b i j. glued_once id other (length v.pairs) s k t l a b differ i j)
-    (won_moved (Glued id other (length v.won)) n ws ws vs (set (set vs id (both_pairs v w)) other blank) rule.won (λ slot. refl)
+    (won_moved (Glued id other (length v.won)) n ws ws vs (set (set vs id (both_pairs v w)) other blank) rule.won (λ slot. refl) (λ slot above. above)
     (stood_apart (λ (u : View). u.won) vs id other v w (both_pairs v w) blank here differ was_there refl refl)
     (λ s k t l a b i j. glued_once id other (length v.won) s k t l a b differ i j)
     (stands_together (λ (u : View). u.won) vs id other v w (both_pairs v w) blank here differ was_there refl refl))

@@ -73,7 +73,7 @@ freed n ws vs id p v w rule here has none won more sees inside = record {
   current = λ s k q st. let old = stood s k q st in
       get_or-set_other ws (word_of p.slot) (word_of q.slot) (2 * p.generation) 0 (other_word q.slot p.slot (λ e. old.0 (rule.once s k id 0 q p old.1 mine e).0)) ∙ rule.current s k q old.1;
   once = λ s k t l q r st su e. rule.once s k t l q r (stood s k q st).1 (stood t l r su).1 e;
-  won = won_still n ws words vs (set vs id w) rule.won same_generation
+  won = won_still n ws words vs (set vs id w) rule.won same_generation stays_above
       (stands_again (λ (u : View). u.won) vs id v w here won)
       (still_stands (λ (u : View). u.won) vs id v w [] here (won ∙ sym (append-nil v.won)));
   timed = timed_next words vs id v w rule.timed.past here more (ap (λ (s : Sight). s.time) sees)
@@ -97,6 +97,11 @@ freed n ws vs id p v w rule here has none won more sees inside = record {
         (λ (h : (s ≡ id) × (get_elem? w.pairs k ≡ some q)). absurd (nowhere w.pairs k q none h.1))
         (λ (h : (s ≢ id) × Stands vs s k q). h)
         (stands_set (λ (u : View). u.pairs) vs id w s k q st)
+
+    stays_above : (slot : ℕ) → 0 < get_or words (word_of slot) 0 → 0 < get_or ws (word_of slot) 0
+    stays_above slot above = dite (ℕ_discrete slot p.slot)
+        (λ (e : slot ≡ p.slot). subst (λ (x : ℕ). 0 < get_or ws (word_of x) 0) (sym e) (let is = rule.current id 0 p mine in omega arith))
+        (λ (ne : slot ≢ p.slot). subst (λ (x : ℕ). 0 < x) (get_or-set_other ws (word_of p.slot) (word_of slot) (2 * p.generation) 0 (other_word slot p.slot ne)) above)
 
     same_generation : (slot : ℕ) → generation_at words slot ≡ generation_at ws slot
     same_generation slot = dite (ℕ_discrete slot p.slot)

@@ -139,6 +139,7 @@ begins n ws all = record {
   once = λ s k t l p q st su e. absurd (without (λ (u : View). u.pairs) refl s k p st);
   won = record {
     begun = λ slot small above. let e = zeros (word_of slot) in absurd (omega arith);
+    counted = λ s k p st. absurd (without (λ (u : View). u.won) refl s k p st);
     reached = λ s k p st. absurd (without (λ (u : View). u.won) refl s k p st);
     single = λ s k t l p q st su e d. absurd (without (λ (u : View). u.won) refl s k p st);
   };

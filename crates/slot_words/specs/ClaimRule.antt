@@ -44,9 +44,11 @@ Won views seat place p = StandsIn (λ v. v.won) views seat place p
 abbrev pub generation_at : List ℕ → ℕ → ℕ
 generation_at words slot = slice_index words (word_of slot) / 2
 
--- No pair was won twice. A slot's generation, where it isn't 0, was won by some seat, and none above it.
+-- Every pair won has a generation above 0, and none was won twice. Where a slot's word isn't 0 its generation was won by
+-- some seat, and none above it.
 pub record IsWon (slots : ℕ) (words : List ℕ) (views : List View) : Type 0 where
-  pub begun : (slot : ℕ) → slot < slots → 0 < generation_at words slot → (seat : ℕ) × (place : ℕ) × Won views seat place (held slot (generation_at words slot))
+  pub begun : (slot : ℕ) → slot < slots → 0 < slice_index words (word_of slot) → (seat : ℕ) × (place : ℕ) × Won views seat place (held slot (generation_at words slot))
+  pub counted : (seat place : ℕ) (p : Held) → Won views seat place p → 0 < p.generation
   pub reached : (seat place : ℕ) (p : Held) → Won views seat place p → p.generation ≤ generation_at words p.slot
   pub single : (seat place other spot : ℕ) (p q : Held) → Won views seat place p → Won views other spot q → p.slot ≡ q.slot → p.generation ≡ q.generation → (seat ≡ other) × (place ≡ spot)
 
