@@ -5,6 +5,7 @@ use mathlib.Core.Logic.{dite}
 use native.Mathlib.Decide.{ℕ_discrete}
 use lib.ListN.{get_elem?}
 use Rattle.slot_words.specs.declared.view.Held.{Held}
+use Rattle.slot_words.specs.declared.view.Kind.TheVariants.{Exchange, Store}
 use Rattle.slot_words.specs.declared.view.Sight.{Sight}
 use Rattle.slot_words.specs.declared.view.View.{View}
 use Rattle.slot_words.specs.Places.{word_of}
@@ -26,7 +27,7 @@ other_word a b ne e = ne (omega arith)
 
 -- a free slot is claimed: one seat comes to have the pair, and the word becomes odd
 pub claimed : (n : ℕ) (ws : List ℕ) (vs : List View) (id g : ℕ) (p : Held) (v w : View) → ClaimRule n ws vs → get_elem? vs id ≡ some v
-    → w.pairs ≡ p ∷ [] → w.won ≡ v.won ++ p ∷ [] → w.steps ≡ v.steps + 1 → w.sight ≡ sight_at (word_of p.slot) (2 * p.generation + 1) (steps vs + 1) → p.slot < n
+    → w.pairs ≡ p ∷ [] → w.won ≡ v.won ++ p ∷ [] → w.steps ≡ v.steps ++ w.sight ∷ [] → w.sight ≡ sight_at Exchange (word_of p.slot) (2 * p.generation + 1) (steps vs + 1) → p.slot < n
     → get_or ws (word_of p.slot) 0 ≡ 2 * g → p.generation ≡ g + 1 → p.generation ≤ 2 ^ 62 → ClaimRule n (set ws (word_of p.slot) (2 * p.generation + 1)) (set vs id w)
 claimed n ws vs id g p v w rule here has wins more sees inside free next small = record {
   wide = length-set ws (word_of p.slot) (2 * p.generation + 1) ∙ rule.wide;
@@ -65,7 +66,7 @@ claimed n ws vs id g p v w rule here has wins more sees inside free next small =
 
 -- a held slot is released by the seat that has its pair: the word becomes even
 pub freed : (n : ℕ) (ws : List ℕ) (vs : List View) (id : ℕ) (p : Held) (v w : View) → ClaimRule n ws vs → get_elem? vs id ≡ some v
-    → v.pairs ≡ p ∷ [] → w.pairs ≡ [] → w.won ≡ v.won → w.steps ≡ v.steps + 1 → w.sight ≡ sight_at (word_of p.slot) (2 * p.generation) (steps vs + 1) → p.slot < n
+    → v.pairs ≡ p ∷ [] → w.pairs ≡ [] → w.won ≡ v.won → w.steps ≡ v.steps ++ w.sight ∷ [] → w.sight ≡ sight_at Store (word_of p.slot) (2 * p.generation) (steps vs + 1) → p.slot < n
     → ClaimRule n (set ws (word_of p.slot) (2 * p.generation)) (set vs id w)
 freed n ws vs id p v w rule here has none won more sees inside = record {
   wide = length-set ws (word_of p.slot) (2 * p.generation) ∙ rule.wide;

@@ -1,5 +1,5 @@
 -- The order of steps, after one more, after a seat came, and after two seats became one.
-use Rattle.std.proofs.Common.{◌≡◌, ℕ, zero, suc, ◌+◌, ◌<◌, ◌≤◌, ◌≢◌, ◌⊎◌, List, [], ◌∷◌, ◌++◌, set, get_or, Bool, true, false, nat_lt, sym, refl, ap, ◌∙◌, inl, inr, ⊎_elim, subst, arith}
+use Rattle.std.proofs.Common.{◌≡◌, ℕ, zero, suc, ◌+◌, ◌<◌, ◌≤◌, ◌≢◌, ◌⊎◌, List, [], ◌∷◌, ◌++◌, length, length-append, set, get_or, Bool, true, false, nat_lt, sym, refl, ap, ◌∙◌, inl, inr, ⊎_elim, subst, arith}
 use Rattle.std.proofs.lemmas.Bool.Decides.{nat_tests}
 use Rattle.atomic_table.proofs.Lists.{at_set, set_here, set_else, at_longer, at_snoc}
 use mathlib.Core.Option.{some, some-injective, some-ne-none}
@@ -13,15 +13,15 @@ use Rattle.slot_words.specs.Sight.{later}
 use Rattle.slot_words.proofs.Lists.{at_inside}
 
 -- one view changes
-steps_set : (vs : List View) (id : ℕ) (v w : View) → get_elem? vs id ≡ some v → steps (set vs id w) + v.steps ≡ steps vs + w.steps
+steps_set : (vs : List View) (id : ℕ) (v w : View) → get_elem? vs id ≡ some v → steps (set vs id w) + length v.steps ≡ steps vs + length w.steps
 steps_set [] id v w e = absurd (some-ne-none v (sym e))
-steps_set (x ∷ xs) zero v w e = let is : x.steps ≡ v.steps = ap (λ (y : View). y.steps) (some-injective x v e) in omega arith
-steps_set (x ∷ xs) (suc id) v w e = let h : steps (set xs id w) + v.steps ≡ steps xs + w.steps = steps_set xs id v w e in omega arith
+steps_set (x ∷ xs) zero v w e = let is : length x.steps ≡ length v.steps = ap (λ (y : View). length y.steps) (some-injective x v e) in omega arith
+steps_set (x ∷ xs) (suc id) v w e = let h : steps (set xs id w) + length v.steps ≡ steps xs + length w.steps = steps_set xs id v w e in omega arith
 
 -- one view comes
-steps_push : (vs : List View) (w : View) → steps (vs ++ w ∷ []) ≡ steps vs + w.steps
+steps_push : (vs : List View) (w : View) → steps (vs ++ w ∷ []) ≡ steps vs + length w.steps
 steps_push [] w = omega arith
-steps_push (x ∷ xs) w = let h : steps (xs ++ w ∷ []) ≡ steps xs + w.steps = steps_push xs w in omega arith
+steps_push (x ∷ xs) w = let h : steps (xs ++ w ∷ []) ≡ steps xs + length w.steps = steps_push xs w in omega arith
 
 -- no seat's last step is after the last one
 abbrev pub ArePast : List View → Type 0
@@ -32,7 +32,7 @@ abbrev Exact : List ℕ → ℕ → Sight → Type 0
 Exact ws count s = 0 < s.time → s.time ≡ count → s.word ≡ get_or ws s.place 0
 
 -- a seat makes a step, and knows what stands there then
-pub timed_next : (ws : List ℕ) (vs : List View) (id : ℕ) (v w : View) → ArePast vs → get_elem? vs id ≡ some v → w.steps ≡ v.steps + 1
+pub timed_next : (ws : List ℕ) (vs : List View) (id : ℕ) (v w : View) → ArePast vs → get_elem? vs id ≡ some v → w.steps ≡ v.steps ++ w.sight ∷ []
     → w.sight.time ≡ steps vs + 1 → w.sight.word ≡ get_or ws w.sight.place 0 → IsTimed ws (set vs id w)
 timed_next ws vs id v w past here more now is = record {
   past = λ s x at. ⊎_elim
@@ -47,7 +47,7 @@ timed_next ws vs id v w past here more now is = record {
 }
   where
     sum : steps (set vs id w) ≡ steps vs + 1
-    sum = let all = steps_set vs id v w here in omega arith
+    sum = let all = steps_set vs id v w here in let count : length w.steps ≡ length v.steps + 1 = ap (λ (l : List Sight). length l) more ∙ length-append v.steps (w.sight ∷ []) in omega arith
 
 -- a seat comes
 pub timed_more : (ws : List ℕ) (vs : List View) → IsTimed ws vs → IsTimed ws (vs ++ blank ∷ [])
@@ -76,7 +76,7 @@ later_is s t = go (nat_lt s.time t.time) refl
 
 -- two seats become one
 pub timed_both : (ws : List ℕ) (vs : List View) (id other : ℕ) (v w both : View) → IsTimed ws vs → get_elem? vs id ≡ some v → other ≢ id
-    → get_elem? (set vs id both) other ≡ some w → both.sight ≡ later v.sight w.sight → both.steps ≡ v.steps + w.steps
+    → get_elem? (set vs id both) other ≡ some w → both.sight ≡ later v.sight w.sight → both.steps ≡ v.steps ++ w.steps
     → IsTimed ws (set (set vs id both) other blank)
 timed_both ws vs id other v w both so here differ there last count = record {
   past = λ s x at. ⊎_elim
@@ -119,7 +119,7 @@ timed_both ws vs id other v w both so here differ there last count = record {
     now = set_else (set vs id both) other id blank (λ e. differ (sym e)) ∙ set_here vs id both (at_inside vs id v here)
 
     sum : steps new ≡ steps vs
-    sum = let one = steps_set vs id v both here in let two = steps_set (set vs id both) other w blank there in omega arith
+    sum = let sizes : length both.steps ≡ length v.steps + length w.steps = ap (λ (l : List Sight). length l) count ∙ length-append v.steps w.steps in let one = steps_set vs id v both here in let two = steps_set (set vs id both) other w blank there in omega arith
 
     bounds : (v.sight.time ≤ newest) × (w.sight.time ≤ newest) × (newest ≤ steps vs)
     bounds = let p = so.past id v here in let q = so.past other w was_there in ⊎_elim
