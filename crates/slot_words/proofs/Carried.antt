@@ -6,9 +6,9 @@ use lib.ListN.{get_elem?}
 use Rattle.slot_words.specs.declared.view.Held.{Held}
 use Rattle.slot_words.specs.declared.view.View.{View}
 use Rattle.slot_words.specs.ClaimRule.{blank, Stands, IsWon, IsTimed, ClaimRule}
-use Rattle.slot_words.specs.Steps.{both_pairs}
+use Rattle.slot_words.specs.Steps.{both_pairs, pair_part, step_part}
 use Rattle.slot_words.proofs.Views.{Glued, glued_once, stands_again, still_stands, stands_before, stands_after, stood_apart, stands_together}
-use Rattle.slot_words.proofs.Timed.{timed_more, timed_both}
+use Rattle.slot_words.proofs.Timed.{timed_more, timed_both, timed_parts}
 use Rattle.slot_words.proofs.Winning.{won_moved, won_still}
 
 -- each pair of the new views stands in the old ones, by a relation that is one to one
@@ -69,3 +69,13 @@ joined n ws vs id other v w rule here differ there =
   where
     was_there : get_elem? vs other ≡ some w
     was_there = sym (set_else vs id other (both_pairs v w) differ) ∙ there
+
+-- a seat is cut in two
+pub parted : (n : ℕ) (ws : List ℕ) (vs : List View) (id : ℕ) (v : View) → ClaimRule n ws vs → get_elem? vs id ≡ some v
+    → ClaimRule n ws (set vs id (pair_part v) ++ step_part v ∷ [])
+parted n ws vs id v rule here = thinned n ws vs (set vs id (pair_part v) ++ step_part v ∷ []) rule
+    (λ s k p st. stands_again (λ (u : View). u.pairs) vs id v (pair_part v) here refl s k p (stands_before (λ (u : View). u.pairs) (set vs id (pair_part v)) (step_part v) refl s k p st))
+    (won_still n ws ws vs (set vs id (pair_part v) ++ step_part v ∷ []) rule.won (λ slot. refl) (λ slot above. above)
+    (λ s k p st. stands_again (λ (u : View). u.won) vs id v (pair_part v) here refl s k p (stands_before (λ (u : View). u.won) (set vs id (pair_part v)) (step_part v) refl s k p st))
+    (λ s k p st. stands_after (λ (u : View). u.won) (set vs id (pair_part v)) (step_part v) s k p (still_stands (λ (u : View). u.won) vs id v (pair_part v) [] here (sym (append-nil v.won)) s k p st)))
+    (timed_parts ws vs id v rule.timed here)

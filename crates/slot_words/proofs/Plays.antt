@@ -6,7 +6,7 @@ use mathlib.Core.Logic.{dite}
 use native.Mathlib.Decide.{dec_lt}
 use mathlib.Core.Option.{none, some}
 use lib.ListN.{get_elem?}
-use Rattle.atomic_table.specs.Table.{State, Me, Act, keeps, Valid, carried_after, step, Allows, Enters, Joins}
+use Rattle.atomic_table.specs.Table.{State, Me, Act, keeps, Valid, carried_after, step, Allows, Enters, Splits, Joins}
 use Rattle.atomic_table.proofs.Lists.{set_again}
 use prog.Atomic.{either}
 use Rattle.slot_words.specs.declared.view.Held.{Held}
@@ -15,10 +15,10 @@ use Rattle.slot_words.specs.declared.view.Kind.TheVariants.{Look, Exchange, Stor
 use Rattle.slot_words.specs.declared.view.View.{View}
 use Rattle.slot_words.specs.Places.{word_of}
 use Rattle.slot_words.specs.ClaimRule.{sight_at, blank, held, steps, StandsIn, Stands, ClaimRule}
-use Rattle.slot_words.specs.Steps.{after_step, Sat, Looked, Taken, Freed, Differed, both_pairs}
+use Rattle.slot_words.specs.Steps.{after_step, Sat, Looked, Taken, Freed, Differed, both_pairs, pair_part, step_part}
 use Rattle.slot_words.proofs.Lists.{nowhere, alone}
 use Rattle.slot_words.proofs.Timed.{timed_next}
-use Rattle.slot_words.proofs.Carried.{noted, entered, joined}
+use Rattle.slot_words.proofs.Carried.{noted, entered, joined, parted}
 use Rattle.slot_words.proofs.Moves.{claimed, freed}
 
 -- a load makes an empty seat
@@ -29,6 +29,10 @@ sits n slots place s rule homes fits = (blank, entered n s.words s.views rule, r
 -- two seats become one
 pub glues : {S : Type 0} (n id other : ℕ) (v w : View) → Joins (λ (s : State S View). ClaimRule n s.words s.views) id v other w (both_pairs v w) blank
 glues n id other v w s rule here differ there = joined n s.words s.views id other v w rule here differ there
+
+-- a seat is cut in two
+pub parts : {S : Type 0} (n id : ℕ) (v : View) → Splits (λ (s : State S View). ClaimRule n s.words s.views) id v (pair_part v) (step_part v)
+parts n id v s rule here = parted n s.words s.views id v rule here
 
 -- the view of a seat whose step was the last one and left this word there
 abbrev after : Kind → List View → View → ℕ → ℕ → List Held → List Held → View

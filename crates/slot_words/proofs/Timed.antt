@@ -1,7 +1,7 @@
 -- The order of steps, after one more, after a seat came, and after two seats became one.
 use Rattle.std.proofs.Common.{◌≡◌, ℕ, zero, suc, ◌+◌, ◌<◌, ◌≤◌, ◌≢◌, ◌⊎◌, List, [], ◌∷◌, ◌++◌, length, length-append, set, get_or, Bool, true, false, nat_lt, sym, refl, ap, ◌∙◌, inl, inr, ⊎_elim, subst, arith}
 use Rattle.std.proofs.lemmas.Bool.Decides.{nat_tests}
-use Rattle.atomic_table.proofs.Lists.{at_set, set_here, set_else, at_longer, at_snoc}
+use Rattle.atomic_table.proofs.Lists.{at_set, set_here, set_else, at_longer, at_snoc, at_last}
 use mathlib.Core.Option.{some, some-injective, some-ne-none}
 use mathlib.Core.Logic.{dite}
 use native.Mathlib.Decide.{ℕ_discrete}
@@ -10,6 +10,7 @@ use Rattle.slot_words.specs.declared.view.Sight.{Sight}
 use Rattle.slot_words.specs.declared.view.View.{View}
 use Rattle.slot_words.specs.ClaimRule.{steps, blank, IsTimed}
 use Rattle.slot_words.specs.Sight.{later}
+use Rattle.slot_words.specs.Steps.{pair_part, step_part}
 use Rattle.slot_words.proofs.Lists.{at_inside}
 
 -- one view changes
@@ -65,6 +66,39 @@ timed_more ws vs so = record {
   where
     sum : steps (vs ++ blank ∷ []) ≡ steps vs
     sum = let all = steps_push vs blank in omega arith
+
+-- a seat is cut in two, and the new one remembers the steps
+pub timed_parts : (ws : List ℕ) (vs : List View) (id : ℕ) (v : View) → IsTimed ws vs → get_elem? vs id ≡ some v → IsTimed ws (set vs id (pair_part v) ++ step_part v ∷ [])
+timed_parts ws vs id v so here = record {
+  past = λ s x at. ⊎_elim
+      (λ (old : get_elem? left s ≡ some x). ⊎_elim
+      (λ (h : (s ≡ id) × (pair_part v ≡ x)). subst (λ (y : View). y.sight.time ≤ steps new) h.1 (omega arith))
+      (λ (h : (s ≢ id) × (get_elem? vs s ≡ some x)). let p = so.past s x h.1 in let all = sum in omega arith)
+      (at_set vs id s (pair_part v) x old))
+      (λ (last : step_part v ≡ x). subst (λ (y : View). y.sight.time ≤ steps new) last (let p = so.past id v here in let all = sum in omega arith))
+      (at_snoc left (step_part v) x s at);
+  latest = let l = so.latest in dite (ℕ_discrete l.0 id)
+      (λ (e : l.0 ≡ id).
+      let same : l.1.sight.time ≡ v.sight.time = ap (λ (y : View). y.sight.time) (some-injective l.1 v (sym l.2 ∙ ap (get_elem? vs) e ∙ here)) in
+      let time = l.3 in let all = sum in (length left, step_part v, at_last left (step_part v) (length left) refl, omega arith))
+      (λ (ne : l.0 ≢ id). (l.0, l.1, at_longer left (step_part v ∷ []) l.0 l.1 (set_else vs id l.0 (pair_part v) ne ∙ l.2), l.3 ∙ sym sum));
+  exact = λ s x at. ⊎_elim
+      (λ (old : get_elem? left s ≡ some x). ⊎_elim
+      (λ (h : (s ≡ id) × (pair_part v ≡ x)). subst (λ (y : View). Exact ws (steps new) y.sight) h.1 (λ above same. absurd (omega arith)))
+      (λ (h : (s ≢ id) × (get_elem? vs s ≡ some x)). λ above same. so.exact s x h.1 above (same ∙ sum))
+      (at_set vs id s (pair_part v) x old))
+      (λ (last : step_part v ≡ x). subst (λ (y : View). Exact ws (steps new) y.sight) last (λ above same. so.exact id v here above (same ∙ sum)))
+      (at_snoc left (step_part v) x s at);
+}
+  where
+    left : List View
+    left = set vs id (pair_part v)
+
+    new : List View
+    new = left ++ step_part v ∷ []
+
+    sum : steps new ≡ steps vs
+    sum = let one = steps_set vs id v (pair_part v) here in let two = steps_push left (step_part v) in omega arith
 
 -- the later of two is one of them
 later_is : (s t : Sight) → ((later s t ≡ s) × (t.time ≤ s.time)) ⊎ ((later s t ≡ t) × (s.time < t.time))

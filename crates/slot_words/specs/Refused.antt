@@ -11,16 +11,25 @@ use Rattle.slot_words.specs.Sight.{Sights, IsNext}
 abbrev pub HasLooked : ℕ → Sights → Sights → Type 0
 HasLooked slot before after = IsNext Look slot before.looked before.looks after.looked after.looks
 
--- the Pass made one exchange more, at this slot's word, which lost
+-- the Pass made one exchange more, at this slot's word
 abbrev pub HasTried : ℕ → Sights → Sights → Type 0
 HasTried slot before after = IsNext Exchange slot before.stepped before.steps after.stepped after.steps
+
+-- the Pass made no exchange
+abbrev pub HasNotTried : Sights → Sights → Type 0
+HasNotTried before after = (after.stepped ≡ before.stepped) × (after.steps ≡ before.steps)
+
+-- one exchange won the slot at the generation after the one that the look found, and left it held
+abbrev pub IsClaimed : ℕ → Sights → Sights → Held → Type 0
+IsClaimed slot before after claim = (claim.slot ≡ slot) × (2 * claim.generation ≡ after.looked.word + 2) × HasTried slot before after
+    × (after.stepped.word ≡ 2 * claim.generation + 1)
 
 -- Taken: the word given is odd, and the look found it at the slot, or an exchange did. Spent: the look found the slot
 -- free at the last generation. Moved: the word given is even, an exchange found it at the slot, and the look had
 -- found another even word there.
 abbrev pub IsWhy : ℕ → Sights → Sights → ClaimRefusal → Type 0
-IsWhy slot before after (Taken word) = (word % 2 ≡ 1) × ((after.looked.word ≡ word) ⊎ (HasTried slot before after × (after.stepped.word ≡ word)))
-IsWhy slot before after Spent = after.looked.word ≡ 2 ^ 63
+IsWhy slot before after (Taken word) = (word % 2 ≡ 1) × (((after.looked.word ≡ word) × HasNotTried before after) ⊎ (HasTried slot before after × (after.stepped.word ≡ word)))
+IsWhy slot before after Spent = (after.looked.word ≡ 2 ^ 63) × HasNotTried before after
 IsWhy slot before after (Moved word) = (word % 2 ≡ 0) × HasTried slot before after × (after.stepped.word ≡ word)
     × (after.looked.word % 2 ≡ 0) × (after.looked.word ≢ word)
 
@@ -35,12 +44,11 @@ WereRefused slots zero before after last = (after ≡ before) × (last ≡ None)
 WereRefused slots (suc k) before after last = (between : Sights) × (earlier : Option ClaimRefusal) × (refusal : ClaimRefusal)
     × WereRefused slots k before between earlier × IsRefused (slice_index slots k) between after refusal × (last ≡ Some refusal)
 
--- the first slots listed were each tried and refused, in order, and then with one look more the next was claimed, at the
--- generation after the one found
+-- the first slots listed were each tried and refused, in order, and then with one look more the next was claimed
 abbrev pub IsFirst : List ℕ → Sights → Sights → Held → Type 0
 IsFirst slots before after claim = (k : ℕ) × (between : Sights) × (last : Option ClaimRefusal) × (k < length slots)
-    × WereRefused slots k before between last × (claim.slot ≡ slice_index slots k) × HasLooked claim.slot between after
-    × (2 * claim.generation ≡ after.looked.word + 2)
+    × WereRefused slots k before between last × HasLooked (slice_index slots k) between after
+    × IsClaimed (slice_index slots k) between after claim
 
 -- why an exchange missed that sought the even word `seen`, and then saw this
 abbrev pub IsMissed : ℕ → Sight → ClaimRefusal → Type 0

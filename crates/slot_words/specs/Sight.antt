@@ -7,8 +7,8 @@ use Rattle.slot_words.specs.declared.view.View.{View}
 use Rattle.slot_words.specs.Places.{word_of}
 use Rattle.slot_words.specs.ClaimRule.{no_sight}
 
--- A Pass's last look and all that it made; its last exchange that lost or its last store, and all of these that its seat
--- made; and the pairs that this seat won.
+-- A Pass's last look and all that it made; its last exchange or store, and all of these that its seat made; and the pairs
+-- that this seat won and still tells.
 pub record Sights : Type 0 where
   pub looked : Sight
   pub looks : List Sight

@@ -6,7 +6,7 @@ use Rattle.slot_words.specs.declared.view.Kind.TheVariants.{Look, Exchange, Stor
 use Rattle.slot_words.specs.declared.view.Sight.{Sight}
 use Rattle.slot_words.specs.declared.view.View.{View}
 use Rattle.slot_words.specs.Places.{word_of}
-use Rattle.slot_words.specs.ClaimRule.{knows, sight_at, blank}
+use Rattle.slot_words.specs.ClaimRule.{knows, sight_at, no_sight, blank}
 use Rattle.slot_words.specs.Sight.{later}
 
 -- the view of a seat that made this step, and now has and won these pairs
@@ -42,3 +42,10 @@ Differed s before found after = (p q : Held) → before.0.pairs ≡ p ∷ q ∷ 
 -- a seat that takes in another has the pairs of both, and of their last steps the later one
 abbrev pub both_pairs : View → View → View
 both_pairs v w = knows (later v.sight w.sight) (v.steps ++ w.steps) (v.pairs ++ w.pairs) (v.won ++ w.won)
+
+-- a seat is cut in two: one part has the pairs, and won them, and the other remembers the steps
+abbrev pub pair_part : View → View
+pair_part v = knows no_sight [] v.pairs v.won
+
+abbrev pub step_part : View → View
+step_part v = knows v.sight v.steps [] []

@@ -1,15 +1,15 @@
 // The table of words, and the steps on it.
-ghost use Rattle.std.specs.Prelude.{◌≡◌, ◌≢◌, ◌↔◌, ℕ, ◌+◌, ◌*◌, ◌/◌, ◌%◌, ◌^◌, ◌<◌, ◌≤◌, [], ◌∷◌, length, All, Contains, IfOk, IfErr, None, OnErr};
+ghost use Rattle.std.specs.Prelude.{◌≡◌, ◌≢◌, ◌↔◌, ℕ, ◌+◌, ◌*◌, ◌/◌, ◌%◌, ◌^◌, ◌<◌, ◌≤◌, [], ◌∷◌, length, All, Contains, IfOk, IfErr, None};
 ghost use Rattle.slot_words.specs.Places.{word_of, slots_of};
 ghost use Rattle.slot_words.specs.Sight.{HasStepped, no_sights, both_sights};
-ghost use Rattle.slot_words.specs.Refused.{HasLooked, IsRefused, WereRefused, IsFirst, IsMissed};
+ghost use Rattle.slot_words.specs.Refused.{HasLooked, IsClaimed, IsRefused, WereRefused, IsFirst, IsMissed};
 ghost use Rattle.slot_words.specs.declared.view.Kind.TheVariants.{Exchange, Store};
 ghost use Rattle.slot_words.specs.Idle.{IsIdle};
 
 use crate::claim::{Claim, ClaimRefusal, NoneFree};
 use crate::naming::Naming;
 use crate::pass::Pass;
-use crate::rule::{Differs, Frees, Looks, Sitting, Takes, Words};
+use crate::rule::{Differs, Frees, Looks, Parts, Sitting, Takes, Words};
 use crate::steps::{merge, sit};
 use atomic_table::Table;
 use std::alloc::Global;
@@ -127,9 +127,10 @@ impl<N: Naming> SlotWords<N> {
     /// Looks once, and where the slot is free tries one exchange to the next generation, held.
     pub fn claim(&self, pass: &mut Pass<N>, slot: u16) -> Result<Claim<N>, ClaimRefusal>
         requires { slot < slots_of N.table }
-        // one look more, at this slot's word; the claim has the generation after it
+        // one look more, at this slot's word
         ensures looked { HasLooked slot pass.old pass.new }
-        ensures ok { IfOk result (λ c. (c.slot ≡ slot) × (2 * c.generation ≡ pass.new.looked.word + 2)) }
+        // the claim has the generation after it, and one exchange more won it
+        ensures ok { IfOk result (IsClaimed slot pass.old pass.new) }
         // the look is why, or one exchange more
         ensures err { IfErr result (IsRefused slot pass.old pass.new) }
     {
@@ -146,15 +147,15 @@ impl<N: Naming> SlotWords<N> {
         self.exchange(&mut pass.seat, slot, seen)
     }
 
-    // Where the exchange wins the claim gets the seat, and another stands in its place.
+    // Where the exchange wins the claim gets the seat, and another that remembers its steps stands in its place.
     fn exchange(&self, seat: &mut Sitting, slot: u16, seen: u64) -> Result<Claim<N>, ClaimRefusal>
         requires slot { slot < slots_of N.table }
         requires free { seen % 2 ≡ 0 }
         requires lasting { seen < 2 ^ 63 }
         requires seat { IsIdle N.table seat.old }
-        ensures ok { IfOk result (λ c. (c.slot ≡ slot) × (2 * c.generation ≡ seen + 2)) }
+        ensures ok { IfOk result (λ c. (c.slot ≡ slot) × (2 * c.generation ≡ seen + 2) × (seat.new.me.0.sight.word ≡ 2 * c.generation + 1)) }
         ensures err { IfErr result (IsMissed seen seat.new.me.0.sight) }
-        ensures tried { OnErr result (HasStepped Exchange slot seat.old.me.0 seat.new.me.0) }
+        ensures tried { HasStepped Exchange slot seat.old.me.0 seat.new.me.0 }
         ensures idle { IsIdle N.table seat.new }
     {
         let generation = seen / 2 + 1;
@@ -164,7 +165,8 @@ impl<N: Naming> SlotWords<N> {
             .shared
             .compare_exchange::<Takes>(seat, place_of(slot), seen, held);
         if found == seen {
-            let seat = mem::replace(seat, sit(&self.table));
+            let rest = self.table.shared.split_seat::<Parts>(seat);
+            let seat = mem::replace(seat, rest);
             Ok(Claim {
                 slot,
                 generation,
