@@ -1,5 +1,5 @@
 // The table of words, and the steps on it.
-ghost use Rattle.std.specs.Prelude.{◌≡◌, ◌≢◌, ℕ, ◌+◌, ◌-◌, ◌/◌, ◌<◌, ◌≤◌, [], ◌∷◌, ◌++◌, IsOk, IfOk, IfErr, IfSome, OnOk, OnErr, All};
+ghost use Rattle.std.specs.Prelude.{◌≡◌, ◌≢◌, ℕ, ◌+◌, ◌-◌, ◌/◌, ◌<◌, ◌≤◌, [], ◌∷◌, ◌++◌, IsOk, IfOk, IfErr, IfSome, IfNone, OnOk, OnErr, All};
 ghost use Rattle.map_join.specs.Maps.{at, IsMapOf};
 ghost use Rattle.map_words.specs.Places.{word_of, blocks_of};
 ghost use Rattle.map_words.specs.TakeRule.{opening, whole};
@@ -188,7 +188,7 @@ impl<N: Naming> MapWords<N> {
         ensures found { IfOk result (λ map. All (λ f. f.key ≤ at map f.block) taker.found) }
         // all takes and finds had one order, and each found exactly what those before had left
         ensures exact { OnOk result (All (IsExact taker) taker.found) }
-        ensures err { IfErr result (λ e. IsOpen taker.share e.0) }
+        ensures err { IfErr result (λ e. IsOpen taker e.0) }
         ensures same { IfErr result (λ e. e.2 ≡ taker) }
     {
         if taker.share != WHOLE {
@@ -208,6 +208,8 @@ impl<N: Naming> MapWords<N> {
         ensures map { IfSome result (λ map. IsMapOf taker.old.taken (at map)) }
         ensures found { IfSome result (λ map. All (λ f. f.key ≤ at map f.block) taker.old.found) }
         ensures exact { IfSome result (λ _. All (IsExact taker.old) taker.old.found) }
+        // memory is wanted only for what was taken
+        ensures wanted { IfNone result (taker.old.taken ≢ []) }
         ensures same { taker.new ≡ taker.old }
     {
         let mut map = BlockMap::new(alloc);

@@ -6,9 +6,9 @@ use lib.ListN.{get_elem?}
 use Rattle.slot_words.specs.declared.view.Held.{Held}
 use Rattle.slot_words.specs.declared.view.View.{View}
 use Rattle.slot_words.specs.ClaimRule.{blank, Stands, IsWon, IsTimed, ClaimRule}
-use Rattle.slot_words.specs.Steps.{both_pairs}
+use Rattle.slot_words.specs.Steps.{both_pairs, pair_part, step_part}
 use Rattle.slot_words.proofs.Views.{Glued, glued_once, stands_again, still_stands, stands_before, stands_after, stood_apart, stands_together}
-use Rattle.slot_words.proofs.Timed.{timed_more, timed_both}
+use Rattle.slot_words.proofs.Timed.{timed_more, timed_both, timed_parts}
 use Rattle.slot_words.proofs.Winning.{won_moved, won_still}
 
 -- each pair of the new views stands in the old ones, by a relation that is one to one
@@ -40,7 +40,7 @@ pub noted : (n : ℕ) (ws : List ℕ) (vs : List View) (id : ℕ) (v w : View) �
     → IsTimed ws (set vs id w) → ClaimRule n ws (set vs id w)
 noted n ws vs id v w rule here pairs won timed = thinned n ws vs (set vs id w) rule
     (stands_again (λ (u : View). u.pairs) vs id v w here pairs)
-    (won_still n ws ws vs (set vs id w) rule.won (λ slot. refl)
+    (won_still n ws ws vs (set vs id w) rule.won (λ slot. refl) (λ slot above. above)
     (stands_again (λ (u : View). u.won) vs id v w here won)
     (still_stands (λ (u : View). u.won) vs id v w [] here (won ∙ sym (append-nil v.won))))
     timed
@@ -49,7 +49,7 @@ noted n ws vs id v w rule here pairs won timed = thinned n ws vs (set vs id w) r
 pub entered : (n : ℕ) (ws : List ℕ) (vs : List View) → ClaimRule n ws vs → ClaimRule n ws (vs ++ blank ∷ [])
 entered n ws vs rule = thinned n ws vs (vs ++ blank ∷ []) rule
     (stands_before (λ (u : View). u.pairs) vs blank refl)
-    (won_still n ws ws vs (vs ++ blank ∷ []) rule.won (λ slot. refl)
+    (won_still n ws ws vs (vs ++ blank ∷ []) rule.won (λ slot. refl) (λ slot above. above)
     (stands_before (λ (u : View). u.won) vs blank refl)
     (stands_after (λ (u : View). u.won) vs blank))
     (timed_more ws vs rule.timed)
@@ -61,7 +61,7 @@ joined n ws vs id other v w rule here differ there =
     rearranged (Glued id other (length v.pairs)) n ws vs (set (set vs id (both_pairs v w)) other blank) rule
     (stood_apart (λ (u : View). u.pairs) vs id other v w (both_pairs v w) blank here differ was_there refl refl)
     (λ s k t l a b i j. glued_once id other (length v.pairs) s k t l a b differ i j)
-    (won_moved (Glued id other (length v.won)) n ws ws vs (set (set vs id (both_pairs v w)) other blank) rule.won (λ slot. refl)
+    (won_moved (Glued id other (length v.won)) n ws ws vs (set (set vs id (both_pairs v w)) other blank) rule.won (λ slot. refl) (λ slot above. above)
     (stood_apart (λ (u : View). u.won) vs id other v w (both_pairs v w) blank here differ was_there refl refl)
     (λ s k t l a b i j. glued_once id other (length v.won) s k t l a b differ i j)
     (stands_together (λ (u : View). u.won) vs id other v w (both_pairs v w) blank here differ was_there refl refl))
@@ -69,3 +69,13 @@ joined n ws vs id other v w rule here differ there =
   where
     was_there : get_elem? vs other ≡ some w
     was_there = sym (set_else vs id other (both_pairs v w) differ) ∙ there
+
+-- a seat is cut in two
+pub parted : (n : ℕ) (ws : List ℕ) (vs : List View) (id : ℕ) (v : View) → ClaimRule n ws vs → get_elem? vs id ≡ some v
+    → ClaimRule n ws (set vs id (pair_part v) ++ step_part v ∷ [])
+parted n ws vs id v rule here = thinned n ws vs (set vs id (pair_part v) ++ step_part v ∷ []) rule
+    (λ s k p st. stands_again (λ (u : View). u.pairs) vs id v (pair_part v) here refl s k p (stands_before (λ (u : View). u.pairs) (set vs id (pair_part v)) (step_part v) refl s k p st))
+    (won_still n ws ws vs (set vs id (pair_part v) ++ step_part v ∷ []) rule.won (λ slot. refl) (λ slot above. above)
+    (λ s k p st. stands_again (λ (u : View). u.won) vs id v (pair_part v) here refl s k p (stands_before (λ (u : View). u.won) (set vs id (pair_part v)) (step_part v) refl s k p st))
+    (λ s k p st. stands_after (λ (u : View). u.won) (set vs id (pair_part v)) (step_part v) s k p (still_stands (λ (u : View). u.won) vs id v (pair_part v) [] here (sym (append-nil v.won)) s k p st)))
+    (timed_parts ws vs id v rule.timed here)

@@ -5,6 +5,7 @@ use mathlib.Core.Logic.{dite}
 use native.Mathlib.Decide.{ℕ_discrete}
 use lib.ListN.{get_elem?}
 use Rattle.slot_words.specs.declared.view.Held.{Held}
+use Rattle.slot_words.specs.declared.view.Kind.TheVariants.{Exchange, Store}
 use Rattle.slot_words.specs.declared.view.Sight.{Sight}
 use Rattle.slot_words.specs.declared.view.View.{View}
 use Rattle.slot_words.specs.Places.{word_of}
@@ -26,7 +27,7 @@ other_word a b ne e = ne (omega arith)
 
 -- a free slot is claimed: one seat comes to have the pair, and the word becomes odd
 pub claimed : (n : ℕ) (ws : List ℕ) (vs : List View) (id g : ℕ) (p : Held) (v w : View) → ClaimRule n ws vs → get_elem? vs id ≡ some v
-    → w.pairs ≡ p ∷ [] → w.won ≡ v.won ++ p ∷ [] → w.steps ≡ v.steps + 1 → w.sight ≡ sight_at (word_of p.slot) (2 * p.generation + 1) (steps vs + 1) → p.slot < n
+    → w.pairs ≡ p ∷ [] → w.won ≡ v.won ++ p ∷ [] → w.steps ≡ v.steps ++ w.sight ∷ [] → w.sight ≡ sight_at Exchange (word_of p.slot) (2 * p.generation + 1) (steps vs + 1) → p.slot < n
     → get_or ws (word_of p.slot) 0 ≡ 2 * g → p.generation ≡ g + 1 → p.generation ≤ 2 ^ 62 → ClaimRule n (set ws (word_of p.slot) (2 * p.generation + 1)) (set vs id w)
 claimed n ws vs id g p v w rule here has wins more sees inside free next small = record {
   wide = length-set ws (word_of p.slot) (2 * p.generation + 1) ∙ rule.wide;
@@ -65,7 +66,7 @@ claimed n ws vs id g p v w rule here has wins more sees inside free next small =
 
 -- a held slot is released by the seat that has its pair: the word becomes even
 pub freed : (n : ℕ) (ws : List ℕ) (vs : List View) (id : ℕ) (p : Held) (v w : View) → ClaimRule n ws vs → get_elem? vs id ≡ some v
-    → v.pairs ≡ p ∷ [] → w.pairs ≡ [] → w.won ≡ v.won → w.steps ≡ v.steps + 1 → w.sight ≡ sight_at (word_of p.slot) (2 * p.generation) (steps vs + 1) → p.slot < n
+    → v.pairs ≡ p ∷ [] → w.pairs ≡ [] → w.won ≡ v.won → w.steps ≡ v.steps ++ w.sight ∷ [] → w.sight ≡ sight_at Store (word_of p.slot) (2 * p.generation) (steps vs + 1) → p.slot < n
     → ClaimRule n (set ws (word_of p.slot) (2 * p.generation)) (set vs id w)
 freed n ws vs id p v w rule here has none won more sees inside = record {
   wide = length-set ws (word_of p.slot) (2 * p.generation) ∙ rule.wide;
@@ -73,7 +74,7 @@ freed n ws vs id p v w rule here has none won more sees inside = record {
   current = λ s k q st. let old = stood s k q st in
       get_or-set_other ws (word_of p.slot) (word_of q.slot) (2 * p.generation) 0 (other_word q.slot p.slot (λ e. old.0 (rule.once s k id 0 q p old.1 mine e).0)) ∙ rule.current s k q old.1;
   once = λ s k t l q r st su e. rule.once s k t l q r (stood s k q st).1 (stood t l r su).1 e;
-  won = won_still n ws words vs (set vs id w) rule.won same_generation
+  won = won_still n ws words vs (set vs id w) rule.won same_generation stays_above
       (stands_again (λ (u : View). u.won) vs id v w here won)
       (still_stands (λ (u : View). u.won) vs id v w [] here (won ∙ sym (append-nil v.won)));
   timed = timed_next words vs id v w rule.timed.past here more (ap (λ (s : Sight). s.time) sees)
@@ -97,6 +98,11 @@ freed n ws vs id p v w rule here has none won more sees inside = record {
         (λ (h : (s ≡ id) × (get_elem? w.pairs k ≡ some q)). absurd (nowhere w.pairs k q none h.1))
         (λ (h : (s ≢ id) × Stands vs s k q). h)
         (stands_set (λ (u : View). u.pairs) vs id w s k q st)
+
+    stays_above : (slot : ℕ) → 0 < get_or words (word_of slot) 0 → 0 < get_or ws (word_of slot) 0
+    stays_above slot above = dite (ℕ_discrete slot p.slot)
+        (λ (e : slot ≡ p.slot). subst (λ (x : ℕ). 0 < get_or ws (word_of x) 0) (sym e) (let is = rule.current id 0 p mine in omega arith))
+        (λ (ne : slot ≢ p.slot). subst (λ (x : ℕ). 0 < x) (get_or-set_other ws (word_of p.slot) (word_of slot) (2 * p.generation) 0 (other_word slot p.slot ne)) above)
 
     same_generation : (slot : ℕ) → generation_at words slot ≡ generation_at ws slot
     same_generation slot = dite (ℕ_discrete slot p.slot)

@@ -6,17 +6,19 @@ use mathlib.Core.Logic.{dite}
 use native.Mathlib.Decide.{dec_lt}
 use mathlib.Core.Option.{none, some}
 use lib.ListN.{get_elem?}
-use Rattle.atomic_table.specs.Table.{State, Me, Act, keeps, Valid, carried_after, step, Allows, Enters, Joins}
+use Rattle.atomic_table.specs.Table.{State, Me, Act, keeps, Valid, carried_after, step, Allows, Enters, Splits, Joins}
 use Rattle.atomic_table.proofs.Lists.{set_again}
 use prog.Atomic.{either}
 use Rattle.slot_words.specs.declared.view.Held.{Held}
+use Rattle.slot_words.specs.declared.view.Kind.{Kind}
+use Rattle.slot_words.specs.declared.view.Kind.TheVariants.{Look, Exchange, Store}
 use Rattle.slot_words.specs.declared.view.View.{View}
 use Rattle.slot_words.specs.Places.{word_of}
-use Rattle.slot_words.specs.ClaimRule.{knows, sight_at, blank, held, steps, StandsIn, Stands, ClaimRule}
-use Rattle.slot_words.specs.Steps.{Sat, Looked, Taken, Freed, Differed, both_pairs}
+use Rattle.slot_words.specs.ClaimRule.{sight_at, blank, held, steps, StandsIn, Stands, ClaimRule}
+use Rattle.slot_words.specs.Steps.{after_step, Sat, Looked, Taken, Freed, Differed, both_pairs, pair_part, step_part}
 use Rattle.slot_words.proofs.Lists.{nowhere, alone}
 use Rattle.slot_words.proofs.Timed.{timed_next}
-use Rattle.slot_words.proofs.Carried.{noted, entered, joined}
+use Rattle.slot_words.proofs.Carried.{noted, entered, joined, parted}
 use Rattle.slot_words.proofs.Moves.{claimed, freed}
 
 -- a load makes an empty seat
@@ -28,35 +30,39 @@ sits n slots place s rule homes fits = (blank, entered n s.words s.views rule, r
 pub glues : {S : Type 0} (n id other : ℕ) (v w : View) → Joins (λ (s : State S View). ClaimRule n s.words s.views) id v other w (both_pairs v w) blank
 glues n id other v w s rule here differ there = joined n s.words s.views id other v w rule here differ there
 
+-- a seat is cut in two
+pub parts : {S : Type 0} (n id : ℕ) (v : View) → Splits (λ (s : State S View). ClaimRule n s.words s.views) id v (pair_part v) (step_part v)
+parts n id v s rule here = parted n s.words s.views id v rule here
+
 -- the view of a seat whose step was the last one and left this word there
-abbrev after : List View → View → ℕ → ℕ → List Held → List Held → View
-after vs v place word pairs won = knows (sight_at place word (steps vs + 1)) (v.steps + 1) pairs won
+abbrev after : Kind → List View → View → ℕ → ℕ → List Held → List Held → View
+after kind vs v place word pairs won = after_step v (sight_at kind place word (steps vs + 1)) pairs won
 
 -- a seat's step is after the last one that it made
 newer : (n : ℕ) (ws : List ℕ) (vs : List View) (id : ℕ) (v : View) → ClaimRule n ws vs → get_elem? vs id ≡ some v → v.sight.time < steps vs + 1
 newer n ws vs id v rule here = let h = rule.timed.past id v here in omega arith
 
 -- a step that finds this word, and changes nothing
-sees : (n : ℕ) (ws : List ℕ) (vs : List View) (id place : ℕ) (v : View) → ClaimRule n ws vs → get_elem? vs id ≡ some v
-    → ClaimRule n ws (set vs id (after vs v place (get_or ws place 0) v.pairs v.won))
-sees n ws vs id place v rule here = noted n ws vs id v w rule here refl refl (timed_next ws vs id v w rule.timed.past here refl refl refl)
+sees : (kind : Kind) (n : ℕ) (ws : List ℕ) (vs : List View) (id place : ℕ) (v : View) → ClaimRule n ws vs → get_elem? vs id ≡ some v
+    → ClaimRule n ws (set vs id (after kind vs v place (get_or ws place 0) v.pairs v.won))
+sees kind n ws vs id place v rule here = noted n ws vs id v w rule here refl refl (timed_next ws vs id v w rule.timed.past here refl refl refl)
   where
     w : View
-    w = after vs v place (get_or ws place 0) v.pairs v.won
+    w = after kind vs v place (get_or ws place 0) v.pairs v.won
 
 -- a look
 pub looks : {S : Type 0} (n slots id place : ℕ) (me : Me S View) → me.1 ≡ []
     → Allows (λ (s : State S View). ClaimRule n s.words s.views) slots id me place (λ m. m) (Looked {S = S} (step slots place 0 0 none) me)
 looks {S} n slots id place me away s rule homes here fits = (
-  after s.views me.0 place (get_or s.words place 0) me.0.pairs me.0.won,
+  after Look s.views me.0 place (get_or s.words place 0) me.0.pairs me.0.won,
   keeps,
   tt,
-  rw (set-get_or s.words place 0) (sees n s.words s.views id place me.0 rule here),
+  rw (set-get_or s.words place 0) (sees Look n s.words s.views id place me.0 rule here),
   (
     rule.low place,
     steps s.views + 1,
     newer n s.words s.views id me.0 rule here,
-    λ i. (after s.views me.0 place (get_or s.words place 0) me.0.pairs me.0.won, away i),
+    λ i. (after Look s.views me.0 place (get_or s.words place 0) me.0.pairs me.0.won, away i),
   ),
 )
 
@@ -74,13 +80,13 @@ takes {S} n slots id slot g sought put me inside below seeks puts bare away s ru
     p = held slot (g + 1)
 
     won : View
-    won = after s.views me.0 (word_of slot) put (p ∷ []) (me.0.won ++ p ∷ [])
+    won = after Exchange s.views me.0 (word_of slot) put (p ∷ []) (me.0.won ++ p ∷ [])
 
     lost : View
-    lost = after s.views me.0 (word_of slot) x [] me.0.won
+    lost = after Exchange s.views me.0 (word_of slot) x [] me.0.won
 
     wins : eqb x sought ≡ true → ClaimRule n (set s.words (word_of slot) (2 * (g + 1) + 1)) (set s.views id won)
-    wins e = claimed n s.words s.views id g p me.0 won rule here refl refl refl (ap (λ (m : ℕ). sight_at (word_of slot) m (steps s.views + 1)) puts)
+    wins e = claimed n s.words s.views id g p me.0 won rule here refl refl refl (ap (λ (m : ℕ). sight_at Exchange (word_of slot) m (steps s.views + 1)) puts)
         inside (grind (arith, nat_tests)) refl (omega arith)
 
     go : (b : Bool) → eqb x sought ≡ b → (w : View) × (a : Act S) × Valid s.homes me.1 a
@@ -97,7 +103,7 @@ takes {S} n slots id slot g sought put me inside below seeks puts bare away s ru
       lost,
       keeps,
       tt,
-      rw (e, set-get_or) (subst (λ (l : List Held). ClaimRule n s.words (set s.views id (after s.views me.0 (word_of slot) x l me.0.won))) bare (sees n s.words s.views id (word_of slot) me.0 rule here)),
+      rw (e, set-get_or) (subst (λ (l : List Held). ClaimRule n s.words (set s.views id (after Exchange s.views me.0 (word_of slot) x l me.0.won))) bare (sees Exchange n s.words s.views id (word_of slot) me.0 rule here)),
       rw e (steps s.views + 1, newer n s.words s.views id me.0 rule here, λ i. (lost, away i)),
     )
 
@@ -114,7 +120,7 @@ frees {S} n slots id p me inside has away s rule homes here fits = (
 )
   where
     free : View
-    free = after s.views me.0 (word_of p.slot) (2 * p.generation) [] me.0.won
+    free = after Store s.views me.0 (word_of p.slot) (2 * p.generation) [] me.0.won
 
 -- a seat that has two pairs names two slots
 pub differs : {S : Type 0} (n slots id place : ℕ) (me : Me S View)
@@ -139,6 +145,7 @@ begins n ws all = record {
   once = λ s k t l p q st su e. absurd (without (λ (u : View). u.pairs) refl s k p st);
   won = record {
     begun = λ slot small above. let e = zeros (word_of slot) in absurd (omega arith);
+    counted = λ s k p st. absurd (without (λ (u : View). u.won) refl s k p st);
     reached = λ s k p st. absurd (without (λ (u : View). u.won) refl s k p st);
     single = λ s k t l p q st su e d. absurd (without (λ (u : View). u.won) refl s k p st);
   };

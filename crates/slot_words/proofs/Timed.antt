@@ -1,7 +1,7 @@
 -- The order of steps, after one more, after a seat came, and after two seats became one.
-use Rattle.std.proofs.Common.{◌≡◌, ℕ, zero, suc, ◌+◌, ◌<◌, ◌≤◌, ◌≢◌, ◌⊎◌, List, [], ◌∷◌, ◌++◌, set, get_or, Bool, true, false, nat_lt, sym, refl, ap, ◌∙◌, inl, inr, ⊎_elim, subst, arith}
+use Rattle.std.proofs.Common.{◌≡◌, ℕ, zero, suc, ◌+◌, ◌<◌, ◌≤◌, ◌≢◌, ◌⊎◌, List, [], ◌∷◌, ◌++◌, length, length-append, set, get_or, Bool, true, false, nat_lt, sym, refl, ap, ◌∙◌, inl, inr, ⊎_elim, subst, arith}
 use Rattle.std.proofs.lemmas.Bool.Decides.{nat_tests}
-use Rattle.atomic_table.proofs.Lists.{at_set, set_here, set_else, at_longer, at_snoc}
+use Rattle.atomic_table.proofs.Lists.{at_set, set_here, set_else, at_longer, at_snoc, at_last}
 use mathlib.Core.Option.{some, some-injective, some-ne-none}
 use mathlib.Core.Logic.{dite}
 use native.Mathlib.Decide.{ℕ_discrete}
@@ -10,18 +10,19 @@ use Rattle.slot_words.specs.declared.view.Sight.{Sight}
 use Rattle.slot_words.specs.declared.view.View.{View}
 use Rattle.slot_words.specs.ClaimRule.{steps, blank, IsTimed}
 use Rattle.slot_words.specs.Sight.{later}
+use Rattle.slot_words.specs.Steps.{pair_part, step_part}
 use Rattle.slot_words.proofs.Lists.{at_inside}
 
 -- one view changes
-steps_set : (vs : List View) (id : ℕ) (v w : View) → get_elem? vs id ≡ some v → steps (set vs id w) + v.steps ≡ steps vs + w.steps
+steps_set : (vs : List View) (id : ℕ) (v w : View) → get_elem? vs id ≡ some v → steps (set vs id w) + length v.steps ≡ steps vs + length w.steps
 steps_set [] id v w e = absurd (some-ne-none v (sym e))
-steps_set (x ∷ xs) zero v w e = let is : x.steps ≡ v.steps = ap (λ (y : View). y.steps) (some-injective x v e) in omega arith
-steps_set (x ∷ xs) (suc id) v w e = let h : steps (set xs id w) + v.steps ≡ steps xs + w.steps = steps_set xs id v w e in omega arith
+steps_set (x ∷ xs) zero v w e = let is : length x.steps ≡ length v.steps = ap (λ (y : View). length y.steps) (some-injective x v e) in omega arith
+steps_set (x ∷ xs) (suc id) v w e = let h : steps (set xs id w) + length v.steps ≡ steps xs + length w.steps = steps_set xs id v w e in omega arith
 
 -- one view comes
-steps_push : (vs : List View) (w : View) → steps (vs ++ w ∷ []) ≡ steps vs + w.steps
+steps_push : (vs : List View) (w : View) → steps (vs ++ w ∷ []) ≡ steps vs + length w.steps
 steps_push [] w = omega arith
-steps_push (x ∷ xs) w = let h : steps (xs ++ w ∷ []) ≡ steps xs + w.steps = steps_push xs w in omega arith
+steps_push (x ∷ xs) w = let h : steps (xs ++ w ∷ []) ≡ steps xs + length w.steps = steps_push xs w in omega arith
 
 -- no seat's last step is after the last one
 abbrev pub ArePast : List View → Type 0
@@ -32,7 +33,7 @@ abbrev Exact : List ℕ → ℕ → Sight → Type 0
 Exact ws count s = 0 < s.time → s.time ≡ count → s.word ≡ get_or ws s.place 0
 
 -- a seat makes a step, and knows what stands there then
-pub timed_next : (ws : List ℕ) (vs : List View) (id : ℕ) (v w : View) → ArePast vs → get_elem? vs id ≡ some v → w.steps ≡ v.steps + 1
+pub timed_next : (ws : List ℕ) (vs : List View) (id : ℕ) (v w : View) → ArePast vs → get_elem? vs id ≡ some v → w.steps ≡ v.steps ++ w.sight ∷ []
     → w.sight.time ≡ steps vs + 1 → w.sight.word ≡ get_or ws w.sight.place 0 → IsTimed ws (set vs id w)
 timed_next ws vs id v w past here more now is = record {
   past = λ s x at. ⊎_elim
@@ -47,7 +48,7 @@ timed_next ws vs id v w past here more now is = record {
 }
   where
     sum : steps (set vs id w) ≡ steps vs + 1
-    sum = let all = steps_set vs id v w here in omega arith
+    sum = let all = steps_set vs id v w here in let count : length w.steps ≡ length v.steps + 1 = ap (λ (l : List Sight). length l) more ∙ length-append v.steps (w.sight ∷ []) in omega arith
 
 -- a seat comes
 pub timed_more : (ws : List ℕ) (vs : List View) → IsTimed ws vs → IsTimed ws (vs ++ blank ∷ [])
@@ -66,6 +67,39 @@ timed_more ws vs so = record {
     sum : steps (vs ++ blank ∷ []) ≡ steps vs
     sum = let all = steps_push vs blank in omega arith
 
+-- a seat is cut in two, and the new one remembers the steps
+pub timed_parts : (ws : List ℕ) (vs : List View) (id : ℕ) (v : View) → IsTimed ws vs → get_elem? vs id ≡ some v → IsTimed ws (set vs id (pair_part v) ++ step_part v ∷ [])
+timed_parts ws vs id v so here = record {
+  past = λ s x at. ⊎_elim
+      (λ (old : get_elem? left s ≡ some x). ⊎_elim
+      (λ (h : (s ≡ id) × (pair_part v ≡ x)). subst (λ (y : View). y.sight.time ≤ steps new) h.1 (omega arith))
+      (λ (h : (s ≢ id) × (get_elem? vs s ≡ some x)). let p = so.past s x h.1 in let all = sum in omega arith)
+      (at_set vs id s (pair_part v) x old))
+      (λ (last : step_part v ≡ x). subst (λ (y : View). y.sight.time ≤ steps new) last (let p = so.past id v here in let all = sum in omega arith))
+      (at_snoc left (step_part v) x s at);
+  latest = let l = so.latest in dite (ℕ_discrete l.0 id)
+      (λ (e : l.0 ≡ id).
+      let same : l.1.sight.time ≡ v.sight.time = ap (λ (y : View). y.sight.time) (some-injective l.1 v (sym l.2 ∙ ap (get_elem? vs) e ∙ here)) in
+      let time = l.3 in let all = sum in (length left, step_part v, at_last left (step_part v) (length left) refl, omega arith))
+      (λ (ne : l.0 ≢ id). (l.0, l.1, at_longer left (step_part v ∷ []) l.0 l.1 (set_else vs id l.0 (pair_part v) ne ∙ l.2), l.3 ∙ sym sum));
+  exact = λ s x at. ⊎_elim
+      (λ (old : get_elem? left s ≡ some x). ⊎_elim
+      (λ (h : (s ≡ id) × (pair_part v ≡ x)). subst (λ (y : View). Exact ws (steps new) y.sight) h.1 (λ above same. absurd (omega arith)))
+      (λ (h : (s ≢ id) × (get_elem? vs s ≡ some x)). λ above same. so.exact s x h.1 above (same ∙ sum))
+      (at_set vs id s (pair_part v) x old))
+      (λ (last : step_part v ≡ x). subst (λ (y : View). Exact ws (steps new) y.sight) last (λ above same. so.exact id v here above (same ∙ sum)))
+      (at_snoc left (step_part v) x s at);
+}
+  where
+    left : List View
+    left = set vs id (pair_part v)
+
+    new : List View
+    new = left ++ step_part v ∷ []
+
+    sum : steps new ≡ steps vs
+    sum = let one = steps_set vs id v (pair_part v) here in let two = steps_push left (step_part v) in omega arith
+
 -- the later of two is one of them
 later_is : (s t : Sight) → ((later s t ≡ s) × (t.time ≤ s.time)) ⊎ ((later s t ≡ t) × (s.time < t.time))
 later_is s t = go (nat_lt s.time t.time) refl
@@ -76,7 +110,7 @@ later_is s t = go (nat_lt s.time t.time) refl
 
 -- two seats become one
 pub timed_both : (ws : List ℕ) (vs : List View) (id other : ℕ) (v w both : View) → IsTimed ws vs → get_elem? vs id ≡ some v → other ≢ id
-    → get_elem? (set vs id both) other ≡ some w → both.sight ≡ later v.sight w.sight → both.steps ≡ v.steps + w.steps
+    → get_elem? (set vs id both) other ≡ some w → both.sight ≡ later v.sight w.sight → both.steps ≡ v.steps ++ w.steps
     → IsTimed ws (set (set vs id both) other blank)
 timed_both ws vs id other v w both so here differ there last count = record {
   past = λ s x at. ⊎_elim
@@ -119,7 +153,7 @@ timed_both ws vs id other v w both so here differ there last count = record {
     now = set_else (set vs id both) other id blank (λ e. differ (sym e)) ∙ set_here vs id both (at_inside vs id v here)
 
     sum : steps new ≡ steps vs
-    sum = let one = steps_set vs id v both here in let two = steps_set (set vs id both) other w blank there in omega arith
+    sum = let sizes : length both.steps ≡ length v.steps + length w.steps = ap (λ (l : List Sight). length l) count ∙ length-append v.steps w.steps in let one = steps_set vs id v both here in let two = steps_set (set vs id both) other w blank there in omega arith
 
     bounds : (v.sight.time ≤ newest) × (w.sight.time ≤ newest) × (newest ≤ steps vs)
     bounds = let p = so.past id v here in let q = so.past other w was_there in ⊎_elim

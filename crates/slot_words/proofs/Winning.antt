@@ -14,14 +14,16 @@ use Rattle.slot_words.proofs.Views.{stands_set, still_stands}
 
 -- no generation changes, and each pair of the new views stands in the old ones, by a relation that is one to one, and none is lost
 pub won_moved : (T : ℕ → ℕ → ℕ → ℕ → Type 0) (n : ℕ) (ws us : List ℕ) (vs xs : List View) → IsWon n ws vs → ((slot : ℕ) → generation_at us slot ≡ generation_at ws slot)
+    → ((slot : ℕ) → 0 < get_or us (word_of slot) 0 → 0 < get_or ws (word_of slot) 0)
     → ((s k : ℕ) (p : Held) → Won xs s k p → (a : ℕ) × (b : ℕ) × T s k a b × Won vs a b p)
     → ((s k t l a b : ℕ) → T s k a b → T t l a b → (s ≡ t) × (k ≡ l))
     → ((s k : ℕ) (p : Held) → Won vs s k p → (a : ℕ) × (b : ℕ) × Won xs a b p) → IsWon n us xs
-won_moved T n ws us vs xs won same from single to = record {
+won_moved T n ws us vs xs won same rose from single to = record {
   begun = λ slot small above.
-      let t = won.begun slot small (subst (λ (g : ℕ). 0 < g) (same slot) above) in
+      let t = won.begun slot small (rose slot above) in
       let st = to t.0 t.1 (held slot (generation_at ws slot)) t.2 in
       (st.0, st.1, subst (λ (g : ℕ). Won xs st.0 st.1 (held slot g)) (sym (same slot)) st.2);
+  counted = λ s k p st. let f = from s k p st in won.counted f.0 f.1 p f.3;
   reached = λ s k p st. let f = from s k p st in subst (λ (g : ℕ). p.generation ≤ g) (sym (same p.slot)) (won.reached f.0 f.1 p f.3);
   single = λ s k t l p q st su e d.
       let f = from s k p st in
@@ -32,8 +34,9 @@ won_moved T n ws us vs xs won same from single to = record {
 
 -- no generation changes, and each pair stands where it stood
 pub won_still : (n : ℕ) (ws us : List ℕ) (vs xs : List View) → IsWon n ws vs → ((slot : ℕ) → generation_at us slot ≡ generation_at ws slot)
+    → ((slot : ℕ) → 0 < get_or us (word_of slot) 0 → 0 < get_or ws (word_of slot) 0)
     → ((s k : ℕ) (p : Held) → Won xs s k p → Won vs s k p) → ((s k : ℕ) (p : Held) → Won vs s k p → Won xs s k p) → IsWon n us xs
-won_still n ws us vs xs won same from to = won_moved (λ s k a b. (s ≡ a) × (k ≡ b)) n ws us vs xs won same
+won_still n ws us vs xs won same rose from to = won_moved (λ s k a b. (s ≡ a) × (k ≡ b)) n ws us vs xs won same rose
     (λ s k p st. (s, k, (refl, refl), from s k p st))
     (λ s k t l a b i j. (i.0 ∙ sym j.0, i.1 ∙ sym j.1))
     (λ s k p st. (s, k, to s k p st))
@@ -54,12 +57,16 @@ won_next n ws vs id p v w won here is inside next = record {
         ),
       ))
       (λ (ne : slot ≢ p.slot).
-      let t = won.begun slot small (subst (λ (g : ℕ). 0 < g) (elsewhere slot ne) above) in (
+      let t = won.begun slot small (subst (λ (x : ℕ). 0 < x) (stays slot ne) above) in (
         t.0,
         t.1,
         still_stands (λ (u : View). u.won) vs id v w (p ∷ []) here is t.0 t.1 (held slot (generation_at us slot))
             (subst (λ (g : ℕ). Won vs t.0 t.1 (held slot g)) (sym (elsewhere slot ne)) t.2),
       ));
+  counted = λ s k q st. ⊎_elim
+      (λ (old : Won vs s k q). won.counted s k q old)
+      (λ (new : (s ≡ id) × (k ≡ length v.won) × (p ≡ q)). subst (λ (r : Held). 0 < r.generation) new.2 (omega arith))
+      (cases s k q st);
   reached = λ s k q st. ⊎_elim
       (λ (old : Won vs s k q). let low = won.reached s k q old in let up = rises q.slot in omega arith)
       (λ (new : (s ≡ id) × (k ≡ length v.won) × (p ≡ q)). subst (λ (r : Held). r.generation ≤ generation_at us r.slot) new.2 (let e = reads in omega arith))
@@ -88,8 +95,11 @@ won_next n ws vs id p v w won here is inside next = record {
     reads : generation_at us p.slot ≡ p.generation
     reads = let put : get_or us (word_of p.slot) 0 ≡ 2 * p.generation + 1 = get_or-set_same ws (word_of p.slot) (2 * p.generation + 1) 0 inside in omega arith
 
+    stays : (slot : ℕ) → slot ≢ p.slot → get_or us (word_of slot) 0 ≡ get_or ws (word_of slot) 0
+    stays slot ne = get_or-set_other ws (word_of p.slot) (word_of slot) (2 * p.generation + 1) 0 (λ e. ne (omega arith))
+
     elsewhere : (slot : ℕ) → slot ≢ p.slot → generation_at us slot ≡ generation_at ws slot
-    elsewhere slot ne = ap (λ (x : ℕ). x / 2) (get_or-set_other ws (word_of p.slot) (word_of slot) (2 * p.generation + 1) 0 (λ e. ne (omega arith)))
+    elsewhere slot ne = ap (λ (x : ℕ). x / 2) (stays slot ne)
 
     rises : (slot : ℕ) → generation_at ws slot ≤ generation_at us slot
     rises slot = dite (ℕ_discrete slot p.slot)

@@ -3,6 +3,8 @@ use Rattle.std.specs.Prelude.{◌≡◌, ℕ, ◌+◌, ◌*◌, ◌/◌, ◌^◌
 use mathlib.Core.Option.{some}
 use lib.ListN.{get_elem?}
 use Rattle.slot_words.specs.declared.view.Held.{Held}
+use Rattle.slot_words.specs.declared.view.Kind.{Kind}
+use Rattle.slot_words.specs.declared.view.Kind.TheVariants.{Look}
 use Rattle.slot_words.specs.declared.view.Sight.{Sight}
 use Rattle.slot_words.specs.declared.view.View.{View}
 use Rattle.slot_words.specs.Places.{word_of}
@@ -11,22 +13,26 @@ use Rattle.slot_words.specs.Places.{word_of}
 abbrev pub held : ℕ → ℕ → Held
 held slot generation = record { slot = slot; generation = generation }
 
--- right after the table's step number `time` this number stood at this place
-abbrev pub sight_at : ℕ → ℕ → ℕ → Sight
-sight_at place word time = record { place = place; word = word; time = time }
+-- the table's step number `time` did this at this place, and right after it this number stood there
+abbrev pub sight_at : Kind → ℕ → ℕ → ℕ → Sight
+sight_at kind place word time = record { kind = kind; place = place; word = word; time = time }
 
--- the view of a seat whose last step was this, that made so many, and that has and won these pairs
-abbrev pub knows : Sight → ℕ → List Held → List Held → View
+-- before any step
+abbrev pub no_sight : Sight
+no_sight = sight_at Look 0 0 0
+
+-- the view of a seat whose last step was this, that made these, and that has and won these pairs
+abbrev pub knows : Sight → List Sight → List Held → List Held → View
 knows sight steps pairs won = record { sight = sight; steps = steps; pairs = pairs; won = won }
 
 -- the view of a seat that made no step
 abbrev pub blank : View
-blank = knows (sight_at 0 0 0) 0 [] []
+blank = knows no_sight [] [] []
 
 -- how many steps all seats made
 abbrev pub steps : List View → ℕ
 steps [] = 0
-steps (v ∷ vs) = v.steps + steps vs
+steps (v ∷ vs) = length v.steps + steps vs
 
 -- the pair p stands in this list of this seat's view, at this place
 abbrev pub StandsIn : (View → List Held) → List View → ℕ → ℕ → Held → Type 0
@@ -44,9 +50,11 @@ Won views seat place p = StandsIn (λ v. v.won) views seat place p
 abbrev pub generation_at : List ℕ → ℕ → ℕ
 generation_at words slot = slice_index words (word_of slot) / 2
 
--- No pair was won twice. A slot's generation, where it isn't 0, was won by some seat, and none above it.
+-- Every pair won has a generation above 0, and none was won twice. Where a slot's word isn't 0 its generation was won by
+-- some seat, and none above it.
 pub record IsWon (slots : ℕ) (words : List ℕ) (views : List View) : Type 0 where
-  pub begun : (slot : ℕ) → slot < slots → 0 < generation_at words slot → (seat : ℕ) × (place : ℕ) × Won views seat place (held slot (generation_at words slot))
+  pub begun : (slot : ℕ) → slot < slots → 0 < slice_index words (word_of slot) → (seat : ℕ) × (place : ℕ) × Won views seat place (held slot (generation_at words slot))
+  pub counted : (seat place : ℕ) (p : Held) → Won views seat place p → 0 < p.generation
   pub reached : (seat place : ℕ) (p : Held) → Won views seat place p → p.generation ≤ generation_at words p.slot
   pub single : (seat place other spot : ℕ) (p q : Held) → Won views seat place p → Won views other spot q → p.slot ≡ q.slot → p.generation ≡ q.generation → (seat ≡ other) × (place ≡ spot)
 

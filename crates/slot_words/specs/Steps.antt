@@ -1,11 +1,17 @@
 -- What each kind of atomic step tells: of the step, the seat before, the number found (or stored), and the seat after.
-use Rattle.std.specs.Prelude.{◌≡◌, ◌≢◌, ℕ, ◌+◌, ◌*◌, ◌^◌, ◌<◌, ◌≤◌, ◌==◌, [], ◌∷◌, ◌++◌, MatchBool}
+use Rattle.std.specs.Prelude.{◌≡◌, ◌≢◌, ℕ, ◌+◌, ◌*◌, ◌^◌, ◌<◌, ◌≤◌, ◌==◌, List, [], ◌∷◌, ◌++◌, MatchBool}
 use Rattle.atomic_table.specs.Table.{Me, Step}
 use Rattle.slot_words.specs.declared.view.Held.{Held}
+use Rattle.slot_words.specs.declared.view.Kind.TheVariants.{Look, Exchange, Store}
+use Rattle.slot_words.specs.declared.view.Sight.{Sight}
 use Rattle.slot_words.specs.declared.view.View.{View}
 use Rattle.slot_words.specs.Places.{word_of}
-use Rattle.slot_words.specs.ClaimRule.{knows, sight_at, blank}
+use Rattle.slot_words.specs.ClaimRule.{knows, sight_at, no_sight, blank}
 use Rattle.slot_words.specs.Sight.{later}
+
+-- the view of a seat that made this step, and now has and won these pairs
+abbrev pub after_step : View → Sight → List Held → List Held → View
+after_step v s pairs won = knows s (v.steps ++ s ∷ []) pairs won
 
 -- a load made a seat that knows nothing
 abbrev pub Sat : {S : Type 0} → Step S → Me S View → ℕ → Me S View → Type 0
@@ -14,20 +20,20 @@ Sat s before found after = after ≡ (blank, [])
 -- a look: the seat knows what was found
 abbrev pub Looked : {S : Type 0} → Step S → Me S View → ℕ → Me S View → Type 0
 Looked s before found after = (found ≤ 2 ^ 63 + 1) × (time : ℕ) × (before.0.sight.time < time)
-    × (after ≡ (knows (sight_at s.word found time) (before.0.steps + 1) before.0.pairs before.0.won, []))
+    × (after ≡ (after_step before.0 (sight_at Look s.word found time) before.0.pairs before.0.won, []))
 
 -- The exchange of a claim: where it found what it sought the seat has the pair of the word's slot and of the
 -- generation put there, and won it; else it has no pair, and knows what was found.
 abbrev pub Taken : {S : Type 0} → Step S → Me S View → ℕ → Me S View → Type 0
 Taken s before found after = MatchBool (found == s.first)
     ((p : Held) × (word_of p.slot ≡ s.word) × (2 * p.generation + 1 ≡ s.second) × (time : ℕ) × (before.0.sight.time < time)
-    × (after ≡ (knows (sight_at s.word s.second time) (before.0.steps + 1) (p ∷ []) (before.0.won ++ p ∷ []), [])))
-    ((time : ℕ) × (before.0.sight.time < time) × (after ≡ (knows (sight_at s.word found time) (before.0.steps + 1) [] before.0.won, [])))
+    × (after ≡ (after_step before.0 (sight_at Exchange s.word s.second time) (p ∷ []) (before.0.won ++ p ∷ []), [])))
+    ((time : ℕ) × (before.0.sight.time < time) × (after ≡ (after_step before.0 (sight_at Exchange s.word found time) [] before.0.won, [])))
 
 -- the store of a release: the seat has no pair, and knows what was stored
 abbrev pub Freed : {S : Type 0} → Step S → Me S View → ℕ → Me S View → Type 0
 Freed s before stored after = (time : ℕ) × (before.0.sight.time < time)
-    × (after ≡ (knows (sight_at s.word stored time) (before.0.steps + 1) [] before.0.won, []))
+    × (after ≡ (after_step before.0 (sight_at Store s.word stored time) [] before.0.won, []))
 
 -- a load by a seat of two pairs, which name different slots
 abbrev pub Differed : {S : Type 0} → Step S → Me S View → ℕ → Me S View → Type 0
@@ -35,4 +41,11 @@ Differed s before found after = (p q : Held) → before.0.pairs ≡ p ∷ q ∷ 
 
 -- a seat that takes in another has the pairs of both, and of their last steps the later one
 abbrev pub both_pairs : View → View → View
-both_pairs v w = knows (later v.sight w.sight) (v.steps + w.steps) (v.pairs ++ w.pairs) (v.won ++ w.won)
+both_pairs v w = knows (later v.sight w.sight) (v.steps ++ w.steps) (v.pairs ++ w.pairs) (v.won ++ w.won)
+
+-- a seat is cut in two: one part has the pairs, and won them, and the other remembers the steps
+abbrev pub pair_part : View → View
+pair_part v = knows no_sight [] v.pairs v.won
+
+abbrev pub step_part : View → View
+step_part v = knows v.sight v.steps [] []

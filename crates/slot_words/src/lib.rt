@@ -12,5 +12,5 @@ mod words;
 pub use claim::{Claim, ClaimRefusal, NoneFree};
 pub use naming::Naming;
 pub use pass::Pass;
-pub use view::{Held, Sight, View};
+pub use view::{Held, Kind, Sight, View};
 pub use words::{SlotWords, TableRefusal, Unnamed};

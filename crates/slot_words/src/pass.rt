@@ -6,7 +6,7 @@ use crate::rule::Sitting;
 use std::marker::{Model, PhantomData};
 
 /// Lets its holder step on the words of the table N. It has no bytes. A contract sees its last look and its last exchange
-/// or store, how many there were, and what was won.
+/// or store, all that there were, and what was won.
 #[derive(Drop)]
 pub struct Pass<N: Naming> {
     // The exchanges are this seat's.

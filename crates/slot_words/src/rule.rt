@@ -1,9 +1,9 @@
 // The rule of the table, and what each kind of step tells.
 ghost use Rattle.slot_words.specs.ClaimRule.{blank, ClaimRule};
-ghost use Rattle.slot_words.specs.Steps.{Sat, Looked, Taken, Freed, Differed, both_pairs};
+ghost use Rattle.slot_words.specs.Steps.{Sat, Looked, Taken, Freed, Differed, both_pairs, pair_part, step_part};
 
 use crate::view::View;
-use atomic_table::{Join, Play, Seat, Table, TableRule};
+use atomic_table::{Join, Play, Seat, Split, Table, TableRule};
 use std::alloc::Global;
 
 /// A table of words that has no place for values, under the rule of claims.
@@ -63,4 +63,13 @@ impl Join<View> for Both {
     ghost both = { both_pairs };
 
     ghost spent = { blank };
+}
+
+/// One seat cut in two, of which the claim gets the first.
+pub struct Parts;
+
+impl Split<View> for Parts {
+    ghost left = { pair_part };
+
+    ghost right = { step_part };
 }

@@ -8,19 +8,28 @@ pub struct Held {
     pub generation: u64,
 }
 
-/// The place of the word that a step was on, what stood there right after it, and how many steps the table had had by
+/// What a step did at its word: a load, a compare-exchange or a store.
+#[derive(Clone, Copy)]
+pub enum Kind {
+    Look,
+    Exchange,
+    Store,
+}
+
+/// What a step did, the place of its word, what stood there right after it, and how many steps the table had had by
 /// then, this one counted.
 #[derive(Clone, Copy)]
 pub struct Sight {
+    pub kind: Kind,
     pub place: u64,
     pub word: u64,
     pub time: u64,
 }
 
-/// The seat's last step, how many it made, the pairs that it has, and those that it ever won.
+/// The seat's last step, all that it made, the pairs that it has, and those that it ever won.
 pub struct View {
     pub sight: Sight,
-    pub steps: u64,
+    pub steps: LinkedList<Sight>,
     pub pairs: LinkedList<Held>,
     pub won: LinkedList<Held>,
 }

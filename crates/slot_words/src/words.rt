@@ -1,14 +1,15 @@
 // The table of words, and the steps on it.
-ghost use Rattle.std.specs.Prelude.{◌≡◌, ◌≢◌, ◌↔◌, ℕ, ◌+◌, ◌-◌, ◌*◌, ◌/◌, ◌%◌, ◌^◌, ◌<◌, ◌≤◌, [], ◌∷◌, length, slice_index, All, Contains, IfOk, IfErr, IfSome, None, OnErr};
+ghost use Rattle.std.specs.Prelude.{◌≡◌, ◌≢◌, ◌↔◌, ℕ, ◌+◌, ◌*◌, ◌/◌, ◌%◌, ◌^◌, ◌<◌, ◌≤◌, [], ◌∷◌, length, All, Contains, IfOk, IfErr, None};
 ghost use Rattle.slot_words.specs.Places.{word_of, slots_of};
 ghost use Rattle.slot_words.specs.Sight.{HasStepped, no_sights, both_sights};
-ghost use Rattle.slot_words.specs.Refused.{HasLooked, IsRefused, WasRefused, IsMissed};
+ghost use Rattle.slot_words.specs.Refused.{HasLooked, IsClaimed, IsRefused, WereRefused, IsFirst, IsMissed};
+ghost use Rattle.slot_words.specs.declared.view.Kind.TheVariants.{Exchange, Store};
 ghost use Rattle.slot_words.specs.Idle.{IsIdle};
 
 use crate::claim::{Claim, ClaimRefusal, NoneFree};
 use crate::naming::Naming;
 use crate::pass::Pass;
-use crate::rule::{Differs, Frees, Looks, Sitting, Takes, Words};
+use crate::rule::{Differs, Frees, Looks, Parts, Sitting, Takes, Words};
 use crate::steps::{merge, sit};
 use atomic_table::Table;
 use std::alloc::Global;
@@ -126,9 +127,10 @@ impl<N: Naming> SlotWords<N> {
     /// Looks once, and where the slot is free tries one exchange to the next generation, held.
     pub fn claim(&self, pass: &mut Pass<N>, slot: u16) -> Result<Claim<N>, ClaimRefusal>
         requires { slot < slots_of N.table }
-        // one look more, at this slot's word; the claim has the generation after it
+        // one look more, at this slot's word
         ensures looked { HasLooked slot pass.old pass.new }
-        ensures ok { IfOk result (λ c. (c.slot ≡ slot) × (2 * c.generation ≡ pass.new.looked.word + 2)) }
+        // the claim has the generation after it, and one exchange more won it
+        ensures ok { IfOk result (IsClaimed slot pass.old pass.new) }
         // the look is why, or one exchange more
         ensures err { IfErr result (IsRefused slot pass.old pass.new) }
     {
@@ -145,15 +147,15 @@ impl<N: Naming> SlotWords<N> {
         self.exchange(&mut pass.seat, slot, seen)
     }
 
-    // Where the exchange wins the claim gets the seat, and another stands in its place.
+    // Where the exchange wins the claim gets the seat, and another that remembers its steps stands in its place.
     fn exchange(&self, seat: &mut Sitting, slot: u16, seen: u64) -> Result<Claim<N>, ClaimRefusal>
         requires slot { slot < slots_of N.table }
         requires free { seen % 2 ≡ 0 }
         requires lasting { seen < 2 ^ 63 }
         requires seat { IsIdle N.table seat.old }
-        ensures ok { IfOk result (λ c. (c.slot ≡ slot) × (2 * c.generation ≡ seen + 2)) }
+        ensures ok { IfOk result (λ c. (c.slot ≡ slot) × (2 * c.generation ≡ seen + 2) × (seat.new.me.0.sight.word ≡ 2 * c.generation + 1)) }
         ensures err { IfErr result (IsMissed seen seat.new.me.0.sight) }
-        ensures tried { OnErr result (HasStepped slot seat.old.me.0 seat.new.me.0) }
+        ensures tried { HasStepped Exchange slot seat.old.me.0 seat.new.me.0 }
         ensures idle { IsIdle N.table seat.new }
     {
         let generation = seen / 2 + 1;
@@ -163,7 +165,8 @@ impl<N: Naming> SlotWords<N> {
             .shared
             .compare_exchange::<Takes>(seat, place_of(slot), seen, held);
         if found == seen {
-            let seat = mem::replace(seat, sit(&self.table));
+            let rest = self.table.shared.split_seat::<Parts>(seat);
+            let seat = mem::replace(seat, rest);
             Ok(Claim {
                 slot,
                 generation,
@@ -180,11 +183,11 @@ impl<N: Naming> SlotWords<N> {
     /// Tries each listed slot once, in order, and gives the first claim.
     pub fn claim_first(&self, pass: &mut Pass<N>, slots: &[u16]) -> Result<Claim<N>, NoneFree>
         requires { All (λ s. s < slots_of N.table) slots.now }
-        ensures ok { IfOk result (λ c. Contains slots.now c.slot) }
+        // those before the claimed one were tried and refused, one after another
+        ensures ok { IfOk result (IsFirst slots.now pass.old pass.new) }
+        // all were, and the last refusal is answered
+        ensures err { IfErr result (λ e. WereRefused slots.now (length slots.now) pass.old pass.new e.0) }
         ensures empty { IfErr result (λ e. e.0 ≡ None ↔ slots.now ≡ []) }
-        // the refusal is of the last slot listed
-        ensures last { IfErr result (λ e. IfSome e.0 (WasRefused (slice_index slots.now (length slots.now - 1)) pass.new)) }
-        ensures looks { OnErr result (pass.new.looks ≡ pass.old.looks + length slots.now) }
     {
         let mut last = None;
         for slot in slots {
@@ -198,7 +201,7 @@ impl<N: Naming> SlotWords<N> {
 
     /// Frees the slot at the claim's generation, by one store. It always succeeds.
     pub fn release(&self, pass: &mut Pass<N>, claim: Claim<N>)
-        ensures stored { (pass.new.stepped.place ≡ word_of claim.slot) × (pass.new.stepped.word ≡ 2 * claim.generation) }
+        ensures stored { (pass.new.stepped.kind ≡ Store) × (pass.new.stepped.place ≡ word_of claim.slot) × (pass.new.stepped.word ≡ 2 * claim.generation) }
         ensures won { Contains pass.new.won claim }
         ensures same { (pass.new.looked ≡ pass.old.looked) × (pass.new.looks ≡ pass.old.looks) }
     {
