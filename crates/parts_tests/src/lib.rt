@@ -4,4 +4,6 @@
 #[cfg(test)]
 mod rig;
 #[cfg(test)]
+mod scans;
+#[cfg(test)]
 mod stories;

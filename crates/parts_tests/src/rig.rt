@@ -10,8 +10,10 @@ ghost use Rattle.array_parts.specs.Slots.{IsSlot};
 
 use array_parts::{Parts, Units};
 use extent_groups::{Class, GroupTable, Member, SLOTS, are_there, put_check};
-use extents::{Drive, ExtentTable, MemDrive, Shape};
+use extents::{Drive, ExtentTable, Header, MemDrive, Shape};
 use flat_machine::Refusal;
+use header_scan::{ScanFault, scan, scan_groups};
+use map_join::{BlockMap, Record};
 use std::alloc::{AllocError, Global};
 use std::process::Abort;
 
@@ -104,6 +106,53 @@ impl Rig {
         assert!(rt; self.is_ready());
         assert!(rt; is_slot(&self.parts.groups, slot));
         self.parts.write(slot, &self.unit, &mut self.scratch)
+    }
+
+    /// Puts a payload of one byte throughout under a blank header in a slot.
+    pub(crate) fn put(&mut self, rt: &impl Abort, slot: u16, byte: u8) -> Result<(), Refusal> {
+        assert!(rt; self.is_ready());
+        assert!(rt; is_slot(&self.parts.groups, slot));
+        assert!(rt; self.parts.groups.shape().payload == 8);
+        let payload = [byte; 8];
+        self.parts
+            .put(slot, &payload, &mut self.unit, &mut self.scratch)
+    }
+
+    /// Writes what a slot holds into a slot, under a record's header.
+    pub(crate) fn carry(
+        &mut self,
+        rt: &impl Abort,
+        from: u16,
+        to: u16,
+        record: Record,
+    ) -> Result<(), Refusal> {
+        assert!(rt; self.is_ready());
+        assert!(rt; is_slot(&self.parts.groups, from));
+        assert!(rt; is_slot(&self.parts.groups, to));
+        assert!(rt; record.version > 0);
+        let header = Header::Is(record);
+        self.parts
+            .carry(from, to, &header, &mut self.unit, &mut self.scratch)
+    }
+
+    /// The map of the headers of all groups.
+    pub(crate) fn scan(&mut self, rt: &impl Abort, alloc: Global) -> Result<BlockMap, ScanFault> {
+        assert!(rt; self.is_ready());
+        scan(alloc, &mut self.parts)
+    }
+
+    /// The map of the headers of a range of groups.
+    pub(crate) fn scan_groups(
+        &mut self,
+        rt: &impl Abort,
+        alloc: Global,
+        first: u16,
+        end: u16,
+    ) -> Result<BlockMap, ScanFault> {
+        assert!(rt; self.is_ready());
+        assert!(rt; first <= end);
+        assert!(rt; end <= 512);
+        scan_groups(alloc, &mut self.parts, first, end)
     }
 
     /// Makes a group of an extent of this number on each of three drives in turn.
