@@ -5,3 +5,4 @@ pub mod Cases
 pub mod Numbers
 pub mod History
 pub mod Scanned
+pub mod Learning

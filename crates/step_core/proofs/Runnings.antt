@@ -10,8 +10,8 @@ use Rattle.flat_machine.specs.Steps.{FlatStep, FlatAnswer}
 use Rattle.flat_machine.specs.Cases.{Case, Runs}
 use Rattle.flat_machine.specs.Flat.{Flat}
 use Rattle.flat_machine.proofs.Newest.{map_unique}
-use Rattle.step_core.specs.Views.{ArrayView, WorldView, SameSizes, key_at}
-use Rattle.step_core.specs.Represents.{Represents}
+use Rattle.array_model.specs.Views.{ArrayView, WorldView, SameSizes, key_at}
+use Rattle.array_model.specs.Represents.{Represents}
 use Rattle.step_core.specs.Headline.{Stands}
 
 -- a run that goes one step further

@@ -14,14 +14,14 @@ use Rattle.flat_machine.specs.Cases.{FillCase, CopyCase, ticketed, CommitCase, C
 use Rattle.flat_machine.proofs.Newest.{newest_unique, place_small}
 use Rattle.flat_machine.proofs.Pairs.{turned_else, turned_just, just_one, Any}
 use Rattle.flat_machine.proofs.Passing.{Passes, passed, passed_on}
-use Rattle.step_core.specs.declared.hand.Hand.{Hand}
-use Rattle.step_core.specs.declared.hand.Hand.TheVariants.{Empty, Holds, Waits}
-use Rattle.step_core.specs.Changes.{passed_hands}
-use Rattle.step_core.specs.Views.{ArrayView, WorldView, hand_at, key_at}
-use Rattle.step_core.specs.Represents.{HandSlot, ShowsArray, Represents, is_claim, is_ticket}
-use Rattle.step_core.proofs.Newest.{newest_told}
-use Rattle.step_core.proofs.Hands.{one_hand}
-use Rattle.step_core.proofs.Slots.{worker_hand, ticket_hand, block_hand, one_slot}
+use Rattle.array_model.specs.declared.hand.Hand.{Hand}
+use Rattle.array_model.specs.declared.hand.Hand.TheVariants.{Empty, Holds, Waits}
+use Rattle.array_model.specs.Changes.{passed_hands}
+use Rattle.array_model.specs.Views.{ArrayView, WorldView, hand_at, key_at}
+use Rattle.array_model.specs.Represents.{HandSlot, ShowsArray, Represents, is_claim, is_ticket}
+use Rattle.array_model.proofs.Newest.{newest_told}
+use Rattle.array_model.proofs.Hands.{one_hand}
+use Rattle.array_model.proofs.Slots.{worker_hand, ticket_hand, block_hand, one_slot}
 use Rattle.flat_machine.proofs.Holding.{step_holds, once_any}
 use Rattle.flat_machine.specs.History.{IsStep}
 

@@ -6,7 +6,7 @@ use Rattle.map_join.specs.Record.{record_of}
 use Rattle.map_join.specs.Maps.{IsSame, IsMapOf, HasSameRecords}
 use Rattle.flat_machine.specs.Flat.{Flat, Write, HeldOnce, last_write}
 use Rattle.flat_machine.specs.History.{IsAt}
-use Rattle.step_core.specs.Views.{WorldView, key_at}
+use Rattle.array_model.specs.Views.{WorldView, key_at}
 
 -- reading through a key: the unit at its place has the record that it tells, with the content of the block's last write
 abbrev pub ReadsThrough : Flat → ℕ → ℕ → Type 0

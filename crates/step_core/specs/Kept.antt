@@ -1,11 +1,8 @@
--- What contracts see of the private parts of an array.
-use Rattle.std.specs.Prelude.{◌≡◌, ℕ, ◌<◌, List, slice_index_or, length, map, Option}
-use Rattle.std.specs.Option.{option_map}
+-- What contracts see of the places of an array: what is kept of each slot, without the claims.
+use Rattle.std.specs.Prelude.{◌≡◌, ℕ, ◌<◌, List, slice_index_or, length, map}
+use Rattle.array_model.specs.Views.{Kept, Nothing, Pending, Moving, Newest}
 use Rattle.step_core.specs.declared.place.Place.{Place}
 use Rattle.step_core.specs.declared.place.Place.TheVariants as place
-use Rattle.step_core.specs.declared.stored.StoredUnit.{StoredUnit}
-use Rattle.flat_machine.specs.Flat.{Stored}
-use Rattle.step_core.specs.Views.{Kept, Nothing, Pending, Moving, Newest}
 
 -- a place without its claim
 abbrev pub kept_of : {C : Type 0} → Place C → Kept
@@ -25,13 +22,6 @@ IsOf names slot (place.Newest block claim) = names claim ≡ slot
 abbrev pub AreOf : {C : Type 0} → (C → ℕ) → List (Place C) → Type 0
 AreOf names places = (slot : ℕ) → slot < length places → IsOf names slot (slice_index_or places slot place.Free)
 
--- a unit as plain data
-abbrev pub stored_of : StoredUnit → Stored
-stored_of u = record { header = u.header; payload = u.payload.items }
-
--- the parts of an array as plain data
-abbrev pub units_of : List (Option StoredUnit) → List (Option Stored)
-units_of units = map (option_map stored_of) units
-
+-- the places as plain data
 abbrev pub kepts_of : {C : Type 0} → List (Place C) → List Kept
 kepts_of places = map kept_of places

@@ -1,93 +1,123 @@
 // The array: its tables, and the small reads of them.
-ghost use Rattle.std.specs.Prelude.{◌≡◌, ℕ, ◌<◌, ◌≤◌, length, drop, slice_index, slice_index_or, nat_le, None, IsTrue, ◌↔◌, IfOk, IfErr, OnOk};
+ghost use Rattle.std.specs.Prelude.{◌≡◌, ℕ, ◌+◌, ◌*◌, ◌<◌, ◌≤◌, length, map, drop, replicate, slice_index, slice_index_or, None, IsTrue, ◌↔◌, IfOk, IfErr, OnOk};
 ghost use Rattle.map_join.specs.Record.{record_at};
 ghost use Rattle.map_join.specs.Maps.{at, IsSame, IsMapOf};
 ghost use Rattle.extents.specs.Shapes.{IsShapeOf};
+ghost use Rattle.extents.specs.Sizes.{extent_units};
+ghost use Rattle.extents.specs.declared.shape.TheConstants.{HEADER_BYTES};
+ghost use Rattle.extent_groups.specs.Calls.{AreSized};
+ghost use Rattle.array_parts.specs.Fit.{HaveUnits};
+ghost use Rattle.array_parts.specs.Views.{drive_view, lost_of, failed_of};
 ghost use Rattle.flat_machine.specs.Groups.{class_at, IsEmpty};
 ghost use Rattle.flat_machine.specs.Flat.{Flat, new_flat, put, IsKept, IsNewest};
-ghost use Rattle.step_core.specs.Views.{kept_at, key_at, is_kept, is_waiting, IsNew, IsWhole};
-ghost use Rattle.step_core.specs.Represents.{ShowsArray};
+ghost use Rattle.array_model.specs.Views.{kept_at, key_at, is_kept, is_waiting, IsWhole};
+ghost use Rattle.array_model.specs.Represents.{ShowsArray};
 
 use crate::hold::Hold;
 use crate::place::Place;
-use crate::stored::StoredUnit;
+use crate::tables::new_tables;
+use array_parts::Parts;
 use extent_groups::{GroupTable, SLOTS as SLOTS_OF_A_GROUP};
-use extents::{ExtentTable, Shape};
+use extents::{Drive, ExtentTable, Shape};
 use flat_machine::{Class, Refusal};
 use map_join::{BlockMap, MapRefusal, Record};
-use std::alloc::{AllocError, Global};
+use std::alloc::Global;
 use std::marker::Model;
-
-/// Slot numbers of an array.
-pub(crate) const SLOTS: usize = 65_536;
 
 /// The array: drives and groups, the log of emitted records, and of each slot what the array keeps.
 #[derive(Drop)]
-pub struct Array<C: Hold> {
-    pub(crate) groups: GroupTable,
-    pub(crate) extents: ExtentTable,
-    pub(crate) drives: u8,
+pub struct Array<D: Drive, C: Hold> {
+    pub(crate) parts: Parts<D>,
     pub(crate) log: Vec<Record>,
     /// The key of each block, 0 where it was never written.
     pub(crate) keys: Vec<u64>,
     pub(crate) places: Vec<Place<C>>,
-    /// The unit of each slot of a made group.
-    pub(crate) units: Vec<Option<StoredUnit>>,
+    /// A buffer of a unit's length, and one of two units', for the calls of the drives.
+    pub(crate) unit: Vec<u8>,
+    pub(crate) scratch: Vec<u8>,
 }
 
-impl<C: Hold> Model for Array<C> {
-    ghost use Rattle.step_core.specs.Views.{ArrayView, IsWhole};
-    ghost use Rattle.step_core.specs.Kept.{kepts_of, units_of, AreOf};
-    ghost use Rattle.step_core.specs.Inside.{seen};
+impl<D: Drive, C: Hold> Model for Array<D, C> {
+    ghost use Rattle.array_model.specs.Views.{ArrayView, IsWhole};
+    ghost use Rattle.step_core.specs.Kept.{AreOf};
+    ghost use Rattle.step_core.specs.Inside.{seen, IsReady};
 
     ghost Value = { ArrayView };
 
-    ghost view = { seen };
+    ghost view = { seen D.units D.lost D.failures };
 
-    ghost invariant = { λ a. IsWhole (seen a) × AreOf C.names a.places.items };
+    ghost invariant = { λ a. IsWhole (seen D.units D.lost D.failures a) × AreOf C.names a.places.items × IsReady D.units a };
 }
 
-impl<C: Hold> Array<C> {
-    /// A new array: no group is made and nothing is written. There are 3 to 16 drives.
-    pub fn new(alloc: Global, shape: Shape, drives: u8) -> Result<Array<C>, Refusal>
-        requires { (3 ≤ drives) × (drives ≤ 16) }
-        ensures sizes { IfOk result (λ array. IsShapeOf shape array.groups.extents array.groups.segments array.groups.payload array.groups.blocks) }
-        ensures empty { IfOk result (λ array. IsEmpty array.groups) }
-        ensures ok { IfOk result (λ array. ShowsArray array (new_flat array.groups drives (nat_le drives) (λ _. 0))) }
-        ensures err { IfErr result (λ refusal. refusal ≡ Refusal.Memory) }
+impl<D: Drive, C: Hold> Array<D, C> {
+    /// A new array: no group is made and nothing is written. There are 3 to 16 drives, each with the units
+    /// that the shape asks, whatever they hold. Refused for want of memory it hands the drives back.
+    pub fn new(
+        alloc: Global,
+        shape: Shape,
+        drives: Vec<D>,
+    ) -> Result<Array<D, C>, (Refusal, Vec<D>)>
+        requires count { (3 ≤ length drives.items) × (length drives.items ≤ 16) }
+        requires units { HaveUnits D.units drives.items (shape.extents * extent_units shape.segments) }
+        requires sized { AreSized D.units (HEADER_BYTES + shape.payload) drives.items }
+        ensures sizes { IfOk result (λ array. IsShapeOf shape array.parts.groups.extents array.parts.groups.segments array.parts.groups.payload array.parts.groups.blocks) }
+        ensures drives { IfOk result (λ array. array.parts.drives ≡ map (drive_view D.units D.lost D.failures) drives.items) }
+        ensures empty { IfOk result (λ array. IsEmpty array.parts.groups) }
+        ensures ok { IfOk result (λ array. ShowsArray array (new_flat array.parts.groups (length array.parts.drives) (lost_of array.parts) (failed_of array.parts))) }
+        ensures err { IfErr result (λ e. (e.0 ≡ Refusal.Memory) × (e.1 ≡ drives)) }
     {
-        match tables(alloc, shape, drives) {
-            Ok(array) => Ok(array),
-            Err(_) => Err(Refusal::Memory),
-        }
+        let Ok(tables) = new_tables(alloc, shape, drives.len() as u8) else {
+            return Err((Refusal::Memory, drives));
+        };
+        Ok(Array {
+            parts: Parts {
+                shape,
+                groups: tables.groups,
+                extents: tables.extents,
+                drives,
+            },
+            log: Vec::new(alloc),
+            keys: tables.keys,
+            places: tables.places,
+            unit: tables.unit,
+            scratch: tables.scratch,
+        })
     }
 
     /// The sizes that the array was made with.
     pub fn shape(&self) -> Shape
-        ensures { IsShapeOf result self.now.groups.extents self.now.groups.segments self.now.groups.payload self.now.groups.blocks }
+        ensures { IsShapeOf result self.now.parts.groups.extents self.now.parts.groups.segments self.now.parts.groups.payload self.now.parts.groups.blocks }
     {
-        self.groups.shape()
+        self.parts.groups.shape()
     }
 
     /// The groups, by number.
     pub fn groups(&self) -> &GroupTable
-        ensures { result.now ≡ self.now.groups }
+        ensures { result.now ≡ self.now.parts.groups }
     {
-        &self.groups
+        &self.parts.groups
     }
 
     /// Which group owns which extent.
     pub fn extents(&self) -> &ExtentTable
-        ensures { result.now ≡ self.now.owners }
+        ensures { result.now ≡ self.now.parts.owners }
     {
-        &self.extents
+        &self.parts.extents
     }
 
-    /// How many drives there are.
+    /// How many drives there are, lost ones too.
     pub fn drive_count(&self) -> u8
-        ensures { result ≡ self.now.drives }
+        ensures { result ≡ length self.now.parts.drives }
     {
-        self.drives
+        self.parts.drives.len() as u8
+    }
+
+    /// Whether the drive of this number is lost; past the last drive none is there, which counts as lost.
+    pub fn is_lost(&self, drive: u8) -> bool
+        ensures { result ≡ lost_of self.now.parts drive }
+    {
+        let drive = usize::from(drive);
+        drive >= self.parts.drives.len() || self.parts.drives[drive].is_lost()
     }
 
     /// Whether the array itself holds the slot: for a ticket or as a block's newest place.
@@ -123,7 +153,7 @@ impl<C: Hold> Array<C> {
 
     /// The newest record of a block.
     pub fn newest(&self, block: u32) -> Option<Record>
-        requires { block < self.now.groups.blocks }
+        requires { block < self.now.parts.groups.blocks }
         ensures value { result ≡ record_at block (key_at self.now block) }
         ensures flat { (F : Flat) → ShowsArray self.now F → IsNewest F.emitted block result }
     {
@@ -131,7 +161,7 @@ impl<C: Hold> Array<C> {
     }
 
     pub(crate) fn told(&self, block: u32) -> Option<Record>
-        requires { block < self.now.groups.blocks }
+        requires { block < self.now.parts.groups.blocks }
         ensures value { result ≡ record_at block (key_at self.now block) }
         ensures whole { IsWhole self.now }
     {
@@ -159,7 +189,7 @@ impl<C: Hold> Array<C> {
         ensures err { IfErr result (λ refusal. refusal ≡ Refusal.Memory) }
     {
         let mut map = BlockMap::new(alloc);
-        for block in 0..self.groups.shape().blocks {
+        for block in 0..self.parts.groups.shape().blocks {
             match self.take_newest(alloc, block, &mut map) {
                 Ok(()) => {}
                 Err(_) => return Err(Refusal::Memory),
@@ -170,7 +200,7 @@ impl<C: Hold> Array<C> {
 
     // Takes the newest record of a block into a map that has none of it.
     fn take_newest(&self, alloc: Global, block: u32, map: &mut BlockMap) -> Result<(), MapRefusal>
-        requires inside { block < self.now.groups.blocks }
+        requires inside { block < self.now.parts.groups.blocks }
         requires none { at map.old block ≡ 0 }
         ensures { OnOk result (IsSame (at map.new) (put (at map.old) block (key_at self.now block))) }
     {
@@ -182,63 +212,14 @@ impl<C: Hold> Array<C> {
 
     // The class of a slot, none where no made group has it.
     pub(crate) fn class_of(&self, slot: u16) -> Option<Class>
-        ensures { result ≡ class_at self.now.groups slot }
+        ensures { result ≡ class_at self.now.parts.groups slot }
     {
         let group = slot / SLOTS_OF_A_GROUP;
-        let class = self.groups.class_of(group)?;
-        if slot % SLOTS_OF_A_GROUP < self.groups.slots_of(group) {
+        let class = self.parts.groups.class_of(group)?;
+        if slot % SLOTS_OF_A_GROUP < self.parts.groups.slots_of(group) {
             Some(class)
         } else {
             None
         }
     }
-}
-
-fn tables<C: Hold>(alloc: Global, shape: Shape, drives: u8) -> Result<Array<C>, AllocError>
-    ensures new { IfOk result (IsNew drives) }
-    ensures sizes { IfOk result (λ array. IsShapeOf shape array.groups.extents array.groups.segments array.groups.payload array.groups.blocks) }
-{
-    let groups = GroupTable::new(alloc, &shape)?;
-    let extents = ExtentTable::new(alloc, drives, &shape)?;
-    let keys = zeros(alloc, shape.blocks)?;
-    let units = no_units(alloc, SLOTS)?;
-    let places = free_places(alloc, SLOTS)?;
-    Ok(Array {
-        groups,
-        extents,
-        drives,
-        log: Vec::new(alloc),
-        keys,
-        places,
-        units,
-    })
-}
-
-fn zeros(alloc: Global, count: u32) -> Result<Vec<u64>, AllocError>
-    ensures len { IfOk result (λ keys. length keys.items ≡ count) }
-    ensures zero { IfOk result (λ keys. (b : ℕ) → slice_index keys.items b ≡ 0) }
-{
-    vec![in alloc; 0u64; count as usize]
-}
-
-fn free_places<C: Hold>(alloc: Global, count: usize) -> Result<Vec<Place<C>>, AllocError>
-    ensures len { IfOk result (λ places. length places.items ≡ count) }
-    ensures free { IfOk result (λ places. (s : ℕ) → slice_index_or places.items s Place.Free ≡ Place.Free) }
-{
-    let mut places = Vec::with_capacity(alloc, count)?;
-    for _made in 0..count {
-        places.push_reserved(Place::Free);
-    }
-    Ok(places)
-}
-
-fn no_units(alloc: Global, count: usize) -> Result<Vec<Option<StoredUnit>>, AllocError>
-    ensures len { IfOk result (λ units. length units.items ≡ count) }
-    ensures none { IfOk result (λ units. (s : ℕ) → slice_index_or units.items s None ≡ None) }
-{
-    let mut units = Vec::with_capacity(alloc, count)?;
-    for _made in 0..count {
-        units.push_reserved(None);
-    }
-    Ok(units)
 }

@@ -6,17 +6,18 @@ ghost use Rattle.map_join.specs.declared.records.Record.{Record};
 ghost use Rattle.extents.specs.declared.header.Header.TheVariants.{Is};
 ghost use Rattle.flat_machine.specs.Steps as say;
 ghost use Rattle.flat_machine.specs.Flat.{Flat, Ticket as ticket_of, IsNewest};
-ghost use Rattle.flat_machine.specs.Cases.{CommitCase, IsWanted, next_version, stamped};
-ghost use Rattle.step_core.specs.Views.{Nothing, Newest, is_waiting, key_at};
-ghost use Rattle.step_core.specs.Kept.{kepts_of, units_of, AreOf};
-ghost use Rattle.step_core.specs.Changes.{commit_view, commit_reason, commit_record, version_reason, stamp_reason, passed, IsPlaceOf, MayRefuse};
-ghost use Rattle.step_core.specs.Represents.{ShowsArray};
+ghost use Rattle.flat_machine.specs.Cases.{CommitCase, IsWanted, next_version};
+ghost use Rattle.array_model.specs.Views.{Nothing, Newest, is_waiting, key_at, with_parts};
+ghost use Rattle.array_parts.specs.Views.{WasCarried};
+ghost use Rattle.step_core.specs.Kept.{kepts_of, AreOf};
+ghost use Rattle.step_core.specs.Refused.{IsRefused};
+ghost use Rattle.array_model.specs.Changes.{commit_view, commit_reason, commit_record, version_reason, stamp_reason, passed, IsPlaceOf, MayRefuse};
+ghost use Rattle.array_model.specs.Represents.{ShowsArray};
 
 use crate::array::Array;
 use crate::hold::{Hold, Ticket};
 use crate::place::{Place, put_in, take_out, take_waiting};
-use crate::stored::StoredUnit;
-use extents::Header;
+use extents::{Drive, Header};
 use flat_machine::Refusal;
 use map_join::Record;
 use std::alloc::Global;
@@ -63,28 +64,29 @@ pub struct Done<C: Hold> {
     pub old: Option<C>,
 }
 
-impl<C: Hold> Array<C> {
+impl<D: Drive, C: Hold> Array<D, C> {
     /// Commits a slot that waits: it becomes the newest place of the block, a fresh payload under the
     /// next version, a copy under the same version one hop on. A copy that a newer record outran stays
-    /// a ticket, to be discarded.
+    /// a ticket, to be discarded; so does one whose slot is gone.
     pub fn commit(
         &mut self,
         alloc: Global,
         ticket: Ticket,
         block: u32,
     ) -> Result<Done<C>, (Refusal, Ticket)>
-        requires { block < self.old.groups.blocks }
+        requires { block < self.old.parts.groups.blocks }
         ensures done { IfOk result (λ done.
-            (self.new ≡ commit_view self.old ticket block (record_at block (key_at self.old block)) done.emitted)
+            (self.new ≡ commit_view (with_parts self.old self.new.parts) ticket block (record_at block (key_at self.old block)) done.emitted)
             × (done.emitted ≡ commit_record self.old ticket block (record_at block (key_at self.old block)))
-            × IsPlaceOf C.names done.old (record_at block (key_at self.old block))) }
-        ensures err { IfErr result (λ e. (e.1 ≡ ticket) × (self.new ≡ self.old)) }
+            × IsPlaceOf C.names done.old (record_at block (key_at self.old block))
+            × WasCarried self.old.parts self.new.parts ticket ticket (Is done.emitted)) }
+        ensures err { IfErr result (λ e. (e.1 ≡ ticket) × IsRefused self.old self.new e.0) }
         ensures flat { (F : Flat) (w : ℕ) → ShowsArray self.old F → (F.tickets ticket ≢ None → F.held ticket (ticket_of w) ≡ true)
             → MatchResult result
             (λ done. (G : Flat) × CommitCase F w ticket block (say.Committed done.emitted) G × ShowsArray self.new G)
             (λ e. MayRefuse e.0
             (IsWanted F (say.Commit w ticket block))
-            (CommitCase F w ticket block (say.Refused e.0) F)) }
+            ((G : Flat) × CommitCase F w ticket block (say.Refused e.0) G × ShowsArray self.new G)) }
     {
         let slot = ticket.slot();
         let found = self.newest(block);
@@ -92,11 +94,13 @@ impl<C: Hold> Array<C> {
             Ok(record) => record,
             Err(refusal) => return Err((refusal, ticket)),
         };
-        match self.log.push(record) {
-            Ok(()) => {}
-            Err(_) => return Err((Refusal::Memory, ticket)),
+        if self.log.reserve(1).is_err() {
+            return Err((Refusal::Memory, ticket));
         }
-        stamp(&mut self.units, slot, record);
+        if let Err(refusal) = self.carry(slot, slot, &Header::Is(record)) {
+            return Err((refusal, ticket));
+        }
+        self.log.push_reserved(record);
         self.keys[block as usize] = record.key();
         let old = let_go(&mut self.places, block, found);
         keep_newest(&mut self.places, slot, block);
@@ -124,17 +128,6 @@ impl<C: Hold> Array<C> {
     }
 }
 
-// Writes the record into the header of the slot's unit.
-#[tactic(auto, using(crate::proofs::Tables::units_set, crate::proofs::Tables::unit_there))]
-fn stamp(units: &mut Vec<Option<StoredUnit>>, slot: u16, told: Record)
-    requires { slot < vec_len units.old }
-    ensures { units_of units.new.items ≡ slice_set (units_of units.old.items) slot (stamped (slice_index_or (units_of units.old.items) slot None) (Is told)) }
-{
-    if let Some(unit) = &mut units[usize::from(slot)] {
-        unit.header = Header::Is(told);
-    }
-}
-
 // The claim of a block's last place, which is kept no longer.
 fn let_go<C: Hold>(places: &mut Vec<Place<C>>, block: u32, found: Option<Record>) -> Option<C>
     requires inside { 65536 ≤ vec_len places.old }
@@ -157,7 +150,7 @@ fn let_go<C: Hold>(places: &mut Vec<Place<C>>, block: u32, found: Option<Record>
 }
 
 // The claim that waited is kept for the block.
-#[tactic(auto, using(crate::proofs::Tables::set_twice))]
+#[tactic(auto, using(crate::proofs::Places::set_twice))]
 fn keep_newest<C: Hold>(places: &mut Vec<Place<C>>, slot: u16, block: u32)
     requires inside { slot < vec_len places.old }
     requires waits { is_waiting (slice_index_or (kepts_of places.old.items) slot Nothing) ≡ true }

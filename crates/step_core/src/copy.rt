@@ -2,17 +2,20 @@
 ghost use Rattle.std.specs.Prelude.{◌≡◌, ℕ, ◌<◌, MatchResult, IfOk, IfErr, true, Some, None};
 ghost use Rattle.map_join.specs.declared.records.Record.{Record};
 ghost use Rattle.map_join.specs.Record.{record_at};
+ghost use Rattle.extents.specs.declared.header.Header.TheVariants.{Blank};
 ghost use Rattle.flat_machine.specs.Steps as say;
-ghost use Rattle.flat_machine.specs.Flat.{Flat, Stored, Worker};
+ghost use Rattle.flat_machine.specs.Flat.{Flat, Worker};
 ghost use Rattle.flat_machine.specs.Cases.{CopyCase, CopyPasses};
-ghost use Rattle.step_core.specs.Changes.{copy_view, copy_reason, MayRefuse};
-ghost use Rattle.step_core.specs.Views.{key_at, unit_at, IsWhole};
-ghost use Rattle.step_core.specs.Represents.{ShowsArray};
+ghost use Rattle.array_parts.specs.Views.{WasCarried};
+ghost use Rattle.array_model.specs.Changes.{copy_view, copy_reason, MayRefuse};
+ghost use Rattle.array_model.specs.Views.{with_parts, key_at};
+ghost use Rattle.array_model.specs.Represents.{ShowsArray};
+ghost use Rattle.step_core.specs.Refused.{IsRefused};
 
 use crate::array::Array;
-use crate::fill::put_unit;
 use crate::hold::{Hold, Ticket};
 use crate::place::{Place, put_in};
+use extents::{Drive, Header};
 use flat_machine::Refusal;
 use map_join::Record;
 use std::alloc::Global;
@@ -20,32 +23,32 @@ use std::alloc::Global;
 /// The greatest hop of a version.
 const LAST_HOP: u16 = 65_535;
 
-impl<C: Hold> Array<C> {
+impl<D: Drive, C: Hold> Array<D, C> {
     /// Copies a block's newest payload into a slot of either class, under a blank header: it waits for
-    /// its commit, and until then the block stays where it is.
-    pub fn copy(&mut self, alloc: Global, claim: C, block: u32) -> Result<Ticket, (Refusal, C)>
-        requires { block < self.old.groups.blocks }
+    /// its commit, and until then the block stays where it is. Refused as gone with the slot that can't
+    /// be read or written, the newest place first; then all slots are as they were.
+    pub fn copy(&mut self, _alloc: Global, claim: C, block: u32) -> Result<Ticket, (Refusal, C)>
+        requires { block < self.old.parts.groups.blocks }
         ensures ticket { IfOk result (λ ticket. (ticket ≡ C.names claim)
-            × ((r : Record) × (u : Stored) × (record_at block (key_at self.old block) ≡ Some r) × (unit_at self.old r.place ≡ Some u)
-            × (self.new ≡ copy_view self.old ticket r u.payload))) }
-        ensures err { IfErr result (λ e. (e.1 ≡ claim) × (self.new ≡ self.old)) }
+            × ((r : Record) × (record_at block (key_at self.old block) ≡ Some r)
+            × (self.new ≡ copy_view (with_parts self.old self.new.parts) ticket r)
+            × WasCarried self.old.parts self.new.parts r.place ticket Blank)) }
+        ensures err { IfErr result (λ e. (e.1 ≡ claim) × IsRefused self.old self.new e.0) }
         ensures flat { (F : Flat) (w : ℕ) → ShowsArray self.old F → F.held (C.names claim) (Worker w) ≡ true
             → MatchResult result
             (λ ticket. (G : Flat) × CopyCase F w ticket block (say.Copied ticket) G × ShowsArray self.new G)
             (λ e. MayRefuse e.0
             ((r : Record) × CopyPasses F w (C.names claim) block r)
-            (CopyCase F w (C.names claim) block (say.Refused e.0) F)) }
+            ((G : Flat) × CopyCase F w (C.names claim) block (say.Refused e.0) G × ShowsArray self.new G)) }
     {
         let slot = claim.slot();
         let source = match self.source(slot, self.told(block)) {
             Ok(source) => source,
             Err(refusal) => return Err((refusal, claim)),
         };
-        let payload = match self.payload_at(alloc, source.place) {
-            Ok(payload) => payload,
-            Err(_) => return Err((Refusal::Memory, claim)),
-        };
-        put_unit(&mut self.units, slot, payload);
+        if let Err(refusal) = self.carry(source.place, slot, &Header::Blank) {
+            return Err((refusal, claim));
+        }
         put_in(&mut self.places, slot, Place::Moving(source, claim));
         Ok(Ticket::of(slot))
     }

@@ -3,15 +3,16 @@ ghost use Rattle.std.specs.Prelude.{◌≡◌, ◌≢◌, ℕ, MatchResult, IfOk
 ghost use Rattle.flat_machine.specs.Steps as say;
 ghost use Rattle.flat_machine.specs.Flat.{Flat, Ticket as ticket_of};
 ghost use Rattle.flat_machine.specs.Cases.{DiscardCase};
-ghost use Rattle.step_core.specs.Changes.{discard_view};
-ghost use Rattle.step_core.specs.Represents.{ShowsArray};
+ghost use Rattle.array_model.specs.Changes.{discard_view};
+ghost use Rattle.array_model.specs.Represents.{ShowsArray};
 
 use crate::array::Array;
 use crate::hold::{Hold, Ticket};
 use crate::place::take_waiting;
+use extents::Drive;
 use flat_machine::Refusal;
 
-impl<C: Hold> Array<C> {
+impl<D: Drive, C: Hold> Array<D, C> {
     /// Gives up a ticket: the claim of its slot comes back. Refused only where nothing waits there.
     pub fn discard(&mut self, ticket: Ticket) -> Result<C, (Refusal, Ticket)>
         ensures claim { IfOk result (λ claim. (C.names claim ≡ ticket) × (self.new ≡ discard_view self.old ticket)) }

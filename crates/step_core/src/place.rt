@@ -2,7 +2,7 @@
 // comes out by `take_out`.
 ghost use Rattle.std.specs.Prelude.{◌≡◌, ℕ, ◌<◌, vec_len, slice_index_or, slice_set, true};
 ghost use Rattle.step_core.specs.Kept.{kept_of, kepts_of, IsOf, AreOf};
-ghost use Rattle.step_core.specs.Views.{Nothing, is_waiting};
+ghost use Rattle.array_model.specs.Views.{Nothing, is_waiting};
 
 use crate::hold::Hold;
 use map_join::Record;
@@ -19,7 +19,7 @@ pub(crate) enum Place<C: Hold> {
 }
 
 // What is kept of a slot, which is free then.
-#[tactic(auto, using(crate::proofs::Tables::kepts_set))]
+#[tactic(auto, using(crate::proofs::Places::kepts_set))]
 pub(crate) fn take_out<C: Hold>(places: &mut Vec<Place<C>>, slot: u16) -> Place<C>
     requires inside { slot < vec_len places.old }
     requires claims { AreOf C.names places.old.items }
@@ -33,7 +33,7 @@ pub(crate) fn take_out<C: Hold>(places: &mut Vec<Place<C>>, slot: u16) -> Place<
 }
 
 // Keeps something of a slot of which nothing is kept.
-#[tactic(auto, using(crate::proofs::Tables::kepts_set))]
+#[tactic(auto, using(crate::proofs::Places::kepts_set))]
 pub(crate) fn put_in<C: Hold>(places: &mut Vec<Place<C>>, slot: u16, place: Place<C>)
     requires inside { slot < vec_len places.old }
     requires free { slice_index_or (kepts_of places.old.items) slot Nothing ≡ Nothing }

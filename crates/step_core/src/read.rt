@@ -1,17 +1,22 @@
 // What a block holds.
-ghost use Rattle.std.specs.Prelude.{◌≡◌, ℕ, List, ◌<◌, ◌≤◌, IfOk, IfErr, OnErr, MatchResult, is_some, true, Some};
+ghost use Rattle.std.specs.Prelude.{◌≡◌, ◌<◌, ◌≤◌, length, IfOk, IfErr, MatchResult, Some};
 ghost use Rattle.map_join.specs.Record.{key_of, record_at};
-ghost use Rattle.extents.specs.Header.{record_in};
+ghost use Rattle.array_parts.specs.Views as parts;
+ghost use Rattle.array_parts.specs.Views.{FoundGone};
 ghost use Rattle.flat_machine.specs.Steps as say;
-ghost use Rattle.flat_machine.specs.Flat.{Flat, Stored};
-ghost use Rattle.step_core.specs.Views.{key_at, unit_at, IsWhole};
-ghost use Rattle.flat_machine.specs.Cases.{IsSeen, IsAhead, IsWanted, ReadCase, ReadAtCase};
-ghost use Rattle.step_core.specs.Changes.{MayRefuse};
+ghost use Rattle.flat_machine.specs.Flat.{Flat};
+ghost use Rattle.flat_machine.specs.Cases.{IsAhead, IsWanted, ReadCase, ReadAtCase};
+ghost use Rattle.array_model.specs.Changes.{MayRefuse};
+ghost use Rattle.array_model.specs.Reads.{WasSeen};
+ghost use Rattle.array_model.specs.Represents.{ShowsArray};
+ghost use Rattle.array_model.specs.Views.{with_parts, key_at, IsWhole};
+ghost use Rattle.step_core.specs.Reads.{WasFound, WasNotFound};
 ghost use Rattle.step_core.specs.Told.{version_of, seen_of};
-ghost use Rattle.step_core.specs.Represents.{ShowsArray};
 
 use crate::array::Array;
 use crate::hold::Hold;
+use array_parts::Sight;
+use extents::Drive;
 use flat_machine::Refusal;
 use map_join::Record;
 use std::alloc::{AllocError, Global};
@@ -24,48 +29,66 @@ pub enum At {
     Stale(Option<Record>),
 }
 
-impl<C: Hold> Array<C> {
-    /// The version and the payload of a block's last acknowledged write.
-    pub fn read(&self, alloc: Global, block: u32) -> Result<Option<(u32, Vec<u8>)>, Refusal>
-        requires { block < self.now.groups.blocks }
-        ensures flat { (F : Flat) → ShowsArray self.now F → MatchResult result
-            (λ found. ReadCase F block (say.Found (version_of found)) F)
+impl<D: Drive, C: Hold> Array<D, C> {
+    /// The version and the payload of a block's last acknowledged write. Refused as gone with the slot of
+    /// its newest record, where that can't be had.
+    pub fn read(
+        &mut self,
+        alloc: Global,
+        block: u32,
+    ) -> Result<Option<(u32, Vec<u8>)>, Refusal>
+        requires { block < self.old.parts.groups.blocks }
+        ensures ok { IfOk result (WasFound self.old self.new block) }
+        ensures err { IfErr result (WasNotFound self.old self.new block) }
+        ensures rest { self.new ≡ with_parts self.old self.new.parts }
+        ensures flat { (F : Flat) → ShowsArray self.old F → MatchResult result
+            (λ found. (G : Flat) × ReadCase F block (say.Found (version_of found)) G × ShowsArray self.new G)
             (λ refusal. MayRefuse refusal
             (IsWanted F (say.Read block))
-            (ReadCase F block (say.Refused refusal) F)) }
+            ((G : Flat) × ReadCase F block (say.Refused refusal) G × ShowsArray self.new G)) }
     {
         let Some(record) = self.told(block) else {
             return Ok(None);
         };
-        match self.payload_at(alloc, record.place) {
-            Ok(payload) => Ok(Some((record.version, payload))),
-            Err(_) => Err(Refusal::Memory),
+        let mut payload = match self.no_payload(alloc) {
+            Ok(payload) => payload,
+            Err(_) => return Err(Refusal::Memory),
+        };
+        match self.payload_at(record.place, &mut payload) {
+            Ok(()) => Ok(Some((record.version, payload))),
+            Err(refusal) => Err(refusal),
         }
     }
 
     /// What lies at a record's place. Refused as ahead where the record is greater than the newest of
-    /// its block, or the block was never written.
-    pub fn read_at(&self, alloc: Global, asked: Record) -> Result<At, Refusal>
-        requires { asked.block < self.now.groups.blocks }
-        ensures flat { (F : Flat) → ShowsArray self.now F → MatchResult result
-            (λ at. ReadAtCase F asked (say.FoundAt (seen_of at)) F)
+    /// its block, or the block was never written, and as gone where its place can't be read.
+    pub fn read_at(&mut self, alloc: Global, asked: Record) -> Result<At, Refusal>
+        requires { asked.block < self.old.parts.groups.blocks }
+        ensures ok { IfOk result (λ at. WasSeen self.old self.new asked (seen_of at)) }
+        ensures rest { self.new ≡ with_parts self.old self.new.parts }
+        ensures flat { (F : Flat) → ShowsArray self.old F → MatchResult result
+            (λ at. (G : Flat) × ReadAtCase F asked (say.FoundAt (seen_of at)) G × ShowsArray self.new G)
             (λ refusal. MayRefuse refusal
             (IsWanted F (say.ReadAt asked))
-            (ReadAtCase F asked (say.Refused refusal) F)) }
+            ((G : Flat) × ReadAtCase F asked (say.Refused refusal) G × ShowsArray self.new G)) }
     {
-        match self.not_behind(asked) {
-            Ok(_newest) => {}
-            Err(refusal) => return Err(refusal),
+        if let Err(refusal) = self.not_behind(asked) {
+            return Err(refusal);
         }
-        match self.see(alloc, asked) {
-            Ok(at) => Ok(at),
-            Err(_) => Err(Refusal::Memory),
+        let mut payload = match self.no_payload(alloc) {
+            Ok(payload) => payload,
+            Err(_) => return Err(Refusal::Memory),
+        };
+        match self.look(&asked, &mut payload) {
+            Ok(Sight::Data) => Ok(At::Data(payload)),
+            Ok(Sight::Stale(found)) => Ok(At::Stale(found)),
+            Err(refusal) => Err(refusal),
         }
     }
 
     // The newest record of a block, where the one asked for isn't ahead of it.
     pub(crate) fn not_behind(&self, asked: Record) -> Result<Record, Refusal>
-        requires { asked.block < self.now.groups.blocks }
+        requires { asked.block < self.now.parts.groups.blocks }
         ensures ok { IfOk result (λ newest. (record_at asked.block (key_at self.now asked.block) ≡ Some newest) × (key_of asked ≤ key_of newest)) }
         ensures err { IfErr result (λ refusal. (refusal ≡ Refusal.Ahead (record_at asked.block (key_at self.now asked.block)))
             × IsAhead asked (record_at asked.block (key_at self.now asked.block))) }
@@ -81,32 +104,23 @@ impl<C: Hold> Array<C> {
         Ok(newest)
     }
 
-    // What lies at the record's place.
-    pub(crate) fn see(&self, alloc: Global, asked: Record) -> Result<At, AllocError>
-        ensures ok { IfOk result (λ at. IsSeen (unit_at self.now asked.place) asked (seen_of at)) }
-        ensures wants { OnErr result ((u : Stored) × (unit_at self.now asked.place ≡ Some u) × (record_in u.header ≡ Some asked)) }
+    // What lies at the record's place, where it is in a group; its payload is read where the record is there.
+    pub(crate) fn look(&mut self, asked: &Record, payload: &mut [u8]) -> Result<Sight, Refusal>
+        requires { length payload.old ≡ self.old.parts.groups.payload }
+        ensures ok { IfOk result (λ sight. WasSeen self.old self.new asked.now (parts.seen_of sight payload.new)) }
+        ensures err { IfErr result (FoundGone self.old.parts self.new.parts asked.now.place) }
+        ensures rest { self.new ≡ with_parts self.old self.new.parts }
     {
-        let Some(unit) = &self.units[usize::from(asked.place)] else {
-            return Ok(At::Stale(None));
-        };
-        let found = unit.header.record();
-        if found != Some(asked) {
-            return Ok(At::Stale(found));
+        if self.class_of(asked.place).is_none() {
+            return Ok(Sight::Stale(None));
         }
-        match unit.payload.to_vec(alloc) {
-            Ok(payload) => Ok(At::Data(payload)),
-            Err(refused) => Err(refused),
-        }
+        self.sight(asked, payload)
     }
 
-    // The payload of a slot that has a unit.
-    pub(crate) fn payload_at(&self, alloc: Global, slot: u16) -> Result<Vec<u8>, AllocError>
-        requires { is_some (unit_at self.now slot) ≡ true }
-        ensures { IfOk result (λ payload. (u : Stored) × (unit_at self.now slot ≡ Some u) × (payload.items ≡ u.payload)) }
+    // As many zeros as a payload has bytes, to read one into.
+    pub(crate) fn no_payload(&self, alloc: Global) -> Result<Vec<u8>, AllocError>
+        ensures { IfOk result (λ payload. length payload.items ≡ self.now.parts.groups.payload) }
     {
-        let Some(unit) = &self.units[usize::from(slot)] else {
-            unreachable!()
-        };
-        unit.payload.to_vec(alloc)
+        vec![in alloc; 0; self.shape().payload as usize]
     }
 }

@@ -1,15 +1,16 @@
 // What is learned of a record that may be stale.
 ghost use Rattle.std.specs.Prelude.{◌≡◌, ◌<◌, MatchResult};
-ghost use Rattle.flat_machine.specs.Steps as say;
-ghost use Rattle.flat_machine.specs.Steps.{Seen};
 ghost use Rattle.flat_machine.specs.Flat.{Flat, Payload};
-ghost use Rattle.flat_machine.specs.Cases.{ReadAtCase, IsLearned};
-ghost use Rattle.step_core.specs.Changes.{MayRefuse};
-ghost use Rattle.step_core.specs.Represents.{ShowsArray};
+ghost use Rattle.flat_machine.specs.Cases.{IsBehind};
+ghost use Rattle.flat_machine.specs.Learning.{LearnedCase, UnlearnedCase};
+ghost use Rattle.array_model.specs.Changes.{MayRefuse};
+ghost use Rattle.array_model.specs.Represents.{ShowsArray};
+ghost use Rattle.array_model.specs.Views.{with_parts};
 
 use crate::array::Array;
 use crate::hold::Hold;
-use crate::read::At;
+use array_parts::Sight;
+use extents::Drive;
 use flat_machine::Refusal;
 use map_join::Record;
 use std::alloc::Global;
@@ -55,28 +56,33 @@ impl Reading {
     }
 }
 
-impl<C: Hold> Array<C> {
+impl<D: Drive, C: Hold> Array<D, C> {
     /// The record with its payload, or where its place is stale the newest record of its block with
-    /// the payload of the last write. Refused as `read_at` is.
-    pub fn read_or_learn(&self, alloc: Global, asked: Record) -> Result<Reading, Refusal>
-        requires { asked.block < self.now.groups.blocks }
-        ensures flat { (F : Flat) → ShowsArray self.now F → MatchResult result
-            (λ reading. (seen : Seen) × ReadAtCase F asked (say.FoundAt seen) F × IsLearned F asked seen reading.told (Payload reading.payload))
+    /// the payload of the last write. Refused as `read_at` is, and as gone where the newest place can't be read.
+    pub fn read_or_learn(&mut self, alloc: Global, asked: Record) -> Result<Reading, Refusal>
+        requires { asked.block < self.old.parts.groups.blocks }
+        ensures rest { self.new ≡ with_parts self.old self.new.parts }
+        ensures flat { (F : Flat) → ShowsArray self.old F → MatchResult result
+            (λ reading. (G : Flat) × LearnedCase F asked reading.told (Payload reading.payload) G × ShowsArray self.new G)
             (λ refusal. MayRefuse refusal
-            ((seen : Seen) × ReadAtCase F asked (say.FoundAt seen) F)
-            (ReadAtCase F asked (say.Refused refusal) F)) }
+            (IsBehind F asked)
+            ((G : Flat) × UnlearnedCase F asked refusal G × ShowsArray self.new G)) }
     {
         let newest = match self.not_behind(asked) {
             Ok(newest) => newest,
             Err(refusal) => return Err(refusal),
         };
-        match self.see(alloc, asked) {
-            Ok(At::Data(payload)) => Ok(Reading::of(asked, payload)),
-            Ok(At::Stale(_header)) => match self.payload_at(alloc, newest.place) {
-                Ok(payload) => Ok(Reading::of(newest, payload)),
-                Err(_) => Err(Refusal::Memory),
+        let mut payload = match self.no_payload(alloc) {
+            Ok(payload) => payload,
+            Err(_) => return Err(Refusal::Memory),
+        };
+        match self.look(&asked, &mut payload) {
+            Ok(Sight::Data) => Ok(Reading::of(asked, payload)),
+            Ok(Sight::Stale(_found)) => match self.payload_at(newest.place, &mut payload) {
+                Ok(()) => Ok(Reading::of(newest, payload)),
+                Err(refusal) => Err(refusal),
             },
-            Err(_) => Err(Refusal::Memory),
+            Err(refusal) => Err(refusal),
         }
     }
 }

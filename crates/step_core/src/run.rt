@@ -4,8 +4,8 @@ ghost use Rattle.flat_machine.specs.Flat.{Flat};
 ghost use Rattle.flat_machine.specs.Cases.{Case, Runs, IsWanted};
 ghost use Rattle.step_core.specs.Told.{flat_answer, flat_step, FitsStep};
 ghost use Rattle.step_core.specs.declared.step.Step.{Step};
-ghost use Rattle.step_core.specs.Views.{WorldView, SameSizes};
-ghost use Rattle.step_core.specs.Represents.{Represents};
+ghost use Rattle.array_model.specs.Views.{WorldView, SameSizes};
+ghost use Rattle.array_model.specs.Represents.{Represents};
 ghost use Rattle.step_core.specs.Headline.{Stands};
 
 use crate::step::{Answer, Step};
@@ -43,7 +43,7 @@ impl World {
     /// Whether the step's worker, block and payload are of this world: a worker below 8, a block that
     /// the array has, and a payload of its length.
     pub fn fits(&self, step: &Step) -> bool
-        ensures { IsTrue result ↔ FitsStep self.now.array.groups step.now }
+        ensures { IsTrue result ↔ FitsStep self.now.array.parts.groups step.now }
     {
         let shape = self.array().shape();
         match step {
@@ -71,12 +71,13 @@ impl World {
                 class: _,
                 members: _,
             } => true,
+            Step::Lose { drive: _ } => true,
         }
     }
 
     /// Carries out a step that fits. Only want of memory stops it, and then nothing has changed.
     pub fn step(&mut self, alloc: Global, step: &Step) -> Result<Answer, AllocError>
-        requires { FitsStep self.old.array.groups step.now }
+        requires { FitsStep self.old.array.parts.groups step.now }
         ensures ok { IfOk result (λ answer. (F : Flat) → Represents self.old F
             → (G : Flat) × Case F (flat_step step.now) (flat_answer answer) G × Represents self.new G) }
         ensures err { OnErr result (self.new ≡ self.old) }
@@ -105,13 +106,14 @@ impl World {
             Step::Read { block } => self.read(alloc, *block),
             Step::ReadAt { record } => self.read_at(alloc, *record),
             Step::Make { class, members } => self.make(alloc, *class, members),
+            Step::Lose { drive } => Ok(self.lose(*drive)),
         }
     }
 }
 
 /// Runs a world over steps that fit it.
 pub fn run_steps(alloc: Global, mut world: World, steps: &[Step]) -> Result<Run, Stopped>
-    requires { All (FitsStep world.array.groups) steps.now }
+    requires { All (FitsStep world.array.parts.groups) steps.now }
     ensures { (F : Flat) → Represents world F → MatchResult result
         (λ run. (G : Flat) × Runs F (map flat_step steps.now) (map flat_answer run.answers.items) G × Represents run.world G × Stands run.world G)
         (λ stop. (G : Flat) × Runs F (map flat_step (take stop.at steps.now)) (map flat_answer stop.answers.items) G × Represents stop.world G × Stands stop.world G

@@ -43,6 +43,10 @@ pub enum Step {
         class: Class,
         members: Vec<Member>,
     },
+    /// A drive is lost from outside.
+    Lose {
+        drive: u8,
+    },
 }
 
 /// What a step answers.
@@ -64,6 +68,8 @@ pub enum Answer {
     Found(At),
     /// The number of the group that was made.
     Made(u16),
+    /// The drive is lost, also where it was before.
+    Lost(u8),
     /// Never for want of memory, which stops a run.
     Refused(Refusal),
 }

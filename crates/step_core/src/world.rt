@@ -1,37 +1,38 @@
 // An array with eight workers, who hold plain claims.
-ghost use Rattle.std.specs.Prelude.{◌≡◌, ℕ, ◌<◌, ◌≤◌, List, length, nat_le, IfOk, IfErr, OnErr, Some};
+ghost use Rattle.std.specs.Prelude.{◌≡◌, ℕ, ◌<◌, ◌≤◌, List, length, nat_le, IfOk, IfErr, OnErr};
 ghost use Rattle.map_join.specs.declared.records.Record.{Record};
 ghost use Rattle.extents.specs.Shapes.{IsShapeOf};
 ghost use Rattle.flat_machine.specs.Groups.{IsEmpty};
 ghost use Rattle.flat_machine.specs.Steps as say;
-ghost use Rattle.flat_machine.specs.Steps.{Version};
 ghost use Rattle.flat_machine.specs.Flat.{Flat, Payload, new_flat};
 ghost use Rattle.flat_machine.specs.Cases.{Case, IsWanted};
+ghost use Rattle.array_model.specs.Views.{kept_at, hand_at, has_no_holder, SameSizes};
+ghost use Rattle.array_model.specs.Changes.{passed_hands};
+ghost use Rattle.array_model.specs.Represents.{Represents, is_claim, is_ticket};
 ghost use Rattle.step_core.specs.Told.{flat_answer};
-ghost use Rattle.step_core.specs.Views.{kept_at, hand_at, has_no_holder, SameSizes};
-ghost use Rattle.step_core.specs.Changes.{passed_hands};
-ghost use Rattle.step_core.specs.Represents.{Represents, is_claim, is_ticket};
 
-use crate::array::{Array, SLOTS};
-use crate::hand::Hand;
+use crate::array::Array;
 use crate::hold::{Plain, Ticket};
+use crate::memory::new_drives;
 use crate::step::Answer;
-use extents::Shape;
+use crate::tables::SLOTS;
+use array_model::Hand;
+use extents::{MemDrive, Shape};
 use flat_machine::{Class, Member, Refusal};
 use map_join::Record;
 use std::alloc::{AllocError, Global};
 use std::marker::Model;
 
-/// An array, and of each slot what a worker has in hand.
+/// An array of drives in memory, and of each slot what a worker has in hand.
 #[derive(Drop)]
 pub struct World {
-    array: Array<Plain>,
+    array: Array<MemDrive, Plain>,
     hands: Vec<Hand>,
 }
 
 impl Model for World {
     ghost use Rattle.std.specs.Prelude.{◌≡◌, length};
-    ghost use Rattle.step_core.specs.Views.{WorldView};
+    ghost use Rattle.array_model.specs.Views.{WorldView};
 
     ghost Value = { WorldView };
 
@@ -41,22 +42,27 @@ impl Model for World {
 }
 
 impl World {
-    /// A new world: a new array, and empty hands. There are 3 to 16 drives.
+    /// A new world: a new array of drives whose units are all zero, and empty hands. There are 3 to 16 drives.
     pub fn new(alloc: Global, shape: Shape, drives: u8) -> Result<World, Refusal>
         requires { (3 ≤ drives) × (drives ≤ 16) }
-        ensures ok { IfOk result (λ world. Represents world (new_flat world.array.groups drives (nat_le drives) (λ _. 0))) }
-        ensures empty { IfOk result (λ world. IsEmpty world.array.groups) }
-        ensures sizes { IfOk result (λ world. IsShapeOf shape world.array.groups.extents world.array.groups.segments world.array.groups.payload world.array.groups.blocks) }
+        ensures ok { IfOk result (λ world. Represents world (new_flat world.array.parts.groups drives (nat_le drives) (λ _. 0))) }
+        ensures empty { IfOk result (λ world. IsEmpty world.array.parts.groups) }
+        ensures sizes { IfOk result (λ world. IsShapeOf shape world.array.parts.groups.extents world.array.parts.groups.segments world.array.parts.groups.payload world.array.parts.groups.blocks) }
         ensures err { IfErr result (λ refusal. refusal ≡ Refusal.Memory) }
     {
-        let array = Array::new(alloc, shape, drives)?;
+        let Ok(units) = new_drives(alloc, &shape, drives) else {
+            return Err(Refusal::Memory);
+        };
+        let Ok(array) = Array::new(alloc, shape, units) else {
+            return Err(Refusal::Memory);
+        };
         match empty_hands(alloc, SLOTS) {
             Ok(hands) => Ok(World { array, hands }),
             Err(_) => Err(Refusal::Memory),
         }
     }
 
-    pub fn array(&self) -> &Array<Plain>
+    pub fn array(&self) -> &Array<MemDrive, Plain>
         ensures { result.now ≡ self.now.array }
     {
         &self.array
@@ -131,7 +137,7 @@ impl World {
         slot: u16,
         payload: &[u8],
     ) -> Result<Answer, AllocError>
-        requires { length payload.now ≡ self.old.array.groups.payload }
+        requires { length payload.now ≡ self.old.array.parts.groups.payload }
         ensures ok { IfOk result (λ answer. (F : Flat) → Represents self.old F
             → (G : Flat) × Case F (say.Fill worker slot (Payload payload.now)) (flat_answer answer) G × Represents self.new G) }
         ensures err { OnErr result (self.new ≡ self.old) }
@@ -159,7 +165,7 @@ impl World {
         slot: u16,
         block: u32,
     ) -> Result<Answer, AllocError>
-        requires { block < self.old.array.groups.blocks }
+        requires { block < self.old.array.parts.groups.blocks }
         ensures ok { IfOk result (λ answer. (F : Flat) → Represents self.old F
             → (G : Flat) × Case F (say.Copy worker slot block) (flat_answer answer) G × Represents self.new G) }
         ensures err { OnErr result (self.new ≡ self.old) }
@@ -187,7 +193,7 @@ impl World {
         slot: u16,
         block: u32,
     ) -> Result<Answer, AllocError>
-        requires { block < self.old.array.groups.blocks }
+        requires { block < self.old.array.parts.groups.blocks }
         ensures ok { IfOk result (λ answer. (F : Flat) → Represents self.old F
             → (G : Flat) × Case F (say.Commit worker slot block) (flat_answer answer) G × Represents self.new G) }
         ensures err { OnErr result (self.new ≡ self.old) }
@@ -227,10 +233,13 @@ impl World {
     }
 
     /// Reads at a record's place.
-    pub fn read_at(&self, alloc: Global, asked: Record) -> Result<Answer, AllocError>
-        requires { asked.block < self.now.array.groups.blocks }
-        ensures ok { IfOk result (λ answer. (F : Flat) → Represents self.now F → Case F (say.ReadAt asked) (flat_answer answer) F) }
-        ensures wants { OnErr result ((F : Flat) → Represents self.now F → IsWanted F (say.ReadAt asked)) }
+    pub fn read_at(&mut self, alloc: Global, asked: Record) -> Result<Answer, AllocError>
+        requires { asked.block < self.old.array.parts.groups.blocks }
+        ensures ok { IfOk result (λ answer. (F : Flat) → Represents self.old F
+            → (G : Flat) × Case F (say.ReadAt asked) (flat_answer answer) G × Represents self.new G) }
+        ensures err { OnErr result (self.new ≡ self.old) }
+        ensures wants { OnErr result ((F : Flat) → Represents self.old F → IsWanted F (say.ReadAt asked)) }
+        ensures room { SameSizes self.old.array self.new.array }
     {
         match self.array.read_at(alloc, asked) {
             Ok(at) => Ok(Answer::Found(at)),
@@ -240,10 +249,13 @@ impl World {
     }
 
     /// Reads a block.
-    pub fn read(&self, alloc: Global, block: u32) -> Result<Answer, AllocError>
-        requires { block < self.now.array.groups.blocks }
-        ensures ok { IfOk result (λ answer. (F : Flat) → Represents self.now F → Case F (say.Read block) (flat_answer answer) F) }
-        ensures wants { OnErr result ((F : Flat) → Represents self.now F → IsWanted F (say.Read block)) }
+    pub fn read(&mut self, alloc: Global, block: u32) -> Result<Answer, AllocError>
+        requires { block < self.old.array.parts.groups.blocks }
+        ensures ok { IfOk result (λ answer. (F : Flat) → Represents self.old F
+            → (G : Flat) × Case F (say.Read block) (flat_answer answer) G × Represents self.new G) }
+        ensures err { OnErr result (self.new ≡ self.old) }
+        ensures wants { OnErr result ((F : Flat) → Represents self.old F → IsWanted F (say.Read block)) }
+        ensures room { SameSizes self.old.array self.new.array }
     {
         match self.array.read(alloc, block) {
             Ok(found) => Ok(Answer::Read(found)),
@@ -265,12 +277,34 @@ impl World {
         ensures wants { OnErr result ((F : Flat) → Represents self.old F → IsWanted F (say.Make class members.now)) }
         ensures room { SameSizes self.old.array self.new.array }
     {
-        let (group, _claims) = match self.array.make_group(alloc, class, members) {
-            Ok(made) => made,
-            Err(Refusal::Memory) => return Err(AllocError),
-            Err(refusal) => return Ok(Answer::Refused(refusal)),
-        };
-        Ok(Answer::Made(group))
+        match self.array.make_group(alloc, class, members) {
+            Ok((group, _claims)) => Ok(Answer::Made(group)),
+            Err(Refusal::Memory) => Err(AllocError),
+            Err(refusal) => Ok(Answer::Refused(refusal)),
+        }
+    }
+
+    /// Loses a drive from outside; refused where there is none of that number.
+    pub fn lose(&mut self, drive: u8) -> Answer
+        ensures flat { (F : Flat) → Represents self.old F
+            → (G : Flat) × Case F (say.Lose drive) (flat_answer result) G × Represents self.new G }
+        ensures room { SameSizes self.old.array self.new.array }
+    {
+        if drive >= self.array.drive_count() {
+            return Answer::Refused(Refusal::BadMember);
+        }
+        self.array.lose(drive);
+        Answer::Lost(drive)
+    }
+
+    /// Loses a drive at the given read or write of it from now on, counted from 1, and for all later ones.
+    pub fn fuse(&mut self, drive: u8, calls: u64)
+        requires drive { drive < length self.old.array.parts.drives }
+        requires calls { 1 ≤ calls }
+        ensures flat { (F : Flat) → Represents self.old F → Represents self.new F }
+        ensures room { SameSizes self.old.array self.new.array }
+    {
+        self.array.fuse(drive, calls);
     }
 }
 

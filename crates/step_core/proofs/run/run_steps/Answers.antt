@@ -1,8 +1,8 @@
 use Rattle.std.proofs.Common.{length, rules, subst, sym, ap, ◌∙◌, refl, take, map, inl, inr, Some}
 use Rattle.std.proofs.lemmas.Option.{slice_get-get_or}
 use Rattle.flat_machine.specs.Cases.{Runs}
-use Rattle.step_core.specs.Views.{WorldView}
-use Rattle.step_core.specs.Represents.{Represents}
+use Rattle.array_model.specs.Views.{WorldView}
+use Rattle.array_model.specs.Represents.{Represents}
 use Rattle.step_core.specs.Told.{flat_step, flat_answer}
 use Rattle.step_core.proofs.Runnings.{stands, fits_at, sizes_again, runs_step, take_past, some_steps}
 use Rattle.step_core.proofs.run.run_steps.Goals as goal

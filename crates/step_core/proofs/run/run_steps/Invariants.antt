@@ -2,8 +2,8 @@ use Rattle.std.proofs.Common.{◌≡◌, ◌≤◌, take, map, length, vec_len, 
 use Rattle.flat_machine.specs.Flat.{Flat}
 use Rattle.flat_machine.specs.Cases.{Runs}
 use Rattle.step_core.specs.Told.{flat_answer, flat_step}
-use Rattle.step_core.specs.Represents.{Represents}
-use Rattle.step_core.specs.Views.{SameSizes}
+use Rattle.array_model.specs.Represents.{Represents}
+use Rattle.array_model.specs.Views.{SameSizes}
 use Rattle.step_core.proofs.run.run_steps.Given as goal
 
 abbrev pub invariant-loop-at : goal.invariant-loop-at

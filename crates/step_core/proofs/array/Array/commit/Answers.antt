@@ -2,14 +2,14 @@ use Rattle.std.proofs.Common.{◌≡◌, rules, sym, ap, ◌∙◌, subst, get_o
 use Rattle.map_join.specs.Record.{record_at}
 use Rattle.map_join.specs.declared.records.Record.{Record}
 use Rattle.flat_machine.specs.Flat.{Flat}
-use Rattle.step_core.specs.Represents.{ShowsArray}
+use Rattle.array_model.specs.Represents.{ShowsArray}
 use Rattle.flat_machine.specs.Steps.{Committed}
 use Rattle.flat_machine.specs.Cases.{CommitCase}
-use Rattle.step_core.specs.Changes.{commit_view, commit_record, commit_reason}
-use Rattle.step_core.specs.Views.{ArrayView, IsWhole, Nothing, is_waiting, kept_at, key_at}
-use Rattle.step_core.proofs.Fills.{as_whole, as_shown}
-use Rattle.step_core.proofs.Commits.{commit_whole, old_found, passed_apart}
-use Rattle.step_core.proofs.Committing.{commit_case, commit_refused, commit_waits, commit_wants, commit_ok}
+use Rattle.array_model.specs.Changes.{commit_view, commit_record, commit_reason}
+use Rattle.array_model.specs.Views.{ArrayView, IsWhole, Nothing, is_waiting, kept_at, key_at}
+use Rattle.array_model.proofs.Fills.{as_whole, as_shown}
+use Rattle.array_model.proofs.Commits.{commit_whole, old_found, passed_apart}
+use Rattle.array_model.proofs.Committing.{commit_case, commit_refused, commit_waits, commit_wants, commit_ok}
 use Rattle.step_core.proofs.array.Array.commit.Goals as goal
 
 pub returns-in-Err-clause-flat : goal.returns-in-Err-clause-flat

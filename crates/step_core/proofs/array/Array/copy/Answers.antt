@@ -2,11 +2,11 @@ use Rattle.std.proofs.Common.{◌≡◌, rules, ap, ◌∙◌, subst, sym}
 use Rattle.flat_machine.specs.Flat.{Worker}
 use Rattle.flat_machine.specs.Steps.{Copied}
 use Rattle.flat_machine.specs.Cases.{CopyCase}
-use Rattle.step_core.specs.Changes.{copy_view}
-use Rattle.step_core.specs.Views.{IsWhole}
-use Rattle.step_core.proofs.Finds.{read_there}
-use Rattle.step_core.proofs.Fills.{as_whole, as_shown}
-use Rattle.step_core.proofs.Copies.{copy_case, copy_passes, copy_refused, copy_whole}
+use Rattle.array_model.specs.Changes.{copy_view}
+use Rattle.array_model.specs.Views.{IsWhole}
+use Rattle.array_model.proofs.Finds.{read_there}
+use Rattle.array_model.proofs.Fills.{as_whole, as_shown}
+use Rattle.array_model.proofs.Copies.{copy_case, copy_passes, copy_refused, copy_whole}
 use Rattle.step_core.proofs.array.Array.copy.Goals as goal
 
 pub returns-in-Err-clause-flat : goal.returns-in-Err-clause-flat

@@ -1,11 +1,11 @@
 use Rattle.std.proofs.Common.{rules, subst}
 use Rattle.flat_machine.specs.Steps.{Discarded}
 use Rattle.flat_machine.specs.Cases.{DiscardCase}
-use Rattle.step_core.specs.Changes.{discard_view}
-use Rattle.step_core.specs.Views.{IsWhole}
-use Rattle.step_core.proofs.Fills.{as_whole, as_shown}
-use Rattle.step_core.proofs.Discards.{discard_case, discard_whole}
-use Rattle.step_core.proofs.Kepts.{ticket_held}
+use Rattle.array_model.specs.Changes.{discard_view}
+use Rattle.array_model.specs.Views.{IsWhole}
+use Rattle.array_model.proofs.Fills.{as_whole, as_shown}
+use Rattle.array_model.proofs.Discards.{discard_case, discard_whole}
+use Rattle.array_model.proofs.Kepts.{ticket_held}
 use Rattle.step_core.proofs.array.Array.discard.Goals as goal
 
 pub invariant_of-self : goal.invariant_of-self

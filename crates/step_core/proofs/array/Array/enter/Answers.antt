@@ -3,8 +3,8 @@ use Rattle.std.proofs.lemmas.List.{length-map}
 use Rattle.std.specs.Option.{option_map}
 use Rattle.extent_groups.specs.Groups.{AreThere}
 use Rattle.step_core.specs.Kept.{stored_of}
-use Rattle.step_core.specs.Views.{ArrayView, IsWhole}
-use Rattle.step_core.proofs.Makings.{entered_whole, entered_units}
+use Rattle.array_model.specs.Views.{ArrayView, IsWhole}
+use Rattle.array_model.proofs.Makings.{entered_whole, entered_units}
 use Rattle.step_core.proofs.array.Array.enter.Goals as goal
 
 pub enter_group-requires-clause-there : goal.enter_group-requires-clause-there

@@ -3,9 +3,9 @@ use Rattle.std.proofs.Common.{◌≡◌, rules, ap, ◌∙◌, subst}
 use Rattle.flat_machine.specs.Flat.{Worker}
 use Rattle.flat_machine.specs.Steps.{Filled}
 use Rattle.flat_machine.specs.Cases.{FillCase}
-use Rattle.step_core.specs.Changes.{fill_view}
-use Rattle.step_core.specs.Views.{IsWhole}
-use Rattle.step_core.proofs.Fills.{fill_passes, fill_case, fill_refused, fill_whole, as_whole, as_shown}
+use Rattle.array_model.specs.Changes.{fill_view}
+use Rattle.array_model.specs.Views.{IsWhole}
+use Rattle.array_model.proofs.Fills.{fill_passes, fill_case, fill_refused, fill_whole, as_whole, as_shown}
 use Rattle.step_core.proofs.array.Array.fill.Goals as goal
 
 pub returns-in-Some-clause-flat : goal.returns-in-Some-clause-flat

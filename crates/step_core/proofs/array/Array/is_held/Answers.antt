@@ -1,6 +1,6 @@
 use Rattle.std.proofs.Common.{sym, subst, IsTrue, ◌↔◌}
 use Rattle.flat_machine.specs.Flat.{IsKept}
-use Rattle.step_core.proofs.Kepts.{kept_iff}
+use Rattle.array_model.proofs.Kepts.{kept_iff}
 use Rattle.step_core.proofs.array.Array.is_held.Goals as goal
 
 pub returns-clause-flat : goal.returns-clause-flat

@@ -1,9 +1,9 @@
 use Rattle.std.proofs.Common.{sym, subst, ap, ◌∙◌}
 use Rattle.extent_groups.specs.Faults.{put_fault}
 use Rattle.extent_groups.specs.Groups.{AreThere}
-use Rattle.step_core.specs.Views.{ArrayView, IsWhole}
-use Rattle.step_core.specs.Making.{told_of, IsMakeReason}
-use Rattle.step_core.proofs.Makes.{reason_told}
+use Rattle.array_model.specs.Views.{ArrayView, IsWhole}
+use Rattle.array_model.specs.Making.{told_of, IsMakeReason}
+use Rattle.array_model.proofs.Makes.{reason_told}
 use Rattle.step_core.proofs.array.Array.make_fault.Goals as goal
 
 pub returns-clause-reason : goal.returns-clause-reason

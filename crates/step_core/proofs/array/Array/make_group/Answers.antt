@@ -1,8 +1,8 @@
 use Rattle.std.proofs.Common.{rules, subst}
 use Rattle.flat_machine.specs.Groups.{IsLowestFree, IsFull}
-use Rattle.step_core.specs.Views.{ArrayView}
-use Rattle.step_core.specs.Making.{IsMakeReason}
-use Rattle.step_core.proofs.Makings.{make_refused, make_full, make_case, make_passes}
+use Rattle.array_model.specs.Views.{ArrayView}
+use Rattle.array_model.specs.Making.{IsMakeReason}
+use Rattle.array_model.proofs.Makings.{make_refused, make_full, make_case, make_passes}
 use Rattle.step_core.proofs.array.Array.make_group.Goals as goal
 
 pub returns-in-Some-clause-flat : goal.returns-in-Some-clause-flat

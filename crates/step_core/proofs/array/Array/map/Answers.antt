@@ -1,7 +1,7 @@
 use Rattle.std.proofs.Common.{rules, subst}
-use Rattle.step_core.specs.Views.{IsWhole}
+use Rattle.array_model.specs.Views.{IsWhole}
 use Rattle.flat_machine.proofs.Newest.{map_as}
-use Rattle.step_core.proofs.Newest.{map_whole}
+use Rattle.array_model.proofs.Newest.{map_whole}
 use Rattle.step_core.proofs.array.Array.map.Goals as goal
 
 pub returns-clause-ok : goal.returns-clause-ok

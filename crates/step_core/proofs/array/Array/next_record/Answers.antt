@@ -1,7 +1,7 @@
 use Rattle.std.proofs.Common.{◌≡◌, ◌<◌, length, get_or, rules, sym, ap, ◌∙◌}
 use Rattle.std.proofs.lemmas.List.{length-map}
 use Rattle.step_core.specs.Kept.{kept_of}
-use Rattle.step_core.proofs.Tables.{kept_there}
+use Rattle.step_core.proofs.Places.{kept_there}
 use Rattle.step_core.proofs.array.Array.next_record.Goals as goal
 
 pub moved-next-requires : goal.moved-next-requires

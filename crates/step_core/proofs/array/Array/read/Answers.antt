@@ -1,9 +1,9 @@
 use Rattle.std.proofs.Common.{sym, subst, ◌≡◌, ◌∙◌, Some}
 use Rattle.flat_machine.specs.Flat.{Payload, last_write}
 use Rattle.flat_machine.specs.Cases.{found_of}
-use Rattle.step_core.proofs.Fares.{itself, none_gone}
-use Rattle.step_core.proofs.Finds.{read_none, read_some, read_there}
-use Rattle.step_core.proofs.Newest.{newest_is}
+use Rattle.array_model.proofs.Fares.{itself, none_gone}
+use Rattle.array_model.proofs.Finds.{read_none, read_some, read_there}
+use Rattle.array_model.proofs.Newest.{newest_is}
 use Rattle.step_core.proofs.array.Array.read.Goals as goal
 
 pub returns-in_default : goal.returns-in_default

@@ -1,5 +1,5 @@
 use Rattle.step_core.specs.Told.{seen_of}
-use Rattle.step_core.proofs.Seeing.{ahead_case, seen_case, wanted_case}
+use Rattle.array_model.proofs.Seeing.{ahead_case, seen_case, wanted_case}
 use Rattle.step_core.proofs.array.Array.read_at.Goals as goal
 
 pub returns-in-Err : goal.returns-in-Err

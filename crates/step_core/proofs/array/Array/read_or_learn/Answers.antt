@@ -2,12 +2,12 @@ use Rattle.flat_machine.specs.Flat.{Payload, content_in}
 use Rattle.std.proofs.Common.{sym, ap, ◌∙◌, subst, Some}
 use Rattle.flat_machine.specs.Flat.{IsNewest}
 use Rattle.flat_machine.specs.Cases.{IsSeen}
-use Rattle.step_core.specs.Views.{unit_at}
+use Rattle.array_model.specs.Views.{unit_at}
 use Rattle.flat_machine.specs.Steps.{Data, Stale}
 use Rattle.step_core.specs.Told.{Lesson, seen_of}
-use Rattle.step_core.proofs.Finds.{newest_write, read_there}
-use Rattle.step_core.proofs.Newest.{newest_is}
-use Rattle.step_core.proofs.Seeing.{ahead_case, seen_case, data_case}
+use Rattle.array_model.proofs.Finds.{newest_write, read_there}
+use Rattle.array_model.proofs.Newest.{newest_is}
+use Rattle.array_model.proofs.Seeing.{ahead_case, seen_case, data_case}
 use Rattle.step_core.proofs.array.Array.read_or_learn.Goals as goal
 
 pub returns-in-Err : goal.returns-in-Err

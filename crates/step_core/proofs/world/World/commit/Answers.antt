@@ -3,10 +3,10 @@ use Rattle.map_join.specs.Record.{record_at}
 use Rattle.flat_machine.specs.Flat.{Ticket}
 use Rattle.flat_machine.specs.Steps.{Committed}
 use Rattle.flat_machine.specs.Cases.{CommitCase}
-use Rattle.step_core.specs.Changes.{passed_hands}
-use Rattle.step_core.specs.Views.{ArrayView, WorldView, hand_at, key_at}
-use Rattle.step_core.specs.Represents.{ShowsArray, is_ticket}
-use Rattle.step_core.proofs.Hands.{as_world}
+use Rattle.array_model.specs.Changes.{passed_hands}
+use Rattle.array_model.specs.Views.{ArrayView, WorldView, hand_at, key_at}
+use Rattle.array_model.specs.Represents.{ShowsArray, is_ticket}
+use Rattle.array_model.proofs.Hands.{as_world}
 use Rattle.step_core.proofs.Worlds.{commit_world, commit_as}
 use Rattle.step_core.proofs.world.World.commit.Goals as goal
 use Rattle.extent_groups.specs.Groups.{Groups}

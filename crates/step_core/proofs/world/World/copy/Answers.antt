@@ -1,11 +1,11 @@
 use Rattle.std.proofs.Common.{rules, subst, sym, ap, ◌≡◌, ◌∙◌, true, ◌<◌}
 use Rattle.std.proofs.Math.ListN.{set}
-use Rattle.step_core.specs.declared.hand.Hand.TheVariants.{Waits}
+use Rattle.array_model.specs.declared.hand.Hand.TheVariants.{Waits}
 use Rattle.flat_machine.specs.Steps.{Copied}
 use Rattle.flat_machine.specs.Cases.{CopyCase}
-use Rattle.step_core.specs.Views.{ArrayView, WorldView, hand_at}
-use Rattle.step_core.specs.Represents.{ShowsArray, is_claim}
-use Rattle.step_core.proofs.Hands.{as_world}
+use Rattle.array_model.specs.Views.{ArrayView, WorldView, hand_at}
+use Rattle.array_model.specs.Represents.{ShowsArray, is_claim}
+use Rattle.array_model.proofs.Hands.{as_world}
 use Rattle.step_core.proofs.Worlds.{copy_world}
 use Rattle.step_core.proofs.world.World.copy.Goals as goal
 use Rattle.extent_groups.specs.Groups.{Groups}

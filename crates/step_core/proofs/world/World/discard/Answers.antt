@@ -1,12 +1,12 @@
 use Rattle.std.proofs.Common.{rules, subst, sym, ap, ◌≡◌, ◌∙◌, true}
 use Rattle.std.proofs.Math.ListN.{set}
-use Rattle.step_core.specs.declared.hand.Hand.TheVariants.{Holds}
+use Rattle.array_model.specs.declared.hand.Hand.TheVariants.{Holds}
 use Rattle.flat_machine.specs.Flat.{Ticket}
 use Rattle.flat_machine.specs.Steps.{Discarded}
 use Rattle.flat_machine.specs.Cases.{DiscardCase}
-use Rattle.step_core.specs.Views.{ArrayView, WorldView, hand_at}
-use Rattle.step_core.specs.Represents.{ShowsArray, is_ticket}
-use Rattle.step_core.proofs.Hands.{as_world}
+use Rattle.array_model.specs.Views.{ArrayView, WorldView, hand_at}
+use Rattle.array_model.specs.Represents.{ShowsArray, is_ticket}
+use Rattle.array_model.proofs.Hands.{as_world}
 use Rattle.step_core.proofs.Worlds.{discard_world}
 use Rattle.step_core.proofs.world.World.discard.Goals as goal
 

@@ -1,12 +1,12 @@
 use Rattle.flat_machine.specs.Flat.{Payload}
 use Rattle.std.proofs.Common.{rules, subst, sym, ap, ◌≡◌, ◌∙◌, true}
 use Rattle.std.proofs.Math.ListN.{set}
-use Rattle.step_core.specs.declared.hand.Hand.TheVariants.{Waits}
+use Rattle.array_model.specs.declared.hand.Hand.TheVariants.{Waits}
 use Rattle.flat_machine.specs.Steps.{Filled}
 use Rattle.flat_machine.specs.Cases.{FillCase}
-use Rattle.step_core.specs.Views.{ArrayView, WorldView, hand_at}
-use Rattle.step_core.specs.Represents.{ShowsArray, is_claim}
-use Rattle.step_core.proofs.Hands.{as_world}
+use Rattle.array_model.specs.Views.{ArrayView, WorldView, hand_at}
+use Rattle.array_model.specs.Represents.{ShowsArray, is_claim}
+use Rattle.array_model.proofs.Hands.{as_world}
 use Rattle.step_core.proofs.Worlds.{fill_world}
 use Rattle.step_core.proofs.world.World.fill.Goals as goal
 use Rattle.extent_groups.specs.Groups.{Groups}

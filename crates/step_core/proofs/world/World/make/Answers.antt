@@ -1,9 +1,9 @@
 use Rattle.std.proofs.Common.{rules, ap, subst, sym}
 use Rattle.flat_machine.specs.Steps.{MadeGroup}
 use Rattle.flat_machine.specs.Cases.{MakeCase}
-use Rattle.step_core.specs.Views.{ArrayView, WorldView}
-use Rattle.step_core.specs.Represents.{ShowsArray}
-use Rattle.step_core.proofs.Hands.{as_world}
+use Rattle.array_model.specs.Views.{ArrayView, WorldView}
+use Rattle.array_model.specs.Represents.{ShowsArray}
+use Rattle.array_model.proofs.Hands.{as_world}
 use Rattle.step_core.proofs.Worlds.{make_world}
 use Rattle.step_core.proofs.world.World.make.Goals as goal
 

@@ -1,6 +1,6 @@
 use Rattle.std.proofs.Common.{ap, subst, sym}
-use Rattle.step_core.specs.Views.{ArrayView, WorldView}
-use Rattle.step_core.specs.Represents.{ShowsArray}
+use Rattle.array_model.specs.Views.{ArrayView, WorldView}
+use Rattle.array_model.specs.Represents.{ShowsArray}
 use Rattle.step_core.proofs.world.World.read.Goals as goal
 
 pub returns-in-Ok-clause-ok : goal.returns-in-Ok-clause-ok

@@ -7,8 +7,8 @@ use Rattle.flat_machine.specs.Steps.{FlatStep, Fill, Make}
 use Rattle.extent_groups.specs.declared.class.Member.{Member}
 use Rattle.flat_machine.specs.Cases.{Case, IsWanted}
 use Rattle.step_core.specs.Told.{flat_step, flat_answer}
-use Rattle.step_core.specs.Views.{WorldView}
-use Rattle.step_core.specs.Represents.{Represents}
+use Rattle.array_model.specs.Views.{WorldView}
+use Rattle.array_model.specs.Represents.{Represents}
 use Rattle.step_core.proofs.world.World.step.Goals as goal
 
 -- an answer is the flat machine's, and the world stands for the state that it leaves

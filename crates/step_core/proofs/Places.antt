@@ -6,10 +6,8 @@ use Rattle.std.proofs.lemmas.Bool.{cases_eq}
 use Rattle.std.proofs.lemmas.Option.{same_Some, slice_get-get_or}
 use Rattle.step_core.specs.declared.place.Place.{Place}
 use Rattle.step_core.specs.declared.place.Place.TheVariants as place
-use Rattle.std.specs.Option.{option_map}
-use Rattle.step_core.specs.declared.stored.StoredUnit.{StoredUnit}
-use Rattle.step_core.specs.Kept.{kept_of, kepts_of, stored_of, units_of, IsOf, AreOf}
-use Rattle.step_core.specs.Views.{Nothing}
+use Rattle.step_core.specs.Kept.{kept_of, kepts_of, IsOf, AreOf}
+use Rattle.array_model.specs.Views.{Nothing}
 
 -- what is kept at a place
 pub kept_there : {C : Type 0} (places : List (Place C)) (s : ℕ) (d : Place C) → s < length places
@@ -19,13 +17,6 @@ kept_there places s d h = sym (get_or-map kept_of places s d Nothing h)
 -- tables as plain data, with one place changed
 pub kepts_set : {C : Type 0} (places : List (Place C)) (s : ℕ) (p : Place C) → kepts_of (set places s p) ≡ set (kepts_of places) s (kept_of p)
 kepts_set places s p = map-set kept_of places s p
-
-pub units_set : (units : List (Option StoredUnit)) (s : ℕ) (u : StoredUnit) → units_of (set units s (Some u)) ≡ set (units_of units) s (Some (stored_of u))
-units_set units s u = map-set (option_map stored_of) units s (Some u)
-
-pub unit_there : (units : List (Option StoredUnit)) (s : ℕ) (d : Option StoredUnit) → s < length units
-    → get_or (units_of units) s None ≡ option_map stored_of (get_or units s d)
-unit_there units s d h = get_or-map (option_map stored_of) units s d None h
 
 -- one place with a claim of its slot put in, each place has a claim of its slot
 pub claims_put : {C : Type 0} (names : C → ℕ) (places : List (Place C)) (s : ℕ) (p : Place C)

@@ -2,7 +2,7 @@ use Rattle.std.proofs.Common.{◌∙◌, ap, sym, subst, length, rules}
 use Rattle.std.proofs.lemmas.List.{length-map, length-replicate}
 use Rattle.extents.specs.Owners.{Owners}
 use Rattle.extent_groups.specs.Groups.{Agree}
-use Rattle.step_core.proofs.News.{none_kept, none_stored, new_whole}
+use Rattle.array_model.proofs.News.{none_kept, none_stored, new_whole}
 use Rattle.step_core.proofs.array.tables.Goals as goal
 
 pub returns-clause-new : goal.returns-clause-new

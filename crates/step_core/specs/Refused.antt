@@ -1,0 +1,16 @@
+-- What a refused call leaves of an array.
+use Rattle.std.specs.Prelude.{◌≡◌}
+use Rattle.flat_machine.specs.declared.refusal.Refusal.{Refusal}
+use Rattle.flat_machine.specs.declared.refusal.Refusal.TheVariants.{Gone, DriveLost}
+use Rattle.array_parts.specs.Views.{Loses}
+use Rattle.array_model.specs.Views.{ArrayView, with_parts}
+
+-- all but its drives, of which some may have been lost
+abbrev pub OnlyLoses : ArrayView → ArrayView → Type 0
+OnlyLoses a b = (b ≡ with_parts a b.parts) × Loses a.parts b.parts
+
+-- the array as it was; where a drive is told to be lost or a slot to be gone, drives may have been lost
+abbrev pub IsRefused : ArrayView → ArrayView → Refusal → Type 0
+IsRefused a b (Gone slot) = OnlyLoses a b
+IsRefused a b (DriveLost drive) = OnlyLoses a b
+IsRefused a b _ = b ≡ a

@@ -1,0 +1,88 @@
+// What an array has its drives do for a slot. All but its parts stay as they were.
+ghost use Rattle.std.specs.Prelude.{◌≡◌, length, OnOk, IfOk, IfErr, None};
+ghost use Rattle.extents.specs.Header.{IsHeader};
+ghost use Rattle.extent_groups.specs.Faults.{put_fault};
+ghost use Rattle.extent_groups.specs.Groups.{AreThere};
+ghost use Rattle.flat_machine.specs.Flat.{Payload, waiting_unit};
+ghost use Rattle.flat_machine.specs.Groups.{IsLowestFree};
+ghost use Rattle.array_parts.specs.Slots.{IsSlot};
+ghost use Rattle.array_parts.specs.Views.{seen_of, FoundGone, WasPut, WasCarried, WasNotCarried, WasRead, SawUnit, Entered, FoundLost};
+ghost use Rattle.array_model.specs.Views.{with_parts};
+ghost use Rattle.array_model.specs.Making.{IsMakeReason};
+
+use crate::array::Array;
+use crate::hold::Hold;
+use array_parts::Sight;
+use extent_groups::{Class, Member};
+use extents::{Drive, Header};
+use flat_machine::Refusal;
+use map_join::Record;
+
+impl<D: Drive, C: Hold> Array<D, C> {
+    // Writes a payload under a blank header.
+    pub(crate) fn put(&mut self, slot: u16, payload: &[u8]) -> Result<(), Refusal>
+        requires slot { IsSlot self.old.parts.groups slot }
+        requires payload { length payload.now ≡ self.old.parts.groups.payload }
+        ensures ok { OnOk result (WasPut self.old.parts self.new.parts slot (waiting_unit self.old.parts.groups.payload (Payload payload.now))) }
+        ensures err { IfErr result (FoundGone self.old.parts self.new.parts slot) }
+        ensures rest { self.new ≡ with_parts self.old self.new.parts }
+    {
+        self.parts
+            .put(slot, payload, &mut self.unit, &mut self.scratch)
+    }
+
+    // Writes what a slot holds into a slot, under another header.
+    pub(crate) fn carry(&mut self, from: u16, to: u16, header: &Header) -> Result<(), Refusal>
+        requires from { IsSlot self.old.parts.groups from }
+        requires to { IsSlot self.old.parts.groups to }
+        requires header { IsHeader header.now }
+        ensures ok { OnOk result (WasCarried self.old.parts self.new.parts from to header.now) }
+        ensures err { IfErr result (WasNotCarried self.old.parts self.new.parts from to) }
+        ensures rest { self.new ≡ with_parts self.old self.new.parts }
+    {
+        self.parts
+            .carry(from, to, header, &mut self.unit, &mut self.scratch)
+    }
+
+    // Reads the payload of a slot.
+    pub(crate) fn payload_at(&mut self, slot: u16, payload: &mut [u8]) -> Result<(), Refusal>
+        requires slot { IsSlot self.old.parts.groups slot }
+        requires payload { length payload.old ≡ self.old.parts.groups.payload }
+        ensures ok { OnOk result (WasRead self.old.parts self.new.parts slot payload.new) }
+        ensures err { IfErr result (FoundGone self.old.parts self.new.parts slot) }
+        ensures rest { self.new ≡ with_parts self.old self.new.parts }
+    {
+        self.parts
+            .payload(slot, payload, &mut self.unit, &mut self.scratch)
+    }
+
+    // Looks for a record at its place, and reads the payload where it is there.
+    pub(crate) fn sight(&mut self, asked: &Record, payload: &mut [u8]) -> Result<Sight, Refusal>
+        requires slot { IsSlot self.old.parts.groups asked.now.place }
+        requires payload { length payload.old ≡ self.old.parts.groups.payload }
+        ensures ok { IfOk result (λ sight. SawUnit self.old.parts self.new.parts asked.now (seen_of sight payload.new)) }
+        ensures err { IfErr result (FoundGone self.old.parts self.new.parts asked.now.place) }
+        ensures rest { self.new ≡ with_parts self.old self.new.parts }
+    {
+        self.parts
+            .see(asked, payload, &mut self.unit, &mut self.scratch)
+    }
+
+    // Makes a group under a free number, of members that pass every check.
+    pub(crate) fn enter(
+        &mut self,
+        number: u16,
+        class: Class,
+        members: Vec<Member>,
+    ) -> Result<(), Refusal>
+        requires free { IsLowestFree self.old.parts.groups number }
+        requires there { AreThere self.old.parts.owners members.items }
+        requires fine { put_fault self.old.parts.owners members.items ≡ None }
+        requires reason { IsMakeReason self.old members.items None }
+        ensures ok { OnOk result (Entered self.old.parts number class members.items self.new.parts) }
+        ensures err { IfErr result (FoundLost self.old.parts members.items self.new.parts) }
+        ensures rest { self.new ≡ with_parts self.old self.new.parts }
+    {
+        self.parts.enter(number, class, members, &mut self.unit)
+    }
+}

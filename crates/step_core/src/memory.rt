@@ -1,0 +1,57 @@
+// Arrays of drives in memory.
+ghost use Rattle.std.specs.Prelude.{◌≡◌, ℕ, ◌+◌, ◌*◌, ◌<◌, ◌≤◌, length, true, slice_get, Some, IfOk};
+ghost use Rattle.extents.specs.Condition.{Held};
+ghost use Rattle.extents.specs.Sizes.{extent_units};
+ghost use Rattle.extents.specs.declared.mem_drive.Condition.TheVariants.{Present};
+ghost use Rattle.extents.specs.declared.shape.TheConstants.{HEADER_BYTES};
+ghost use Rattle.extent_groups.specs.Calls.{AreSized};
+ghost use Rattle.flat_machine.specs.Flat.{Flat, put};
+ghost use Rattle.array_parts.specs.Fit.{HaveUnits};
+ghost use Rattle.array_parts.specs.Memory.{held_units};
+ghost use Rattle.array_parts.specs.Views.{SameTables, lost_of, failed_of, Shows};
+ghost use Rattle.array_model.specs.Views.{with_parts};
+ghost use Rattle.step_core.specs.Losing.{WasLost, WasFused};
+
+use crate::array::Array;
+use crate::hold::Hold;
+use extents::{MemDrive, Shape};
+use std::alloc::{AllocError, Global};
+
+// Drives of a shape, all of whose units are zero.
+pub(crate) fn new_drives(
+    alloc: Global,
+    shape: &Shape,
+    count: u8,
+) -> Result<Vec<MemDrive>, AllocError>
+    ensures count { IfOk result (λ drives. length drives.items ≡ count) }
+    ensures units { IfOk result (λ drives. HaveUnits held_units drives.items (shape.now.extents * extent_units shape.now.segments)) }
+    ensures sized { IfOk result (λ drives. AreSized held_units (HEADER_BYTES + shape.now.payload) drives.items) }
+    ensures present { IfOk result (λ drives. (d : ℕ) (m : Held) → slice_get drives.items d ≡ Some m → m.condition ≡ Present) }
+{
+    let mut drives = Vec::with_capacity(alloc, usize::from(count))?;
+    for _made in 0..count {
+        drives.push_reserved(MemDrive::new(alloc, shape)?);
+    }
+    Ok(drives)
+}
+
+impl<C: Hold> Array<MemDrive, C> {
+    /// Loses a drive from outside.
+    pub fn lose(&mut self, drive: u8)
+        requires { drive < length self.old.parts.drives }
+        ensures lost { WasLost self.old.parts self.new.parts drive }
+        ensures rest { self.new ≡ with_parts self.old self.new.parts }
+    {
+        self.parts.lose(drive);
+    }
+
+    /// Loses a drive at the given read or write of it from now on, counted from 1, and for all later ones.
+    pub fn fuse(&mut self, drive: u8, calls: u64)
+        requires drive { drive < length self.old.parts.drives }
+        requires calls { 1 ≤ calls }
+        ensures fused { WasFused self.old.parts self.new.parts }
+        ensures rest { self.new ≡ with_parts self.old self.new.parts }
+    {
+        self.parts.fuse(drive, calls);
+    }
+}
