@@ -1,3 +1,5 @@
 pub mod Places
+pub mod Ready
+pub mod News
 pub mod Worlds
 pub mod Runnings

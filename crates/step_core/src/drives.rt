@@ -27,8 +27,9 @@ impl<D: Drive, C: Hold> Array<D, C> {
         ensures err { IfErr result (FoundGone self.old.parts self.new.parts slot) }
         ensures rest { self.new ≡ with_parts self.old self.new.parts }
     {
-        self.parts
-            .put(slot, payload, &mut self.unit, &mut self.scratch)
+        let unit: &mut [u8] = &mut self.unit;
+        let scratch: &mut [u8] = &mut self.scratch;
+        self.parts.put(slot, payload, unit, scratch)
     }
 
     // Writes what a slot holds into a slot, under another header.
@@ -40,8 +41,9 @@ impl<D: Drive, C: Hold> Array<D, C> {
         ensures err { IfErr result (WasNotCarried self.old.parts self.new.parts from to) }
         ensures rest { self.new ≡ with_parts self.old self.new.parts }
     {
-        self.parts
-            .carry(from, to, header, &mut self.unit, &mut self.scratch)
+        let unit: &mut [u8] = &mut self.unit;
+        let scratch: &mut [u8] = &mut self.scratch;
+        self.parts.carry(from, to, header, unit, scratch)
     }
 
     // Reads the payload of a slot.
@@ -52,8 +54,9 @@ impl<D: Drive, C: Hold> Array<D, C> {
         ensures err { IfErr result (FoundGone self.old.parts self.new.parts slot) }
         ensures rest { self.new ≡ with_parts self.old self.new.parts }
     {
-        self.parts
-            .payload(slot, payload, &mut self.unit, &mut self.scratch)
+        let unit: &mut [u8] = &mut self.unit;
+        let scratch: &mut [u8] = &mut self.scratch;
+        self.parts.payload(slot, payload, unit, scratch)
     }
 
     // Looks for a record at its place, and reads the payload where it is there.
@@ -64,8 +67,9 @@ impl<D: Drive, C: Hold> Array<D, C> {
         ensures err { IfErr result (FoundGone self.old.parts self.new.parts asked.now.place) }
         ensures rest { self.new ≡ with_parts self.old self.new.parts }
     {
-        self.parts
-            .see(asked, payload, &mut self.unit, &mut self.scratch)
+        let unit: &mut [u8] = &mut self.unit;
+        let scratch: &mut [u8] = &mut self.scratch;
+        self.parts.see(asked, payload, unit, scratch)
     }
 
     // Makes a group under a free number, of members that pass every check.
