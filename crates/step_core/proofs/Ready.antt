@@ -1,5 +1,5 @@
 -- What an array keeps by itself, with other drives.
-use Rattle.std.proofs.Common.{◌≡◌, ℕ, ◌*◌, Bool, ap, ◌⊎◌, inl, inr, List, length, sym, ◌∙◌, Vec, Result, Ok, Err, IfOk, IfErr}
+use Rattle.std.proofs.Common.{◌≡◌, ℕ, ◌*◌, Bool, ap, ◌⊎◌, inl, inr, List, length, sym, subst, ◌∙◌, Vec, Result, Ok, Err, IfOk, IfErr}
 use Rattle.std.specs.Global.{Global}
 use Rattle.std.specs.List.{length_refill}
 use Rattle.std.specs.Vec.{with_items}
@@ -7,9 +7,13 @@ use Rattle.extent_groups.specs.Groups.{Groups}
 use Rattle.extent_groups.specs.Stores.{unit_bytes}
 use Rattle.array_parts.specs.declared.parts.Parts.{Parts}
 use Rattle.array_parts.specs.Fit.{IsFit}
-use Rattle.array_model.specs.Views.{IsWhole}
+use Rattle.flat_machine.specs.Flat.{Flat}
+use Rattle.array_model.specs.Changes.{MayRefuse}
+use Rattle.array_model.specs.Represents.{ShowsArray}
+use Rattle.array_model.specs.Views.{ArrayView, IsWhole}
 use Rattle.array_model.proofs.Wholes.{whole_parts}
 use Rattle.step_core.specs.declared.array.Array.TheInside.{Inside}
+use Rattle.step_core.specs.declared.place.Place.{Place}
 use Rattle.step_core.specs.Inside.{seen, IsReady}
 use Rattle.array_parts.specs.Views.{view_of, PartsView, SameTables, DrivesFare, Loses, FoundGone, WasNotCarried}
 use Rattle.flat_machine.specs.declared.refusal.Refusal.{Refusal}
@@ -57,3 +61,12 @@ still_ready units lost failures a p unit scratch same fit ready =
       unit = length_again a.unit unit ∙ ready.unit ∙ groups;
       scratch = length_again a.scratch scratch ∙ ready.scratch ∙ ap (λ n. 2 * n) groups;
     }
+
+-- with other places it is ready still
+pub places_ready : {D C : Type 0} (units : D → List (List ℕ)) (a : Inside D C) (places : Vec (Place C) Global) → IsReady units a → IsReady units (record a { places = places })
+places_ready units a places ready = record { fit = ready.fit; unit = ready.unit; scratch = ready.scratch }
+
+-- what a refusal leaves of one array it leaves of an equal one
+pub as_refused : (q : Refusal) (W : Type 0) (P : Flat → Type 0) (b a : ArrayView) → b ≡ a → MayRefuse q W ((G : Flat) × P G × ShowsArray a G)
+    → MayRefuse q W ((G : Flat) × P G × ShowsArray b G)
+as_refused q W P b a is may = subst (λ (z : ArrayView). MayRefuse q W ((G : Flat) × P G × ShowsArray z G)) (sym is) may
