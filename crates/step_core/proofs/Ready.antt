@@ -70,3 +70,8 @@ places_ready units a places ready = record { fit = ready.fit; unit = ready.unit;
 pub as_refused : (q : Refusal) (W : Type 0) (P : Flat → Type 0) (b a : ArrayView) → b ≡ a → MayRefuse q W ((G : Flat) × P G × ShowsArray a G)
     → MayRefuse q W ((G : Flat) × P G × ShowsArray b G)
 as_refused q W P b a is may = subst (λ (z : ArrayView). MayRefuse q W ((G : Flat) × P G × ShowsArray z G)) (sym is) may
+
+-- a slot that wasn't carried onto itself is gone
+pub carried_gone : (a b : PartsView) (slot : ℕ) (q : Refusal) → WasNotCarried a b slot slot q → FoundGone a b slot q
+carried_gone a b slot q (inl gone) = gone
+carried_gone a b slot q (inr gone) = gone.1
