@@ -97,3 +97,20 @@ pub gone_stays : (F G : Flat) (s : ℕ) → Leaves F G → IsGoneIn F s → IsGo
 gone_stays F G s leaves gone =
     subst (λ (g : Groups). IsGone g G.lost s) (sym (ap (λ (z : Flat). z.groups) leaves.same))
     (gone.0, gone.1, gone_at F.lost G.lost gone.0 (λ d. (leaves.drives d).stays) gone.2)
+
+pub loses_itself : (a : PartsView) → Loses a a
+loses_itself a = record {
+  fares = record { many = refl; each = λ d. record { stays = λ e. e; count = no_loss (failed_of a d) (lost_of a d) } };
+  shows = λ units shown. shown;
+  rest = record { groups = refl; owners = refl };
+}
+
+pub loses_more : (a m b : PartsView) → Loses a m → Loses m b → Loses a b
+loses_more a m b one two = record {
+  fares = record {
+    many = two.fares.many ∙ one.fares.many;
+    each = λ d. fares_more (lost_of a d) (lost_of m d) (lost_of b d) (failed_of a d) (failed_of m d) (failed_of b d) (one.fares.each d) (two.fares.each d);
+  };
+  shows = λ units shown. two.shows units (one.shows units shown);
+  rest = record { groups = two.rest.groups ∙ one.rest.groups; owners = two.rest.owners ∙ one.rest.owners };
+}

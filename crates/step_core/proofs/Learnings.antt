@@ -2,21 +2,22 @@
 use Rattle.std.proofs.Common.{◌≡◌, ◌≤◌, ℕ, refl, sym, ap, ◌∙◌, subst, inl, inr, Option, Some, None, List}
 use Rattle.map_join.specs.declared.records.Record.{Record}
 use Rattle.map_join.specs.Record.{key_of, record_at}
-use Rattle.array_parts.specs.Views.{WasRead, FoundGone}
+use Rattle.array_parts.specs.Views.{Loses, WasRead, FoundGone}
 use Rattle.flat_machine.specs.declared.refusal.Refusal.{Refusal}
 use Rattle.flat_machine.specs.declared.refusal.Refusal.TheVariants.{Ahead}
 use Rattle.flat_machine.specs.Flat.{Flat, Write, Payload, last_write}
-use Rattle.flat_machine.specs.Steps.{Data, Stale}
+use Rattle.flat_machine.specs.Steps.{Seen, Data, Stale}
 use Rattle.flat_machine.specs.Cases.{IsAhead, IsBehind}
 use Rattle.flat_machine.specs.Learning.{LearnedCase, UnlearnedCase}
 use Rattle.array_model.specs.Changes.{MayRefuse}
 use Rattle.array_model.specs.Reads.{WasSeen}
 use Rattle.array_model.specs.Represents.{ShowsArray}
 use Rattle.array_model.specs.Views.{ArrayView, with_parts, key_at}
-use Rattle.array_model.proofs.Fares.{fared, itself, gone_as, gone_back, gone_stays, leaves_more, lost_shows, lost_leaves}
+use Rattle.array_model.proofs.Fares.{fared, itself, gone_as, gone_back, gone_stays, leaves_more, loses_itself, loses_more, lost_shows, lost_leaves}
 use Rattle.array_model.proofs.Finds.{newest_write}
 use Rattle.array_model.proofs.Newest.{newest_told, newest_is}
 use Rattle.array_model.proofs.Seeing.{seen_case}
+use Rattle.step_core.specs.Refused.{IsRefused}
 
 -- the array tells this as the newest record of the block, and the one asked for isn't greater
 pub record Tells (a : ArrayView) (r n : Record) : Type 0 where
@@ -91,3 +92,14 @@ unlearned_there a m b F r n found q shows tells rest was last gone =
       ),
       subst (λ (v : ArrayView). ShowsArray v (fared M b.parts)) (sym last) (lost_shows m M b.parts y.2 gone.loses),
     )
+
+-- however much was read, the array is as it was but for losses
+saw_loses : (a m : ArrayView) (r : Record) (seen : Seen) → WasSeen a m r seen → Loses a.parts m.parts
+saw_loses a m r seen (inl none) = subst (λ (v : ArrayView). Loses a.parts v.parts) (sym none.2) (loses_itself a.parts)
+saw_loses a m r seen (inr saw) = saw.loses
+
+pub unlearned_refused : (a m b : ArrayView) (r : Record) (seen : Seen) (slot : ℕ) (q : Refusal) → m ≡ with_parts a m.parts → WasSeen a m r seen → b ≡ with_parts m b.parts
+    → FoundGone m.parts b.parts slot q → IsRefused a b q
+unlearned_refused a m b r seen slot q rest was last gone =
+    subst (IsRefused a b) (sym gone.told)
+    (last ∙ ap (λ (v : ArrayView). with_parts v b.parts) rest, loses_more a.parts m.parts b.parts (saw_loses a m r seen was) gone.loses)

@@ -10,7 +10,7 @@ use Rattle.array_model.specs.Reads.{WasSeen}
 use Rattle.array_model.specs.Represents.{ShowsArray}
 use Rattle.array_model.proofs.Newest.{newest_is}
 use Rattle.step_core.specs.Told.{Lesson}
-use Rattle.step_core.proofs.Learnings.{Tells, learned_here, learned_there, unlearned_ahead, unlearned_here, unlearned_there}
+use Rattle.step_core.proofs.Learnings.{Tells, learned_here, learned_there, unlearned_ahead, unlearned_here, unlearned_there, unlearned_refused}
 use Rattle.step_core.proofs.array.Array.read_or_learn.Goals as goal
 
 pub returns-in-Err-clause-flat : goal.returns-in-Err-clause-flat
@@ -50,6 +50,12 @@ returns-in-Err-payload_at-clause-flat g c F shows =
     let was : WasSeen c.args.self.now c.look.new.self c.args.asked (Stale c.in-Ok-Stale._found) = search rules in
     unlearned_there c.args.self.now c.look.new.self c.payload_at.new.self F c.args.asked c.in-Ok.newest c.in-Ok-Stale._found c.in-Err-payload_at.refusal shows
     (record { told = newest.0; most = newest.1 }) c.look.ensures.rest was c.payload_at.ensures.rest c.in-Err-payload_at.ensures.err
+
+pub returns-in-Err-payload_at-clause-err : goal.returns-in-Err-payload_at-clause-err
+returns-in-Err-payload_at-clause-err g c =
+    let was : WasSeen c.args.self.now c.look.new.self c.args.asked (Stale c.in-Ok-Stale._found) = search rules in
+    unlearned_refused c.args.self.now c.look.new.self c.payload_at.new.self c.args.asked (Stale c.in-Ok-Stale._found) c.in-Ok.newest.place c.in-Err-payload_at.refusal
+    c.look.ensures.rest was c.payload_at.ensures.rest c.in-Err-payload_at.ensures.err
 
 pub returns-in-Err-look-clause-flat : goal.returns-in-Err-look-clause-flat
 returns-in-Err-look-clause-flat g c F shows =
