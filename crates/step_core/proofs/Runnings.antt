@@ -22,17 +22,8 @@ run_more F M G [] (a ∷ answers) step answer run case = absurd run
 run_more F M G (s ∷ steps) [] step answer run case = absurd run
 run_more F M G (s ∷ steps) (a ∷ answers) step answer run case = (run.0, run.1, run_more run.0 M G steps answers step answer run.2 case)
 
--- every state that a world stands for
-pub stands : (w : WorldView) (F : Flat) → Represents w F → Stands w F
-stands w F rep = record {
-  once = rep.held.once;
-  map = rep.array.history.map;
-  read = λ b. ((rep.array.history.written b).0, λ some. let y = (rep.array.history.written b).1 some in (y.0, y.1, y.2.unit));
-  every = λ records M same is. map_unique records F.emitted M (key_at w.array) same is rep.array.history.map;
-}
-
 -- a step that fits an array fits one of the same sizes
-fits_same : (a b : ArrayView) (step : Step) → SameSizes a b → FitsStep a.groups step → FitsStep b.groups step
+fits_same : (a b : ArrayView) (step : Step) → SameSizes a b → FitsStep a.parts.groups step → FitsStep b.parts.groups step
 fits_same a b (step.Claim w s) same fits = fits
 fits_same a b (step.Release w s) same fits = fits
 fits_same a b (step.Fill w s payload) same fits = (fits.0, fits.1 ∙ sym same.payload)

@@ -1,21 +1,49 @@
--- What holds of every state that a run leaves: every map that took just the emitted records is the array's, a read through
--- it answers each block's last write, and no slot has two holders.
-use Rattle.std.specs.Prelude.{◌≡◌, ◌<◌, ℕ, List, Some, None}
+-- What holds of every state that a run leaves: every map that took just the emitted records is the array's; where each group
+-- misses at most one member it is the map that the headers tell, and no slot is gone; a read through it answers each block's
+-- last write; and no slot has two holders.
+use Rattle.std.specs.Prelude.{◌≡◌, ◌<◌, ℕ, List, Option, Some, None}
 use Rattle.map_join.specs.declared.records.Record.{Record}
 use Rattle.map_join.specs.Record.{record_of}
 use Rattle.map_join.specs.Maps.{IsSame, IsMapOf, HasSameRecords}
-use Rattle.flat_machine.specs.Flat.{Flat, Write, HeldOnce, last_write}
-use Rattle.flat_machine.specs.History.{IsAt}
+use Rattle.extents.specs.Header.{record_in}
+use Rattle.extent_groups.specs.Missing.{MissAtMostOne}
+use Rattle.extent_groups.specs.Stores.{unit_of}
+use Rattle.array_parts.specs.Shows.{IsUnit}
+use Rattle.array_parts.specs.Views.{PartsView, IsLost, cells_of, lost_of}
+use Rattle.flat_machine.specs.Flat.{Flat, Write, HeldOnce, Content, Stored, content_in, last_write}
+use Rattle.flat_machine.specs.Scanned.{IsScanned}
 use Rattle.array_model.specs.Views.{WorldView, key_at}
 
--- reading through a key: the unit at its place has the record that it tells, with the content of the block's last write
-abbrev pub ReadsThrough : Flat → ℕ → ℕ → Type 0
-ReadsThrough F b key = (key ≡ 0 → last_write F.writes b ≡ None)
-    × (0 < key → (w : Write) × (last_write F.writes b ≡ Some w) × (IsAt F.units (record_of b key) w.content))
+-- what the drives have of a slot: the effective unit, where it exists
+abbrev pub bytes_of : PartsView → ℕ → Option (List ℕ)
+bytes_of v slot = unit_of v.groups (cells_of v) slot
 
--- every map of just those records, in any order and with any repeats, is the running array's map
+-- the drives have a unit at a record's place, with that record in its header, and with this content
+pub record LiesAt (v : PartsView) (r : Record) (x : Content) : Type 0 where
+  pub bytes : List ℕ
+  pub there : bytes_of v r.place ≡ Some bytes
+  pub unit : Stored
+  pub is : IsUnit bytes unit
+  pub header : record_in unit.header ≡ Some r
+  pub content : content_in unit ≡ x
+
+-- reading through a key: where there is none the block was never written; else the drives have the content of its last write at
+-- the place of the record that the key tells, under that record, unless this slot is gone
+abbrev pub ReadsThrough : PartsView → Flat → ℕ → ℕ → Type 0
+ReadsThrough v F b key = (key ≡ 0 → last_write F.writes b ≡ None)
+    × (0 < key → (w : Write) × (last_write F.writes b ≡ Some w) × ((IsLost v (record_of b key).place → ⊥) → LiesAt v (record_of b key) w.content))
+
+-- each group misses at most one member: one drive is lost, or none, or several of which no group has two
+abbrev pub IsOneMissed : PartsView → Type 0
+IsOneMissed v = MissAtMostOne v.groups (lost_of v)
+
 pub record Stands (w : WorldView) (F : Flat) : Type 0 where
   pub once : HeldOnce F
+  -- every map of just those records, in any order and with any repeats, is the running array's map
   pub map : IsMapOf F.emitted (key_at w.array)
-  pub read : (b : ℕ) → ReadsThrough F b (key_at w.array b)
   pub every : (records : List Record) (M : ℕ → ℕ) → HasSameRecords records F.emitted → IsMapOf records M → IsSame M (key_at w.array)
+  pub read : (b : ℕ) → ReadsThrough w.array.parts F b (key_at w.array b)
+  -- so is every map of the headers
+  pub here : IsOneMissed w.array.parts → (slot : ℕ) → IsLost w.array.parts slot → ⊥
+  pub scanned : IsOneMissed w.array.parts → (M : ℕ → ℕ) → IsScanned (bytes_of w.array.parts) M → IsSame M (key_at w.array)
+  pub headers : IsOneMissed w.array.parts → IsScanned (bytes_of w.array.parts) (key_at w.array)
