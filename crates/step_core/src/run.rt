@@ -4,7 +4,7 @@ ghost use Rattle.flat_machine.specs.Flat.{Flat};
 ghost use Rattle.flat_machine.specs.Cases.{Case, Runs, IsWanted};
 ghost use Rattle.step_core.specs.Told.{flat_answer, flat_step, FitsStep};
 ghost use Rattle.step_core.specs.declared.step.Step.{Step};
-ghost use Rattle.array_model.specs.Views.{WorldView, SameSizes};
+ghost use Rattle.array_model.specs.Views.{WorldView, SameSizes, IsWhole};
 ghost use Rattle.array_model.specs.Represents.{Represents};
 ghost use Rattle.step_core.specs.Headline.{Stands};
 
@@ -31,10 +31,11 @@ pub struct Stopped {
     pub at: usize,
 }
 
-/// The headline of every state that a world stands for: no slot has two holders, every map of just the
-/// emitted records is the running map, and a read through it finds each block's last write.
+/// The headline of every state that a world stands for: no slot has two holders; every map of just the
+/// emitted records is the running map, and where each group misses at most one member so is the map that
+/// the headers tell; and a read through it finds each block's last write on the drives.
 pub fn represented_stands()
-    ensures { (world : WorldView) (F : Flat) → Represents world F → Stands world F }
+    ensures { (world : WorldView) (F : Flat) → IsWhole world.array → Represents world F → Stands world F }
 {
     // The law is the contract: there is nothing to do.
 }
@@ -83,6 +84,7 @@ impl World {
         ensures err { OnErr result (self.new ≡ self.old) }
         ensures wants { OnErr result ((F : Flat) → Represents self.old F → IsWanted F (flat_step step.now)) }
         ensures room { SameSizes self.old.array self.new.array }
+        ensures whole { IsWhole self.new.array }
     {
         match step {
             Step::Claim { worker, slot } => Ok(self.claim(*worker, *slot)),
@@ -120,6 +122,7 @@ pub fn run_steps(alloc: Global, mut world: World, steps: &[Step]) -> Result<Run,
         × (stop.at < length steps.now)
         × ((stop.at ≡ 0) ⊎ ((step : Step) × (slice_get steps.now stop.at ≡ Some step) × IsWanted G (flat_step step)))) }
 {
+    let _array = world.array();
     let mut answers = match Vec::with_capacity(alloc, steps.len()) {
         Ok(answers) => answers,
         Err(_) => {
