@@ -1,3 +1,4 @@
 pub mod Places
+pub mod Losings
 pub mod Worlds
 pub mod Runnings

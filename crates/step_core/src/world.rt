@@ -297,12 +297,12 @@ impl World {
         Answer::Lost(drive)
     }
 
-    /// Loses a drive at the given read or write of it from now on, counted from 1, and for all later ones.
+    /// Loses a drive at the given read or write of it from now on, counted from 1, and for all later ones:
+    /// until then nothing is seen of it.
     pub fn fuse(&mut self, drive: u8, calls: u64)
         requires drive { drive < length self.old.array.parts.drives }
         requires calls { 1 ≤ calls }
-        ensures flat { (F : Flat) → Represents self.old F → Represents self.new F }
-        ensures room { SameSizes self.old.array self.new.array }
+        ensures { self.new ≡ self.old }
     {
         self.array.fuse(drive, calls);
     }
