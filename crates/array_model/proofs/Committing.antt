@@ -23,7 +23,9 @@ use Rattle.array_model.specs.Represents.{ShowsArray, IsTicketOf}
 use Rattle.array_model.proofs.Newest.{newest_told}
 use Rattle.array_model.proofs.Fares.{fared, itself, leaves, gone_as, gone_back, lost_shows, lost_leaves}
 use Rattle.array_model.proofs.Slots.{shows_after}
-use Rattle.array_model.proofs.Kepts.{ticket_held, unticketed}
+use Rattle.array_model.proofs.Kepts.{ticket_held, unticketed, waiting_kept}
+use Rattle.array_model.proofs.Wholes.{slot_of_class}
+use Rattle.array_parts.specs.Slots.{IsSlot}
 use Rattle.array_model.proofs.Commits.{commit_map, commit_tables, commit_units}
 
 -- neither of two reasons is given
@@ -80,6 +82,10 @@ reason_waits a (Newest c) b found e = absurd (cc)
 -- the slot waits where nothing speaks against its commit
 pub commit_waits : (a : ArrayView) (s b : ℕ) (found : Option Record) → commit_reason a s b found ≡ None → is_waiting (kept_at a s) ≡ true
 commit_waits a s b found none = reason_waits a (kept_at a s) b found none
+
+-- and it is one of a group
+pub commit_slot : (a : ArrayView) (s b : ℕ) (found : Option Record) → IsWhole a → commit_reason a s b found ≡ None → IsSlot a.parts.groups s
+commit_slot a s b found whole none = slot_of_class a.parts.groups s (whole.there s (waiting_kept (kept_at a s) (commit_waits a s b found none)))
 
 -- versions are at most one past the last
 version_bound : (b key : ℕ) → key < 2 ^ 64 → next_version (record_at b key) ≤ last_version + 1

@@ -13,7 +13,9 @@ use Rattle.extent_groups.specs.Groups.{Groups, group_at, AreThere, AreGroups, Is
 use Rattle.extent_groups.proofs.GroupsLemmas.{none_owned, spread_of}
 use Rattle.flat_machine.specs.Groups.{AreMembers, AreApart, AreUnowned, IsLowestFree}
 use Rattle.flat_machine.proofs.Pairs.{equal_back}
-use Rattle.array_model.specs.Making.{told_of, IsPutReason}
+use Rattle.flat_machine.specs.declared.refusal.Refusal.{Refusal}
+use Rattle.flat_machine.specs.declared.refusal.Refusal.TheVariants.{SameDrive, ExtentTaken}
+use Rattle.array_model.specs.Making.{told_of, IsPutReason, IsMakeReason}
 use Rattle.array_model.specs.Views.{ArrayView, IsWhole}
 
 -- an element that passes a test
@@ -121,3 +123,14 @@ made_more groups n are low made so_far h high none = go (cases_eq h n)
     go : (h ≡ n) ⊎ (h ≡ n → ⊥) → ⊥
     go (inl e) = made (record { within = let numbers = are.numbers in omega arith; free = ap (group_at groups) (sym e) ∙ none })
     go (inr ne) = so_far h (omega arith) none
+
+-- however the fault was found and told
+pub reason_as : (a : ArrayView) (ms : List Member) (o : Option Refusal) (f : Option GroupRefusal) → IsWhole a → (3 ≤ length ms) × (length ms ≤ 8) × AreThere a.parts.owners ms
+    → o ≡ told_of f → f ≡ put_fault a.parts.owners ms → IsPutReason a ms o
+reason_as a ms o f whole are told fault = subst (IsPutReason a ms) (sym (told ∙ ap told_of fault)) (reason_told a ms whole are)
+
+-- a fault of the members is why no group is made of them
+pub make_told : (a : ArrayView) (ms : List Member) (q : Refusal) → IsPutReason a ms (Some q) → IsMakeReason a ms (Some q)
+make_told a ms SameDrive reason = reason
+make_told a ms ExtentTaken reason = reason
+make_told a ms _ reason = absurd reason

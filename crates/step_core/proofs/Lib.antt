@@ -1,4 +1,6 @@
 pub mod Places
 pub mod Losings
+pub mod Ready
+pub mod News
 pub mod Worlds
 pub mod Runnings

@@ -97,7 +97,10 @@ impl<D: Drive, C: Hold> Array<D, C> {
         if self.log.reserve(1).is_err() {
             return Err((Refusal::Memory, ticket));
         }
-        if let Err(refusal) = self.carry(slot, slot, &Header::Is(record)) {
+        let unit: &mut [u8] = &mut self.unit;
+        let scratch: &mut [u8] = &mut self.scratch;
+        let header = Header::Is(record);
+        if let Err(refusal) = self.parts.carry(slot, slot, &header, unit, scratch) {
             return Err((refusal, ticket));
         }
         self.log.push_reserved(record);

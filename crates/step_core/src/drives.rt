@@ -7,7 +7,7 @@ ghost use Rattle.flat_machine.specs.Flat.{Payload, waiting_unit};
 ghost use Rattle.flat_machine.specs.Groups.{IsLowestFree};
 ghost use Rattle.array_parts.specs.Slots.{IsSlot};
 ghost use Rattle.array_parts.specs.Views.{seen_of, FoundGone, WasPut, WasCarried, WasNotCarried, WasRead, SawUnit, Entered, FoundLost};
-ghost use Rattle.array_model.specs.Views.{with_parts};
+ghost use Rattle.array_model.specs.Views.{with_parts, IsWhole};
 ghost use Rattle.array_model.specs.Making.{IsMakeReason};
 
 use crate::array::Array;
@@ -26,9 +26,11 @@ impl<D: Drive, C: Hold> Array<D, C> {
         ensures ok { OnOk result (WasPut self.old.parts self.new.parts slot (waiting_unit self.old.parts.groups.payload (Payload payload.now))) }
         ensures err { IfErr result (FoundGone self.old.parts self.new.parts slot) }
         ensures rest { self.new ≡ with_parts self.old self.new.parts }
+        ensures whole { IsWhole self.old }
     {
-        self.parts
-            .put(slot, payload, &mut self.unit, &mut self.scratch)
+        let unit: &mut [u8] = &mut self.unit;
+        let scratch: &mut [u8] = &mut self.scratch;
+        self.parts.put(slot, payload, unit, scratch)
     }
 
     // Writes what a slot holds into a slot, under another header.
@@ -39,9 +41,11 @@ impl<D: Drive, C: Hold> Array<D, C> {
         ensures ok { OnOk result (WasCarried self.old.parts self.new.parts from to header.now) }
         ensures err { IfErr result (WasNotCarried self.old.parts self.new.parts from to) }
         ensures rest { self.new ≡ with_parts self.old self.new.parts }
+        ensures whole { IsWhole self.old }
     {
-        self.parts
-            .carry(from, to, header, &mut self.unit, &mut self.scratch)
+        let unit: &mut [u8] = &mut self.unit;
+        let scratch: &mut [u8] = &mut self.scratch;
+        self.parts.carry(from, to, header, unit, scratch)
     }
 
     // Reads the payload of a slot.
@@ -51,9 +55,11 @@ impl<D: Drive, C: Hold> Array<D, C> {
         ensures ok { OnOk result (WasRead self.old.parts self.new.parts slot payload.new) }
         ensures err { IfErr result (FoundGone self.old.parts self.new.parts slot) }
         ensures rest { self.new ≡ with_parts self.old self.new.parts }
+        ensures whole { IsWhole self.old }
     {
-        self.parts
-            .payload(slot, payload, &mut self.unit, &mut self.scratch)
+        let unit: &mut [u8] = &mut self.unit;
+        let scratch: &mut [u8] = &mut self.scratch;
+        self.parts.payload(slot, payload, unit, scratch)
     }
 
     // Looks for a record at its place, and reads the payload where it is there.
@@ -63,9 +69,11 @@ impl<D: Drive, C: Hold> Array<D, C> {
         ensures ok { IfOk result (λ sight. SawUnit self.old.parts self.new.parts asked.now (seen_of sight payload.new)) }
         ensures err { IfErr result (FoundGone self.old.parts self.new.parts asked.now.place) }
         ensures rest { self.new ≡ with_parts self.old self.new.parts }
+        ensures whole { IsWhole self.old }
     {
-        self.parts
-            .see(asked, payload, &mut self.unit, &mut self.scratch)
+        let unit: &mut [u8] = &mut self.unit;
+        let scratch: &mut [u8] = &mut self.scratch;
+        self.parts.see(asked, payload, unit, scratch)
     }
 
     // Makes a group under a free number, of members that pass every check.
@@ -82,6 +90,7 @@ impl<D: Drive, C: Hold> Array<D, C> {
         ensures ok { OnOk result (Entered self.old.parts number class members.items self.new.parts) }
         ensures err { IfErr result (FoundLost self.old.parts members.items self.new.parts) }
         ensures rest { self.new ≡ with_parts self.old self.new.parts }
+        ensures whole { IsWhole self.old }
     {
         self.parts.enter(number, class, members, &mut self.unit)
     }

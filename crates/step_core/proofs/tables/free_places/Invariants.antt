@@ -1,6 +1,6 @@
 use Rattle.std.proofs.Common.{◌≡◌, ℕ, ◌≤◌, vec_len, vec_capacity, get_or}
 use Rattle.step_core.specs.declared.place.Place.TheVariants.{Free}
-use Rattle.step_core.proofs.array.free_places.Given as goal
+use Rattle.step_core.proofs.tables.free_places.Given as goal
 
 abbrev pub invariant-loop-made : goal.invariant-loop-made
 invariant-loop-made g l = record {

@@ -1,4 +1,4 @@
-use Rattle.std.proofs.Common.{rules, subst}
+use Rattle.std.proofs.Common.{◌≡◌, ◌∙◌, ap, rules, subst}
 use Rattle.flat_machine.specs.Steps.{Discarded}
 use Rattle.flat_machine.specs.Cases.{DiscardCase}
 use Rattle.array_model.specs.Changes.{discard_view}
@@ -6,12 +6,15 @@ use Rattle.array_model.specs.Views.{IsWhole}
 use Rattle.array_model.proofs.Fills.{as_whole, as_shown}
 use Rattle.array_model.proofs.Discards.{discard_case, discard_whole}
 use Rattle.array_model.proofs.Kepts.{ticket_held}
+use Rattle.step_core.proofs.Ready.{places_ready}
 use Rattle.step_core.proofs.array.Array.discard.Goals as goal
 
 pub invariant_of-self : goal.invariant_of-self
 invariant_of-self g c = (
-  as_whole _ _ (search rules) (discard_whole c.args.self.now c.slot-slot.result (search rules) (search rules) (subst IsWhole c.self.view_is c.self.invariant.0)),
-  search rules,
+  as_whole _ (discard_view c.args.self.now c.slot-slot.result) (search rules)
+      (discard_whole c.args.self.now c.slot-slot.result (search rules) (search rules) (subst IsWhole c.self.view_is c.self.invariant.0)),
+  c.take_waiting.ensures.claims,
+  places_ready g.D.Drive.units c.self.inside c.take_waiting.new.places c.self.invariant.2,
 )
 
 pub returns-clause-flat : goal.returns-clause-flat

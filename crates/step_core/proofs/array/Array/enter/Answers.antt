@@ -1,32 +1,31 @@
-use Rattle.std.proofs.Common.{◌≡◌, ◌∙◌, length, ap, rules, subst, sym}
-use Rattle.std.proofs.lemmas.List.{length-map}
-use Rattle.std.specs.Option.{option_map}
-use Rattle.extent_groups.specs.Groups.{AreThere}
-use Rattle.step_core.specs.Kept.{stored_of}
+use Rattle.std.proofs.Common.{◌≡◌, ◌∙◌, ◌*◌, ap, sym, subst, None}
+use Rattle.extent_groups.specs.Groups.{Groups}
+use Rattle.extent_groups.specs.Stores.{unit_bytes}
+use Rattle.flat_machine.specs.Groups.{IsLowestFree}
+use Rattle.array_parts.specs.Views.{view_of}
+use Rattle.array_model.specs.Making.{IsMakeReason}
 use Rattle.array_model.specs.Views.{ArrayView, IsWhole}
-use Rattle.array_model.proofs.Makings.{entered_whole, entered_units}
+use Rattle.array_model.proofs.Makings.{entered_whole}
+use Rattle.step_core.specs.Inside.{seen}
+use Rattle.step_core.proofs.Ready.{either_way, length_again, loses_keeps, still_whole}
 use Rattle.step_core.proofs.array.Array.enter.Goals as goal
 
-pub enter_group-requires-clause-there : goal.enter_group-requires-clause-there
-enter_group-requires-clause-there g c =
-    let items : c.in_ok-members.members.items ≡ c.args.members.now = search rules in
-    subst (AreThere c.self.inside.extents) (sym items) (subst (λ (v : ArrayView). AreThere v.owners c.args.members.now) (sym c.self.view_is) c.requires.there)
-
-pub returns-clause-ok : goal.returns-clause-ok
-returns-clause-ok g c = let long : length c.place_units.new.units.items ≡ length c.self.inside.units.items = search rules in record {
-  units = entered_units c.args.self.now c.self.inside.units.items c.place_units.new.units.items c.in_ok-blank.blank.items _ c.args.number c.shape-shape.result.payload
-      c.args.class c.args.members.now (ap (λ (v : ArrayView). v.units) c.self.view_is) (search rules) (search rules) (search rules)
-      c.place_units.ensures.placed (search rules);
-  room = length-map c.place_units.new.units.items (option_map stored_of) ∙ long
-      ∙ sym (length-map c.self.inside.units.items (option_map stored_of)) ∙ ap (λ (v : ArrayView). length v.units) c.self.view_is;
-  count = search rules;
-  agree = c.enter_group.ensures.agree;
-  rest = search rules;
-}
-
 pub invariant_of-self : goal.invariant_of-self
-invariant_of-self g c = (
-  entered_whole c.args.self.now _ c.args.number c.args.class c.args.members.now (subst IsWhole c.self.view_is c.self.invariant.0) c.requires.limit c.requires.reason
-      (returns-clause-ok g c),
-  search rules,
-)
+invariant_of-self g c =
+    let d = g.D.Drive in
+    let now = seen d.units d.lost d.failures c.self.inside in
+    let a = now.parts in
+    let b = view_of d.units d.lost d.failures c.enter.new.self in
+    let ready = c.self.invariant.2 in
+    let bytes : unit_bytes a.groups ≡ unit_bytes b.groups =
+    either_way {P = unit_bytes a.groups ≡ unit_bytes b.groups} c.enter.result (λ x e. ap (λ (z : Groups). unit_bytes z) (sym e.groups))
+    (λ q e. ap (λ (z : Groups). unit_bytes z) (sym e.loses.rest.groups)) c.enter.ensures.ok c.enter.ensures.err
+    in
+    let lowest = subst (λ (v : ArrayView). IsLowestFree v.parts.groups c.args.number) (sym c.self.view_is) c.requires.free in
+    let reason = subst (λ (v : ArrayView). IsMakeReason v c.args.members.items None) (sym c.self.view_is) c.requires.reason in (
+      either_way {P = IsWhole (record now { parts = b })} c.enter.result (λ x e. entered_whole now b c.args.number c.args.class c.args.members.items c.self.invariant.0 lowest reason e)
+          (λ q e. still_whole d.units d.lost d.failures c.self.inside c.enter.new.self (loses_keeps a b e.loses) c.self.invariant.0)
+          c.enter.ensures.ok c.enter.ensures.err,
+      c.self.invariant.1,
+      record { fit = c.enter.ensures.fit; unit = length_again c.self.inside.unit c.enter.new.unit ∙ ready.unit ∙ bytes; scratch = ready.scratch ∙ ap (λ n. 2 * n) bytes },
+    )

@@ -1,16 +1,39 @@
-use Rattle.std.proofs.Common.{sym, subst, ap, ◌∙◌}
-use Rattle.extent_groups.specs.Faults.{put_fault}
-use Rattle.extent_groups.specs.Groups.{AreThere}
-use Rattle.array_model.specs.Views.{ArrayView, IsWhole}
-use Rattle.array_model.specs.Making.{told_of, IsMakeReason}
-use Rattle.array_model.proofs.Makes.{reason_told}
+use Rattle.std.proofs.Common.{refl, subst, Some, None}
+use Rattle.flat_machine.specs.declared.refusal.Refusal.TheVariants.{DriveLost}
+use Rattle.array_model.specs.Making.{IsPutReason, IsMakeReason}
+use Rattle.array_model.specs.Views.{ArrayView}
+use Rattle.array_model.proofs.Makes.{reason_as, make_told}
+use Rattle.step_core.specs.Inside.{seen}
 use Rattle.step_core.proofs.array.Array.make_fault.Goals as goal
 
-pub returns-clause-reason : goal.returns-clause-reason
-returns-clause-reason g c =
-    let owners = ap (λ (v : ArrayView). v.owners) c.self.view_is in
-    let are = c.are_members.ensures.0 c.if-not-are_members.false in
-    subst (IsMakeReason c.args.self.now c.args.members.now)
-    (sym (c.told.ensures.value ∙ ap told_of (c.put_check.ensures ∙ ap (λ o. put_fault o c.args.members.now) owners)))
-    (reason_told c.args.self.now c.args.members.now (subst IsWhole c.self.view_is c.self.invariant.0)
-    (are.0, are.1, subst (λ o. AreThere o c.args.members.now) owners are.2))
+pub returns-in-Some-clause-reason : goal.returns-in-Some-clause-reason
+returns-in-Some-clause-reason g c =
+    let d = g.D.Drive in
+    let now = seen d.units d.lost d.failures c.self.inside in
+    let ms = c.args.members.now in
+    let put : IsPutReason now ms c.told.result =
+    reason_as now ms c.told.result c.put_check.result c.self.invariant.0 (c.are_members.ensures.0 c.if-not-are_members.false) c.told.ensures.value c.put_check.ensures
+    in
+    subst (λ (v : ArrayView). IsMakeReason v ms (Some c.in-Some.refusal)) c.self.view_is (make_told now ms c.in-Some.refusal (subst (IsPutReason now ms) c.in-Some.is put))
+
+pub returns-in-Some-first_lost-clause-reason : goal.returns-in-Some-first_lost-clause-reason
+returns-in-Some-first_lost-clause-reason g c =
+    let d = g.D.Drive in
+    let now = seen d.units d.lost d.failures c.self.inside in
+    let ms = c.args.members.now in
+    let put : IsPutReason now ms c.told.result =
+    reason_as now ms c.told.result c.put_check.result c.self.invariant.0 (c.are_members.ensures.0 c.if-not-are_members.false) c.told.ensures.value c.put_check.ensures
+    in
+    let fine : IsPutReason now ms None = subst (IsPutReason now ms) c.in_default.is put in
+    subst (λ (v : ArrayView). IsMakeReason v ms (Some (DriveLost c.in-Some-first_lost.drive))) c.self.view_is (fine.0, fine.1, fine.2, c.in-Some-first_lost.ensures.some)
+
+pub returns-in-None-clause-reason : goal.returns-in-None-clause-reason
+returns-in-None-clause-reason g c =
+    let d = g.D.Drive in
+    let now = seen d.units d.lost d.failures c.self.inside in
+    let ms = c.args.members.now in
+    let put : IsPutReason now ms c.told.result =
+    reason_as now ms c.told.result c.put_check.result c.self.invariant.0 (c.are_members.ensures.0 c.if-not-are_members.false) c.told.ensures.value c.put_check.ensures
+    in
+    let fine : IsPutReason now ms None = subst (IsPutReason now ms) c.in_default.is put in
+    subst (λ (v : ArrayView). IsMakeReason v ms None) c.self.view_is (fine.0, fine.1, fine.2, c.in-None.ensures.none refl)

@@ -1,31 +1,58 @@
-use Rattle.std.proofs.Common.{rules, subst}
+use Rattle.std.proofs.Common.{◌≡◌, List, subst, sym, rules, None}
+use Rattle.extent_groups.specs.declared.class.Member.{Member}
 use Rattle.flat_machine.specs.Groups.{IsLowestFree, IsFull}
-use Rattle.array_model.specs.Views.{ArrayView}
+use Rattle.flat_machine.specs.Steps.{Make, MadeGroup, Refused}
+use Rattle.flat_machine.specs.Cases.{MakeCase, IsWanted}
+use Rattle.array_parts.specs.Views.{Entered, FoundLost}
 use Rattle.array_model.specs.Making.{IsMakeReason}
-use Rattle.array_model.proofs.Makings.{make_refused, make_full, make_case, make_passes}
+use Rattle.array_model.specs.Views.{ArrayView}
+use Rattle.array_model.proofs.Fills.{as_shown}
+use Rattle.array_model.proofs.Makings.{make_refused, make_full, make_case, make_lost, make_passes}
+use Rattle.step_core.proofs.Ready.{as_refused}
 use Rattle.step_core.proofs.array.Array.make_group.Goals as goal
 
 pub returns-in-Some-clause-flat : goal.returns-in-Some-clause-flat
 returns-in-Some-clause-flat g c F shows =
     make_refused c.args.self.now F c.args.class c.args.members.now c.in-Some.refusal (subst (IsMakeReason c.args.self.now c.args.members.now) c.in-Some.is c.make_fault.ensures.reason) shows
 
-pub returns-in_default-clause-flat : goal.returns-in_default-clause-flat
-returns-in_default-clause-flat g c F shows =
-    make_full c.args.self.now F c.args.class c.args.members.now (subst (IsMakeReason c.args.self.now c.args.members.now) c.in-None.is c.make_fault.ensures.reason)
-    (subst (λ (v : ArrayView). IsFull v.groups) c.self.view_is (c.lowest_free.ensures.none (search rules))) shows
-
-pub returns-in-Ok-clause-flat : goal.returns-in-Ok-clause-flat
-returns-in-Ok-clause-flat g c F shows =
-    make_case c.args.self.now c.enter.new.self F c.args.class c.args.members.now c.in-Some-lowest_free.number c.make_fault.ensures.whole
-    (subst (IsMakeReason c.args.self.now c.args.members.now) c.in-None.is c.make_fault.ensures.reason)
-    (subst (λ (v : ArrayView). IsLowestFree v.groups c.in-Some-lowest_free.number) c.self.view_is c.in-Some-lowest_free.ensures.some)
-    c.in-Ok.ensures.ok shows
+pub returns-in_default-lowest_free-clause-flat : goal.returns-in_default-lowest_free-clause-flat
+returns-in_default-lowest_free-clause-flat g c F shows =
+    make_full c.args.self.now F c.args.class c.args.members.now (subst (IsMakeReason c.args.self.now c.args.members.now) c.in_default.is c.make_fault.ensures.reason)
+    (subst (λ (v : ArrayView). IsFull v.parts.groups) c.self.view_is (c.lowest_free.ensures.none (search rules))) shows
 
 pub returns-in-Err-clause-flat : goal.returns-in-Err-clause-flat
 returns-in-Err-clause-flat g c F shows =
     let number = c.in-Some-lowest_free.number in (
       number,
       make_passes c.args.self.now F c.args.members.now number
-          (subst (IsMakeReason c.args.self.now c.args.members.now) c.in-None.is c.make_fault.ensures.reason)
-          (subst (λ (v : ArrayView). IsLowestFree v.groups number) c.self.view_is c.in-Some-lowest_free.ensures.some) shows,
+          (subst (IsMakeReason c.args.self.now c.args.members.now) c.in_default.is c.make_fault.ensures.reason)
+          (subst (λ (v : ArrayView). IsLowestFree v.parts.groups number) c.self.view_is c.in-Some-lowest_free.ensures.some) shows,
     )
+
+pub enter-requires-clause-reason : goal.enter-requires-clause-reason
+enter-requires-clause-reason g c =
+    let items : c.in-Ok.members.items ≡ c.args.members.now = search rules in
+    subst (λ (ms : List Member). IsMakeReason c.args.self.now ms None) (sym items) (subst (IsMakeReason c.args.self.now c.args.members.now) c.in_default.is c.make_fault.ensures.reason)
+
+pub returns-in-Ok-enter-clause-flat : goal.returns-in-Ok-enter-clause-flat
+returns-in-Ok-enter-clause-flat g c F shows =
+    let number = c.in-Some-lowest_free.number in
+    let class = c.args.class in
+    let old = c.args.self.now in
+    let items : c.in-Ok.members.items ≡ c.args.members.now = search rules in
+    as_shown (λ G. MakeCase F class c.args.members.now (MadeGroup number) G) c.enter.new.self _ c.enter.ensures.rest
+    (make_case old c.enter.new.self.parts F class c.args.members.now number (subst (IsMakeReason old c.args.members.now) c.in_default.is c.make_fault.ensures.reason)
+    (subst (λ (v : ArrayView). IsLowestFree v.parts.groups number) c.self.view_is c.in-Some-lowest_free.ensures.some)
+    (subst (λ (ms : List Member). Entered old.parts number class ms c.enter.new.self.parts) items c.in-Ok-enter.ensures.ok) shows)
+
+pub returns-in-Err-enter-clause-flat : goal.returns-in-Err-enter-clause-flat
+returns-in-Err-enter-clause-flat g c F shows =
+    let number = c.in-Some-lowest_free.number in
+    let class = c.args.class in
+    let old = c.args.self.now in
+    let q = c.in-Err-enter.refusal in
+    let items : c.in-Ok.members.items ≡ c.args.members.now = search rules in
+    as_refused q (IsWanted F (Make class c.args.members.now)) (λ G. MakeCase F class c.args.members.now (Refused q) G) c.enter.new.self _ c.enter.ensures.rest
+    (make_lost old c.enter.new.self.parts F class c.args.members.now number q (subst (IsMakeReason old c.args.members.now) c.in_default.is c.make_fault.ensures.reason)
+    (subst (λ (v : ArrayView). IsLowestFree v.parts.groups number) c.self.view_is c.in-Some-lowest_free.ensures.some)
+    (subst (λ (ms : List Member). FoundLost old.parts ms c.enter.new.self.parts q) items c.in-Err-enter.ensures.err) shows)

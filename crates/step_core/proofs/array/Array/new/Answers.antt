@@ -1,6 +1,24 @@
-use Rattle.array_model.proofs.News.{new_shows, shape_sizes}
+use Rattle.std.proofs.Common.{◌≤◌, sym, subst, rules}
+use Rattle.std.proofs.lemmas.List.{length-map}
+use Rattle.array_parts.specs.Views.{drive_view}
+use Rattle.array_model.proofs.News.{new_whole, new_shows, shape_sizes}
+use Rattle.step_core.proofs.News.{is_new, is_ready, are_of}
 use Rattle.step_core.proofs.array.Array.new.Goals as goal
 
-pub returns-in-Ok-clause-ok : goal.returns-in-Ok-clause-ok
-returns-in-Ok-clause-ok g c =
-    new_shows c.args.drives c.in-Ok.array c.in-Ok.ensures.new (shape_sizes c.args.shape c.in-Ok.array.parts.groups c.in-Ok.ensures.sizes) c.requires.0 c.requires.1
+pub invariant_of-result : goal.invariant_of-result
+invariant_of-result g c =
+    let d = g.D.Drive in
+    let t = c.in-Ok.tables in (
+      new_whole _ (is_new d.units d.lost d.failures c.args.shape t c.args.drives c.new.result _ (search rules) c.new.ensures.items c.in-Ok.ensures)
+          (shape_sizes c.args.shape t.groups c.in-Ok.ensures.sizes),
+      are_of g.C.Hold.names c.args.shape _ t c.in-Ok.ensures,
+      is_ready d.units c.args.shape t c.args.drives c.new.result _ (search rules) c.requires.count.0 c.requires.count.1 c.requires.units c.requires.sized c.in-Ok.ensures,
+    )
+
+pub returns-clause-ok : goal.returns-clause-ok
+returns-clause-ok g c =
+    let d = g.D.Drive in
+    let t = c.in-Ok.tables in
+    let many = sym (length-map c.args.drives.items (drive_view d.units d.lost d.failures)) in
+    new_shows _ (is_new d.units d.lost d.failures c.args.shape t c.args.drives c.new.result _ (search rules) c.new.ensures.items c.in-Ok.ensures)
+    (shape_sizes c.args.shape t.groups c.in-Ok.ensures.sizes) (subst (λ n. 3 ≤ n) many c.requires.count.0) (subst (λ n. n ≤ 16) many c.requires.count.1)

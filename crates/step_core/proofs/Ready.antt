@@ -1,0 +1,77 @@
+-- What an array keeps by itself, with other drives.
+use Rattle.std.proofs.Common.{◌≡◌, ℕ, ◌*◌, Bool, ap, ◌⊎◌, inl, inr, List, length, sym, subst, ◌∙◌, Vec, Result, Ok, Err, IfOk, IfErr}
+use Rattle.std.specs.Global.{Global}
+use Rattle.std.specs.List.{length_refill}
+use Rattle.std.specs.Vec.{with_items}
+use Rattle.extent_groups.specs.Groups.{Groups}
+use Rattle.extent_groups.specs.Stores.{unit_bytes}
+use Rattle.array_parts.specs.declared.parts.Parts.{Parts}
+use Rattle.array_parts.specs.Fit.{IsFit}
+use Rattle.flat_machine.specs.Flat.{Flat}
+use Rattle.array_model.specs.Changes.{MayRefuse}
+use Rattle.array_model.specs.Represents.{ShowsArray}
+use Rattle.array_model.specs.Views.{ArrayView, IsWhole}
+use Rattle.array_model.proofs.Wholes.{whole_parts}
+use Rattle.step_core.specs.declared.array.Array.TheInside.{Inside}
+use Rattle.step_core.specs.declared.place.Place.{Place}
+use Rattle.step_core.specs.Inside.{seen, IsReady}
+use Rattle.array_parts.specs.Views.{view_of, PartsView, SameTables, DrivesFare, Loses, FoundGone, WasNotCarried}
+use Rattle.flat_machine.specs.declared.refusal.Refusal.{Refusal}
+
+-- a vector has as many elements after they were written over
+pub length_again : (v : Vec ℕ Global) (ws : List ℕ) → length (with_items v ws).items ≡ length v.items
+length_again v ws = sym (length_refill v.len v.items ws v.ok.0) ∙ v.ok.0
+
+-- what follows from either answer of a call follows from its contract
+pub either_way : {T E P : Type 0} {A : T → Type 0} {B : E → Type 0} (r : Result T E) → ((x : T) → A x → P) → ((e : E) → B e → P) → IfOk r A → IfErr r B → P
+either_way (Ok x) ok err a b = ok x a
+either_way (Err e) ok err a b = err e b
+
+-- calls of the drives left the tables as they were, and as many drives
+pub record Keeps (a b : PartsView) : Type 0 where
+  pub tables : SameTables a b
+  pub many : length b.drives ≡ length a.drives
+
+pub keeps : (a b : PartsView) → DrivesFare a b → SameTables a b → Keeps a b
+keeps a b fares tables = record { tables = tables; many = fares.many }
+
+pub loses_keeps : (a b : PartsView) → Loses a b → Keeps a b
+loses_keeps a b loses = keeps a b loses.fares loses.rest
+
+pub gone_keeps : (a b : PartsView) (slot : ℕ) (q : Refusal) → FoundGone a b slot q → Keeps a b
+gone_keeps a b slot q gone = loses_keeps a b gone.loses
+
+pub uncarried_keeps : (a b : PartsView) (from to : ℕ) (q : Refusal) → WasNotCarried a b from to q → Keeps a b
+uncarried_keeps a b from to q (inl gone) = loses_keeps a b gone.loses
+uncarried_keeps a b from to q (inr gone) = loses_keeps a b gone.1.loses
+
+-- an array is whole with other drives of the same tables
+pub still_whole : {D C : Type 0} (units : D → List (List ℕ)) (lost : D → Bool) (failures : D → ℕ) (a : Inside D C) (p : Parts D)
+    → Keeps (view_of units lost failures a.parts) (view_of units lost failures p) → IsWhole (seen units lost failures a)
+    → IsWhole (seen units lost failures (record a { parts = p }))
+still_whole units lost failures a p same whole = whole_parts (seen units lost failures a) (view_of units lost failures p) same.tables same.many whole
+
+-- and ready, its buffers written over
+pub still_ready : {D C : Type 0} (units : D → List (List ℕ)) (lost : D → Bool) (failures : D → ℕ) (a : Inside D C) (p : Parts D) (unit scratch : List ℕ)
+    → Keeps (view_of units lost failures a.parts) (view_of units lost failures p) → IsFit units p → IsReady units a
+    → IsReady units (record a { parts = p; unit = with_items a.unit unit; scratch = with_items a.scratch scratch })
+still_ready units lost failures a p unit scratch same fit ready =
+    let groups = ap (λ (z : Groups). unit_bytes z) (sym same.tables.groups) in record {
+      fit = fit;
+      unit = length_again a.unit unit ∙ ready.unit ∙ groups;
+      scratch = length_again a.scratch scratch ∙ ready.scratch ∙ ap (λ n. 2 * n) groups;
+    }
+
+-- with other places it is ready still
+pub places_ready : {D C : Type 0} (units : D → List (List ℕ)) (a : Inside D C) (places : Vec (Place C) Global) → IsReady units a → IsReady units (record a { places = places })
+places_ready units a places ready = record { fit = ready.fit; unit = ready.unit; scratch = ready.scratch }
+
+-- what a refusal leaves of one array it leaves of an equal one
+pub as_refused : (q : Refusal) (W : Type 0) (P : Flat → Type 0) (b a : ArrayView) → b ≡ a → MayRefuse q W ((G : Flat) × P G × ShowsArray a G)
+    → MayRefuse q W ((G : Flat) × P G × ShowsArray b G)
+as_refused q W P b a is may = subst (λ (z : ArrayView). MayRefuse q W ((G : Flat) × P G × ShowsArray z G)) (sym is) may
+
+-- a slot that wasn't carried onto itself is gone
+pub carried_gone : (a b : PartsView) (slot : ℕ) (q : Refusal) → WasNotCarried a b slot slot q → FoundGone a b slot q
+carried_gone a b slot q (inl gone) = gone
+carried_gone a b slot q (inr gone) = gone.1
