@@ -3,4 +3,5 @@ pub mod Losings
 pub mod Ready
 pub mod News
 pub mod Worlds
+pub mod Refusals
 pub mod Runnings
