@@ -1,8 +1,10 @@
--- A world whose array refused a call.
-use Rattle.std.proofs.Common.{◌≡◌, ◌≢◌, ℕ, refl, sym, ap, ◌∙◌, subst, ◌⊎◌, inl, inr, Result, Ok, Err, IfOk, OnErr}
+-- What a world's step tells, whether its array carried it out or refused it.
+use Rattle.std.proofs.Common.{◌≡◌, ◌≢◌, ℕ, List, refl, sym, ap, ◌∙◌, subst, ◌⊎◌, inl, inr, Result, Ok, Err, IfOk, OnErr}
 use Rattle.std.specs.declared.alloc.AllocError.{AllocError}
 use Rattle.extent_groups.specs.Groups.{Groups}
-use Rattle.array_parts.specs.Views.{PartsView, SameTables}
+use Rattle.extent_groups.specs.declared.class.Class.{Class}
+use Rattle.extent_groups.specs.declared.class.Member.{Member}
+use Rattle.array_parts.specs.Views.{Entered}
 use Rattle.flat_machine.specs.declared.refusal.Refusal.{Refusal}
 use Rattle.flat_machine.specs.declared.refusal.Refusal.TheVariants.{Memory, Gone, DriveLost}
 use Rattle.flat_machine.specs.Flat.{Flat}
@@ -44,18 +46,28 @@ refused_sizes a b _ is = same_sizes a b (ap (λ (x : ArrayView). x.parts.groups)
 pub refused_same : (a b : ArrayView) (r : Refusal) → IsRefused a b r → r ≡ Memory → b ≡ a
 refused_same a b r is memory = subst (IsRefused a b) memory is
 
--- what a step of a world tells, whose array refused it
-pub record WasRefused (v w : WorldView) (step : FlatStep) (result : Result Answer AllocError) : Type 0 where
+-- what the contract of a world's step tells: its answer is the flat machine's, and without one it wanted memory and did nothing
+pub record WasStep (v w : WorldView) (step : FlatStep) (result : Result Answer AllocError) : Type 0 where
   pub ok : IfOk result (λ answer. (F : Flat) → Represents v F → (G : Flat) × (Case F step (flat_answer answer) G) × (Represents w G))
   pub err : OnErr result (w ≡ v)
   pub wants : OnErr result ((F : Flat) → Represents v F → IsWanted F step)
 
+-- a step that was carried out
+pub was_done : (v w u : WorldView) (step : FlatStep) (told : Answer) (result : Result Answer AllocError) → result ≡ Ok told → w ≡ u
+    → ((F : Flat) → Represents v F → (G : Flat) × (Case F step (flat_answer told) G) × (Represents u G)) → WasStep v w step result
+was_done v w u step told result answered is does = subst (WasStep v w step) (sym answered) (record {
+  ok = λ F rep. as_world (λ G. Case F step (flat_answer told) G) w u is (does F rep);
+  err = tt;
+  wants = tt;
+})
+
+-- a step that the array refused
 pub was_refused : (v w : WorldView) (a : ArrayView) (step : FlatStep) (r : Refusal) (result : Result Answer AllocError) → w ≡ record { array = a; hands = v.hands }
     → IfOk result (λ told. (told ≡ answer.Refused r) × (r ≢ Memory)) → OnErr result (r ≡ Memory)
     → ((F : Flat) → Represents v F → IsStep F.groups step)
     → (r ≡ Memory → a ≡ v.array)
     → ((F : Flat) → Represents v F → MayRefuse r (IsWanted F step) ((G : Flat) × (Case F step (Refused r) G) × (ShowsArray a G)))
-    → WasRefused v w step result
+    → WasStep v w step result
 was_refused v w a step r (Ok told) is ok err fits same may = record {
   ok = λ F rep. as_world (λ G. Case F step (flat_answer told) G) w (record { array = a; hands = v.hands }) is
       (subst (λ x. (G : Flat) × (Case F step (flat_answer x) G) × (Represents (record { array = a; hands = v.hands }) G)) (sym ok.0)
@@ -69,3 +81,7 @@ was_refused v w a step r (Err e) is ok err fits same may = record {
   err = is ∙ ap (λ x. record { array = x; hands = v.hands }) (same err);
   wants = λ F rep. wanted_of r (IsWanted F step) ((G : Flat) × (Case F step (Refused r) G) × (ShowsArray a G)) (may F rep) err;
 }
+
+-- the sizes stay where a group is made
+pub made_sizes : (a b : ArrayView) (g : ℕ) (class : Class) (members : List Member) → Entered a.parts g class members b.parts → SameSizes a b
+made_sizes a b g class members e = record { payload = ap (λ (z : Groups). z.payload) e.groups; blocks = ap (λ (z : Groups). z.blocks) e.groups }
