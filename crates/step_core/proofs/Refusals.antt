@@ -1,6 +1,8 @@
 -- What a world's step tells, whether its array carried it out or refused it.
-use Rattle.std.proofs.Common.{◌≡◌, ◌≢◌, ℕ, List, refl, sym, ap, ◌∙◌, subst, ◌⊎◌, inl, inr, Result, Ok, Err, IfOk, OnErr}
+use Rattle.std.proofs.Common.{◌≡◌, ◌≢◌, ℕ, List, refl, sym, ap, ◌∙◌, subst, ◌⊎◌, inl, inr, Option, Some, None, Vec, Result, Ok, Err, IfOk, OnErr}
+use Rattle.std.specs.Global.{Global}
 use Rattle.std.specs.declared.alloc.AllocError.{AllocError}
+use Rattle.map_join.specs.declared.records.Record.{Record}
 use Rattle.extent_groups.specs.Groups.{Groups}
 use Rattle.extent_groups.specs.declared.class.Class.{Class}
 use Rattle.extent_groups.specs.declared.class.Member.{Member}
@@ -8,15 +10,17 @@ use Rattle.array_parts.specs.Views.{Entered}
 use Rattle.flat_machine.specs.declared.refusal.Refusal.{Refusal}
 use Rattle.flat_machine.specs.declared.refusal.Refusal.TheVariants.{Memory, Gone, DriveLost}
 use Rattle.flat_machine.specs.Flat.{Flat}
-use Rattle.flat_machine.specs.Steps.{FlatStep, Refused}
+use Rattle.flat_machine.specs.Steps.{FlatStep, Seen, Refused}
 use Rattle.flat_machine.specs.Cases.{Case, IsWanted}
 use Rattle.flat_machine.specs.History.{IsStep}
 use Rattle.array_model.specs.Changes.{MayRefuse}
+use Rattle.array_model.specs.Reads.{WasNotRead, WasSeen}
 use Rattle.array_model.specs.Represents.{ShowsArray, Represents}
 use Rattle.array_model.specs.Views.{ArrayView, WorldView, SameSizes, with_parts}
 use Rattle.array_model.proofs.Hands.{as_world}
 use Rattle.step_core.specs.declared.step.Answer.{Answer}
 use Rattle.step_core.specs.declared.step.Answer.TheVariants as answer
+use Rattle.step_core.specs.Reads.{WasFound, WasNotFound}
 use Rattle.step_core.specs.Refused.{IsRefused, OnlyLoses}
 use Rattle.step_core.specs.Told.{flat_answer}
 use Rattle.step_core.proofs.Worlds.{refused_world}
@@ -85,3 +89,27 @@ was_refused v w a step r (Err e) is ok err fits same may = record {
 -- the sizes stay where a group is made
 pub made_sizes : (a b : ArrayView) (g : ℕ) (class : Class) (members : List Member) → Entered a.parts g class members b.parts → SameSizes a b
 made_sizes a b g class members e = record { payload = ap (λ (z : Groups). z.payload) e.groups; blocks = ap (λ (z : Groups). z.blocks) e.groups }
+
+-- and where a block is read, or isn't
+pub found_sizes : (a b : ArrayView) (block : ℕ) (found : Option (ℕ × Vec ℕ Global)) → WasFound a b block found → SameSizes a b
+found_sizes a b block None is = same_sizes a b (ap (λ (x : ArrayView). x.parts.groups) is.1)
+found_sizes a b block (Some found) is = same_sizes a b is.3.loses.rest.groups
+
+unread_sizes : (a b : ArrayView) (slot : ℕ) (r : Refusal) → WasNotRead a b slot r → SameSizes a b
+unread_sizes a b slot r (inl is) = same_sizes a b (ap (λ (x : ArrayView). x.parts.groups) is.1)
+unread_sizes a b slot r (inr gone) = same_sizes a b gone.loses.rest.groups
+
+pub not_found_sizes : (a b : ArrayView) (block : ℕ) (r : Refusal) → WasNotFound a b block r → SameSizes a b
+not_found_sizes a b block r is = unread_sizes a b is.0.place r is.2
+
+unread_same : (a b : ArrayView) (slot : ℕ) (r : Refusal) → WasNotRead a b slot r → r ≡ Memory → b ≡ a
+unread_same a b slot r (inl is) memory = is.1
+unread_same a b slot r (inr gone) memory = let bad : Memory ≡ Gone slot = sym memory ∙ gone.told in absurd (cc)
+
+pub not_found_same : (a b : ArrayView) (block : ℕ) (r : Refusal) → WasNotFound a b block r → r ≡ Memory → b ≡ a
+not_found_same a b block r is = unread_same a b is.0.place r is.2
+
+-- and where a record's place is seen
+pub seen_sizes : (a b : ArrayView) (asked : Record) (seen : Seen) → WasSeen a b asked seen → SameSizes a b
+seen_sizes a b asked seen (inl is) = same_sizes a b (ap (λ (x : ArrayView). x.parts.groups) is.2)
+seen_sizes a b asked seen (inr saw) = same_sizes a b saw.loses.rest.groups
