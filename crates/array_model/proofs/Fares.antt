@@ -1,8 +1,9 @@
 -- A flat state whose drives fared as an array's did: what it leaves, and which of its slots are gone.
-use Rattle.std.proofs.Common.{◌≡◌, ℕ, ◌+◌, Bool, true, false, length, refl, sym, ◌∙◌, subst, arith}
+use Rattle.std.proofs.Common.{◌≡◌, ℕ, ◌+◌, Bool, true, false, length, refl, sym, ap, ◌∙◌, subst, arith}
 use Rattle.extents.specs.Units.{loss}
 use Rattle.extent_groups.specs.Groups.{Groups}
-use Rattle.extent_groups.specs.Missing.{IsGone}
+use Rattle.extent_groups.specs.Missing.{IsGone, IsGoneAt}
+use Rattle.extent_groups.specs.Units.{Site, Pair, InStripe}
 use Rattle.array_parts.specs.Views.{PartsView, IsLost, Loses, SameTables, DrivesFare, lost_of, failed_of}
 use Rattle.flat_machine.specs.Flat.{Flat}
 use Rattle.flat_machine.specs.Cases.{Fares, Leaves, IsGoneIn}
@@ -61,3 +62,55 @@ lost_shows a F v shows loses = record {
 
 pub lost_leaves : (a : ArrayView) (F : Flat) (v : PartsView) → ShowsArray a F → Loses a.parts v → Leaves F (fared F v)
 lost_leaves a F v shows loses = leaves F a.parts v shows.tables.lost shows.tables.failures loses.fares
+
+-- losses one after another are losses
+more_losses : (a b c : Bool) → (a ≡ true → b ≡ true) → (b ≡ true → c ≡ true) → loss a b + loss b c ≡ loss a c
+more_losses true true true f g = refl
+more_losses true true false f g = let bad : false ≡ true = g refl in cc
+more_losses true false c f g = let bad : false ≡ true = f refl in cc
+more_losses false true true f g = refl
+more_losses false true false f g = let bad : false ≡ true = g refl in cc
+more_losses false false true f g = refl
+more_losses false false false f g = refl
+
+fares_more : (a b c : Bool) (x y z : ℕ) → Fares a b x y → Fares b c y z → Fares a c x z
+fares_more a b c x y z one two = record {
+  stays = λ e. two.stays (one.stays e);
+  count = let first = one.count in let second = two.count in let both = more_losses a b c one.stays two.stays in omega arith;
+}
+
+pub leaves_more : (F M G : Flat) → Leaves F M → Leaves M G → Leaves F G
+leaves_more F M G one two = record {
+  same = two.same ∙ ap (λ (z : Flat). record z { lost = G.lost; failures = G.failures }) one.same;
+  drives = λ d. fares_more (F.lost d) (M.lost d) (G.lost d) (F.failures d) (M.failures d) (G.failures d) (one.drives d) (two.drives d);
+}
+
+-- what is gone stays gone
+gone_at : (old new : ℕ → Bool) (site : Site) → ((d : ℕ) → old d ≡ true → new d ≡ true) → IsGoneAt old site → IsGoneAt new site
+gone_at old new (Pair p q) more gone = (more p.drive gone.0, more q.drive gone.1)
+gone_at old new (InStripe row parity i) more gone = (
+  (gone.0.0, gone.0.1, more gone.0.0.drive gone.0.2),
+  (gone.1.0, gone.1.1, gone.1.2, gone.1.3, more gone.1.1.drive gone.1.4),
+)
+
+pub gone_stays : (F G : Flat) (s : ℕ) → Leaves F G → IsGoneIn F s → IsGoneIn G s
+gone_stays F G s leaves gone =
+    subst (λ (g : Groups). IsGone g G.lost s) (sym (ap (λ (z : Flat). z.groups) leaves.same))
+    (gone.0, gone.1, gone_at F.lost G.lost gone.0 (λ d. (leaves.drives d).stays) gone.2)
+
+pub loses_itself : (a : PartsView) → Loses a a
+loses_itself a = record {
+  fares = record { many = refl; each = λ d. record { stays = λ e. e; count = no_loss (failed_of a d) (lost_of a d) } };
+  shows = λ units shown. shown;
+  rest = record { groups = refl; owners = refl };
+}
+
+pub loses_more : (a m b : PartsView) → Loses a m → Loses m b → Loses a b
+loses_more a m b one two = record {
+  fares = record {
+    many = two.fares.many ∙ one.fares.many;
+    each = λ d. fares_more (lost_of a d) (lost_of m d) (lost_of b d) (failed_of a d) (failed_of m d) (failed_of b d) (one.fares.each d) (two.fares.each d);
+  };
+  shows = λ units shown. two.shows units (one.shows units shown);
+  rest = record { groups = two.rest.groups ∙ one.rest.groups; owners = two.rest.owners ∙ one.rest.owners };
+}

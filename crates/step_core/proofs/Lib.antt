@@ -2,6 +2,8 @@ pub mod Places
 pub mod Losings
 pub mod Ready
 pub mod News
+pub mod BlockReads
+pub mod Learnings
 pub mod Worlds
 pub mod Refusals
 pub mod Runnings

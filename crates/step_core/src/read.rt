@@ -11,6 +11,7 @@ ghost use Rattle.array_model.specs.Reads.{WasSeen};
 ghost use Rattle.array_model.specs.Represents.{ShowsArray};
 ghost use Rattle.array_model.specs.Views.{with_parts, key_at, IsWhole};
 ghost use Rattle.step_core.specs.Reads.{WasFound, WasNotFound};
+ghost use Rattle.step_core.specs.Refused.{IsRefused};
 ghost use Rattle.step_core.specs.Told.{version_of, seen_of};
 
 use crate::array::Array;
@@ -65,6 +66,7 @@ impl<D: Drive, C: Hold> Array<D, C> {
     pub fn read_at(&mut self, alloc: Global, asked: Record) -> Result<At, Refusal>
         requires { asked.block < self.old.parts.groups.blocks }
         ensures ok { IfOk result (λ at. WasSeen self.old self.new asked (seen_of at)) }
+        ensures err { IfErr result (IsRefused self.old self.new) }
         ensures rest { self.new ≡ with_parts self.old self.new.parts }
         ensures flat { (F : Flat) → ShowsArray self.old F → MatchResult result
             (λ at. (G : Flat) × ReadAtCase F asked (say.FoundAt (seen_of at)) G × ShowsArray self.new G)

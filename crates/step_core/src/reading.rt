@@ -1,11 +1,12 @@
 // What is learned of a record that may be stale.
-ghost use Rattle.std.specs.Prelude.{◌≡◌, ◌<◌, MatchResult};
+ghost use Rattle.std.specs.Prelude.{◌≡◌, ◌<◌, IfErr, MatchResult};
 ghost use Rattle.flat_machine.specs.Flat.{Flat, Payload};
 ghost use Rattle.flat_machine.specs.Cases.{IsBehind};
 ghost use Rattle.flat_machine.specs.Learning.{LearnedCase, UnlearnedCase};
 ghost use Rattle.array_model.specs.Changes.{MayRefuse};
 ghost use Rattle.array_model.specs.Represents.{ShowsArray};
 ghost use Rattle.array_model.specs.Views.{with_parts};
+ghost use Rattle.step_core.specs.Refused.{IsRefused};
 
 use crate::array::Array;
 use crate::hold::Hold;
@@ -61,6 +62,7 @@ impl<D: Drive, C: Hold> Array<D, C> {
     /// the payload of the last write. Refused as `read_at` is, and as gone where the newest place can't be read.
     pub fn read_or_learn(&mut self, alloc: Global, asked: Record) -> Result<Reading, Refusal>
         requires { asked.block < self.old.parts.groups.blocks }
+        ensures err { IfErr result (IsRefused self.old self.new) }
         ensures rest { self.new ≡ with_parts self.old self.new.parts }
         ensures flat { (F : Flat) → ShowsArray self.old F → MatchResult result
             (λ reading. (G : Flat) × LearnedCase F asked reading.told (Payload reading.payload) G × ShowsArray self.new G)
