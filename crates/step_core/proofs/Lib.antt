@@ -1,5 +1,6 @@
 pub mod Places
 pub mod Losings
+pub mod Beginnings
 pub mod Ready
 pub mod News
 pub mod BlockReads
