@@ -92,6 +92,7 @@ commit_whole a s b v h whole inside block waits ok = record {
   agree = whole.agree;
   rows = whole.rows;
   wide = whole.wide;
+  drives = whole.drives;
 }
   where
     r : Record

@@ -8,7 +8,8 @@ use Rattle.extents.specs.declared.header.Header.TheVariants.{Blank}
 use Rattle.extent_groups.specs.declared.class.Class.{Class}
 use Rattle.extent_groups.specs.Groups.{Groups}
 use Rattle.array_parts.specs.Slots.{IsSlot}
-use Rattle.array_parts.specs.Views.{PartsView, Shows, WasCarried, WasNotCarried}
+use Rattle.extent_groups.specs.Stores.{AreDrives}
+use Rattle.array_parts.specs.Views.{PartsView, Shows, WasCarried, WasNotCarried, drive_units}
 use Rattle.flat_machine.specs.declared.refusal.Refusal.{Refusal}
 use Rattle.flat_machine.specs.Groups.{class_at}
 use Rattle.flat_machine.specs.Flat.{Flat, Write, Worker, Moved, Stored, content_in, waiting_unit, put, IsNewest, class_of, last_write}
@@ -47,11 +48,11 @@ can_copy a s r none = go (class_at a.parts.groups s) refl (kept_at a s) refl non
     go None is_c k is_k e = absurd (cc)
 
 -- an array is whole after a copy
-pub copy_whole : (a : ArrayView) (v : PartsView) (s : ℕ) (r : Record) → s < 65536 → WasCarried a.parts v r.place s Blank → copy_reason a s (Some r) ≡ None → IsWhole a
-    → IsWhole (copy_view (with_parts a v) s r)
-copy_whole a v s r inside was none whole =
+pub copy_whole : (a : ArrayView) (v : PartsView) (s : ℕ) (r : Record) → s < 65536 → WasCarried a.parts v r.place s Blank → copy_reason a s (Some r) ≡ None
+    → AreDrives drive_units v.groups v.drives → IsWhole a → IsWhole (copy_view (with_parts a v) s r)
+copy_whole a v s r inside was none drives whole =
     wait_whole (with_parts a v) s (Moving r) inside can.free refl moves (subst (λ (g : Groups). class_at g s ≢ None) (sym was.rest.groups) can.class)
-    (whole_parts a v was.rest was.fares.many whole)
+    (whole_parts a v was.rest was.fares.many drives whole)
   where
     can : CanCopy a s r
     can = can_copy a s r none

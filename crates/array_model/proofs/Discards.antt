@@ -33,6 +33,7 @@ discard_whole a s inside waits whole = record {
   agree = whole.agree;
   rows = whole.rows;
   wide = whole.wide;
+  drives = whole.drives;
 }
   where
     here : kept_at (discard_view a s) s ≡ Nothing

@@ -9,7 +9,8 @@ use Rattle.extent_groups.specs.declared.class.Class.{Class}
 use Rattle.extent_groups.specs.declared.class.Class.TheVariants.{Mirrored, Parity}
 use Rattle.extent_groups.specs.Groups.{Groups}
 use Rattle.array_parts.specs.Slots.{IsSlot}
-use Rattle.array_parts.specs.Views.{PartsView, Shows, SameTables, WasPut, FoundGone, DrivesFare}
+use Rattle.extent_groups.specs.Stores.{AreDrives}
+use Rattle.array_parts.specs.Views.{PartsView, Shows, SameTables, WasPut, FoundGone, DrivesFare, drive_units}
 use Rattle.flat_machine.specs.declared.refusal.Refusal.{Refusal}
 use Rattle.flat_machine.specs.Groups.{class_at}
 use Rattle.flat_machine.specs.Flat.{Flat, Content, Payload, Worker, Ticket, Waiting, Fresh, content_of, Stored, waiting_unit, put, turned, class_of, IsArrays, IsKept}
@@ -45,6 +46,7 @@ wait_whole a s kept inside free waits moves class whole = record {
   agree = whole.agree;
   rows = whole.rows;
   wide = whole.wide;
+  drives = whole.drives;
 }
   where
     newest : (b : ℕ) → 0 < key_at a b → kept_at (wait_view a s kept) (record_of b (key_at a b)).place ≡ Newest b
@@ -126,12 +128,13 @@ can_fill a s none = go (class_at a.parts.groups s) refl (kept_at a s) refl none
     go None is_c k is_k e = absurd (cc)
 
 -- and whole after a fill
-pub fill_whole : (a : ArrayView) (v : PartsView) (s : ℕ) (u : Stored) → s < 65536 → fill_reason a s ≡ None → WasPut a.parts v s u → IsWhole a → IsWhole (fill_view (with_parts a v) s)
-fill_whole a v s u inside none was whole =
+pub fill_whole : (a : ArrayView) (v : PartsView) (s : ℕ) (u : Stored) → s < 65536 → fill_reason a s ≡ None → WasPut a.parts v s u → AreDrives drive_units v.groups v.drives
+    → IsWhole a → IsWhole (fill_view (with_parts a v) s)
+fill_whole a v s u inside none was drives whole =
     let can = can_fill a s none in
     wait_whole (with_parts a v) s Pending inside can.free refl (λ r e. absurd (cc))
     (subst (λ (g : Groups). class_at g s ≢ None) (sym was.rest.groups) (λ e. let bad : Some Mirrored ≡ None = sym can.class ∙ e in cc))
-    (whole_parts a v was.rest was.fares.many whole)
+    (whole_parts a v was.rest was.fares.many drives whole)
 
 -- where nothing speaks against it, the fill is the flat machine's
 pub fill_passes : (a : ArrayView) (F : Flat) (w s : ℕ) → fill_reason a s ≡ None → ShowsArray a F → F.held s (Worker w) ≡ true → FillPasses F w s

@@ -6,7 +6,8 @@ use Rattle.extent_groups.specs.declared.class.Member.{Member}
 use Rattle.extent_groups.specs.Geometry.{slot_count}
 use Rattle.extent_groups.specs.Groups.{Groups, with_group}
 use Rattle.extent_groups.proofs.Readiness.{rows_given, extents_given}
-use Rattle.array_parts.specs.Views.{PartsView, Shows, Entered, FoundLost}
+use Rattle.extent_groups.specs.Stores.{AreDrives}
+use Rattle.array_parts.specs.Views.{PartsView, Shows, Entered, FoundLost, drive_units}
 use Rattle.flat_machine.specs.declared.refusal.Refusal.{Refusal}
 use Rattle.flat_machine.specs.declared.refusal.Refusal.TheVariants.{BadMember, SameDrive, ExtentTaken, DriveLost, Full}
 use Rattle.flat_machine.specs.Steps.{Make, MadeGroup, Refused}
@@ -26,8 +27,8 @@ abbrev more : Groups → ℕ → Class → List Member → Groups
 more groups g class members = with_group groups g (Some (record { class = class; members = members }))
 
 pub entered_whole : (a : ArrayView) (v : PartsView) (g : ℕ) (class : Class) (members : List Member) → IsWhole a → IsLowestFree a.parts.groups g → IsMakeReason a members None
-    → Entered a.parts g class members v → IsWhole (with_parts a v)
-entered_whole a v g class members whole lowest reason e = record {
+    → Entered a.parts g class members v → AreDrives drive_units v.groups v.drives → IsWhole (with_parts a v)
+entered_whole a v g class members whole lowest reason e drives = record {
   room = record { kept = whole.room.kept; keys = whole.room.keys ∙ ap (λ (z : Groups). z.blocks) (sym e.groups) };
   blocks = subst (λ (z : Groups). z.blocks ≤ 65536) (sym e.groups) whole.blocks;
   keys = whole.keys;
@@ -43,6 +44,7 @@ entered_whole a v g class members whole lowest reason e = record {
   agree = e.agree;
   rows = ap (λ (o : Owners). length o.rows) e.owners ∙ rows_given a.parts.owners members (Some g) ∙ whole.rows ∙ sym many;
   wide = ap (λ (o : Owners). o.extents) e.owners ∙ extents_given a.parts.owners members (Some g) ∙ whole.wide ∙ ap (λ (z : Groups). z.extents) (sym e.groups);
+  drives = drives;
 }
   where
     many : length v.drives ≡ length a.parts.drives

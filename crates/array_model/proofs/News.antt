@@ -31,6 +31,7 @@ new_whole a new sizes = record {
   agree = new.agree;
   rows = new.rows;
   wide = new.wide;
+  drives = new.drives;
 }
 
 -- the sizes of a shape are within their limits

@@ -5,12 +5,14 @@ use Rattle.extents.specs.Owners.{Owners}
 use Rattle.extent_groups.specs.Geometry.{slot_count}
 use Rattle.extent_groups.specs.Groups.{Group, Groups, group_at, slots_in, Agree}
 use Rattle.array_parts.specs.Slots.{IsSlot}
-use Rattle.array_parts.specs.Views.{PartsView, SameTables}
+use Rattle.extent_groups.specs.Stores.{AreDrives}
+use Rattle.array_parts.specs.Views.{PartsView, SameTables, drive_units}
 use Rattle.flat_machine.specs.Groups.{GroupsStand, class_below, class_at}
 use Rattle.array_model.specs.Views.{ArrayView, with_parts, IsWhole}
 
-pub whole_parts : (a : ArrayView) (v : PartsView) → SameTables a.parts v → length v.drives ≡ length a.parts.drives → IsWhole a → IsWhole (with_parts a v)
-whole_parts a v same many whole = record {
+pub whole_parts : (a : ArrayView) (v : PartsView) → SameTables a.parts v → length v.drives ≡ length a.parts.drives → AreDrives drive_units v.groups v.drives
+    → IsWhole a → IsWhole (with_parts a v)
+whole_parts a v same many drives whole = record {
   room = record { kept = whole.room.kept; keys = whole.room.keys ∙ ap (λ (g : Groups). g.blocks) (sym same.groups) };
   blocks = subst (λ (g : Groups). g.blocks ≤ 65536) (sym same.groups) whole.blocks;
   keys = whole.keys;
@@ -23,6 +25,7 @@ whole_parts a v same many whole = record {
   agree = subst (λ (g : Groups). Agree g v.owners) (sym same.groups) (subst (Agree a.parts.groups) (sym same.owners) whole.agree);
   rows = ap (λ (o : Owners). length o.rows) same.owners ∙ whole.rows ∙ sym many;
   wide = ap (λ (o : Owners). o.extents) same.owners ∙ whole.wide ∙ ap (λ (g : Groups). g.extents) (sym same.groups);
+  drives = drives;
 }
 
 index_below : (segments : ℕ) (o : Option Group) (i : ℕ) → class_below segments o i ≢ None → i < slots_in segments o

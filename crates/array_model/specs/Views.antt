@@ -3,7 +3,8 @@ use Rattle.std.specs.Prelude.{◌≡◌, ◌≢◌, ℕ, ◌<◌, ◌≤◌, ◌
 use Rattle.map_join.specs.declared.records.Record.{Record}
 use Rattle.map_join.specs.Record.{record_of}
 use Rattle.extent_groups.specs.Groups.{Agree}
-use Rattle.array_parts.specs.Views.{PartsView}
+use Rattle.extent_groups.specs.Stores.{AreDrives}
+use Rattle.array_parts.specs.Views.{PartsView, drive_units}
 use Rattle.flat_machine.specs.Groups.{IsEmpty, GroupsStand, class_at}
 use Rattle.array_model.specs.declared.hand.Hand.{Hand}
 use Rattle.array_model.specs.declared.hand.Hand.TheVariants.{Empty, Holds, Waits}
@@ -65,7 +66,8 @@ pub record IsRoomy (a : ArrayView) : Type 0 where
   pub keys : length a.keys ≡ a.parts.groups.blocks
 
 -- what every array keeps: each key is a record's, whose place and no other is kept for that block; what is copied can move
--- on; what is kept is a slot of a group; and groups stand, and agree with the owners of the extents
+-- on; what is kept is a slot of a group; groups stand, and agree with the owners of the extents; and the drives have the units
+-- that the sizes ask
 pub record IsWhole (a : ArrayView) : Type 0 where
   pub room : IsRoomy a
   pub blocks : a.parts.groups.blocks ≤ 65536
@@ -79,6 +81,7 @@ pub record IsWhole (a : ArrayView) : Type 0 where
   pub agree : Agree a.parts.groups a.parts.owners
   pub rows : length a.parts.owners.rows ≡ length a.parts.drives
   pub wide : a.parts.owners.extents ≡ a.parts.groups.extents
+  pub drives : AreDrives drive_units a.parts.groups a.parts.drives
 
 -- an array to which nothing has happened
 pub record IsNew (a : ArrayView) : Type 0 where
@@ -86,6 +89,7 @@ pub record IsNew (a : ArrayView) : Type 0 where
   pub agree : Agree a.parts.groups a.parts.owners
   pub rows : length a.parts.owners.rows ≡ length a.parts.drives
   pub wide : a.parts.owners.extents ≡ a.parts.groups.extents
+  pub drives : AreDrives drive_units a.parts.groups a.parts.drives
   pub log : a.log ≡ []
   pub keys : (b : ℕ) → key_at a b ≡ 0
   pub kept : (s : ℕ) → kept_at a s ≡ Nothing

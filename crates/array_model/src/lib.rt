@@ -3,7 +3,5 @@
 #![tactic(auto)]
 
 mod hand;
-mod laws;
 
 pub use hand::Hand;
-pub use laws::array_laws;

@@ -1,16 +1,20 @@
 -- The parts as plain data show what the parts themselves show.
-use Rattle.std.proofs.Common.{◌≡◌, ℕ, Bool, Option, Some, None, List, length, refl, sym, ◌∙◌, ap, subst}
+use Rattle.std.proofs.Common.{◌≡◌, ℕ, ◌*◌, ◌<◌, Bool, Option, Some, None, List, length, refl, sym, ◌∙◌, ap, subst}
 use Rattle.std.specs.Prelude.{slice_get}
 use Rattle.std.specs.Option.{option_map}
 use Rattle.std.proofs.lemmas.List.{length-map}
-use Rattle.std.proofs.lemmas.Option.{slice_get-map}
+use Rattle.std.proofs.lemmas.Option.{same_Some, slice_get-map}
+use Rattle.extents.specs.Sizes.{extent_units}
+use Rattle.extents.specs.Units.{IsSized}
+use Rattle.extent_groups.specs.declared.class.Member.{Member}
+use Rattle.extent_groups.specs.Stores.{AreDrives, unit_bytes}
 use Rattle.extent_groups.specs.Cells.{cell}
 use Rattle.extent_groups.specs.Missing.{is_missing}
 use Rattle.flat_machine.specs.Cases.{Fares}
 use Rattle.array_parts.specs.declared.parts.Parts.{Parts}
 use Rattle.array_parts.specs.Losses.{AllFare, failures_at, failures_of}
 use Rattle.array_parts.specs.Slots.{cells_in, missing_in}
-use Rattle.array_parts.specs.Views.{drive_units, drive_lost, drive_failures, drive_view, view_of, cells_of, lost_of, failed_of, DrivesFare}
+use Rattle.array_parts.specs.Views.{DriveView, drive_units, drive_lost, drive_failures, drive_view, view_of, cells_of, lost_of, failed_of, DrivesFare}
 
 cell_same : {D : Type 0} (units : D → List (List ℕ)) (lost : D → Bool) (failures : D → ℕ) (o : Option D) (at : ℕ)
     → cell drive_units drive_lost (option_map (drive_view units lost failures) o) at ≡ cell units lost o at
@@ -71,3 +75,20 @@ view_fares units lost failures p q fares = record {
       subst (λ x. Fares (lost_of (view_of units lost failures p) d) (lost_of (view_of units lost failures q) d) x (failures_of failures q.drives.items d)) (sym before) two in
       subst (λ x. Fares (lost_of (view_of units lost failures p) d) (lost_of (view_of units lost failures q) d) (failed_of (view_of units lost failures p) d) x) (sym after) three;
 }
+
+-- and they have the units of the sizes
+view_drive : {D : Type 0} (units : D → List (List ℕ)) (lost : D → Bool) (failures : D → ℕ) (o : Option D) (x : DriveView) (P : List (List ℕ) → Type 0)
+    → ((y : D) → o ≡ Some y → P (units y)) → option_map (drive_view units lost failures) o ≡ Some x → P x.units
+view_drive units lost failures None x P all is = absurd (cc)
+view_drive units lost failures (Some y) x P all is = subst (λ (z : DriveView). P z.units) (same_Some _ _ is) (all y refl)
+
+pub view_drives : {D : Type 0} (units : D → List (List ℕ)) (lost : D → Bool) (failures : D → ℕ) (p : Parts D) → AreDrives units p.groups p.drives.items
+    → AreDrives drive_units p.groups (view_of units lost failures p).drives
+view_drives units lost failures p are = record {
+  many = λ d x at. view_drive units lost failures (slice_get p.drives.items d) x (λ us. length us ≡ p.groups.extents * extent_units p.groups.segments) (are.many d) (found d x at);
+  sized = λ d x at. view_drive units lost failures (slice_get p.drives.items d) x (IsSized (unit_bytes p.groups)) (are.sized d) (found d x at);
+  there = λ g k m at. let is = are.there g k m at in (subst (λ n. m.drive < n) (sym (view_length units lost failures p)) is.0, is.1);
+}
+  where
+    found : (d : ℕ) (x : DriveView) → slice_get (view_of units lost failures p).drives d ≡ Some x → option_map (drive_view units lost failures) (slice_get p.drives.items d) ≡ Some x
+    found d x at = sym (slice_get-map (drive_view units lost failures) p.drives.items d) ∙ at

@@ -24,11 +24,11 @@ pub fn carry_out(
     command: &Command,
     out: &mut Vec<u8>,
 ) -> Result<(), AllocError>
-    requires payload { length payload.now ≡ bench.old.world.array.groups.payload }
+    requires payload { length payload.now ≡ bench.old.world.array.parts.groups.payload }
     requires written { IsWritten (order_of «command».now payload.now) }
     requires later { «command».now.verb ≡ Verb.Array → ⊥ }
-    requires blocks { bench.old.world.array.groups.blocks < 2 ^ 32 }
-    requires range { IsWithin bench.old.world.array.groups.blocks (order_of «command».now payload.now) }
+    requires blocks { bench.old.world.array.parts.groups.blocks < 2 ^ 32 }
+    requires range { IsWithin bench.old.world.array.parts.groups.blocks (order_of «command».now payload.now) }
     ensures { OnOk result (Carries bench.old bench.new (order_of «command».now payload.now) out.old.items out.new.items) }
 {
     let [first, second, third, ..] = command.numbers;
@@ -74,7 +74,7 @@ fn fill(
     payload: &[u8],
     out: &mut Vec<u8>,
 ) -> Result<(), AllocError>
-    requires payload { length payload.now ≡ bench.old.world.array.groups.payload }
+    requires payload { length payload.now ≡ bench.old.world.array.parts.groups.payload }
     ensures { OnOk result (Carries bench.old bench.new (o.Fill worker slot payload.now) out.old.items out.new.items) }
 {
     let answer = bench.world.fill(alloc, worker, slot, payload)?;
@@ -89,7 +89,7 @@ fn copy(
     block: u32,
     out: &mut Vec<u8>,
 ) -> Result<(), AllocError>
-    requires block { block < bench.old.world.array.groups.blocks }
+    requires block { block < bench.old.world.array.parts.groups.blocks }
     ensures { OnOk result (Carries bench.old bench.new (o.Copy worker slot block) out.old.items out.new.items) }
 {
     let answer = bench.world.copy(alloc, worker, slot, block)?;
@@ -104,7 +104,7 @@ fn commit(
     block: u32,
     out: &mut Vec<u8>,
 ) -> Result<(), AllocError>
-    requires block { block < bench.old.world.array.groups.blocks }
+    requires block { block < bench.old.world.array.parts.groups.blocks }
     ensures { OnOk result (Carries bench.old bench.new (o.Commit worker slot block) out.old.items out.new.items) }
 {
     let answer = bench.world.commit(alloc, worker, slot, block)?;
@@ -124,7 +124,7 @@ fn read_at(
     record: Record,
     out: &mut Vec<u8>,
 ) -> Result<(), AllocError>
-    requires { «record».block < bench.old.world.array.groups.blocks }
+    requires { «record».block < bench.old.world.array.parts.groups.blocks }
     ensures { OnOk result (Carries bench.old bench.new (o.At «record») out.old.items out.new.items) }
 {
     let answer = bench.world.read_at(alloc, record)?;
@@ -132,7 +132,7 @@ fn read_at(
 }
 
 fn read(alloc: Global, bench: &mut Bench, block: u32, out: &mut Vec<u8>) -> Result<(), AllocError>
-    requires { block < bench.old.world.array.groups.blocks }
+    requires { block < bench.old.world.array.parts.groups.blocks }
     ensures { OnOk result (Carries bench.old bench.new (o.Read block) out.old.items out.new.items) }
 {
     let answer = bench.world.read(alloc, block)?;

@@ -1,5 +1,5 @@
 -- What an array is put together of, and that nothing has happened to it.
-use Rattle.std.proofs.Common.{◌≡◌, ℕ, ◌*◌, ◌+◌, ◌<◌, ◌≤◌, Bool, List, [], length, get_or, sym, ap, ◌∙◌, subst, Vec}
+use Rattle.std.proofs.Common.{◌≡◌, ℕ, ◌*◌, ◌+◌, ◌<◌, ◌≤◌, Bool, List, [], length, map, get_or, sym, ap, ◌∙◌, subst, Vec}
 use Rattle.std.proofs.Math.ListN.{get_or-map}
 use Rattle.std.proofs.lemmas.List.{length-map, length-replicate}
 use Rattle.std.specs.Global.{Global}
@@ -12,7 +12,8 @@ use Rattle.extents.specs.declared.shape.TheConstants.{HEADER_BYTES}
 use Rattle.extent_groups.specs.Calls.{AreSized}
 use Rattle.extent_groups.proofs.Fresh.{no_members}
 use Rattle.array_parts.specs.Fit.{HaveUnits}
-use Rattle.array_parts.specs.Views.{drive_view}
+use Rattle.extent_groups.specs.Stores.{AreDrives}
+use Rattle.array_parts.specs.Views.{drive_view, drive_units}
 use Rattle.array_model.specs.Views.{Nothing, IsNew}
 use Rattle.step_core.specs.declared.array.Array.TheInside.{Inside}
 use Rattle.step_core.specs.declared.place.Place.{Place}
@@ -37,12 +38,13 @@ of_tables shape t drives log = record {
 }
 
 pub is_new : {D C : Type 0} (units : D → List (List ℕ)) (lost : D → Bool) (failures : D → ℕ) (shape : Shape) (t : Tables C) (drives : Vec D Global) (log : Vec Record Global) (n : ℕ)
-    → n ≡ length drives.items → log.items ≡ [] → AreNew shape n t → IsNew (seen units lost failures (of_tables shape t drives log))
-is_new units lost failures shape t drives log n count none new = record {
+    → n ≡ length drives.items → log.items ≡ [] → AreDrives drive_units t.groups (map (drive_view units lost failures) drives.items) → AreNew shape n t → IsNew (seen units lost failures (of_tables shape t drives log))
+is_new units lost failures shape t drives log n count none are new = record {
   empty = new.empty;
   agree = new.agree;
   rows = ap (λ (o : Owners). length o.rows) new.owners ∙ length-replicate n _ ∙ count ∙ sym (length-map drives.items (drive_view units lost failures));
   wide = ap (λ (o : Owners). o.extents) new.owners ∙ new.sizes.of_extents;
+  drives = are;
   log = none;
   keys = new.zero;
   kept = none_kept t.places.items new.free;

@@ -15,6 +15,7 @@ use Rattle.array_model.proofs.Wholes.{whole_parts}
 use Rattle.step_core.specs.declared.array.Array.TheInside.{Inside}
 use Rattle.step_core.specs.declared.place.Place.{Place}
 use Rattle.step_core.specs.Inside.{seen, IsReady}
+use Rattle.array_parts.proofs.Views.{view_drives}
 use Rattle.array_parts.specs.Views.{view_of, PartsView, SameTables, DrivesFare, Loses, FoundGone, WasNotCarried}
 use Rattle.flat_machine.specs.declared.refusal.Refusal.{Refusal}
 
@@ -47,9 +48,10 @@ uncarried_keeps a b from to q (inr gone) = loses_keeps a b gone.1.loses
 
 -- an array is whole with other drives of the same tables
 pub still_whole : {D C : Type 0} (units : D → List (List ℕ)) (lost : D → Bool) (failures : D → ℕ) (a : Inside D C) (p : Parts D)
-    → Keeps (view_of units lost failures a.parts) (view_of units lost failures p) → IsWhole (seen units lost failures a)
+    → Keeps (view_of units lost failures a.parts) (view_of units lost failures p) → IsFit units p → IsWhole (seen units lost failures a)
     → IsWhole (seen units lost failures (record a { parts = p }))
-still_whole units lost failures a p same whole = whole_parts (seen units lost failures a) (view_of units lost failures p) same.tables same.many whole
+still_whole units lost failures a p same fit whole =
+    whole_parts (seen units lost failures a) (view_of units lost failures p) same.tables same.many (view_drives units lost failures p fit.drives) whole
 
 -- and ready, its buffers written over
 pub still_ready : {D C : Type 0} (units : D → List (List ℕ)) (lost : D → Bool) (failures : D → ℕ) (a : Inside D C) (p : Parts D) (unit scratch : List ℕ)

@@ -14,7 +14,7 @@ pub returns-in-Ok-put : goal.returns-in-Ok-put
 returns-in-Ok-put c =
     let some = c.in-Some.ensures.some in
     let sizes = c.in-Ok.ensures.sizes in
-    let groups = c.in-Ok.world.array.groups in
+    let groups = c.in-Ok.world.array.parts.groups in
     record {
       due = refl;
       range = record { within = search rules; fit = some.2 };

@@ -8,7 +8,7 @@ invariant_of-self g c =
     let a = view_of d.units d.lost d.failures c.self.inside.parts in
     let b = view_of d.units d.lost d.failures c.carry.new.self in
     let same : Keeps a b = either_way {P = Keeps a b} c.carry.result (λ x w. keeps a b w.fares w.rest) (λ q e. uncarried_keeps a b _ _ q e) c.carry.ensures.ok c.carry.ensures.err in (
-      still_whole d.units d.lost d.failures c.self.inside c.carry.new.self same c.self.invariant.0,
+      still_whole d.units d.lost d.failures c.self.inside c.carry.new.self same c.carry.ensures.fit c.self.invariant.0,
       c.self.invariant.1,
       still_ready d.units d.lost d.failures c.self.inside c.carry.new.self c.carry.new.unit c.carry.new.scratch same c.carry.ensures.fit c.self.invariant.2,
     )

@@ -48,7 +48,7 @@ invariant_of-self-in-Err-carry g c =
     let now = seen d.units d.lost d.failures c.self.inside in
     let b = view_of d.units d.lost d.failures c.carry.new.self in
     let same : Keeps now.parts b = either_way {P = Keeps now.parts b} c.carry.result (λ x w. keeps now.parts b w.fares w.rest) (λ q e. uncarried_keeps now.parts b _ _ q e) c.carry.ensures.ok c.carry.ensures.err in (
-      as_whole _ _ (ap (λ l. record now { parts = b; log = l }) c.reserve.ensures.items) (still_whole d.units d.lost d.failures c.self.inside c.carry.new.self same c.self.invariant.0),
+      as_whole _ _ (ap (λ l. record now { parts = b; log = l }) c.reserve.ensures.items) (still_whole d.units d.lost d.failures c.self.inside c.carry.new.self same c.carry.ensures.fit c.self.invariant.0),
       c.self.invariant.1,
       (let ready = still_ready d.units d.lost d.failures c.self.inside c.carry.new.self c.carry.new.unit c.carry.new.scratch same c.carry.ensures.fit c.self.invariant.2 in
       record { fit = ready.fit; unit = ready.unit; scratch = ready.scratch }),
@@ -104,7 +104,7 @@ invariant_of-self-2 g c =
     c.of.ensures ∙ c.in-Ok.ensures.ok.1 ∙ ap (λ o. commit_record old c.slot-slot.result c.args.block o) c.newest-found.ensures.value
     in
     let whole = subst IsWhole c.self.view_is c.self.invariant.0 in
-    let still : IsWhole (with_parts old b) = subst (λ (v : ArrayView). IsWhole (with_parts v b)) c.self.view_is (still_whole d.units d.lost d.failures c.self.inside c.carry.new.self same c.self.invariant.0) in (
+    let still : IsWhole (with_parts old b) = subst (λ (v : ArrayView). IsWhole (with_parts v b)) c.self.view_is (still_whole d.units d.lost d.failures c.self.inside c.carry.new.self same c.carry.ensures.fit c.self.invariant.0) in (
       as_whole _ (commit_view (with_parts old b) c.slot-slot.result c.args.block found c.of.result) (search rules)
           (subst (λ (r : Record). IsWhole (commit_view (with_parts old b) c.slot-slot.result c.args.block found r)) (sym is)
           (commit_whole (with_parts old b) c.slot-slot.result c.args.block _ _ still (search rules) (search rules)

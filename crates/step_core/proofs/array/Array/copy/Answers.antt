@@ -1,8 +1,10 @@
-use Rattle.std.proofs.Common.{◌≡◌, ◌∙◌, ap, sym, rules, Some, None}
+use Rattle.std.proofs.Common.{◌≡◌, ◌∙◌, ap, sym, subst, rules, Some, None}
 use Rattle.map_join.specs.declared.records.Record.{Record}
 use Rattle.flat_machine.specs.Flat.{Worker}
 use Rattle.flat_machine.specs.Steps.{Copied, Refused}
 use Rattle.flat_machine.specs.Cases.{CopyCase, CopyPasses}
+use Rattle.extent_groups.specs.Stores.{AreDrives}
+use Rattle.array_parts.specs.Views.{drive_units}
 use Rattle.array_model.specs.Changes.{copy_view, copy_reason}
 use Rattle.array_model.specs.Views.{ArrayView, with_parts}
 use Rattle.array_model.proofs.Fills.{as_whole, as_shown}
@@ -36,7 +38,7 @@ invariant_of-self g c =
     let now = seen g.D.Drive.units g.D.Drive.lost g.D.Drive.failures c.self.inside in
     let s = c.slot-slot.result in (
       as_whole _ _ (ap (λ k. record now { kept = k }) c.put_in.ensures.kept ∙ ap (λ (z : ArrayView). copy_view z s c.in-Ok.source) (c.self.view_is ∙ c.carry.ensures.rest))
-          (copy_whole c.args.self.now c.carry.new.self.parts s c.in-Ok.source (search rules) (search rules) (search rules) c.told.ensures.whole),
+          (copy_whole c.args.self.now c.carry.new.self.parts s c.in-Ok.source (search rules) (search rules) (search rules) (subst (λ (v : ArrayView). AreDrives drive_units v.parts.groups v.parts.drives) c.self.view_is c.self.invariant.0.drives) c.told.ensures.whole),
       c.put_in.ensures.claims,
       places_ready g.D.Drive.units c.self.inside c.put_in.new.places c.self.invariant.2,
     )

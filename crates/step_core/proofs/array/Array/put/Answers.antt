@@ -8,7 +8,7 @@ invariant_of-self g c =
     let a = view_of d.units d.lost d.failures c.self.inside.parts in
     let b = view_of d.units d.lost d.failures c.put.new.self in
     let same : Keeps a b = either_way {P = Keeps a b} c.put.result (λ x w. keeps a b w.fares w.rest) (λ q e. gone_keeps a b _ q e) c.put.ensures.ok c.put.ensures.err in (
-      still_whole d.units d.lost d.failures c.self.inside c.put.new.self same c.self.invariant.0,
+      still_whole d.units d.lost d.failures c.self.inside c.put.new.self same c.put.ensures.fit c.self.invariant.0,
       c.self.invariant.1,
       still_ready d.units d.lost d.failures c.self.inside c.put.new.self c.put.new.unit c.put.new.scratch same c.put.ensures.fit c.self.invariant.2,
     )
