@@ -41,11 +41,11 @@ lost_in units lost failures p slot gone = subst (λ m. IsGone p.groups m slot) (
 pub lost_out : {D : Type 0} (units : D → List (List ℕ)) (lost : D → Bool) (failures : D → ℕ) (p : Parts D) (slot : ℕ) → IsGone p.groups (missing_in lost p) slot → IsLost (view_of units lost failures p) slot
 lost_out units lost failures p slot gone = subst (λ m. IsGone p.groups m slot) (sym (view_lost units lost failures p)) gone
 
-same_tables : {D : Type 0} (units : D → List (List ℕ)) (lost : D → Bool) (failures : D → ℕ) (p q : Parts D) → KeepsTables p q → SameTables (view_of units lost failures p) (view_of units lost failures q)
+pub same_tables : {D : Type 0} (units : D → List (List ℕ)) (lost : D → Bool) (failures : D → ℕ) (p q : Parts D) → KeepsTables p q → SameTables (view_of units lost failures p) (view_of units lost failures q)
 same_tables units lost failures p q tables = record { groups = tables.groups; owners = tables.extents }
 
 -- units that are kept are shown
-kept_shows : {D : Type 0} (units : D → List (List ℕ)) (lost : D → Bool) (failures : D → ℕ) (p q : Parts D) → KeepsTables p q
+pub kept_shows : {D : Type 0} (units : D → List (List ℕ)) (lost : D → Bool) (failures : D → ℕ) (p q : Parts D) → KeepsTables p q
     → (AreSound p.groups (cells_in units lost p) → KeepsUnits p.groups (cells_in units lost p) (cells_in units lost q))
     → (AreSound p.groups (cells_in units lost p) → AreSound p.groups (cells_in units lost q))
     → (f : ℕ → Option Stored) → Shows (view_of units lost failures p) f → Shows (view_of units lost failures q) f

@@ -33,11 +33,12 @@ fits_same a b (step.Discard w s) same fits = fits
 fits_same a b (step.Read c) same fits = subst (λ n. c < n) (sym same.blocks) fits
 fits_same a b (step.ReadAt r) same fits = subst (λ n. r.block < n) (sym same.blocks) fits
 fits_same a b (step.Make class members) same fits = fits
+fits_same a b (step.Lose d) same fits = fits
 
-pub fits_at : (steps : List Step) (i : ℕ) (one : Step) → i < length steps → one ≡ get_or steps i one → (a b : ArrayView) → SameSizes a b → All (FitsStep a.groups) steps
-    → FitsStep b.groups one
+pub fits_at : (steps : List Step) (i : ℕ) (one : Step) → i < length steps → one ≡ get_or steps i one → (a b : ArrayView) → SameSizes a b → All (FitsStep a.parts.groups) steps
+    → FitsStep b.parts.groups one
 fits_at steps i one inside is a b same all =
-    fits_same a b one same (subst (FitsStep a.groups) (sym is) (All-get_or (FitsStep a.groups) steps i one inside all))
+    fits_same a b one same (subst (FitsStep a.parts.groups) (sym is) (All-get_or (FitsStep a.parts.groups) steps i one inside all))
 
 pub sizes_same : (a : ArrayView) → SameSizes a a
 sizes_same a = record { payload = refl; blocks = refl }

@@ -8,22 +8,27 @@ use Rattle.map_join.specs.declared.records.Record.{Record}
 use Rattle.map_join.specs.Record.{record_at, IsRecord}
 use Rattle.extent_groups.specs.declared.class.Class.{Class}
 use Rattle.extent_groups.specs.declared.class.Member.{Member}
-use Rattle.flat_machine.specs.Flat.{Flat, Write, Content, Worker, Ticket, Waiting, Fresh, Moved, IsNewest, turned}
-use Rattle.flat_machine.specs.Steps.{Filled, Copied, Committed, Discarded, MadeGroup, Fill, Copy, Commit, Discard, Make}
-use Rattle.flat_machine.specs.Cases.{FillCase, CopyCase, ticketed, CommitCase, CommitWith, committed, DiscardCase, discarded, MakeCase, made, Leaves}
+use Rattle.flat_machine.specs.Flat.{Flat, Write, Content, Worker, Ticket, Waiting, Fresh, Moved, IsNewest, turned, put}
+use Rattle.flat_machine.specs.declared.refusal.Refusal.{Refusal}
+use Rattle.flat_machine.specs.declared.refusal.Refusal.TheVariants.{NoGroup, WrongClass, InUse, NoTicket, Outrun, VersionSpent, HopsSpent, Unwritten, Gone, DriveLost, Ahead, ExtentTaken, SameDrive, LogFull, Full, BadMember}
+use Rattle.flat_machine.specs.Steps.{FlatStep, FlatAnswer, Filled, Copied, Committed, Discarded, MadeGroup, LostDrive, Refused, Fill, Copy, Commit, Discard, Make, Read, ReadAt, Lose}
+use Rattle.flat_machine.specs.Cases.{FillCase, CopyCase, ticketed, CommitCase, CommitWith, committed, DiscardCase, discarded, MakeCase, made, LoseCase, Case, Leaves}
 use Rattle.flat_machine.proofs.Newest.{newest_unique, place_small}
 use Rattle.flat_machine.proofs.Pairs.{turned_else, turned_just, just_one, Any}
 use Rattle.flat_machine.proofs.Passing.{Passes, passed, passed_on}
 use Rattle.array_model.specs.declared.hand.Hand.{Hand}
 use Rattle.array_model.specs.declared.hand.Hand.TheVariants.{Empty, Holds, Waits}
 use Rattle.array_model.specs.Changes.{passed_hands}
-use Rattle.array_model.specs.Views.{ArrayView, WorldView, hand_at, key_at}
-use Rattle.array_model.specs.Represents.{HandSlot, ShowsArray, Represents, is_claim, is_ticket}
+use Rattle.array_parts.specs.Views.{PartsView}
+use Rattle.array_model.specs.Views.{ArrayView, WorldView, with_parts, hand_at, key_at}
+use Rattle.array_model.specs.Represents.{HandSlot, InTables, ShowsArray, Represents, is_claim, is_ticket}
+use Rattle.array_model.proofs.Fares.{itself}
 use Rattle.array_model.proofs.Newest.{newest_told}
 use Rattle.array_model.proofs.Hands.{one_hand}
-use Rattle.array_model.proofs.Slots.{worker_hand, ticket_hand, block_hand, one_slot}
+use Rattle.array_model.proofs.Slots.{worker_hand, ticket_hand, block_hand, one_slot, shows_after}
 use Rattle.flat_machine.proofs.Holding.{step_holds, once_any}
 use Rattle.flat_machine.specs.History.{IsStep}
+use Rattle.step_core.specs.Losing.{WasLost}
 
 -- the hands of a state that another left
 hands_as : (hs : List Hand) (G E : Flat) → Leaves E G → ((t : ℕ) → HandSlot (hand_at hs t) (E.held t)) → (t : ℕ) → HandSlot (hand_at hs t) (G.held t)
@@ -179,3 +184,89 @@ make_world v F class members g a rep y = (
     });
   },
 )
+
+-- a commit that is refused
+commit_refused : (F G : Flat) (w s b : ℕ) (found : Option Record) (c : Option Waiting) (r : Refusal) → CommitWith F w s b found c (Refused r) G → Leaves F G
+commit_refused F G w s b found (Some (Fresh x)) VersionSpent y = y.1
+commit_refused F G w s b found (Some (Fresh x)) LogFull y = y.2
+commit_refused F G w s b found (Some (Fresh x)) (Gone t) y = y.4
+commit_refused F G w s b found (Some (Moved d i h x)) (Outrun n) y = y.2
+commit_refused F G w s b found (Some (Moved d i h x)) LogFull y = y.2
+commit_refused F G w s b found (Some (Moved d i h x)) (Gone t) y = y.4
+commit_refused F G w s b found _ _ y = absurd y
+
+-- a step that is refused leaves the state, but for drives that failed
+pub refused_leaves : (F G : Flat) (step : FlatStep) (r : Refusal) → Case F step (Refused r) G → Leaves F G
+refused_leaves F G (Fill w s x) NoGroup y = y.2
+refused_leaves F G (Fill w s x) WrongClass y = y.2
+refused_leaves F G (Fill w s x) InUse y = y.3
+refused_leaves F G (Fill w s x) (Gone t) y = y.3
+refused_leaves F G (Copy w s b) NoGroup y = y.2
+refused_leaves F G (Copy w s b) InUse y = y.3
+refused_leaves F G (Copy w s b) Unwritten y = y.4
+refused_leaves F G (Copy w s b) HopsSpent y = y.4
+refused_leaves F G (Copy w s b) (Gone t) y = y.1
+refused_leaves F G (Commit w s b) NoTicket y = y.1
+refused_leaves F G (Commit w s b) r y = commit_refused F G w s b y.2.0 (F.tickets s) r y.2.2
+refused_leaves F G (Discard w s) NoTicket y = y.1
+refused_leaves F G (Read b) (Gone t) y = y.1
+refused_leaves F G (ReadAt asked) (Ahead found) y = y.2
+refused_leaves F G (ReadAt asked) (Gone t) y = y.3
+refused_leaves F G (Make class members) BadMember y = y.1
+refused_leaves F G (Make class members) SameDrive y = y.2
+refused_leaves F G (Make class members) ExtentTaken y = y.3
+refused_leaves F G (Make class members) (DriveLost d) y = y.2
+refused_leaves F G (Make class members) Full y = y.3
+refused_leaves F G (Lose d) BadMember y = y.1
+refused_leaves F G _ _ y = absurd y
+
+-- a world whose hands stay, after a step that left the state but for drives that failed
+pub stays_world : (v : WorldView) (F : Flat) (step : FlatStep) (answer : FlatAnswer) (a : ArrayView) → IsStep F.groups step → Represents v F
+    → (y : (G : Flat) × (Case F step answer G) × (ShowsArray a G)) → Leaves F y.0
+    → (G : Flat) × (Case F step answer G) × (Represents (record { array = a; hands = v.hands }) G)
+stays_world v F step answer a fits rep y leaves = (
+  y.0,
+  y.1,
+  record {
+    array = y.2;
+    held = step_holds F y.0 (key_at v.array) step answer rep.array.history rep.held fits y.1;
+    hands = hands_as v.hands y.0 F leaves rep.hands;
+  },
+)
+
+pub refused_world : (v : WorldView) (F : Flat) (step : FlatStep) (r : Refusal) (a : ArrayView) → IsStep F.groups step → Represents v F
+    → (G : Flat) × (Case F step (Refused r) G) × (ShowsArray a G)
+    → (G : Flat) × (Case F step (Refused r) G) × (Represents (record { array = a; hands = v.hands }) G)
+refused_world v F step r a fits rep y = stays_world v F step (Refused r) a fits rep y (refused_leaves F y.0 step r y.1)
+
+-- a world that lost a drive from outside
+pub lose_world : (v : WorldView) (F : Flat) (drive : ℕ) (p : PartsView) → drive < length v.array.parts.drives → Represents v F → WasLost v.array.parts p drive
+    → (G : Flat) × (LoseCase F drive (LostDrive drive) G) × (Represents (record { array = with_parts v.array p; hands = v.hands }) G)
+lose_world v F drive p inside rep was = (
+  G,
+  case,
+  record {
+    array = shows_after v.array (with_parts v.array p) F G (Lose drive) (LostDrive drive) rep.array tt case rep.array.history.map (was.shows F.units rep.array.units) tables;
+    held = step_holds F G (key_at v.array) (Lose drive) (LostDrive drive) rep.array.history rep.held tt case;
+    hands = rep.hands;
+  },
+)
+  where
+    is : InTables v.array F
+    is = rep.array.tables
+
+    G : Flat
+    G = record F { lost = put F.lost drive true }
+
+    case : LoseCase F drive (LostDrive drive) (record F { lost = put F.lost drive true })
+    case = (refl, subst (λ n. drive < n) (sym is.drives) inside, itself (record F { lost = put F.lost drive true }))
+
+    tables : InTables (with_parts v.array p) (record F { lost = put F.lost drive true })
+    tables = record {
+      groups = is.groups ∙ sym was.rest.groups;
+      drives = is.drives ∙ sym was.many;
+      lost = ap (λ (l : ℕ → Bool). put l drive true) is.lost ∙ (λ i d. sym (was.lost d) i);
+      failures = is.failures ∙ (λ i d. sym (was.failures d) i);
+      log = is.log;
+      slots = is.slots;
+    }

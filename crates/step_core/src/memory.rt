@@ -10,7 +10,7 @@ ghost use Rattle.array_parts.specs.Fit.{HaveUnits};
 ghost use Rattle.array_parts.specs.Memory.{held_units};
 ghost use Rattle.array_parts.specs.Views.{SameTables, lost_of, failed_of, Shows};
 ghost use Rattle.array_model.specs.Views.{with_parts};
-ghost use Rattle.step_core.specs.Losing.{WasLost, WasFused};
+ghost use Rattle.step_core.specs.Losing.{WasLost};
 
 use crate::array::Array;
 use crate::hold::Hold;
@@ -45,12 +45,12 @@ impl<C: Hold> Array<MemDrive, C> {
         self.parts.lose(drive);
     }
 
-    /// Loses a drive at the given read or write of it from now on, counted from 1, and for all later ones.
+    /// Loses a drive at the given read or write of it from now on, counted from 1, and for all later ones:
+    /// until then nothing is seen of it.
     pub fn fuse(&mut self, drive: u8, calls: u64)
         requires drive { drive < length self.old.parts.drives }
         requires calls { 1 ≤ calls }
-        ensures fused { WasFused self.old.parts self.new.parts }
-        ensures rest { self.new ≡ with_parts self.old self.new.parts }
+        ensures { self.new ≡ self.old }
     {
         self.parts.fuse(drive, calls);
     }

@@ -1,5 +1,5 @@
 // An array with eight workers, who hold plain claims.
-ghost use Rattle.std.specs.Prelude.{◌≡◌, ℕ, ◌<◌, ◌≤◌, List, length, nat_le, IfOk, IfErr, OnErr};
+ghost use Rattle.std.specs.Prelude.{◌≡◌, ◌≢◌, ℕ, ◌<◌, ◌≤◌, List, length, nat_le, IfOk, IfErr, OnErr};
 ghost use Rattle.map_join.specs.declared.records.Record.{Record};
 ghost use Rattle.extents.specs.Shapes.{IsShapeOf};
 ghost use Rattle.flat_machine.specs.Groups.{IsEmpty};
@@ -152,8 +152,7 @@ impl World {
                 self.hands[usize::from(slot)] = Hand::Waits(worker);
                 Ok(Answer::Filled(slot))
             }
-            Err((Refusal::Memory, _claim)) => Err(AllocError),
-            Err((refusal, _claim)) => Ok(Answer::Refused(refusal)),
+            Err((refusal, _claim)) => refused(refusal),
         }
     }
 
@@ -180,8 +179,7 @@ impl World {
                 self.hands[usize::from(slot)] = Hand::Waits(worker);
                 Ok(Answer::Copied(slot))
             }
-            Err((Refusal::Memory, _claim)) => Err(AllocError),
-            Err((refusal, _claim)) => Ok(Answer::Refused(refusal)),
+            Err((refusal, _claim)) => refused(refusal),
         }
     }
 
@@ -209,8 +207,7 @@ impl World {
                 pass_hands(&mut self.hands, slot, worker, found);
                 Ok(Answer::Committed(done.emitted.record()))
             }
-            Err((Refusal::Memory, _ticket)) => Err(AllocError),
-            Err((refusal, _ticket)) => Ok(Answer::Refused(refusal)),
+            Err((refusal, _ticket)) => refused(refusal),
         }
     }
 
@@ -243,8 +240,7 @@ impl World {
     {
         match self.array.read_at(alloc, asked) {
             Ok(at) => Ok(Answer::Found(at)),
-            Err(Refusal::Memory) => Err(AllocError),
-            Err(refusal) => Ok(Answer::Refused(refusal)),
+            Err(refusal) => refused(refusal),
         }
     }
 
@@ -259,8 +255,7 @@ impl World {
     {
         match self.array.read(alloc, block) {
             Ok(found) => Ok(Answer::Read(found)),
-            Err(Refusal::Memory) => Err(AllocError),
-            Err(refusal) => Ok(Answer::Refused(refusal)),
+            Err(refusal) => refused(refusal),
         }
     }
 
@@ -279,8 +274,7 @@ impl World {
     {
         match self.array.make_group(alloc, class, members) {
             Ok((group, _claims)) => Ok(Answer::Made(group)),
-            Err(Refusal::Memory) => Err(AllocError),
-            Err(refusal) => Ok(Answer::Refused(refusal)),
+            Err(refusal) => refused(refusal),
         }
     }
 
@@ -297,14 +291,25 @@ impl World {
         Answer::Lost(drive)
     }
 
-    /// Loses a drive at the given read or write of it from now on, counted from 1, and for all later ones.
+    /// Loses a drive at the given read or write of it from now on, counted from 1, and for all later ones:
+    /// until then nothing is seen of it.
     pub fn fuse(&mut self, drive: u8, calls: u64)
         requires drive { drive < length self.old.array.parts.drives }
         requires calls { 1 ≤ calls }
-        ensures flat { (F : Flat) → Represents self.old F → Represents self.new F }
-        ensures room { SameSizes self.old.array self.new.array }
+        ensures { self.new ≡ self.old }
     {
         self.array.fuse(drive, calls);
+    }
+}
+
+// What a step that is refused answers; want of memory is no answer.
+fn refused(refusal: Refusal) -> Result<Answer, AllocError>
+    ensures ok { IfOk result (λ answer. (answer ≡ Answer.Refused refusal) × (refusal ≢ Refusal.Memory)) }
+    ensures err { OnErr result (refusal ≡ Refusal.Memory) }
+{
+    match refusal {
+        Refusal::Memory => Err(AllocError),
+        _ => Ok(Answer::Refused(refusal)),
     }
 }
 

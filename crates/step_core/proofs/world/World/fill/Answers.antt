@@ -1,13 +1,16 @@
-use Rattle.flat_machine.specs.Flat.{Payload}
+use Rattle.flat_machine.specs.Flat.{Flat, Payload, Worker}
 use Rattle.std.proofs.Common.{rules, subst, sym, ap, ◌≡◌, ◌∙◌, true}
 use Rattle.std.proofs.Math.ListN.{set}
 use Rattle.array_model.specs.declared.hand.Hand.TheVariants.{Waits}
-use Rattle.flat_machine.specs.Steps.{Filled}
+use Rattle.flat_machine.specs.Steps.{Fill, Filled}
 use Rattle.flat_machine.specs.Cases.{FillCase}
+use Rattle.flat_machine.specs.History.{IsStep}
 use Rattle.array_model.specs.Views.{ArrayView, WorldView, hand_at}
-use Rattle.array_model.specs.Represents.{ShowsArray, is_claim}
+use Rattle.array_model.specs.Represents.{ShowsArray, Represents, is_claim}
 use Rattle.array_model.proofs.Hands.{as_world}
+use Rattle.step_core.specs.Refused.{IsRefused}
 use Rattle.step_core.proofs.Worlds.{fill_world}
+use Rattle.step_core.proofs.Refusals.{was_refused, refused_same, refused_sizes}
 use Rattle.step_core.proofs.world.World.fill.Goals as goal
 use Rattle.extent_groups.specs.Groups.{Groups}
 
@@ -21,3 +24,21 @@ returns-in-Ok-clause-ok c F rep =
     (fill_world c.args.self.now F w s x c.fill.new.self (search rules) (search rules, c.requires ∙ ap (λ (z : Groups). z.payload) (sym rep.array.tables.groups)) rep held c.in-Ok._ticket (search rules)
     (c.in-Ok.ensures.flat F w (subst (λ (a : ArrayView). ShowsArray a F) (sym (ap (λ (v : WorldView). v.array) c.self.view_is)) rep.array)
     ((rep.hands s).claims w ∙ held)))
+
+pub returns-in-Err : goal.returns-in-Err
+returns-in-Err c =
+    let w = c.args.worker in
+    let s = c.args.slot in
+    let v = c.args.self.now in
+    let a = c.fill.new.self in
+    let r = c.in-Err.refusal in
+    let held : is_claim (hand_at v.hands s) w ≡ true = search rules in
+    let array : c.self.inside.array ≡ v.array = ap (λ (u : WorldView). u.array) c.self.view_is in
+    let is : IsRefused v.array a r = subst (λ (x : ArrayView). IsRefused x a r) array c.in-Err.ensures.err.1 in
+    let all = was_refused v _ a (Fill w s (Payload c.args.payload.now)) r c.refused.result (ap (λ (u : WorldView). record { array = a; hands = u.hands }) c.self.view_is)
+        c.refused.ensures.ok c.refused.ensures.err
+        (λ F rep. (search rules, c.requires ∙ ap (λ (z : Groups). z.payload) (sym rep.array.tables.groups)))
+        (refused_same v.array a r is)
+        (λ F rep. c.in-Err.ensures.flat F w (subst (λ (x : ArrayView). ShowsArray x F) (sym array) rep.array) ((rep.hands s).claims w ∙ held))
+    in
+    record { ok = all.ok; err = all.err; wants = all.wants; room = refused_sizes v.array a r is }

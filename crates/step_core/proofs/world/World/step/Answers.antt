@@ -1,49 +1,55 @@
-use Rattle.flat_machine.specs.Flat.{Payload}
-use Rattle.std.proofs.Common.{List, ℕ, Result, IfOk, subst, sym, OnErr}
-use Rattle.std.specs.declared.alloc.AllocError.{AllocError}
-use Rattle.step_core.specs.declared.step.Answer.{Answer}
-use Rattle.flat_machine.specs.Flat.{Flat}
-use Rattle.flat_machine.specs.Steps.{FlatStep, Fill, Make}
+use Rattle.std.proofs.Common.{List, ℕ, subst, sym, ap, ◌≡◌, ◌∙◌}
 use Rattle.extent_groups.specs.declared.class.Member.{Member}
-use Rattle.flat_machine.specs.Cases.{Case, IsWanted}
-use Rattle.step_core.specs.Told.{flat_step, flat_answer}
-use Rattle.array_model.specs.Views.{WorldView}
-use Rattle.array_model.specs.Represents.{Represents}
+use Rattle.flat_machine.specs.Flat.{Payload}
+use Rattle.flat_machine.specs.Steps.{FlatStep, Fill, Make}
+use Rattle.step_core.specs.Told.{flat_step}
+use Rattle.step_core.proofs.Refusals.{WasStep}
 use Rattle.step_core.proofs.world.World.step.Goals as goal
 
--- an answer is the flat machine's, and the world stands for the state that it leaves
-abbrev WasDone : WorldView → WorldView → Result Answer AllocError → FlatStep → Type 0
-WasDone old new result step = IfOk result (λ answer. (F : Flat) → Represents old F → (G : Flat) × (Case F step (flat_answer answer) G) × (Represents new G))
+pub returns-in-Fill : goal.returns-in-Fill
+returns-in-Fill c =
+    let e = c.fill.ensures in
+    let told = subst (λ (f : FlatStep). WasStep c.args.self.now c.fill.new.self f c.fill.result) (ap (λ (p : List ℕ). Fill c.in-Fill.worker c.in-Fill.slot (Payload p)) c.deref.ensures.value ∙ ap flat_step (sym c.in-Fill.is))
+        (record { ok = e.ok; err = e.err; wants = e.wants })
+    in
+    record { ok = told.ok; err = told.err; wants = told.wants; room = e.room }
 
-pub returns-in-Fill-clause-ok : goal.returns-in-Fill-clause-ok
-returns-in-Fill-clause-ok c =
-    subst (λ s. WasDone c.args.self.now c.fill.new.self c.fill.result (flat_step s)) (sym c.in-Fill.is)
-    (subst (λ (p : List ℕ). WasDone c.args.self.now c.fill.new.self c.fill.result (Fill c.in-Fill.worker c.in-Fill.slot (Payload p))) c.deref.ensures.value c.fill.ensures.ok)
+pub returns-in-Copy : goal.returns-in-Copy
+returns-in-Copy c =
+    let e = c.copy.ensures in
+    let told = subst (λ (f : FlatStep). WasStep c.args.self.now c.copy.new.self f c.copy.result) (ap flat_step (sym c.in-Copy.is))
+        (record { ok = e.ok; err = e.err; wants = e.wants })
+    in
+    record { ok = told.ok; err = told.err; wants = told.wants; room = e.room }
 
-pub returns-in-Copy-clause-ok : goal.returns-in-Copy-clause-ok
-returns-in-Copy-clause-ok c = subst (λ s. WasDone c.args.self.now c.copy.new.self c.copy.result (flat_step s)) (sym c.in-Copy.is) c.copy.ensures.ok
+pub returns-in-Commit : goal.returns-in-Commit
+returns-in-Commit c =
+    let e = c.commit.ensures in
+    let told = subst (λ (f : FlatStep). WasStep c.args.self.now c.commit.new.self f c.commit.result) (ap flat_step (sym c.in-Commit.is))
+        (record { ok = e.ok; err = e.err; wants = e.wants })
+    in
+    record { ok = told.ok; err = told.err; wants = told.wants; room = e.room }
 
-pub returns-in-Commit-clause-ok : goal.returns-in-Commit-clause-ok
-returns-in-Commit-clause-ok c = subst (λ s. WasDone c.args.self.now c.commit.new.self c.commit.result (flat_step s)) (sym c.in-Commit.is) c.commit.ensures.ok
+pub returns-in-Read : goal.returns-in-Read
+returns-in-Read c =
+    let e = c.read.ensures in
+    let told = subst (λ (f : FlatStep). WasStep c.args.self.now c.read.new.self f c.read.result) (ap flat_step (sym c.in-Read.is))
+        (record { ok = e.ok; err = e.err; wants = e.wants })
+    in
+    record { ok = told.ok; err = told.err; wants = told.wants; room = e.room }
 
-pub returns-in-Make-clause-ok : goal.returns-in-Make-clause-ok
-returns-in-Make-clause-ok c =
-    subst (λ s. WasDone c.args.self.now c.make.new.self c.make.result (flat_step s)) (sym c.in-Make.is)
-    (subst (λ (ms : List Member). WasDone c.args.self.now c.make.new.self c.make.result (Make c.in-Make.class ms)) c.deref-in-Make.ensures.value c.make.ensures.ok)
+pub returns-in-ReadAt : goal.returns-in-ReadAt
+returns-in-ReadAt c =
+    let e = c.read_at.ensures in
+    let told = subst (λ (f : FlatStep). WasStep c.args.self.now c.read_at.new.self f c.read_at.result) (ap flat_step (sym c.in-ReadAt.is))
+        (record { ok = e.ok; err = e.err; wants = e.wants })
+    in
+    record { ok = told.ok; err = told.err; wants = told.wants; room = e.room }
 
--- memory is wanted where the flat machine's step wants some
-abbrev Wants : WorldView → Result Answer AllocError → FlatStep → Type 0
-Wants old result step = OnErr result ((F : Flat) → Represents old F → IsWanted F step)
-
-pub returns-in-Fill-clause-wants : goal.returns-in-Fill-clause-wants
-returns-in-Fill-clause-wants c =
-    subst (λ s. Wants c.args.self.now c.fill.result (flat_step s)) (sym c.in-Fill.is)
-    (subst (λ (p : List ℕ). Wants c.args.self.now c.fill.result (Fill c.in-Fill.worker c.in-Fill.slot (Payload p))) c.deref.ensures.value c.fill.ensures.wants)
-
-pub returns-in-Copy-clause-wants : goal.returns-in-Copy-clause-wants
-returns-in-Copy-clause-wants c = subst (λ s. Wants c.args.self.now c.copy.result (flat_step s)) (sym c.in-Copy.is) c.copy.ensures.wants
-
-pub returns-in-Make-clause-wants : goal.returns-in-Make-clause-wants
-returns-in-Make-clause-wants c =
-    subst (λ s. Wants c.args.self.now c.make.result (flat_step s)) (sym c.in-Make.is)
-    (subst (λ (ms : List Member). Wants c.args.self.now c.make.result (Make c.in-Make.class ms)) c.deref-in-Make.ensures.value c.make.ensures.wants)
+pub returns-in-Make : goal.returns-in-Make
+returns-in-Make c =
+    let e = c.make.ensures in
+    let told = subst (λ (f : FlatStep). WasStep c.args.self.now c.make.new.self f c.make.result) (ap (λ (ms : List Member). Make c.in-Make.class ms) c.deref-in-Make.ensures.value ∙ ap flat_step (sym c.in-Make.is))
+        (record { ok = e.ok; err = e.err; wants = e.wants })
+    in
+    record { ok = told.ok; err = told.err; wants = told.wants; room = e.room }

@@ -1,0 +1,115 @@
+-- What a world's step tells, whether its array carried it out or refused it.
+use Rattle.std.proofs.Common.{◌≡◌, ◌≢◌, ℕ, List, refl, sym, ap, ◌∙◌, subst, ◌⊎◌, inl, inr, Option, Some, None, Vec, Result, Ok, Err, IfOk, OnErr}
+use Rattle.std.specs.Global.{Global}
+use Rattle.std.specs.declared.alloc.AllocError.{AllocError}
+use Rattle.map_join.specs.declared.records.Record.{Record}
+use Rattle.extent_groups.specs.Groups.{Groups}
+use Rattle.extent_groups.specs.declared.class.Class.{Class}
+use Rattle.extent_groups.specs.declared.class.Member.{Member}
+use Rattle.array_parts.specs.Views.{Entered}
+use Rattle.flat_machine.specs.declared.refusal.Refusal.{Refusal}
+use Rattle.flat_machine.specs.declared.refusal.Refusal.TheVariants.{Memory, Gone, DriveLost}
+use Rattle.flat_machine.specs.Flat.{Flat}
+use Rattle.flat_machine.specs.Steps.{FlatStep, Seen, Refused}
+use Rattle.flat_machine.specs.Cases.{Case, IsWanted}
+use Rattle.flat_machine.specs.History.{IsStep}
+use Rattle.array_model.specs.Changes.{MayRefuse}
+use Rattle.array_model.specs.Reads.{WasNotRead, WasSeen}
+use Rattle.array_model.specs.Represents.{ShowsArray, Represents}
+use Rattle.array_model.specs.Views.{ArrayView, WorldView, SameSizes, with_parts}
+use Rattle.array_model.proofs.Hands.{as_world}
+use Rattle.step_core.specs.declared.step.Answer.{Answer}
+use Rattle.step_core.specs.declared.step.Answer.TheVariants as answer
+use Rattle.step_core.specs.Reads.{WasFound, WasNotFound}
+use Rattle.step_core.specs.Refused.{IsRefused, OnlyLoses}
+use Rattle.step_core.specs.Told.{flat_answer}
+use Rattle.step_core.proofs.Worlds.{refused_world}
+
+-- what a refusal means, where it is not for want of memory, and where it is
+refused_of : (r : Refusal) (W P : Type 0) → MayRefuse r W P → r ≢ Memory → P
+refused_of Memory W P may ne = absurd (ne refl)
+refused_of _ W P may ne = may
+
+wanted_of : (r : Refusal) (W P : Type 0) → MayRefuse r W P → r ≡ Memory → W
+wanted_of r W P may is = subst (λ q. MayRefuse q W P) is may
+
+-- arrays with the same tables have the same sizes
+pub same_sizes : (a b : ArrayView) → b.parts.groups ≡ a.parts.groups → SameSizes a b
+same_sizes a b same = record { payload = ap (λ (z : Groups). z.payload) same; blocks = ap (λ (z : Groups). z.blocks) same }
+
+-- a refused call leaves the tables as they were
+loses_sizes : (a b : ArrayView) → OnlyLoses a b → SameSizes a b
+loses_sizes a b only = same_sizes a b only.1.rest.groups
+
+pub refused_sizes : (a b : ArrayView) (r : Refusal) → IsRefused a b r → SameSizes a b
+refused_sizes a b (Gone slot) is = loses_sizes a b is
+refused_sizes a b (DriveLost drive) is = loses_sizes a b is
+refused_sizes a b _ is = same_sizes a b (ap (λ (x : ArrayView). x.parts.groups) is)
+
+-- a call that wants memory did nothing
+pub refused_same : (a b : ArrayView) (r : Refusal) → IsRefused a b r → r ≡ Memory → b ≡ a
+refused_same a b r is memory = subst (IsRefused a b) memory is
+
+-- what the contract of a world's step tells: its answer is the flat machine's, and without one it wanted memory and did nothing
+pub record WasStep (v w : WorldView) (step : FlatStep) (result : Result Answer AllocError) : Type 0 where
+  pub ok : IfOk result (λ answer. (F : Flat) → Represents v F → (G : Flat) × (Case F step (flat_answer answer) G) × (Represents w G))
+  pub err : OnErr result (w ≡ v)
+  pub wants : OnErr result ((F : Flat) → Represents v F → IsWanted F step)
+
+-- a step that was carried out
+pub was_done : (v w u : WorldView) (step : FlatStep) (told : Answer) (result : Result Answer AllocError) → result ≡ Ok told → w ≡ u
+    → ((F : Flat) → Represents v F → (G : Flat) × (Case F step (flat_answer told) G) × (Represents u G)) → WasStep v w step result
+was_done v w u step told result answered is does = subst (WasStep v w step) (sym answered) (record {
+  ok = λ F rep. as_world (λ G. Case F step (flat_answer told) G) w u is (does F rep);
+  err = tt;
+  wants = tt;
+})
+
+-- a step that the array refused
+pub was_refused : (v w : WorldView) (a : ArrayView) (step : FlatStep) (r : Refusal) (result : Result Answer AllocError) → w ≡ record { array = a; hands = v.hands }
+    → IfOk result (λ told. (told ≡ answer.Refused r) × (r ≢ Memory)) → OnErr result (r ≡ Memory)
+    → ((F : Flat) → Represents v F → IsStep F.groups step)
+    → (r ≡ Memory → a ≡ v.array)
+    → ((F : Flat) → Represents v F → MayRefuse r (IsWanted F step) ((G : Flat) × (Case F step (Refused r) G) × (ShowsArray a G)))
+    → WasStep v w step result
+was_refused v w a step r (Ok told) is ok err fits same may = record {
+  ok = λ F rep. as_world (λ G. Case F step (flat_answer told) G) w (record { array = a; hands = v.hands }) is
+      (subst (λ x. (G : Flat) × (Case F step (flat_answer x) G) × (Represents (record { array = a; hands = v.hands }) G)) (sym ok.0)
+      (refused_world v F step r a (fits F rep) rep
+      (refused_of r (IsWanted F step) ((G : Flat) × (Case F step (Refused r) G) × (ShowsArray a G)) (may F rep) ok.1)));
+  err = tt;
+  wants = tt;
+}
+was_refused v w a step r (Err e) is ok err fits same may = record {
+  ok = tt;
+  err = is ∙ ap (λ x. record { array = x; hands = v.hands }) (same err);
+  wants = λ F rep. wanted_of r (IsWanted F step) ((G : Flat) × (Case F step (Refused r) G) × (ShowsArray a G)) (may F rep) err;
+}
+
+-- the sizes stay where a group is made
+pub made_sizes : (a b : ArrayView) (g : ℕ) (class : Class) (members : List Member) → Entered a.parts g class members b.parts → SameSizes a b
+made_sizes a b g class members e = record { payload = ap (λ (z : Groups). z.payload) e.groups; blocks = ap (λ (z : Groups). z.blocks) e.groups }
+
+-- and where a block is read, or isn't
+pub found_sizes : (a b : ArrayView) (block : ℕ) (found : Option (ℕ × Vec ℕ Global)) → WasFound a b block found → SameSizes a b
+found_sizes a b block None is = same_sizes a b (ap (λ (x : ArrayView). x.parts.groups) is.1)
+found_sizes a b block (Some found) is = same_sizes a b is.3.loses.rest.groups
+
+unread_sizes : (a b : ArrayView) (slot : ℕ) (r : Refusal) → WasNotRead a b slot r → SameSizes a b
+unread_sizes a b slot r (inl is) = same_sizes a b (ap (λ (x : ArrayView). x.parts.groups) is.1)
+unread_sizes a b slot r (inr gone) = same_sizes a b gone.loses.rest.groups
+
+pub not_found_sizes : (a b : ArrayView) (block : ℕ) (r : Refusal) → WasNotFound a b block r → SameSizes a b
+not_found_sizes a b block r is = unread_sizes a b is.0.place r is.2
+
+unread_same : (a b : ArrayView) (slot : ℕ) (r : Refusal) → WasNotRead a b slot r → r ≡ Memory → b ≡ a
+unread_same a b slot r (inl is) memory = is.1
+unread_same a b slot r (inr gone) memory = let bad : Memory ≡ Gone slot = sym memory ∙ gone.told in absurd (cc)
+
+pub not_found_same : (a b : ArrayView) (block : ℕ) (r : Refusal) → WasNotFound a b block r → r ≡ Memory → b ≡ a
+not_found_same a b block r is = unread_same a b is.0.place r is.2
+
+-- and where a record's place is seen
+pub seen_sizes : (a b : ArrayView) (asked : Record) (seen : Seen) → WasSeen a b asked seen → SameSizes a b
+seen_sizes a b asked seen (inl is) = same_sizes a b (ap (λ (x : ArrayView). x.parts.groups) is.2)
+seen_sizes a b asked seen (inr saw) = same_sizes a b saw.loses.rest.groups
