@@ -120,6 +120,13 @@ impl<D: Drive, C: Hold> Array<D, C> {
         drive >= self.parts.drives.len() || self.parts.drives[drive].is_lost()
     }
 
+    // What every array keeps by itself: nothing is done.
+    pub(crate) fn whole(&self)
+        ensures { IsWhole self.now }
+    {
+        let _ = &self.parts;
+    }
+
     /// Whether the array itself holds the slot: for a ticket or as a block's newest place.
     pub fn is_held(&self, slot: u16) -> bool
         ensures value { result ≡ is_kept (kept_at self.now slot) }

@@ -84,7 +84,6 @@ impl World {
         ensures err { OnErr result (self.new ≡ self.old) }
         ensures wants { OnErr result ((F : Flat) → Represents self.old F → IsWanted F (flat_step step.now)) }
         ensures room { SameSizes self.old.array self.new.array }
-        ensures whole { IsWhole self.new.array }
     {
         match step {
             Step::Claim { worker, slot } => Ok(self.claim(*worker, *slot)),
@@ -122,7 +121,7 @@ pub fn run_steps(alloc: Global, mut world: World, steps: &[Step]) -> Result<Run,
         × (stop.at < length steps.now)
         × ((stop.at ≡ 0) ⊎ ((step : Step) × (slice_get steps.now stop.at ≡ Some step) × IsWanted G (flat_step step)))) }
 {
-    let _array = world.array();
+    world.whole();
     let mut answers = match Vec::with_capacity(alloc, steps.len()) {
         Ok(answers) => answers,
         Err(_) => {
@@ -134,10 +133,12 @@ pub fn run_steps(alloc: Global, mut world: World, steps: &[Step]) -> Result<Run,
         }
     };
     for (at, step) in steps.iter().enumerate() {
+        world.whole();
         match world.step(alloc, step) {
             Ok(answer) => answers.push_reserved(answer),
             Err(_) => return Err(Stopped { world, answers, at }),
         }
     }
+    world.whole();
     Ok(Run { world, answers })
 }

@@ -6,7 +6,7 @@ ghost use Rattle.flat_machine.specs.Groups.{IsEmpty};
 ghost use Rattle.flat_machine.specs.Steps as say;
 ghost use Rattle.flat_machine.specs.Flat.{Flat, Payload, new_flat};
 ghost use Rattle.flat_machine.specs.Cases.{Case, IsWanted};
-ghost use Rattle.array_model.specs.Views.{kept_at, hand_at, has_no_holder, SameSizes};
+ghost use Rattle.array_model.specs.Views.{kept_at, hand_at, has_no_holder, IsWhole, SameSizes};
 ghost use Rattle.array_model.specs.Changes.{passed_hands};
 ghost use Rattle.array_model.specs.Represents.{Represents, is_claim, is_ticket};
 ghost use Rattle.step_core.specs.Told.{flat_answer};
@@ -62,10 +62,18 @@ impl World {
         }
     }
 
+    /// The array, with all that it tells.
     pub fn array(&self) -> &Array<MemDrive, Plain>
         ensures { result.now ≡ self.now.array }
     {
         &self.array
+    }
+
+    // What the array keeps by itself: nothing is done.
+    pub(crate) fn whole(&self)
+        ensures { IsWhole self.now.array }
+    {
+        self.array.whole();
     }
 
     // Nobody holds the slot.

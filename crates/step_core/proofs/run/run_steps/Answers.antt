@@ -4,7 +4,8 @@ use Rattle.flat_machine.specs.Cases.{Runs}
 use Rattle.array_model.specs.Views.{WorldView}
 use Rattle.array_model.specs.Represents.{Represents}
 use Rattle.step_core.specs.Told.{flat_step, flat_answer}
-use Rattle.step_core.proofs.Runnings.{stands, fits_at, sizes_again, runs_step, take_past, some_steps}
+use Rattle.step_core.proofs.Standing.{stands}
+use Rattle.step_core.proofs.Runnings.{fits_at, sizes_again, runs_step, take_past, some_steps}
 use Rattle.step_core.proofs.run.run_steps.Goals as goal
 
 pub step-requires : goal.step-requires
