@@ -1,7 +1,7 @@
 use Rattle.std.proofs.Common.{length, rules, subst, sym, ap, ◌∙◌, refl, take, map, inl, inr, Some}
 use Rattle.std.proofs.lemmas.Option.{slice_get-get_or}
 use Rattle.flat_machine.specs.Cases.{Runs}
-use Rattle.array_model.specs.Views.{WorldView}
+use Rattle.array_model.specs.Views.{WorldView, IsWhole}
 use Rattle.array_model.specs.Represents.{Represents}
 use Rattle.step_core.specs.Told.{flat_step, flat_answer}
 use Rattle.step_core.proofs.Standing.{stands}
@@ -33,7 +33,7 @@ returns c F rep =
       x.0,
       subst (λ steps. Runs F (map flat_step steps) (map flat_answer c.loop-at.answers.items) x.0) (take_past c.args.steps.now c.loop-at.at c.loop-at-test.false) x.1,
       x.2,
-      stands c.loop-at.world x.0 x.2,
+      stands c.loop-at.world x.0 c.whole-2.ensures x.2,
     )
 
 pub returns-in-Err : goal.returns-in-Err
@@ -41,7 +41,7 @@ returns-in-Err c F rep = (
   F,
   subst (λ answers. Runs F (map flat_step (take 0 c.args.steps.now)) (map flat_answer answers) F) (sym c.new.ensures.items) refl,
   rep,
-  stands c.args.world F rep,
+  stands c.args.world F c.whole.ensures rep,
   some_steps (length c.args.steps.now) (λ none. let bad = c.in-Err.ensures.succeeds none in cc),
   inl refl,
 )
@@ -53,7 +53,7 @@ returns-in-Err-step c F rep =
       x.0,
       x.1,
       now,
-      stands c.step.new.self x.0 now,
+      stands c.step.new.self x.0 (subst (λ (v : WorldView). IsWhole v.array) (sym c.in-Err-step.ensures.err) c.whole-in-loop-at.ensures) now,
       c.loop-at-test.true,
       inr (
         c.index-steps-at.result,
