@@ -1,10 +1,10 @@
 pub mod Places
-pub mod Losings
-pub mod Beginnings
 pub mod Ready
 pub mod News
 pub mod BlockReads
 pub mod Learnings
+pub mod Losings
+pub mod Beginnings
 pub mod Worlds
 pub mod Refusals
 pub mod Runnings

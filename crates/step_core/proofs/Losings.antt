@@ -1,5 +1,5 @@
 -- Drives in memory: new ones, and what a loss or a fuse leaves of an array's.
-use Rattle.std.proofs.Common.{◌≡◌, ℕ, zero, suc, ◌<◌, ◌≤◌, nat_le, Bool, true, false, List, [], ◌∷◌, ◌++◌, length, map, refl, sym, ap, ◌∙◌, subst, arith, ◌⊎◌, inl, inr, Option, Some, None, get_or}
+use Rattle.std.proofs.Common.{◌≡◌, ℕ, zero, suc, ◌*◌, ◌<◌, ◌≤◌, nat_le, Bool, true, false, List, [], ◌∷◌, ◌++◌, length, map, refl, sym, ap, ◌∙◌, subst, arith, ◌⊎◌, inl, inr, Option, Some, None, get_or}
 use Rattle.std.specs.Prelude.{slice_get, slice_set, replicate}
 use Rattle.std.specs.Option.{option_map}
 use Rattle.std.proofs.Math.Seq.{map-set_same}
@@ -9,9 +9,11 @@ use Rattle.extents.specs.Condition.{Held, is_gone, failures_of, after_loss, afte
 use Rattle.extents.specs.declared.mem_drive.Condition.{Condition}
 use Rattle.extents.specs.declared.mem_drive.Condition.TheVariants.{Present, Fused, Lost, Burnt}
 use Rattle.extents.specs.Units.{zero_units}
-use Rattle.extent_groups.specs.Stores.{AreSound, KeepsUnits}
+use Rattle.extent_groups.specs.Groups.{Groups}
+use Rattle.extent_groups.specs.Stores.{AreSound, KeepsUnits, unit_bytes}
 use Rattle.flat_machine.specs.Flat.{put}
 use Rattle.array_parts.specs.declared.parts.Parts.{Parts}
+use Rattle.array_parts.specs.Fit.{IsFit}
 use Rattle.array_parts.specs.Losses as drives
 use Rattle.array_parts.specs.Losses.{KeepsTables}
 use Rattle.array_parts.specs.Memory.{held_units, held_lost, held_failures, IsSetTo}
@@ -19,7 +21,12 @@ use Rattle.array_parts.specs.Slots.{cells_in, missing_in}
 use Rattle.array_parts.specs.Views.{DriveView, PartsView, drive_view, view_of}
 use Rattle.array_parts.proofs.Calls.{kept_shows, same_tables}
 use Rattle.array_parts.proofs.Views.{view_lost, view_failures, view_length}
+use Rattle.array_model.specs.Views.{IsWhole}
+use Rattle.step_core.specs.declared.array.Array.TheInside.{Inside}
+use Rattle.step_core.specs.Inside.{seen, IsReady}
+use Rattle.step_core.specs.Kept.{AreOf}
 use Rattle.step_core.specs.Losing.{WasLost}
+use Rattle.step_core.proofs.Ready.{Keeps, still_whole}
 
 -- a drive in memory, and the parts that have such, as plain data
 abbrev pub held_view : Held → DriveView
@@ -116,3 +123,14 @@ one_new bytes count [] m new is zero x at = same_Some x m (sym at) ∙ is
 one_new bytes count [] m new is (suc d) x at = absurd (none-some x at)
 one_new bytes count (y ∷ ds) m new is zero x at = new zero x at
 one_new bytes count (y ∷ ds) m new is (suc d) x at = one_new bytes count ds m (λ e z there. new (suc e) z there) is d x at
+
+-- an array whose drives were lost or fused is whole and ready as it was
+pub still_stands : {C : Type 0} (names : C → ℕ) (a : Inside Held C) (p : Parts Held) → Keeps (held_parts a.parts) (held_parts p) → IsFit held_units p
+    → IsWhole (seen held_units held_lost held_failures a) × AreOf names a.places.items × IsReady held_units a
+    → IsWhole (seen held_units held_lost held_failures (record a { parts = p })) × AreOf names a.places.items × IsReady held_units (record a { parts = p })
+still_stands names a p same fit stands =
+    let groups = ap (λ (z : Groups). unit_bytes z) (sym same.tables.groups) in (
+      still_whole held_units held_lost held_failures a p same fit stands.0,
+      stands.1,
+      record { fit = fit; unit = stands.2.unit ∙ groups; scratch = stands.2.scratch ∙ ap (λ n. 2 * n) groups },
+    )
