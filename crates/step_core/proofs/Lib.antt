@@ -1,11 +1,11 @@
 pub mod Places
-pub mod Losings
-pub mod Beginnings
 pub mod Ready
 pub mod News
 pub mod BlockReads
 pub mod Learnings
 pub mod Standing
+pub mod Losings
+pub mod Beginnings
 pub mod Worlds
 pub mod Refusals
 pub mod Runnings

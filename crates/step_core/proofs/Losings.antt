@@ -1,5 +1,5 @@
 -- Drives in memory: new ones, and what a loss or a fuse leaves of an array's.
-use Rattle.std.proofs.Common.{◌≡◌, ℕ, zero, suc, ◌<◌, ◌≤◌, nat_le, Bool, true, false, List, [], ◌∷◌, ◌++◌, length, map, refl, sym, ap, ◌∙◌, subst, arith, ◌⊎◌, inl, inr, Option, Some, None, get_or}
+use Rattle.std.proofs.Common.{◌≡◌, ℕ, zero, suc, ◌*◌, ◌<◌, ◌≤◌, nat_le, Bool, true, false, List, [], ◌∷◌, ◌++◌, length, map, refl, sym, ap, ◌∙◌, subst, arith, ◌⊎◌, inl, inr, Option, Some, None, get_or}
 use Rattle.std.specs.Prelude.{slice_get, slice_set, replicate}
 use Rattle.std.specs.Option.{option_map}
 use Rattle.std.proofs.Math.Seq.{map-set_same}
@@ -9,9 +9,11 @@ use Rattle.extents.specs.Condition.{Held, is_gone, failures_of, after_loss, afte
 use Rattle.extents.specs.declared.mem_drive.Condition.{Condition}
 use Rattle.extents.specs.declared.mem_drive.Condition.TheVariants.{Present, Fused, Lost, Burnt}
 use Rattle.extents.specs.Units.{zero_units}
-use Rattle.extent_groups.specs.Stores.{AreSound, KeepsUnits}
+use Rattle.extent_groups.specs.Groups.{Groups}
+use Rattle.extent_groups.specs.Stores.{AreSound, KeepsUnits, unit_bytes}
 use Rattle.flat_machine.specs.Flat.{put}
 use Rattle.array_parts.specs.declared.parts.Parts.{Parts}
+use Rattle.array_parts.specs.Fit.{IsFit}
 use Rattle.array_parts.specs.Losses as drives
 use Rattle.array_parts.specs.Losses.{KeepsTables}
 use Rattle.array_parts.specs.Memory.{held_units, held_lost, held_failures, IsSetTo}
@@ -19,7 +21,12 @@ use Rattle.array_parts.specs.Slots.{cells_in, missing_in}
 use Rattle.array_parts.specs.Views.{DriveView, PartsView, drive_view, view_of}
 use Rattle.array_parts.proofs.Calls.{kept_shows, same_tables}
 use Rattle.array_parts.proofs.Views.{view_lost, view_failures, view_length}
+use Rattle.array_model.specs.Views.{IsWhole}
+use Rattle.step_core.specs.declared.array.Array.TheInside.{Inside}
+use Rattle.step_core.specs.Inside.{seen, IsReady}
+use Rattle.step_core.specs.Kept.{AreOf}
 use Rattle.step_core.specs.Losing.{WasLost}
+use Rattle.step_core.proofs.Ready.{Keeps, still_whole}
 
 -- a drive in memory, and the parts that have such, as plain data
 abbrev pub held_view : Held → DriveView
@@ -49,7 +56,7 @@ drive_at : (ds : List Held) (d : ℕ) → d < length ds → (m : Held) × (slice
 drive_at ds d inside = (_, slice_get-get_or ds d (record { units = []; condition = Lost }) inside)
 
 -- a number below the count of drives that is seen
-pub drive_below : (a : Parts Held) (v : PartsView) (drive : ℕ) → held_parts a ≡ v → drive < length v.drives → drive < length a.drives.items
+drive_below : (a : Parts Held) (v : PartsView) (drive : ℕ) → held_parts a ≡ v → drive < length v.drives → drive < length a.drives.items
 drive_below a v drive seen inside =
     subst (λ n. drive < n) (view_length held_units held_lost held_failures a) (subst (λ (p : PartsView). drive < length p.drives) (sym seen) inside)
 
@@ -62,13 +69,13 @@ lost_drives a b d x inside set at =
     ap (map held_view) (set m.0 m.1) ∙ map-set held_view a d (record (m.0) { condition = after_loss m.0.condition })
         ∙ ap (slice_set (map held_view a) d) (loss_view m.0.units m.0.condition ∙ ap (λ (v : DriveView). record v { lost = true }) same)
 
-pub was_lost : (a b : Parts Held) (drive : ℕ) → drive < length a.drives.items → IsSetTo after_loss a.drives.items b.drives.items drive
+pub was_lost : (a b : Parts Held) (v : PartsView) (drive : ℕ) → held_parts a ≡ v → drive < length v.drives → IsSetTo after_loss a.drives.items b.drives.items drive
     → ((d : ℕ) → missing_in held_lost b d ≡ put (missing_in held_lost a) drive true d)
     → ((d : ℕ) → drives.failures_of held_failures b.drives.items d ≡ drives.failures_of held_failures a.drives.items d)
     → (AreSound a.groups (cells_in held_units held_lost a) → KeepsUnits a.groups (cells_in held_units held_lost a) (cells_in held_units held_lost b))
     → (AreSound a.groups (cells_in held_units held_lost a) → AreSound b.groups (cells_in held_units held_lost b))
     → KeepsTables a b → WasLost (held_parts a) (held_parts b) drive
-was_lost a b drive inside set missing failures keeps sound tables = record {
+was_lost a b v drive seen below set missing failures keeps sound tables = record {
   drives = λ x at. drives_are x at;
   lost = λ d. ap (λ f. f d) (view_lost held_units held_lost held_failures b) ∙ missing d
       ∙ ap (λ f. put f drive true d) (sym (view_lost held_units held_lost held_failures a));
@@ -80,6 +87,9 @@ was_lost a b drive inside set missing failures keeps sound tables = record {
   rest = same_tables held_units held_lost held_failures a b tables;
 }
   where
+    inside : drive < length a.drives.items
+    inside = drive_below a v drive seen below
+
     drives_are : (x : DriveView) → slice_get (held_parts a).drives drive ≡ Some x → (held_parts b).drives ≡ slice_set (held_parts a).drives drive (record x { lost = true })
     drives_are x at = lost_drives a.drives.items b.drives.items drive x inside set at
 
@@ -91,13 +101,13 @@ was_lost a b drive inside set missing failures keeps sound tables = record {
             ∙ sym (view_length held_units held_lost held_failures a)
 
 -- a fuse changes nothing that is seen
-pub was_fused : (a b : Parts Held) (drive calls : ℕ) → drive < length a.drives.items → IsSetTo (λ c. after_fuse c calls) a.drives.items b.drives.items drive → KeepsTables a b
-    → held_parts b ≡ held_parts a
-was_fused a b drive calls inside set tables = λ i. record { groups = tables.groups i; owners = tables.extents i; drives = same i }
+pub was_fused : (a b : Parts Held) (v : PartsView) (drive calls : ℕ) → held_parts a ≡ v → drive < length v.drives → IsSetTo (λ c. after_fuse c calls) a.drives.items b.drives.items drive
+    → KeepsTables a b → held_parts b ≡ held_parts a
+was_fused a b v drive calls seen below set tables = λ i. record { groups = tables.groups i; owners = tables.extents i; drives = same i }
   where
     same : map held_view b.drives.items ≡ map held_view a.drives.items
     same =
-        let m = drive_at a.drives.items drive inside in
+        let m = drive_at a.drives.items drive (drive_below a v drive seen below) in
         ap (map held_view) (set m.0 m.1)
             ∙ map-set_same held_view a.drives.items drive (record (m.0) { condition = after_fuse m.0.condition calls }) m.0
                 (fuse_view m.0.units m.0.condition calls ∙ ap held_view (sym (get_or_from_slice_get a.drives.items drive m.0 m.0 m.1)))
@@ -116,3 +126,14 @@ one_new bytes count [] m new is zero x at = same_Some x m (sym at) ∙ is
 one_new bytes count [] m new is (suc d) x at = absurd (none-some x at)
 one_new bytes count (y ∷ ds) m new is zero x at = new zero x at
 one_new bytes count (y ∷ ds) m new is (suc d) x at = one_new bytes count ds m (λ e z there. new (suc e) z there) is d x at
+
+-- an array whose drives were lost or fused is whole and ready as it was
+pub still_stands : {C : Type 0} (names : C → ℕ) (a : Inside Held C) (p : Parts Held) → Keeps (held_parts a.parts) (held_parts p) → IsFit held_units p
+    → IsWhole (seen held_units held_lost held_failures a) × AreOf names a.places.items × IsReady held_units a
+    → IsWhole (seen held_units held_lost held_failures (record a { parts = p })) × AreOf names a.places.items × IsReady held_units (record a { parts = p })
+still_stands names a p same fit stands =
+    let groups = ap (λ (z : Groups). unit_bytes z) (sym same.tables.groups) in (
+      still_whole held_units held_lost held_failures a p same fit stands.0,
+      stands.1,
+      record { fit = fit; unit = stands.2.unit ∙ groups; scratch = stands.2.scratch ∙ ap (λ n. 2 * n) groups },
+    )
