@@ -1,5 +1,5 @@
 // Groups that enter: their extents are wiped and the tables have them, or a drive is lost and the tables stay.
-use crate::rig::{Rig, is_all, members_on};
+use crate::rig::{Rig, is_all};
 use extent_groups::Class;
 use flat_machine::Refusal;
 use std::process::Abort;
@@ -42,11 +42,14 @@ fn a_group_that_enters_is_wiped_and_the_tables_have_it(rt: HostRuntime) -> Resul
 
     assert!(rt; rig.parts.groups.class_of(0) == Some(Class::Mirrored));
     assert!(rt; rig.parts.groups.class_of(5) == Some(Class::Parity));
-    let members = members_on(alloc, &[3, 1, 2], 1)?;
-    assert!(rt; rig.parts.groups.members(5) == members.as_slice());
     assert!(rt; rig.owner(&rt, 2, 0) == Some(0));
     assert!(rt; rig.owner(&rt, 2, 1) == Some(5));
     assert!(rt; rig.owner(&rt, 3, 0).is_none());
+
+    // Index 0 is on the first member, its parity on the last.
+    assert!(rt; rig.write(&rt, 640, 9) == Ok(()));
+    assert!(rt; hold(&rt, &mut rig, &[3, 2], 4, 5, 9));
+    assert!(rt; hold(&rt, &mut rig, &[1], 4, 5, 0));
     Ok(())
 }
 

@@ -47,11 +47,7 @@ pub(crate) fn is_all(unit: &[u8], wanted: u8) -> bool {
 }
 
 /// An extent of this number on each of these drives in turn.
-pub(crate) fn members_on(
-    alloc: Global,
-    drives: &[u8],
-    extent: u16,
-) -> Result<Vec<Member>, AllocError> {
+fn members_on(alloc: Global, drives: &[u8], extent: u16) -> Result<Vec<Member>, AllocError> {
     let mut members = Vec::with_capacity(alloc, drives.len())?;
     for drive in drives {
         members.push(Member {

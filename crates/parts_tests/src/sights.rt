@@ -1,5 +1,5 @@
 // What is seen at the places of records, and payloads read, in both classes: with all drives there, one lost, and two.
-use crate::rig::{Rig, record};
+use crate::rig::{Rig, is_all, record};
 use array_parts::Sight;
 use extent_groups::Class;
 use flat_machine::Refusal;
@@ -27,13 +27,13 @@ fn filled(rt: &impl Abort, alloc: Global) -> Result<Rig, AllocError> {
 /// Whether exactly this record lies at its place, with a payload of this byte.
 fn sees(rt: &impl Abort, rig: &mut Rig, asked: Record, byte: u8) -> bool {
     rig.payload = [0; 8];
-    rig.see(rt, asked) == Ok(Sight::Data) && rig.payload == [byte; 8]
+    rig.see(rt, asked) == Ok(Sight::Data) && is_all(&rig.payload, byte)
 }
 
 /// Whether a slot's payload is of this byte.
 fn reads(rt: &impl Abort, rig: &mut Rig, slot: u16, byte: u8) -> bool {
     rig.payload = [1; 8];
-    rig.take_payload(rt, slot) == Ok(()) && rig.payload == [byte; 8]
+    rig.take_payload(rt, slot) == Ok(()) && is_all(&rig.payload, byte)
 }
 
 /// Whether a slot is refused as gone, by a look for this record there and by a reading of its payload.
