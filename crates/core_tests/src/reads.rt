@@ -45,7 +45,7 @@ fn an_array_tells_its_log_its_map_and_its_slots(rt: HostRuntime) -> Result<(), F
 #[test]
 fn an_array_hands_claims_back(rt: HostRuntime) -> Result<(), Fail> {
     let alloc = rt.alloc();
-    let mut array: Array<Plain> = Array::new(alloc, Shape::new(8, 2, 8, 16)?, 3)?;
+    let mut array: Array<MemDrive, Plain> = Array::new(alloc, Shape::new(8, 2, 8, 16)?, 3)?;
     assert_eq!(rt; array.shape().payload, 8);
     let Err((refusal, claim)) = array.fill(alloc, Plain { slot: 9 }, &[7u8; 8]) else {
         panic!(rt; "filled a slot of no group")
@@ -57,7 +57,7 @@ fn an_array_hands_claims_back(rt: HostRuntime) -> Result<(), Fail> {
 #[test]
 fn a_slot_that_the_array_holds_is_in_use(rt: HostRuntime) -> Result<(), Fail> {
     let alloc = rt.alloc();
-    let mut array: Array<Plain> = Array::new(alloc, Shape::new(8, 2, 8, 16)?, 3)?;
+    let mut array: Array<MemDrive, Plain> = Array::new(alloc, Shape::new(8, 2, 8, 16)?, 3)?;
     let members = [member(0, 0), member(1, 0), member(2, 0)];
     array.make_group(alloc, Class::Mirrored, &members)?;
     assert_eq!(rt; (array.shape().payload, array.shape().blocks), (8, 16));
