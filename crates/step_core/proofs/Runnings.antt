@@ -67,11 +67,6 @@ runs_step F M G steps answers next i step answer inside is grown run case =
     let told : map flat_answer next ≡ map flat_answer answers ++ flat_answer answer ∷ [] = ap (map flat_answer) grown ∙ map-append flat_answer answers (answer ∷ []) in
     rw (more, told) (run_more F M G (map flat_step (take i steps)) (map flat_answer answers) (flat_step step) (flat_answer answer) run case)
 
--- what an error says, said otherwise
-pub on_err : {A E : Type 0} {P Q : Type 0} (r : Result A E) → OnErr r P → (P → Q) → OnErr r Q
-on_err (Ok x) y f = y
-on_err (Err e) p f = f p
-
 -- all of a list
 pub take_past : {X : Type 0} (xs : List X) (i : ℕ) → length xs ≤ i → take i xs ≡ xs
 take_past [] zero past = refl
