@@ -1,12 +1,11 @@
-use Rattle.std.proofs.Common.{rules, subst, sym, ap, ◌≡◌, ◌∙◌, true, ◌<◌}
+use Rattle.std.proofs.Common.{rules, subst, sym, ap, ◌≡◌, ◌∙◌, true}
 use Rattle.map_join.specs.Record.{record_at}
 use Rattle.flat_machine.specs.Flat.{Flat, Ticket}
 use Rattle.flat_machine.specs.Steps.{Commit, Committed, Refused}
 use Rattle.flat_machine.specs.Cases.{CommitCase, IsWanted}
-use Rattle.flat_machine.specs.History.{IsStep}
 use Rattle.array_model.specs.Changes.{passed_hands, MayRefuse}
 use Rattle.array_model.specs.Views.{ArrayView, WorldView, hand_at, key_at}
-use Rattle.array_model.specs.Represents.{ShowsArray, Represents, is_ticket}
+use Rattle.array_model.specs.Represents.{ShowsArray, is_ticket}
 use Rattle.array_model.proofs.Hands.{as_world}
 use Rattle.step_core.specs.Refused.{IsRefused}
 use Rattle.step_core.proofs.Worlds.{block_there, commit_world, commit_as}
@@ -40,11 +39,11 @@ returns-in-Err c =
     let array : c.self.inside.array ≡ v.array = ap (λ (u : WorldView). u.array) c.self.view_is in
     let is : IsRefused v.array a r = subst (λ (x : ArrayView). IsRefused x a r) array c.in-Err.ensures.err.1 in
     let all = was_refused v _ a (Commit w s b) r c.refused.result (ap (λ (u : WorldView). record { array = a; hands = u.hands }) c.self.view_is)
-        c.refused.ensures.ok c.refused.ensures.err
-        (λ F rep. block_there v F b rep c.requires)
-        (refused_same v.array a r is)
-        (λ F rep. subst (λ t. MayRefuse r (IsWanted F (Commit w t b)) ((G : Flat) × (CommitCase F w t b (Refused r) G) × (ShowsArray a G))) c.of.ensures
-        (c.in-Err.ensures.flat F w (subst (λ (x : ArrayView). ShowsArray x F) (sym array) rep.array)
-        (λ _. ap (λ n. F.held n (Ticket w)) c.of.ensures ∙ (rep.hands s).tickets w ∙ held)))
+    c.refused.ensures.ok c.refused.ensures.err
+    (λ F rep. block_there v F b rep c.requires)
+    (refused_same v.array a r is)
+    (λ F rep. subst (λ t. MayRefuse r (IsWanted F (Commit w t b)) ((G : Flat) × (CommitCase F w t b (Refused r) G) × (ShowsArray a G))) c.of.ensures
+    (c.in-Err.ensures.flat F w (subst (λ (x : ArrayView). ShowsArray x F) (sym array) rep.array)
+    (λ _. ap (λ n. F.held n (Ticket w)) c.of.ensures ∙ (rep.hands s).tickets w ∙ held)))
     in
     record { ok = all.ok; err = all.err; wants = all.wants; room = refused_sizes v.array a r is }
