@@ -1,5 +1,5 @@
 -- A new world, of drives in memory that are all there.
-use Rattle.std.proofs.Common.{◌≡◌, ℕ, zero, suc, nat_le, Bool, true, false, List, [], ◌∷◌, length, map, refl, sym, ap, ◌∙◌, subst, arith, Some, None}
+use Rattle.std.proofs.Common.{◌≡◌, ℕ, zero, suc, nat_le, true, false, List, [], ◌∷◌, length, map, refl, sym, ap, ◌∙◌, subst, arith, Some}
 use Rattle.std.specs.Prelude.{slice_get}
 use Rattle.std.proofs.lemmas.Bool.Decides.{nat_tests}
 use Rattle.std.proofs.lemmas.List.{length-map}
@@ -8,7 +8,7 @@ use Rattle.extents.specs.declared.mem_drive.Condition.TheVariants.{Present}
 use Rattle.extent_groups.specs.Missing.{is_missing}
 use Rattle.flat_machine.specs.Flat.{Flat, new_flat}
 use Rattle.array_parts.specs.Losses.{failures_at}
-use Rattle.array_parts.specs.Views.{DriveView, PartsView, drive_lost, drive_failures, lost_of, failed_of}
+use Rattle.array_parts.specs.Views.{drive_lost, drive_failures, lost_of, failed_of}
 use Rattle.array_model.specs.declared.hand.Hand.{Hand}
 use Rattle.array_model.specs.declared.hand.Hand.TheVariants.{Empty}
 use Rattle.array_model.specs.Views.{ArrayView, hand_at}
