@@ -1,18 +1,18 @@
 -- How turns lead to a script's end.
-use Rattle.std.proofs.Common.{◌≡◌, ℕ, List, [], ◌++◌, ◌⊎◌, Option, Some, None, refl, sym, ap, ◌∙◌, inl, inr, append_assoc, append-nil, take, length, ◌≤◌}
+use Rattle.std.proofs.Common.{◌≡◌, ℕ, List, [], ◌++◌, ◌⊎◌, Option, Some, None, refl, sym, ap, ◌∙◌, inl, inr, append_assoc, append-nil, take, arith}
 use Rattle.std.specs.Prelude.{IfSome}
 use Rattle.std.specs.Io.KnownBytes.{Appends, Consumes, IsAtEnd, Keeps}
 use Rattle.std.proofs.KnownBytes.{Appends-nil, Appends-trans}
-use Rattle.script_run.specs.Opens.{AreLines, IsOpen}
+use Rattle.script_run.specs.Opens.{AreLines}
 use Rattle.script_bench.specs.State.{State}
 use Rattle.script_bench.specs.Carrying.{Stands}
 use Rattle.script_run.specs.Says.{Says, Tells, lines_of}
-use Rattle.script_run.specs.Feeding.{IsCut, Leads, Left}
+use Rattle.script_run.specs.Feeding.{IsCut, IsScript, Leads, Left}
 use Rattle.script_run.specs.Turns.{AllSaid, Concludes, GoesOn, IsAllSaid, IsFronted, IsPartSaid, IsPartWritten, PartSaid, SaysBy, TurnsTo}
 use Rattle.script_run.specs.declared.end.End.{End}
 use Rattle.script_run.specs.declared.end.End.TheVariants as end
 use Rattle.script_run.specs.declared.script.Script.{Script}
-use Rattle.script_run.proofs.Opens.{lines_more, text_join, text_more}
+use Rattle.script_run.proofs.Opens.{count_more, lines_more, text_join, text_more}
 use Rattle.script_run.proofs.Feeds.{cut_behind, cut_more, leads_left, leads_more, leads_none}
 
 -- whole lines before a front of the rest
@@ -64,8 +64,10 @@ turn_on None (Some xs) (Some ys) chunk old state new held now consumed on = reco
   whole = on.whole;
   lines = on.lines;
   text_is = rw consumed (text_more old.line.items chunk on.whole new.line.items [] ys on.text_is);
+  counted = on.counted;
   open_line = on.open_line;
   short = on.short;
+  soon = on.soon;
   bytes = on.bytes;
   wrote = on.wrote;
   leads = on.leads;
@@ -99,17 +101,19 @@ turn_on (Some end.ReadFault) before after chunk old state new held now consumed 
 
 -- nothing was read nor written
 pub part_none : (before after : Option (List ℕ)) (script : Script) (state : State) (held : Option (List ℕ)) → Keeps before after
-    → IsOpen script.line.items → length script.line.items ≤ 131200 → Stands script.bench state → PartSaid before after script state script held held
-part_none None after script state held kept open_line short stands = (state, stands)
-part_none (Some xs) None script state held kept open_line short stands = absurd kept
-part_none (Some xs) (Some ys) script state held kept open_line short stands = record {
+    → IsScript script → Stands script.bench state → PartSaid before after script state script held held
+part_none None after script state held kept good stands = (state, stands)
+part_none (Some xs) None script state held kept good stands = absurd kept
+part_none (Some xs) (Some ys) script state held kept good stands = record {
   next = state;
   stands = stands;
   whole = [];
   lines = inl refl;
   text_is = ap (λ rest. script.line.items ++ rest) (sym kept);
-  open_line = open_line;
-  short = short;
+  counted = omega arith;
+  open_line = good.open_line;
+  short = good.short;
+  soon = good.soon;
   bytes = [];
   wrote = Appends-nil held;
   leads = leads_none script.number state;
@@ -124,8 +128,10 @@ join_parts xs ys zs old state mid new held wrote now a b = record {
   whole = a.whole ++ b.whole;
   lines = lines_more a.whole b.whole a.lines b.lines;
   text_is = text_join (old.line.items ++ xs) a.whole (mid.line.items ++ ys) b.whole (new.line.items ++ zs) a.text_is b.text_is;
+  counted = let more = count_more a.whole b.whole a.lines in omega (arith, more, a.counted, b.counted);
   open_line = b.open_line;
   short = b.short;
+  soon = b.soon;
   bytes = a.bytes ++ b.bytes;
   wrote = Appends-trans held wrote now a.bytes b.bytes a.wrote b.wrote;
   leads = leads_more old.number state a.whole a.bytes mid.number a.next b.whole b.bytes new.number b.next a.leads b.leads;
@@ -269,6 +275,7 @@ run_said end.ReadFault (Some xs) (Some ys) start new held now number line turned
   lines = turned.lines;
   open_line = turned.open_line;
   short = turned.short;
+  soon = λ some. let number_is = turned.counted in let soon = turned.soon some in omega (arith, number, number_is, soon);
   out = turned.bytes;
   wrote = turned.wrote;
   says =

@@ -70,6 +70,7 @@ pub record IsAlong (old : Script) (state : State) (new : Script) (chunk rest : L
   pub whole : List ℕ
   pub lines : AreLines whole
   pub text_is : old.line.items ++ chunk ≡ whole ++ (new.line.items ++ rest)
+  pub counted : new.number ≡ old.number + length (lines_of whole)
   pub bytes : List ℕ
   pub out : new.out.items ≡ old.out.items ++ bytes
   pub leads : Leads old.number state whole bytes new.number next

@@ -1,10 +1,10 @@
 -- Turns of a script: one read, the answers to the lines that ended in it, and one write.
-use Rattle.std.specs.Prelude.{◌≡◌, ℕ, ◌<◌, ◌≤◌, List, [], ◌++◌, length, Option, Some, None, ◌⊎◌}
+use Rattle.std.specs.Prelude.{◌≡◌, ℕ, ◌+◌, ◌<◌, ◌≤◌, List, [], ◌++◌, length, Option, Some, None, ◌⊎◌}
 use Rattle.std.specs.Io.KnownBytes.{Appends}
 use Rattle.script_run.specs.Opens.{AreLines, IsOpen}
 use Rattle.script_bench.specs.State.{State}
 use Rattle.script_bench.specs.Carrying.{Stands}
-use Rattle.script_bench.specs.Meaning.{most_bytes}
+use Rattle.script_bench.specs.Meaning.{most_bytes, most_lines}
 use Rattle.script_run.specs.Says.{Says, Tells, lines_of}
 use Rattle.script_run.specs.Feeding.{IsCut, Leads, Left}
 use Rattle.script_run.specs.declared.end.End.{End}
@@ -26,8 +26,10 @@ pub record IsPartSaid (old : Script) (state : State) (new : Script) (input rest 
   pub whole : List ℕ
   pub lines : AreLines whole
   pub text_is : old.line.items ++ input ≡ whole ++ (new.line.items ++ rest)
+  pub counted : new.number ≡ old.number + length (lines_of whole)
   pub open_line : IsOpen new.line.items
   pub short : length new.line.items ≤ most_bytes
+  pub soon : 1 ≤ length new.line.items → new.number ≤ most_lines
   pub bytes : List ℕ
   pub wrote : Appends held now bytes
   pub leads : Leads old.number state whole bytes new.number next
@@ -131,6 +133,7 @@ pub record IsSaidSoFar (script : List ℕ) (left held now : Option (List ℕ)) :
   pub lines : AreLines whole
   pub open_line : IsOpen line
   pub short : length line ≤ most_bytes
+  pub soon : 1 ≤ length line → length (lines_of whole) + 1 ≤ most_lines
   pub out : List ℕ
   pub wrote : Appends held now out
   pub says : Says whole out end.Whole

@@ -7,4 +7,4 @@ returns-in-Ok-clause-said g c state stands =
 
 pub returns-in-Err-clause-said : goal.returns-in-Err-clause-said
 returns-in-Err-clause-said g c state stands =
-    part_none _ _ c.args.script.now state _ c.in-Err.ensures.bytes c.requires.good.open_line c.requires.good.short stands
+    part_none _ _ c.args.script.now state _ c.in-Err.ensures.bytes c.requires.good stands
