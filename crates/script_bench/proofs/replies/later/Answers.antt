@@ -24,3 +24,6 @@ returns-in-Ok c P stands =
     (buffer_size P c.shape-shape.result.payload c.args.payload.now size room)
     (ap (λ (z : Groups). z.blocks) groups ∙ sym c.shape-shape.ensures.of_blocks)
     (rw c.in-Ok-Some.field-0-is at c.in-Ok-Some.ensures) (search rules) ((c.if-not-is_in_range.ensures bytes).0 refl) (c.in-Ok.ensures P stands)
+
+pub returns-in-Array : goal.returns-in-Array
+returns-in-Array c = search rules
