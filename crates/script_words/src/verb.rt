@@ -21,6 +21,9 @@ pub enum Verb {
     Show,
     Map,
     Log,
+    Lose,
+    Scan,
+    Restart,
 }
 
 /// What a number of a command stands for.
@@ -57,7 +60,7 @@ pub struct Row {
 }
 
 /// Every verb, the most frequent ones first.
-const VERBS: [Verb; 16] = [
+const VERBS: [Verb; 19] = [
     Verb::Claim,
     Verb::Fill,
     Verb::Commit,
@@ -73,6 +76,9 @@ const VERBS: [Verb; 16] = [
     Verb::Map,
     Verb::Log,
     Verb::Make,
+    Verb::Lose,
+    Verb::Scan,
+    Verb::Restart,
     Verb::Array,
 ];
 
@@ -162,6 +168,21 @@ impl Verb {
             },
             Verb::Log => Row {
                 word: b"log",
+                kinds: &[],
+                tail: Tail::Nothing,
+            },
+            Verb::Lose => Row {
+                word: b"lose",
+                kinds: &[Kind::Drive],
+                tail: Tail::Nothing,
+            },
+            Verb::Scan => Row {
+                word: b"scan",
+                kinds: &[],
+                tail: Tail::Nothing,
+            },
+            Verb::Restart => Row {
+                word: b"restart",
                 kinds: &[],
                 tail: Tail::Nothing,
             },
