@@ -31,8 +31,6 @@ pub data Order : Type 0 where
   Map : Order
   Log : Order
   Lose : ℕ → Order
-  Scan : Order
-  Restart : Order
 
 -- a number, and what it stands for
 pub record Number : Type 0 where
@@ -93,8 +91,6 @@ word_of verb.Show = codes "show"
 word_of verb.Map = codes "map"
 word_of verb.Log = codes "log"
 word_of verb.Lose = codes "lose"
-word_of verb.Scan = codes "scan"
-word_of verb.Restart = codes "restart"
 
 -- how each command is written: a row of the table
 abbrev pub shape : Order → Shape
@@ -116,8 +112,6 @@ shape (Show m) = form verb.Show (table m ∷ []) Nothing
 shape Map = form verb.Map [] Nothing
 shape Log = form verb.Log [] Nothing
 shape (Lose d) = form verb.Lose (drive d ∷ []) Nothing
-shape Scan = form verb.Scan [] Nothing
-shape Restart = form verb.Restart [] Nothing
 
 -- what a command asks for, its numbers, and what stands behind them
 abbrev pub verb_of : Order → Verb
@@ -151,8 +145,6 @@ ordered verb.Show n r payload level members = Show (n 0)
 ordered verb.Map n r payload level members = Map
 ordered verb.Log n r payload level members = Log
 ordered verb.Lose n r payload level members = Lose (n 0)
-ordered verb.Scan n r payload level members = Scan
-ordered verb.Restart n r payload level members = Restart
 
 -- a command of the program, with the payload that stands in the buffer
 abbrev pub order_of : Command → List ℕ → Order

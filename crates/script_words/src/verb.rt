@@ -22,8 +22,6 @@ pub enum Verb {
     Map,
     Log,
     Lose,
-    Scan,
-    Restart,
 }
 
 /// What a number of a command stands for.
@@ -60,7 +58,7 @@ pub struct Row {
 }
 
 /// Every verb, the most frequent ones first.
-const VERBS: [Verb; 19] = [
+const VERBS: [Verb; 17] = [
     Verb::Claim,
     Verb::Fill,
     Verb::Commit,
@@ -77,8 +75,6 @@ const VERBS: [Verb; 19] = [
     Verb::Log,
     Verb::Make,
     Verb::Lose,
-    Verb::Scan,
-    Verb::Restart,
     Verb::Array,
 ];
 
@@ -174,16 +170,6 @@ impl Verb {
             Verb::Lose => Row {
                 word: b"lose",
                 kinds: &[Kind::Drive],
-                tail: Tail::Nothing,
-            },
-            Verb::Scan => Row {
-                word: b"scan",
-                kinds: &[],
-                tail: Tail::Nothing,
-            },
-            Verb::Restart => Row {
-                word: b"restart",
-                kinds: &[],
                 tail: Tail::Nothing,
             },
         }
