@@ -1,14 +1,12 @@
 // Arrays of drives in memory.
-ghost use Rattle.std.specs.Prelude.{◌≡◌, ℕ, ◌+◌, ◌*◌, ◌<◌, ◌≤◌, length, true, slice_get, Some, IfOk};
+ghost use Rattle.std.specs.Prelude.{◌≡◌, ℕ, ◌+◌, ◌*◌, ◌<◌, ◌≤◌, length, slice_get, Some, IfOk};
 ghost use Rattle.extents.specs.Condition.{Held};
 ghost use Rattle.extents.specs.Sizes.{extent_units};
 ghost use Rattle.extents.specs.declared.mem_drive.Condition.TheVariants.{Present};
 ghost use Rattle.extents.specs.declared.shape.TheConstants.{HEADER_BYTES};
 ghost use Rattle.extent_groups.specs.Calls.{AreSized};
-ghost use Rattle.flat_machine.specs.Flat.{Flat, put};
 ghost use Rattle.array_parts.specs.Fit.{HaveUnits};
 ghost use Rattle.array_parts.specs.Memory.{held_units};
-ghost use Rattle.array_parts.specs.Views.{SameTables, lost_of, failed_of, Shows};
 ghost use Rattle.array_model.specs.Views.{with_parts};
 ghost use Rattle.step_core.specs.Losing.{WasLost};
 
