@@ -46,7 +46,7 @@ impl<D: Drive> Parts<D> {
     }
 
     /// Looks for a record at its place, and reads the payload where it is there, with a buffer of a
-    /// unit's length and one of two units'.
+    /// unit's length and one of two units'. Header bytes that decode to no header count as a blank one.
     pub fn see(
         &mut self,
         asked: &Record,

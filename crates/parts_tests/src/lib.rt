@@ -2,8 +2,12 @@
 #![tactic(auto)]
 
 #[cfg(test)]
+mod entries;
+#[cfg(test)]
 mod rig;
 #[cfg(test)]
 mod scans;
+#[cfg(test)]
+mod sights;
 #[cfg(test)]
 mod stories;

@@ -1,5 +1,6 @@
 // The parts of an array of drives in memory, with buffers for their calls.
-ghost use Rattle.std.specs.Prelude.{◌≡◌, ◌*◌, ◌<◌, ◌≤◌, length, None, IsTrue};
+ghost use Rattle.std.specs.Prelude.{◌≡◌, ◌*◌, ◌<◌, ◌≤◌, ℕ, length, slice_get, None, Some, IsTrue};
+ghost use Rattle.extent_groups.specs.declared.class.Member.{Member};
 ghost use Rattle.extent_groups.specs.Calls.{AreSized};
 ghost use Rattle.extent_groups.specs.Faults.{put_fault};
 ghost use Rattle.extent_groups.specs.Groups.{AreThere, IsFree};
@@ -8,7 +9,7 @@ ghost use Rattle.array_parts.specs.Fit.{IsFit};
 ghost use Rattle.array_parts.specs.Memory.{held_units};
 ghost use Rattle.array_parts.specs.Slots.{IsSlot};
 
-use array_parts::{Parts, Units};
+use array_parts::{Parts, Sight, Units};
 use extent_groups::{Class, GroupTable, Member, SLOTS, are_there, put_check};
 use extents::{Drive, ExtentTable, Header, MemDrive, Shape};
 use flat_machine::Refusal;
@@ -26,7 +27,44 @@ pub(crate) struct Rig {
     pub(crate) parts: Parts<MemDrive>,
     /// What the last read gave, or what the next write writes.
     pub(crate) unit: Vec<u8>,
+    /// What the last sight or reading of a payload gave.
+    pub(crate) payload: [u8; 8],
     scratch: Vec<u8>,
+}
+
+pub(crate) fn record(block: u32, version: u32, hop: u16, place: u16) -> Record {
+    Record {
+        block,
+        version,
+        hop,
+        place,
+    }
+}
+
+/// Whether each byte is this one.
+pub(crate) fn is_all(unit: &[u8], wanted: u8) -> bool {
+    unit.iter().all(|byte| *byte == wanted)
+}
+
+/// An extent of this number on each of these drives in turn.
+fn members_on(alloc: Global, drives: &[u8], extent: u16) -> Result<Vec<Member>, AllocError> {
+    let mut members = Vec::with_capacity(alloc, drives.len())?;
+    for drive in drives {
+        members.push(Member {
+            drive: *drive,
+            extent,
+        })?;
+    }
+    Ok(members)
+}
+
+/// Whether each member is on one of so many drives.
+fn are_on(drives: usize, members: &[Member]) -> bool
+    ensures { IsTrue result → (k : ℕ) (m : Member) → slice_get members.now k ≡ Some m → m.drive < drives }
+{
+    members
+        .iter()
+        .all(|member| (member.drive as usize) < drives)
 }
 
 /// Whether each unit of the drives has so many bytes.
@@ -73,6 +111,7 @@ impl Rig {
                 drives,
             },
             unit: vec![in alloc; 0; SIZE]?,
+            payload: [0; 8],
             scratch: vec![in alloc; 0; 2 * SIZE]?,
         })
     }
@@ -155,7 +194,7 @@ impl Rig {
         scan_groups(alloc, &mut self.parts, first, end)
     }
 
-    /// Makes a group of an extent of this number on each of three drives in turn.
+    /// Makes a group of an extent of this number on each of these drives in turn.
     pub(crate) fn make(
         &mut self,
         rt: &impl Abort,
@@ -165,13 +204,7 @@ impl Rig {
         drives: &[u8],
         extent: u16,
     ) -> Result<Result<(), Refusal>, AllocError> {
-        let mut members = Vec::with_capacity(alloc, drives.len())?;
-        for drive in drives {
-            members.push(Member {
-                drive: *drive,
-                extent,
-            })?;
-        }
+        let members = members_on(alloc, drives, extent)?;
         assert!(rt; self.is_ready());
         assert!(rt; self.parts.groups.shape().payload == 8);
         assert!(rt; self.parts.groups.is_free(group));
@@ -179,6 +212,59 @@ impl Rig {
         assert!(rt; put_check(&self.parts.extents, &members).is_none());
         let zeros = [0; SIZE];
         Ok(self.parts.make(group, class, members, &zeros))
+    }
+
+    /// Lets a group enter, of an extent of this number on each of these drives in turn.
+    pub(crate) fn enter(
+        &mut self,
+        rt: &impl Abort,
+        alloc: Global,
+        group: u16,
+        class: Class,
+        drives: &[u8],
+        extent: u16,
+    ) -> Result<Result<(), Refusal>, AllocError> {
+        let members = members_on(alloc, drives, extent)?;
+        assert!(rt; self.is_ready());
+        assert!(rt; self.parts.groups.is_free(group));
+        assert!(rt; are_there(&self.parts.extents, &members));
+        assert!(rt; put_check(&self.parts.extents, &members).is_none());
+        Ok(self.parts.enter(group, class, members, &mut self.unit))
+    }
+
+    /// The first of these drives, in the order given, that is lost.
+    pub(crate) fn first_lost(
+        &self,
+        rt: &impl Abort,
+        alloc: Global,
+        drives: &[u8],
+    ) -> Result<Option<u8>, AllocError> {
+        let members = members_on(alloc, drives, 0)?;
+        assert!(rt; are_on(self.parts.drives.len(), &members));
+        Ok(self.parts.first_lost(&members))
+    }
+
+    /// Reads the payload of a slot into the buffer.
+    pub(crate) fn take_payload(&mut self, rt: &impl Abort, slot: u16) -> Result<(), Refusal> {
+        assert!(rt; self.is_ready());
+        assert!(rt; is_slot(&self.parts.groups, slot));
+        assert!(rt; self.parts.groups.shape().payload == 8);
+        self.parts
+            .payload(slot, &mut self.payload, &mut self.unit, &mut self.scratch)
+    }
+
+    /// Looks for a record at its place, and reads the payload there into the buffer.
+    pub(crate) fn see(&mut self, rt: &impl Abort, asked: Record) -> Result<Sight, Refusal> {
+        assert!(rt; self.is_ready());
+        assert!(rt; is_slot(&self.parts.groups, asked.place));
+        assert!(rt; self.parts.groups.shape().payload == 8);
+        self.parts.see(&asked, &mut self.payload, &mut self.unit, &mut self.scratch)
+    }
+
+    /// The group that owns an extent.
+    pub(crate) fn owner(&self, rt: &impl Abort, drive: u8, extent: u16) -> Option<u16> {
+        assert!(rt; self.parts.extents.has_extent(drive, extent));
+        self.parts.extents.owner(drive, extent)
     }
 
     /// Loses a drive.
@@ -204,5 +290,14 @@ impl Rig {
         self.parts.drives[drive]
             .read_unit(at, &mut self.unit)
             .is_ok()
+    }
+
+    /// Writes a unit of one byte throughout at an address of a drive, on the drive itself.
+    pub(crate) fn poke(&mut self, rt: &impl Abort, drive: usize, at: u32, byte: u8) -> bool {
+        self.unit.fill(byte);
+        assert!(rt; drive < self.parts.drives.len());
+        assert!(rt; self.parts.drives[drive].unit_bytes() == self.unit.len());
+        assert!(rt; at < self.parts.drives[drive].units());
+        self.parts.drives[drive].write_unit(at, &self.unit).is_ok()
     }
 }

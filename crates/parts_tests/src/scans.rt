@@ -1,20 +1,11 @@
 // Scans of a mirrored and of a parity group: what their headers tell with a drive lost, and one of each fault.
-use crate::rig::Rig;
+use crate::rig::{Rig, record};
 use extent_groups::Class;
 use header_scan::ScanFault;
 use map_join::{BlockMap, Record};
 use std::alloc::{AllocError, Global};
 use std::process::Abort;
 use std::test::Fail;
-
-fn record(block: u32, version: u32, hop: u16, place: u16) -> Record {
-    Record {
-        block,
-        version,
-        hop,
-        place,
-    }
-}
 
 /// Slots 0 to 5 are mirrored, slots 128 to 135 have parity. Block 3 was written to slot 0 and moved to slot 130,
 /// block 5 stands at slot 4, block 7 at slot 133, and a payload without a record at slot 1.

@@ -1,12 +1,8 @@
 // Short stories of parts: reads and writes of both classes under losses, parity, and a group that isn't made.
-use crate::rig::Rig;
+use crate::rig::{Rig, is_all};
 use extent_groups::Class;
 use flat_machine::Refusal;
 use std::test::Fail;
-
-fn is_all(unit: &[u8], wanted: u8) -> bool {
-    unit.iter().all(|byte| *byte == wanted)
-}
 
 #[test]
 fn a_mirrored_slot_stands_one_loss_and_is_gone_with_two(rt: HostRuntime) -> Result<(), Fail> {

@@ -1,0 +1,94 @@
+// What is seen at the places of records, and payloads read, in both classes: with all drives there, one lost, and two.
+use crate::rig::{Rig, is_all, record};
+use array_parts::Sight;
+use extent_groups::Class;
+use flat_machine::Refusal;
+use map_join::Record;
+use std::alloc::{AllocError, Global};
+use std::process::Abort;
+use std::test::Fail;
+
+/// Slots 0 to 5 are mirrored, slots 128 to 135 have parity. Block 5 stands at slot 4 with nines, blocks 3 and 7 at slots
+/// 130 and 134 with eights, which slot 1 holds without a record. Slots 2 and 133 hold bytes that begin with no header.
+fn filled(rt: &impl Abort, alloc: Global) -> Result<Rig, AllocError> {
+    let mut rig = Rig::new(rt, alloc)?;
+    assert!(rt; rig.make(rt, alloc, 0, Class::Mirrored, &[0, 1, 2], 0)? == Ok(()));
+    assert!(rt; rig.make(rt, alloc, 1, Class::Parity, &[1, 2, 3], 1)? == Ok(()));
+    assert!(rt; rig.put(rt, 4, 9) == Ok(()));
+    assert!(rt; rig.carry(rt, 4, 4, record(5, 2, 0, 4)) == Ok(()));
+    assert!(rt; rig.put(rt, 1, 8) == Ok(()));
+    assert!(rt; rig.carry(rt, 1, 130, record(3, 1, 1, 130)) == Ok(()));
+    assert!(rt; rig.carry(rt, 130, 134, record(7, 1, 1, 134)) == Ok(()));
+    assert!(rt; rig.write(rt, 2, 7) == Ok(()));
+    assert!(rt; rig.write(rt, 133, 7) == Ok(()));
+    Ok(rig)
+}
+
+/// Whether exactly this record lies at its place, with a payload of this byte.
+fn sees(rt: &impl Abort, rig: &mut Rig, asked: Record, byte: u8) -> bool {
+    rig.payload = [0; 8];
+    rig.see(rt, asked) == Ok(Sight::Data) && is_all(&rig.payload, byte)
+}
+
+/// Whether a slot's payload is of this byte.
+fn reads(rt: &impl Abort, rig: &mut Rig, slot: u16, byte: u8) -> bool {
+    rig.payload = [1; 8];
+    rig.take_payload(rt, slot) == Ok(()) && is_all(&rig.payload, byte)
+}
+
+/// Whether a slot is refused as gone, by a look for this record there and by a reading of its payload.
+fn is_gone(rt: &impl Abort, rig: &mut Rig, asked: Record) -> bool {
+    let gone = Refusal::Gone(asked.place);
+    rig.see(rt, asked) == Err(gone) && rig.take_payload(rt, asked.place) == Err(gone)
+}
+
+/// Looks for records that are there, for older ones of the same block and place, and where no record is.
+fn see_all(rt: &impl Abort, rig: &mut Rig) {
+    assert!(rt; sees(rt, rig, record(5, 2, 0, 4), 9));
+    assert!(rt; sees(rt, rig, record(3, 1, 1, 130), 8));
+    let stale = [
+        (record(5, 1, 0, 4), Some(record(5, 2, 0, 4))),
+        (record(3, 1, 0, 130), Some(record(3, 1, 1, 130))),
+        (record(6, 1, 0, 1), None),
+        (record(6, 1, 1, 131), None),
+        (record(6, 1, 0, 2), None),
+        (record(6, 1, 1, 133), None),
+    ];
+    for (asked, found) in &stale {
+        assert!(rt; rig.see(rt, *asked) == Ok(Sight::Stale(*found)));
+    }
+}
+
+/// Reads the payloads of both classes, under any header or none.
+fn read_all(rt: &impl Abort, rig: &mut Rig) {
+    let payloads = [(1, 8), (2, 7), (4, 9), (130, 8), (131, 0), (133, 7)];
+    for (slot, byte) in &payloads {
+        assert!(rt; reads(rt, rig, *slot, *byte));
+    }
+}
+
+#[test]
+fn what_lies_at_a_place_is_seen_with_a_drive_lost_too(rt: HostRuntime) -> Result<(), Fail> {
+    let mut rig = filled(&rt, rt.alloc())?;
+    see_all(&rt, &mut rig);
+    rig.lose(&rt, 2);
+    see_all(&rt, &mut rig);
+    read_all(&rt, &mut rig);
+    Ok(())
+}
+
+#[test]
+fn a_slot_whose_two_drives_are_lost_is_gone_and_others_are_seen(
+    rt: HostRuntime,
+) -> Result<(), Fail> {
+    let mut rig = filled(&rt, rt.alloc())?;
+    read_all(&rt, &mut rig);
+    rig.lose(&rt, 1);
+    read_all(&rt, &mut rig);
+    rig.fuse(&rt, 2, 1);
+    assert!(rt; is_gone(&rt, &mut rig, record(5, 2, 0, 4)));
+    assert!(rt; is_gone(&rt, &mut rig, record(3, 1, 1, 130)));
+    assert!(rt; sees(&rt, &mut rig, record(7, 1, 1, 134), 8));
+    assert!(rt; reads(&rt, &mut rig, 1, 8));
+    Ok(())
+}
