@@ -9,10 +9,7 @@ use Rattle.step_core.specs.Told.{flat_step, flat_answer, FitsStep}
 use Rattle.flat_machine.specs.Steps.{FlatStep, FlatAnswer}
 use Rattle.flat_machine.specs.Cases.{Case, Runs}
 use Rattle.flat_machine.specs.Flat.{Flat}
-use Rattle.flat_machine.proofs.Newest.{map_unique}
-use Rattle.array_model.specs.Views.{ArrayView, WorldView, SameSizes, key_at}
-use Rattle.array_model.specs.Represents.{Represents}
-use Rattle.step_core.specs.Headline.{Stands}
+use Rattle.array_model.specs.Views.{ArrayView, SameSizes}
 
 -- a run that goes one step further
 pub run_more : (F M G : Flat) (steps : List FlatStep) (answers : List FlatAnswer) (step : FlatStep) (answer : FlatAnswer)

@@ -21,11 +21,7 @@ use flat_machine::Refusal;
 use std::alloc::{AllocError, Global};
 
 // Drives of a shape, all of whose units are zero.
-fn new_drives(
-    alloc: Global,
-    shape: &Shape,
-    count: u8,
-) -> Result<Vec<MemDrive>, AllocError>
+fn new_drives(alloc: Global, shape: &Shape, count: u8) -> Result<Vec<MemDrive>, AllocError>
     ensures count { IfOk result (λ drives. length drives.items ≡ count) }
     ensures units { IfOk result (λ drives. HaveUnits held_units drives.items (shape.now.extents * extent_units shape.now.segments)) }
     ensures sized { IfOk result (λ drives. AreSized held_units (HEADER_BYTES + shape.now.payload) drives.items) }
@@ -40,11 +36,7 @@ fn new_drives(
 
 impl<C: Hold> Array<MemDrive, C> {
     /// A new array of drives in memory, all of whose units are zero. There are 3 to 16 drives.
-    pub fn in_memory(
-        alloc: Global,
-        shape: Shape,
-        drives: u8,
-    ) -> Result<Array<MemDrive, C>, Refusal>
+    pub fn in_memory(alloc: Global, shape: Shape, drives: u8) -> Result<Array<MemDrive, C>, Refusal>
         requires { (3 ≤ drives) × (drives ≤ 16) }
         ensures sizes { IfOk result (λ array. IsShapeOf shape array.parts.groups.extents array.parts.groups.segments array.parts.groups.payload array.parts.groups.blocks) }
         ensures empty { IfOk result (λ array. IsEmpty array.parts.groups) }
