@@ -6,7 +6,6 @@ use Rattle.std.proofs.lemmas.List.{length-map}
 use Rattle.std.proofs.lemmas.Option.{same_Some, slice_get-map}
 use Rattle.extents.specs.Sizes.{extent_units}
 use Rattle.extents.specs.Units.{IsSized}
-use Rattle.extent_groups.specs.declared.class.Member.{Member}
 use Rattle.extent_groups.specs.Stores.{AreDrives, unit_bytes}
 use Rattle.extent_groups.specs.Cells.{cell}
 use Rattle.extent_groups.specs.Missing.{is_missing}

@@ -2,6 +2,8 @@
 #![tactic(auto)]
 
 #[cfg(test)]
+mod losses;
+#[cfg(test)]
 mod reads;
 #[cfg(test)]
 mod runs;

@@ -1,51 +1,61 @@
 // What an array answers by itself, and what is learned of a stale record.
 use map_join::Record;
+use std::alloc::Global;
+use std::process::Abort;
 use std::test::Fail;
-use step_core::{Answer, Array, At, Class, Member, Plain, Refusal, Shape, World};
+use step_core::{Array, At, Class, MemDrive, Member, Plain, Refusal, Shape};
 
 fn member(drive: u8, extent: u16) -> Member {
     Member { drive, extent }
 }
 
-// Block 3 is written at slot 0 of a mirrored group.
-fn written(rt: &HostRuntime) -> Result<World, Fail> {
-    let alloc = rt.alloc();
-    let mut world = World::new(alloc, Shape::new(8, 2, 8, 16)?, 4)?;
+const FIRST: Record = Record {
+    block: 3,
+    version: 1,
+    hop: 0,
+    place: 0,
+};
+
+fn three_drives(alloc: Global) -> Result<Array<MemDrive, Plain>, Fail> {
+    let shape = Shape::new(8, 2, 8, 16)?;
+    let mut array: Array<MemDrive, Plain> = Array::in_memory(alloc, shape, 3)?;
     let members = [member(0, 0), member(1, 0), member(2, 0)];
-    world.make(alloc, Class::Mirrored, &members)?;
-    world.claim(0, 0);
-    if world.array().shape().payload == 8 {
-        world.fill(alloc, 0, 0, &[0x11; 8])?;
-    }
-    if world.array().shape().blocks == 16 {
-        world.commit(alloc, 0, 0, 3)?;
-    }
-    Ok(world)
+    array.make_group(alloc, Class::Mirrored, &members)?;
+    Ok(array)
+}
+
+// Block 3 is written at slot 0 of a mirrored group.
+fn written(rt: &impl Abort, alloc: Global) -> Result<Array<MemDrive, Plain>, Fail> {
+    let mut array = three_drives(alloc)?;
+    assert_eq!(rt; (array.shape().payload, array.shape().blocks), (8, 16));
+    let Ok(ticket) = array.fill(alloc, Plain { slot: 0 }, &[0x11; 8]) else {
+        panic!(rt; "not filled")
+    };
+    assert_eq!(rt; array.shape().blocks, 16);
+    let Ok(done) = array.commit(alloc, ticket, 3) else {
+        panic!(rt; "not committed")
+    };
+    assert!(rt; done.emitted.record() == FIRST && done.old.is_none());
+    Ok(array)
 }
 
 #[test]
 fn an_array_tells_its_log_its_map_and_its_slots(rt: HostRuntime) -> Result<(), Fail> {
     let alloc = rt.alloc();
-    let world = written(&rt)?;
-    let array = world.array();
-    let first = Record {
-        block: 3,
-        version: 1,
-        hop: 0,
-        place: 0,
-    };
+    let array = written(&rt, alloc)?;
     assert_eq!(rt; array.records_from(alloc, 0)?.len(), 1);
     assert_eq!(rt; array.records_from(alloc, 2)?.len(), 0);
-    assert_eq!(rt; array.map(alloc)?.get(3), Some(first));
+    assert_eq!(rt; array.map(alloc)?.get(3), Some(FIRST));
     assert!(rt; array.is_held(0) && !array.is_held(1));
-    assert_eq!(rt; array.drive_count(), 4);
+    assert_eq!(rt; array.drive_count(), 3);
+    assert!(rt; !array.is_lost(2) && array.is_lost(3));
     Ok(())
 }
 
 #[test]
 fn an_array_hands_claims_back(rt: HostRuntime) -> Result<(), Fail> {
     let alloc = rt.alloc();
-    let mut array: Array<Plain> = Array::new(alloc, Shape::new(8, 2, 8, 16)?, 3)?;
+    let mut array = three_drives(alloc)?;
     assert_eq!(rt; array.shape().payload, 8);
     let Err((refusal, claim)) = array.fill(alloc, Plain { slot: 9 }, &[7u8; 8]) else {
         panic!(rt; "filled a slot of no group")
@@ -57,9 +67,7 @@ fn an_array_hands_claims_back(rt: HostRuntime) -> Result<(), Fail> {
 #[test]
 fn a_slot_that_the_array_holds_is_in_use(rt: HostRuntime) -> Result<(), Fail> {
     let alloc = rt.alloc();
-    let mut array: Array<Plain> = Array::new(alloc, Shape::new(8, 2, 8, 16)?, 3)?;
-    let members = [member(0, 0), member(1, 0), member(2, 0)];
-    array.make_group(alloc, Class::Mirrored, &members)?;
+    let mut array = three_drives(alloc)?;
     assert_eq!(rt; (array.shape().payload, array.shape().blocks), (8, 16));
     let Ok(_ticket) = array.fill(alloc, Plain { slot: 0 }, &[7u8; 8]) else {
         panic!(rt; "not filled")
@@ -75,23 +83,40 @@ fn a_slot_that_the_array_holds_is_in_use(rt: HostRuntime) -> Result<(), Fail> {
 #[test]
 fn a_record_is_read_at_its_place_or_learned(rt: HostRuntime) -> Result<(), Fail> {
     let alloc = rt.alloc();
-    let world = written(&rt)?;
-    assert_eq!(rt; world.array().shape().blocks, 16);
-    let first = Record {
-        block: 3,
-        version: 1,
-        hop: 0,
-        place: 0,
-    };
-    let Answer::Found(At::Data(payload)) = world.read_at(alloc, first)? else {
+    let mut array = written(&rt, alloc)?;
+    assert_eq!(rt; array.shape().blocks, 16);
+    let At::Data(payload) = array.read_at(alloc, FIRST)? else {
         panic!(rt; "nothing at its place")
     };
     assert_eq!(rt; payload.as_slice(), [0x11u8; 8].as_slice());
-    let elsewhere = Record { place: 1, ..first };
-    let ahead = world.array().read_or_learn(alloc, elsewhere);
-    assert!(rt; matches!(ahead, Err(Refusal::Ahead(Some(newest))) if newest == first));
-    let reading = world.array().read_or_learn(alloc, first)?;
-    assert_eq!(rt; reading.record(), first);
+    let elsewhere = Record { place: 1, ..FIRST };
+    assert_eq!(rt; array.shape().blocks, 16);
+    let ahead = array.read_or_learn(alloc, elsewhere);
+    assert!(rt; matches!(ahead, Err(Refusal::Ahead(Some(newest))) if newest == FIRST));
+    assert_eq!(rt; array.shape().blocks, 16);
+    let reading = array.read_or_learn(alloc, FIRST)?;
+    assert!(rt; reading.record() == FIRST);
     assert_eq!(rt; reading.payload(), [0x11u8; 8].as_slice());
+    Ok(())
+}
+
+// What two copies on drives 0 and 1 tell of block 3 once drives are lost.
+#[test]
+fn a_block_is_read_until_both_its_copies_are_lost(rt: HostRuntime) -> Result<(), Fail> {
+    let alloc = rt.alloc();
+    let mut array = written(&rt, alloc)?;
+    assert_eq!(rt; array.drive_count(), 3);
+    array.lose(0);
+    assert_eq!(rt; array.shape().blocks, 16);
+    let Some((version, payload)) = array.read(alloc, 3)? else {
+        panic!(rt; "no block")
+    };
+    assert!(rt; version == 1 && payload.as_slice() == [0x11u8; 8].as_slice());
+    assert_eq!(rt; array.drive_count(), 3);
+    array.fuse(1, 1);
+    assert!(rt; !array.is_lost(1));
+    assert_eq!(rt; array.shape().blocks, 16);
+    assert!(rt; matches!(array.read(alloc, 3), Err(Refusal::Gone(0))));
+    assert!(rt; array.is_lost(1));
     Ok(())
 }

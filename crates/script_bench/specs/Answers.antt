@@ -96,6 +96,7 @@ Answers (Some P) (o.Fill worker slot payload) text t = Steps P (s.Fill worker sl
 Answers (Some P) (o.Copy worker slot block) text t = Steps P (s.Copy worker slot block) text t
 Answers (Some P) (o.Commit worker slot block) text t = Steps P (s.Commit worker slot block) text t
 Answers (Some P) (o.Discard worker slot) text t = Steps P (s.Discard worker slot) text t
+Answers (Some P) (o.Lose drive) text t = Steps P (s.Lose drive) text t
 Answers (Some P) (o.Read block) text t = Steps P (s.Read block) text t
 Answers (Some P) (o.At r) text t = Steps P (s.ReadAt r) text t
 Answers (Some P) (o.Take map r) text t = Takes P map r text t

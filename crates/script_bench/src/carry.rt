@@ -41,6 +41,7 @@ pub fn carry_out(
         Verb::Copy => copy(alloc, bench, first as u8, second as u16, third as u32, out),
         Verb::Commit => commit(alloc, bench, first as u8, second as u16, third as u32, out),
         Verb::Discard => discard(bench, first as u8, second as u16, out),
+        Verb::Lose => lose(bench, first as u8, out),
         Verb::Read => read(alloc, bench, first as u32, out),
         Verb::At => read_at(alloc, bench, command.record, out),
         Verb::Take => take(alloc, bench, first as usize, command.record, out),
@@ -115,6 +116,13 @@ fn discard(bench: &mut Bench, worker: u8, slot: u16, out: &mut Vec<u8>) -> Resul
     ensures { OnOk result (Carries bench.old bench.new (o.Discard worker slot) out.old.items out.new.items) }
 {
     let answer = bench.world.discard(worker, slot);
+    put_answer(out, &answer, 0)
+}
+
+fn lose(bench: &mut Bench, drive: u8, out: &mut Vec<u8>) -> Result<(), AllocError>
+    ensures { OnOk result (Carries bench.old bench.new (o.Lose drive) out.old.items out.new.items) }
+{
+    let answer = bench.world.lose(drive);
     put_answer(out, &answer, 0)
 }
 

@@ -104,6 +104,7 @@ pub fn put_answer(out: &mut Vec<u8>, answer: &Answer, asked: u32) -> Result<(), 
         Answer::Read(None) => put(out, b"none"),
         Answer::Found(seen) => put_seen(out, asked, seen),
         Answer::Made(group) => put_numbered(out, b"made ", u64::from(*group)),
+        Answer::Lost(drive) => put_numbered(out, b"lost ", u64::from(*drive)),
         Answer::Refused(refusal) => put_refusal(out, refusal),
     }
 }

@@ -1,18 +1,20 @@
 -- How turns lead to a script's end.
-use Rattle.std.proofs.Common.{◌≡◌, ℕ, List, [], ◌++◌, ◌⊎◌, Option, Some, None, refl, sym, ap, ◌∙◌, inl, inr, append_assoc, append-nil, take, length, ◌≤◌}
+use Rattle.std.proofs.Common.{◌≡◌, ℕ, List, [], ◌++◌, ◌⊎◌, Option, Some, None, refl, sym, ap, ◌∙◌, inl, inr, append_assoc, append-nil, take, arith}
 use Rattle.std.specs.Prelude.{IfSome}
 use Rattle.std.specs.Io.KnownBytes.{Appends, Consumes, IsAtEnd, Keeps}
 use Rattle.std.proofs.KnownBytes.{Appends-nil, Appends-trans}
-use Rattle.script_run.specs.Opens.{AreLines, IsOpen}
+use Rattle.script_run.specs.Opens.{AreLines}
 use Rattle.script_bench.specs.State.{State}
 use Rattle.script_bench.specs.Carrying.{Stands}
 use Rattle.script_run.specs.Says.{Says, Tells, lines_of}
-use Rattle.script_run.specs.Feeding.{IsCut, Leads, Left}
-use Rattle.script_run.specs.Turns.{AllSaid, Concludes, GoesOn, IsAllSaid, IsFronted, IsPartSaid, IsPartWritten, PartSaid, SaysBy, TurnsTo}
+use Rattle.script_run.specs.Feeding.{IsCut, IsScript, Leads, Left}
+use Rattle.script_run.specs.Turns.{AllSaid, Concludes, GoesOn, IsAllSaid, IsFronted, IsPartSaid, IsPartWritten, PartSaid, SaysBy, TurnsTo, end_of}
 use Rattle.script_run.specs.declared.end.End.{End}
 use Rattle.script_run.specs.declared.end.End.TheVariants as end
+use Rattle.script_run.specs.declared.halt.Halt.{Halt}
+use Rattle.script_run.specs.declared.halt.Halt.TheVariants as halt
 use Rattle.script_run.specs.declared.script.Script.{Script}
-use Rattle.script_run.proofs.Opens.{lines_more, text_join, text_more}
+use Rattle.script_run.proofs.Opens.{count_more, lines_more, text_join, text_more}
 use Rattle.script_run.proofs.Feeds.{cut_behind, cut_more, leads_left, leads_more, leads_none}
 
 -- whole lines before a front of the rest
@@ -32,28 +34,28 @@ fronted_behind n state text whole out m next rest told lines leads is f = record
 }
 
 -- a reader that is at its end gave all
-at_end : (last : End) (before after : Option (List ℕ)) (buffer : List ℕ) (old : Script) (state : State) (held now : Option (List ℕ))
+at_end : (last : Halt) (before after : Option (List ℕ)) (buffer : List ℕ) (old : Script) (state : State) (held now : Option (List ℕ))
     → Consumes before after (take 0 buffer) → IsAtEnd after → Concludes last old state [] held now → AllSaid last before old state held now
 at_end last None after buffer old state held now consumed done said = tt
 at_end last (Some xs) None buffer old state held now consumed done said = absurd consumed
 at_end last (Some xs) (Some ys) buffer old state held now consumed done said =
     let none : xs ≡ [] = consumed ∙ done in rw none said
 
-pub turn_closed : (last : End) (before after : Option (List ℕ)) (buffer : List ℕ) (old : Script) (state : State) (new : Script)
+pub turn_closed : (last : Halt) (before after : Option (List ℕ)) (buffer : List ℕ) (old : Script) (state : State) (new : Script)
     (held now : Option (List ℕ)) → Consumes before after (take 0 buffer) → IsAtEnd after → Concludes last old state [] held now
     → TurnsTo (Some last) before after old state new held now
-turn_closed end.ReadFault before after buffer old state new held now consumed done said = absurd said
-turn_closed end.Whole before after buffer old state new held now consumed done said =
-    at_end end.Whole before after buffer old state held now consumed done said
-turn_closed end.Fault before after buffer old state new held now consumed done said =
-    at_end end.Fault before after buffer old state held now consumed done said
-turn_closed end.Memory before after buffer old state new held now consumed done said =
-    at_end end.Memory before after buffer old state held now consumed done said
-turn_closed end.WriteFault before after buffer old state new held now consumed done said =
-    at_end end.WriteFault before after buffer old state held now consumed done said
+turn_closed (halt.ReadBroke broke) before after buffer old state new held now consumed done said = absurd said
+turn_closed halt.Whole before after buffer old state new held now consumed done said =
+    at_end halt.Whole before after buffer old state held now consumed done said
+turn_closed halt.Fault before after buffer old state new held now consumed done said =
+    at_end halt.Fault before after buffer old state held now consumed done said
+turn_closed halt.Memory before after buffer old state new held now consumed done said =
+    at_end halt.Memory before after buffer old state held now consumed done said
+turn_closed (halt.WriteBroke broke) before after buffer old state new held now consumed done said =
+    at_end (halt.WriteBroke broke) before after buffer old state held now consumed done said
 
 -- a chunk that was read, and what came of it
-pub turn_on : (result : Option End) (before after : Option (List ℕ)) (chunk : List ℕ) (old : Script) (state : State) (new : Script)
+pub turn_on : (result : Option Halt) (before after : Option (List ℕ)) (chunk : List ℕ) (old : Script) (state : State) (new : Script)
     (held now : Option (List ℕ)) → Consumes before after chunk → GoesOn result old state new chunk held now
     → TurnsTo result before after old state new held now
 turn_on None None after chunk old state new held now consumed on = (on.next, on.stands)
@@ -64,22 +66,24 @@ turn_on None (Some xs) (Some ys) chunk old state new held now consumed on = reco
   whole = on.whole;
   lines = on.lines;
   text_is = rw consumed (text_more old.line.items chunk on.whole new.line.items [] ys on.text_is);
+  counted = on.counted;
   open_line = on.open_line;
   short = on.short;
+  soon = on.soon;
   bytes = on.bytes;
   wrote = on.wrote;
   leads = on.leads;
 }
-turn_on (Some end.Fault) None after chunk old state new held now consumed on = tt
-turn_on (Some end.Fault) (Some xs) None chunk old state new held now consumed on = absurd consumed
-turn_on (Some end.Fault) (Some xs) (Some ys) chunk old state new held now consumed on = record {
+turn_on (Some halt.Fault) None after chunk old state new held now consumed on = tt
+turn_on (Some halt.Fault) (Some xs) None chunk old state new held now consumed on = absurd consumed
+turn_on (Some halt.Fault) (Some xs) (Some ys) chunk old state new held now consumed on = record {
   out = on.bytes;
   wrote = on.wrote;
   told = rw consumed (on.told ys);
 }
-turn_on (Some end.Memory) None after chunk old state new held now consumed on = tt
-turn_on (Some end.Memory) (Some xs) None chunk old state new held now consumed on = absurd consumed
-turn_on (Some end.Memory) (Some xs) (Some ys) chunk old state new held now consumed on = record {
+turn_on (Some halt.Memory) None after chunk old state new held now consumed on = tt
+turn_on (Some halt.Memory) (Some xs) None chunk old state new held now consumed on = absurd consumed
+turn_on (Some halt.Memory) (Some xs) (Some ys) chunk old state new held now consumed on = record {
   bytes = on.bytes;
   wrote = on.wrote;
   cut =
@@ -87,29 +91,31 @@ turn_on (Some end.Memory) (Some xs) (Some ys) chunk old state new held now consu
       cut_more old.number state (old.line.items ++ chunk) on.bytes ys on.cut in
       rw (consumed, ← append_assoc old.line.items chunk ys) more;
 }
-turn_on (Some end.WriteFault) None after chunk old state new held now consumed on = tt
-turn_on (Some end.WriteFault) (Some xs) None chunk old state new held now consumed on = absurd consumed
-turn_on (Some end.WriteFault) (Some xs) (Some ys) chunk old state new held now consumed on = record {
+turn_on (Some (halt.WriteBroke broke)) None after chunk old state new held now consumed on = tt
+turn_on (Some (halt.WriteBroke broke)) (Some xs) None chunk old state new held now consumed on = absurd consumed
+turn_on (Some (halt.WriteBroke broke)) (Some xs) (Some ys) chunk old state new held now consumed on = record {
   bytes = on.bytes;
   part = on.part;
   fronted = rw consumed (on.fronted ys);
 }
-turn_on (Some end.Whole) before after chunk old state new held now consumed on = absurd on
-turn_on (Some end.ReadFault) before after chunk old state new held now consumed on = absurd on
+turn_on (Some halt.Whole) before after chunk old state new held now consumed on = absurd on
+turn_on (Some (halt.ReadBroke broke)) before after chunk old state new held now consumed on = absurd on
 
 -- nothing was read nor written
 pub part_none : (before after : Option (List ℕ)) (script : Script) (state : State) (held : Option (List ℕ)) → Keeps before after
-    → IsOpen script.line.items → length script.line.items ≤ 131200 → Stands script.bench state → PartSaid before after script state script held held
-part_none None after script state held kept open_line short stands = (state, stands)
-part_none (Some xs) None script state held kept open_line short stands = absurd kept
-part_none (Some xs) (Some ys) script state held kept open_line short stands = record {
+    → IsScript script → Stands script.bench state → PartSaid before after script state script held held
+part_none None after script state held kept good stands = (state, stands)
+part_none (Some xs) None script state held kept good stands = absurd kept
+part_none (Some xs) (Some ys) script state held kept good stands = record {
   next = state;
   stands = stands;
   whole = [];
   lines = inl refl;
   text_is = ap (λ rest. script.line.items ++ rest) (sym kept);
-  open_line = open_line;
-  short = short;
+  counted = omega arith;
+  open_line = good.open_line;
+  short = good.short;
+  soon = good.soon;
   bytes = [];
   wrote = Appends-nil held;
   leads = leads_none script.number state;
@@ -124,8 +130,10 @@ join_parts xs ys zs old state mid new held wrote now a b = record {
   whole = a.whole ++ b.whole;
   lines = lines_more a.whole b.whole a.lines b.lines;
   text_is = text_join (old.line.items ++ xs) a.whole (mid.line.items ++ ys) b.whole (new.line.items ++ zs) a.text_is b.text_is;
+  counted = let more = count_more a.whole b.whole a.lines in omega (arith, more, a.counted, b.counted);
   open_line = b.open_line;
   short = b.short;
+  soon = b.soon;
   bytes = a.bytes ++ b.bytes;
   wrote = Appends-trans held wrote now a.bytes b.bytes a.wrote b.wrote;
   leads = leads_more old.number state a.whole a.bytes mid.number a.next b.whole b.bytes new.number b.next a.leads b.leads;
@@ -153,25 +161,25 @@ join_said xs ys old state mid held wrote now last a b = record {
       a.leads a.text_is b.told;
 }
 
-join_all : (last : End) (xs ys : List ℕ) (old : Script) (state : State) (mid : Script) (held wrote now : Option (List ℕ))
+join_all : (last : Halt) (xs ys : List ℕ) (old : Script) (state : State) (mid : Script) (held wrote now : Option (List ℕ))
     (a : IsPartSaid old state mid xs ys held wrote) → Concludes last mid a.next ys wrote now → Concludes last old state xs held now
-join_all end.Whole xs ys old state mid held wrote now a b = join_said xs ys old state mid held wrote now end.Whole a b
-join_all end.Fault xs ys old state mid held wrote now a b = join_said xs ys old state mid held wrote now end.Fault a b
-join_all end.Memory xs ys old state mid held wrote now a b = record {
+join_all halt.Whole xs ys old state mid held wrote now a b = join_said xs ys old state mid held wrote now end.Whole a b
+join_all halt.Fault xs ys old state mid held wrote now a b = join_said xs ys old state mid held wrote now end.Fault a b
+join_all halt.Memory xs ys old state mid held wrote now a b = record {
   bytes = a.bytes ++ b.bytes;
   wrote = Appends-trans held wrote now a.bytes b.bytes a.wrote b.wrote;
   cut =
       cut_behind old.number state (old.line.items ++ xs) a.whole a.bytes mid.number a.next (mid.line.items ++ ys) b.bytes
       a.lines a.leads a.text_is b.cut;
 }
-join_all end.WriteFault xs ys old state mid held wrote now a b = record {
+join_all (halt.WriteBroke broke) xs ys old state mid held wrote now a b = record {
   bytes = a.bytes ++ b.bytes;
   part = part_behind held wrote now a.bytes b.bytes a.wrote b.part;
   fronted =
       fronted_behind old.number state (old.line.items ++ xs) a.whole a.bytes mid.number a.next (mid.line.items ++ ys) b.bytes
       a.lines a.leads a.text_is b.fronted;
 }
-join_all end.ReadFault xs ys old state mid held wrote now a b = absurd b
+join_all (halt.ReadBroke broke) xs ys old state mid held wrote now a b = absurd b
 
 -- parts behind a part
 parts_join : (before mid_in after : Option (List ℕ)) (old : Script) (state : State) (mid new : Script) (held wrote now : Option (List ℕ))
@@ -185,7 +193,7 @@ parts_join (Some xs) (Some ys) None old state mid new held wrote now a b = absur
 parts_join (Some xs) (Some ys) (Some zs) old state mid new held wrote now a b =
     join_parts xs ys zs old state mid new held wrote now a (b a.next a.stands)
 
-all_join : (last : End) (before mid_in : Option (List ℕ)) (old : Script) (state : State) (mid : Script) (held wrote now : Option (List ℕ))
+all_join : (last : Halt) (before mid_in : Option (List ℕ)) (old : Script) (state : State) (mid : Script) (held wrote now : Option (List ℕ))
     → PartSaid before mid_in old state mid held wrote
     → ((s : State) → Stands mid.bench s → AllSaid last mid_in mid s wrote now) → AllSaid last before old state held now
 all_join last None mid_in old state mid held wrote now a b = tt
@@ -194,17 +202,17 @@ all_join last (Some xs) (Some ys) old state mid held wrote now a b =
     join_all last xs ys old state mid held wrote now a (b a.next a.stands)
 
 -- a turn behind turns
-pub turn_after : (result : Option End) (before mid_in after : Option (List ℕ)) (old : Script) (state : State) (mid new : Script)
+pub turn_after : (result : Option Halt) (before mid_in after : Option (List ℕ)) (old : Script) (state : State) (mid new : Script)
     (held wrote now : Option (List ℕ)) → PartSaid before mid_in old state mid held wrote
     → ((s : State) → Stands mid.bench s → TurnsTo result mid_in after mid s new wrote now) → TurnsTo result before after old state new held now
 turn_after None before mid_in after old state mid new held wrote now a b = parts_join before mid_in after old state mid new held wrote now a b
-turn_after (Some end.ReadFault) before mid_in after old state mid new held wrote now a b =
+turn_after (Some (halt.ReadBroke broke)) before mid_in after old state mid new held wrote now a b =
     parts_join before mid_in after old state mid new held wrote now a b
-turn_after (Some end.Whole) before mid_in after old state mid new held wrote now a b = all_join end.Whole before mid_in old state mid held wrote now a b
-turn_after (Some end.Fault) before mid_in after old state mid new held wrote now a b = all_join end.Fault before mid_in old state mid held wrote now a b
-turn_after (Some end.Memory) before mid_in after old state mid new held wrote now a b = all_join end.Memory before mid_in old state mid held wrote now a b
-turn_after (Some end.WriteFault) before mid_in after old state mid new held wrote now a b =
-    all_join end.WriteFault before mid_in old state mid held wrote now a b
+turn_after (Some halt.Whole) before mid_in after old state mid new held wrote now a b = all_join halt.Whole before mid_in old state mid held wrote now a b
+turn_after (Some halt.Fault) before mid_in after old state mid new held wrote now a b = all_join halt.Fault before mid_in old state mid held wrote now a b
+turn_after (Some halt.Memory) before mid_in after old state mid new held wrote now a b = all_join halt.Memory before mid_in old state mid held wrote now a b
+turn_after (Some (halt.WriteBroke broke)) before mid_in after old state mid new held wrote now a b =
+    all_join (halt.WriteBroke broke) before mid_in old state mid held wrote now a b
 
 -- what a run from the script's start came to
 said_of : (script : List ℕ) (start : Script) (held now : Option (List ℕ)) (last : End) → start.number ≡ 1 → start.line.items ≡ []
@@ -230,15 +238,15 @@ none_said (Some script) after held = record {
   says = (refl, refl);
 }
 
-pub run_said : (last : End) (before after : Option (List ℕ)) (start new : Script) (held now : Option (List ℕ)) → start.number ≡ 1
+pub run_said : (last : Halt) (before after : Option (List ℕ)) (start new : Script) (held now : Option (List ℕ)) → start.number ≡ 1
     → start.line.items ≡ [] → TurnsTo (Some last) before after start None new held now
-    → IfSome before (λ script. SaysBy last script after held now)
+    → IfSome before (λ script. SaysBy (end_of last) script after held now)
 run_said last None after start new held now number line turned = tt
-run_said end.Whole (Some xs) after start new held now number line turned =
+run_said halt.Whole (Some xs) after start new held now number line turned =
     let s = said_of xs start held now end.Whole number line turned in record { out = s.0; wrote = s.1; says = s.2 }
-run_said end.Fault (Some xs) after start new held now number line turned =
+run_said halt.Fault (Some xs) after start new held now number line turned =
     let s = said_of xs start held now end.Fault number line turned in record { out = s.0; wrote = s.1; says = s.2 }
-run_said end.Memory (Some xs) after start new held now number line turned =
+run_said halt.Memory (Some xs) after start new held now number line turned =
     let cut = turned.cut in record {
       whole = cut.whole;
       rest = cut.rest;
@@ -248,7 +256,7 @@ run_said end.Memory (Some xs) after start new held now number line turned =
       wrote = turned.wrote;
       says = let told : Tells start.number None (lines_of cut.whole) turned.bytes end.Whole = cut.told in rw number at told;
     }
-run_said end.WriteFault (Some xs) after start new held now number line turned =
+run_said (halt.WriteBroke broke) (Some xs) after start new held now number line turned =
     let f = turned.fronted in record {
       front = f.front;
       rest = f.rest;
@@ -259,8 +267,8 @@ run_said end.WriteFault (Some xs) after start new held now number line turned =
       says = let told : Tells start.number None (lines_of f.front) turned.bytes f.last = f.told in rw number at told;
       part = turned.part;
     }
-run_said end.ReadFault (Some xs) None start new held now number line turned = absurd turned
-run_said end.ReadFault (Some xs) (Some ys) start new held now number line turned = record {
+run_said (halt.ReadBroke broke) (Some xs) None start new held now number line turned = absurd turned
+run_said (halt.ReadBroke broke) (Some xs) (Some ys) start new held now number line turned = record {
   whole = turned.whole;
   line = new.line.items;
   rest = ys;
@@ -269,6 +277,7 @@ run_said end.ReadFault (Some xs) (Some ys) start new held now number line turned
   lines = turned.lines;
   open_line = turned.open_line;
   short = turned.short;
+  soon = λ some. let number_is = turned.counted in let soon = turned.soon some in omega (arith, number, number_is, soon);
   out = turned.bytes;
   wrote = turned.wrote;
   says =

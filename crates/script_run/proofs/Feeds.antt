@@ -14,7 +14,7 @@ use Rattle.script_run.specs.declared.script.Script.{Script}
 use Rattle.script_run.specs.declared.stop.Stop.{Stop}
 use Rattle.script_run.specs.declared.stop.Stop.TheVariants as stop
 use Rattle.script_bench.specs.declared.why.Why.{Why}
-use Rattle.script_run.proofs.Opens.{open_front, cut_line, last_line, lines_more, text_join, text_more}
+use Rattle.script_run.proofs.Opens.{count_more, open_front, cut_line, last_line, lines_more, text_join, text_more}
 
 -- no line leads nowhere
 pub leads_none : (n : ℕ) (state : State) → Leads n state [] [] n state
@@ -73,6 +73,7 @@ along_start script state chunk stands = record {
   whole = [];
   lines = inl refl;
   text_is = refl;
+  counted = omega arith;
   bytes = [];
   out = sym (append-nil script.out.items);
   leads = leads_none script.number state;
@@ -89,6 +90,7 @@ along_more old state mid new chunk part rest a b = record {
   text_is =
       text_join (old.line.items ++ chunk) a.whole (mid.line.items ++ (part ++ rest)) b.whole (new.line.items ++ rest) a.text_is
       (text_more mid.line.items part b.whole new.line.items [] rest b.text_is);
+  counted = let more = count_more a.whole b.whole a.lines in omega (arith, more, a.counted, b.counted);
   bytes = a.bytes ++ b.bytes;
   out = b.out ∙ ap (λ xs. xs ++ b.bytes) a.out ∙ append_assoc old.out.items a.bytes b.bytes;
   leads = leads_more old.number state a.whole a.bytes mid.number a.next b.whole b.bytes new.number b.next a.leads b.leads;
@@ -139,6 +141,7 @@ along_open old state new part stands number line out = record {
   whole = [];
   lines = inl refl;
   text_is = sym line ∙ sym (append-nil new.line.items);
+  counted = omega (arith, number);
   bytes = [];
   out = out ∙ sym (append-nil old.out.items);
   leads = λ more told last rest. rw number at rest;
@@ -153,6 +156,7 @@ along_answered old state new none answered = let t = answered.told in record {
   whole = old.line.items ++ 10 ∷ [];
   lines = inr (old.line.items, refl);
   text_is = sym (append-nil (old.line.items ++ 10 ∷ [])) ∙ ap (λ xs. (old.line.items ++ 10 ∷ []) ++ (xs ++ [])) (sym answered.line);
+  counted = answered.number ∙ ap (λ lines. old.number + length lines) (sym (cut_line old.line.items [] none));
   bytes = t.bytes;
   out = t.out;
   leads = λ more later last left.

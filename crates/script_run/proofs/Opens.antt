@@ -1,5 +1,5 @@
 -- The lines of a text that begins with an open line.
-use Rattle.std.proofs.Common.{◌≡◌, ℕ, ◌<◌, ◌==◌, false, List, [], ◌∷◌, ◌++◌, length, refl, sym, ap, ◌∙◌, inl, inr, arith, append_assoc, append-nil}
+use Rattle.std.proofs.Common.{◌≡◌, ℕ, ◌+◌, ◌<◌, ◌==◌, Bool, true, false, if◌then◌else◌, List, [], ◌∷◌, ◌++◌, length, refl, sym, ap, ◌∙◌, inl, inr, arith, append_assoc, append-nil, length-append}
 use Rattle.std.specs.List.{AllByRecursion}
 use Rattle.std.proofs.lemmas.List.Elements.{recursion_from_All}
 use Rattle.script_run.specs.Says.{lines_of, onto_line}
@@ -77,3 +77,36 @@ text_more line chunk whole opened rest more is =
 pub text_join : (text first back second rest : List ℕ) → text ≡ first ++ back → back ≡ second ++ rest → text ≡ (first ++ second) ++ rest
 text_join text first back second rest one two =
     one ∙ ap (λ xs. first ++ xs) two ∙ sym (append_assoc first second rest)
+
+-- a byte before lines: it ends a line, or is the first of the next one
+abbrev before_lines : Bool → ℕ → List (List ℕ) → List (List ℕ)
+before_lines ends byte lines = if ends then [] ∷ lines else onto_line byte lines
+
+before_some : (ends : Bool) (byte : ℕ) (lines : List (List ℕ)) → 0 < length (before_lines ends byte lines)
+before_some true byte lines = omega arith
+before_some false byte [] = omega arith
+before_some false byte (line ∷ lines) = omega arith
+
+before_apart : (ends : Bool) (byte : ℕ) (first second : List (List ℕ)) → 0 < length first
+    → before_lines ends byte (first ++ second) ≡ before_lines ends byte first ++ second
+before_apart true byte first second some = refl
+before_apart false byte [] second some = absurd (omega arith)
+before_apart false byte (line ∷ first) second some = refl
+
+-- a text with a line's end has a line
+ended_some : (front : List ℕ) → 0 < length (lines_of (front ++ 10 ∷ []))
+ended_some [] = omega arith
+ended_some (byte ∷ front) = before_some (byte == 10) byte (lines_of (front ++ 10 ∷ []))
+
+ended_apart : (front second : List ℕ) → lines_of ((front ++ 10 ∷ []) ++ second) ≡ lines_of (front ++ 10 ∷ []) ++ lines_of second
+ended_apart [] second = refl
+ended_apart (byte ∷ front) second =
+    ap (before_lines (byte == 10) byte) (ended_apart front second)
+    ∙ before_apart (byte == 10) byte (lines_of (front ++ 10 ∷ [])) (lines_of second) (ended_some front)
+
+-- behind whole lines there are as many lines more as in what follows
+pub count_more : (first second : List ℕ) → AreLines first
+    → length (lines_of (first ++ second)) ≡ length (lines_of first) + length (lines_of second)
+count_more first second (inl none) = rw none (omega arith)
+count_more first second (inr ended) =
+    rw ended.1 (ap length (ended_apart ended.0 second) ∙ length-append (lines_of (ended.0 ++ 10 ∷ [])) (lines_of second))

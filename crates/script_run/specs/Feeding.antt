@@ -1,10 +1,10 @@
 -- How a script is fed in pieces: the whole lines of each piece are answered, and lead on to the next.
-use Rattle.std.specs.Prelude.{◌≡◌, ℕ, ◌+◌, ◌≤◌, List, [], ◌∷◌, ◌++◌, length, Result, Ok, Err, Option}
+use Rattle.std.specs.Prelude.{◌≡◌, ℕ, ◌+◌, ◌-◌, ◌*◌, ◌≤◌, List, [], ◌∷◌, ◌++◌, length, Result, Ok, Err, Option}
 use Rattle.script_bench.specs.declared.bench.Bench.{Bench}
 use Rattle.script_run.specs.Opens.{AreLines, IsOpen}
 use Rattle.script_bench.specs.State.{State}
 use Rattle.script_bench.specs.Carrying.{Stands}
-use Rattle.script_bench.specs.Meaning.{fault_line}
+use Rattle.script_bench.specs.Meaning.{fault_line, most_bytes, most_lines}
 use Rattle.script_run.specs.Says.{Tells, lines_of}
 use Rattle.script_run.specs.declared.end.End.{End}
 use Rattle.script_run.specs.declared.end.End.TheVariants as end
@@ -63,6 +63,10 @@ pub record IsScript (script : Script) : Type 0 where
   pub soon : 1 ≤ length script.line.items → script.number ≤ 1000000
   pub open_line : IsOpen script.line.items
 
+-- how many bytes may still come before a line is too long or one too many, each line with its end
+abbrev pub most_left : Script → ℕ
+most_left script = (most_lines + 1 - script.number) * (most_bytes + 1) - length script.line.items
+
 -- of the chunk all but the rest was read: whole lines were answered, and behind them a line is open
 pub record IsAlong (old : Script) (state : State) (new : Script) (chunk rest : List ℕ) : Type 0 where
   pub next : State
@@ -70,6 +74,7 @@ pub record IsAlong (old : Script) (state : State) (new : Script) (chunk rest : L
   pub whole : List ℕ
   pub lines : AreLines whole
   pub text_is : old.line.items ++ chunk ≡ whole ++ (new.line.items ++ rest)
+  pub counted : new.number ≡ old.number + length (lines_of whole)
   pub bytes : List ℕ
   pub out : new.out.items ≡ old.out.items ++ bytes
   pub leads : Leads old.number state whole bytes new.number next

@@ -1,15 +1,25 @@
 -- Turns of a script: one read, the answers to the lines that ended in it, and one write.
-use Rattle.std.specs.Prelude.{◌≡◌, ℕ, ◌<◌, ◌≤◌, List, [], ◌++◌, length, Option, Some, None, ◌⊎◌}
+use Rattle.std.specs.Prelude.{◌≡◌, ℕ, ◌+◌, ◌<◌, ◌≤◌, List, [], ◌++◌, length, Option, Some, None, ◌⊎◌}
 use Rattle.std.specs.Io.KnownBytes.{Appends}
 use Rattle.script_run.specs.Opens.{AreLines, IsOpen}
 use Rattle.script_bench.specs.State.{State}
 use Rattle.script_bench.specs.Carrying.{Stands}
-use Rattle.script_bench.specs.Meaning.{most_bytes}
+use Rattle.script_bench.specs.Meaning.{most_bytes, most_lines}
 use Rattle.script_run.specs.Says.{Says, Tells, lines_of}
 use Rattle.script_run.specs.Feeding.{IsCut, Leads, Left}
 use Rattle.script_run.specs.declared.end.End.{End}
 use Rattle.script_run.specs.declared.end.End.TheVariants as end
+use Rattle.script_run.specs.declared.halt.Halt.{Halt}
+use Rattle.script_run.specs.declared.halt.Halt.TheVariants as halt
 use Rattle.script_run.specs.declared.script.Script.{Script}
+
+-- how a script ends by what halts it
+abbrev pub end_of : Halt → End
+end_of halt.Whole = end.Whole
+end_of halt.Fault = end.Fault
+end_of halt.Memory = end.Memory
+end_of (halt.ReadBroke broke) = end.ReadFault
+end_of (halt.WriteBroke broke) = end.WriteFault
 
 -- of the bytes a front was written, and not all
 pub record IsPartWritten (held now : Option (List ℕ)) (bytes : List ℕ) : Type 0 where
@@ -26,8 +36,10 @@ pub record IsPartSaid (old : Script) (state : State) (new : Script) (input rest 
   pub whole : List ℕ
   pub lines : AreLines whole
   pub text_is : old.line.items ++ input ≡ whole ++ (new.line.items ++ rest)
+  pub counted : new.number ≡ old.number + length (lines_of whole)
   pub open_line : IsOpen new.line.items
   pub short : length new.line.items ≤ most_bytes
+  pub soon : 1 ≤ length new.line.items → new.number ≤ most_lines
   pub bytes : List ℕ
   pub wrote : Appends held now bytes
   pub leads : Leads old.number state whole bytes new.number next
@@ -60,13 +72,13 @@ pub record IsBroken (old : Script) (state : State) (chunk : List ℕ) (held now 
   pub fronted : (more : List ℕ) → IsFronted old.number state (old.line.items ++ (chunk ++ more)) bytes
 
 -- what came of a chunk
-abbrev pub GoesOn : Option End → Script → State → Script → List ℕ → Option (List ℕ) → Option (List ℕ) → Type 0
+abbrev pub GoesOn : Option Halt → Script → State → Script → List ℕ → Option (List ℕ) → Option (List ℕ) → Type 0
 GoesOn None old state new chunk held now = IsPartSaid old state new chunk [] held now
-GoesOn (Some end.Fault) old state new chunk held now = IsEnded old state chunk held now
-GoesOn (Some end.Memory) old state new chunk held now = IsCutSaid old state chunk held now
-GoesOn (Some end.WriteFault) old state new chunk held now = IsBroken old state chunk held now
-GoesOn (Some end.Whole) old state new chunk held now = ⊥
-GoesOn (Some end.ReadFault) old state new chunk held now = ⊥
+GoesOn (Some halt.Fault) old state new chunk held now = IsEnded old state chunk held now
+GoesOn (Some halt.Memory) old state new chunk held now = IsCutSaid old state chunk held now
+GoesOn (Some (halt.WriteBroke broke)) old state new chunk held now = IsBroken old state chunk held now
+GoesOn (Some halt.Whole) old state new chunk held now = ⊥
+GoesOn (Some (halt.ReadBroke broke)) old state new chunk held now = ⊥
 
 -- all of the input was answered and written
 pub record IsAllSaid (old : Script) (state : State) (input : List ℕ) (held now : Option (List ℕ)) (last : End) : Type 0 where
@@ -81,12 +93,12 @@ pub record IsBrokenOff (old : Script) (state : State) (input : List ℕ) (held n
   pub fronted : IsFronted old.number state (old.line.items ++ input) bytes
 
 -- what came of the rest of the input, and how it ended
-abbrev pub Concludes : End → Script → State → List ℕ → Option (List ℕ) → Option (List ℕ) → Type 0
-Concludes end.Whole old state input held now = IsAllSaid old state input held now end.Whole
-Concludes end.Fault old state input held now = IsAllSaid old state input held now end.Fault
-Concludes end.Memory old state input held now = IsCutSaid old state input held now
-Concludes end.WriteFault old state input held now = IsBrokenOff old state input held now
-Concludes end.ReadFault old state input held now = ⊥
+abbrev pub Concludes : Halt → Script → State → List ℕ → Option (List ℕ) → Option (List ℕ) → Type 0
+Concludes halt.Whole old state input held now = IsAllSaid old state input held now end.Whole
+Concludes halt.Fault old state input held now = IsAllSaid old state input held now end.Fault
+Concludes halt.Memory old state input held now = IsCutSaid old state input held now
+Concludes (halt.WriteBroke broke) old state input held now = IsBrokenOff old state input held now
+Concludes (halt.ReadBroke broke) old state input held now = ⊥
 
 -- what came of a part of the input, by what is known of the reader's bytes
 abbrev pub PartSaid : Option (List ℕ) → Option (List ℕ) → Script → State → Script → Option (List ℕ) → Option (List ℕ) → Type 0
@@ -95,14 +107,14 @@ PartSaid (Some input) None old state new held now = ⊥
 PartSaid (Some input) (Some rest) old state new held now = IsPartSaid old state new input rest held now
 
 -- the same of all that is left of it
-abbrev pub AllSaid : End → Option (List ℕ) → Script → State → Option (List ℕ) → Option (List ℕ) → Type 0
+abbrev pub AllSaid : Halt → Option (List ℕ) → Script → State → Option (List ℕ) → Option (List ℕ) → Type 0
 AllSaid last None old state held now = Unit {0}
 AllSaid last (Some input) old state held now = Concludes last old state input held now
 
 -- what came of a turn
-abbrev pub TurnsTo : Option End → Option (List ℕ) → Option (List ℕ) → Script → State → Script → Option (List ℕ) → Option (List ℕ) → Type 0
+abbrev pub TurnsTo : Option Halt → Option (List ℕ) → Option (List ℕ) → Script → State → Script → Option (List ℕ) → Option (List ℕ) → Type 0
 TurnsTo None before after old state new held now = PartSaid before after old state new held now
-TurnsTo (Some end.ReadFault) before after old state new held now = PartSaid before after old state new held now
+TurnsTo (Some (halt.ReadBroke broke)) before after old state new held now = PartSaid before after old state new held now
 TurnsTo (Some last) before after old state new held now = AllSaid last before old state held now
 
 -- what is written of a script and how it ends are what it says
@@ -131,6 +143,7 @@ pub record IsSaidSoFar (script : List ℕ) (left held now : Option (List ℕ)) :
   pub lines : AreLines whole
   pub open_line : IsOpen line
   pub short : length line ≤ most_bytes
+  pub soon : 1 ≤ length line → length (lines_of whole) + 1 ≤ most_lines
   pub out : List ℕ
   pub wrote : Appends held now out
   pub says : Says whole out end.Whole

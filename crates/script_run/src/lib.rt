@@ -1,7 +1,9 @@
 //! A script from a reader to a writer, line by line.
 #![tactic(auto)]
 
+mod calls;
 mod end;
+mod halt;
 mod line;
 mod run;
 mod script;

@@ -1,12 +1,13 @@
 //! A script from a reader to a writer.
-ghost use Rattle.std.specs.Prelude.{◌≡◌, ◌<◌, [], length, true, false, Some, IfSome, IsNone, IfOk};
-ghost use Rattle.std.specs.Io.KnownBytes.{Appends};
+ghost use Rattle.std.specs.Prelude.{◌≡◌, ◌+◌, ◌<◌, ◌≤◌, [], length, Some, IfSome, IsNone, IfOk};
 ghost use Rattle.script_bench.specs.State.{State};
 ghost use Rattle.script_bench.specs.Carrying.{Stands};
-ghost use Rattle.script_run.specs.Feeding.{IsScript};
-ghost use Rattle.script_run.specs.Turns.{Concludes, GoesOn, IsPartWritten, SaysBy, TurnsTo};
+ghost use Rattle.script_run.specs.Feeding.{IsScript, most_left};
+ghost use Rattle.script_run.specs.Turns.{Concludes, GoesOn, SaysBy, TurnsTo};
 
+use crate::calls::{read_some, write_out};
 use crate::end::End;
+use crate::halt::Halt;
 use crate::script::Script;
 use crate::stop::Stop;
 use std::alloc::{AllocError, Global};
@@ -30,7 +31,7 @@ pub fn run_script<R: Read, W: Write>(alloc: Global, reader: &mut R, writer: &mut
         return End::Memory
     };
     let mut script = Script::new(alloc, payload);
-    turns(alloc, reader, writer, &mut chunk, &mut script)
+    turns(alloc, reader, writer, &mut chunk, &mut script).end()
 }
 
 // Turn after turn, up to the end.
@@ -40,7 +41,7 @@ fn turns<R: Read, W: Write>(
     writer: &mut W,
     chunk: &mut [u8],
     script: &mut Script,
-) -> End
+) -> Halt
     requires room { 0 < length chunk.old }
     requires good { IsScript script.old }
     requires written { script.old.out.items ≡ [] }
@@ -48,12 +49,11 @@ fn turns<R: Read, W: Write>(
         TurnsTo (Some result) (R.remaining reader.old) (R.remaining reader.new) script.old state script.new
         (W.contents writer.old) (W.contents writer.new) }
 {
-    for _ in 0..u64::MAX {
-        if let Some(end) = turn(alloc, reader, writer, chunk, script) {
-            return end;
+    loop {
+        if let Some(halt) = turn(alloc, reader, writer, chunk, script) {
+            return halt;
         }
     }
-    End::ReadFault
 }
 
 // One read, the answers to the lines that end in it, and their write.
@@ -63,78 +63,66 @@ fn turn<R: Read, W: Write>(
     writer: &mut W,
     chunk: &mut [u8],
     script: &mut Script,
-) -> Option<End>
+) -> Option<Halt>
     requires room { 0 < length chunk.old }
     requires good { IsScript script.old }
     requires written { script.old.out.items ≡ [] }
     ensures stays { IsNone result → IsScript script.new }
     ensures written { IsNone result → script.new.out.items ≡ [] }
+    ensures fewer { IsNone result → most_left script.new < most_left script.old }
     ensures said { (state : State) → Stands script.old.bench state →
         TurnsTo result (R.remaining reader.old) (R.remaining reader.new) script.old state script.new
         (W.contents writer.old) (W.contents writer.new) }
 {
-    match reader.read(chunk) {
+    match read_some(reader, chunk) {
         Ok(0) => Some(close(alloc, writer, script)),
         Ok(count) => go_on(alloc, writer, script, &chunk[..count]),
-        Err(_) => Some(End::ReadFault),
+        Err(broke) => Some(Halt::ReadBroke(broke)),
     }
 }
 
 // The answers to the lines that end in a chunk.
-fn go_on<W: Write>(alloc: Global, writer: &mut W, script: &mut Script, chunk: &[u8]) -> Option<End>
+fn go_on<W: Write>(alloc: Global, writer: &mut W, script: &mut Script, chunk: &[u8]) -> Option<Halt>
     requires good { IsScript script.old }
     requires written { script.old.out.items ≡ [] }
     ensures stays { IsNone result → IsScript script.new }
     ensures written { IsNone result → script.new.out.items ≡ [] }
+    ensures fewer { IsNone result → most_left script.new + length chunk.now ≤ most_left script.old }
     ensures said { (state : State) → Stands script.old.bench state →
         GoesOn result script.old state script.new chunk.now (W.contents writer.old) (W.contents writer.new) }
 {
     let fed = script.feed(alloc, chunk);
-    if !write_out(writer, &script.out) {
-        return Some(End::WriteFault);
+    match write_out(writer, &script.out) {
+        Ok(()) => {}
+        Err(broke) => return Some(Halt::WriteBroke(broke)),
     }
     match fed {
         Ok(()) => {
             script.out.clear();
             None
         }
-        Err(Stop::Fault) => Some(End::Fault),
-        Err(Stop::Memory) => Some(End::Memory),
+        Err(Stop::Fault) => Some(Halt::Fault),
+        Err(Stop::Memory) => Some(Halt::Memory),
     }
 }
 
 // The answer to the last line.
-fn close<W: Write>(alloc: Global, writer: &mut W, script: &mut Script) -> End
+fn close<W: Write>(alloc: Global, writer: &mut W, script: &mut Script) -> Halt
     requires good { IsScript script.old }
     requires written { script.old.out.items ≡ [] }
     ensures { (state : State) → Stands script.old.bench state →
         Concludes result script.old state [] (W.contents writer.old) (W.contents writer.new) }
 {
     let finished = script.finish(alloc);
-    if !write_out(writer, &script.out) {
-        return End::WriteFault;
+    match write_out(writer, &script.out) {
+        Ok(()) => {}
+        Err(broke) => return Halt::WriteBroke(broke),
     }
     match finished {
-        Ok(()) => End::Whole,
-        Err(Stop::Fault) => End::Fault,
-        Err(Stop::Memory) => End::Memory,
+        Ok(()) => Halt::Whole,
+        Err(Stop::Fault) => Halt::Fault,
+        Err(Stop::Memory) => Halt::Memory,
     }
-}
-
-// Writes the bytes, and says whether they were taken. An error is not tried again, nor a write of no byte.
-fn write_out<W: Write>(writer: &mut W, bytes: &[u8]) -> bool
-    ensures whole { result ≡ true → Appends (W.contents writer.old) (W.contents writer.new) bytes.now }
-    ensures part { result ≡ false → IsPartWritten (W.contents writer.old) (W.contents writer.new) bytes.now }
-{
-    let mut rest = bytes;
-    while !rest.is_empty() {
-        match writer.write(rest) {
-            Ok(0) => return false,
-            Ok(count) => rest = &rest[count..],
-            Err(_) => return false,
-        }
-    }
-    true
 }
 
 // So many zeros.

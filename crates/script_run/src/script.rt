@@ -1,5 +1,5 @@
 //! A script that is fed in pieces.
-ghost use Rattle.std.specs.Prelude.{◌≡◌, ◌≤◌, [], ◌∷◌, ◌++◌, length, OnOk, IfSome, IfNone, None};
+ghost use Rattle.std.specs.Prelude.{◌≡◌, ◌+◌, ◌≤◌, [], ◌∷◌, ◌++◌, length, OnOk, IfSome, IfNone, None};
 ghost use Rattle.script_run.specs.Opens.{IsOpen};
 ghost use Rattle.script_bench.specs.State.{State};
 ghost use Rattle.script_bench.specs.Carrying.{Stands};
@@ -26,7 +26,7 @@ pub struct Script {
 }
 
 impl Script {
-    ghost use Rattle.script_run.specs.Feeding.{Answered, Closes, Faults, Feeds, IsScript};
+    ghost use Rattle.script_run.specs.Feeding.{Answered, Closes, Faults, Feeds, IsScript, most_left};
 
     /// A script of which nothing was read. The buffer is for payloads.
     pub fn new(alloc: Global, payload: Vec<u8>) -> Script
@@ -51,6 +51,7 @@ impl Script {
     pub fn feed(&mut self, alloc: Global, chunk: &[u8]) -> Result<(), Stop>
         requires { IsScript self.old }
         ensures keeps { OnOk result (IsScript self.new) }
+        ensures fewer { OnOk result (most_left self.new + length chunk.now ≤ most_left self.old) }
         ensures fed { (state : State) → Stands self.old.bench state → Feeds result self.old state self.new chunk.now }
     {
         let mut rest = chunk;
@@ -84,6 +85,7 @@ impl Script {
         requires good { IsScript self.old }
         requires part { IsOpen part.now }
         ensures keeps { OnOk result (IsScript self.new) }
+        ensures fewer { OnOk result (most_left self.new + length part.now ≤ most_left self.old) }
         ensures fed { (state : State) → Stands self.old.bench state → Feeds result self.old state self.new part.now }
     {
         if part.is_empty() {
@@ -119,6 +121,7 @@ impl Script {
     fn answer(&mut self, alloc: Global) -> Result<(), Stop>
         requires { IsScript self.old }
         ensures keeps { OnOk result (IsScript self.new) }
+        ensures fewer { OnOk result (most_left self.new + 1 ≤ most_left self.old) }
         ensures told { (state : State) → Stands self.old.bench state → Answered result self.old state self.new }
     {
         self.told.clear();

@@ -151,8 +151,8 @@ fn scripts_are_answered_line_by_line(rt: HostRuntime) -> Result<(), Fail> {
     for (script, answers, end) in cases {
         let mut out = Vec::new(rt.alloc());
         let mut reader = script.as_bytes();
-        assert_eq!(rt; run_script(rt.alloc(), &mut reader, &mut out), end);
-        assert_eq!(rt; out.as_slice(), answers.as_bytes());
+        assert!(rt; run_script(rt.alloc(), &mut reader, &mut out) == end);
+        assert!(rt; out.as_slice() == answers.as_bytes());
     }
     Ok(())
 }
@@ -170,11 +170,8 @@ fn a_broken_reader_leaves_the_answers_to_its_whole_lines(rt: HostRuntime) -> Res
         let mut reader = Breaking {
             bytes: FIRST.as_bytes().get(..count).ok_or("short")?,
         };
-        assert_eq!(rt;
-            run_script(rt.alloc(), &mut reader, &mut out),
-            End::ReadFault
-        );
-        assert_eq!(rt; out.as_slice(), answers.as_bytes());
+        assert!(rt; run_script(rt.alloc(), &mut reader, &mut out) == End::ReadFault);
+        assert!(rt; out.as_slice() == answers.as_bytes());
     }
     Ok(())
 }
@@ -189,14 +186,8 @@ fn a_full_writer_has_a_front_of_the_answers(rt: HostRuntime) -> Result<(), Fail>
                 fails,
             };
             let mut reader = FIRST.as_bytes();
-            assert_eq!(rt;
-                run_script(rt.alloc(), &mut reader, &mut writer),
-                End::WriteFault
-            );
-            assert_eq!(rt;
-                Some(writer.taken.as_slice()),
-                FIRST_ANSWERS.as_bytes().get(..room)
-            );
+            assert!(rt; run_script(rt.alloc(), &mut reader, &mut writer) == End::WriteFault);
+            assert!(rt; Some(writer.taken.as_slice()) == FIRST_ANSWERS.as_bytes().get(..room));
         }
     }
     Ok(())
@@ -211,8 +202,8 @@ fn a_reader_of_one_byte_a_call_is_read_to_its_end(rt: HostRuntime) -> Result<(),
     script.extend_from_slice(FIRST.as_bytes())?;
     let mut reader = Slow { bytes: &script };
     let mut out = Vec::new(rt.alloc());
-    assert_eq!(rt; run_script(rt.alloc(), &mut reader, &mut out), End::Whole);
-    assert_eq!(rt; out.as_slice(), FIRST_ANSWERS.as_bytes());
+    assert!(rt; run_script(rt.alloc(), &mut reader, &mut out) == End::Whole);
+    assert!(rt; out.as_slice() == FIRST_ANSWERS.as_bytes());
     Ok(())
 }
 
@@ -225,11 +216,8 @@ fn a_read_that_failed_is_not_tried_again(rt: HostRuntime) -> Result<(), Fail> {
             rest: FIRST.as_bytes().get(count..).ok_or("short")?,
         };
         let mut out = Vec::new(rt.alloc());
-        assert_eq!(rt;
-            run_script(rt.alloc(), &mut reader, &mut out),
-            End::ReadFault
-        );
-        assert_eq!(rt; out.as_slice(), answers.as_bytes());
+        assert!(rt; run_script(rt.alloc(), &mut reader, &mut out) == End::ReadFault);
+        assert!(rt; out.as_slice() == answers.as_bytes());
     }
     Ok(())
 }
@@ -244,14 +232,8 @@ fn a_write_that_failed_is_not_tried_again(rt: HostRuntime) -> Result<(), Fail> {
             balked: false,
         };
         let mut reader = FIRST.as_bytes();
-        assert_eq!(rt;
-            run_script(rt.alloc(), &mut reader, &mut writer),
-            End::WriteFault
-        );
-        assert_eq!(rt;
-            Some(writer.taken.as_slice()),
-            FIRST_ANSWERS.as_bytes().get(..room)
-        );
+        assert!(rt; run_script(rt.alloc(), &mut reader, &mut writer) == End::WriteFault);
+        assert!(rt; Some(writer.taken.as_slice()) == FIRST_ANSWERS.as_bytes().get(..room));
     }
     Ok(())
 }
@@ -265,6 +247,6 @@ fn each_end_has_its_status(rt: HostRuntime) {
         (End::ReadFault, 5),
         (End::WriteFault, 5),
     ] {
-        assert_eq!(rt; end.status(), status);
+        assert!(rt; end.status() == status);
     }
 }

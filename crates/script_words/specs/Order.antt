@@ -30,6 +30,7 @@ pub data Order : Type 0 where
   Show : ℕ → Order
   Map : Order
   Log : Order
+  Lose : ℕ → Order
 
 -- a number, and what it stands for
 pub record Number : Type 0 where
@@ -62,6 +63,9 @@ slot n = record { kind = kind.Slot; value = n }
 abbrev pub block : ℕ → Number
 block n = record { kind = kind.Block; value = n }
 
+abbrev pub drive : ℕ → Number
+drive n = record { kind = kind.Drive; value = n }
+
 abbrev pub table : ℕ → Number
 table n = record { kind = kind.Map; value = n }
 
@@ -86,6 +90,7 @@ word_of verb.Same = codes "same"
 word_of verb.Show = codes "show"
 word_of verb.Map = codes "map"
 word_of verb.Log = codes "log"
+word_of verb.Lose = codes "lose"
 
 -- how each command is written: a row of the table
 abbrev pub shape : Order → Shape
@@ -106,6 +111,7 @@ shape (Same left right) = form verb.Same (table left ∷ table right ∷ []) Not
 shape (Show m) = form verb.Show (table m ∷ []) Nothing
 shape Map = form verb.Map [] Nothing
 shape Log = form verb.Log [] Nothing
+shape (Lose d) = form verb.Lose (drive d ∷ []) Nothing
 
 -- what a command asks for, its numbers, and what stands behind them
 abbrev pub verb_of : Order → Verb
@@ -138,6 +144,7 @@ ordered verb.Same n r payload level members = Same (n 0) (n 1)
 ordered verb.Show n r payload level members = Show (n 0)
 ordered verb.Map n r payload level members = Map
 ordered verb.Log n r payload level members = Log
+ordered verb.Lose n r payload level members = Lose (n 0)
 
 -- a command of the program, with the payload that stands in the buffer
 abbrev pub order_of : Command → List ℕ → Order

@@ -21,6 +21,7 @@ pub enum Verb {
     Show,
     Map,
     Log,
+    Lose,
 }
 
 /// What a number of a command stands for.
@@ -57,7 +58,7 @@ pub struct Row {
 }
 
 /// Every verb, the most frequent ones first.
-const VERBS: [Verb; 16] = [
+const VERBS: [Verb; 17] = [
     Verb::Claim,
     Verb::Fill,
     Verb::Commit,
@@ -73,6 +74,7 @@ const VERBS: [Verb; 16] = [
     Verb::Map,
     Verb::Log,
     Verb::Make,
+    Verb::Lose,
     Verb::Array,
 ];
 
@@ -163,6 +165,11 @@ impl Verb {
             Verb::Log => Row {
                 word: b"log",
                 kinds: &[],
+                tail: Tail::Nothing,
+            },
+            Verb::Lose => Row {
+                word: b"lose",
+                kinds: &[Kind::Drive],
                 tail: Tail::Nothing,
             },
         }

@@ -1,5 +1,5 @@
 -- A new world, of drives in memory that are all there.
-use Rattle.std.proofs.Common.{◌≡◌, ℕ, zero, suc, nat_le, Bool, true, false, List, [], ◌∷◌, length, map, refl, sym, ap, ◌∙◌, subst, arith, Some, None}
+use Rattle.std.proofs.Common.{◌≡◌, ℕ, zero, suc, nat_le, true, false, List, [], ◌∷◌, length, map, refl, sym, ap, ◌∙◌, subst, arith, Some}
 use Rattle.std.specs.Prelude.{slice_get}
 use Rattle.std.proofs.lemmas.Bool.Decides.{nat_tests}
 use Rattle.std.proofs.lemmas.List.{length-map}
@@ -8,7 +8,7 @@ use Rattle.extents.specs.declared.mem_drive.Condition.TheVariants.{Present}
 use Rattle.extent_groups.specs.Missing.{is_missing}
 use Rattle.flat_machine.specs.Flat.{Flat, new_flat}
 use Rattle.array_parts.specs.Losses.{failures_at}
-use Rattle.array_parts.specs.Views.{DriveView, PartsView, drive_lost, drive_failures, lost_of, failed_of}
+use Rattle.array_parts.specs.Views.{drive_lost, drive_failures, lost_of, failed_of}
 use Rattle.array_model.specs.declared.hand.Hand.{Hand}
 use Rattle.array_model.specs.declared.hand.Hand.TheVariants.{Empty}
 use Rattle.array_model.specs.Views.{ArrayView, hand_at}
@@ -39,15 +39,10 @@ none_failed [] d there = refl
 none_failed (m ∷ ds) zero there = ap failures_of (there 0 m refl)
 none_failed (m ∷ ds) (suc d) there = none_failed ds d (λ e x at. there (suc e) x at)
 
--- so a world of a new array and empty hands stands for a new state
-pub new_world : (a : ArrayView) (hands : List Hand) (ds : List Held) (count : ℕ) → length ds ≡ count → a.parts.drives ≡ map held_view ds → ArePresent ds
-    → ((s : ℕ) → hand_at hands s ≡ Empty) → ShowsArray a (new_flat a.parts.groups (length a.parts.drives) (lost_of a.parts) (failed_of a.parts))
-    → Represents (record { array = a; hands = hands }) (new_flat a.parts.groups count (nat_le count) (λ _. 0))
-new_world a hands ds count counted drives there empty shows = record {
-  array = subst (λ (F : Flat). ShowsArray a F) (λ i. new_flat a.parts.groups (many i) (lost i) (failures i)) shows;
-  held = record { once = λ s j k hj hk. absurd (cc); inside = λ s k h. absurd (cc) };
-  hands = λ s. subst (λ h. HandSlot h (λ _. false)) (sym (empty s)) (record { claims = λ w. refl; tickets = λ w. refl });
-}
+-- so an array of such drives stands for a new state of which none is lost
+pub none_lost : (a : ArrayView) (ds : List Held) (count : ℕ) → length ds ≡ count → a.parts.drives ≡ map held_view ds → ArePresent ds
+    → ShowsArray a (new_flat a.parts.groups (length a.parts.drives) (lost_of a.parts) (failed_of a.parts)) → ShowsArray a (new_flat a.parts.groups count (nat_le count) (λ _. 0))
+none_lost a ds count counted drives there shows = subst (λ (F : Flat). ShowsArray a F) (λ i. new_flat a.parts.groups (many i) (lost i) (failures i)) shows
   where
     many : length a.parts.drives ≡ count
     many = ap length drives ∙ length-map ds held_view ∙ counted
@@ -63,3 +58,12 @@ new_world a hands ds count counted drives there empty shows = record {
       where
         failed_at : (d : ℕ) → failed_of a.parts d ≡ 0
         failed_at d = ap (λ xs. failures_at drive_failures (slice_get xs d)) drives ∙ none_failed ds d there
+
+-- and so does a world with empty hands
+pub new_world : (a : ArrayView) (hands : List Hand) (count : ℕ) → ((s : ℕ) → hand_at hands s ≡ Empty)
+    → ShowsArray a (new_flat a.parts.groups count (nat_le count) (λ _. 0)) → Represents (record { array = a; hands = hands }) (new_flat a.parts.groups count (nat_le count) (λ _. 0))
+new_world a hands count empty shows = record {
+  array = shows;
+  held = record { once = λ s j k hj hk. absurd (cc); inside = λ s k h. absurd (cc) };
+  hands = λ s. subst (λ h. HandSlot h (λ _. false)) (sym (empty s)) (record { claims = λ w. refl; tickets = λ w. refl });
+}

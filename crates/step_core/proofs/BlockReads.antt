@@ -1,10 +1,9 @@
 -- What is read of the drives is the flat machine's.
-use Rattle.std.proofs.Common.{◌≡◌, ◌≤◌, ℕ, refl, sym, ap, ◌∙◌, subst, inl, inr, Option, Some, None, Vec}
+use Rattle.std.proofs.Common.{◌≡◌, ℕ, refl, sym, ◌∙◌, subst, inl, inr, Option, Some, None, Vec}
 use Rattle.std.proofs.lemmas.Option.{same_Some}
 use Rattle.std.specs.Global.{Global}
 use Rattle.map_join.specs.declared.records.Record.{Record}
-use Rattle.map_join.specs.Record.{key_of, record_at}
-use Rattle.array_parts.specs.Views.{PartsView, WasRead}
+use Rattle.map_join.specs.Record.{record_at}
 use Rattle.flat_machine.specs.declared.refusal.Refusal.{Refusal}
 use Rattle.flat_machine.specs.Flat.{Flat, Payload, IsNewest, last_write}
 use Rattle.flat_machine.specs.Steps.{Read, Found, Refused}

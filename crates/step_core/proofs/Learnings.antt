@@ -1,11 +1,11 @@
 -- What is learned of a record that may be stale is the flat machine's.
-use Rattle.std.proofs.Common.{◌≡◌, ◌≤◌, ℕ, refl, sym, ap, ◌∙◌, subst, inl, inr, Option, Some, None, List}
+use Rattle.std.proofs.Common.{◌≡◌, ◌≤◌, ℕ, refl, sym, ap, ◌∙◌, subst, inl, inr, Option, Some, List}
 use Rattle.map_join.specs.declared.records.Record.{Record}
 use Rattle.map_join.specs.Record.{key_of, record_at}
 use Rattle.array_parts.specs.Views.{Loses, WasRead, FoundGone}
 use Rattle.flat_machine.specs.declared.refusal.Refusal.{Refusal}
 use Rattle.flat_machine.specs.declared.refusal.Refusal.TheVariants.{Ahead}
-use Rattle.flat_machine.specs.Flat.{Flat, Write, Payload, last_write}
+use Rattle.flat_machine.specs.Flat.{Flat, Payload, last_write}
 use Rattle.flat_machine.specs.Steps.{Seen, Data, Stale}
 use Rattle.flat_machine.specs.Cases.{IsAhead, IsBehind}
 use Rattle.flat_machine.specs.Learning.{LearnedCase, UnlearnedCase}

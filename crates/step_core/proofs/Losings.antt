@@ -1,11 +1,11 @@
 -- Drives in memory: new ones, and what a loss or a fuse leaves of an array's.
-use Rattle.std.proofs.Common.{◌≡◌, ℕ, zero, suc, ◌*◌, ◌<◌, ◌≤◌, nat_le, Bool, true, false, List, [], ◌∷◌, ◌++◌, length, map, refl, sym, ap, ◌∙◌, subst, arith, ◌⊎◌, inl, inr, Option, Some, None, get_or}
-use Rattle.std.specs.Prelude.{slice_get, slice_set, replicate}
+use Rattle.std.proofs.Common.{◌≡◌, ℕ, zero, suc, ◌*◌, ◌<◌, true, List, [], ◌∷◌, ◌++◌, length, map, refl, sym, ap, ◌∙◌, subst, Some}
+use Rattle.std.specs.Prelude.{slice_get, slice_set}
 use Rattle.std.specs.Option.{option_map}
 use Rattle.std.proofs.Math.Seq.{map-set_same}
-use Rattle.std.proofs.lemmas.List.{map-set, length-map, length-set}
+use Rattle.std.proofs.lemmas.List.{map-set, length-set}
 use Rattle.std.proofs.lemmas.Option.{slice_get-get_or, slice_get-map, get_or_from_slice_get, same_Some, none-some}
-use Rattle.extents.specs.Condition.{Held, is_gone, failures_of, after_loss, after_fuse}
+use Rattle.extents.specs.Condition.{Held, after_loss, after_fuse}
 use Rattle.extents.specs.declared.mem_drive.Condition.{Condition}
 use Rattle.extents.specs.declared.mem_drive.Condition.TheVariants.{Present, Fused, Lost, Burnt}
 use Rattle.extents.specs.Units.{zero_units}
@@ -67,7 +67,7 @@ lost_drives a b d x inside set at =
     let m = drive_at a d inside in
     let same : held_view m.0 ≡ x = same_Some (held_view m.0) x (sym (slice_get-map held_view a d ∙ ap (option_map held_view) m.1) ∙ at) in
     ap (map held_view) (set m.0 m.1) ∙ map-set held_view a d (record (m.0) { condition = after_loss m.0.condition })
-        ∙ ap (slice_set (map held_view a) d) (loss_view m.0.units m.0.condition ∙ ap (λ (v : DriveView). record v { lost = true }) same)
+    ∙ ap (slice_set (map held_view a) d) (loss_view m.0.units m.0.condition ∙ ap (λ (v : DriveView). record v { lost = true }) same)
 
 pub was_lost : (a b : Parts Held) (v : PartsView) (drive : ℕ) → held_parts a ≡ v → drive < length v.drives → IsSetTo after_loss a.drives.items b.drives.items drive
     → ((d : ℕ) → missing_in held_lost b d ≡ put (missing_in held_lost a) drive true d)
@@ -98,7 +98,7 @@ was_lost a b v drive seen below set missing failures keeps sound tables = record
         let m = drive_at a.drives.items drive inside in
         let y : Held = record (m.0) { condition = after_loss m.0.condition } in
         view_length held_units held_lost held_failures b ∙ ap length (set m.0 m.1) ∙ length-set a.drives.items drive y
-            ∙ sym (view_length held_units held_lost held_failures a)
+        ∙ sym (view_length held_units held_lost held_failures a)
 
 -- a fuse changes nothing that is seen
 pub was_fused : (a b : Parts Held) (v : PartsView) (drive calls : ℕ) → held_parts a ≡ v → drive < length v.drives → IsSetTo (λ c. after_fuse c calls) a.drives.items b.drives.items drive
@@ -109,8 +109,8 @@ was_fused a b v drive calls seen below set tables = λ i. record { groups = tabl
     same =
         let m = drive_at a.drives.items drive (drive_below a v drive seen below) in
         ap (map held_view) (set m.0 m.1)
-            ∙ map-set_same held_view a.drives.items drive (record (m.0) { condition = after_fuse m.0.condition calls }) m.0
-                (fuse_view m.0.units m.0.condition calls ∙ ap held_view (sym (get_or_from_slice_get a.drives.items drive m.0 m.0 m.1)))
+        ∙ map-set_same held_view a.drives.items drive (record (m.0) { condition = after_fuse m.0.condition calls }) m.0
+        (fuse_view m.0.units m.0.condition calls ∙ ap held_view (sym (get_or_from_slice_get a.drives.items drive m.0 m.0 m.1)))
 
 -- a new drive of so many units
 abbrev pub new_drive : ℕ → ℕ → Held

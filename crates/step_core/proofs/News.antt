@@ -1,11 +1,10 @@
 -- What an array is put together of, and that nothing has happened to it.
-use Rattle.std.proofs.Common.{◌≡◌, ℕ, ◌*◌, ◌+◌, ◌<◌, ◌≤◌, Bool, List, [], length, map, get_or, sym, ap, ◌∙◌, subst, Vec}
+use Rattle.std.proofs.Common.{◌≡◌, ℕ, ◌*◌, ◌+◌, ◌≤◌, Bool, List, [], length, map, get_or, sym, ap, ◌∙◌, subst, Vec}
 use Rattle.std.proofs.Math.ListN.{get_or-map}
 use Rattle.std.proofs.lemmas.List.{length-map, length-replicate}
 use Rattle.std.specs.Global.{Global}
 use Rattle.map_join.specs.declared.records.Record.{Record}
 use Rattle.extents.specs.Owners.{Owners}
-use Rattle.extents.specs.Shapes.{IsShapeOf}
 use Rattle.extents.specs.Sizes.{extent_units}
 use Rattle.extents.specs.declared.shape.Shape.{Shape}
 use Rattle.extents.specs.declared.shape.TheConstants.{HEADER_BYTES}

@@ -1,5 +1,5 @@
 -- What an array keeps by itself, with other drives.
-use Rattle.std.proofs.Common.{◌≡◌, ℕ, ◌*◌, Bool, ap, ◌⊎◌, inl, inr, List, length, sym, subst, ◌∙◌, Vec, Result, Ok, Err, IfOk, IfErr}
+use Rattle.std.proofs.Common.{◌≡◌, ℕ, ◌*◌, Bool, ap, inl, inr, List, length, sym, subst, ◌∙◌, Vec, Result, Ok, Err, IfOk, IfErr}
 use Rattle.std.specs.Global.{Global}
 use Rattle.std.specs.List.{length_refill}
 use Rattle.std.specs.Vec.{with_items}

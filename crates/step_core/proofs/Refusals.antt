@@ -1,5 +1,5 @@
 -- What a world's step tells, whether its array carried it out or refused it.
-use Rattle.std.proofs.Common.{◌≡◌, ◌≢◌, ℕ, List, refl, sym, ap, ◌∙◌, subst, ◌⊎◌, inl, inr, Option, Some, None, Vec, Result, Ok, Err, IfOk, OnErr}
+use Rattle.std.proofs.Common.{◌≡◌, ◌≢◌, ℕ, List, refl, sym, ap, ◌∙◌, subst, inl, inr, Option, Some, None, Vec, Result, Ok, Err, IfOk, OnErr}
 use Rattle.std.specs.Global.{Global}
 use Rattle.std.specs.declared.alloc.AllocError.{AllocError}
 use Rattle.map_join.specs.declared.records.Record.{Record}
@@ -16,7 +16,7 @@ use Rattle.flat_machine.specs.History.{IsStep}
 use Rattle.array_model.specs.Changes.{MayRefuse}
 use Rattle.array_model.specs.Reads.{WasNotRead, WasSeen}
 use Rattle.array_model.specs.Represents.{ShowsArray, Represents}
-use Rattle.array_model.specs.Views.{ArrayView, WorldView, SameSizes, with_parts}
+use Rattle.array_model.specs.Views.{ArrayView, WorldView, SameSizes}
 use Rattle.array_model.proofs.Hands.{as_world}
 use Rattle.step_core.specs.declared.step.Answer.{Answer}
 use Rattle.step_core.specs.declared.step.Answer.TheVariants as answer

@@ -1,5 +1,5 @@
 -- Runs that grow by a step, and what stands of every state that is represented.
-use Rattle.std.proofs.Common.{◌≡◌, ℕ, zero, suc, ◌+◌, ◌<◌, ◌≤◌, List, [], ◌∷◌, ◌++◌, length, take, get_or, map, All, refl, sym, ap, ◌∙◌, subst, arith, Result, Ok, Err, OnErr}
+use Rattle.std.proofs.Common.{◌≡◌, ℕ, zero, suc, ◌+◌, ◌<◌, ◌≤◌, List, [], ◌∷◌, ◌++◌, length, take, get_or, map, All, refl, sym, ap, ◌∙◌, subst, arith}
 use Rattle.std.proofs.lemmas.List.{map_more, map-append}
 use Rattle.std.proofs.lemmas.List.Elements.{All-get_or}
 use Rattle.step_core.specs.declared.step.Step.{Step}
@@ -9,10 +9,7 @@ use Rattle.step_core.specs.Told.{flat_step, flat_answer, FitsStep}
 use Rattle.flat_machine.specs.Steps.{FlatStep, FlatAnswer}
 use Rattle.flat_machine.specs.Cases.{Case, Runs}
 use Rattle.flat_machine.specs.Flat.{Flat}
-use Rattle.flat_machine.proofs.Newest.{map_unique}
-use Rattle.array_model.specs.Views.{ArrayView, WorldView, SameSizes, key_at}
-use Rattle.array_model.specs.Represents.{Represents}
-use Rattle.step_core.specs.Headline.{Stands}
+use Rattle.array_model.specs.Views.{ArrayView, SameSizes}
 
 -- a run that goes one step further
 pub run_more : (F M G : Flat) (steps : List FlatStep) (answers : List FlatAnswer) (step : FlatStep) (answer : FlatAnswer)
@@ -57,11 +54,6 @@ runs_step F M G steps answers next i step answer inside is grown run case =
     in
     let told : map flat_answer next ≡ map flat_answer answers ++ flat_answer answer ∷ [] = ap (map flat_answer) grown ∙ map-append flat_answer answers (answer ∷ []) in
     rw (more, told) (run_more F M G (map flat_step (take i steps)) (map flat_answer answers) (flat_step step) (flat_answer answer) run case)
-
--- what an error says, said otherwise
-pub on_err : {A E : Type 0} {P Q : Type 0} (r : Result A E) → OnErr r P → (P → Q) → OnErr r Q
-on_err (Ok x) y f = y
-on_err (Err e) p f = f p
 
 -- all of a list
 pub take_past : {X : Type 0} (xs : List X) (i : ℕ) → length xs ≤ i → take i xs ≡ xs

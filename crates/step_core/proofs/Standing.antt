@@ -8,11 +8,11 @@ use Rattle.extents.specs.declared.header.Header.{Header}
 use Rattle.extents.specs.declared.header.Header.TheVariants.{Blank, Is}
 use Rattle.extents.specs.Header.{record_in, Spells}
 use Rattle.extent_groups.specs.Geometry.{slot_count}
-use Rattle.extent_groups.specs.Groups.{Group, Groups, group_at}
+use Rattle.extent_groups.specs.Groups.{Group, group_at}
 use Rattle.extent_groups.specs.Units.{Site, site_in, site_of_index, site_of}
 use Rattle.extent_groups.proofs.LayoutLaw.{layout_law}
 use Rattle.extent_groups.proofs.Missing.{gone_law, never_gone}
-use Rattle.array_parts.specs.Views.{PartsView, drive_units, drive_lost, IsLost, lost_of}
+use Rattle.array_parts.specs.Views.{drive_units, drive_lost, IsLost, lost_of}
 use Rattle.array_parts.proofs.Shows.{shown_header}
 use Rattle.flat_machine.specs.Flat.{Flat, Write, Stored, content_in, last_write}
 use Rattle.flat_machine.specs.Groups.{class_below, class_at}

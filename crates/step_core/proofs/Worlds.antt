@@ -6,6 +6,7 @@ use Rattle.std.proofs.lemmas.Bool.{cases_eq}
 use Rattle.std.proofs.lemmas.Option.{same_Some}
 use Rattle.map_join.specs.declared.records.Record.{Record}
 use Rattle.map_join.specs.Record.{record_at, IsRecord}
+use Rattle.extent_groups.specs.Groups.{Groups}
 use Rattle.extent_groups.specs.declared.class.Class.{Class}
 use Rattle.extent_groups.specs.declared.class.Member.{Member}
 use Rattle.flat_machine.specs.Flat.{Flat, Write, Content, Worker, Ticket, Waiting, Fresh, Moved, IsNewest, turned, put}
@@ -29,6 +30,10 @@ use Rattle.array_model.proofs.Slots.{worker_hand, ticket_hand, block_hand, one_s
 use Rattle.flat_machine.proofs.Holding.{step_holds, once_any}
 use Rattle.flat_machine.specs.History.{IsStep}
 use Rattle.step_core.specs.Losing.{WasLost}
+
+-- a block of the array is one of the state's
+pub block_there : (v : WorldView) (F : Flat) (b : ℕ) → Represents v F → b < v.array.parts.groups.blocks → b < F.groups.blocks
+block_there v F b rep inside = subst (λ (z : Groups). b < z.blocks) (sym rep.array.tables.groups) inside
 
 -- the hands of a state that another left
 hands_as : (hs : List Hand) (G E : Flat) → Leaves E G → ((t : ℕ) → HandSlot (hand_at hs t) (E.held t)) → (t : ℕ) → HandSlot (hand_at hs t) (G.held t)

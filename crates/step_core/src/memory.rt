@@ -1,28 +1,27 @@
 // Arrays of drives in memory.
-ghost use Rattle.std.specs.Prelude.{◌≡◌, ℕ, ◌+◌, ◌*◌, ◌<◌, ◌≤◌, length, true, slice_get, Some, IfOk};
+ghost use Rattle.std.specs.Prelude.{◌≡◌, ℕ, ◌+◌, ◌*◌, ◌<◌, ◌≤◌, length, nat_le, slice_get, Some, IfOk, IfErr};
 ghost use Rattle.extents.specs.Condition.{Held};
+ghost use Rattle.extents.specs.Shapes.{IsShapeOf};
 ghost use Rattle.extents.specs.Sizes.{extent_units};
 ghost use Rattle.extents.specs.declared.mem_drive.Condition.TheVariants.{Present};
 ghost use Rattle.extents.specs.declared.shape.TheConstants.{HEADER_BYTES};
 ghost use Rattle.extent_groups.specs.Calls.{AreSized};
-ghost use Rattle.flat_machine.specs.Flat.{Flat, put};
+ghost use Rattle.flat_machine.specs.Flat.{new_flat};
+ghost use Rattle.flat_machine.specs.Groups.{IsEmpty};
 ghost use Rattle.array_parts.specs.Fit.{HaveUnits};
 ghost use Rattle.array_parts.specs.Memory.{held_units};
-ghost use Rattle.array_parts.specs.Views.{SameTables, lost_of, failed_of, Shows};
+ghost use Rattle.array_model.specs.Represents.{ShowsArray};
 ghost use Rattle.array_model.specs.Views.{with_parts};
 ghost use Rattle.step_core.specs.Losing.{WasLost};
 
 use crate::array::Array;
 use crate::hold::Hold;
 use extents::{MemDrive, Shape};
+use flat_machine::Refusal;
 use std::alloc::{AllocError, Global};
 
 // Drives of a shape, all of whose units are zero.
-pub(crate) fn new_drives(
-    alloc: Global,
-    shape: &Shape,
-    count: u8,
-) -> Result<Vec<MemDrive>, AllocError>
+fn new_drives(alloc: Global, shape: &Shape, count: u8) -> Result<Vec<MemDrive>, AllocError>
     ensures count { IfOk result (λ drives. length drives.items ≡ count) }
     ensures units { IfOk result (λ drives. HaveUnits held_units drives.items (shape.now.extents * extent_units shape.now.segments)) }
     ensures sized { IfOk result (λ drives. AreSized held_units (HEADER_BYTES + shape.now.payload) drives.items) }
@@ -36,6 +35,23 @@ pub(crate) fn new_drives(
 }
 
 impl<C: Hold> Array<MemDrive, C> {
+    /// A new array of drives in memory, all of whose units are zero. There are 3 to 16 drives.
+    pub fn in_memory(alloc: Global, shape: Shape, drives: u8) -> Result<Array<MemDrive, C>, Refusal>
+        requires { (3 ≤ drives) × (drives ≤ 16) }
+        ensures sizes { IfOk result (λ array. IsShapeOf shape array.parts.groups.extents array.parts.groups.segments array.parts.groups.payload array.parts.groups.blocks) }
+        ensures empty { IfOk result (λ array. IsEmpty array.parts.groups) }
+        ensures ok { IfOk result (λ array. ShowsArray array (new_flat array.parts.groups drives (nat_le drives) (λ _. 0))) }
+        ensures err { IfErr result (λ refusal. refusal ≡ Refusal.Memory) }
+    {
+        let Ok(units) = new_drives(alloc, &shape, drives) else {
+            return Err(Refusal::Memory);
+        };
+        match Array::new(alloc, shape, units) {
+            Ok(array) => Ok(array),
+            Err((refusal, _drives)) => Err(refusal),
+        }
+    }
+
     /// Loses a drive from outside.
     pub fn lose(&mut self, drive: u8)
         requires { drive < length self.old.parts.drives }

@@ -33,11 +33,7 @@ pub enum At {
 impl<D: Drive, C: Hold> Array<D, C> {
     /// The version and the payload of a block's last acknowledged write. Refused as gone with the slot of
     /// its newest record, where that can't be had.
-    pub fn read(
-        &mut self,
-        alloc: Global,
-        block: u32,
-    ) -> Result<Option<(u32, Vec<u8>)>, Refusal>
+    pub fn read(&mut self, alloc: Global, block: u32) -> Result<Option<(u32, Vec<u8>)>, Refusal>
         requires { block < self.old.parts.groups.blocks }
         ensures ok { IfOk result (WasFound self.old self.new block) }
         ensures err { IfErr result (WasNotFound self.old self.new block) }

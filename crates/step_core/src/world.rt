@@ -13,7 +13,6 @@ ghost use Rattle.step_core.specs.Told.{flat_answer};
 
 use crate::array::Array;
 use crate::hold::{Plain, Ticket};
-use crate::memory::new_drives;
 use crate::step::Answer;
 use crate::tables::SLOTS;
 use array_model::Hand;
@@ -50,12 +49,7 @@ impl World {
         ensures sizes { IfOk result (λ world. IsShapeOf shape world.array.parts.groups.extents world.array.parts.groups.segments world.array.parts.groups.payload world.array.parts.groups.blocks) }
         ensures err { IfErr result (λ refusal. refusal ≡ Refusal.Memory) }
     {
-        let Ok(units) = new_drives(alloc, &shape, drives) else {
-            return Err(Refusal::Memory);
-        };
-        let Ok(array) = Array::new(alloc, shape, units) else {
-            return Err(Refusal::Memory);
-        };
+        let array = Array::in_memory(alloc, shape, drives)?;
         match empty_hands(alloc, SLOTS) {
             Ok(hands) => Ok(World { array, hands }),
             Err(_) => Err(Refusal::Memory),

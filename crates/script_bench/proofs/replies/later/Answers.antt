@@ -7,7 +7,7 @@ use Rattle.script_bench.proofs.replies.later.Goals as goal
 
 pub returns-in-Ok-None : goal.returns-in-Ok-None
 returns-in-Ok-None c P stands =
-    let groups = stands.world.array.tables.groups ∙ ap (λ (a : ArrayView). a.groups) (sym c.array.ensures) in
+    let groups = stands.world.array.tables.groups ∙ ap (λ (a : ArrayView). a.parts.groups) (sym c.array.ensures) in
     let size = ap (λ (z : Groups). z.payload) groups ∙ sym c.shape-shape.ensures.of_payload in
     let room : c.shape-shape.result.payload ≤ length c.args.payload.now = omega arith in
     unsaid P _ c.args.line.now c.args.out.now.items
@@ -16,7 +16,7 @@ returns-in-Ok-None c P stands =
 
 pub returns-in-Ok : goal.returns-in-Ok
 returns-in-Ok c P stands =
-    let groups = stands.world.array.tables.groups ∙ ap (λ (a : ArrayView). a.groups) (sym c.array.ensures) in
+    let groups = stands.world.array.tables.groups ∙ ap (λ (a : ArrayView). a.parts.groups) (sym c.array.ensures) in
     let size = ap (λ (z : Groups). z.payload) groups ∙ sym c.shape-shape.ensures.of_payload in
     let room : c.shape-shape.result.payload ≤ length c.args.payload.now = omega arith in
     let bytes = c.command_of.new.payload in
@@ -24,3 +24,6 @@ returns-in-Ok c P stands =
     (buffer_size P c.shape-shape.result.payload c.args.payload.now size room)
     (ap (λ (z : Groups). z.blocks) groups ∙ sym c.shape-shape.ensures.of_blocks)
     (rw c.in-Ok-Some.field-0-is at c.in-Ok-Some.ensures) (search rules) ((c.if-not-is_in_range.ensures bytes).0 refl) (c.in-Ok.ensures P stands)
+
+pub returns-in-Array : goal.returns-in-Array
+returns-in-Array c = search rules

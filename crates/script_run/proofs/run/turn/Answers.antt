@@ -1,3 +1,4 @@
+use Rattle.std.proofs.Common.{rules}
 use Rattle.script_run.proofs.Ends.{part_none, turn_on}
 use Rattle.script_run.proofs.run.turn.Goals as goal
 
@@ -7,4 +8,7 @@ returns-in-Ok-clause-said g c state stands =
 
 pub returns-in-Err-clause-said : goal.returns-in-Err-clause-said
 returns-in-Err-clause-said g c state stands =
-    part_none _ _ c.args.script.now state _ c.in-Err.ensures.bytes c.requires.good.open_line c.requires.good.short stands
+    part_none _ _ c.args.script.now state _ c.in-Err.ensures.bytes c.requires.good stands
+
+pub returns-in-Err-clause-fewer : goal.returns-in-Err-clause-fewer
+returns-in-Err-clause-fewer g c = search rules

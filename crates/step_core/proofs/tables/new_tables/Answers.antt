@@ -1,4 +1,4 @@
-use Rattle.std.proofs.Common.{◌∙◌, ap, sym, subst, length, rules}
+use Rattle.std.proofs.Common.{sym, subst, rules}
 use Rattle.extent_groups.specs.Groups.{Agree}
 use Rattle.step_core.proofs.tables.new_tables.Goals as goal
 

@@ -24,3 +24,6 @@ returns-in-Ok-extend_from_slice-2-clause-told c state stands =
     wrong_behind old.number state old.line.items c.clear.new.self.items c.answer_line-told.new.out.items old.out.items
     c.extend_from_slice-in-Err-Fault.new.self.items comes c.clear.ensures.items
     (c.in-Ok-extend_from_slice-2.ensures.items ∙ ap (λ xs. old.out.items ++ xs) c.deref-in-Err-Fault.ensures.value)
+
+pub returns-in-Err-Memory-clause-told : goal.returns-in-Err-Memory-clause-told
+returns-in-Err-Memory-clause-told c = search rules

@@ -12,7 +12,6 @@ use Rattle.array_model.specs.Changes.{commit_view, commit_record, commit_reason}
 use Rattle.array_model.specs.Represents.{ShowsArray}
 use Rattle.array_model.specs.Views.{ArrayView, IsWhole, Nothing, is_waiting, kept_at, key_at, with_parts}
 use Rattle.array_model.proofs.Fills.{as_whole, as_shown}
-use Rattle.array_model.proofs.Wholes.{whole_parts}
 use Rattle.array_model.proofs.Commits.{commit_whole, old_found, passed_apart}
 use Rattle.array_model.proofs.Committing.{commit_case, commit_gone, commit_refused, commit_slot, commit_waits, commit_wants, commit_ok}
 use Rattle.step_core.specs.Inside.{seen}
@@ -51,7 +50,7 @@ invariant_of-self-in-Err-carry g c =
       as_whole _ _ (ap (λ l. record now { parts = b; log = l }) c.reserve.ensures.items) (still_whole d.units d.lost d.failures c.self.inside c.carry.new.self same c.carry.ensures.fit c.self.invariant.0),
       c.self.invariant.1,
       (let ready = still_ready d.units d.lost d.failures c.self.inside c.carry.new.self c.carry.new.unit c.carry.new.scratch same c.carry.ensures.fit c.self.invariant.2 in
-      record { fit = ready.fit; unit = ready.unit; scratch = ready.scratch }),
+          record { fit = ready.fit; unit = ready.unit; scratch = ready.scratch }),
     )
 
 pub returns-in-Err-carry-clause-flat : goal.returns-in-Err-carry-clause-flat
@@ -112,7 +111,7 @@ invariant_of-self-2 g c =
           (commit_ok old c.slot-slot.result c.args.block whole (search rules) (search rules) none))),
       c.keep_newest.ensures.claims,
       (let ready = still_ready d.units d.lost d.failures c.self.inside c.carry.new.self c.carry.new.unit c.carry.new.scratch same c.carry.ensures.fit c.self.invariant.2 in
-      record { fit = ready.fit; unit = ready.unit; scratch = ready.scratch }),
+          record { fit = ready.fit; unit = ready.unit; scratch = ready.scratch }),
     )
 
 pub returns-clause-flat : goal.returns-clause-flat

@@ -1,11 +1,11 @@
-use Rattle.std.proofs.Common.{◌≡◌, ◌∙◌, ap, sym, subst, rules, Some, None}
+use Rattle.std.proofs.Common.{◌≡◌, ◌∙◌, ap, sym, subst, rules}
 use Rattle.map_join.specs.declared.records.Record.{Record}
 use Rattle.flat_machine.specs.Flat.{Worker}
 use Rattle.flat_machine.specs.Steps.{Copied, Refused}
 use Rattle.flat_machine.specs.Cases.{CopyCase, CopyPasses}
 use Rattle.extent_groups.specs.Stores.{AreDrives}
 use Rattle.array_parts.specs.Views.{drive_units}
-use Rattle.array_model.specs.Changes.{copy_view, copy_reason}
+use Rattle.array_model.specs.Changes.{copy_view}
 use Rattle.array_model.specs.Views.{ArrayView, with_parts}
 use Rattle.array_model.proofs.Fills.{as_whole, as_shown}
 use Rattle.array_model.proofs.Finds.{read_slot}

@@ -1,4 +1,4 @@
-use Rattle.std.proofs.Common.{◌≡◌, ◌∙◌, ap, sym, subst, rules}
+use Rattle.std.proofs.Common.{◌≡◌, ◌∙◌, ap, subst, rules}
 use Rattle.flat_machine.specs.Flat.{Worker, Payload, waiting_unit}
 use Rattle.flat_machine.specs.Steps.{Filled, Refused}
 use Rattle.flat_machine.specs.Cases.{FillCase, FillPasses}

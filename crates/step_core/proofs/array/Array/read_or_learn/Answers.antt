@@ -10,7 +10,7 @@ use Rattle.array_model.specs.Reads.{WasSeen}
 use Rattle.array_model.specs.Represents.{ShowsArray}
 use Rattle.array_model.proofs.Newest.{newest_is}
 use Rattle.step_core.specs.Told.{Lesson}
-use Rattle.step_core.proofs.Learnings.{Tells, learned_here, learned_there, unlearned_ahead, unlearned_here, unlearned_there, unlearned_refused}
+use Rattle.step_core.proofs.Learnings.{learned_here, learned_there, unlearned_ahead, unlearned_here, unlearned_there, unlearned_refused}
 use Rattle.step_core.proofs.array.Array.read_or_learn.Goals as goal
 
 pub returns-in-Err-clause-flat : goal.returns-in-Err-clause-flat

@@ -9,7 +9,7 @@ pub invariant_of-self : goal.invariant_of-self
 invariant_of-self g c =
     let e = c.lose.ensures in
     let was = was_lost c.self.inside.parts c.lose.new.self c.args.self.now.parts c.args.drive (ap (λ (a : ArrayView). a.parts) c.self.view_is) c.requires
-        e.lost e.missing e.failures e.units e.sound e.tables
+    e.lost e.missing e.failures e.units e.sound e.tables
     in
     still_stands g.C.Hold.names c.self.inside c.lose.new.self (record { tables = was.rest; many = was.many }) e.fit c.self.invariant
 

@@ -1,16 +1,13 @@
-use Rattle.std.proofs.Common.{rules, subst, sym, ap, ◌≡◌, ◌∙◌, true, ◌<◌}
+use Rattle.std.proofs.Common.{rules, subst, sym, ap, ◌≡◌, ◌∙◌, true}
 use Rattle.std.proofs.Math.ListN.{set}
 use Rattle.array_model.specs.declared.hand.Hand.TheVariants.{Waits}
-use Rattle.extent_groups.specs.Groups.{Groups}
-use Rattle.flat_machine.specs.Flat.{Flat}
 use Rattle.flat_machine.specs.Steps.{Copy, Copied}
 use Rattle.flat_machine.specs.Cases.{CopyCase}
-use Rattle.flat_machine.specs.History.{IsStep}
 use Rattle.array_model.specs.Views.{ArrayView, WorldView, hand_at}
-use Rattle.array_model.specs.Represents.{ShowsArray, Represents, is_claim}
+use Rattle.array_model.specs.Represents.{ShowsArray, is_claim}
 use Rattle.array_model.proofs.Hands.{as_world}
 use Rattle.step_core.specs.Refused.{IsRefused}
-use Rattle.step_core.proofs.Worlds.{copy_world}
+use Rattle.step_core.proofs.Worlds.{block_there, copy_world}
 use Rattle.step_core.proofs.Refusals.{was_refused, refused_same, refused_sizes}
 use Rattle.step_core.proofs.world.World.copy.Goals as goal
 
@@ -23,7 +20,7 @@ returns-in-Ok-clause-ok c F rep =
     let held : is_claim (hand_at v.hands s) w ≡ true = search rules in
     let t = c.in-Ok.ensures.ticket in
     as_world (λ G. CopyCase F w s c.args.block (Copied s) G) _ (record { array = c.copy.new.self; hands = set v.hands s (Waits w) }) (search rules)
-    (copy_world v F w s c.args.block c.copy.new.self (search rules) (search rules, subst (λ (z : Groups). c.args.block < z.blocks) (sym rep.array.tables.groups) c.requires) rep held c.in-Ok._ticket t.0
+    (copy_world v F w s c.args.block c.copy.new.self (search rules) (search rules, block_there v F c.args.block rep c.requires) rep held c.in-Ok._ticket t.0
     (c.in-Ok.ensures.flat F w (subst (λ (a : ArrayView). ShowsArray a F) (sym array) rep.array)
     ((rep.hands s).claims w ∙ held)))
 
@@ -38,9 +35,9 @@ returns-in-Err c =
     let array : c.self.inside.array ≡ v.array = ap (λ (u : WorldView). u.array) c.self.view_is in
     let is : IsRefused v.array a r = subst (λ (x : ArrayView). IsRefused x a r) array c.in-Err.ensures.err.1 in
     let all = was_refused v _ a (Copy w s c.args.block) r c.refused.result (ap (λ (u : WorldView). record { array = a; hands = u.hands }) c.self.view_is)
-        c.refused.ensures.ok c.refused.ensures.err
-        (λ F rep. (search rules, subst (λ (z : Groups). c.args.block < z.blocks) (sym rep.array.tables.groups) c.requires))
-        (refused_same v.array a r is)
-        (λ F rep. c.in-Err.ensures.flat F w (subst (λ (x : ArrayView). ShowsArray x F) (sym array) rep.array) ((rep.hands s).claims w ∙ held))
+    c.refused.ensures.ok c.refused.ensures.err
+    (λ F rep. (search rules, block_there v F c.args.block rep c.requires))
+    (refused_same v.array a r is)
+    (λ F rep. c.in-Err.ensures.flat F w (subst (λ (x : ArrayView). ShowsArray x F) (sym array) rep.array) ((rep.hands s).claims w ∙ held))
     in
     record { ok = all.ok; err = all.err; wants = all.wants; room = refused_sizes v.array a r is }

@@ -1,12 +1,11 @@
-use Rattle.flat_machine.specs.Flat.{Flat, Payload, Worker}
+use Rattle.flat_machine.specs.Flat.{Payload}
 use Rattle.std.proofs.Common.{rules, subst, sym, ap, ◌≡◌, ◌∙◌, true}
 use Rattle.std.proofs.Math.ListN.{set}
 use Rattle.array_model.specs.declared.hand.Hand.TheVariants.{Waits}
 use Rattle.flat_machine.specs.Steps.{Fill, Filled}
 use Rattle.flat_machine.specs.Cases.{FillCase}
-use Rattle.flat_machine.specs.History.{IsStep}
 use Rattle.array_model.specs.Views.{ArrayView, WorldView, hand_at}
-use Rattle.array_model.specs.Represents.{ShowsArray, Represents, is_claim}
+use Rattle.array_model.specs.Represents.{ShowsArray, is_claim}
 use Rattle.array_model.proofs.Hands.{as_world}
 use Rattle.step_core.specs.Refused.{IsRefused}
 use Rattle.step_core.proofs.Worlds.{fill_world}
@@ -36,9 +35,9 @@ returns-in-Err c =
     let array : c.self.inside.array ≡ v.array = ap (λ (u : WorldView). u.array) c.self.view_is in
     let is : IsRefused v.array a r = subst (λ (x : ArrayView). IsRefused x a r) array c.in-Err.ensures.err.1 in
     let all = was_refused v _ a (Fill w s (Payload c.args.payload.now)) r c.refused.result (ap (λ (u : WorldView). record { array = a; hands = u.hands }) c.self.view_is)
-        c.refused.ensures.ok c.refused.ensures.err
-        (λ F rep. (search rules, c.requires ∙ ap (λ (z : Groups). z.payload) (sym rep.array.tables.groups)))
-        (refused_same v.array a r is)
-        (λ F rep. c.in-Err.ensures.flat F w (subst (λ (x : ArrayView). ShowsArray x F) (sym array) rep.array) ((rep.hands s).claims w ∙ held))
+    c.refused.ensures.ok c.refused.ensures.err
+    (λ F rep. (search rules, c.requires ∙ ap (λ (z : Groups). z.payload) (sym rep.array.tables.groups)))
+    (refused_same v.array a r is)
+    (λ F rep. c.in-Err.ensures.flat F w (subst (λ (x : ArrayView). ShowsArray x F) (sym array) rep.array) ((rep.hands s).claims w ∙ held))
     in
     record { ok = all.ok; err = all.err; wants = all.wants; room = refused_sizes v.array a r is }

@@ -1,4 +1,4 @@
-use Rattle.std.proofs.Common.{◌≡◌, ◌<◌, length, rules, ap, sym, subst, ◌∙◌}
+use Rattle.std.proofs.Common.{◌≡◌, ◌<◌, length, rules, ap, subst}
 use Rattle.flat_machine.specs.Steps.{LostDrive}
 use Rattle.flat_machine.specs.Cases.{LoseCase}
 use Rattle.array_model.specs.Views.{ArrayView, WorldView, with_parts}

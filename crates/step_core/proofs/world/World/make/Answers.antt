@@ -26,14 +26,14 @@ returns c =
           let g = w.in-Ok.group in
           let entered : Entered v.array.parts g class members a.parts = subst (λ (x : ArrayView). Entered x.parts g class members a.parts) array w.in-Ok.ensures.ok in
           let all = was_done v new (record { array = a; hands = v.hands }) (Make class members) (Made g) c.match-make_group.result w.result-is is
-              (λ F rep. make_world v F class members g a rep (w.in-Ok.ensures.flat F (shows F rep)))
+          (λ F rep. make_world v F class members g a rep (w.in-Ok.ensures.flat F (shows F rep)))
           in
           record { ok = all.ok; err = all.err; wants = all.wants; room = made_sizes v.array a g class members entered }
       | in-Err w ↦
           let r = w.in-Err.refusal in
           let refused : IsRefused v.array a r = subst (λ (x : ArrayView). IsRefused x a r) array w.in-Err.ensures.err in
           let all = was_refused v new a (Make class members) r w.refused.result is w.refused.ensures.ok w.refused.ensures.err (λ F rep. tt)
-              (refused_same v.array a r refused) (λ F rep. w.in-Err.ensures.flat F (shows F rep))
+          (refused_same v.array a r refused) (λ F rep. w.in-Err.ensures.flat F (shows F rep))
           in
           let told = subst (WasStep v new (Make class members)) (sym w.result-is) all in
           record { ok = told.ok; err = told.err; wants = told.wants; room = refused_sizes v.array a r refused }

@@ -25,14 +25,14 @@ returns c =
           let found = w.in-Ok.found in
           let was : WasFound v.array a block found = subst (λ (x : ArrayView). WasFound x a block found) array w.in-Ok.ensures.ok in
           let all = was_done v new (record { array = a; hands = v.hands }) (Read block) (answer.Read found) c.match-read.result w.result-is is
-              (λ F rep. let y = w.in-Ok.ensures.flat F (shows F rep) in stays_world v F (Read block) (Found (version_of found)) a tt rep y y.1.2)
+          (λ F rep. let y = w.in-Ok.ensures.flat F (shows F rep) in stays_world v F (Read block) (Found (version_of found)) a tt rep y y.1.2)
           in
           record { ok = all.ok; err = all.err; wants = all.wants; room = found_sizes v.array a block found was }
       | in-Err w ↦
           let r = w.in-Err.refusal in
           let refused : WasNotFound v.array a block r = subst (λ (x : ArrayView). WasNotFound x a block r) array w.in-Err.ensures.err in
           let all = was_refused v new a (Read block) r w.refused.result is w.refused.ensures.ok w.refused.ensures.err (λ F rep. tt)
-              (not_found_same v.array a block r refused) (λ F rep. w.in-Err.ensures.flat F (shows F rep))
+          (not_found_same v.array a block r refused) (λ F rep. w.in-Err.ensures.flat F (shows F rep))
           in
           let told = subst (WasStep v new (Read block)) (sym w.result-is) all in
           record { ok = told.ok; err = told.err; wants = told.wants; room = not_found_sizes v.array a block r refused }

@@ -26,14 +26,14 @@ returns c =
           let at = w.in-Ok.at in
           let was : WasSeen v.array a asked (seen_of at) = subst (λ (x : ArrayView). WasSeen x a asked (seen_of at)) array w.in-Ok.ensures.ok in
           let all = was_done v new (record { array = a; hands = v.hands }) (ReadAt asked) (answer.Found at) c.match-read_at.result w.result-is is
-              (λ F rep. let y = w.in-Ok.ensures.flat F (shows F rep) in stays_world v F (ReadAt asked) (FoundAt (seen_of at)) a tt rep y y.1.3)
+          (λ F rep. let y = w.in-Ok.ensures.flat F (shows F rep) in stays_world v F (ReadAt asked) (FoundAt (seen_of at)) a tt rep y y.1.3)
           in
           record { ok = all.ok; err = all.err; wants = all.wants; room = seen_sizes v.array a asked (seen_of at) was }
       | in-Err w ↦
           let r = w.in-Err.refusal in
           let refused : IsRefused v.array a r = subst (λ (x : ArrayView). IsRefused x a r) array w.in-Err.ensures.err in
           let all = was_refused v new a (ReadAt asked) r w.refused.result is w.refused.ensures.ok w.refused.ensures.err (λ F rep. tt)
-              (refused_same v.array a r refused) (λ F rep. w.in-Err.ensures.flat F (shows F rep))
+          (refused_same v.array a r refused) (λ F rep. w.in-Err.ensures.flat F (shows F rep))
           in
           let told = subst (WasStep v new (ReadAt asked)) (sym w.result-is) all in
           record { ok = told.ok; err = told.err; wants = told.wants; room = refused_sizes v.array a r refused }

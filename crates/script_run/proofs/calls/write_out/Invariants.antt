@@ -1,6 +1,6 @@
 use Rattle.std.proofs.Common.{length}
 use Rattle.script_run.proofs.Writes.{IsWritten}
-use Rattle.script_run.proofs.run.write_out.Given as goal
+use Rattle.script_run.proofs.calls.write_out.Given as goal
 
 -- the bytes so far were taken
 abbrev pub invariant-loop-rest : goal.invariant-loop-rest

@@ -1,0 +1,10 @@
+use Rattle.flat_machine.specs.Steps as s
+use Rattle.script_words.specs.Order as o
+use Rattle.script_bench.proofs.Carried.{told_step}
+use Rattle.script_bench.proofs.carry.lose.Goals as goal
+
+pub returns : goal.returns
+returns c =
+    told_step c.put_answer.result c.args.bench.now _ (o.Lose c.args.drive)
+    (s.Lose c.args.drive) _ _ _ c.put_answer.ensures
+    (λ P stands. c.lose-answer.ensures.flat P.flat stands.world) (λ P stands. stands.maps) (λ P text t steps. steps)
