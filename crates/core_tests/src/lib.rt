@@ -2,6 +2,8 @@
 #![tactic(auto)]
 
 #[cfg(test)]
+mod learned;
+#[cfg(test)]
 mod losses;
 #[cfg(test)]
 mod reads;
