@@ -10,4 +10,6 @@ mod reads;
 #[cfg(test)]
 mod runs;
 #[cfg(test)]
+mod scans;
+#[cfg(test)]
 mod sizes;
