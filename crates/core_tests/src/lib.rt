@@ -2,10 +2,14 @@
 #![tactic(auto)]
 
 #[cfg(test)]
+mod learned;
+#[cfg(test)]
 mod losses;
 #[cfg(test)]
 mod reads;
 #[cfg(test)]
 mod runs;
+#[cfg(test)]
+mod scans;
 #[cfg(test)]
 mod sizes;

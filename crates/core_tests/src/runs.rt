@@ -70,5 +70,8 @@ fn thousands_of_steps_run_to_their_end(rt: HostRuntime) -> Result<(), Fail> {
     let records = run.world.array().records_from(alloc, 0)?;
     assert_eq!(rt; records.len(), usize::from(WRITES));
     assert!(rt; matches!(run.answers.last(), Some(Answer::Released(0))));
+    for drive in 0..4u8 {
+        assert!(rt; !run.world.array().is_lost(drive));
+    }
     Ok(())
 }

@@ -5,7 +5,7 @@ ghost use Rattle.flat_machine.specs.Numbers.{number_of};
 use map_join::Record;
 use thiserror::Error;
 
-/// Why the array refuses a call. After a refusal the array is as it was.
+/// Why the array refuses a call. After a refusal the array is as it was, but for drives that failed in the call.
 #[derive(Clone, Copy, Debug, PartialEq, Eq, Error)]
 pub enum Refusal {
     #[error("no memory")]

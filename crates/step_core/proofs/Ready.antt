@@ -77,3 +77,9 @@ as_refused q W P b a is may = subst (λ (z : ArrayView). MayRefuse q W ((G : Fla
 pub carried_gone : (a b : PartsView) (slot : ℕ) (q : Refusal) → WasNotCarried a b slot slot q → FoundGone a b slot q
 carried_gone a b slot q (inl gone) = gone
 carried_gone a b slot q (inr gone) = gone.1
+
+-- with other drives of the same groups
+pub parts_ready : {D C : Type 0} (units : D → List (List ℕ)) (a : Inside D C) (p : Parts D) → p.groups ≡ a.parts.groups → IsFit units p → IsReady units a
+    → IsReady units (record a { parts = p })
+parts_ready units a p same fit ready = let groups = ap (λ (z : Groups). unit_bytes z) (sym same) in
+    record { fit = fit; unit = ready.unit ∙ groups; scratch = ready.scratch ∙ ap (λ n. 2 * n) groups }

@@ -43,7 +43,7 @@ pub record Stands (w : WorldView) (F : Flat) : Type 0 where
   pub map : IsMapOf F.emitted (key_at w.array)
   pub every : (records : List Record) (M : ℕ → ℕ) → HasSameRecords records F.emitted → IsMapOf records M → IsSame M (key_at w.array)
   pub read : (b : ℕ) → ReadsThrough w.array.parts F b (key_at w.array b)
-  -- so is every map of the headers
+  -- where each group misses at most one member no slot is gone, and every map of the headers is the array's too
   pub here : IsOneMissed w.array.parts → (slot : ℕ) → IsLost w.array.parts slot → ⊥
   pub scanned : IsOneMissed w.array.parts → (M : ℕ → ℕ) → IsScanned (bytes_of w.array.parts) M → IsSame M (key_at w.array)
   pub headers : IsOneMissed w.array.parts → IsScanned (bytes_of w.array.parts) (key_at w.array)

@@ -3,6 +3,7 @@ pub mod Told
 pub mod Inside
 pub mod New
 pub mod Refused
+pub mod Laws
 pub mod Reads
 pub mod Losing
 pub mod Headline

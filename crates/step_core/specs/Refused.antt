@@ -3,11 +3,15 @@ use Rattle.std.specs.Prelude.{◌≡◌}
 use Rattle.flat_machine.specs.declared.refusal.Refusal.{Refusal}
 use Rattle.flat_machine.specs.declared.refusal.Refusal.TheVariants.{Gone, DriveLost}
 use Rattle.array_parts.specs.Views.{Loses}
-use Rattle.array_model.specs.Views.{ArrayView, with_parts}
+use Rattle.array_model.specs.Views.{ArrayView, WorldView, with_parts}
 
 -- all but its drives, of which some may have been lost
 abbrev pub OnlyLoses : ArrayView → ArrayView → Type 0
 OnlyLoses a b = (b ≡ with_parts a b.parts) × Loses a.parts b.parts
+
+-- the same of a world
+abbrev pub OnlyLosesOf : WorldView → WorldView → Type 0
+OnlyLosesOf v w = (w.hands ≡ v.hands) × OnlyLoses v.array w.array
 
 -- the array as it was; where a drive is told to be lost or a slot to be gone, drives may have been lost
 abbrev pub IsRefused : ArrayView → ArrayView → Refusal → Type 0

@@ -120,8 +120,8 @@ impl<D: Drive, C: Hold> Array<D, C> {
         drive >= self.parts.drives.len() || self.parts.drives[drive].is_lost()
     }
 
-    // What every array keeps by itself: nothing is done.
-    pub(crate) fn whole(&self)
+    /// What every array keeps by itself, as a law: nothing is done.
+    pub fn whole(&self)
         ensures { IsWhole self.now }
     {
         let _ = &self.parts;

@@ -16,11 +16,14 @@ mod reading;
 mod run;
 mod step;
 mod tables;
+mod units;
 mod world;
 
 pub use array::Array;
+pub use array_parts::Units;
 pub use commit::{Done, Emitted};
-pub use extents::{Drive, MemDrive, Shape, ShapeRefusal};
+pub use extent_groups::GroupTable;
+pub use extents::{Drive, DriveLost, ExtentTable, MemDrive, Shape, ShapeRefusal};
 pub use flat_machine::{Class, Member, Refusal};
 pub use hold::{Hold, Plain, Ticket};
 pub use read::At;

@@ -31,7 +31,7 @@ pub struct Stopped {
     pub at: usize,
 }
 
-/// The headline of every state that a world stands for: no slot has two holders; every map of just the
+/// What stands of every state that a world stands for: no slot has two holders; every map of just the
 /// emitted records is the running map, and where each group misses at most one member so is the map that
 /// the headers tell; and a read through it finds each block's last write on the drives.
 pub fn represented_stands()

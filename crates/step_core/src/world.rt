@@ -1,5 +1,5 @@
 // An array with eight workers, who hold plain claims.
-ghost use Rattle.std.specs.Prelude.{◌≡◌, ◌≢◌, ℕ, ◌<◌, ◌≤◌, List, length, nat_le, IfOk, IfErr, OnErr};
+ghost use Rattle.std.specs.Prelude.{◌≡◌, ◌≢◌, ℕ, ◌<◌, ◌≤◌, List, length, nat_le, IfOk, IfErr, OnErr, ◌*◌, OnOk, Some, None};
 ghost use Rattle.map_join.specs.declared.records.Record.{Record};
 ghost use Rattle.extents.specs.Shapes.{IsShapeOf};
 ghost use Rattle.flat_machine.specs.Groups.{IsEmpty};
@@ -9,6 +9,10 @@ ghost use Rattle.flat_machine.specs.Cases.{Case, IsWanted};
 ghost use Rattle.array_model.specs.Views.{kept_at, hand_at, has_no_holder, IsWhole, SameSizes};
 ghost use Rattle.array_model.specs.Changes.{passed_hands};
 ghost use Rattle.array_model.specs.Represents.{Represents, is_claim, is_ticket};
+ghost use Rattle.extent_groups.specs.Stores.{unit_bytes, unit_of, AreSound, KeepsUnits};
+ghost use Rattle.array_parts.specs.Slots.{IsSlot};
+ghost use Rattle.array_parts.specs.Views.{cells_of};
+ghost use Rattle.step_core.specs.Refused.{OnlyLosesOf};
 ghost use Rattle.step_core.specs.Told.{flat_answer};
 
 use crate::array::Array;
@@ -63,11 +67,30 @@ impl World {
         &self.array
     }
 
-    // What the array keeps by itself: nothing is done.
-    pub(crate) fn whole(&self)
+    /// What the world's array keeps by itself, as a law: nothing is done.
+    pub fn whole(&self)
         ensures { IsWhole self.now.array }
     {
         self.array.whole();
+    }
+
+    // Reads the effective unit of a slot, with two buffers of a unit's length.
+    pub(crate) fn effective(
+        &mut self,
+        slot: u16,
+        unit: &mut [u8],
+        scratch: &mut [u8],
+    ) -> Result<(), Refusal>
+        requires slot { IsSlot self.old.array.parts.groups slot }
+        requires unit { length unit.old ≡ unit_bytes self.old.array.parts.groups }
+        requires scratch { length scratch.old ≡ 2 * unit_bytes self.old.array.parts.groups }
+        ensures ok { OnOk result (unit_of self.new.array.parts.groups (cells_of self.new.array.parts) slot ≡ Some unit.new) }
+        ensures gone { IfErr result (λ e. (e ≡ Refusal.Gone slot) × (unit_of self.new.array.parts.groups (cells_of self.new.array.parts) slot ≡ None)) }
+        ensures units { AreSound self.old.array.parts.groups (cells_of self.old.array.parts) → KeepsUnits self.old.array.parts.groups (cells_of self.old.array.parts) (cells_of self.new.array.parts) }
+        ensures sound { AreSound self.old.array.parts.groups (cells_of self.old.array.parts) → AreSound self.new.array.parts.groups (cells_of self.new.array.parts) }
+        ensures loses { OnlyLosesOf self.old self.new }
+    {
+        self.array.effective(slot, unit, scratch)
     }
 
     // Nobody holds the slot.
