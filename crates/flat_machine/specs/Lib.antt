@@ -5,4 +5,6 @@ pub mod Cases
 pub mod Numbers
 pub mod History
 pub mod Scanned
+pub mod Restarted
+pub mod Scans
 pub mod Learning
