@@ -1,5 +1,5 @@
 -- The state in which an array is made anew from what its drives hold: told of the groups, the drives and the units alone.
-use Rattle.std.specs.Prelude.{◌≡◌, ℕ, ◌<◌, ◌==◌, ◌&&◌, nat_lt, is_some, length, Bool, false, List, [], map, Option, Some, None}
+use Rattle.std.specs.Prelude.{◌≡◌, ◌≢◌, ℕ, ◌<◌, ◌==◌, ◌&&◌, nat_lt, is_some, length, Bool, false, List, [], map, Option, Some, None}
 use Rattle.map_join.specs.declared.records.Record.{Record}
 use Rattle.map_join.specs.Record.{record_of}
 use Rattle.map_join.specs.Maps.{IsListOf}
@@ -18,6 +18,12 @@ pub record TellMap (groups : Groups) (units : ℕ → Option Stored) (keys : ℕ
   pub header : (s : ℕ) (u : Stored) (r : Record) → units s ≡ Some u → record_in u.header ≡ Some r → IsHeaderOf keys s r
   pub blocks : (s : ℕ) (u : Stored) (r : Record) → units s ≡ Some u → record_in u.header ≡ Some r → r.block < groups.blocks
   pub found : (b : ℕ) → 0 < keys b → (x : Content) × IsAt units (record_of b (keys b)) x
+
+-- the records of a map are of an array's blocks, each in a slot of a group, and no two in one slot
+pub record HasPlaces (groups : Groups) (keys : ℕ → ℕ) : Type 0 where
+  pub blocks : (b : ℕ) → 0 < keys b → b < groups.blocks
+  pub slots : (b : ℕ) → 0 < keys b → class_at groups (record_of b (keys b)).place ≢ None
+  pub apart : (b c : ℕ) → 0 < keys b → 0 < keys c → (record_of b (keys b)).place ≡ (record_of c (keys c)).place → b ≡ c
 
 -- what a unit holds, if there is one
 abbrev pub content_at : Option Stored → Content
