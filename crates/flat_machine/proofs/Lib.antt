@@ -10,3 +10,4 @@ pub mod Makes
 pub mod Keeps
 pub mod Holding
 pub mod Rises
+pub mod Restarts
