@@ -1,18 +1,17 @@
 -- The state made anew from what the drives hold: the units of any state tell its map, and what is made of a map that units tell is
 -- true of every state again, with the same last writes.
-use Rattle.std.proofs.Common.{◌≡◌, ℕ, ◌+◌, ◌/◌, ◌%◌, ◌^◌, ◌<◌, ◌≤◌, ◌==◌, ◌&&◌, nat_lt, Bool, true, List, [], map, length, Contains, refl, sym, ap, ◌∙◌, subst, arith, ◌⊎◌, inl, inr, Option, Some, None}
+use Rattle.std.proofs.Common.{◌≡◌, ℕ, ◌^◌, ◌<◌, ◌≤◌, ◌==◌, ◌&&◌, nat_lt, true, List, [], map, length, Contains, refl, sym, ap, ◌∙◌, subst, arith, ◌⊎◌, inl, inr, Option, Some, None}
 use Rattle.std.proofs.lemmas.Bool.Decides.{nat_tests}
 use Rattle.std.proofs.lemmas.Option.{same_Some}
 use Rattle.map_join.specs.declared.records.Record.{Record}
-use Rattle.map_join.specs.Record.{key_of, record_of, record_at, stamp_of, stamp_in, IsRecord}
+use Rattle.map_join.specs.Record.{key_of, record_of, stamp_of, stamp_in, IsRecord}
 use Rattle.map_join.specs.Maps.{IsMapOf, IsListOf}
 use Rattle.extents.specs.Header.{record_in}
 use Rattle.flat_machine.specs.Groups.{AreSizes, GroupsStand}
-use Rattle.flat_machine.specs.Flat.{Flat, Write, Content, Payload, IsSized, Holder, Worker, Ticket, Block, Shut, Stored, content_in, class_of, last_write}
-use Rattle.flat_machine.specs.Cases.{longest_log}
+use Rattle.flat_machine.specs.Flat.{Flat, Write, Content, IsSized, Holder, Worker, Ticket, Block, Shut, Stored, content_in, class_of, last_write}
 use Rattle.flat_machine.specs.History.{AreLimits, IsWrite, IsWriteOf, IsHeaderOf, HoldersStand, UnitStands, IsAt, BlockStands, IsHistory, AreHeld}
 use Rattle.flat_machine.specs.Restarted.{TellMap, content_at, write_at, newest_places, restarted}
-use Rattle.flat_machine.proofs.Newest.{told_at, untold_at, told_key, key_least}
+use Rattle.flat_machine.proofs.Newest.{told_at, told_key, key_least}
 use Rattle.flat_machine.proofs.Writes.{last_there}
 use Rattle.flat_machine.proofs.Rises.{few, rising_chain, rising_writes, write_told, last_none, last_one}
 
@@ -180,17 +179,20 @@ module _ (F : Flat) (keys : ℕ → ℕ) (tells : TellMap F.groups F.units keys)
     told_content b x at = ap content_at at.there ∙ at.content
 
     written : (b : ℕ) → BlockStands (restarted F keys records) b (keys b)
-    written b = (write_none b, λ some. (
-      write_at F.units (record_of b (keys b)),
-      write_one b some,
-      record {
-        version = refl;
-        unit =
-            let found = tells.found b some in
-            subst (IsAt F.units (record_of b (keys b))) (sym (told_content b found.0 found.1)) found.1;
-        place = places keys b some;
-      },
-    ))
+    written b = (
+      write_none b,
+      λ some. (
+        write_at F.units (record_of b (keys b)),
+        write_one b some,
+        record {
+          version = refl;
+          unit =
+              let found = tells.found b some in
+              subst (IsAt F.units (record_of b (keys b))) (sym (told_content b found.0 found.1)) found.1;
+          place = places keys b some;
+        },
+      ),
+    )
 
     limits : AreSizes F.groups → 3 ≤ F.drives → F.drives ≤ 16 → AreLimits F.groups F.drives (length records)
     limits sizes least most = record {

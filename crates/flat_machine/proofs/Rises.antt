@@ -88,7 +88,7 @@ module _ (units : ℕ → Option Stored) where
   rising_writes before (r ∷ log) rises = (
     none,
     subst (λ ws. IsWriteChain ws (map (write_at units) log)) (map-append (write_at units) before (r ∷ []))
-      (rising_writes (before ++ r ∷ []) log (further before r log rises)),
+        (rising_writes (before ++ r ∷ []) log (further before r log rises)),
   )
     where
       none : (x : Write) → last_write (map (write_at units) before) r.block ≡ Some x → r.version ≡ x.version + 1
