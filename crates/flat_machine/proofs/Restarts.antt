@@ -39,9 +39,13 @@ history_tells F keys is = record {
     within : (r : Record) → 0 < keys r.block → r.block < F.groups.blocks
     within r some = let t = is.map.told r.block some in subst (λ b. b < F.groups.blocks) t.2 (is.blocks t.0 t.1)
 
+-- the record that a block's key tells
+abbrev newest : (ℕ → ℕ) → ℕ → Record
+newest keys b = record_of b (keys b)
+
 -- a slot of this state is held for a block, at its newest place
-placed : (keys : ℕ → ℕ) (s : ℕ) (k : Holder) → newest_places keys s k ≡ true → (b : ℕ) × (k ≡ Block b) × (0 < keys b) × ((record_of b (keys b)).place ≡ s)
-placed keys s (Block b) held = (b, refl, some (keys b) (record_of b (keys b)).place held, place (keys b) (record_of b (keys b)).place held)
+placed : (keys : ℕ → ℕ) (s : ℕ) (k : Holder) → newest_places keys s k ≡ true → (b : ℕ) × (k ≡ Block b) × (0 < keys b) × ((newest keys b).place ≡ s)
+placed keys s (Block b) held = (b, refl, some (keys b) (newest keys b).place held, place (keys b) (newest keys b).place held)
   where
     some : (key p : ℕ) → (nat_lt 0 key && (p == s)) ≡ true → 0 < key
     some key p is = grind (arith, nat_tests)
@@ -52,8 +56,9 @@ placed keys s (Worker w) held = absurd (cc)
 placed keys s (Ticket w) held = absurd (cc)
 placed keys s (Shut g) held = absurd (cc)
 
-places : (keys : ℕ → ℕ) (b : ℕ) → 0 < keys b → newest_places keys (record_of b (keys b)).place (Block b) ≡ true
-places keys b some = by (keys b) (record_of b (keys b)).place some
+-- and each block with a key holds its newest place
+places : (keys : ℕ → ℕ) (b : ℕ) → 0 < keys b → newest_places keys (newest keys b).place (Block b) ≡ true
+places keys b some = by (keys b) (newest keys b).place some
   where
     by : (key p : ℕ) → 0 < key → (nat_lt 0 key && (p == p)) ≡ true
     by key p is = grind (arith, nat_tests)
@@ -63,28 +68,34 @@ sized_at : (size : ℕ) (o : Option Stored) (u : Stored) → o ≡ Some u → le
 sized_at size None u is long = absurd (cc)
 sized_at size (Some x) u is long = ap (λ (y : Stored). length y.payload) (same_Some x u is) ∙ long
 
+-- what the unit at a record's place holds is told as its content
+told_content : (units : ℕ → Option Stored) (r : Record) (x : Content) → IsAt units r x → content_at (units r.place) ≡ x
+told_content units r x at = ap content_at at.there ∙ at.content
+
 module _ (F : Flat) (keys : ℕ → ℕ) (tells : TellMap F.groups F.units keys) where
   -- a block with a key is told of the header at its newest place
-  newest_header : (b : ℕ) → 0 < keys b → IsHeaderOf keys (record_of b (keys b)).place (record_of b (keys b))
+  newest_header : (b : ℕ) → 0 < keys b → IsHeaderOf keys (newest keys b).place (newest keys b)
   newest_header b some =
       let at = (tells.found b some).1 in
-      tells.header (record_of b (keys b)).place at.stored (record_of b (keys b)) at.there at.header
+      tells.header (newest keys b).place at.stored (newest keys b) at.there at.header
 
+  -- it is one of the array's
   newest_block : (b : ℕ) → 0 < keys b → b < F.groups.blocks
   newest_block b some =
       let at = (tells.found b some).1 in
-      tells.blocks (record_of b (keys b)).place at.stored (record_of b (keys b)) at.there at.header
+      tells.blocks (newest keys b).place at.stored (newest keys b) at.there at.header
 
+  -- its key is a record's
   key_big : (b : ℕ) → 0 < keys b → 2 ^ 32 ≤ keys b
   key_big b some = let written = (newest_header b some).ranges.written in omega arith
 
   -- no slot is the newest place of two blocks
-  one_block : (s b c : ℕ) → 0 < keys b → 0 < keys c → (record_of b (keys b)).place ≡ s → (record_of c (keys c)).place ≡ s → b ≡ c
+  one_block : (s b c : ℕ) → 0 < keys b → 0 < keys c → (newest keys b).place ≡ s → (newest keys c).place ≡ s → b ≡ c
   one_block s b c some_b some_c at_b at_c =
       let x = (tells.found b some_b).1 in
       let y = (tells.found c some_c).1 in
       let unit : x.stored ≡ y.stored = same_Some x.stored y.stored (sym x.there ∙ ap F.units (at_b ∙ sym at_c) ∙ y.there) in
-      let same : record_of b (keys b) ≡ record_of c (keys c) = same_Some _ _ (sym x.header ∙ ap (λ (u : Stored). record_in u.header) unit ∙ y.header) in
+      let same : newest keys b ≡ newest keys c = same_Some _ _ (sym x.header ∙ ap (λ (u : Stored). record_in u.header) unit ∙ y.header) in
       ap (λ (r : Record). r.block) same
 
   one_holder : (s : ℕ) (j k : Holder) → newest_places keys s j ≡ true → newest_places keys s k ≡ true → j ≡ k
@@ -102,7 +113,10 @@ module _ (F : Flat) (keys : ℕ → ℕ) (tells : TellMap F.groups F.units keys)
     inside = λ k of held. held_inside s k held;
     waits = λ c is. absurd (cc);
     waiting = λ w held. absurd (cc);
-    block = λ b held. let x = placed keys s (Block b) held in let same : x.0 ≡ b = cc in subst (λ n. (0 < keys n) × ((record_of n (keys n)).place ≡ s)) same (x.2, x.3);
+    block = λ b held.
+        let x = placed keys s (Block b) held in
+        let same : x.0 ≡ b = cc in
+        subst (λ n. (0 < keys n) × ((newest keys n).place ≡ s)) same (x.2, x.3);
     shut = λ g held. absurd (cc);
   }
 
@@ -111,42 +125,45 @@ module _ (F : Flat) (keys : ℕ → ℕ) (tells : TellMap F.groups F.units keys)
     some_key : (r : Record) → Contains records r → 0 < keys r.block
     some_key r has = let big = (told_key r.block (keys r.block) r ((list.each r).0 has)).0 in omega arith
 
-    own_record : (r : Record) → Contains records r → record_of r.block (keys r.block) ≡ r
+    own_record : (r : Record) → Contains records r → newest keys r.block ≡ r
     own_record r has = (told_key r.block (keys r.block) r ((list.each r).0 has)).1
 
     one_record : (q r : Record) → Contains records q → Contains records r → q.block ≡ r.block → q ≡ r
-    one_record q r has_q has_r same = sym (own_record q has_q) ∙ ap (λ b. record_of b (keys b)) same ∙ own_record r has_r
+    one_record q r has_q has_r same = sym (own_record q has_q) ∙ ap (λ b. newest keys b) same ∙ own_record r has_r
 
     -- and each block's is there
-    listed : (b : ℕ) → 0 < keys b → Contains records (record_of b (keys b))
-    listed b some = (list.each (record_of b (keys b))).1 (told_at b (keys b) (key_big b some))
+    listed : (b : ℕ) → 0 < keys b → Contains records (newest keys b)
+    listed b some = (list.each (newest keys b)).1 (told_at b (keys b) (key_big b some))
 
+    -- it is a record of one of the array's blocks
     record_ranges : (r : Record) → Contains records r → IsRecord r
     record_ranges r has = subst IsRecord (own_record r has) (newest_header r.block (some_key r has)).ranges
 
     record_block : (r : Record) → Contains records r → r.block < F.groups.blocks
     record_block r has = newest_block r.block (some_key r has)
 
+    -- the map is that of the list
     listed_map : IsMapOf records keys
     listed_map = record {
-      told = λ b some. (record_of b (keys b), listed b some, refl, spelled (keys b));
+      told = λ b some. (newest keys b, listed b some, refl, spelled (keys b));
       most = λ r has. let same = ap key_of (own_record r has) in let whole = spelled (keys r.block) in omega arith;
     }
       where
         spelled : (key : ℕ) → key_of (record_of 0 key) ≡ key
         spelled key = omega arith
 
-    write_is : (w : Write) → Contains (map (write_at F.units) records) w → IsWrite F.groups.payload w
-    write_is w has = subst (IsWrite F.groups.payload) q.2 (record { version = (record_ranges q.0 q.1).written; sized = subst (λ (r : Record). IsSized F.groups.payload (content_at (F.units r.place))) (own_record q.0 q.1) sized })
-      where
-        q : (r : Record) × (Contains records r) × (write_at F.units r ≡ w)
-        q = write_told F.units records w has
+    -- the write that is told of a record of the list
+    record_sized : (r : Record) → Contains records r → IsSized F.groups.payload (content_at (F.units r.place))
+    record_sized r has =
+        let at = (tells.found r.block (some_key r has)).1 in
+        let place = (newest keys r.block).place in
+        subst (λ (q : Record). IsSized F.groups.payload (content_at (F.units q.place))) (own_record r has)
+        (sized_at F.groups.payload (F.units place) at.stored at.there (tells.sized place at.stored at.there))
 
-        sized : IsSized F.groups.payload (content_at (F.units (record_of q.0.block (keys q.0.block)).place))
-        sized =
-            let at = (tells.found q.0.block (some_key q.0 q.1)).1 in
-            sized_at F.groups.payload (F.units (record_of q.0.block (keys q.0.block)).place) at.stored at.there
-            (tells.sized (record_of q.0.block (keys q.0.block)).place at.stored at.there)
+    write_is : (w : Write) → Contains (map (write_at F.units) records) w → IsWrite F.groups.payload w
+    write_is w has =
+        let q = write_told F.units records w has in
+        subst (IsWrite F.groups.payload) q.2 (record { version = (record_ranges q.0 q.1).written; sized = record_sized q.0 q.1 })
 
     -- a unit under a record of the list holds what the write of that block does
     content : (s : ℕ) (u : Stored) (r : Record) (w : Write) → F.units s ≡ Some u → record_in u.header ≡ Some r → Contains records r
@@ -171,24 +188,20 @@ module _ (F : Flat) (keys : ℕ → ℕ) (tells : TellMap F.groups F.units keys)
     write_none : (b : ℕ) → keys b ≡ 0 → last_write (map (write_at F.units) records) b ≡ None
     write_none b none = last_none F.units records b (λ r has of. let some = some_key r has in let same = ap keys of in absurd (omega arith))
 
-    write_one : (b : ℕ) → 0 < keys b → last_write (map (write_at F.units) records) b ≡ Some (write_at F.units (record_of b (keys b)))
-    write_one b some = last_one F.units records (record_of b (keys b)) list.rising (listed b some) (λ q has of. one_record q (record_of b (keys b)) has (listed b some) of)
-
-    -- what a block's unit holds is told as its content
-    told_content : (b : ℕ) (x : Content) → IsAt F.units (record_of b (keys b)) x → content_at (F.units (record_of b (keys b)).place) ≡ x
-    told_content b x at = ap content_at at.there ∙ at.content
+    write_one : (b : ℕ) → 0 < keys b → last_write (map (write_at F.units) records) b ≡ Some (write_at F.units (newest keys b))
+    write_one b some = last_one F.units records (newest keys b) list.rising (listed b some) (λ q has of. one_record q (newest keys b) has (listed b some) of)
 
     written : (b : ℕ) → BlockStands (restarted F keys records) b (keys b)
     written b = (
       write_none b,
       λ some. (
-        write_at F.units (record_of b (keys b)),
+        write_at F.units (newest keys b),
         write_one b some,
         record {
           version = refl;
           unit =
               let found = tells.found b some in
-              subst (IsAt F.units (record_of b (keys b))) (sym (told_content b found.0 found.1)) found.1;
+              subst (IsAt F.units (newest keys b)) (sym (told_content F.units (newest keys b) found.0 found.1)) found.1;
           place = places keys b some;
         },
       ),
@@ -241,14 +254,14 @@ restarted_writes F keys records is list b = go (positive (keys b))
         last : last_write F.writes b ≡ Some w
         last = ((is.written b).1 some).1
 
-        version : w.version ≡ (record_of b (keys b)).version
+        version : w.version ≡ (newest keys b).version
         version = ((is.written b).1 some).2.version
 
-        content_is : content_at (F.units (record_of b (keys b)).place) ≡ w.content
-        content_is = told_content F keys tells records list b w.content ((is.written b).1 some).2.unit
+        content_is : content_at (F.units (newest keys b).place) ≡ w.content
+        content_is = told_content F.units (newest keys b) w.content ((is.written b).1 some).2.unit
 
         block : w.block ≡ b
         block = (last_there F.writes b w last).1
 
-        same : write_at F.units (record_of b (keys b)) ≡ w
+        same : write_at F.units (newest keys b) ≡ w
         same = λ i. record { block = sym block i; version = sym version i; content = content_is i }
