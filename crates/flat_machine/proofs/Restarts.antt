@@ -5,8 +5,9 @@ use Rattle.std.proofs.lemmas.Bool.Decides.{nat_tests}
 use Rattle.std.proofs.lemmas.Option.{same_Some}
 use Rattle.map_join.specs.declared.records.Record.{Record}
 use Rattle.map_join.specs.Record.{key_of, record_of, stamp_of, stamp_in, IsRecord}
-use Rattle.map_join.specs.Maps.{IsMapOf, IsListOf}
+use Rattle.map_join.specs.Maps.{IsSame, IsMapOf, IsListOf}
 use Rattle.extents.specs.Header.{record_in}
+use Rattle.extent_groups.specs.Groups.{Groups}
 use Rattle.flat_machine.specs.Groups.{AreSizes, GroupsStand}
 use Rattle.flat_machine.specs.Flat.{Flat, Write, Content, IsSized, Holder, Worker, Ticket, Block, Shut, Stored, content_in, class_of, last_write}
 use Rattle.flat_machine.specs.History.{AreLimits, IsWrite, IsWriteOf, IsHeaderOf, HoldersStand, UnitStands, IsAt, BlockStands, IsHistory, AreHeld}
@@ -38,6 +39,24 @@ history_tells F keys is = record {
   where
     within : (r : Record) → 0 < keys r.block → r.block < F.groups.blocks
     within r some = let t = is.map.told r.block some in subst (λ b. b < F.groups.blocks) t.2 (is.blocks t.0 t.1)
+
+-- units tell one map: the record of the one is in a header, and so no newer than the other's
+no_newer : (groups : Groups) (units : ℕ → Option Stored) (M N : ℕ → ℕ) → TellMap groups units M → TellMap groups units N → (b : ℕ) → M b ≤ N b
+no_newer groups units M N one other b = go (positive (M b))
+  where
+    go : (M b ≡ 0) ⊎ (0 < M b) → M b ≤ N b
+    go (inl none) = omega arith
+    go (inr some) = at ((other.header (record_of b (M b)).place found.stored (record_of b (M b)) found.there found.header).newest)
+      where
+        found : IsAt units (record_of b (M b)) (one.found b some).0
+        found = (one.found b some).1
+
+        at : (key_of (record_of b (M b)) ≡ N b) ⊎ (stamp_of (record_of b (M b)) < stamp_in (N b)) → M b ≤ N b
+        at (inl newest) = omega arith
+        at (inr older) = omega arith
+
+pub tells_one : (groups : Groups) (units : ℕ → Option Stored) (M N : ℕ → ℕ) → TellMap groups units M → TellMap groups units N → IsSame M N
+tells_one groups units M N one other b = let low = no_newer groups units M N one other b in let high = no_newer groups units N M other one b in omega arith
 
 -- the record that a block's key tells
 abbrev newest : (ℕ → ℕ) → ℕ → Record
