@@ -9,3 +9,5 @@ pub mod Commits
 pub mod Makes
 pub mod Keeps
 pub mod Holding
+pub mod Rises
+pub mod Restarts

@@ -1,12 +1,14 @@
 // Laws of the flat machine, each the contract of a function that does nothing.
-ghost use Rattle.std.specs.Prelude.{ℕ, ◌≤◌, Bool};
+ghost use Rattle.std.specs.Prelude.{◌≡◌, ℕ, ◌≤◌, Bool, List, Option};
+ghost use Rattle.map_join.specs.declared.records.Record.{Record};
 ghost use Rattle.extent_groups.specs.Groups.{Groups};
-ghost use Rattle.map_join.specs.Maps.{IsMapOf};
-ghost use Rattle.flat_machine.specs.Groups.{AreSizes, IsEmpty};
-ghost use Rattle.flat_machine.specs.Flat.{Flat, new_flat};
+ghost use Rattle.map_join.specs.Maps.{IsSame, IsMapOf, IsListOf};
+ghost use Rattle.flat_machine.specs.Groups.{AreSizes, IsEmpty, GroupsStand};
+ghost use Rattle.flat_machine.specs.Flat.{Flat, Stored, new_flat, last_write};
 ghost use Rattle.flat_machine.specs.Steps.{FlatStep, FlatAnswer};
 ghost use Rattle.flat_machine.specs.Cases.{Case};
 ghost use Rattle.flat_machine.specs.History.{IsHistory, AreHeld, IsStep};
+ghost use Rattle.flat_machine.specs.Restarted.{TellMap, restarted};
 
 /// What is true of every state, and that no slot has two holders: so it is of a new array's, and each case
 /// of each step keeps it.
@@ -18,4 +20,20 @@ pub fn history_laws()
     ensures none { (groups : Groups) (drives : ℕ) (lost : ℕ → Bool) (failures : ℕ → ℕ) → AreHeld (new_flat groups drives lost failures) }
     ensures held { (F G : Flat) (keys : ℕ → ℕ) (step : FlatStep) (answer : FlatAnswer)
         → IsHistory F keys → AreHeld F → IsStep F.groups step → Case F step answer G → AreHeld G }
-{}
+{
+    // The laws are the contract: there is nothing to do.
+}
+
+/// The units of every state tell its map, and units tell one map. What is made anew of units that tell a map is true of every state again,
+/// and no slot has two holders; where they are a state's own, each block has the last write that it had.
+pub fn restart_laws()
+    ensures tells { (F : Flat) (keys : ℕ → ℕ) → IsHistory F keys → TellMap F.groups F.units keys }
+    ensures one { (groups : Groups) (units : ℕ → Option Stored) (M N : ℕ → ℕ) → TellMap groups units M → TellMap groups units N → IsSame M N }
+    ensures history { (F : Flat) (keys : ℕ → ℕ) (records : List Record) → AreSizes F.groups → 3 ≤ F.drives → F.drives ≤ 16 → GroupsStand F.groups F.drives
+        → TellMap F.groups F.units keys → IsListOf keys records → IsHistory (restarted F keys records) keys }
+    ensures held { (F : Flat) (keys : ℕ → ℕ) (records : List Record) → TellMap F.groups F.units keys → AreHeld (restarted F keys records) }
+    ensures writes { (F : Flat) (keys : ℕ → ℕ) (records : List Record) → IsHistory F keys → IsListOf keys records
+        → (b : ℕ) → last_write (restarted F keys records).writes b ≡ last_write F.writes b }
+{
+    // The laws are the contract: there is nothing to do.
+}

@@ -5,5 +5,5 @@ mod laws;
 mod refusal;
 
 pub use extent_groups::{Class, Member};
-pub use laws::history_laws;
+pub use laws::{history_laws, restart_laws};
 pub use refusal::Refusal;
