@@ -13,4 +13,5 @@ pub mod Makes
 pub mod Makings
 pub mod Seeing
 pub mod News
+pub mod Adopting
 pub mod Hands

@@ -3,3 +3,4 @@ pub mod Represents
 pub mod Changes
 pub mod Making
 pub mod Reads
+pub mod Adopted

@@ -1,4 +1,5 @@
 pub mod Places
+pub mod Seated
 pub mod Ready
 pub mod News
 pub mod BlockReads

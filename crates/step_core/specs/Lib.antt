@@ -2,6 +2,7 @@ pub mod Kept
 pub mod Told
 pub mod Inside
 pub mod New
+pub mod Adopted
 pub mod Refused
 pub mod Laws
 pub mod Reads

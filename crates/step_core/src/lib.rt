@@ -1,6 +1,7 @@
 //! The array: slots that are claimed, filled, committed and read, step by step of a flat machine.
 #![tactic(auto)]
 
+mod adopt;
 mod array;
 mod commit;
 mod copy;
@@ -14,11 +15,13 @@ mod place;
 mod read;
 mod reading;
 mod run;
+mod seats;
 mod step;
 mod tables;
 mod units;
 mod world;
 
+pub use adopt::NotAdopted;
 pub use array::Array;
 pub use array_parts::Units;
 pub use commit::{Done, Emitted};

@@ -54,7 +54,7 @@ fn zeros(alloc: Global, count: u32) -> Result<Vec<u64>, AllocError>
     vec![in alloc; 0u64; count as usize]
 }
 
-fn free_places<C: Hold>(alloc: Global, count: usize) -> Result<Vec<Place<C>>, AllocError>
+pub(crate) fn free_places<C: Hold>(alloc: Global, count: usize) -> Result<Vec<Place<C>>, AllocError>
     ensures len { IfOk result (λ places. length places.items ≡ count) }
     ensures free { IfOk result (λ places. (s : ℕ) → slice_index_or places.items s Place.Free ≡ Place.Free) }
 {
