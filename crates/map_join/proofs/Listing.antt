@@ -1,5 +1,5 @@
 -- The list of a map's records.
-use Rattle.std.proofs.Common.{◌≡◌, ℕ, ◌^◌, ◌<◌, ◌≤◌, true, List, [], ◌∷◌, map, length, get_or, Contains, All, refl, sym, ap, ◌∙◌, subst, arith, Option, Some, None, unwrap_or, ◌⊎◌, inl, inr}
+use Rattle.std.proofs.Common.{◌≡◌, ℕ, zero, suc, ◌^◌, ◌<◌, ◌≤◌, true, List, [], ◌∷◌, map, length, get_or, Contains, All, refl, sym, ap, ◌∙◌, subst, arith, Option, Some, None, MatchOption, unwrap_or, ◌⊎◌, inl, inr}
 use Rattle.std.proofs.lemmas.List.Elements.{All-head, All-tail, All-contains_itself, All-weaker, Contains-get_or}
 use Rattle.std.proofs.lemmas.List.{get_or-map, length-map}
 use Rattle.std.proofs.lemmas.Map.Keys.{IsDistinct-from_sorted, IsStrictlyIncreasing-from_sorted}
@@ -12,7 +12,7 @@ use Rattle.std.specs.List.Sorted.{IsStrictlySortedBy, IsStrictlyIncreasing}
 use Rattle.std.specs.Map.{keys_of}
 use Rattle.std.specs.Ordering.{nat_cmp, eq_by_cmp}
 use Rattle.map_join.specs.declared.records.Record.{Record}
-use Rattle.map_join.specs.Record.{record_of, record_at}
+use Rattle.map_join.specs.Record.{record_of, record_at, key_of}
 use Rattle.map_join.specs.Keys.{AreKeys}
 use Rattle.map_join.specs.Maps.{Entries, find, at, IsListOf}
 
@@ -26,6 +26,25 @@ told block key h = grind (arith, nat_tests)
 
 untold : (block key : ℕ) → key < 2 ^ 32 → record_at block key ≡ None
 untold block key h = grind (arith, nat_tests)
+
+-- what a map has of a block is told by the record with this key, and where there is none it has nothing
+pub told_key : (block key : ℕ) → (0 < key → 2 ^ 32 ≤ key) → MatchOption (record_at block key) (key ≡ 0) (λ r. key_of r ≡ key)
+told_key block key least = go key least
+  where
+    same : (n : ℕ) → key_of (record_of block n) ≡ n
+    same n = omega arith
+
+    go : (n : ℕ) → (0 < n → 2 ^ 32 ≤ n) → MatchOption (record_at block n) (n ≡ 0) (λ r. key_of r ≡ n)
+    go zero l = refl
+    go (suc n) l = rw (told block (suc n) (l (omega arith))) (same (suc n))
+
+-- the keys of a map are such
+pub least_at : (es : Entries) (block key : ℕ) → AreKeys es → key ≡ at es block → 0 < key → 2 ^ 32 ≤ key
+least_at es block key keys is some = go (find es block) refl
+  where
+    go : (o : Option ℕ) → find es block ≡ o → 2 ^ 32 ≤ key
+    go None e = absurd (let z : key ≡ 0 = is ∙ ap (λ q. unwrap_or q 0) e in omega (arith, z, some))
+    go (Some k) e = let l = keys block k e in let z : key ≡ k = is ∙ ap (λ q. unwrap_or q 0) e in omega (arith, z, l)
 
 -- an entry's number is a record's key
 abbrev pub HasKey : ℕ × ℕ → Type 0

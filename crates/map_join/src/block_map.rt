@@ -1,6 +1,6 @@
 // A block map: of each block the greatest key that it took.
-ghost use Rattle.std.specs.Prelude.{◌≡◌, ◌≢◌, ℕ, ◌<◌, ◌≤◌, ◌^◌, List, [], ◌∷◌, ◌++◌, IsOk, IfOk, IfSome, IfNone, OnOk, OnErr, IsTrue, ◌↔◌, max, unwrap_or};
-ghost use Rattle.map_join.specs.Record.{record_at};
+ghost use Rattle.std.specs.Prelude.{◌≡◌, ◌≢◌, ℕ, ◌<◌, ◌≤◌, ◌^◌, List, [], ◌∷◌, ◌++◌, IsOk, IfOk, IfSome, IfNone, MatchOption, OnOk, OnErr, IsTrue, ◌↔◌, max, unwrap_or};
+ghost use Rattle.map_join.specs.Record.{record_at, key_of};
 ghost use Rattle.map_join.specs.Maps.{at, IsSame, IsBelow, join, lone, only, IsMapOf, IsListOf, IsPartlyJoined, IsDifference, AreInOrder};
 ghost use Rattle.map_join.specs.Numbers.{refusal_number};
 ghost use Rattle.std.specs.List.{filter_map};
@@ -61,14 +61,16 @@ impl BlockMap {
 
     /// The newest record of the block that the map took.
     pub fn get(&self, block: u32) -> Option<Record>
-        ensures { result ≡ record_at block (at self.now block) }
+        ensures value { result ≡ record_at block (at self.now block) }
+        ensures key { MatchOption result (at self.now block ≡ 0) (λ r. key_of r ≡ at self.now block) }
     {
         Record::of_key(block, self.key_at(block))
     }
 
     // The block's key, or 0.
     fn key_at(&self, block: u32) -> u64
-        ensures { result ≡ at self.now block }
+        ensures value { result ≡ at self.now block }
+        ensures least { 0 < result → 2 ^ 32 ≤ result }
     {
         self.keys.get(&block).copied().unwrap_or(0)
     }

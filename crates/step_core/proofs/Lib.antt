@@ -1,5 +1,7 @@
 pub mod Places
 pub mod Seated
+pub mod Adoptions
+pub mod Adopters
 pub mod Ready
 pub mod News
 pub mod BlockReads

@@ -22,7 +22,7 @@ use Rattle.step_core.specs.Inside.{seen, IsReady}
 use Rattle.step_core.specs.Kept.{kept_of, kepts_of, AreOf}
 use Rattle.step_core.specs.New.{AreNew}
 
-none_kept : {C : Type 0} (places : List (Place C)) → ((s : ℕ) → get_or places s place.Free ≡ place.Free) → (s : ℕ) → get_or (kepts_of places) s Nothing ≡ Nothing
+pub none_kept : {C : Type 0} (places : List (Place C)) → ((s : ℕ) → get_or places s place.Free ≡ place.Free) → (s : ℕ) → get_or (kepts_of places) s Nothing ≡ Nothing
 none_kept places all s = get_or-map kept_of places s place.Free ∙ ap kept_of (all s)
 
 -- an array of these tables and drives

@@ -54,6 +54,12 @@ counted_more {C} names claims claim slot =
 pub one_here : (here : ℕ) → one_at here here ≡ 1
 one_here here = grind (arith, nat_tests)
 
+pub some_here : {C : Type 0} (names : C → ℕ) (c : C) (claims : List C) → 0 < how_many names (c ∷ claims) (names c)
+some_here names c claims =
+    let more = sum_by-append (λ d. cond (names d == names c) 1 0) (c ∷ []) claims in
+    let one = one_here (names c) in
+    omega (arith, more, one)
+
 pub one_else : (here slot : ℕ) → (slot ≡ here → ⊥) → one_at here slot ≡ 0
 one_else here slot ne = grind (arith, nat_tests)
 

@@ -1,5 +1,5 @@
 -- The claims of an array that is taken apart, or put together from parts and a map.
-use Rattle.std.specs.Prelude.{◌≡◌, ℕ, ◌+◌, ◌*◌, ◌<◌, ◌≤◌, ◌==◌, if◌then◌else◌, List, length, count_by, slice_index, slice_index_or, vec_len, vec_capacity, Contains, Option, Some, None}
+use Rattle.std.specs.Prelude.{◌≡◌, ℕ, ◌+◌, ◌*◌, ◌^◌, ◌<◌, ◌≤◌, ◌==◌, if◌then◌else◌, List, length, count_by, slice_index, slice_index_or, vec_len, vec_capacity, Contains, Option, Some, None}
 use Rattle.map_join.specs.declared.records.Record.{Record}
 use Rattle.map_join.specs.Record.{record_of}
 use Rattle.map_join.specs.Maps.{IsListOf}
@@ -68,12 +68,21 @@ pub record AreOfPlaces {C : Type 0} (names : C → ℕ) (M : ℕ → ℕ) (claim
   pub one : (b : ℕ) → 0 < M b → how_many names claims (record_of b (M b)).place ≡ 1
   pub only : (slot : ℕ) → 0 < how_many names claims slot → (b : ℕ) × (0 < M b) × ((record_of b (M b)).place ≡ slot)
 
--- room for an array of these groups and this map: its keys, its buffers, places that are free, and room for so many claims
-pub record HasRoom {C : Type 0} (groups : Groups) (M : ℕ → ℕ) (count : ℕ) (room : Room C) : Type 0 where
-  pub many : length room.keys.items ≡ groups.blocks
-  pub keys : (b : ℕ) → b < groups.blocks → slice_index room.keys.items b ≡ M b
-  pub unit : length room.unit.items ≡ unit_bytes groups
-  pub scratch : length room.scratch.items ≡ 2 * unit_bytes groups
+-- what a map may have of a block: nothing, or the key of a record
+pub record IsKey (key : ℕ) : Type 0 where
+  pub least : 0 < key → 2 ^ 32 ≤ key
+  pub most : key < 2 ^ 64
+
+-- keys of so many blocks by a map
+pub record AreKeys (blocks : ℕ) (M : ℕ → ℕ) (keys : List ℕ) : Type 0 where
+  pub many : length keys ≡ blocks
+  pub same : (b : ℕ) → b < blocks → slice_index keys b ≡ M b
+  pub told : (b : ℕ) → b < blocks → IsKey (M b)
+
+-- buffers for units of that many bytes, places that are free, and room for so many claims
+pub record HasRoom {C : Type 0} (bytes count : ℕ) (room : Room C) : Type 0 where
+  pub unit : length room.unit.items ≡ bytes
+  pub scratch : length room.scratch.items ≡ 2 * bytes
   pub none : vec_len room.others ≡ 0
   pub others : count ≤ vec_capacity room.others
   pub places : length room.places.items ≡ 65536
@@ -90,4 +99,5 @@ pub record AreReady {C : Type 0} (names : C → ℕ) (groups : Groups) (M : ℕ 
   pub log : IsListOf M ready.log.items
   pub wanted : AreWanted ready.log.items ready.wanted.items
   pub claimed : (slot : ℕ) → IsClaimed names claims ready.wanted.items slot
-  pub room : HasRoom groups M (length claims) ready.room
+  pub keys : AreKeys groups.blocks M ready.keys.items
+  pub room : HasRoom (unit_bytes groups) (length claims) ready.room

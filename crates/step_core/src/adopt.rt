@@ -9,7 +9,7 @@ ghost use Rattle.flat_machine.specs.Restarted.{HasPlaces, TellMap, restarted};
 ghost use Rattle.array_model.specs.Represents.{ShowsArray};
 ghost use Rattle.array_model.specs.Adopted.{IsAdopted, HasParts};
 ghost use Rattle.step_core.specs.declared.place.Place.TheVariants as place;
-ghost use Rattle.step_core.specs.Adopted.{AreClaimsOf, AreShared, AreOfPlaces, AreReady, HasRoom, IsNotAdopted};
+ghost use Rattle.step_core.specs.Adopted.{AreClaimsOf, AreShared, AreOfPlaces, AreReady, AreKeys, HasRoom, IsNotAdopted};
 
 use crate::array::Array;
 use crate::hold::Hold;
@@ -30,10 +30,9 @@ pub enum NotAdopted {
     NoClaim(u16),
 }
 
-// The tables and buffers of an array that is put together, and room for the claims that it doesn't take.
+// Places and buffers of an array that is put together, and room for the claims that it doesn't take.
 #[derive(Drop)]
 pub(crate) struct Room<C: Hold> {
-    pub(crate) keys: Vec<u64>,
     pub(crate) unit: Vec<u8>,
     pub(crate) scratch: Vec<u8>,
     pub(crate) others: Vec<C>,
@@ -45,13 +44,13 @@ pub(crate) struct Room<C: Hold> {
 pub(crate) struct Ready<C: Hold> {
     pub(crate) log: Vec<Record>,
     pub(crate) wanted: Vec<Option<u32>>,
+    pub(crate) keys: Vec<u64>,
     pub(crate) room: Room<C>,
 }
 
 // The key of each of so many blocks.
 fn keys_of(alloc: Global, blocks: u32, map: &BlockMap) -> Result<Vec<u64>, AllocError>
-    ensures many { IfOk result (λ keys. length keys.items ≡ blocks) }
-    ensures keys { IfOk result (λ keys. (b : ℕ) → b < blocks → slice_index keys.items b ≡ at map.now b) }
+    ensures { IfOk result (λ keys. AreKeys blocks (at map.now) keys.items) }
 {
     let mut keys = vec![in alloc; 0u64; blocks as usize]?;
     for block in 0..blocks {
@@ -62,29 +61,15 @@ fn keys_of(alloc: Global, blocks: u32, map: &BlockMap) -> Result<Vec<u64>, Alloc
     Ok(keys)
 }
 
-fn new_room<C: Hold>(
-    alloc: Global,
-    shape: &Shape,
-    map: &BlockMap,
-    count: usize,
-) -> Result<Room<C>, AllocError>
-    ensures many { IfOk result (λ room. length room.keys.items ≡ shape.now.blocks) }
-    ensures keys { IfOk result (λ room. (b : ℕ) → b < shape.now.blocks → slice_index room.keys.items b ≡ at map.now b) }
-    ensures unit { IfOk result (λ room. length room.unit.items ≡ HEADER_BYTES + shape.now.payload) }
-    ensures scratch { IfOk result (λ room. length room.scratch.items ≡ 2 * (HEADER_BYTES + shape.now.payload)) }
-    ensures none { IfOk result (λ room. vec_len room.others ≡ 0) }
-    ensures others { IfOk result (λ room. count ≤ vec_capacity room.others) }
-    ensures places { IfOk result (λ room. length room.places.items ≡ 65536) }
-    ensures free { IfOk result (λ room. (s : ℕ) → slice_index_or room.places.items s place.Free ≡ place.Free) }
+fn new_room<C: Hold>(alloc: Global, shape: &Shape, count: usize) -> Result<Room<C>, AllocError>
+    ensures { IfOk result (HasRoom (HEADER_BYTES + shape.now.payload) count) }
 {
-    let keys = keys_of(alloc, shape.blocks, map)?;
     let size = shape.unit_bytes();
     let unit = vec![in alloc; 0; size]?;
     let scratch = vec![in alloc; 0; 2 * size]?;
     let others = Vec::with_capacity(alloc, count)?;
     match free_places(alloc, SLOTS) {
         Ok(places) => Ok(Room {
-            keys,
             unit,
             scratch,
             others,
@@ -104,11 +89,15 @@ fn prepare<D: Drive, C: Hold>(
     map: &BlockMap,
     claims: &[C],
 ) -> Result<Ready<C>, NotAdopted>
-    requires { IsFit D.units parts.now }
+    requires fit { IsFit D.units parts.now }
+    requires places { HasPlaces parts.now.groups (at map.now) }
     ensures ok { IfOk result (AreReady C.names parts.now.groups (at map.now) claims.now) }
     ensures err { IfErr result (IsNotAdopted C.names claims.now (at map.now)) }
 {
     let Ok(log) = map.to_list(alloc) else {
+        return Err(NotAdopted::Memory);
+    };
+    let Ok(keys) = keys_of(alloc, parts.shape.blocks, map) else {
         return Err(NotAdopted::Memory);
     };
     let Ok(wanted) = blocks_by_slot(alloc, &log) else {
@@ -119,8 +108,13 @@ fn prepare<D: Drive, C: Hold>(
         Ok(Some(slot)) => return Err(NotAdopted::NoClaim(slot)),
         Err(_) => return Err(NotAdopted::Memory),
     }
-    match new_room(alloc, &parts.shape, map, claims.len()) {
-        Ok(room) => Ok(Ready { log, wanted, room }),
+    match new_room(alloc, &parts.shape, claims.len()) {
+        Ok(room) => Ok(Ready {
+            log,
+            wanted,
+            keys,
+            room,
+        }),
         Err(_) => Err(NotAdopted::Memory),
     }
 }
@@ -161,9 +155,13 @@ impl<D: Drive, C: Hold> Array<D, C> {
         match prepare(alloc, &parts, &map, &claims) {
             Err(why) => Err((why, parts, map, claims)),
             Ok(ready) => {
-                let Ready { log, wanted, room } = ready;
-                let Room {
+                let Ready {
+                    log,
+                    wanted,
                     keys,
+                    room,
+                } = ready;
+                let Room {
                     unit,
                     scratch,
                     mut others,
