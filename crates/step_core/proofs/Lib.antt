@@ -2,6 +2,7 @@ pub mod Places
 pub mod Seated
 pub mod Adoptions
 pub mod Adopters
+pub mod Restarting
 pub mod Ready
 pub mod News
 pub mod BlockReads

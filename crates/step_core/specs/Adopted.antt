@@ -1,11 +1,14 @@
 -- The claims of an array that is taken apart, or put together from parts and a map.
-use Rattle.std.specs.Prelude.{◌≡◌, ℕ, ◌+◌, ◌*◌, ◌^◌, ◌<◌, ◌≤◌, ◌==◌, if◌then◌else◌, List, length, count_by, slice_index, slice_index_or, vec_len, vec_capacity, Contains, Option, Some, None}
+use Rattle.std.specs.Prelude.{◌≡◌, ℕ, ◌+◌, ◌*◌, ◌^◌, ◌<◌, ◌≤◌, ◌==◌, if◌then◌else◌, List, length, count_by, false, slice_index, slice_index_or, vec_len, vec_capacity, Contains, Option, Some, None}
 use Rattle.map_join.specs.declared.records.Record.{Record}
 use Rattle.map_join.specs.Record.{record_of}
 use Rattle.map_join.specs.Maps.{IsListOf}
 use Rattle.extent_groups.specs.Groups.{Groups}
 use Rattle.extent_groups.specs.Stores.{unit_bytes}
-use Rattle.array_model.specs.Views.{Kept, Nothing, Newest, ArrayView, is_kept, kept_at}
+use Rattle.flat_machine.specs.Flat.{Flat, Worker, Ticket}
+use Rattle.flat_machine.specs.Restarted.{restarted}
+use Rattle.array_model.specs.Views.{Kept, Nothing, Newest, ArrayView, WorldView, is_kept, kept_at}
+use Rattle.array_model.specs.Represents.{Represents}
 use Rattle.step_core.specs.declared.place.Place.TheVariants as place
 use Rattle.step_core.specs.declared.adopt.NotAdopted.{NotAdopted}
 use Rattle.step_core.specs.declared.adopt.NotAdopted.TheVariants.{Memory, NoClaim}
@@ -101,3 +104,12 @@ pub record AreReady {C : Type 0} (names : C → ℕ) (groups : Groups) (M : ℕ 
   pub claimed : (slot : ℕ) → IsClaimed names claims ready.wanted.items slot
   pub keys : AreKeys groups.blocks M ready.keys.items
   pub room : HasRoom (unit_bytes groups) (length claims) ready.room
+
+-- no worker holds a slot, or has a ticket of one
+abbrev pub IsIdle : Flat → Type 0
+IsIdle F = (s w : ℕ) → (F.held s (Worker w) ≡ false) × (F.held s (Ticket w) ≡ false)
+
+-- the world stands for the state F made anew with this map
+pub record WasRestarted (F : Flat) (M : ℕ → ℕ) (w : WorldView) : Type 0 where
+  pub log : IsListOf M w.array.log
+  pub stands : Represents w (restarted F M w.array.log)

@@ -175,6 +175,13 @@ impl<D: Drive, C: Hold> Array<D, C> {
         Record::of_key(block, self.keys[block as usize])
     }
 
+    /// How many records were emitted.
+    pub fn record_count(&self) -> usize
+        ensures { result ≡ length self.now.log }
+    {
+        self.log.len()
+    }
+
     /// The emitted records from the n-th on, in order of emission; none where n is past the end.
     pub fn records_from(&self, alloc: Global, n: usize) -> Result<Vec<Record>, Refusal>
         ensures ok { IfOk result (λ records. records.items ≡ drop n self.now.log) }

@@ -14,6 +14,7 @@ mod memory;
 mod place;
 mod read;
 mod reading;
+mod restart;
 mod run;
 mod seats;
 mod step;

@@ -23,7 +23,10 @@ fn no_marks(alloc: Global, count: usize) -> Result<Vec<bool>, AllocError>
 }
 
 // The block that each slot is the newest place of.
-pub(crate) fn blocks_by_slot(alloc: Global, records: &[Record]) -> Result<Vec<Option<u32>>, AllocError>
+pub(crate) fn blocks_by_slot(
+    alloc: Global,
+    records: &[Record],
+) -> Result<Vec<Option<u32>>, AllocError>
     ensures { IfOk result (λ wanted. AreWanted records.now wanted.items) }
 {
     let mut wanted = no_blocks(alloc, SLOTS)?;
@@ -65,11 +68,7 @@ pub(crate) fn first_unclaimed<C: Hold>(
 }
 
 // Takes a claim into the place that wants it, or gives it back.
-fn seat<C: Hold>(
-    wanted: &mut Vec<Option<u32>>,
-    places: &mut Vec<Place<C>>,
-    claim: C,
-) -> Option<C>
+fn seat<C: Hold>(wanted: &mut Vec<Option<u32>>, places: &mut Vec<Place<C>>, claim: C) -> Option<C>
     requires many { vec_len wanted.old ≡ 65536 }
     requires room { vec_len places.old ≡ 65536 }
     requires claims { AreOf C.names places.old.items }

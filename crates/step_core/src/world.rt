@@ -29,8 +29,8 @@ use std::marker::Model;
 /// An array of drives in memory, and of each slot what a worker has in hand.
 #[derive(Drop)]
 pub struct World {
-    array: Array<MemDrive, Plain>,
-    hands: Vec<Hand>,
+    pub(crate) array: Array<MemDrive, Plain>,
+    pub(crate) hands: Vec<Hand>,
 }
 
 impl Model for World {
@@ -338,7 +338,7 @@ fn refused(refusal: Refusal) -> Result<Answer, AllocError>
     }
 }
 
-fn empty_hands(alloc: Global, count: usize) -> Result<Vec<Hand>, AllocError>
+pub(crate) fn empty_hands(alloc: Global, count: usize) -> Result<Vec<Hand>, AllocError>
     ensures len { IfOk result (λ hands. length hands.items ≡ count) }
     ensures empty { IfOk result (λ hands. (s : ℕ) → hand_at hands.items s ≡ Hand.Empty) }
 {

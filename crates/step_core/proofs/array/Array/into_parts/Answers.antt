@@ -1,0 +1,7 @@
+use Rattle.std.proofs.Common.{subst}
+use Rattle.array_model.specs.Views.{ArrayView}
+use Rattle.step_core.specs.Adopted.{AreClaimsOf}
+use Rattle.step_core.proofs.array.Array.into_parts.Goals as goal
+
+pub returns-clause-claims : goal.returns-clause-claims
+returns-clause-claims g c = subst (λ (a : ArrayView). AreClaimsOf g.C.Hold.names a c.unseat_all.new.claims.items) c.self.view_is c.unseat_all.ensures

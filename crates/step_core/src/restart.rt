@@ -1,0 +1,63 @@
+// A world made of an array, its array taken out of it, and a world that is made anew.
+ghost use Rattle.std.specs.Prelude.{◌≡◌, ℕ, List, length, IfOk, IfErr};
+ghost use Rattle.map_join.specs.declared.records.Record.{Record};
+ghost use Rattle.map_join.specs.Maps.{at, IsMapOf, IsListOf};
+ghost use Rattle.flat_machine.specs.Flat.{Flat};
+ghost use Rattle.flat_machine.specs.Restarted.{HasPlaces, restarted};
+ghost use Rattle.array_model.specs.Views.{hand_at, SameSizes};
+ghost use Rattle.array_model.specs.Represents.{ShowsArray, Represents};
+ghost use Rattle.step_core.specs.Adopted.{IsIdle, WasRestarted};
+
+use crate::adopt::NotAdopted;
+use crate::array::Array;
+use crate::hold::Plain;
+use crate::tables::SLOTS;
+use crate::world::{World, empty_hands};
+use array_model::Hand;
+use extents::MemDrive;
+use map_join::BlockMap;
+use std::alloc::Global;
+
+impl World {
+    /// The array alone; what the workers had in hand is given up.
+    pub fn into_array(self) -> Array<MemDrive, Plain>
+        ensures { result ≡ self.array }
+    {
+        self.array
+    }
+
+    /// A world of an array, in which no worker has anything in hand. Refused for want of memory it hands
+    /// the array back.
+    pub fn of(alloc: Global, array: Array<MemDrive, Plain>) -> Result<World, Array<MemDrive, Plain>>
+        ensures array { IfOk result (λ world. world.array ≡ array) }
+        ensures hands { IfOk result (λ world. (s : ℕ) → hand_at world.hands s ≡ Hand.Empty) }
+        ensures flat { IfOk result (λ world. (F : Flat) → ShowsArray array F → IsIdle F → Represents world F) }
+        ensures err { IfErr result (λ refused. refused ≡ array) }
+    {
+        match empty_hands(alloc, SLOTS) {
+            Ok(hands) => Ok(World { array, hands }),
+            Err(_) => Err(array),
+        }
+    }
+
+    /// The world made anew with a map of its headers: the map's list is the log, each block's newest place
+    /// is held and no other slot, and nothing is pending. It takes some 10 bytes for each slot number; where
+    /// they are refused the world is given up.
+    pub fn restarted(self, alloc: Global, map: BlockMap) -> Result<World, NotAdopted>
+        requires { HasPlaces self.array.parts.groups (at map) }
+        ensures ok { IfOk result (λ world. (F : Flat) → Represents self F → IsMapOf F.emitted (at map) → WasRestarted F (at map) world) }
+        ensures err { IfErr result (λ why. (F : Flat) → Represents self F → IsMapOf F.emitted (at map) → why ≡ NotAdopted.Memory) }
+        ensures room { IfOk result (λ world. SameSizes self.array world.array) }
+    {
+        let Ok((parts, claims)) = self.array.into_parts(alloc) else {
+            return Err(NotAdopted::Memory);
+        };
+        match Array::adopt_among(alloc, parts, map, claims) {
+            Ok((array, _free)) => match World::of(alloc, array) {
+                Ok(world) => Ok(world),
+                Err(_) => Err(NotAdopted::Memory),
+            },
+            Err((why, _parts, _map, _claims)) => Err(why),
+        }
+    }
+}
