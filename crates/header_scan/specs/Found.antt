@@ -22,11 +22,6 @@ stamp_in_option (Some r) = stamp_of r
 abbrev pub stamp_at : (ℕ → ℕ) → ℕ → ℕ
 stamp_at M block = stamp_in_option (record_at block (M block))
 
--- the version of what may be a record is no 0
-abbrev pub IsStamped : Option Record → Type 0
-IsStamped None = Unit {0}
-IsStamped (Some r) = 0 < r.version
-
 -- the slot's header is a record of the block with this stamp
 abbrev pub HasStamp : Bytes → ℕ → ℕ → ℕ → Type 0
 HasStamp bytes block slot stamp = (r : Record) × HasHeader bytes slot r × (r.block ≡ block) × (stamp_of r ≡ stamp)

@@ -6,7 +6,7 @@ use Rattle.std.specs.Prelude.{Ok, Err, IfOk}
 use Rattle.map_join.specs.Maps.{at}
 use Rattle.header_scan.specs.declared.found.Found.{Found}
 use Rattle.header_scan.specs.Faults.{IsFine}
-use Rattle.header_scan.specs.Found.{IsStamped, IsUnderway, ArePlaced}
+use Rattle.header_scan.specs.Found.{IsUnderway, ArePlaced}
 use Rattle.header_scan.proofs.Placing.{noted_placed, placed_below}
 use Rattle.header_scan.proofs.pass.scan_group.Goals.{in-Some+in-Ok-note, in_default}
 use Rattle.header_scan.proofs.pass.scan_group.Goals as goal
@@ -50,7 +50,6 @@ loop-index-preserved g c = record {
         let group = c.requires.group in
         let small : 128 * c.args.group + c.loop-index.index < 2 ^ 16 = omega (arith, few, index, group) in
         let is : c.look.result ≡ Ok (Some w.in-Some.told) = c.in-Ok.is ∙ ap (λ o. Ok o) w.in-Some.is in
-        let written : 0 < w.in-Some.told.version = subst (λ x. IfOk x IsStamped) is c.look.ensures.written in
         let note : IsNote c.loop-index.found.newest c.loop-index.found.twins w.note.new.self.newest w.note.new.self.twins w.in-Some.told = record {
           newer = w.in-Ok-note.ensures.newer;
           twin = w.in-Ok-note.ensures.twin;
@@ -59,7 +58,7 @@ loop-index-preserved g c = record {
         } in
         let more : IsUnderway (g.U.Units.groups c.args.units.now) start (g.U.Units.cells c.look.new.units) low (128 * c.args.group + c.loop-index.index + 1) (at w.note.new.self.newest) (at w.note.new.self.twins) =
         some_more (g.U.Units.groups c.args.units.now) start (g.U.Units.cells c.loop-index.units) (g.U.Units.cells c.look.new.units) low (128 * c.args.group + c.loop-index.index) w.in-Some.told
-        c.loop-index.found.newest c.loop-index.found.twins w.note.new.self.newest w.note.new.self.twins (omega (arith, l)) small written note (c.loop-index.invariant.ok low start l was)
+        c.loop-index.found.newest c.loop-index.found.twins w.note.new.self.newest w.note.new.self.twins (omega (arith, l)) small note (c.loop-index.invariant.ok low start l was)
         (looked_at (g.U.Units.groups c.args.units.now) (g.U.Units.groups c.loop-index.units) (g.U.Units.groups c.look.new.units) (g.U.Units.cells c.loop-index.units) (g.U.Units.cells c.look.new.units) c.args.blocks (128 * c.args.group + c.loop-index.index) c.look.result (Ok (Some w.in-Some.told))
         c.loop-index.invariant.groups c.requires.blocks c.look.ensures.groups is (c.look.ensures.ok, c.look.ensures.err, c.look.ensures.units, c.look.ensures.sound)) in
         let next : 128 * c.args.group + c.loop-index.index + 1 ≡ 128 * c.args.group + (c.loop-index.index + 1) = omega arith in
