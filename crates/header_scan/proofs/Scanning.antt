@@ -61,11 +61,14 @@ in_range low high slot e = ((grind (arith, nat_tests)), (grind (arith, nat_tests
 is_range : (low high slot : ℕ) → low ≤ slot → slot < high → (nat_le low slot && nat_lt slot high) ≡ true
 is_range low high slot l h = grind (arith, nat_tests)
 
-pub within : (low high : ℕ) (bytes : Bytes) (slot : ℕ) (r : Record) → HasHeader (between low high bytes) slot r → (low ≤ slot) × (slot < high) × HasHeader bytes slot r
-within low high bytes slot r h =
-    let c = chosen (nat_le low slot && nat_lt slot high) (bytes slot) h.0 h.1 in
+pub in_between : (low high : ℕ) (bytes : Bytes) (slot : ℕ) (v : List ℕ) → between low high bytes slot ≡ Some v → (low ≤ slot) × (slot < high) × (bytes slot ≡ Some v)
+in_between low high bytes slot v e =
+    let c = chosen (nat_le low slot && nat_lt slot high) (bytes slot) v e in
     let b = in_range low high slot c.0 in
-    (b.0, b.1, (h.0, c.1, h.2))
+    (b.0, b.1, c.1)
+
+pub within : (low high : ℕ) (bytes : Bytes) (slot : ℕ) (r : Record) → HasHeader (between low high bytes) slot r → (low ≤ slot) × (slot < high) × HasHeader bytes slot r
+within low high bytes slot r h = let is = in_between low high bytes slot h.0 h.1 in (is.0, is.1, (h.0, is.2, h.2))
 
 pub ranged : (low high : ℕ) (bytes : Bytes) (slot : ℕ) (r : Record) → low ≤ slot → slot < high → HasHeader bytes slot r → HasHeader (between low high bytes) slot r
 ranged low high bytes slot r l k h = (h.0, ap (λ b. if b then bytes slot else None) (is_range low high slot l k) ∙ h.1, h.2)
