@@ -40,12 +40,15 @@ more_kept groups start c new blocks slot result keeps look = λ sound.
     let was = keeps sound in
     (λ other v e. was.0 other v (look.2 was.1 other v e), look.3 was.1)
 
--- a slot that has a unit is one of a made group
-has_site : (groups : Groups) (c : Cells) (slot : ℕ) (v : List ℕ) (o : Option Site) → site_of groups slot ≡ o → unit_in (unit_bytes groups) c o ≡ Some v → IsSlot groups slot
-has_site groups c slot v None at e = absurd (none-some v e)
-has_site groups c slot v (Some site) at e =
+-- a slot that lies somewhere, or has a unit, is one of a made group
+pub slot_at : (groups : Groups) (slot : ℕ) (site : Site) → site_of groups slot ≡ Some site → IsSlot groups slot
+slot_at groups slot site at =
     let is = slot_of groups.segments (group_at groups (slot / 128)) (slot % 128) site at in
     subst (λ o. slot % 128 < slots_in groups.segments o) (sym is.made) is.below
+
+has_site : (groups : Groups) (c : Cells) (slot : ℕ) (v : List ℕ) (o : Option Site) → site_of groups slot ≡ o → unit_in (unit_bytes groups) c o ≡ Some v → IsSlot groups slot
+has_site groups c slot v None at e = absurd (none-some v e)
+has_site groups c slot v (Some site) at e = slot_at groups slot site at
 
 pub has_unit : (groups : Groups) (c : Cells) (slot : ℕ) (v : List ℕ) → unit_of groups c slot ≡ Some v → IsSlot groups slot
 has_unit groups c slot v e = has_site groups c slot v (site_of groups slot) refl e

@@ -76,7 +76,6 @@ unit_sized v slot unit drives e =
 has_class : (unit : Option Stored) (class : Option Class) (u : Stored) → is_some unit ≡ is_some class → unit ≡ Some u → class ≢ None
 has_class unit class u same at none = let bad : true ≡ false = sym (ap is_some at) ∙ same ∙ ap is_some none in cc
 
--- a record that is no newer than a key and not of a lower stamp has the key's stamp
 module _ (v : PartsView) (groups : AreGroups v.groups) (drives : AreDrives drive_units v.groups v.drives) (units : ℕ → Option Stored) (shows : Shows v units) (there : (s : ℕ) → is_some (units s) ≡ is_some (class_at v.groups s)) (fine : AreFine v.groups 0 (2 ^ 16) (unit_of v.groups (cells_of v))) where
   -- the header of a slot that has a unit is told
   slot_told : (s : ℕ) (u : Stored) → units s ≡ Some u → (o : Option Record) × Tells v.groups.blocks (unit_of v.groups (cells_of v)) s o
@@ -97,7 +96,7 @@ module _ (v : PartsView) (groups : AreGroups v.groups) (drives : AreDrives drive
       omega (arith, long, short, payload)
 
   -- a record in the header of a unit is told
-  record_told : (s : ℕ) (u : Stored) (r : Record) → units s ≡ Some u → record_in u.header ≡ Some r → Tells v.groups.blocks (unit_of v.groups (cells_of v)) s (Some r)
+  pub record_told : (s : ℕ) (u : Stored) (r : Record) → units s ≡ Some u → record_in u.header ≡ Some r → Tells v.groups.blocks (unit_of v.groups (cells_of v)) s (Some r)
   record_told s u r at header =
       let told = slot_told s u at in
       let spelled = (is_unit s u told.1.0 at told.1.1).0 in
