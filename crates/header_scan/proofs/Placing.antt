@@ -5,7 +5,7 @@ use Rattle.std.proofs.lemmas.Bool.Decides.{nat_tests}
 use Rattle.std.proofs.lemmas.Bool.{cases_order}
 use Rattle.std.proofs.lemmas.Option.{none-some}
 use Rattle.map_join.specs.declared.records.Record.{Record}
-use Rattle.map_join.specs.Record.{key_of, record_of, stamp_of}
+use Rattle.map_join.specs.Record.{key_of, stamp_of}
 use Rattle.map_join.specs.Maps.{Entries, at, IsSame, join, only}
 use Rattle.extent_groups.specs.Geometry.{slot_count}
 use Rattle.extent_groups.specs.Groups.{Group, Groups, group_at, slots_in}

@@ -1,12 +1,11 @@
 -- Headers that a scan finds fine, over what parts of an array show: the units tell the map of the scan.
-use Rattle.std.proofs.Common.{◌≡◌, ◌≢◌, ℕ, ◌+◌, ◌-◌, ◌/◌, ◌%◌, ◌^◌, ◌<◌, ◌≤◌, ◌⊎◌, inl, inr, Bool, true, false, Option, Some, None, List, length, take, drop, refl, sym, ◌∙◌, ap, subst, arith}
+use Rattle.std.proofs.Common.{◌≡◌, ◌≢◌, ℕ, ◌/◌, ◌%◌, ◌^◌, ◌<◌, ◌≤◌, ◌⊎◌, inl, inr, true, false, Option, Some, None, List, length, take, drop, refl, sym, ◌∙◌, ap, subst, arith}
 use Rattle.std.specs.Prelude.{slice_get, unwrap_or, is_some, replicate}
 use Rattle.std.proofs.lemmas.Bool.{cases_order}
 use Rattle.std.proofs.lemmas.List.{length-drop}
 use Rattle.std.proofs.lemmas.Option.{same_Some, none-some, slice_get_past}
 use Rattle.map_join.specs.declared.records.Record.{Record}
-use Rattle.map_join.specs.Record.{key_of, record_of, stamp_of, stamp_in, IsRecord}
-use Rattle.extents.specs.declared.header.Header.{Header}
+use Rattle.map_join.specs.Record.{key_of, record_of, stamp_of, stamp_in}
 use Rattle.extents.specs.declared.header.Header.TheVariants.{Is}
 use Rattle.extents.specs.Header.{Spells, record_in}
 use Rattle.extents.proofs.Headers.{one_header}
@@ -31,7 +30,6 @@ use Rattle.flat_machine.specs.Restarted.{TellMap}
 use Rattle.flat_machine.specs.Scanned.{HasHeader, IsScanned}
 use Rattle.flat_machine.proofs.Newest.{told_again, key_least}
 use Rattle.header_scan.specs.Faults.{between, Tells, AreFine, IsTwice}
-use Rattle.header_scan.specs.Found.{HasStamp}
 use Rattle.header_scan.proofs.Scanning.{has_unit, ranged, told_header}
 use Rattle.header_scan.proofs.Ending.{own_told}
 use Rattle.header_scan.proofs.Placing.{classed}

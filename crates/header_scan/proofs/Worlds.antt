@@ -1,28 +1,27 @@
 -- A scan of an array or a world that stands for a flat state: the map of its log where no slot is gone, and else the first that is.
-use Rattle.std.proofs.Common.{◌≡◌, ◌≢◌, ℕ, ◌+◌, ◌*◌, ◌/◌, ◌^◌, ◌<◌, ◌≤◌, ◌⊎◌, inl, inr, Option, Some, None, List, take, refl, sym, ◌∙◌, ap, subst, arith}
+use Rattle.std.proofs.Common.{◌≡◌, ℕ, ◌^◌, ◌<◌, ◌≤◌, ◌⊎◌, inl, inr, Option, Some, None, List, take, refl, sym, ◌∙◌, ap, subst, arith}
 use Rattle.std.specs.Prelude.{is_some, Result, Ok, Err, IfOk, IfErr, OnOk}
 use Rattle.std.proofs.lemmas.Option.{none-some}
 use Rattle.map_join.specs.declared.records.Record.{Record}
-use Rattle.map_join.specs.Record.{key_of, record_of, stamp_of, stamp_in, IsRecord}
+use Rattle.map_join.specs.Record.{key_of, record_of, stamp_of, stamp_in}
 use Rattle.map_join.specs.Maps.{Entries, at, IsMapOf}
 use Rattle.extents.specs.declared.header.Header.{Header}
 use Rattle.extents.specs.declared.header.Header.TheVariants.{Is}
 use Rattle.extents.specs.Header.{Spells, record_in}
 use Rattle.extent_groups.specs.Groups.{Groups}
 use Rattle.extent_groups.specs.Stores.{unit_of, AreSound}
-use Rattle.extent_groups.specs.Units.{site_of}
 use Rattle.extent_groups.proofs.Missing.{gone_law}
 use Rattle.array_parts.specs.Slots.{IsSlot}
-use Rattle.array_parts.specs.Views.{PartsView, IsLost, cells_of, drive_units, drive_lost}
+use Rattle.array_parts.specs.Views.{IsLost, cells_of, drive_units, drive_lost}
 use Rattle.array_parts.proofs.Reading.{slot_there}
 use Rattle.array_parts.proofs.Shows.{shown_header}
-use Rattle.flat_machine.specs.Flat.{Flat, Stored, Content}
+use Rattle.flat_machine.specs.Flat.{Flat}
 use Rattle.flat_machine.specs.Groups.{class_at}
 use Rattle.flat_machine.specs.Cases.{IsGoneIn}
-use Rattle.flat_machine.specs.History.{IsHeaderOf, IsAt}
+use Rattle.flat_machine.specs.History.{IsHeaderOf}
 use Rattle.flat_machine.specs.Restarted.{TellMap}
 use Rattle.flat_machine.specs.Scanned.{HasHeader, IsScanned}
-use Rattle.flat_machine.specs.Scans.{Told, NotTold, FindsGone, ScanCase}
+use Rattle.flat_machine.specs.Scans.{Told, FindsGone, ScanCase}
 use Rattle.flat_machine.proofs.Restarts.{history_tells, tells_one}
 use Rattle.array_model.specs.Views.{ArrayView, WorldView, IsWhole, hand_at, key_at}
 use Rattle.array_model.specs.Represents.{ShowsArray, HandSlot, Represents}
