@@ -14,7 +14,7 @@ use Rattle.extent_groups.specs.declared.class.Class.{Class}
 use Rattle.extent_groups.specs.Groups.{Groups, AreGroups, group_at, slots_in}
 use Rattle.extent_groups.specs.Cells.{Cells, held}
 use Rattle.extent_groups.specs.Units.{Site, Pair, InStripe, put, others, or_else, row_of, unit_at, unit_in, site_of}
-use Rattle.extent_groups.specs.Stores.{unit_bytes, unit_of, AreSound, AreDrives}
+use Rattle.extent_groups.specs.Stores.{unit_bytes, AreSound, AreDrives}
 use Rattle.extent_groups.proofs.DriveCalls.{cells_sized}
 use Rattle.extent_groups.proofs.Fading.{row_sized}
 use Rattle.extent_groups.proofs.Totals.{total_sized, put_sized}
@@ -29,11 +29,24 @@ use Rattle.flat_machine.specs.History.{IsHeaderOf, IsAt}
 use Rattle.flat_machine.specs.Restarted.{TellMap}
 use Rattle.flat_machine.specs.Scanned.{HasHeader, IsScanned}
 use Rattle.flat_machine.proofs.Newest.{told_again, key_least}
-use Rattle.header_scan.specs.Faults.{between, Tells, AreFine, IsTwice}
+use Rattle.step_core.specs.Headline.{bytes_of}
+use Rattle.header_scan.specs.Faults.{Bytes, between, Tells, AreFine, IsTwice}
 use Rattle.header_scan.proofs.Scanning.{has_unit, ranged, told_header}
 use Rattle.header_scan.proofs.Ending.{own_told}
 use Rattle.header_scan.proofs.Placing.{classed}
 use Rattle.header_scan.proofs.Twins.{has_or_not, stands_once}
+
+-- the units of all slots
+abbrev pub all_units : PartsView → Bytes
+all_units v = between 0 (2 ^ 16) (bytes_of v)
+
+-- their headers are fine
+abbrev pub AllFine : PartsView → Type 0
+AllFine v = AreFine v.groups 0 (2 ^ 16) (bytes_of v)
+
+-- and no block stands twice
+abbrev pub NoneTwice : PartsView → Type 0
+NoneTwice v = (block first second : ℕ) → IsTwice (all_units v) block first second → ⊥
 
 -- a group's number is below 512, and so its slots are below 65536
 group_low : (groups : Groups) (g index : ℕ) → length groups.table ≡ 512 → index < slots_in groups.segments (group_at groups g) → g < 512
@@ -66,7 +79,7 @@ in_sized : (n : ℕ) (c : Cells) (o : Option Site) → ((x : Place) (u : List �
 in_sized n c None sized v e = absurd (none-some v e)
 in_sized n c (Some site) sized v e = site_sized n c site sized v e
 
-unit_sized : (v : PartsView) (slot : ℕ) (unit : List ℕ) → AreDrives drive_units v.groups v.drives → unit_of v.groups (cells_of v) slot ≡ Some unit → length unit ≡ unit_bytes v.groups
+unit_sized : (v : PartsView) (slot : ℕ) (unit : List ℕ) → AreDrives drive_units v.groups v.drives → bytes_of v slot ≡ Some unit → length unit ≡ unit_bytes v.groups
 unit_sized v slot unit drives e =
     in_sized (unit_bytes v.groups) (cells_of v) (site_of v.groups slot) (cells_sized drive_units drive_lost (unit_bytes v.groups) v.drives drives.sized) unit e
 
@@ -74,15 +87,15 @@ unit_sized v slot unit drives e =
 has_class : (unit : Option Stored) (class : Option Class) (u : Stored) → is_some unit ≡ is_some class → unit ≡ Some u → class ≢ None
 has_class unit class u same at none = let bad : true ≡ false = sym (ap is_some at) ∙ same ∙ ap is_some none in cc
 
-module _ (v : PartsView) (groups : AreGroups v.groups) (drives : AreDrives drive_units v.groups v.drives) (units : ℕ → Option Stored) (shows : Shows v units) (there : (s : ℕ) → is_some (units s) ≡ is_some (class_at v.groups s)) (fine : AreFine v.groups 0 (2 ^ 16) (unit_of v.groups (cells_of v))) where
+module _ (v : PartsView) (groups : AreGroups v.groups) (drives : AreDrives drive_units v.groups v.drives) (units : ℕ → Option Stored) (shows : Shows v units) (there : (s : ℕ) → is_some (units s) ≡ is_some (class_at v.groups s)) (fine : AllFine v) where
   -- the header of a slot that has a unit is told
-  slot_told : (s : ℕ) (u : Stored) → units s ≡ Some u → (o : Option Record) × Tells v.groups.blocks (unit_of v.groups (cells_of v)) s o
+  slot_told : (s : ℕ) (u : Stored) → units s ≡ Some u → (o : Option Record) × Tells v.groups.blocks (bytes_of v) s o
   slot_told s u at =
       let is = slot_of_class v.groups s (has_class (units s) (class_at v.groups s) u (there s) at) in
       fine s is (omega arith) (slot_low v.groups s groups is)
 
   -- the bytes of a slot are those of its unit
-  is_unit : (s : ℕ) (u : Stored) (bytes : List ℕ) → units s ≡ Some u → unit_of v.groups (cells_of v) s ≡ Some bytes → IsUnit bytes u
+  is_unit : (s : ℕ) (u : Stored) (bytes : List ℕ) → units s ≡ Some u → bytes_of v s ≡ Some bytes → IsUnit bytes u
   is_unit s u bytes at e = let w = shows.shown s bytes e in subst (IsUnit bytes) (same_Some w.0 u (sym w.1 ∙ at)) w.2
 
   payload_sized : (s : ℕ) (u : Stored) → units s ≡ Some u → length u.payload ≡ v.groups.payload
@@ -94,20 +107,19 @@ module _ (v : PartsView) (groups : AreGroups v.groups) (drives : AreDrives drive
       omega (arith, long, short, payload)
 
   -- a record in the header of a unit is told
-  pub record_told : (s : ℕ) (u : Stored) (r : Record) → units s ≡ Some u → record_in u.header ≡ Some r → Tells v.groups.blocks (unit_of v.groups (cells_of v)) s (Some r)
+  pub record_told : (s : ℕ) (u : Stored) (r : Record) → units s ≡ Some u → record_in u.header ≡ Some r → Tells v.groups.blocks (bytes_of v) s (Some r)
   record_told s u r at header =
       let told = slot_told s u at in
       let spelled = (is_unit s u told.1.0 at told.1.1).0 in
       let same : told.0 ≡ Some r = sym told.1.2.2 ∙ ap record_in (one_header (take 32 told.1.0) told.1.2.0 u.header told.1.2.1 spelled) ∙ header in
-      subst (λ o. Tells v.groups.blocks (unit_of v.groups (cells_of v)) s o) same told.1
+      subst (λ o. Tells v.groups.blocks (bytes_of v) s o) same told.1
 
-  module _ (M : ℕ → ℕ) (map : IsScanned (between 0 (2 ^ 16) (unit_of v.groups (cells_of v))) M) where
+  module _ (M : ℕ → ℕ) (map : IsScanned (all_units v) M) where
     -- a header of the scan, and the unit that shows it
-    header_there : (slot : ℕ) (r : Record) → HasHeader (between 0 (2 ^ 16) (unit_of v.groups (cells_of v))) slot r
-        → (u : Stored) × (units r.place ≡ Some u) × (record_in u.header ≡ Some r)
+    header_there : (slot : ℕ) (r : Record) → HasHeader (all_units v) slot r → (u : Stored) × (units r.place ≡ Some u) × (record_in u.header ≡ Some r)
     header_there slot r h =
         let told = own_told v.groups (cells_of v) 0 (2 ^ 16) slot r fine h in
-        let w = told_header v.groups.blocks (unit_of v.groups (cells_of v)) slot r told in
+        let w = told_header v.groups.blocks (bytes_of v) slot r told in
         let shown = shows.shown slot w.0 w.1 in
         (shown.0, ap units told.3.1 ∙ shown.1, ap record_in (shown_header w.0 shown.0 (Is r) shown.2 w.2))
 
@@ -122,13 +134,13 @@ module _ (v : PartsView) (groups : AreGroups v.groups) (drives : AreDrives drive
           subst (λ (r : Record). IsAt units r (content_in unit.0)) (sym same) (record { stored = unit.0; there = unit.1; header = unit.2; content = refl }),
         )
 
-    module _ (once : (b p q : ℕ) → IsTwice (between 0 (2 ^ 16) (unit_of v.groups (cells_of v))) b p q → ⊥) where
+    module _ (once : NoneTwice v) where
       -- a record of the newest stamp is the newest
-      newest_or_older : (s : ℕ) (r : Record) → Tells v.groups.blocks (unit_of v.groups (cells_of v)) s (Some r) → s < 2 ^ 16 → (key_of r ≡ M r.block) ⊎ (stamp_of r < stamp_in (M r.block))
+      newest_or_older : (s : ℕ) (r : Record) → Tells v.groups.blocks (bytes_of v) s (Some r) → s < 2 ^ 16 → (key_of r ≡ M r.block) ⊎ (stamp_of r < stamp_in (M r.block))
       newest_or_older s r tells low = by (cases_order (stamp_of r) (stamp_in (M r.block)))
         where
-          here : HasHeader (between 0 (2 ^ 16) (unit_of v.groups (cells_of v))) s r
-          here = ranged 0 (2 ^ 16) (unit_of v.groups (cells_of v)) s r (omega arith) low (told_header v.groups.blocks (unit_of v.groups (cells_of v)) s r tells)
+          here : HasHeader (all_units v) s r
+          here = ranged 0 (2 ^ 16) (bytes_of v) s r (omega arith) low (told_header v.groups.blocks (bytes_of v) s r tells)
 
           most : key_of r ≤ M r.block
           most = map.most s r here
@@ -136,7 +148,7 @@ module _ (v : PartsView) (groups : AreGroups v.groups) (drives : AreDrives drive
           some : 0 < M r.block
           some = let least = key_least r tells.4 in omega (arith, least, most)
 
-          top : (q : Record) (slot : ℕ) → HasHeader (between 0 (2 ^ 16) (unit_of v.groups (cells_of v))) slot q → q.block ≡ r.block → stamp_of q ≤ stamp_in (M r.block)
+          top : (q : Record) (slot : ℕ) → HasHeader (all_units v) slot q → q.block ≡ r.block → stamp_of q ≤ stamp_in (M r.block)
           top q slot h block = let less = map.most slot q h in let same : M q.block ≡ M r.block = ap M block in omega (arith, less, same)
 
           by : (stamp_of r ≡ stamp_in (M r.block)) ⊎ ((stamp_of r < stamp_in (M r.block)) ⊎ (stamp_in (M r.block) < stamp_of r)) → (key_of r ≡ M r.block) ⊎ (stamp_of r < stamp_in (M r.block))
@@ -148,7 +160,7 @@ module _ (v : PartsView) (groups : AreGroups v.groups) (drives : AreDrives drive
               let small = told.4.place in
               let key = f.4 in
               let stamp : stamp_of f.1 ≡ stamp_in (M r.block) = omega (arith, key, small) in
-              let slot : s ≡ f.0 = stands_once (between 0 (2 ^ 16) (unit_of v.groups (cells_of v))) r.block (stamp_in (M r.block))
+              let slot : s ≡ f.0 = stands_once (all_units v) r.block (stamp_in (M r.block))
               (λ t. has_or_not v.groups (cells_of v) 0 (2 ^ 16) r.block (stamp_in (M r.block)) t fine) (λ t q h block. top q t h block) (once r.block) s f.0 (r, here, refl, e) (f.1, f.2, f.3, stamp)
               in
               let one = tells.3.1 in
@@ -170,9 +182,9 @@ module _ (v : PartsView) (groups : AreGroups v.groups) (drives : AreDrives drive
         found = key_there;
       }
 
-module _ (v : PartsView) (groups : AreGroups v.groups) (fine : AreFine v.groups 0 (2 ^ 16) (unit_of v.groups (cells_of v))) where
+module _ (v : PartsView) (groups : AreGroups v.groups) (fine : AllFine v) where
   -- of a slot that has a class, what its header tells
-  class_told : (s : ℕ) (class : Class) → class_at v.groups s ≡ Some class → (o : Option Record) × Tells v.groups.blocks (unit_of v.groups (cells_of v)) s o
+  class_told : (s : ℕ) (class : Class) → class_at v.groups s ≡ Some class → (o : Option Record) × Tells v.groups.blocks (bytes_of v) s o
   class_told s class e =
       let is = slot_of_class v.groups s (λ none. none-some class (sym none ∙ e)) in
       fine s is (omega arith) (slot_low v.groups s groups is)
@@ -189,7 +201,7 @@ module _ (v : PartsView) (groups : AreGroups v.groups) (fine : AreFine v.groups 
   spelled_there s None e = refl
   spelled_there s (Some class) e = refl
 
-  spelled_shown : (s : ℕ) (o : Option Class) (e : class_at v.groups s ≡ o) (bytes : List ℕ) → unit_of v.groups (cells_of v) s ≡ Some bytes → (u : Stored) × (spelled s o e ≡ Some u) × IsUnit bytes u
+  spelled_shown : (s : ℕ) (o : Option Class) (e : class_at v.groups s ≡ o) (bytes : List ℕ) → bytes_of v s ≡ Some bytes → (u : Stored) × (spelled s o e ≡ Some u) × IsUnit bytes u
   spelled_shown s None e bytes at = absurd (classed v.groups s (has_unit v.groups (cells_of v) s bytes at) e)
   spelled_shown s (Some class) e bytes at =
       let told = (class_told s class e).1 in

@@ -1,5 +1,5 @@
 -- A scan of an array or a world that stands for a flat state: the map of its log where no slot is gone, and else the first that is.
-use Rattle.std.proofs.Common.{◌≡◌, ℕ, ◌^◌, ◌<◌, ◌≤◌, ◌⊎◌, inl, inr, Option, Some, None, List, take, refl, sym, ◌∙◌, ap, subst, arith}
+use Rattle.std.proofs.Common.{◌≡◌, ℕ, ◌^◌, ◌<◌, ◌≤◌, ◌⊎◌, inl, inr, Some, None, List, take, refl, sym, ◌∙◌, ap, subst, arith}
 use Rattle.std.specs.Prelude.{is_some, Result, Ok, Err, IfOk, IfErr, OnOk}
 use Rattle.std.proofs.lemmas.Option.{none-some}
 use Rattle.map_join.specs.declared.records.Record.{Record}
@@ -27,15 +27,17 @@ use Rattle.array_model.specs.Views.{ArrayView, WorldView, IsWhole, hand_at, key_
 use Rattle.array_model.specs.Represents.{ShowsArray, HandSlot, Represents}
 use Rattle.array_model.proofs.Fares.{fared, gone_as, gone_before, lost_shows, lost_leaves}
 use Rattle.array_model.proofs.Fills.{class_seen}
+use Rattle.step_core.specs.Headline.{bytes_of}
 use Rattle.step_core.specs.Refused.{OnlyLoses, OnlyLosesOf}
 use Rattle.header_scan.specs.declared.fault.ScanFault.{ScanFault}
 use Rattle.header_scan.specs.declared.fault.ScanFault.TheVariants.{Memory, BadHeader, WrongSlot, Twice, Gone, NoClaim}
-use Rattle.header_scan.specs.Faults.{between, AreFine, IsTwice, IsFirstFault}
+use Rattle.header_scan.specs.Faults.{AreFine, IsFirstFault}
 use Rattle.header_scan.specs.Worlds.{IsToldOf}
 use Rattle.header_scan.proofs.Scanning.{slot_at, has_unit, within, ranged, told_header}
-use Rattle.header_scan.proofs.Telling.{slot_low, record_told, scan_tells}
+use Rattle.header_scan.proofs.Telling.{all_units, AllFine, NoneTwice, slot_low, record_told, scan_tells}
 
 module _ (a : ArrayView) (F : Flat) (whole : IsWhole a) (shows : ShowsArray a F) where
+  -- a slot has a unit just where it is of a group
   there : (s : ℕ) → is_some (F.units s) ≡ is_some (class_at a.parts.groups s)
   there s = (shows.history.units s).there ∙ ap is_some (class_seen a F s shows)
 
@@ -44,15 +46,14 @@ module _ (a : ArrayView) (F : Flat) (whole : IsWhole a) (shows : ShowsArray a F)
   own_map = subst (λ (groups : Groups). TellMap groups F.units (key_at a)) shows.tables.groups (history_tells F (key_at a) shows.history)
 
   -- the map of the headers is that of the log
-  pub scan_history : (M : ℕ → ℕ) → AreFine a.parts.groups 0 (2 ^ 16) (unit_of a.parts.groups (cells_of a.parts)) → IsScanned (between 0 (2 ^ 16) (unit_of a.parts.groups (cells_of a.parts))) M
-      → ((b p q : ℕ) → IsTwice (between 0 (2 ^ 16) (unit_of a.parts.groups (cells_of a.parts))) b p q → ⊥) → IsMapOf F.emitted M
+  pub scan_history : (M : ℕ → ℕ) → AllFine a.parts → IsScanned (all_units a.parts) M → NoneTwice a.parts → IsMapOf F.emitted M
   scan_history M fine map once =
       let tells = scan_tells a.parts whole.groups.table whole.drives F.units shows.units there fine M map once in
       let same = tells_one a.parts.groups F.units (key_at a) M own_map tells in
       subst (IsMapOf F.emitted) (λ i b. same b i) shows.history.map
 
   -- a slot that is fine isn't gone
-  fine_stays : (high s : ℕ) → AreFine a.parts.groups 0 high (unit_of a.parts.groups (cells_of a.parts)) → s < high → IsGoneIn F s → ⊥
+  fine_stays : (high s : ℕ) → AreFine a.parts.groups 0 high (bytes_of a.parts) → s < high → IsGoneIn F s → ⊥
   fine_stays high s fine below gone =
       let lost = gone_before F a.parts s shows.tables.groups shows.tables.lost gone in
       let none = (gone_law drive_units drive_lost a.parts.groups a.parts.drives s lost.0 whole.groups.table whole.drives lost.1).1 lost in
@@ -60,20 +61,20 @@ module _ (a : ArrayView) (F : Flat) (whole : IsWhole a) (shows : ShowsArray a F)
       none-some told.0 (sym none ∙ told.1)
 
   -- so none is where all are
-  pub none_gone : AreFine a.parts.groups 0 (2 ^ 16) (unit_of a.parts.groups (cells_of a.parts)) → (s : ℕ) → IsGoneIn F s → ⊥
+  pub none_gone : AllFine a.parts → (s : ℕ) → IsGoneIn F s → ⊥
   none_gone fine s gone =
       let lost = gone_before F a.parts s shows.tables.groups shows.tables.lost gone in
       fine_stays (2 ^ 16) s fine (slot_low a.parts.groups s whole.groups.table (slot_at a.parts.groups s lost.0 lost.1)) gone
 
   -- a record in the header of a slot is of that slot and of one of the blocks, and the newest or of a lower stamp
-  header_stands : (s : ℕ) (r : Record) → HasHeader (unit_of a.parts.groups (cells_of a.parts)) s r → IsHeaderOf (key_at a) s r × (r.block < a.parts.groups.blocks)
+  header_stands : (s : ℕ) (r : Record) → HasHeader (bytes_of a.parts) s r → IsHeaderOf (key_at a) s r × (r.block < a.parts.groups.blocks)
   header_stands s r h =
       let u = shows.units.shown s h.0 h.1 in
       let header = ap record_in (shown_header h.0 u.0 (Is r) u.2 h.2) in
       (own_map.header s u.0 r u.1 header, own_map.blocks s u.0 r u.1 header)
 
-  -- the bytes of a slot that a header of no block spells
-  bad_stands : (s : ℕ) (bytes : List ℕ) → unit_of a.parts.groups (cells_of a.parts) s ≡ Some bytes
+  -- no header is of a block past the last
+  bad_stands : (s : ℕ) (bytes : List ℕ) → bytes_of a.parts s ≡ Some bytes
       → ((h : Header) → Spells (take 32 bytes) h → (r : Record) × (record_in h ≡ Some r) × (a.parts.groups.blocks ≤ r.block)) → ⊥
   bad_stands s bytes e bad =
       let u = shows.units.shown s bytes e in
@@ -83,26 +84,23 @@ module _ (a : ArrayView) (F : Flat) (whole : IsWhole a) (shows : ShowsArray a F)
       omega (arith, inside, past)
 
   -- the newest record of a block stands in a header, where all are fine
-  newest_there : AreFine a.parts.groups 0 (2 ^ 16) (unit_of a.parts.groups (cells_of a.parts)) → (b : ℕ) → 0 < key_at a b
-      → HasHeader (between 0 (2 ^ 16) (unit_of a.parts.groups (cells_of a.parts))) (record_of b (key_at a b)).place (record_of b (key_at a b))
+  newest_there : AllFine a.parts → (b : ℕ) → 0 < key_at a b → HasHeader (all_units a.parts) (record_of b (key_at a b)).place (record_of b (key_at a b))
   newest_there fine b some =
       let r = record_of b (key_at a b) in
       let is = (own_map.found b some).1 in
       let tells = record_told a.parts whole.groups.table whole.drives F.units shows.units there fine r.place is.stored r is.there is.header in
-      let h = told_header a.parts.groups.blocks (unit_of a.parts.groups (cells_of a.parts)) r.place r tells in
-      ranged 0 (2 ^ 16) (unit_of a.parts.groups (cells_of a.parts)) r.place r (omega arith)
+      let h = told_header a.parts.groups.blocks (bytes_of a.parts) r.place r tells in
+      ranged 0 (2 ^ 16) (bytes_of a.parts) r.place r (omega arith)
       (slot_low a.parts.groups r.place whole.groups.table (has_unit a.parts.groups (cells_of a.parts) r.place h.0 h.1)) h
 
   -- a header that no other of its block is newer than is the newest record
-  top_newest : AreFine a.parts.groups 0 (2 ^ 16) (unit_of a.parts.groups (cells_of a.parts)) → (b p q slot : ℕ) (r : Record)
-      → IsTwice (between 0 (2 ^ 16) (unit_of a.parts.groups (cells_of a.parts))) b p q
-      → HasHeader (between 0 (2 ^ 16) (unit_of a.parts.groups (cells_of a.parts))) slot r → r.block ≡ b
-      → ((s : ℕ) (x : Record) → HasHeader (between 0 (2 ^ 16) (unit_of a.parts.groups (cells_of a.parts))) s x → x.block ≡ b → stamp_of x ≤ stamp_of r)
+  top_newest : AllFine a.parts → (b slot : ℕ) (r : Record) → HasHeader (all_units a.parts) slot r → r.block ≡ b
+      → ((s : ℕ) (x : Record) → HasHeader (all_units a.parts) s x → x.block ≡ b → stamp_of x ≤ stamp_of r)
       → (key_of r ≡ key_at a b) × (r.place ≡ slot)
-  top_newest fine b p q slot r is h block most = (by stands.newest, stands.place)
+  top_newest fine b slot r h block most = (by stands.newest, stands.place)
     where
       stands : IsHeaderOf (key_at a) slot r
-      stands = (header_stands slot r (within 0 (2 ^ 16) (unit_of a.parts.groups (cells_of a.parts)) slot r h).2).0
+      stands = (header_stands slot r (within 0 (2 ^ 16) (bytes_of a.parts) slot r h).2).0
 
       by : (key_of r ≡ key_at a r.block) ⊎ (stamp_of r < stamp_in (key_at a r.block)) → key_of r ≡ key_at a b
       by (inl e) = e ∙ ap (key_at a) block
@@ -112,10 +110,10 @@ module _ (a : ArrayView) (F : Flat) (whole : IsWhole a) (shows : ShowsArray a F)
           absurd (omega (arith, top, less, key))
 
   -- no block stands twice
-  never_twice : AreFine a.parts.groups 0 (2 ^ 16) (unit_of a.parts.groups (cells_of a.parts)) → (b p q : ℕ) → IsTwice (between 0 (2 ^ 16) (unit_of a.parts.groups (cells_of a.parts))) b p q → ⊥
+  never_twice : AllFine a.parts → NoneTwice a.parts
   never_twice fine b p q is =
-      let one = top_newest fine b p q p is.one is is.here.0 is.here.1 is.most in
-      let other = top_newest fine b p q q is.other is is.there.0 is.there.1
+      let one = top_newest fine b p is.one is.here.0 is.here.1 is.most in
+      let other = top_newest fine b q is.other is.there.0 is.there.1
       (λ s x h block. let most = is.most s x h block in let same = is.same in omega (arith, most, same))
       in
       let key = one.0 in
@@ -136,7 +134,7 @@ module _ (a : ArrayView) (F : Flat) (whole : IsWhole a) (shows : ShowsArray a F)
   IsFaultOf (NoClaim s) G = ⊥
 
   pub scan_fault : (b : ArrayView) (fault : ScanFault) → IsWhole b → OnlyLoses a b
-      → IsFirstFault a.parts.groups 0 (2 ^ 16) (unit_of a.parts.groups (cells_of a.parts)) (unit_of a.parts.groups (cells_of b.parts)) fault → IsFaultOf fault (fared F b.parts)
+      → IsFirstFault a.parts.groups 0 (2 ^ 16) (bytes_of a.parts) (unit_of a.parts.groups (cells_of b.parts)) fault → IsFaultOf fault (fared F b.parts)
   scan_fault b Memory left loses is = tt
   scan_fault b (Gone s) left loses is = record {
     gone = gone_as F a.parts b.parts s shows.tables.groups loses.1.rest lost;
@@ -168,16 +166,17 @@ world_fares v w F loses rep = record {
   hands = λ s. subst (λ hands. HandSlot (hand_at hands s) (F.held s)) (sym loses.0) (rep.hands s);
 }
 
--- what a scan of a world says of it
-abbrev held_by : WorldView → ℕ → Option (List ℕ)
-held_by v = unit_of v.array.parts.groups (cells_of v.array.parts)
-
+-- a world whose slots are sound
 abbrev Sound : WorldView → Type 0
 Sound v = AreSound v.array.parts.groups (cells_of v.array.parts)
 
+-- the first fault of a world, by what is left of its units in another
+abbrev IsFirst : WorldView → WorldView → ScanFault → Type 0
+IsFirst v w = IsFirstFault v.array.parts.groups 0 (2 ^ 16) (bytes_of v.array.parts) (unit_of v.array.parts.groups (cells_of w.array.parts))
+
 -- the fault of one that stands for a state
 world_fault : (v w : WorldView) (fault : ScanFault) → IsWhole v.array → IsWhole w.array → OnlyLosesOf v w
-    → (Sound v → IsFirstFault v.array.parts.groups 0 (2 ^ 16) (held_by v) (unit_of v.array.parts.groups (cells_of w.array.parts)) fault) → IsToldOf v w fault
+    → (Sound v → IsFirst v w fault) → IsToldOf v w fault
 world_fault v w Memory whole left loses is = tt
 world_fault v w (Gone s) whole left loses is = λ F rep.
     (fared F w.array.parts, scan_fault v.array F whole rep.array w.array (Gone s) left loses.1 (is rep.array.units.sound), world_fares v w F loses rep)
@@ -187,15 +186,15 @@ world_fault v w (Twice b p q) whole left loses is = λ F rep. scan_fault v.array
 world_fault v w (NoClaim s) whole left loses is = λ F rep. scan_fault v.array F whole rep.array w.array (NoClaim s) left loses.1 (is rep.array.units.sound)
 
 pub world_told : (v w : WorldView) (result : Result Entries ScanFault) → IsWhole v.array → IsWhole w.array → OnlyLosesOf v w
-    → (Sound v → IfErr result (IsFirstFault v.array.parts.groups 0 (2 ^ 16) (held_by v) (unit_of v.array.parts.groups (cells_of w.array.parts)))) → IfErr result (IsToldOf v w)
+    → (Sound v → IfErr result (IsFirst v w)) → IfErr result (IsToldOf v w)
 world_told v w (Ok m) whole left loses is = tt
 world_told v w (Err fault) whole left loses is = world_fault v w fault whole left loses is
 
 -- the map of one that does
 pub world_map : (v w : WorldView) (result : Result Entries ScanFault) → IsWhole v.array → OnlyLosesOf v w
-    → (Sound v → IfOk result (λ m. IsScanned (between 0 (2 ^ 16) (held_by v)) (at m)))
-    → (Sound v → OnOk result (AreFine v.array.parts.groups 0 (2 ^ 16) (held_by v)))
-    → (Sound v → OnOk result ((b p q : ℕ) → IsTwice (between 0 (2 ^ 16) (held_by v)) b p q → ⊥))
+    → (Sound v → IfOk result (λ m. IsScanned (all_units v.array.parts) (at m)))
+    → (Sound v → OnOk result (AllFine v.array.parts))
+    → (Sound v → OnOk result (NoneTwice v.array.parts))
     → IfOk result (λ m. (F : Flat) → Represents v F → (G : Flat) × ScanCase F (Told (at m)) G × Represents w G)
 world_map v w (Ok m) whole loses map fine once = λ F rep.
     let sound = rep.array.units.sound in (
