@@ -31,15 +31,18 @@ begun groups start low M T sound one two = record {
   noted = λ b. none_noted low (unit_of groups start) b (M b) (T b) (one b) (two b);
 }
 
--- headers of slots that are fine tell their own slot
-pub own_place : (groups : Groups) (start : Cells) (low high slot : ℕ) (r : Record) → AreFine groups low high (unit_of groups start) → HasHeader (between low high (unit_of groups start)) slot r
-    → (r.place ≡ slot) × (r.block < groups.blocks)
-own_place groups start low high slot r fine h =
+-- of slots that are fine, a header that is there is told
+pub own_told : (groups : Groups) (start : Cells) (low high slot : ℕ) (r : Record) → AreFine groups low high (unit_of groups start) → HasHeader (between low high (unit_of groups start)) slot r
+    → Tells groups.blocks (unit_of groups start) slot (Some r)
+own_told groups start low high slot r fine h =
     let w = within low high (unit_of groups start) slot r h in
     let told = fine slot (has_unit groups start slot w.2.0 w.2.1) w.0 w.1 in
-    let is : told.0 ≡ Some r = told_record groups.blocks (unit_of groups start) slot told.0 r told.1 w.2 in
-    let tells : Tells groups.blocks (unit_of groups start) slot (Some r) = subst (λ o. Tells groups.blocks (unit_of groups start) slot o) is told.1 in
-    (tells.3.1, tells.3.0)
+    subst (λ o. Tells groups.blocks (unit_of groups start) slot o) (told_record groups.blocks (unit_of groups start) slot told.0 r told.1 w.2) told.1
+
+-- and tells its own slot
+pub own_place : (groups : Groups) (start : Cells) (low high slot : ℕ) (r : Record) → AreFine groups low high (unit_of groups start) → HasHeader (between low high (unit_of groups start)) slot r
+    → (r.place ≡ slot) × (r.block < groups.blocks)
+own_place groups start low high slot r fine h = let tells = own_told groups start low high slot r fine h in (tells.3.1, tells.3.0)
 
 record_key : (r : Record) (slot key : ℕ) → r.place ≡ slot → slot ≡ place_in key → stamp_of r ≡ stamp_in key → key_of r ≡ key
 record_key r slot key place is stamp = omega (arith, place, is, stamp)

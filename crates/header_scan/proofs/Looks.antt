@@ -1,5 +1,5 @@
 -- What the header of a slot tells, by the slot's unit.
-use Rattle.std.proofs.Common.{◌≡◌, ℕ, ◌<◌, Option, Some, None, List, take, subst}
+use Rattle.std.proofs.Common.{◌≡◌, ℕ, Option, Some, None, List, take, subst}
 use Rattle.std.specs.Prelude.{Result, Ok, Err, IfOk, IfErr}
 use Rattle.map_join.specs.declared.records.Record.{Record}
 use Rattle.extents.specs.declared.header.Header.{Header}
@@ -8,17 +8,17 @@ use Rattle.extents.specs.declared.header.HeaderFault.{HeaderFault}
 use Rattle.extents.specs.Header.{Spells, record_in}
 use Rattle.header_scan.specs.declared.fault.ScanFault.{ScanFault}
 use Rattle.header_scan.specs.declared.fault.ScanFault.TheVariants.{BadHeader, WrongSlot}
-use Rattle.header_scan.specs.Faults.{Bytes, IsFine, Tells, IsFaultAt, IsMisfit}
-use Rattle.header_scan.specs.Found.{IsStamped}
+use Rattle.header_scan.specs.Faults.{Bytes, IsFine, IsRanged, Tells, IsFaultAt, IsMisfit}
 
 -- a header that is spelled tells this
 abbrev pub Told : List ℕ → Option Record → Type 0
 Told unit o = (h : Header) × Spells (take 32 unit) h × (record_in h ≡ o)
 
-pub tells : (blocks slot : ℕ) (bytes : Bytes) (unit : List ℕ) (told : Result (Option Record) HeaderFault) (result : Result (Option Record) ScanFault) → bytes slot ≡ Some unit → IfOk told (Told unit)
+pub tells : (blocks slot : ℕ) (bytes : Bytes) (unit : List ℕ) (told : Result (Option Record) HeaderFault) (result : Result (Option Record) ScanFault) → bytes slot ≡ Some unit → IfOk told (Told unit) → IfOk told IsRanged
     → IfOk result (λ o. (told ≡ Ok o) × IsFine blocks slot o) → IfOk result (Tells blocks bytes slot)
-tells blocks slot bytes unit told (Ok o) at header fine = (unit, at, subst (λ t. IfOk t (Told unit)) fine.0 header, fine.1)
-tells blocks slot bytes unit told (Err e) at header fine = tt
+tells blocks slot bytes unit told (Ok o) at header ranges fine =
+    (unit, at, subst (λ t. IfOk t (Told unit)) fine.0 header, fine.1, subst (λ t. IfOk t IsRanged) fine.0 ranges)
+tells blocks slot bytes unit told (Err e) at header ranges fine = tt
 
 -- a header that tells a record is that record's
 is_record : (bytes : List ℕ) (h : Header) (r : Record) → Spells bytes h → record_in h ≡ Some r → Spells bytes (Is r)
@@ -39,14 +39,8 @@ pub misfits : (blocks slot : ℕ) (bytes left : Bytes) (unit : List ℕ) (told :
 misfits blocks slot bytes left unit told (Ok o) at header only is = tt
 misfits blocks slot bytes left unit told (Err e) at header only is = misfit blocks slot bytes left unit told e at header only is
 
--- a record that a header tells has a version
-record_stamped : (bytes : List ℕ) (h : Header) (o : Option Record) → Spells bytes h → record_in h ≡ o → IsStamped o
-record_stamped bytes Blank None told e = tt
-record_stamped bytes Blank (Some r) told e = absurd (let both : None ≡ Some r = e in cc)
-record_stamped bytes (Is q) None told e = tt
-record_stamped bytes (Is q) (Some r) told e = let same : q ≡ r = cc in subst (λ x. 0 < x.version) same told.written
-
-pub stamped : (unit : List ℕ) (blocks slot : ℕ) (told : Result (Option Record) HeaderFault) (result : Result (Option Record) ScanFault) → IfOk told (Told unit)
-    → IfOk result (λ o. (told ≡ Ok o) × IsFine blocks slot o) → IfOk result IsStamped
-stamped unit blocks slot told (Ok o) header fine = let h : Told unit o = subst (λ t. IfOk t (Told unit)) fine.0 header in record_stamped (take 32 unit) h.0 o h.1 h.2
-stamped unit blocks slot told (Err e) header fine = tt
+-- what isn't refused is what the header tells, in its ranges
+pub ranged : (blocks slot : ℕ) (told : Result (Option Record) HeaderFault) (result : Result (Option Record) ScanFault) → IfOk told IsRanged
+    → IfOk result (λ o. (told ≡ Ok o) × IsFine blocks slot o) → IfOk result IsRanged
+ranged blocks slot told (Ok o) ranges fine = subst (λ t. IfOk t IsRanged) fine.0 ranges
+ranged blocks slot told (Err e) ranges fine = tt

@@ -40,12 +40,15 @@ more_kept groups start c new blocks slot result keeps look = λ sound.
     let was = keeps sound in
     (λ other v e. was.0 other v (look.2 was.1 other v e), look.3 was.1)
 
--- a slot that has a unit is one of a made group
-has_site : (groups : Groups) (c : Cells) (slot : ℕ) (v : List ℕ) (o : Option Site) → site_of groups slot ≡ o → unit_in (unit_bytes groups) c o ≡ Some v → IsSlot groups slot
-has_site groups c slot v None at e = absurd (none-some v e)
-has_site groups c slot v (Some site) at e =
+-- a slot that lies somewhere, or has a unit, is one of a made group
+pub slot_at : (groups : Groups) (slot : ℕ) (site : Site) → site_of groups slot ≡ Some site → IsSlot groups slot
+slot_at groups slot site at =
     let is = slot_of groups.segments (group_at groups (slot / 128)) (slot % 128) site at in
     subst (λ o. slot % 128 < slots_in groups.segments o) (sym is.made) is.below
+
+has_site : (groups : Groups) (c : Cells) (slot : ℕ) (v : List ℕ) (o : Option Site) → site_of groups slot ≡ o → unit_in (unit_bytes groups) c o ≡ Some v → IsSlot groups slot
+has_site groups c slot v None at e = absurd (none-some v e)
+has_site groups c slot v (Some site) at e = slot_at groups slot site at
 
 pub has_unit : (groups : Groups) (c : Cells) (slot : ℕ) (v : List ℕ) → unit_of groups c slot ≡ Some v → IsSlot groups slot
 has_unit groups c slot v e = has_site groups c slot v (site_of groups slot) refl e
@@ -61,11 +64,14 @@ in_range low high slot e = ((grind (arith, nat_tests)), (grind (arith, nat_tests
 is_range : (low high slot : ℕ) → low ≤ slot → slot < high → (nat_le low slot && nat_lt slot high) ≡ true
 is_range low high slot l h = grind (arith, nat_tests)
 
-pub within : (low high : ℕ) (bytes : Bytes) (slot : ℕ) (r : Record) → HasHeader (between low high bytes) slot r → (low ≤ slot) × (slot < high) × HasHeader bytes slot r
-within low high bytes slot r h =
-    let c = chosen (nat_le low slot && nat_lt slot high) (bytes slot) h.0 h.1 in
+pub in_between : (low high : ℕ) (bytes : Bytes) (slot : ℕ) (v : List ℕ) → between low high bytes slot ≡ Some v → (low ≤ slot) × (slot < high) × (bytes slot ≡ Some v)
+in_between low high bytes slot v e =
+    let c = chosen (nat_le low slot && nat_lt slot high) (bytes slot) v e in
     let b = in_range low high slot c.0 in
-    (b.0, b.1, (h.0, c.1, h.2))
+    (b.0, b.1, c.1)
+
+pub within : (low high : ℕ) (bytes : Bytes) (slot : ℕ) (r : Record) → HasHeader (between low high bytes) slot r → (low ≤ slot) × (slot < high) × HasHeader bytes slot r
+within low high bytes slot r h = let is = in_between low high bytes slot h.0 h.1 in (is.0, is.1, (h.0, is.2, h.2))
 
 pub ranged : (low high : ℕ) (bytes : Bytes) (slot : ℕ) (r : Record) → low ≤ slot → slot < high → HasHeader bytes slot r → HasHeader (between low high bytes) slot r
 ranged low high bytes slot r l k h = (h.0, ap (λ b. if b then bytes slot else None) (is_range low high slot l k) ∙ h.1, h.2)

@@ -25,7 +25,7 @@ last_or slot s h = elim (cases_order slot s) [ inl e ↦ inr e | inr o ↦ inl (
 
 -- a look at sound units, over the units at the start
 pub tells_kept : (blocks slot : ℕ) (bytes all : Bytes) (told : Option Record) → ((other : ℕ) (v : List ℕ) → bytes other ≡ Some v → all other ≡ Some v) → Tells blocks bytes slot told → Tells blocks all slot told
-tells_kept blocks slot bytes all told keeps tells = (tells.0, keeps slot tells.0 tells.1, tells.2, tells.3)
+tells_kept blocks slot bytes all told keeps tells = (tells.0, keeps slot tells.0 tells.1, tells.2, tells.3, tells.4)
 
 fine_more : (groups : Groups) (low s : ℕ) (bytes : Bytes) (told : Option Record) → AreFine groups low s bytes → Tells groups.blocks bytes s told → AreFine groups low (s + 1) bytes
 fine_more groups low s bytes told fine tells = λ slot is l h. elim (last_or slot s h) [
@@ -66,9 +66,9 @@ other_noted blocks low s bytes r block n t m u tells ne one two noted =
     ])
     one two noted
 
-next : (blocks low s : ℕ) (bytes : Bytes) (r : Record) → low ≤ s → s < 2 ^ 16 → 0 < r.version → Tells blocks bytes s (Some r)
+next : (blocks low s : ℕ) (bytes : Bytes) (r : Record) → low ≤ s → s < 2 ^ 16 → Tells blocks bytes s (Some r)
     → IsNext (HasStamp (between low s bytes) r.block) (HasStamp (between low (s + 1) bytes) r.block) s (stamp_of r)
-next blocks low s bytes r l small written tells = record {
+next blocks low s bytes r l small tells = record {
   grows = λ slot st h. grows low s (s + 1) bytes r.block slot st (omega arith) h;
   here = (r, ranged low (s + 1) bytes s r l (omega arith) (told_header blocks bytes s r tells), refl, refl);
   only = λ slot st h. elim (back_or low s bytes r.block slot st h) [
@@ -76,7 +76,7 @@ next blocks low s bytes r l small written tells = record {
     | inr new ↦ inr (new.0, (let both : Some r ≡ Some new.1.0 = told_record blocks bytes s (Some r) new.1.0 tells new.1.1 in let same : r ≡ new.1.0 = cc in sym (ap (λ (x : Record). stamp_of x) same ∙ new.1.3)))
   ];
   below = λ slot st h. (within low s bytes slot h.0 h.1).1;
-  great = omega (arith, written);
+  great = let written = tells.4.written in omega (arith, written);
   small = small;
 }
 
@@ -111,9 +111,9 @@ pub record IsNote (M T N U : Entries) (r : Record) : Type 0 where
   pub older : stamp_of r < stamp_at (at M) r.block → (N ≡ M) × (U ≡ T)
   pub third : stamp_at (at M) r.block ≡ stamp_of r → stamp_of r ≤ stamp_at (at T) r.block → (N ≡ M) × (U ≡ T)
 
-pub some_noted : (blocks low s : ℕ) (bytes : Bytes) (r : Record) (M T N U : Entries) → low ≤ s → s < 2 ^ 16 → 0 < r.version → Tells blocks bytes s (Some r) → IsNote M T N U r
+pub some_noted : (blocks low s : ℕ) (bytes : Bytes) (r : Record) (M T N U : Entries) → low ≤ s → s < 2 ^ 16 → Tells blocks bytes s (Some r) → IsNote M T N U r
     → ((b : ℕ) → IsNoted (HasStamp (between low s bytes) b) (at M b) (at T b)) → (b : ℕ) → IsNoted (HasStamp (between low (s + 1) bytes) b) (at N b) (at U b)
-some_noted blocks low s bytes r M T N U l small written tells note noted =
+some_noted blocks low s bytes r M T N U l small tells note noted =
     elim (cases_order (stamp_of r) (stamp_at (at M) r.block)) [
       | inl e ↦ elim (cases_order (stamp_of r) (stamp_at (at T) r.block)) [
         | inl f ↦ kept (note.third (sym e) (omega (arith, f))) (third Old New s (stamp_of r) n t step here (omega (arith, e, top)) (omega (arith, f, again)))
@@ -153,7 +153,7 @@ some_noted blocks low s bytes r M T N U l small written tells note noted =
       here = noted r.block
 
       step : IsNext Old New s (stamp_of r)
-      step = next blocks low s bytes r l small written tells
+      step = next blocks low s bytes r l small tells
 
       top : stamp_at (at M) r.block ≡ stamp_in n
       top = newest_stamp (between low s bytes) r.block n t here
@@ -180,15 +180,15 @@ none_more groups start c new low s M T was look =
     }
 
 -- or tells a record, which is noted
-pub some_more : (groups : Groups) (start c new : Cells) (low s : ℕ) (r : Record) (M T N U : Entries) → low ≤ s → s < 2 ^ 16 → 0 < r.version → IsNote M T N U r
+pub some_more : (groups : Groups) (start c new : Cells) (low s : ℕ) (r : Record) (M T N U : Entries) → low ≤ s → s < 2 ^ 16 → IsNote M T N U r
     → IsUnderway groups start c low s (at M) (at T) → Looked groups groups c new groups.blocks s (Ok (Some r)) → IsUnderway groups start new low (s + 1) (at N) (at U)
-some_more groups start c new low s r M T N U l small written note was look =
+some_more groups start c new low s r M T N U l small note was look =
     let tells : Tells groups.blocks (unit_of groups start) s (Some r) = tells_kept groups.blocks s (unit_of groups c) (unit_of groups start) (Some r) was.keeps (look.0 was.sound) in
     record {
       sound = look.3 was.sound;
       keeps = λ other v e. was.keeps other v (look.2 was.sound other v e);
       fine = fine_more groups low s (unit_of groups start) (Some r) was.fine tells;
-      noted = some_noted groups.blocks low s (unit_of groups start) r M T N U l small written tells note was.noted;
+      noted = some_noted groups.blocks low s (unit_of groups start) r M T N U l small tells note was.noted;
     }
 
 -- a slot's fault is the first one of the scan, where all before it are fine

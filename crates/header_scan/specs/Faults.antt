@@ -1,7 +1,7 @@
 -- What is found in the headers of slots, and the fault that comes first.
 use Rattle.std.specs.Prelude.{◌≡◌, ◌≢◌, ◌⊎◌, ℕ, ◌<◌, ◌≤◌, nat_le, nat_lt, ◌&&◌, if◌then◌else◌, Option, Some, None, Result, Ok, Err, List, take}
 use Rattle.map_join.specs.declared.records.Record.{Record}
-use Rattle.map_join.specs.Record.{stamp_of}
+use Rattle.map_join.specs.Record.{IsRecord, stamp_of}
 use Rattle.extents.specs.declared.header.Header.{Header}
 use Rattle.extents.specs.declared.header.HeaderFault.{HeaderFault}
 use Rattle.extents.specs.declared.shape.TheConstants.{HEADER_BYTES}
@@ -25,9 +25,15 @@ abbrev pub IsFine : ℕ → ℕ → Option Record → Type 0
 IsFine blocks slot None = Unit {0}
 IsFine blocks slot (Some r) = (r.block < blocks) × (r.place ≡ slot)
 
+-- each field of what may be a record is in its range, and its version is no 0
+abbrev pub IsRanged : Option Record → Type 0
+IsRanged None = Unit {0}
+IsRanged (Some r) = IsRecord r
+
 -- the slot's unit is there, and its header tells this, which is fine
 abbrev pub Tells : ℕ → Bytes → ℕ → Option Record → Type 0
-Tells blocks bytes slot told = (unit : List ℕ) × (bytes slot ≡ Some unit) × ((h : Header) × Spells (take HEADER_BYTES unit) h × (record_in h ≡ told)) × IsFine blocks slot told
+Tells blocks bytes slot told =
+    (unit : List ℕ) × (bytes slot ≡ Some unit) × ((h : Header) × Spells (take HEADER_BYTES unit) h × (record_in h ≡ told)) × IsFine blocks slot told × IsRanged told
 
 -- the fault is that of this slot, by the units as they were and by those that are left
 abbrev pub IsFaultAt : ℕ → Bytes → Bytes → ℕ → ScanFault → Type 0

@@ -1,8 +1,9 @@
 -- What is noted of headers while slots are gone through in ascending order.
 use Rattle.std.specs.Prelude.{◌≡◌, ◌⊎◌, ℕ, ◌==◌, if◌then◌else◌, ◌%◌, ◌^◌, ◌<◌, ◌≤◌, Option, Some, None}
 use Rattle.map_join.specs.declared.records.Record.{Record}
-use Rattle.map_join.specs.Record.{stamp_of, stamp_in, record_at}
+use Rattle.map_join.specs.Record.{stamp_of, stamp_in, record_of, record_at}
 use Rattle.flat_machine.specs.Scanned.{HasHeader}
+use Rattle.flat_machine.specs.Restarted.{HasPlaces}
 use Rattle.extent_groups.specs.Groups.{Groups}
 use Rattle.extent_groups.specs.Cells.{Cells}
 use Rattle.extent_groups.specs.Stores.{unit_of, AreSound, KeepsUnits}
@@ -20,11 +21,6 @@ stamp_in_option (Some r) = stamp_of r
 -- the stamp of a map's record of a block
 abbrev pub stamp_at : (ℕ → ℕ) → ℕ → ℕ
 stamp_at M block = stamp_in_option (record_at block (M block))
-
--- the version of what may be a record is no 0
-abbrev pub IsStamped : Option Record → Type 0
-IsStamped None = Unit {0}
-IsStamped (Some r) = 0 < r.version
 
 -- the slot's header is a record of the block with this stamp
 abbrev pub HasStamp : Bytes → ℕ → ℕ → ℕ → Type 0
@@ -71,3 +67,8 @@ pub record IsUnderway (groups : Groups) (start now : Cells) (low high : ℕ) (ne
 -- what reads leave of sound units: those that exist afterwards are what they were, and all is sound
 abbrev pub Keeps : Groups → Cells → Cells → Type 0
 Keeps groups c new = AreSound groups c → KeepsUnits groups c new × AreSound groups new
+
+-- the records of a map have their places, all below a slot
+pub record ArePlaced (groups : Groups) (bound : ℕ) (keys : ℕ → ℕ) : Type 0 where
+  pub places : HasPlaces groups keys
+  pub below : (b : ℕ) → 0 < keys b → (record_of b (keys b)).place < bound

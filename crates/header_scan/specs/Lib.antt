@@ -2,3 +2,4 @@ pub mod Numbers
 pub mod Ranges
 pub mod Faults
 pub mod Found
+pub mod Worlds

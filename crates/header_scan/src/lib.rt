@@ -6,7 +6,9 @@ mod found;
 mod laws;
 mod look;
 mod pass;
+mod world;
 
 pub use fault::ScanFault;
 pub use laws::scan_laws;
 pub use pass::{scan, scan_groups};
+pub use world::scan_world;

@@ -5,8 +5,7 @@ ghost use Rattle.extents.specs.declared.shape.TheConstants.{HEADER_BYTES};
 ghost use Rattle.extents.specs.Header.{Spells, record_in};
 ghost use Rattle.extent_groups.specs.Stores.{unit_bytes, unit_of, AreSound, KeepsUnits};
 ghost use Rattle.array_parts.specs.Slots.{IsSlot};
-ghost use Rattle.header_scan.specs.Faults.{IsFine, Tells, IsFaultAt, IsMisfit};
-ghost use Rattle.header_scan.specs.Found.{IsStamped};
+ghost use Rattle.header_scan.specs.Faults.{IsFine, IsRanged, Tells, IsFaultAt, IsMisfit};
 
 use crate::ScanFault;
 use array_parts::Units;
@@ -18,6 +17,7 @@ fn header_of(unit: &[u8]) -> Result<Option<Record>, HeaderFault>
     requires { HEADER_BYTES ≤ length unit.now }
     ensures ok { IfOk result (λ o. (h : Header) × Spells (take HEADER_BYTES unit.now) h × (record_in h ≡ o)) }
     ensures only { (h : Header) → Spells (take HEADER_BYTES unit.now) h → result ≡ Ok (record_in h) }
+    ensures ranges { IfOk result IsRanged }
 {
     let mut bytes = [0; HEADER_BYTES];
     bytes.copy_from_slice(&unit[..HEADER_BYTES]);
@@ -65,7 +65,8 @@ pub(crate) fn look<U: Units>(
     requires scratch { length scratch.old ≡ 2 * unit_bytes (U.groups units.old) }
     ensures ok { AreSound (U.groups units.old) (U.cells units.old) → IfOk result (Tells blocks (unit_of (U.groups units.old) (U.cells units.old)) slot) }
     ensures err { AreSound (U.groups units.old) (U.cells units.old) → IfErr result (IsFaultAt blocks (unit_of (U.groups units.old) (U.cells units.old)) (unit_of (U.groups units.new) (U.cells units.new)) slot) }
-    ensures written { IfOk result IsStamped }
+    ensures inside { IfOk result (IsFine blocks slot) }
+    ensures ranges { IfOk result IsRanged }
     ensures units { AreSound (U.groups units.old) (U.cells units.old) → KeepsUnits (U.groups units.old) (U.cells units.old) (U.cells units.new) }
     ensures sound { AreSound (U.groups units.old) (U.cells units.old) → AreSound (U.groups units.new) (U.cells units.new) }
     ensures groups { U.groups units.new ≡ U.groups units.old }

@@ -5,8 +5,9 @@ ghost use Rattle.extent_groups.specs.Cells.{Cells};
 ghost use Rattle.extent_groups.specs.Groups.{group_at, slots_in};
 ghost use Rattle.extent_groups.specs.Stores.{unit_bytes, unit_of, AreSound};
 ghost use Rattle.flat_machine.specs.Scanned.{IsScanned};
+ghost use Rattle.flat_machine.specs.Restarted.{HasPlaces};
 ghost use Rattle.header_scan.specs.Faults.{AreFine, IsFirstFault, IsTwice, between};
-ghost use Rattle.header_scan.specs.Found.{IsUnderway, Keeps};
+ghost use Rattle.header_scan.specs.Found.{IsUnderway, ArePlaced, Keeps};
 
 use crate::ScanFault;
 use crate::found::Found;
@@ -46,6 +47,8 @@ pub(crate) fn scan_group<U: Units>(
     ensures err { (low high : ℕ) (start : Cells) → low ≤ 128 * group → 128 * group + 128 ≤ high
         → IsUnderway (U.groups units.old) start (U.cells units.old) low (128 * group) (at found.old.newest) (at found.old.twins)
         → IfErr result (IsFirstFault (U.groups units.old) low high (unit_of (U.groups units.old) start) (unit_of (U.groups units.old) (U.cells units.new))) }
+    ensures inside { ArePlaced (U.groups units.old) (128 * group) (at found.old.newest)
+        → OnOk result (ArePlaced (U.groups units.old) (128 * group + 128) (at found.new.newest)) }
     ensures keeps { Keeps (U.groups units.old) (U.cells units.old) (U.cells units.new) }
     ensures groups { U.groups units.new ≡ U.groups units.old }
     ensures fits { U.fits units.new }
@@ -83,6 +86,7 @@ fn note_groups<U: Units>(
         → IfOk result (λ f. IsUnderway (U.groups units.old) (U.cells units.old) (U.cells units.new) (128 * first) (128 * end) (at f.newest) (at f.twins)) }
     ensures err { AreSound (U.groups units.old) (U.cells units.old)
         → IfErr result (IsFirstFault (U.groups units.old) (128 * first) (128 * end) (unit_of (U.groups units.old) (U.cells units.old)) (unit_of (U.groups units.old) (U.cells units.new))) }
+    ensures inside { IfOk result (λ f. ArePlaced (U.groups units.old) (128 * end) (at f.newest)) }
     ensures keeps { Keeps (U.groups units.old) (U.cells units.old) (U.cells units.new) }
     ensures groups { U.groups units.new ≡ U.groups units.old }
     ensures fits { U.fits units.new }
@@ -121,6 +125,7 @@ pub fn scan_groups<U: Units>(
         → OnOk result ((b p q : ℕ) → IsTwice (between (128 * first) (128 * end) (unit_of (U.groups units.old) (U.cells units.old))) b p q → ⊥) }
     ensures fault { AreSound (U.groups units.old) (U.cells units.old)
         → IfErr result (IsFirstFault (U.groups units.old) (128 * first) (128 * end) (unit_of (U.groups units.old) (U.cells units.old)) (unit_of (U.groups units.old) (U.cells units.new))) }
+    ensures inside { IfOk result (λ m. HasPlaces (U.groups units.old) (at m)) }
     ensures keeps { Keeps (U.groups units.old) (U.cells units.old) (U.cells units.new) }
     ensures groups { U.groups units.new ≡ U.groups units.old }
     ensures fits { U.fits units.new }
@@ -155,6 +160,7 @@ pub fn scan<U: Units>(alloc: Global, units: &mut U) -> Result<BlockMap, ScanFaul
         → OnOk result ((b p q : ℕ) → IsTwice (between 0 (2 ^ 16) (unit_of (U.groups units.old) (U.cells units.old))) b p q → ⊥) }
     ensures fault { AreSound (U.groups units.old) (U.cells units.old)
         → IfErr result (IsFirstFault (U.groups units.old) 0 (2 ^ 16) (unit_of (U.groups units.old) (U.cells units.old)) (unit_of (U.groups units.old) (U.cells units.new))) }
+    ensures inside { IfOk result (λ m. HasPlaces (U.groups units.old) (at m)) }
     ensures keeps { Keeps (U.groups units.old) (U.cells units.old) (U.cells units.new) }
     ensures groups { U.groups units.new ≡ U.groups units.old }
     ensures fits { U.fits units.new }

@@ -1,13 +1,15 @@
 use Rattle.std.proofs.Common.{◌≡◌, ◌*◌, refl, ◌∙◌, subst, arith}
 use Rattle.map_join.specs.Maps.{at}
-use Rattle.header_scan.specs.Found.{IsUnderway}
+use Rattle.header_scan.specs.Found.{IsUnderway, ArePlaced}
 use Rattle.header_scan.proofs.Ending.{begun}
 use Rattle.header_scan.proofs.Groups.{kept_after, passed, failed}
+use Rattle.header_scan.proofs.Placing.{none_placed, placed_after}
 use Rattle.header_scan.proofs.pass.note_groups.Goals as goal
 
 pub loop-group-init : goal.loop-group-init
 loop-group-init g c = record {
   ok = λ sound. begun (g.U.Units.groups c.args.units.now) (g.U.Units.cells c.args.units.now) (128 * c.args.first) (at c.new.result) (at c.new-2.result) sound c.new.ensures.empty c.new-2.ensures.empty;
+  inside = none_placed (g.U.Units.groups c.args.units.now) (128 * c.args.first) (at c.new.result) c.new.ensures.empty;
   keeps = λ sound. ((λ slot v e. e), sound);
   groups = refl;
   fits = c.requires.fits;
@@ -21,6 +23,8 @@ loop-group-preserved g c = record {
       passed (g.U.Units.groups c.args.units.now) (g.U.Units.groups c.loop-group.units) (g.U.Units.cells c.args.units.now) (g.U.Units.cells c.loop-group.units) (g.U.Units.cells c.scan_group.new.units) (128 * c.args.first) c.loop-group.group
       (at c.loop-group.found.newest) (at c.loop-group.found.twins) (at c.scan_group.new.found.newest) (at c.scan_group.new.found.twins) c.loop-group.invariant.groups (omega (arith, l))
       c.in-Ok.ensures.ok (c.loop-group.invariant.ok sound);
+  inside = placed_after (g.U.Units.groups c.args.units.now) (g.U.Units.groups c.loop-group.units) c.loop-group.group (at c.loop-group.found.newest) (at c.scan_group.new.found.newest)
+      c.loop-group.invariant.groups c.in-Ok.ensures.inside c.loop-group.invariant.inside;
   keeps = kept_after (g.U.Units.groups c.args.units.now) (g.U.Units.groups c.loop-group.units) (g.U.Units.cells c.args.units.now) (g.U.Units.cells c.loop-group.units) (g.U.Units.cells c.scan_group.new.units)
       c.loop-group.invariant.groups c.loop-group.invariant.keeps c.in-Ok.ensures.keeps;
   groups = c.in-Ok.ensures.groups ∙ c.loop-group.invariant.groups;
@@ -46,3 +50,8 @@ returns-clause-ok g c = λ sound.
     let end : c.loop-group.group ≡ c.args.end = let a = c.loop-group.auto.group-end in let b = c.loop-group-test.false in let o = c.requires.order in omega (arith, a, b, o) in
     subst (λ n. IsUnderway (g.U.Units.groups c.args.units.now) (g.U.Units.cells c.args.units.now) (g.U.Units.cells c.loop-group.units) (128 * c.args.first) (128 * n) (at c.loop-group.found.newest) (at c.loop-group.found.twins)) end
     (c.loop-group.invariant.ok sound)
+
+pub returns-clause-inside : goal.returns-clause-inside
+returns-clause-inside g c =
+    let end : c.loop-group.group ≡ c.args.end = let a = c.loop-group.auto.group-end in let b = c.loop-group-test.false in let o = c.requires.order in omega (arith, a, b, o) in
+    subst (λ n. ArePlaced (g.U.Units.groups c.args.units.now) (128 * n) (at c.loop-group.found.newest)) end c.loop-group.invariant.inside

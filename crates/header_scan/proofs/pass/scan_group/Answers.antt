@@ -5,7 +5,9 @@ use Rattle.header_scan.proofs.Stepping.{looked_at, slot_in, group_over, first_fa
 use Rattle.std.specs.Prelude.{Ok, Err, IfOk}
 use Rattle.map_join.specs.Maps.{at}
 use Rattle.header_scan.specs.declared.found.Found.{Found}
-use Rattle.header_scan.specs.Found.{IsStamped, IsUnderway}
+use Rattle.header_scan.specs.Faults.{IsFine}
+use Rattle.header_scan.specs.Found.{IsUnderway, ArePlaced}
+use Rattle.header_scan.proofs.Placing.{noted_placed, placed_below}
 use Rattle.header_scan.proofs.pass.scan_group.Goals.{in-Some+in-Ok-note, in_default}
 use Rattle.header_scan.proofs.pass.scan_group.Goals as goal
 
@@ -48,7 +50,6 @@ loop-index-preserved g c = record {
         let group = c.requires.group in
         let small : 128 * c.args.group + c.loop-index.index < 2 ^ 16 = omega (arith, few, index, group) in
         let is : c.look.result ≡ Ok (Some w.in-Some.told) = c.in-Ok.is ∙ ap (λ o. Ok o) w.in-Some.is in
-        let written : 0 < w.in-Some.told.version = subst (λ x. IfOk x IsStamped) is c.look.ensures.written in
         let note : IsNote c.loop-index.found.newest c.loop-index.found.twins w.note.new.self.newest w.note.new.self.twins w.in-Some.told = record {
           newer = w.in-Ok-note.ensures.newer;
           twin = w.in-Ok-note.ensures.twin;
@@ -57,7 +58,7 @@ loop-index-preserved g c = record {
         } in
         let more : IsUnderway (g.U.Units.groups c.args.units.now) start (g.U.Units.cells c.look.new.units) low (128 * c.args.group + c.loop-index.index + 1) (at w.note.new.self.newest) (at w.note.new.self.twins) =
         some_more (g.U.Units.groups c.args.units.now) start (g.U.Units.cells c.loop-index.units) (g.U.Units.cells c.look.new.units) low (128 * c.args.group + c.loop-index.index) w.in-Some.told
-        c.loop-index.found.newest c.loop-index.found.twins w.note.new.self.newest w.note.new.self.twins (omega (arith, l)) small written note (c.loop-index.invariant.ok low start l was)
+        c.loop-index.found.newest c.loop-index.found.twins w.note.new.self.newest w.note.new.self.twins (omega (arith, l)) small note (c.loop-index.invariant.ok low start l was)
         (looked_at (g.U.Units.groups c.args.units.now) (g.U.Units.groups c.loop-index.units) (g.U.Units.groups c.look.new.units) (g.U.Units.cells c.loop-index.units) (g.U.Units.cells c.look.new.units) c.args.blocks (128 * c.args.group + c.loop-index.index) c.look.result (Ok (Some w.in-Some.told))
         c.loop-index.invariant.groups c.requires.blocks c.look.ensures.groups is (c.look.ensures.ok, c.look.ensures.err, c.look.ensures.units, c.look.ensures.sound)) in
         let next : 128 * c.args.group + c.loop-index.index + 1 ≡ 128 * c.args.group + (c.loop-index.index + 1) = omega arith in
@@ -71,6 +72,31 @@ loop-index-preserved g c = record {
         (c.loop-index.invariant.ok low start l was) (looked_at (g.U.Units.groups c.args.units.now) (g.U.Units.groups c.loop-index.units) (g.U.Units.groups c.look.new.units) (g.U.Units.cells c.loop-index.units) (g.U.Units.cells c.look.new.units) c.args.blocks (128 * c.args.group + c.loop-index.index) c.look.result (Ok None)
         c.loop-index.invariant.groups c.requires.blocks c.look.ensures.groups (c.in-Ok.is ∙ ap (λ o. Ok o) w.in_default.is) (c.look.ensures.ok, c.look.ensures.err, c.look.ensures.units, c.look.ensures.sound)))))
   ];
+  inside = λ was.
+      let few = c.count_slots-index-end.ensures.few in
+      let index = c.loop-index-test.true in
+      let group = c.requires.group in
+      let placed = c.loop-index.invariant.inside was in
+      let next : 128 * c.args.group + c.loop-index.index + 1 ≡ 128 * c.args.group + (c.loop-index.index + 1) = omega arith in
+      subst (λ n. ArePlaced (g.U.Units.groups c.args.units.now) n (at c.match-told.found.newest)) next (elim c.match-told.branch [
+        | in-Some+in-Ok-note w ↦
+            (subst (λ (f : Found). ArePlaced (g.U.Units.groups c.args.units.now) (128 * c.args.group + c.loop-index.index + 1) (at f.newest)) (sym w.found-is)
+            (noted_placed (g.U.Units.groups c.args.units.now) (128 * c.args.group + c.loop-index.index) w.in-Some.told c.loop-index.found.newest c.loop-index.found.twins w.note.new.self.newest w.note.new.self.twins
+            (slot_in (g.U.Units.groups c.args.units.now) c.groups.result.now c.args.group c.loop-index.index c.count_slots-index-end.result c.groups.ensures c.count_slots-index-end.ensures.count few index)
+            (omega (arith, few, index, group))
+            (subst (λ n. IsFine n (128 * c.args.group + c.loop-index.index) (Some w.in-Some.told)) c.requires.blocks
+            (subst (λ x. IfOk x (IsFine c.args.blocks (128 * c.args.group + c.loop-index.index))) (c.in-Ok.is ∙ ap (λ o. Ok o) w.in-Some.is) c.look.ensures.inside))
+            (record {
+              newer = w.in-Ok-note.ensures.newer;
+              twin = w.in-Ok-note.ensures.twin;
+              older = λ h. let x = w.in-Ok-note.ensures.older h in (x.1, x.2);
+              third = λ h k. let x = w.in-Ok-note.ensures.third h k in (x.1, x.2);
+            })
+            placed))
+        | in_default w ↦
+            (subst (λ (f : Found). ArePlaced (g.U.Units.groups c.args.units.now) (128 * c.args.group + c.loop-index.index + 1) (at f.newest)) (sym w.found-is)
+            (placed_below (g.U.Units.groups c.args.units.now) (128 * c.args.group + c.loop-index.index) (128 * c.args.group + c.loop-index.index + 1) (at c.loop-index.found.newest) (omega arith) placed))
+      ]);
   keeps =
       more_kept (g.U.Units.groups c.args.units.now) (g.U.Units.cells c.args.units.now) (g.U.Units.cells c.loop-index.units) (g.U.Units.cells c.look.new.units) (g.U.Units.groups c.args.units.now).blocks (128 * c.args.group + c.loop-index.index) c.look.result
       c.loop-index.invariant.keeps
@@ -89,3 +115,9 @@ returns-clause-ok g c = λ low start l was.
     c.count_slots-index-end.ensures.few
     (subst (λ n. IsUnderway (g.U.Units.groups c.args.units.now) start (g.U.Units.cells c.loop-index.units) low (128 * c.args.group + n) (at c.loop-index.found.newest) (at c.loop-index.found.twins)) end
     (c.loop-index.invariant.ok low start l was))
+
+pub returns-clause-inside : goal.returns-clause-inside
+returns-clause-inside g c = λ was.
+    let end : c.loop-index.index ≡ c.count_slots-index-end.result = let a = c.loop-index.auto.index-end in let b = c.loop-index-test.false in omega (arith, a, b) in
+    let few = c.count_slots-index-end.ensures.few in
+    placed_below (g.U.Units.groups c.args.units.now) (128 * c.args.group + c.loop-index.index) (128 * c.args.group + 128) (at c.loop-index.found.newest) (omega (arith, end, few)) (c.loop-index.invariant.inside was)

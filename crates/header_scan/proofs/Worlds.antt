@@ -1,0 +1,209 @@
+-- A scan of an array or a world that stands for a flat state: the map of its log where no slot is gone, and else the first that is.
+use Rattle.std.proofs.Common.{◌≡◌, ℕ, ◌^◌, ◌<◌, ◌≤◌, ◌⊎◌, inl, inr, Some, None, List, take, refl, sym, ◌∙◌, ap, subst, arith}
+use Rattle.std.specs.Prelude.{is_some, Result, Ok, Err, IfOk, IfErr, OnOk}
+use Rattle.std.proofs.lemmas.Option.{none-some}
+use Rattle.map_join.specs.declared.records.Record.{Record}
+use Rattle.map_join.specs.Record.{key_of, record_of, stamp_of, stamp_in}
+use Rattle.map_join.specs.Maps.{Entries, at, IsMapOf}
+use Rattle.extents.specs.declared.header.Header.{Header}
+use Rattle.extents.specs.declared.header.Header.TheVariants.{Is}
+use Rattle.extents.specs.Header.{Spells, record_in}
+use Rattle.extent_groups.specs.Groups.{Groups}
+use Rattle.extent_groups.specs.Stores.{unit_of, AreSound}
+use Rattle.extent_groups.proofs.Missing.{gone_law}
+use Rattle.array_parts.specs.Slots.{IsSlot}
+use Rattle.array_parts.specs.Views.{IsLost, cells_of, drive_units, drive_lost}
+use Rattle.array_parts.proofs.Reading.{slot_there}
+use Rattle.array_parts.proofs.Shows.{shown_header}
+use Rattle.flat_machine.specs.Flat.{Flat}
+use Rattle.flat_machine.specs.Groups.{class_at}
+use Rattle.flat_machine.specs.Cases.{IsGoneIn}
+use Rattle.flat_machine.specs.History.{IsHeaderOf}
+use Rattle.flat_machine.specs.Restarted.{TellMap}
+use Rattle.flat_machine.specs.Scanned.{HasHeader, IsScanned}
+use Rattle.flat_machine.specs.Scans.{Told, FindsGone, ScanCase}
+use Rattle.flat_machine.proofs.Restarts.{history_tells, tells_one}
+use Rattle.array_model.specs.Views.{ArrayView, WorldView, IsWhole, hand_at, key_at}
+use Rattle.array_model.specs.Represents.{ShowsArray, HandSlot, Represents}
+use Rattle.array_model.proofs.Fares.{fared, gone_as, gone_before, lost_shows, lost_leaves}
+use Rattle.array_model.proofs.Fills.{class_seen}
+use Rattle.step_core.specs.Headline.{bytes_of}
+use Rattle.step_core.specs.Refused.{OnlyLoses, OnlyLosesOf}
+use Rattle.header_scan.specs.declared.fault.ScanFault.{ScanFault}
+use Rattle.header_scan.specs.declared.fault.ScanFault.TheVariants.{Memory, BadHeader, WrongSlot, Twice, Gone, NoClaim}
+use Rattle.header_scan.specs.Faults.{AreFine, IsFirstFault}
+use Rattle.header_scan.specs.Worlds.{IsToldOf}
+use Rattle.header_scan.proofs.Scanning.{slot_at, has_unit, within, ranged, told_header}
+use Rattle.header_scan.proofs.Telling.{all_units, AllFine, NoneTwice, slot_low, record_told, scan_tells}
+
+module _ (a : ArrayView) (F : Flat) (whole : IsWhole a) (shows : ShowsArray a F) where
+  -- a slot has a unit just where it is of a group
+  there : (s : ℕ) → is_some (F.units s) ≡ is_some (class_at a.parts.groups s)
+  there s = (shows.history.units s).there ∙ ap is_some (class_seen a F s shows)
+
+  -- the state's units tell its map
+  own_map : TellMap a.parts.groups F.units (key_at a)
+  own_map = subst (λ (groups : Groups). TellMap groups F.units (key_at a)) shows.tables.groups (history_tells F (key_at a) shows.history)
+
+  -- the map of the headers is that of the log
+  pub scan_history : (M : ℕ → ℕ) → AllFine a.parts → IsScanned (all_units a.parts) M → NoneTwice a.parts → IsMapOf F.emitted M
+  scan_history M fine map once =
+      let tells = scan_tells a.parts whole.groups.table whole.drives F.units shows.units there fine M map once in
+      let same = tells_one a.parts.groups F.units (key_at a) M own_map tells in
+      subst (IsMapOf F.emitted) (λ i b. same b i) shows.history.map
+
+  -- a slot that is fine isn't gone
+  fine_stays : (high s : ℕ) → AreFine a.parts.groups 0 high (bytes_of a.parts) → s < high → IsGoneIn F s → ⊥
+  fine_stays high s fine below gone =
+      let lost = gone_before F a.parts s shows.tables.groups shows.tables.lost gone in
+      let none = (gone_law drive_units drive_lost a.parts.groups a.parts.drives s lost.0 whole.groups.table whole.drives lost.1).1 lost in
+      let told = (fine s (slot_at a.parts.groups s lost.0 lost.1) (omega arith) below).1 in
+      none-some told.0 (sym none ∙ told.1)
+
+  -- so none is where all are
+  pub none_gone : AllFine a.parts → (s : ℕ) → IsGoneIn F s → ⊥
+  none_gone fine s gone =
+      let lost = gone_before F a.parts s shows.tables.groups shows.tables.lost gone in
+      fine_stays (2 ^ 16) s fine (slot_low a.parts.groups s whole.groups.table (slot_at a.parts.groups s lost.0 lost.1)) gone
+
+  -- a record in the header of a slot is of that slot and of one of the blocks, and the newest or of a lower stamp
+  header_stands : (s : ℕ) (r : Record) → HasHeader (bytes_of a.parts) s r → IsHeaderOf (key_at a) s r × (r.block < a.parts.groups.blocks)
+  header_stands s r h =
+      let u = shows.units.shown s h.0 h.1 in
+      let header = ap record_in (shown_header h.0 u.0 (Is r) u.2 h.2) in
+      (own_map.header s u.0 r u.1 header, own_map.blocks s u.0 r u.1 header)
+
+  -- no header is of a block past the last
+  bad_stands : (s : ℕ) (bytes : List ℕ) → bytes_of a.parts s ≡ Some bytes
+      → ((h : Header) → Spells (take 32 bytes) h → (r : Record) × (record_in h ≡ Some r) × (a.parts.groups.blocks ≤ r.block)) → ⊥
+  bad_stands s bytes e bad =
+      let u = shows.units.shown s bytes e in
+      let r = bad u.0.header u.2.0 in
+      let inside = own_map.blocks s u.0 r.0 u.1 r.1 in
+      let past = r.2 in
+      omega (arith, inside, past)
+
+  -- the newest record of a block stands in a header, where all are fine
+  newest_there : AllFine a.parts → (b : ℕ) → 0 < key_at a b → HasHeader (all_units a.parts) (record_of b (key_at a b)).place (record_of b (key_at a b))
+  newest_there fine b some =
+      let r = record_of b (key_at a b) in
+      let is = (own_map.found b some).1 in
+      let tells = record_told a.parts whole.groups.table whole.drives F.units shows.units there fine r.place is.stored r is.there is.header in
+      let h = told_header a.parts.groups.blocks (bytes_of a.parts) r.place r tells in
+      ranged 0 (2 ^ 16) (bytes_of a.parts) r.place r (omega arith)
+      (slot_low a.parts.groups r.place whole.groups.table (has_unit a.parts.groups (cells_of a.parts) r.place h.0 h.1)) h
+
+  -- a header that no other of its block is newer than is the newest record
+  top_newest : AllFine a.parts → (b slot : ℕ) (r : Record) → HasHeader (all_units a.parts) slot r → r.block ≡ b
+      → ((s : ℕ) (x : Record) → HasHeader (all_units a.parts) s x → x.block ≡ b → stamp_of x ≤ stamp_of r)
+      → (key_of r ≡ key_at a b) × (r.place ≡ slot)
+  top_newest fine b slot r h block most = (by stands.newest, stands.place)
+    where
+      stands : IsHeaderOf (key_at a) slot r
+      stands = (header_stands slot r (within 0 (2 ^ 16) (bytes_of a.parts) slot r h).2).0
+
+      by : (key_of r ≡ key_at a r.block) ⊎ (stamp_of r < stamp_in (key_at a r.block)) → key_of r ≡ key_at a b
+      by (inl e) = e ∙ ap (key_at a) block
+      by (inr less) =
+          let key : key_at a r.block ≡ key_at a b = ap (key_at a) block in
+          let top = most (record_of b (key_at a b)).place (record_of b (key_at a b)) (newest_there fine b (omega (arith, less, key))) refl in
+          absurd (omega (arith, top, less, key))
+
+  -- no block stands twice
+  never_twice : AllFine a.parts → NoneTwice a.parts
+  never_twice fine b p q is =
+      let one = top_newest fine b p is.one is.here.0 is.here.1 is.most in
+      let other = top_newest fine b q is.other is.there.0 is.there.1
+      (λ s x h block. let most = is.most s x h block in let same = is.same in omega (arith, most, same))
+      in
+      let key = one.0 in
+      let also = other.0 in
+      let place = one.1 in
+      let place_too = other.1 in
+      let same = is.same in
+      let order = is.order in
+      omega (arith, key, also, place, place_too, same, order)
+
+  -- the first fault is want of memory, or a slot that is gone
+  abbrev IsFaultOf : ScanFault → Flat → Type 0
+  IsFaultOf Memory G = Unit {0}
+  IsFaultOf (Gone s) G = FindsGone F G s
+  IsFaultOf (BadHeader s) G = ⊥
+  IsFaultOf (WrongSlot s told) G = ⊥
+  IsFaultOf (Twice block first second) G = ⊥
+  IsFaultOf (NoClaim s) G = ⊥
+
+  pub scan_fault : (b : ArrayView) (fault : ScanFault) → IsWhole b → OnlyLoses a b
+      → IsFirstFault a.parts.groups 0 (2 ^ 16) (bytes_of a.parts) (unit_of a.parts.groups (cells_of b.parts)) fault → IsFaultOf fault (fared F b.parts)
+  scan_fault b Memory left loses is = tt
+  scan_fault b (Gone s) left loses is = record {
+    gone = gone_as F a.parts b.parts s shows.tables.groups loses.1.rest lost;
+    lowest = λ t below gone. fine_stays is.0 t is.5 (let same = is.4.0 in omega (arith, below, same)) gone;
+    leaves = lost_leaves a F b.parts shows loses.1;
+  }
+    where
+      none : unit_of b.parts.groups (cells_of b.parts) s ≡ None
+      none = subst (λ n. unit_of b.parts.groups (cells_of b.parts) n ≡ None) (sym is.4.0)
+          (subst (λ (g : Groups). unit_of g (cells_of b.parts) is.0 ≡ None) (sym loses.1.rest.groups) is.4.1)
+
+      lost : IsLost b.parts s
+      lost =
+          let slot : IsSlot b.parts.groups s = subst (λ n. IsSlot b.parts.groups n) (sym is.4.0) (subst (λ (g : Groups). IsSlot g is.0) (sym loses.1.rest.groups) is.1) in
+          let site = slot_there b.parts.groups s slot in
+          (gone_law drive_units drive_lost b.parts.groups b.parts.drives s site.0 left.groups.table left.drives site.1).0 none
+  scan_fault b (BadHeader s) left loses is = bad_stands is.0 is.4.1.0 is.4.1.1 is.4.1.2
+  scan_fault b (WrongSlot s told) left loses is =
+      let place = (header_stands is.0 is.4.2.0 is.4.2.1).0.place in
+      is.4.1 (sym is.4.2.3 ∙ place)
+  scan_fault b (Twice block first second) left loses is = never_twice is.0 block first second is.1
+  scan_fault b (NoClaim s) left loses is = is
+
+-- a world that lost drives stands for the state with these drives
+world_fares : (v w : WorldView) (F : Flat) → OnlyLosesOf v w → Represents v F → Represents w (fared F w.array.parts)
+world_fares v w F loses rep = record {
+  array = subst (λ (x : ArrayView). ShowsArray x (fared F w.array.parts)) (sym loses.1.0) (lost_shows v.array F w.array.parts rep.array loses.1.1);
+  held = record { once = rep.held.once; inside = rep.held.inside };
+  hands = λ s. subst (λ hands. HandSlot (hand_at hands s) (F.held s)) (sym loses.0) (rep.hands s);
+}
+
+-- a world whose slots are sound
+abbrev Sound : WorldView → Type 0
+Sound v = AreSound v.array.parts.groups (cells_of v.array.parts)
+
+-- the first fault of a world, by what is left of its units in another
+abbrev IsFirst : WorldView → WorldView → ScanFault → Type 0
+IsFirst v w = IsFirstFault v.array.parts.groups 0 (2 ^ 16) (bytes_of v.array.parts) (unit_of v.array.parts.groups (cells_of w.array.parts))
+
+-- the fault of one that stands for a state
+world_fault : (v w : WorldView) (fault : ScanFault) → IsWhole v.array → IsWhole w.array → OnlyLosesOf v w
+    → (Sound v → IsFirst v w fault) → IsToldOf v w fault
+world_fault v w Memory whole left loses is = tt
+world_fault v w (Gone s) whole left loses is = λ F rep.
+    (fared F w.array.parts, scan_fault v.array F whole rep.array w.array (Gone s) left loses.1 (is rep.array.units.sound), world_fares v w F loses rep)
+world_fault v w (BadHeader s) whole left loses is = λ F rep. scan_fault v.array F whole rep.array w.array (BadHeader s) left loses.1 (is rep.array.units.sound)
+world_fault v w (WrongSlot s told) whole left loses is = λ F rep. scan_fault v.array F whole rep.array w.array (WrongSlot s told) left loses.1 (is rep.array.units.sound)
+world_fault v w (Twice b p q) whole left loses is = λ F rep. scan_fault v.array F whole rep.array w.array (Twice b p q) left loses.1 (is rep.array.units.sound)
+world_fault v w (NoClaim s) whole left loses is = λ F rep. scan_fault v.array F whole rep.array w.array (NoClaim s) left loses.1 (is rep.array.units.sound)
+
+pub world_told : (v w : WorldView) (result : Result Entries ScanFault) → IsWhole v.array → IsWhole w.array → OnlyLosesOf v w
+    → (Sound v → IfErr result (IsFirst v w)) → IfErr result (IsToldOf v w)
+world_told v w (Ok m) whole left loses is = tt
+world_told v w (Err fault) whole left loses is = world_fault v w fault whole left loses is
+
+-- the map of one that does
+pub world_map : (v w : WorldView) (result : Result Entries ScanFault) → IsWhole v.array → OnlyLosesOf v w
+    → (Sound v → IfOk result (λ m. IsScanned (all_units v.array.parts) (at m)))
+    → (Sound v → OnOk result (AllFine v.array.parts))
+    → (Sound v → OnOk result (NoneTwice v.array.parts))
+    → IfOk result (λ m. (F : Flat) → Represents v F → (G : Flat) × ScanCase F (Told (at m)) G × Represents w G)
+world_map v w (Ok m) whole loses map fine once = λ F rep.
+    let sound = rep.array.units.sound in (
+      fared F w.array.parts,
+      (
+        none_gone v.array F whole rep.array (fine sound),
+        scan_history v.array F whole rep.array (at m) (fine sound) (map sound) (once sound),
+        lost_leaves v.array F w.array.parts rep.array loses.1.1,
+      ),
+      world_fares v w F loses rep,
+    )
+world_map v w (Err fault) whole loses map fine once = tt

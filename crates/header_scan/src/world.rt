@@ -1,0 +1,30 @@
+// The map of a world, from the headers of its drives.
+ghost use Rattle.std.specs.Prelude.{IfOk, IfErr};
+ghost use Rattle.map_join.specs.Maps.{at};
+ghost use Rattle.flat_machine.specs.Flat.{Flat};
+ghost use Rattle.flat_machine.specs.Restarted.{HasPlaces};
+ghost use Rattle.flat_machine.specs.Scans.{Told, ScanCase};
+ghost use Rattle.array_model.specs.Represents.{Represents};
+ghost use Rattle.step_core.specs.Refused.{OnlyLosesOf};
+ghost use Rattle.header_scan.specs.Worlds.{IsToldOf};
+
+use crate::{ScanFault, scan};
+use map_join::BlockMap;
+use std::alloc::Global;
+use step_core::World;
+
+/// Scans the headers of a world's drives. Where the world stands for a flat state the map is that of the records which the state
+/// emitted, and no slot was gone; else a slot is told that is gone, below which none was before, or want of memory. No other
+/// fault is told of such a world. Drives may be found lost, and all else stays.
+pub fn scan_world(alloc: Global, world: &mut World) -> Result<BlockMap, ScanFault>
+    ensures ok { IfOk result (λ m. (F : Flat) → Represents world.old F
+        → (G : Flat) × ScanCase F (Told (at m)) G × Represents world.new G) }
+    ensures inside { IfOk result (λ m. HasPlaces world.new.array.parts.groups (at m)) }
+    ensures fault { IfErr result (IsToldOf world.old world.new) }
+    ensures loses { OnlyLosesOf world.old world.new }
+{
+    world.whole();
+    let told = scan(alloc, world);
+    world.whole();
+    told
+}
