@@ -2,16 +2,16 @@
 use Rattle.std.proofs.Common.{◌≡◌, ℕ, ◌^◌, Bool, false, List, [], length, is_some, refl, sym, ap, ◌∙◌, subst, Option, None}
 use Rattle.map_join.specs.Maps.{IsListOf}
 use Rattle.extent_groups.specs.Cells.{Cells}
-use Rattle.extent_groups.specs.Stores.{unit_of, AreSound, KeepsUnits}
+use Rattle.extent_groups.specs.Stores.{unit_of, AreSound}
 use Rattle.array_parts.specs.declared.parts.Parts.{Parts}
 use Rattle.array_parts.specs.Fit.{IsFit}
 use Rattle.array_parts.specs.Losses.{LosesOnly}
 use Rattle.array_parts.specs.Slots.{cells_in}
-use Rattle.array_parts.specs.Views.{PartsView, Loses, view_of, drive_view, cells_of, lost_of, failed_of, Shows}
+use Rattle.array_parts.specs.Views.{PartsView, Loses, view_of, cells_of, lost_of, failed_of, Shows}
 use Rattle.array_parts.proofs.Reading.{keeps_fare}
 use Rattle.array_parts.proofs.Views.{view_cells, view_drives}
 use Rattle.array_parts.proofs.Calls.{loses_view, shows_in}
-use Rattle.flat_machine.specs.Cases.{Fares, Leaves}
+use Rattle.flat_machine.specs.Cases.{Leaves}
 use Rattle.flat_machine.specs.Flat.{Flat, Stored}
 use Rattle.flat_machine.specs.Groups.{class_at}
 use Rattle.flat_machine.specs.Restarted.{IsRestarted, TellMap, restarted}
@@ -22,7 +22,7 @@ use Rattle.array_model.specs.Views.{ArrayView}
 use Rattle.step_core.specs.Adopted.{IsIdle}
 use Rattle.header_scan.specs.Faults.{between, AreFine, IsTwice}
 use Rattle.header_scan.specs.Found.{Keeps}
-use Rattle.header_scan.specs.Restarts.{AreAllSound, HasUnits, TellAll, WasMade}
+use Rattle.header_scan.specs.Restarts.{AreAllSound, HasUnits, TellAll}
 use Rattle.header_scan.proofs.Telling.{scan_tells, scan_units}
 
 -- a state whose parts were read: some of its drives may have been lost

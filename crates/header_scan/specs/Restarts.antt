@@ -1,6 +1,5 @@
 -- What a restart makes of parts and claims, and why it makes nothing of them.
 use Rattle.std.specs.Prelude.{◌≡◌, ℕ, ◌^◌, is_some, Bool, List}
-use Rattle.map_join.specs.Maps.{IsListOf}
 use Rattle.extent_groups.specs.Stores.{unit_of, AreSound}
 use Rattle.array_parts.specs.declared.parts.Parts.{Parts}
 use Rattle.array_parts.specs.Losses.{LosesOnly}
@@ -17,7 +16,7 @@ use Rattle.array_model.specs.Views.{ArrayView}
 use Rattle.step_core.specs.Adopted.{IsUnclaimed}
 use Rattle.header_scan.specs.Faults.{between, AreFine, IsFirstFault, IsTwice}
 use Rattle.header_scan.specs.declared.fault.ScanFault.{ScanFault}
-use Rattle.header_scan.specs.declared.fault.ScanFault.TheVariants.{Memory, BadHeader, WrongSlot, Twice, Gone, NoClaim}
+use Rattle.header_scan.specs.declared.fault.ScanFault.TheVariants.{NoClaim}
 
 -- each slot of a group has a unit, and no other slot has one
 abbrev pub HasUnits : Flat → Type 0

@@ -1,4 +1,3 @@
-use Rattle.std.proofs.Common.{◌≡◌}
 use Rattle.map_join.specs.Maps.{at}
 use Rattle.header_scan.proofs.Renewing.{made_shows, made_stands}
 use Rattle.header_scan.proofs.renew.restart.Goals as goal
