@@ -1,4 +1,5 @@
 pub mod Digits
+pub mod Fronts
 pub mod Members
 pub mod Numbers
 pub mod Payloads

@@ -1,12 +1,12 @@
 -- Words that name no record.
 use Rattle.std.proofs.Common.{◌≡◌, ℕ, List, [], ◌∷◌, Ok, Err, Result, sym, ◌∙◌, arith}
 use Rattle.std.specs.Prelude.{MatchResult, IfNone}
-use Rattle.hex.specs.Hex.{decode_of, decode_sized}
+use Rattle.hex.specs.Hex.{decode_sized}
 use Rattle.hex.specs.declared.error.FromHexError.{FromHexError}
 use Rattle.hex.proofs.HexLemmas.{decode_of-ok, decode_sized-twice}
 use Rattle.map_join.specs.declared.records.Record.{Record}
-use Rattle.std.proofs.Common.{length, Option, Some, None}
-use Rattle.script_words.specs.Spelling.{IsRecordWord, PayloadAlone, RecordAlone}
+use Rattle.std.proofs.Common.{Option, Some, None}
+use Rattle.script_words.specs.Spelling.{IsRecordWord, RecordAlone}
 
 -- digits that aren't those of twelve bytes
 pub no_record : (word : List ℕ) (result : Result (Unit {0}) FromHexError) (e : FromHexError) (P : List ℕ → Type 0)
