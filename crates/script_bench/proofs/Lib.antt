@@ -1,5 +1,4 @@
 pub mod Benches
 pub mod Carried
-pub mod Hexes
 pub mod Ranges
 pub mod Said

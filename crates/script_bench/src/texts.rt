@@ -5,13 +5,11 @@ ghost use Rattle.step_core.specs.Told.{flat_answer, seen_of};
 ghost use Rattle.script_bench.specs.Text.{answer_text, data_text, detail, difference_text, found_text, header_text, seen_text, listing, record_or_none, record_text, records_text};
 ghost use Rattle.flat_machine.specs.Steps as s;
 
+use hex_lanes::encode_hex;
 use itoa::Buffer;
 use map_join::Record;
 use std::alloc::AllocError;
 use step_core::{Answer, At, Refusal};
-
-/// The digits of a half byte.
-const DIGITS: [u8; 16] = *b"0123456789abcdef";
 
 /// A text as it stands.
 pub fn put(out: &mut Vec<u8>, text: &[u8]) -> Result<(), AllocError>
@@ -32,10 +30,12 @@ pub fn put_number(out: &mut Vec<u8>, number: u64) -> Result<(), AllocError>
 pub fn put_hex(out: &mut Vec<u8>, bytes: &[u8]) -> Result<(), AllocError>
     ensures { OnOk result (out.new.items ≡ out.old.items ++ encode_lower bytes.now) }
 {
-    for byte in bytes {
-        out.push(DIGITS[usize::from(*byte / 16)])?;
-        out.push(DIGITS[usize::from(*byte % 16)])?;
-    }
+    let start = out.len();
+    let Some(end) = start.checked_add(2 * bytes.len()) else {
+        return Err(AllocError);
+    };
+    out.resize(end, 0)?;
+    encode_hex(bytes, &mut out[start..]);
     Ok(())
 }
 

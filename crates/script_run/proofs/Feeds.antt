@@ -1,5 +1,5 @@
 -- What a script's pieces lead to, one after the other.
-use Rattle.std.proofs.Common.{◌≡◌, ℕ, ◌+◌, ◌<◌, ◌==◌, Bool, false, List, [], ◌∷◌, ◌++◌, length, Option, Result, Ok, Err, refl, sym, ap, ◌∙◌, subst, inl, inr, arith, append_assoc, append-nil, length-append}
+use Rattle.std.proofs.Common.{◌≡◌, ℕ, ◌+◌, ◌<◌, ◌==◌, Bool, true, false, List, [], ◌∷◌, ◌++◌, length, Option, Result, Ok, Err, refl, sym, ap, ◌∙◌, subst, inl, inr, arith, append_assoc, append-nil, length-append}
 use Rattle.std.proofs.lemmas.List.Elements.{All-append}
 use Rattle.script_run.specs.Opens.{AreLines, IsOpen}
 use Rattle.script_bench.specs.State.{State}
@@ -148,29 +148,42 @@ along_open old state new part stands number line out = record {
 }
 
 -- the open line ended and was answered
-pub along_answered : (old : Script) (state : State) (new : Script) → IsOpen old.line.items → IsLineAnswered old state new
-    → IsAlong old state new (10 ∷ []) []
-along_answered old state new none answered = let t = answered.told in record {
+along_answered : (old : Script) (state : State) (line : List ℕ) (new : Script) (part : List ℕ) → old.line.items ++ part ≡ line → IsOpen line
+    → IsLineAnswered old state line new → IsAlong old state new (part ++ 10 ∷ []) []
+along_answered old state line new part is none answered = let t = answered.told in record {
   next = t.next;
   stands = t.stands;
-  whole = old.line.items ++ 10 ∷ [];
-  lines = inr (old.line.items, refl);
-  text_is = sym (append-nil (old.line.items ++ 10 ∷ [])) ∙ ap (λ xs. (old.line.items ++ 10 ∷ []) ++ (xs ++ [])) (sym answered.line);
-  counted = answered.number ∙ ap (λ lines. old.number + length lines) (sym (cut_line old.line.items [] none));
+  whole = line ++ 10 ∷ [];
+  lines = inr (line, refl);
+  text_is =
+      sym (append_assoc old.line.items part (10 ∷ [])) ∙ ap (λ xs. xs ++ 10 ∷ []) is
+      ∙ sym (append-nil (line ++ 10 ∷ [])) ∙ ap (λ xs. (line ++ 10 ∷ []) ++ (xs ++ [])) (sym answered.none);
+  counted = answered.number ∙ ap (λ lines. old.number + length lines) (sym (cut_line line [] none));
   bytes = t.bytes;
   out = t.out;
   leads = λ more later last left.
       let rest : Tells (old.number + 1) t.next (lines_of more) later last = rw answered.number at left in
-      rw (append_assoc old.line.items (10 ∷ []) more, cut_line old.line.items more none) (t.told (lines_of more) later last rest);
+      rw (append_assoc line (10 ∷ []) more, cut_line line more none) (t.told (lines_of more) later last rest);
 }
 
-pub stopped_answered : (old : Script) (state : State) (new : Script) → IsOpen old.line.items
-    → IsLineWrong old.number state old.line.items old.out.items new.out.items → IsStopped old state new (10 ∷ [])
-stopped_answered old state new none wrong = record {
+stopped_answered : (old : Script) (state : State) (line : List ℕ) (new : Script) (part : List ℕ) → old.line.items ++ part ≡ line → IsOpen line
+    → IsLineWrong old.number state line old.out.items new.out.items → IsStopped old state new (part ++ 10 ∷ [])
+stopped_answered old state line new part is none wrong = record {
   bytes = wrong.bytes;
   out = wrong.out;
-  told = λ more. rw (cut_line old.line.items more none) (wrong.told (lines_of more));
+  told = λ more.
+      let text : old.line.items ++ ((part ++ 10 ∷ []) ++ more) ≡ line ++ 10 ∷ more =
+      ap (λ xs. old.line.items ++ xs) (append_assoc part (10 ∷ []) more)
+      ∙ sym (append_assoc old.line.items part (10 ∷ more)) ∙ ap (λ xs. xs ++ 10 ∷ more) is in
+      rw (text, cut_line line more none) (wrong.told (lines_of more));
 }
+
+-- what came of the open line, whose last bytes these are
+pub fed_answered : (r : Result (Unit {0}) Stop) (old : Script) (state : State) (line : List ℕ) (new : Script) (part : List ℕ)
+    → old.line.items ++ part ≡ line → IsOpen line → Answered r old state line new → Feeds r old state new (part ++ 10 ∷ [])
+fed_answered (Ok u) old state line new part is none answered = along_answered old state line new part is none answered
+fed_answered (Err stop.Memory) old state line new part is none answered = short_none old state new (part ++ 10 ∷ []) answered
+fed_answered (Err stop.Fault) old state line new part is none answered = stopped_answered old state line new part is none answered
 
 -- an open front that is a fault however its line goes on
 pub stopped_front : (r : Result (Unit {0}) Stop) (old : Script) (state : State) (new : Script) (part : List ℕ) (reason : Why)
@@ -200,7 +213,7 @@ closed_empty script state empty = record {
 
 -- the open line is the last one
 pub closed_answered : (r : Result (Unit {0}) Stop) (old : Script) (state : State) (new : Script) → IsOpen old.line.items
-    → 0 < length old.line.items → Answered r old state new → Closes r old state new
+    → 0 < length old.line.items → Answered r old state old.line.items new → Closes r old state new
 closed_answered (Ok u) old state new none some answered = let t = answered.told in record {
   bytes = t.bytes;
   out = t.out;
@@ -216,48 +229,27 @@ closed_answered (Err stop.Fault) old state new none some answered = record {
   told = rw (last_line old.line.items none some) (answered.told []);
 }
 
--- one turn: a part that isn't taken in
-pub turn_refused : (reason : Stop) (old : Script) (state : State) (mid new : Script) (chunk rest part back : List ℕ)
-    → rest ≡ part ++ 10 ∷ back → IsAlong old state mid chunk rest
-    → ((s : State) → Stands mid.bench s → Feeds (Err reason) mid s new part) → Feeds (Err reason) old state new chunk
-turn_refused stop.Memory old state mid new chunk rest part back cut along fed =
-    let a : IsAlong old state mid chunk (part ++ 10 ∷ back) = rw cut at along in
-    along_short old state mid new chunk part (10 ∷ back) a (fed a.next a.stands)
-turn_refused stop.Fault old state mid new chunk rest part back cut along fed =
-    let a : IsAlong old state mid chunk (part ++ 10 ∷ back) = rw cut at along in
-    along_stopped old state mid new chunk part (10 ∷ back) a (fed a.next a.stands)
+-- a part that isn't read
+part_refused : (reason : Stop) (old : Script) (state : State) (mid new : Script) (chunk part rest : List ℕ)
+    (a : IsAlong old state mid chunk (part ++ rest)) → Feeds (Err reason) mid a.next new part → Feeds (Err reason) old state new chunk
+part_refused stop.Memory old state mid new chunk part rest a fed = along_short old state mid new chunk part rest a fed
+part_refused stop.Fault old state mid new chunk part rest a fed = along_stopped old state mid new chunk part rest a fed
 
--- one turn up to the line's end
-turn_taken : (old : Script) (state : State) (mid full : Script) (chunk rest part back : List ℕ)
+-- one turn: the line that ends in the chunk is answered
+pub turn_done : (old : Script) (state : State) (mid new : Script) (chunk rest part back : List ℕ)
     → rest ≡ part ++ 10 ∷ back → IsAlong old state mid chunk rest
-    → ((s : State) → Stands mid.bench s → IsAlong mid s full part []) → IsAlong old state full chunk ((10 ∷ []) ++ back)
-turn_taken old state mid full chunk rest part back cut along fed =
-    let a : IsAlong old state mid chunk (part ++ 10 ∷ back) = rw cut at along in
-    along_more old state mid full chunk part (10 ∷ back) a (fed a.next a.stands)
+    → ((s : State) → Stands mid.bench s → IsAlong mid s new (part ++ 10 ∷ []) []) → IsAlong old state new chunk back
+turn_done old state mid new chunk rest part back cut along fed =
+    let a : IsAlong old state mid chunk ((part ++ 10 ∷ []) ++ back) = rw (cut ∙ sym (append_assoc part (10 ∷ []) back)) at along in
+    along_more old state mid new chunk (part ++ 10 ∷ []) back a (fed a.next a.stands)
 
--- one turn: a line that isn't answered
-pub turn_stopped : (reason : Stop) (old : Script) (state : State) (mid full new : Script) (chunk rest part back : List ℕ)
+-- one turn: it isn't
+pub turn_stopped : (reason : Stop) (old : Script) (state : State) (mid new : Script) (chunk rest part back : List ℕ)
     → rest ≡ part ++ 10 ∷ back → IsAlong old state mid chunk rest
-    → ((s : State) → Stands mid.bench s → IsAlong mid s full part []) → IsOpen full.line.items
-    → ((s : State) → Stands full.bench s → Answered (Err reason) full s new) → Feeds (Err reason) old state new chunk
-turn_stopped stop.Memory old state mid full new chunk rest part back cut along fed none answered =
-    let a = turn_taken old state mid full chunk rest part back cut along fed in
-    along_short old state full new chunk (10 ∷ []) back a
-    (short_none full a.next new (10 ∷ []) (answered a.next a.stands))
-turn_stopped stop.Fault old state mid full new chunk rest part back cut along fed none answered =
-    let a = turn_taken old state mid full chunk rest part back cut along fed in
-    along_stopped old state full new chunk (10 ∷ []) back a
-    (stopped_answered full a.next new none (answered a.next a.stands))
-
--- one whole turn
-pub turn_done : (old : Script) (state : State) (mid full new : Script) (chunk rest part back : List ℕ)
-    → rest ≡ part ++ 10 ∷ back → IsAlong old state mid chunk rest
-    → ((s : State) → Stands mid.bench s → IsAlong mid s full part []) → IsOpen full.line.items
-    → ((s : State) → Stands full.bench s → IsLineAnswered full s new) → IsAlong old state new chunk back
-turn_done old state mid full new chunk rest part back cut along fed none answered =
-    let a = turn_taken old state mid full chunk rest part back cut along fed in
-    along_more old state full new chunk (10 ∷ []) back a
-    (along_answered full a.next new none (answered a.next a.stands))
+    → ((s : State) → Stands mid.bench s → Feeds (Err reason) mid s new (part ++ 10 ∷ [])) → Feeds (Err reason) old state new chunk
+turn_stopped reason old state mid new chunk rest part back cut along fed =
+    let a : IsAlong old state mid chunk ((part ++ 10 ∷ []) ++ back) = rw (cut ∙ sym (append_assoc part (10 ∷ []) back)) at along in
+    part_refused reason old state mid new chunk (part ++ 10 ∷ []) back a (fed a.next a.stands)
 
 -- the last part of the chunk
 pub last_part : (r : Result (Unit {0}) Stop) (old : Script) (state : State) (mid new : Script) (chunk rest : List ℕ)
@@ -271,6 +263,24 @@ last_part (Err stop.Memory) old state mid new chunk rest along fed =
 last_part (Err stop.Fault) old state mid new chunk rest along fed =
     let a : IsAlong old state mid chunk (rest ++ []) = rw (append-nil rest) along in
     along_stopped old state mid new chunk rest [] a (fed a.next a.stands)
+
+-- the open line took its last bytes in, and then was answered
+pub end_answered : (r : Result (Unit {0}) Stop) (old : Script) (state : State) (mid new : Script) (part : List ℕ) → Stands old.bench state
+    → IsAlong old state mid part [] → IsOpen mid.line.items → ((s : State) → Stands mid.bench s → Answered r mid s mid.line.items new)
+    → Feeds r old state new (part ++ 10 ∷ [])
+unfolding along_start
+end_answered r old state mid new part stands taken none answered =
+    let a : IsAlong old state mid (part ++ 10 ∷ []) (10 ∷ []) =
+    along_more old state old mid (part ++ 10 ∷ []) part (10 ∷ []) (along_start old state (part ++ 10 ∷ []) stands) taken in
+    last_part r old state mid new (part ++ 10 ∷ []) (10 ∷ []) a (λ s stands.
+    fed_answered r mid s mid.line.items new [] (append-nil mid.line.items) none (answered s stands))
+
+-- or didn't take them in
+pub end_refused : (reason : Stop) (old : Script) (state : State) (new : Script) (part : List ℕ) → Stands old.bench state
+    → Feeds (Err reason) old state new part → Feeds (Err reason) old state new (part ++ 10 ∷ [])
+unfolding along_start
+end_refused reason old state new part stands fed =
+    part_refused reason old state old new (part ++ 10 ∷ []) part (10 ∷ []) (along_start old state (part ++ 10 ∷ []) stands) fed
 
 -- a line that was told in a buffer of its own, appended
 pub told_behind : (n : ℕ) (state : State) (bench : Option Bench) (line empty told old new : List ℕ) → IsLineTold n state bench line empty told
@@ -302,3 +312,8 @@ open_more line part first second = All-append (λ byte. (byte == 10) ≡ false) 
 -- what isn't found empty has bytes
 pub not_empty : (n : ℕ) (empty : Bool) → empty ≡ (n == 0) → empty ≡ false → 0 < n
 not_empty n empty told is = grind arith
+
+-- and what is found empty has none
+pub empty_line : (n : ℕ) (line : List ℕ) (empty : Bool) → n ≡ length line → empty ≡ (n == 0) → empty ≡ true → line ≡ []
+empty_line n [] empty long told is = refl
+empty_line n (x ∷ line) empty long told is = absurd (grind (arith, long))

@@ -117,14 +117,14 @@ Closes (Ok _) old state new = IsClosed old state new end.Whole
 Closes (Err stop.Memory) old state new = IsUnfinished old state new []
 Closes (Err stop.Fault) old state new = IsClosed old state new end.Fault
 
--- the open line was answered: a new one is open
-pub record IsLineAnswered (old : Script) (state : State) (new : Script) : Type 0 where
+-- the line was answered: a new one is open
+pub record IsLineAnswered (old : Script) (state : State) (line : List ℕ) (new : Script) : Type 0 where
   pub number : new.number ≡ old.number + 1
-  pub line : new.line.items ≡ []
-  pub told : IsLineTold old.number state new.bench old.line.items old.out.items new.out.items
+  pub none : new.line.items ≡ []
+  pub told : IsLineTold old.number state new.bench line old.out.items new.out.items
 
--- what came of the open line, by the outcome: without memory nothing is appended
-abbrev pub Answered : Result (Unit {0}) Stop → Script → State → Script → Type 0
-Answered (Ok _) old state new = IsLineAnswered old state new
-Answered (Err stop.Memory) old state new = new.out.items ≡ old.out.items
-Answered (Err stop.Fault) old state new = IsLineWrong old.number state old.line.items old.out.items new.out.items
+-- what came of the line, by the outcome: without memory nothing is appended
+abbrev pub Answered : Result (Unit {0}) Stop → Script → State → List ℕ → Script → Type 0
+Answered (Ok _) old state line new = IsLineAnswered old state line new
+Answered (Err stop.Memory) old state line new = new.out.items ≡ old.out.items
+Answered (Err stop.Fault) old state line new = IsLineWrong old.number state line old.out.items new.out.items

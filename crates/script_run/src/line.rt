@@ -26,6 +26,7 @@ pub fn answer_line(
 ) -> Result<(), Stop>
     requires { 65536 ≤ length payload.old }
     ensures soon { OnOk result (number ≤ 1000000) }
+    ensures short { OnOk result (length line.now ≤ 131200) }
     ensures told { (state : State) → Stands bench.old state →
         LineComes result number state bench.new line.now out.old.items out.new.items }
 {

@@ -9,6 +9,7 @@ use crate::stop::Stop;
 use memchr::memchr;
 use script_bench::{Bench, Why};
 use std::alloc::Global;
+use std::mem::replace;
 
 /// What ends a line.
 const LINE_END: u8 = b'\n';
@@ -56,11 +57,7 @@ impl Script {
     {
         let mut rest = chunk;
         while let Some((part, behind)) = split_line(rest) {
-            match self.take_in(part) {
-                Ok(()) => {}
-                Err(stop) => return Err(stop),
-            }
-            match self.answer(alloc) {
+            match self.take_line(alloc, part) {
                 Ok(()) => {}
                 Err(stop) => return Err(stop),
             }
@@ -77,7 +74,7 @@ impl Script {
         if self.line.is_empty() {
             return Ok(());
         }
-        self.answer(alloc)
+        self.answer_open(alloc)
     }
 
     // More bytes of the open line.
@@ -117,12 +114,52 @@ impl Script {
         }
     }
 
-    // Answers the open line, which ends here. What is told of it is appended once it is whole.
-    fn answer(&mut self, alloc: Global) -> Result<(), Stop>
+    // Answers the line that ends behind these bytes. Where they are all of it, it is answered where it lies.
+    fn take_line(&mut self, alloc: Global, part: &[u8]) -> Result<(), Stop>
+        requires good { IsScript self.old }
+        requires part { IsOpen part.now }
+        ensures keeps { OnOk result (IsScript self.new) }
+        ensures fewer { OnOk result (most_left self.new + (length part.now + 1) ≤ most_left self.old) }
+        ensures fed { (state : State) → Stands self.old.bench state →
+            Feeds result self.old state self.new (part.now ++ 10 ∷ []) }
+    {
+        if !self.line.is_empty() {
+            return match self.take_in(part) {
+                Ok(()) => self.answer_open(alloc),
+                Err(stop) => Err(stop),
+            };
+        }
+        self.answer(alloc, part)
+    }
+
+    // Answers the open line, which ends here, and keeps its memory for the next one.
+    fn answer_open(&mut self, alloc: Global) -> Result<(), Stop>
         requires { IsScript self.old }
         ensures keeps { OnOk result (IsScript self.new) }
         ensures fewer { OnOk result (most_left self.new + 1 ≤ most_left self.old) }
-        ensures told { (state : State) → Stands self.old.bench state → Answered result self.old state self.new }
+        ensures told { (state : State) → Stands self.old.bench state →
+            Answered result self.old state self.old.line.items self.new }
+    {
+        let line = replace(&mut self.line, Vec::new(alloc));
+        match self.answer(alloc, &line) {
+            Ok(()) => {
+                self.line = line;
+                self.line.clear();
+                Ok(())
+            }
+            Err(stop) => Err(stop),
+        }
+    }
+
+    // Answers a line. What is told of it is appended once it is whole.
+    fn answer(&mut self, alloc: Global, line: &[u8]) -> Result<(), Stop>
+        requires good { IsScript self.old }
+        requires none { self.old.line.items ≡ [] }
+        ensures keeps { OnOk result (IsScript self.new) }
+        ensures none { self.new.line.items ≡ [] }
+        ensures fewer { OnOk result (most_left self.new + (length line.now + 1) ≤ most_left self.old) }
+        ensures told { (state : State) → Stands self.old.bench state →
+            Answered result self.old state line.now self.new }
     {
         self.told.clear();
         let told = answer_line(
@@ -130,14 +167,13 @@ impl Script {
             self.number,
             &mut self.bench,
             &mut self.payload,
-            &self.line,
+            line,
             &mut self.told,
         );
         match told {
             Ok(()) => match self.out.extend_from_slice(&self.told) {
                 Ok(()) => {
                     self.number += 1;
-                    self.line.clear();
                     Ok(())
                 }
                 Err(_) => Err(Stop::Memory),

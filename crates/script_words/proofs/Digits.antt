@@ -1,9 +1,8 @@
 -- Reading a number digit by digit gives the number that is written so, and no other word is one.
-use Rattle.std.proofs.Common.{◌≡◌, ℕ, zero, suc, ◌+◌, ◌-◌, ◌*◌, ◌<◌, ◌≤◌, ◌^◌, List, [], ◌∷◌, length, get_or, drop, refl, sym, ap, ◌∙◌, arith, add-one, drop-cons, rules, decimal}
-use Rattle.std.proofs.Math.Nat.{pow-suc, pow-le-pow_right}
+use Rattle.std.proofs.Common.{◌≡◌, ℕ, zero, suc, ◌+◌, ◌-◌, ◌*◌, ◌<◌, ◌≤◌, ◌^◌, List, [], ◌∷◌, length, get_or, sym, ap, ◌∙◌, arith, add-one, rules, decimal}
+use Rattle.std.proofs.Math.Nat.{pow-suc}
 use Rattle.std.specs.Int.{IsInRange}
 use Rattle.std.proofs.lemmas.Fmt.{decimal-digits_value, decimal_nonempty, decimal_digit, first_decimal, length-decimal-le, digits_decimal}
-use Rattle.std.proofs.lemmas.List.{drop_all}
 use Rattle.std.proofs.lemmas.Str.Parse.{IsNumeralModel, tells_by_index, numerals_by_fold, digits_value_short}
 use Rattle.script_words.specs.Number.{IsWritable}
 
@@ -19,23 +18,11 @@ AreDigits word = (i : ℕ) → i < length word → IsInRange 48 57 (get_or word 
 pub own : IsNumeralModel AreDigits (read_on 0)
 own = numerals_by_fold AreDigits tells_by_index read_on (search rules)
 
--- one digit more is read
-pub read_step : (n : ℕ) (word : List ℕ) (i : ℕ) → i < length word
-    → read_on n (drop i word) ≡ read_on (10 * n + (get_or word i 0 - 48)) (drop (i + 1) word)
-read_step n word i below = rw (add-one, drop-cons word i 0) refl
-
 -- one digit more stays below the next power
 pub grown : (n i d : ℕ) → n < 10 ^ i → d ≤ 57 → 10 * n + (d - 48) < 10 ^ (i + 1)
 grown n i d small digit =
     let e : 10 ^ (i + 1) ≡ 10 ^ i * 10 = rw add-one (pow-suc 10 i) in
     omega (arith, e)
-
--- with at most ten digits nothing overflows
-pub grown_fits : (n i d : ℕ) → n < 10 ^ i → i < 10 → d ≤ 57 → 10 * n + (d - 48) < 10 ^ 10
-grown_fits n i d small below digit =
-    let top : 10 ^ (i + 1) ≤ 10 ^ 10 = pow-le-pow_right {n = 10} (omega arith) {i = i + 1} {j = 10} (omega arith) in
-    let step = grown n i d small digit in
-    omega arith
 
 -- digits without a leading zero are the number that they spell
 pub told_number : (word : List ℕ) (n : ℕ) → AreDigits word → 0 < length word → length word ≤ 10
@@ -60,7 +47,3 @@ lead_of word (suc n) short e lead =
     let first = first_decimal (suc n) (omega arith) (omega arith) in
     let same : get_or word 0 0 ≡ get_or (decimal (suc n)) 0 0 = ap (λ t. get_or t 0 0) e in
     absurd (omega arith)
-
--- behind the last digit the number is whole
-pub read_all : (n : ℕ) (word : List ℕ) (i : ℕ) → length word ≤ i → read_on n (drop i word) ≡ n
-read_all n word i end = rw drop_all

@@ -1,6 +1,8 @@
 pub mod Digits
+pub mod Fronts
 pub mod Members
 pub mod Numbers
+pub mod Payloads
 pub mod Records
 pub mod Spellings
 pub mod Splits

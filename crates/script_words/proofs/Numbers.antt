@@ -41,16 +41,16 @@ spelled_more ns place n ws left back below spelled here =
     let ended : map decimal (take place ns ++ n ∷ []) ≡ map decimal (take place ns) ++ decimal n ∷ [] = map-append decimal (take place ns) (n ∷ []) in
     rw (take_more_set, ended, append_assoc) (spelled ∙ ap (λ xs. map decimal (take place ns) ++ xs) here)
 
--- each word of numbers is one's
-pub number_within : (all before : List ℕ) (ws rest : List (List ℕ)) (word : List ℕ) (back : List (List ℕ)) → AllByRecursion IsWritable all
-    → length before < length all → ws ≡ map decimal all ++ rest → ws ≡ map decimal before ++ word ∷ back
-    → (n : ℕ) × IsWritable n × (word ≡ decimal n)
-number_within all before ws rest word back writable less one two = go all before writable less (sym one ∙ two)
+-- behind the first numbers the next one stands
+pub number_next : (all before : List ℕ) (ws rest left : List (List ℕ)) → AllByRecursion IsWritable all
+    → length before < length all → ws ≡ map decimal all ++ rest → ws ≡ map decimal before ++ left
+    → (n : ℕ) × (more : List (List ℕ)) × IsWritable n × (left ≡ decimal n ∷ more)
+number_next all before ws rest left writable less one two = go all before writable less (sym one ∙ two)
   where
     go : (all before : List ℕ) → AllByRecursion IsWritable all → length before < length all
-        → map decimal all ++ rest ≡ map decimal before ++ word ∷ back → (n : ℕ) × IsWritable n × (word ≡ decimal n)
+        → map decimal all ++ rest ≡ map decimal before ++ left → (n : ℕ) × (more : List (List ℕ)) × IsWritable n × (left ≡ decimal n ∷ more)
     go [] before writable less e = absurd (omega arith)
-    go (n ∷ all) [] writable less e = (n, writable.0, cc)
+    go (n ∷ all) [] writable less e = (n, map decimal all ++ rest, writable.0, sym e)
     go (n ∷ all) (b ∷ before) writable less e = go all before writable.1 (omega arith) (cc)
 
 -- there are no more numbers than words

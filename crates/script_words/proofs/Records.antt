@@ -1,12 +1,12 @@
--- Words that name no record, and digits that are no payload.
+-- Words that name no record.
 use Rattle.std.proofs.Common.{◌≡◌, ℕ, List, [], ◌∷◌, Ok, Err, Result, sym, ◌∙◌, arith}
 use Rattle.std.specs.Prelude.{MatchResult, IfNone}
-use Rattle.hex.specs.Hex.{decode_of, decode_sized}
+use Rattle.hex.specs.Hex.{decode_sized}
 use Rattle.hex.specs.declared.error.FromHexError.{FromHexError}
 use Rattle.hex.proofs.HexLemmas.{decode_of-ok, decode_sized-twice}
 use Rattle.map_join.specs.declared.records.Record.{Record}
-use Rattle.std.proofs.Common.{length, Option, Some, None}
-use Rattle.script_words.specs.Spelling.{IsRecordWord, PayloadAlone, RecordAlone}
+use Rattle.std.proofs.Common.{Option, Some, None}
+use Rattle.script_words.specs.Spelling.{IsRecordWord, RecordAlone}
 
 -- digits that aren't those of twelve bytes
 pub no_record : (word : List ℕ) (result : Result (Unit {0}) FromHexError) (e : FromHexError) (P : List ℕ → Type 0)
@@ -27,20 +27,6 @@ not_alone ws word spelled none r alone =
     let same : alone.word ≡ word = let told = sym alone.spelled ∙ spelled in cc in
     let named : IsRecordWord r word = rw (← same) alone.named in
     none r named
-
--- digits that were refused are no payload of this size
-pub no_payload : (size : ℕ) (ws : List (List ℕ)) (digits : List ℕ) (result : Result (Unit {0}) FromHexError) (e : FromHexError)
-    (P : List ℕ → Type 0) → ws ≡ digits ∷ []
-    → MatchResult (decode_sized digits size) (λ bytes. (result ≡ Ok tt) × P bytes) (λ f. result ≡ Err f) → result ≡ Err e
-    → (payload : List ℕ) → length payload ≡ size → PayloadAlone payload ws → ⊥
-no_payload size ws digits result e P spelled value refused payload long alone =
-    let same : alone.digits ≡ digits = let told = sym alone.spelled ∙ spelled in cc in
-    let decoded : decode_of digits ≡ Ok payload = rw (← same) alone.decoded in
-    let twice = (decode_of-ok digits payload decoded).2 in
-    let sized : decode_sized digits size ≡ Ok payload = decode_sized-twice digits size (omega arith) ∙ decoded in
-    let told = rw sized at value in
-    let ok = told.0 in
-    cc (sym ok ∙ refused)
 
 pub none_alone : (ws : List (List ℕ)) (word : List ℕ) (result : Option Record) → ws ≡ word ∷ []
     → IfNone result ((r : Record) → IsRecordWord r word → ⊥) → IfNone result ((r : Record) → RecordAlone r ws → ⊥)

@@ -60,3 +60,6 @@ cut_at separator text at inside none there =
     split_at text at 0 inside ∙ ap (λ b. take at text ++ b ∷ drop (suc at) text) is ∙ rw add-one refl in
     ap (parts separator) cut ∙ first_part separator _ _ (front_differs separator text at inside none)
     ∙ ap (λ rest. take at text ∷ parts separator rest) (sym back)
+
+pub there : (separator : ℕ) (text : List ℕ) (at : ℕ) → get_or text at 0 ≡ separator → IsThere separator text at
+there separator text at e = grind (arith)

@@ -2,8 +2,6 @@
 ghost use Rattle.std.specs.Prelude.{◌≡◌, ◌∷◌};
 ghost use Rattle.script_words.specs.Parts.{parts, parts_left, text_of};
 
-use memchr::memchr;
-
 /// What stands between the words of a line.
 pub const SPACE: u8 = b' ';
 
@@ -14,8 +12,10 @@ pub const DOT: u8 = b'.';
 pub fn cut(text: &[u8], separator: u8) -> (&[u8], Option<&[u8]>)
     ensures { parts separator text.now ≡ result.0.now ∷ parts_left separator (text_of result.1) }
 {
-    match memchr(separator, text) {
-        None => (text, None),
-        Some(at) => (&text[..at], Some(&text[at + 1..])),
+    for at in 0..text.len() {
+        if text[at] == separator {
+            return (&text[..at], Some(&text[at + 1..]));
+        }
     }
+    (text, None)
 }

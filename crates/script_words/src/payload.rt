@@ -4,8 +4,7 @@ ghost use Rattle.script_words.specs.Parts.{text_of};
 ghost use Rattle.script_words.specs.Words.{words_left};
 ghost use Rattle.script_words.specs.Spelling.{PayloadAlone};
 
-use crate::words::last_word;
-use hex::decode_to_slice;
+use hex_lanes::decode_hex;
 
 /// Puts the payload that is left into the buffer, where it fills it.
 pub fn put_payload(text: Option<&[u8]>, payload: &mut [u8]) -> bool
@@ -13,11 +12,7 @@ pub fn put_payload(text: Option<&[u8]>, payload: &mut [u8]) -> bool
     ensures none { result ≡ false → (bytes : List ℕ) → length bytes ≡ length payload.old →
         PayloadAlone bytes (words_left (text_of text.entry)) → ⊥ }
 {
-    let Some(digits) = last_word(text) else {
-        return false
-    };
-    match decode_to_slice(digits, payload) {
-        Ok(()) => true,
-        Err(_) => false,
-    }
+    let Some(digits) = text else { return false };
+    // A space is no digit, so what decodes is one word.
+    decode_hex(digits, payload)
 }

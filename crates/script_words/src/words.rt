@@ -5,7 +5,7 @@ ghost use Rattle.script_words.specs.Number.{IsWritable};
 ghost use Rattle.script_words.specs.Parts.{text_of};
 ghost use Rattle.script_words.specs.Words.{words_left};
 
-use crate::number::number_of;
+use crate::number::cut_number;
 use crate::parts::{SPACE, cut};
 
 /// Puts so many numbers at the front into a buffer, and gives the words behind them.
@@ -23,8 +23,7 @@ pub fn next_numbers<'a>(
     let mut rest = text;
     for place in 0..count {
         let Some(text) = rest else { return None };
-        let (word, behind) = cut(text, SPACE);
-        let Some(number) = number_of(word) else {
+        let Some((number, behind)) = cut_number(text, SPACE) else {
             return None
         };
         numbers[place] = number;

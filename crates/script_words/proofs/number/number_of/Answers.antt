@@ -1,20 +1,17 @@
-use Rattle.std.proofs.Common.{◌≤◌, length, arith, sym, ◌∙◌}
-use Rattle.script_words.proofs.Digits.{digit_of, length_of, lead_of, told_number, read_all}
+use Rattle.std.proofs.Common.{[]}
+use Rattle.script_words.proofs.Fronts.{not_alone, one_number, word_alone}
 use Rattle.script_words.proofs.number.number_of.Goals as goal
 
-pub returns-then-is_empty-clause-none : goal.returns-then-is_empty-clause-none
-returns-then-is_empty-clause-none c n short e = grind (arith, length_of c.args.word.now n short e)
+pub returns-in-Some-default-None-clause-some : goal.returns-in-Some-default-None-clause-some
+returns-in-Some-default-None-clause-some c =
+    let found = rw c.in-Some-default-None.field-0-1-is at c.in-Some-default-None.ensures.some in
+    (found.0, word_alone c.args.word.now _ found.1)
 
-pub returns-then-word-gt1-clause-none : goal.returns-then-word-gt1-clause-none
-returns-then-word-gt1-clause-none c n short e = grind (arith, lead_of c.args.word.now n short e)
+pub returns-in-Some-default-Some-clause-none : goal.returns-in-Some-default-Some-clause-none
+returns-in-Some-default-Some-clause-none c n short e =
+    let found = rw c.in-Some-default-Some.field-0-1-is at c.in-Some-default-Some.ensures.some in
+    not_alone c.args.word.now n c.in-Some-default-Some.field-0-0 c.in-Some-default-Some.field-0-1-0.now short e found.1
 
-pub returns-then-digit-lt48-clause-none : goal.returns-then-digit-lt48-clause-none
-returns-then-digit-lt48-clause-none c n short e =
-    grind (arith, digit_of c.args.word.now n short e c.loop-digit.digit-index)
-
-pub returns-clause-some : goal.returns-clause-some
-returns-clause-some c =
-    let end : length c.args.word.now ≤ c.loop-digit.digit-index = omega arith in
-    told_number c.args.word.now c.loop-digit.number
-    (λ k h. c.loop-digit.invariant.digits k (omega arith)) (grind arith) (grind arith) (λ zero. grind arith)
-    (sym c.loop-digit.invariant.told ∙ read_all _ _ _ end)
+pub returns-in-None-clause-none : goal.returns-in-None-clause-none
+returns-in-None-clause-none c n short e =
+    c.in-None.ensures.none n [] short (one_number c.args.word.now n short e)

@@ -1,10 +1,11 @@
-use Rattle.script_words.proofs.Splits.{uncut, cut_at}
+use Rattle.std.proofs.Common.{arith}
+use Rattle.script_words.proofs.Splits.{uncut, cut_at, there}
 use Rattle.script_words.proofs.parts.cut.Goals as goal
 
-pub returns-in-None : goal.returns-in-None
-returns-in-None c = uncut c.args.separator c.args.text.now c.in-None.ensures
+pub returns-then-text-at : goal.returns-then-text-at
+returns-then-text-at c =
+    cut_at c.args.separator c.args.text.now c.loop-at.at c.loop-at-test.true c.loop-at.invariant
+    (there c.args.separator c.args.text.now c.loop-at.at c.if-text-at.true)
 
-pub returns-in-Some : goal.returns-in-Some
-returns-in-Some c =
-    let found = c.in-Some.ensures in
-    cut_at c.args.separator c.args.text.now c.in-Some.at found.0.high found.0.before found.1
+pub returns : goal.returns
+returns c = uncut c.args.separator c.args.text.now (λ k low high. c.loop-at.invariant k low (omega (arith, high, c.loop-at-test.false)))

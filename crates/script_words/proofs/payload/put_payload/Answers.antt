@@ -1,7 +1,10 @@
-use Rattle.script_words.proofs.Records.{no_payload}
+use Rattle.script_words.proofs.Payloads.{no_payload, payload_alone}
 use Rattle.script_words.proofs.payload.put_payload.Goals as goal
 
-pub returns-in-Err-clause-none : goal.returns-in-Err-clause-none
-returns-in-Err-clause-none c _ =
-    no_payload _ _ c.in-Some.digits.now c.decode_to_slice.result c.in-Err.field-0 _ c.in-Some.ensures.some
-    c.decode_to_slice.ensures.value c.in-Err.is
+pub returns-clause-put : goal.returns-clause-put
+returns-clause-put c told =
+    rw c.in-Some.is (payload_alone c.in-Some.digits.now c.decode_hex.new.out _ c.decode_hex.result c.decode_hex.ensures told)
+
+pub returns-clause-none : goal.returns-clause-none
+returns-clause-none c told bytes long alone =
+    no_payload c.in-Some.digits.now _ c.decode_hex.result _ c.decode_hex.ensures told bytes long (rw c.in-Some.is at alone)

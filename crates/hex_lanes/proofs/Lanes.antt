@@ -1,0 +1,30 @@
+-- The lanes of vectors, one by one.
+use Rattle.std.proofs.Common.{◌≡◌, ℕ, zero, suc, ◌<◌, List, [], ◌∷◌, ◌++◌, ◌+◌, length, get_or, take, refl, sym, ap, arith}
+use Rattle.std.specs.Simd.Lanes.{chunk}
+
+-- n lanes
+abbrev pub lanes : ℕ → (ℕ → ℕ) → List ℕ
+lanes zero lane = []
+lanes (suc n) lane = lane 0 ∷ lanes n (λ k. lane (suc k))
+
+-- a list of n is n lanes
+pub in_lanes : (n : ℕ) (v : List ℕ) → length v ≡ n → v ≡ lanes n (λ k. get_or v k 0)
+in_lanes zero [] e = refl
+in_lanes zero (x ∷ v) e = absurd (omega arith)
+in_lanes (suc n) [] e = absurd (omega arith)
+in_lanes (suc n) (x ∷ v) e = ap (λ rest. x ∷ rest) (in_lanes n v (omega arith))
+
+-- a half byte
+abbrev pub IsHalf : ℕ → Type 0
+IsHalf value = value < 16
+
+take_nothing : (n : ℕ) → take {A = ℕ} n [] ≡ []
+take_nothing zero = refl
+take_nothing (suc n) = refl
+
+-- the lanes that follow the first ones
+pub take_chunk : (i n m : ℕ) (s : List ℕ) → m ≡ i + n → take m s ≡ take i s ++ chunk i n s
+take_chunk zero n m s e = let same : m ≡ n = omega arith in ap (λ k. take k s) same
+take_chunk (suc i) n zero s e = absurd (omega arith)
+take_chunk (suc i) n (suc m) [] e = sym (take_nothing n)
+take_chunk (suc i) n (suc m) (x ∷ s) e = ap (λ rest. x ∷ rest) (take_chunk i n m s (omega arith))

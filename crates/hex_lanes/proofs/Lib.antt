@@ -1,0 +1,5 @@
+pub mod Lanes
+pub mod Values
+pub mod Spelled
+pub mod Done
+pub mod Encoded
