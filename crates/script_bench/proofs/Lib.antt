@@ -2,3 +2,4 @@ pub mod Benches
 pub mod Carried
 pub mod Ranges
 pub mod Said
+pub mod Scanned

@@ -1,5 +1,5 @@
 -- Which commands a line may say.
-use Rattle.std.proofs.Common.{◌≡◌, ℕ, List, length, Some, None, refl, sym, ap, subst, ◌∙◌, ◌≤◌, take, length-take, arith}
+use Rattle.std.proofs.Common.{◌≡◌, ℕ, List, length, Option, Some, None, refl, sym, ap, subst, ◌∙◌, ◌≤◌, take, length-take, arith}
 use Rattle.script_words.specs.Order.{Order, Behind, Content, Told, behind_of, kind_behind, tail_of, verb_of}
 use Rattle.script_words.specs.Spelling.{Spells, IsBehind, IsLong, IsOfWrite, IsWritten}
 use Rattle.script_words.specs.Reading.{IsRead}
@@ -76,9 +76,9 @@ fit_later (o.Array drives extents segments payload blocks) other = absurd (other
 fit_later _ other = tt
 
 -- a command that was read, may come and is within the limits, and was carried out, is replied to
-pub replied : (P : Position) (bench : Bench) (size blocks : ℕ) (line old new : List ℕ) (order : Order) → P.flat.groups.payload ≡ size → P.flat.groups.blocks ≡ blocks
-    → IsRead size line order → (verb_of order ≡ verb.Array → ⊥) → IsWithin blocks order → IsCarried (Some P) (Some bench) order old new
-    → IsReplied (Some P) (Some bench) line old new
+pub replied : (P : Position) (bench : Option Bench) (size blocks : ℕ) (line old new : List ℕ) (order : Order) → P.flat.groups.payload ≡ size → P.flat.groups.blocks ≡ blocks
+    → IsRead size line order → (verb_of order ≡ verb.Array → ⊥) → IsWithin blocks order → IsCarried (Some P) bench order old new
+    → IsReplied (Some P) bench line old new
 replied P bench size blocks line old new order long many read other within carried = record {
   order = order;
   spells = read.spells;

@@ -1,5 +1,5 @@
 -- What each command answers, and the state after it.
-use Rattle.std.specs.Prelude.{◌≡◌, ℕ, nat_le, List, [], ◌∷◌, ◌++◌, codes, Option, Some, None}
+use Rattle.std.specs.Prelude.{◌≡◌, ℕ, nat_le, List, [], ◌∷◌, ◌++◌, codes, decimal, Option, Some, None}
 use Rattle.map_join.specs.declared.records.Record.{Record}
 use Rattle.map_join.specs.Record.{record_at}
 use Rattle.map_join.specs.Maps.{IsMapOf, IsListOf, IsDifference}
@@ -9,12 +9,14 @@ use Rattle.flat_machine.specs.Flat.{Flat, Payload, new_flat, put}
 use Rattle.flat_machine.specs.Steps.{FlatStep, FlatAnswer}
 use Rattle.flat_machine.specs.Steps as s
 use Rattle.flat_machine.specs.Cases.{Case}
+use Rattle.flat_machine.specs.Scans.{ScanAnswer, Told, NotTold, RestartAnswer, Restarted, NotRestarted, ScanCase, RestartCase}
+use Rattle.header_scan.specs.declared.fault.ScanFault.TheVariants.{Gone}
 use Rattle.extent_groups.specs.declared.class.Member.{Member}
 use Rattle.std.specs.Prelude.{map}
 use Rattle.script_words.specs.Order.{Order}
 use Rattle.script_words.specs.Order as o
 use Rattle.script_bench.specs.State.{Position, State, nothing_taken}
-use Rattle.script_bench.specs.Text.{answer_text, asked_version, difference_text, listing, record_text}
+use Rattle.script_bench.specs.Text.{answer_text, asked_version, difference_text, fault_text, listing, record_text}
 use Rattle.script_words.specs.declared.command.Named.{Named}
 
 -- a step of the flat machine, its answer and the state after it; the maps are as they were
@@ -65,6 +67,32 @@ pub record Compares (left right : List Record) (text : List ℕ) : Type 0 where
   pub differs : IsDifference left_keys right_keys lowest
   pub text_is : text ≡ difference_text lowest
 
+-- what is told of a scan: the map's records in the blocks' order, or the slot whose unit is gone
+abbrev pub TellsScan : ScanAnswer → List ℕ → Type 0
+TellsScan (Told keys) text = (listed : List Record) × IsListOf keys listed × (text ≡ codes "scan " ++ listing listed)
+TellsScan (NotTold slot) text = text ≡ fault_text (Gone slot)
+
+-- the headers are scanned, and the maps are as they were
+pub record Scans (P : Position) (text : List ℕ) (t : State) : Type 0 where
+  pub answer : ScanAnswer
+  pub next : Flat
+  pub case : ScanCase P.flat answer next
+  pub told : TellsScan answer text
+  pub state_is : t ≡ Some (record P { flat = next })
+
+-- what is told of a restart: how many blocks there are, or the slot whose unit is gone
+abbrev pub restart_text : RestartAnswer → List ℕ
+restart_text (Restarted count) = codes "restarted " ++ decimal count
+restart_text (NotRestarted slot) = fault_text (Gone slot)
+
+-- the array is made anew from what its drives hold, and the maps are as they were
+pub record Restarts (P : Position) (text : List ℕ) (t : State) : Type 0 where
+  pub answer : RestartAnswer
+  pub next : Flat
+  pub case : RestartCase P.flat answer next
+  pub text_is : text ≡ restart_text answer
+  pub state_is : t ≡ Some (record P { flat = next })
+
 -- groups of an array of these sizes, none of which is made
 pub record AreNoGroups (groups : Groups) (extents segments payload blocks : ℕ) : Type 0 where
   pub of_extents : groups.extents ≡ extents
@@ -105,3 +133,5 @@ Answers (Some P) (o.Same left right) text t = Compares (P.taken left) (P.taken r
 Answers (Some P) (o.Show map) text t = ShowsMap (P.taken map) text × (t ≡ Some P)
 Answers (Some P) o.Map text t = ShowsMap P.flat.emitted text × (t ≡ Some P)
 Answers (Some P) o.Log text t = ShowsLog P.flat text × (t ≡ Some P)
+Answers (Some P) o.Scan text t = Scans P text t
+Answers (Some P) o.Restart text t = Restarts P text t

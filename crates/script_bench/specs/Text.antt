@@ -9,6 +9,9 @@ use Rattle.flat_machine.specs.Steps as s
 use Rattle.flat_machine.specs.Numbers.{number_of}
 use Rattle.flat_machine.specs.declared.refusal.Refusal.{Refusal}
 use Rattle.flat_machine.specs.declared.refusal.Refusal.TheVariants as refusal
+use Rattle.header_scan.specs.Numbers.{number_of as fault_number}
+use Rattle.header_scan.specs.declared.fault.ScanFault.{ScanFault}
+use Rattle.header_scan.specs.declared.fault.ScanFault.TheVariants as fault
 
 -- a record in hex digits
 abbrev pub record_text : Record → List ℕ
@@ -86,3 +89,17 @@ records_text (r ∷ rs) = 32 ∷ (record_text r ++ records_text rs)
 -- how many records, and the records
 abbrev pub listing : List Record → List ℕ
 listing rs = decimal (length rs) ++ records_text rs
+
+-- what follows the number of a scan's fault: the slot, with the slot that its header tells, or the block and its two slots
+abbrev pub fault_detail : ScanFault → List ℕ
+fault_detail fault.Memory = []
+fault_detail (fault.BadHeader slot) = codes " " ++ decimal slot
+fault_detail (fault.WrongSlot slot told) = codes " " ++ (decimal slot ++ (codes " " ++ decimal told))
+fault_detail (fault.Twice block first second) =
+    codes " " ++ (decimal block ++ (codes " " ++ (decimal first ++ (codes " " ++ decimal second))))
+fault_detail (fault.Gone slot) = codes " " ++ decimal slot
+fault_detail (fault.NoClaim slot) = codes " " ++ decimal slot
+
+-- a scan's fault
+abbrev pub fault_text : ScanFault → List ℕ
+fault_text found = codes "scan fault " ++ (decimal (fault_number found) ++ fault_detail found)

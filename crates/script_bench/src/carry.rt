@@ -10,13 +10,14 @@ ghost use Rattle.std.specs.List.{All};
 use crate::bench::Bench;
 use crate::limits::members_of;
 use crate::maps::{merge, same, show, take};
+use crate::scans::scan;
 use crate::texts::{put_answer, put_listing};
 use map_join::Record;
 use script_words::{Command, Named, Verb};
 use std::alloc::{AllocError, Global};
 use step_core::Class;
 
-/// Carries out a command that is within the limits, and appends its answer.
+/// Carries out a command that is within the limits, and appends its answer. A restart is carried out by `restart`.
 pub fn carry_out(
     alloc: Global,
     bench: &mut Bench,
@@ -27,13 +28,14 @@ pub fn carry_out(
     requires payload { length payload.now ≡ bench.old.world.array.parts.groups.payload }
     requires written { IsWritten (order_of «command».now payload.now) }
     requires later { «command».now.verb ≡ Verb.Array → ⊥ }
+    requires stays { «command».now.verb ≡ Verb.Restart → ⊥ }
     requires blocks { bench.old.world.array.parts.groups.blocks < 2 ^ 32 }
     requires range { IsWithin bench.old.world.array.parts.groups.blocks (order_of «command».now payload.now) }
     ensures { OnOk result (Carries bench.old bench.new (order_of «command».now payload.now) out.old.items out.new.items) }
 {
     let [first, second, third, ..] = command.numbers;
     match command.verb {
-        Verb::Array => unreachable!(),
+        Verb::Array | Verb::Restart => unreachable!(),
         Verb::Make => make(alloc, bench, command.class, &command.members, out),
         Verb::Claim => claim(bench, first as u8, second as u16, out),
         Verb::Release => release(bench, first as u8, second as u16, out),
@@ -50,6 +52,7 @@ pub fn carry_out(
         Verb::Show => show(alloc, bench, first as usize, out),
         Verb::Map => map(alloc, bench, out),
         Verb::Log => log(alloc, bench, out),
+        Verb::Scan => scan(alloc, bench, out),
     }
 }
 

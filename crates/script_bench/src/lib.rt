@@ -6,6 +6,7 @@ mod carry;
 mod limits;
 mod maps;
 mod replies;
+mod scans;
 mod texts;
 mod why;
 

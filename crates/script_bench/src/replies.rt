@@ -8,6 +8,7 @@ ghost use Rattle.script_words.specs.Order as o;
 use crate::bench::Bench;
 use crate::carry::carry_out;
 use crate::limits::{array_in_range, is_in_range};
+use crate::scans::restart;
 use crate::texts::put;
 use crate::why::{Failure, Why};
 use script_words::{Command, Verb, command_of};
@@ -26,15 +27,15 @@ pub fn reply(
     ensures { (state : State) → Stands bench.old state →
         Replies result state bench.new line.now out.old.items out.new.items }
 {
-    match bench {
-        Some(bench) => later(alloc, bench, payload, line, out),
-        None => match first(alloc, line, out) {
-            Ok(made) => {
-                *bench = Some(made);
-                Ok(())
-            }
-            Err(failure) => Err(failure),
-        },
+    if bench.is_some() {
+        return later(alloc, bench, payload, line, out);
+    }
+    match first(alloc, line, out) {
+        Ok(made) => {
+            *bench = Some(made);
+            Ok(())
+        }
+        Err(failure) => Err(failure),
     }
 }
 
@@ -83,16 +84,19 @@ fn begin(
 // Every later command is for the array and the maps.
 fn later(
     alloc: Global,
-    bench: &mut Bench,
+    bench: &mut Option<Bench>,
     payload: &mut [u8],
     line: &[u8],
     out: &mut Vec<u8>,
 ) -> Result<(), Failure>
     requires { 65536 ≤ length payload.old }
-    ensures { (P : Position) → Stands (Some bench.old) (Some P) →
-        Replies result (Some P) (Some bench.new) line.now out.old.items out.new.items }
+    ensures { (P : Position) → Stands bench.old (Some P) →
+        Replies result (Some P) bench.new line.now out.old.items out.new.items }
 {
-    let shape = bench.world.array().shape();
+    let Some(standing) = bench else {
+        return Err(Failure::Wrong(Why::Form))
+    };
+    let shape = standing.world.array().shape();
     let payload = &mut payload[..shape.payload as usize];
     let command = match command_of(alloc, line, payload) {
         Ok(Some(command)) => command,
@@ -105,7 +109,13 @@ fn later(
     if !is_in_range(&command, shape.blocks) {
         return Err(Failure::Wrong(Why::Range));
     }
-    match carry_out(alloc, bench, payload, &command, out) {
+    if let Verb::Restart = command.verb {
+        return match restart(alloc, bench, out) {
+            Ok(()) => Ok(()),
+            Err(_) => Err(Failure::Memory),
+        };
+    }
+    match carry_out(alloc, standing, payload, &command, out) {
         Ok(()) => Ok(()),
         Err(_) => Err(Failure::Memory),
     }

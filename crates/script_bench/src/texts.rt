@@ -1,10 +1,11 @@
 //! The texts of answers, appended to a buffer.
-ghost use Rattle.std.specs.Prelude.{◌≡◌, ◌∷◌, ◌++◌, [], OnOk, codes, decimal, Some, None};
+ghost use Rattle.std.specs.Prelude.{◌≡◌, ◌≢◌, ◌∷◌, ◌++◌, [], OnOk, codes, decimal, Some, None};
 ghost use Rattle.hex.specs.Hex.{encode_lower};
 ghost use Rattle.step_core.specs.Told.{flat_answer, seen_of};
-ghost use Rattle.script_bench.specs.Text.{answer_text, data_text, detail, difference_text, found_text, header_text, seen_text, listing, record_or_none, record_text, records_text};
+ghost use Rattle.script_bench.specs.Text.{answer_text, data_text, detail, difference_text, fault_detail, fault_text, found_text, header_text, seen_text, listing, record_or_none, record_text, records_text};
 ghost use Rattle.flat_machine.specs.Steps as s;
 
+use header_scan::ScanFault;
 use hex_lanes::encode_hex;
 use itoa::Buffer;
 use map_join::Record;
@@ -47,7 +48,7 @@ pub fn put_record(out: &mut Vec<u8>, record: &Record) -> Result<(), AllocError>
 }
 
 /// A word and a number.
-fn put_numbered(out: &mut Vec<u8>, word: &[u8], number: u64) -> Result<(), AllocError>
+pub fn put_numbered(out: &mut Vec<u8>, word: &[u8], number: u64) -> Result<(), AllocError>
     ensures { OnOk result (out.new.items ≡ out.old.items ++ (word.now ++ decimal number)) }
 {
     put(out, word)?;
@@ -130,6 +131,39 @@ fn put_detail(out: &mut Vec<u8>, refusal: &Refusal) -> Result<(), AllocError>
         Refusal::Gone(slot) | Refusal::SlotsHeld(slot) => put_numbered(out, b" ", u64::from(*slot)),
         Refusal::DriveLost(drive) => put_numbered(out, b" ", u64::from(*drive)),
         _ => Ok(()),
+    }
+}
+
+/// A scan's fault: its number, and what it names. Want of memory is not told.
+pub fn put_fault(out: &mut Vec<u8>, fault: &ScanFault) -> Result<(), AllocError>
+    ensures told { OnOk result (out.new.items ≡ out.old.items ++ fault_text fault.now) }
+    ensures memory { OnOk result (fault.now ≢ ScanFault.Memory) }
+{
+    if let ScanFault::Memory = fault {
+        return Err(AllocError);
+    }
+    put_numbered(out, b"scan fault ", u64::from(fault.number()))?;
+    put_fault_detail(out, fault)
+}
+
+// The slots and the block that a scan's fault names.
+fn put_fault_detail(out: &mut Vec<u8>, fault: &ScanFault) -> Result<(), AllocError>
+    ensures { OnOk result (out.new.items ≡ out.old.items ++ fault_detail fault.now) }
+{
+    match fault {
+        ScanFault::Memory => Ok(()),
+        ScanFault::BadHeader(slot) | ScanFault::Gone(slot) | ScanFault::NoClaim(slot) => {
+            put_numbered(out, b" ", u64::from(*slot))
+        }
+        ScanFault::WrongSlot(slot, told) => {
+            put_numbered(out, b" ", u64::from(*slot))?;
+            put_numbered(out, b" ", u64::from(*told))
+        }
+        ScanFault::Twice(block, first, second) => {
+            put_numbered(out, b" ", u64::from(*block))?;
+            put_numbered(out, b" ", u64::from(*first))?;
+            put_numbered(out, b" ", u64::from(*second))
+        }
     }
 }
 

@@ -30,6 +30,8 @@ pub data Order : Type 0 where
   Show : ℕ → Order
   Map : Order
   Log : Order
+  Scan : Order
+  Restart : Order
   Lose : ℕ → Order
 
 -- a number, and what it stands for
@@ -90,6 +92,8 @@ word_of verb.Same = codes "same"
 word_of verb.Show = codes "show"
 word_of verb.Map = codes "map"
 word_of verb.Log = codes "log"
+word_of verb.Scan = codes "scan"
+word_of verb.Restart = codes "restart"
 word_of verb.Lose = codes "lose"
 
 -- how each command is written: a row of the table
@@ -111,6 +115,8 @@ shape (Same left right) = form verb.Same (table left ∷ table right ∷ []) Not
 shape (Show m) = form verb.Show (table m ∷ []) Nothing
 shape Map = form verb.Map [] Nothing
 shape Log = form verb.Log [] Nothing
+shape Scan = form verb.Scan [] Nothing
+shape Restart = form verb.Restart [] Nothing
 shape (Lose d) = form verb.Lose (drive d ∷ []) Nothing
 
 -- what a command asks for, its numbers, and what stands behind them
@@ -144,6 +150,8 @@ ordered verb.Same n r payload level members = Same (n 0) (n 1)
 ordered verb.Show n r payload level members = Show (n 0)
 ordered verb.Map n r payload level members = Map
 ordered verb.Log n r payload level members = Log
+ordered verb.Scan n r payload level members = Scan
+ordered verb.Restart n r payload level members = Restart
 ordered verb.Lose n r payload level members = Lose (n 0)
 
 -- a command of the program, with the payload that stands in the buffer

@@ -21,6 +21,8 @@ pub enum Verb {
     Show,
     Map,
     Log,
+    Scan,
+    Restart,
     Lose,
 }
 
@@ -58,7 +60,7 @@ pub struct Row {
 }
 
 /// Every verb, the most frequent ones first.
-const VERBS: [Verb; 17] = [
+const VERBS: [Verb; 19] = [
     Verb::Claim,
     Verb::Fill,
     Verb::Commit,
@@ -74,7 +76,9 @@ const VERBS: [Verb; 17] = [
     Verb::Map,
     Verb::Log,
     Verb::Make,
+    Verb::Scan,
     Verb::Lose,
+    Verb::Restart,
     Verb::Array,
 ];
 
@@ -164,6 +168,16 @@ impl Verb {
             },
             Verb::Log => Row {
                 word: b"log",
+                kinds: &[],
+                tail: Tail::Nothing,
+            },
+            Verb::Scan => Row {
+                word: b"scan",
+                kinds: &[],
+                tail: Tail::Nothing,
+            },
+            Verb::Restart => Row {
+                word: b"restart",
                 kinds: &[],
                 tail: Tail::Nothing,
             },

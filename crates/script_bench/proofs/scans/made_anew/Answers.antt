@@ -1,0 +1,15 @@
+use Rattle.std.proofs.Common.{length, ap, ◌∙◌}
+use Rattle.map_join.specs.Maps.{at}
+use Rattle.step_core.specs.Views.{ArrayView}
+use Rattle.script_bench.proofs.Scanned.{made_anew, restart_fault}
+use Rattle.script_bench.proofs.scans.made_anew.Goals as goal
+
+pub returns-in-Err : goal.returns-in-Err
+returns-in-Err c =
+    let told = c.in_ok-put_fault-in-Err.ensures in
+    restart_fault c.args.bench c.scan_world.new.world c.in-Err.fault _ _ told.memory c.in-Err.ensures.fault told.told
+
+pub returns : goal.returns
+returns c =
+    made_anew c.args.bench c.scan_world.new.world c.in-Ok-restarted.world (at c.in-Ok.map) _ _ _ c.in-Ok.ensures.ok c.in-Ok-restarted.ensures.ok
+    (c.record_count-count.ensures ∙ ap (λ (a : ArrayView). length a.log) c.array.ensures) c.in_ok-put_numbered.ensures

@@ -1,0 +1,62 @@
+//! Commands that read the headers of all slots. They leave the block maps as they are.
+ghost use Rattle.std.specs.Prelude.{IfOk, OnOk, Some};
+ghost use Rattle.script_bench.specs.State.{Position};
+ghost use Rattle.script_bench.specs.Carrying.{Carries, IsCarried, Stands};
+ghost use Rattle.script_words.specs.Order as o;
+
+use crate::bench::Bench;
+use crate::texts::{put_fault, put_listing, put_numbered};
+use header_scan::scan_world;
+use std::alloc::{AllocError, Global};
+
+/// Lists the map that the headers tell, or tells the fault that comes first.
+pub fn scan(alloc: Global, bench: &mut Bench, out: &mut Vec<u8>) -> Result<(), AllocError>
+    ensures { OnOk result (Carries bench.old bench.new o.Scan out.old.items out.new.items) }
+{
+    let map = match scan_world(alloc, &mut bench.world) {
+        Ok(map) => map,
+        Err(fault) => return put_fault(out, &fault),
+    };
+    let Ok(records) = map.to_list(alloc) else {
+        return Err(AllocError)
+    };
+    put_listing(out, b"scan ", &records)
+}
+
+/// Makes the array anew from the map that the headers tell, or tells the fault that comes first. The bench is
+/// taken out for it, and is gone where memory is wanted.
+pub fn restart(
+    alloc: Global,
+    bench: &mut Option<Bench>,
+    out: &mut Vec<u8>,
+) -> Result<(), AllocError>
+    ensures { OnOk result ((P : Position) → Stands bench.old (Some P) →
+        IsCarried (Some P) bench.new o.Restart out.old.items out.new.items) }
+{
+    let Some(before) = bench.take() else {
+        return Err(AllocError)
+    };
+    let after = made_anew(alloc, before, out)?;
+    *bench = Some(after);
+    Ok(())
+}
+
+// The bench with its array made anew.
+fn made_anew(alloc: Global, bench: Bench, out: &mut Vec<u8>) -> Result<Bench, AllocError>
+    ensures { IfOk result (λ after. Carries bench after o.Restart out.old.items out.new.items) }
+{
+    let Bench { mut world, maps } = bench;
+    let map = match scan_world(alloc, &mut world) {
+        Ok(map) => map,
+        Err(fault) => {
+            put_fault(out, &fault)?;
+            return Ok(Bench { world, maps });
+        }
+    };
+    let Ok(world) = world.restarted(alloc, map) else {
+        return Err(AllocError)
+    };
+    let count = world.array().record_count();
+    put_numbered(out, b"restarted ", count as u64)?;
+    Ok(Bench { world, maps })
+}
