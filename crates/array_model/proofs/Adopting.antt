@@ -2,7 +2,6 @@
 use Rattle.std.proofs.Common.{◌≡◌, ◌≢◌, ℕ, ◌^◌, ◌<◌, ◌≤◌, ◌==◌, ◌&&◌, nat_lt, Bool, true, false, length, refl, sym, ap, ◌∙◌, subst, arith, ◌⊎◌, inl, inr, None}
 use Rattle.std.proofs.lemmas.Bool.{cases_eq}
 use Rattle.std.proofs.lemmas.Bool.Decides.{nat_tests}
-use Rattle.map_join.specs.declared.records.Record.{Record}
 use Rattle.map_join.specs.Record.{record_of}
 use Rattle.extent_groups.specs.Groups.{Groups, Agree}
 use Rattle.extent_groups.specs.Stores.{AreDrives}

@@ -2,8 +2,7 @@
 use Rattle.std.proofs.Common.{◌≡◌, ℕ, ◌+◌, Bool, true, false, length, refl, sym, ap, ◌∙◌, subst, arith}
 use Rattle.extents.specs.Units.{loss}
 use Rattle.extent_groups.specs.Groups.{Groups}
-use Rattle.extent_groups.specs.Missing.{IsGone, IsGoneAt}
-use Rattle.extent_groups.specs.Units.{Site, Pair, InStripe}
+use Rattle.extent_groups.specs.Missing.{IsGone}
 use Rattle.array_parts.specs.Views.{PartsView, IsLost, Loses, SameTables, DrivesFare, lost_of, failed_of}
 use Rattle.flat_machine.specs.Flat.{Flat}
 use Rattle.flat_machine.specs.Cases.{Fares, Leaves, IsGoneIn}
@@ -84,19 +83,6 @@ leaves_more F M G one two = record {
   same = two.same ∙ ap (λ (z : Flat). record z { lost = G.lost; failures = G.failures }) one.same;
   drives = λ d. fares_more (F.lost d) (M.lost d) (G.lost d) (F.failures d) (M.failures d) (G.failures d) (one.drives d) (two.drives d);
 }
-
--- what is gone stays gone
-gone_at : (old new : ℕ → Bool) (site : Site) → ((d : ℕ) → old d ≡ true → new d ≡ true) → IsGoneAt old site → IsGoneAt new site
-gone_at old new (Pair p q) more gone = (more p.drive gone.0, more q.drive gone.1)
-gone_at old new (InStripe row parity i) more gone = (
-  (gone.0.0, gone.0.1, more gone.0.0.drive gone.0.2),
-  (gone.1.0, gone.1.1, gone.1.2, gone.1.3, more gone.1.1.drive gone.1.4),
-)
-
-pub gone_stays : (F G : Flat) (s : ℕ) → Leaves F G → IsGoneIn F s → IsGoneIn G s
-gone_stays F G s leaves gone =
-    subst (λ (g : Groups). IsGone g G.lost s) (sym (ap (λ (z : Flat). z.groups) leaves.same))
-    (gone.0, gone.1, gone_at F.lost G.lost gone.0 (λ d. (leaves.drives d).stays) gone.2)
 
 pub loses_itself : (a : PartsView) → Loses a a
 loses_itself a = record {

@@ -1,6 +1,5 @@
 -- An array that was put together from parts and a map, and the states that parts have to do with.
 use Rattle.std.specs.Prelude.{◌≡◌, ℕ, ◌<◌, length}
-use Rattle.map_join.specs.declared.records.Record.{Record}
 use Rattle.map_join.specs.Record.{record_of}
 use Rattle.map_join.specs.Maps.{IsSame, IsListOf}
 use Rattle.array_parts.specs.Views.{PartsView, Shows, lost_of, failed_of}

@@ -9,5 +9,6 @@ pub mod Commits
 pub mod Makes
 pub mod Keeps
 pub mod Holding
+pub mod Gones
 pub mod Rises
 pub mod Restarts

@@ -297,3 +297,8 @@ abbrev pub Runs : Flat → List FlatStep → List FlatAnswer → Flat → Type 0
 Runs F [] [] G = G ≡ F
 Runs F (step ∷ steps) (answer ∷ answers) G = (M : Flat) × (Case F step answer M) × (Runs M steps answers G)
 Runs F _ _ G = ⊥
+
+-- an answer that tells no slot gone
+abbrev pub TellsPresent : FlatAnswer → Type 0
+TellsPresent (Refused (Gone t)) = ⊥
+TellsPresent _ = Unit {0}

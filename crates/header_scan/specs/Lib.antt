@@ -3,3 +3,4 @@ pub mod Ranges
 pub mod Faults
 pub mod Found
 pub mod Worlds
+pub mod Restarts

@@ -6,9 +6,11 @@ mod found;
 mod laws;
 mod look;
 mod pass;
+mod renew;
 mod world;
 
 pub use fault::ScanFault;
 pub use laws::scan_laws;
 pub use pass::{scan, scan_groups};
+pub use renew::restart;
 pub use world::scan_world;

@@ -1,26 +1,24 @@
 -- An array that is put together from parts, a map and claims is what the map says.
-use Rattle.std.proofs.Common.{◌≡◌, ℕ, ◌+◌, ◌*◌, ◌<◌, ◌≤◌, Bool, List, length, map, get_or, refl, sym, ap, ◌∙◌, subst, arith, ◌⊎◌, inl, inr, Vec}
+use Rattle.std.proofs.Common.{◌≡◌, ℕ, ◌<◌, ◌≤◌, Bool, List, length, map, get_or, refl, sym, ◌∙◌, subst, arith, ◌⊎◌, inl, inr, Vec}
 use Rattle.std.proofs.lemmas.List.{length-map}
 use Rattle.std.specs.Global.{Global}
 use Rattle.std.specs.Prelude.{slice_index}
-use Rattle.extent_groups.specs.Stores.{unit_bytes}
 use Rattle.array_parts.specs.declared.parts.Parts.{Parts}
 use Rattle.array_parts.specs.Fit.{IsFit}
 use Rattle.array_parts.specs.Views.{drive_view, view_of}
 use Rattle.array_parts.proofs.Views.{view_drives}
-use Rattle.flat_machine.specs.Groups.{AreThere}
 use Rattle.flat_machine.specs.Restarted.{HasPlaces}
-use Rattle.array_model.specs.Views.{Nothing, IsRoomy, IsWhole}
+use Rattle.array_model.specs.Views.{Nothing, IsWhole}
 use Rattle.array_model.specs.Adopted.{IsAdopted}
 use Rattle.array_model.proofs.News.{shape_sizes}
-use Rattle.array_model.proofs.Adopting.{ArePartsOf, AreKeysOf, adopted_whole}
+use Rattle.array_model.proofs.Adopting.{ArePartsOf, adopted_whole}
 use Rattle.step_core.specs.declared.array.Array.TheInside.{Inside}
 use Rattle.step_core.specs.declared.adopt.Ready.{Ready}
 use Rattle.step_core.specs.declared.place.Place.{Place}
 use Rattle.step_core.specs.declared.place.Place.TheVariants as place
 use Rattle.step_core.specs.Inside.{seen, IsReady}
 use Rattle.step_core.specs.Kept.{kept_of, kepts_of, IsOf, AreOf}
-use Rattle.step_core.specs.Adopted.{AreReady, AreKeys, IsKey, kept_for, wanted_at}
+use Rattle.step_core.specs.Adopted.{AreReady, AreKeys, kept_for, wanted_at}
 use Rattle.step_core.proofs.Adoptions.{all_keys, wants_placed}
 use Rattle.step_core.proofs.Places.{get_or_past}
 

@@ -1,5 +1,5 @@
 -- What a map says of slots and claims, told of its list of records and of the table of slots that are wanted.
-use Rattle.std.proofs.Common.{◌≡◌, ℕ, ◌+◌, ◌*◌, ◌^◌, ◌<◌, ◌≤◌, nat_lt, Bool, true, false, List, [], ◌∷◌, length, map, get_or, refl, sym, ap, ◌∙◌, subst, arith, ◌⊎◌, inl, inr, Option, Some, None}
+use Rattle.std.proofs.Common.{◌≡◌, ℕ, ◌+◌, ◌^◌, ◌<◌, ◌≤◌, nat_lt, Bool, true, false, List, [], ◌∷◌, length, refl, sym, ap, ◌∙◌, subst, arith, ◌⊎◌, inl, inr, Option, Some, None}
 use Rattle.std.specs.Prelude.{Contains}
 use Rattle.std.proofs.lemmas.Bool.Decides.{nat_tests}
 use Rattle.std.proofs.lemmas.Option.{same_Some}
@@ -11,7 +11,7 @@ use Rattle.flat_machine.specs.Restarted.{HasPlaces}
 use Rattle.array_model.specs.Views.{Kept, Nothing, Pending, Moving, Newest, ArrayView, kept_at}
 use Rattle.array_model.specs.Adopted.{IsPlaced}
 use Rattle.step_core.proofs.Seated.{some_here}
-use Rattle.step_core.specs.Adopted.{how_many, claims_in, AreKeys, AreShared, AreOfPlaces, IsKey, IsWanted, AreWanted, wanted_at, kept_for, IsClaimed, IsLowestUnclaimed, IsUnclaimed}
+use Rattle.step_core.specs.Adopted.{how_many, claims_in, AreKeys, AreShared, AreOfPlaces, IsKey, IsWanted, AreWanted, wanted_at, kept_for, IsLowestUnclaimed, IsUnclaimed}
 
 -- a map of an array's blocks has keys of records everywhere
 pub all_keys : (groups : Groups) (M : ℕ → ℕ) (keys : List ℕ) → HasPlaces groups M → AreKeys groups.blocks M keys → (b : ℕ) → IsKey (M b)

@@ -13,7 +13,8 @@ use Rattle.array_model.specs.Changes.{MayRefuse}
 use Rattle.array_model.specs.Reads.{WasSeen}
 use Rattle.array_model.specs.Represents.{ShowsArray}
 use Rattle.array_model.specs.Views.{ArrayView, with_parts, key_at}
-use Rattle.array_model.proofs.Fares.{fared, itself, gone_as, gone_back, gone_stays, leaves_more, loses_itself, loses_more, lost_shows, lost_leaves}
+use Rattle.flat_machine.proofs.Gones.{gone_stays}
+use Rattle.array_model.proofs.Fares.{fared, itself, gone_as, gone_back, leaves_more, loses_itself, loses_more, lost_shows, lost_leaves}
 use Rattle.array_model.proofs.Finds.{newest_write}
 use Rattle.array_model.proofs.Newest.{newest_told, newest_is}
 use Rattle.array_model.proofs.Seeing.{seen_case}

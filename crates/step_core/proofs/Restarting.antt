@@ -1,9 +1,8 @@
 -- A world made anew stands for the state made anew.
-use Rattle.std.proofs.Common.{◌≡◌, ◌≢◌, ℕ, ◌<◌, ◌≤◌, ◌==◌, Bool, true, false, List, length, refl, sym, ap, ◌∙◌, subst, arith, ◌⊎◌, inl, inr}
-use Rattle.std.proofs.lemmas.Bool.Decides.{nat_tests}
+use Rattle.std.proofs.Common.{◌≡◌, ℕ, true, List, refl, sym, ap, ◌∙◌, subst, arith}
 use Rattle.map_join.specs.Record.{record_of}
-use Rattle.map_join.specs.Maps.{IsSame, IsMapOf, IsListOf}
-use Rattle.flat_machine.specs.Flat.{Flat, Holder, Worker, Ticket, Block, Shut, IsArrays, for_ticket, for_block, for_shut, HeldOnce}
+use Rattle.map_join.specs.Maps.{IsMapOf, IsListOf}
+use Rattle.flat_machine.specs.Flat.{Flat, Holder, Worker, Ticket, Block, Shut, IsArrays, for_ticket, for_block, for_shut}
 use Rattle.flat_machine.specs.History.{IsHistory, AreHeld}
 use Rattle.flat_machine.specs.Restarted.{TellMap, restarted}
 use Rattle.flat_machine.proofs.Newest.{map_unique}
@@ -13,8 +12,8 @@ use Rattle.array_model.specs.declared.hand.Hand.TheVariants.{Empty}
 use Rattle.array_parts.specs.Views.{PartsView}
 use Rattle.array_model.specs.Views.{Kept, Nothing, Pending, Moving, Newest, ArrayView, WorldView, SameSizes, kept_at, key_at, hand_at}
 use Rattle.array_model.specs.Represents.{ShowsArray, HandSlot, Represents, is_newest}
-use Rattle.array_model.specs.Adopted.{IsAdopted, HasParts}
-use Rattle.step_core.specs.Adopted.{how_many, claims_in, AreClaimsOf, IsIdle, IsNotAdopted, IsUnclaimed, WasRestarted}
+use Rattle.array_model.specs.Adopted.{HasParts}
+use Rattle.step_core.specs.Adopted.{how_many, claims_in, AreClaimsOf, IsIdle, IsNotAdopted, WasRestarted}
 use Rattle.step_core.specs.declared.adopt.NotAdopted.{NotAdopted}
 use Rattle.step_core.specs.declared.adopt.NotAdopted.TheVariants.{Memory, NoClaim}
 

@@ -1,7 +1,7 @@
 -- What holds of every state that a run leaves: every map that took just the emitted records is the array's; where each group
 -- misses at most one member it is the map that the headers tell, and no slot is gone; a read through it answers each block's
 -- last write; and no slot has two holders.
-use Rattle.std.specs.Prelude.{◌≡◌, ◌<◌, ℕ, List, Option, Some, None}
+use Rattle.std.specs.Prelude.{◌≡◌, ◌<◌, ℕ, List, All, Option, Some, None}
 use Rattle.map_join.specs.declared.records.Record.{Record}
 use Rattle.map_join.specs.Record.{record_of}
 use Rattle.map_join.specs.Maps.{IsSame, IsMapOf, HasSameRecords}
@@ -11,6 +11,8 @@ use Rattle.extent_groups.specs.Stores.{unit_of}
 use Rattle.array_parts.specs.Shows.{IsUnit}
 use Rattle.array_parts.specs.Views.{PartsView, IsLost, cells_of, lost_of}
 use Rattle.flat_machine.specs.Flat.{Flat, Write, HeldOnce, Content, Stored, content_in, last_write}
+use Rattle.flat_machine.specs.Steps.{FlatAnswer}
+use Rattle.flat_machine.specs.Cases.{TellsPresent}
 use Rattle.flat_machine.specs.Scanned.{IsScanned}
 use Rattle.array_model.specs.Views.{WorldView, key_at}
 
@@ -47,3 +49,7 @@ pub record Stands (w : WorldView) (F : Flat) : Type 0 where
   pub here : IsOneMissed w.array.parts → (slot : ℕ) → IsLost w.array.parts slot → ⊥
   pub scanned : IsOneMissed w.array.parts → (M : ℕ → ℕ) → IsScanned (bytes_of w.array.parts) M → IsSame M (key_at w.array)
   pub headers : IsOneMissed w.array.parts → IsScanned (bytes_of w.array.parts) (key_at w.array)
+
+-- where each group misses at most one member no answer told a slot gone
+abbrev pub AllTellPresent : WorldView → List FlatAnswer → Type 0
+AllTellPresent w answers = IsOneMissed w.array.parts → All TellsPresent answers

@@ -1,5 +1,5 @@
 // The array: its tables, and the small reads of them.
-ghost use Rattle.std.specs.Prelude.{◌≡◌, ℕ, ◌+◌, ◌*◌, ◌<◌, ◌≤◌, length, map, drop, replicate, slice_index, slice_index_or, None, IsTrue, ◌↔◌, IfOk, IfErr, OnOk};
+ghost use Rattle.std.specs.Prelude.{◌≡◌, ℕ, ◌+◌, ◌*◌, ◌<◌, ◌≤◌, length, map, drop, replicate, slice_index, slice_index_or, None, true, IsTrue, ◌↔◌, IfOk, IfErr, OnOk};
 ghost use Rattle.map_join.specs.Record.{record_at};
 ghost use Rattle.map_join.specs.Maps.{at, IsSame, IsMapOf};
 ghost use Rattle.extents.specs.Shapes.{IsShapeOf};
@@ -118,6 +118,17 @@ impl<D: Drive, C: Hold> Array<D, C> {
     {
         let drive = usize::from(drive);
         drive >= self.parts.drives.len() || self.parts.drives[drive].is_lost()
+    }
+
+    /// Which of sixteen drives are lost, by number; past the last drive none is there, which counts as lost.
+    pub fn lost(&self) -> [bool; 16]
+        ensures { (drive : ℕ) → drive < 16 → slice_index_or result drive true ≡ lost_of self.now.parts drive }
+    {
+        let mut lost = [true; 16];
+        for drive in 0..16u8 {
+            lost[usize::from(drive)] = self.is_lost(drive);
+        }
+        lost
     }
 
     /// What every array keeps by itself, as a law: nothing is done.

@@ -6,7 +6,7 @@ ghost use Rattle.step_core.specs.Told.{flat_answer, flat_step, FitsStep};
 ghost use Rattle.step_core.specs.declared.step.Step.{Step};
 ghost use Rattle.array_model.specs.Views.{WorldView, SameSizes, IsWhole};
 ghost use Rattle.array_model.specs.Represents.{Represents};
-ghost use Rattle.step_core.specs.Headline.{Stands};
+ghost use Rattle.step_core.specs.Headline.{Stands, AllTellPresent};
 
 use crate::step::{Answer, Step};
 use crate::world::World;
@@ -116,8 +116,10 @@ impl World {
 pub fn run_steps(alloc: Global, mut world: World, steps: &[Step]) -> Result<Run, Stopped>
     requires { All (FitsStep world.array.parts.groups) steps.now }
     ensures { (F : Flat) → Represents world F → MatchResult result
-        (λ run. (G : Flat) × Runs F (map flat_step steps.now) (map flat_answer run.answers.items) G × Represents run.world G × Stands run.world G)
+        (λ run. (G : Flat) × Runs F (map flat_step steps.now) (map flat_answer run.answers.items) G × Represents run.world G × Stands run.world G
+        × AllTellPresent run.world (map flat_answer run.answers.items))
         (λ stop. (G : Flat) × Runs F (map flat_step (take stop.at steps.now)) (map flat_answer stop.answers.items) G × Represents stop.world G × Stands stop.world G
+        × AllTellPresent stop.world (map flat_answer stop.answers.items)
         × (stop.at < length steps.now)
         × ((stop.at ≡ 0) ⊎ ((step : Step) × (slice_get steps.now stop.at ≡ Some step) × IsWanted G (flat_step step)))) }
 {

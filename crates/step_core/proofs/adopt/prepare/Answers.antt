@@ -1,4 +1,4 @@
-use Rattle.std.proofs.Common.{◌≡◌, ℕ, ◌<◌, ◌+◌, List, Option, MatchOption, length, sym, ap, ◌∙◌, subst}
+use Rattle.std.proofs.Common.{ℕ, ◌+◌, List, Option, MatchOption, length, subst}
 use Rattle.map_join.specs.declared.records.Record.{Record}
 use Rattle.map_join.specs.Maps.{at}
 use Rattle.extents.specs.declared.shape.TheConstants.{HEADER_BYTES}

@@ -1,8 +1,4 @@
-use Rattle.std.proofs.Common.{rules, ◌≡◌, ◌+◌, ◌<◌, ◌++◌, ◌∷◌, [], refl, sym, ap, ◌∙◌, subst, arith, take, get_or, length}
-use Rattle.std.proofs.Math.Seq.{take-suc}
-use Rattle.std.proofs.Math.ListN.{set}
-use Rattle.map_join.specs.declared.records.Record.{Record}
-use Rattle.step_core.specs.Adopted.{AreWanted}
+use Rattle.std.proofs.Common.{rules, refl}
 use Rattle.step_core.proofs.Seated.{none_wanted, wanted_next}
 use Rattle.step_core.proofs.seats.blocks_by_slot.Goals as goal
 

@@ -1,4 +1,4 @@
-use Rattle.std.proofs.Common.{◌≡◌, ◌+◌, ◌<◌, refl, sym, ap, ◌∙◌, subst, arith, take, length}
+use Rattle.std.proofs.Common.{refl, sym, ◌∙◌, arith}
 use Rattle.step_core.proofs.Seated.{none_marked, marked_next, marked_all}
 use Rattle.step_core.proofs.seats.claimed.Goals as goal
 

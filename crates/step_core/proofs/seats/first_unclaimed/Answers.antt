@@ -1,4 +1,3 @@
-use Rattle.std.proofs.Common.{◌≡◌, ◌<◌}
 use Rattle.step_core.proofs.Seated.{claimed_all}
 use Rattle.step_core.proofs.seats.first_unclaimed.Goals as goal
 

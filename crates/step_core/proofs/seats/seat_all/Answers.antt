@@ -1,7 +1,7 @@
-use Rattle.std.proofs.Common.{◌≡◌, ◌+◌, ◌≤◌, [], length, refl, sym, ap, ◌∙◌, subst, arith, vec_len}
+use Rattle.std.proofs.Common.{sym, ◌∙◌, arith}
 use Rattle.std.proofs.lemmas.List.{length-map}
 use Rattle.step_core.specs.Kept.{kept_of, kepts_of}
-use Rattle.step_core.proofs.Seated.{AreSeated, none_seated, seated_one, left_one, all_seated, seats_end}
+use Rattle.step_core.proofs.Seated.{none_seated, seated_one, left_one, all_seated, seats_end}
 use Rattle.step_core.proofs.seats.seat_all.Goals as goal
 
 pub loop-claim-init : goal.loop-claim-init

@@ -1,4 +1,4 @@
-use Rattle.std.proofs.Common.{◌≡◌, ℕ, ◌+◌, ◌≤◌, vec_len, vec_capacity}
+use Rattle.std.proofs.Common.{◌≡◌, ◌+◌, ◌≤◌, vec_len, vec_capacity}
 use Rattle.step_core.specs.Kept.{kepts_of, AreOf}
 use Rattle.step_core.proofs.Seated.{AreSeated}
 use Rattle.step_core.proofs.seats.seat_all.Given as goal

@@ -1,4 +1,4 @@
-use Rattle.std.proofs.Common.{◌≡◌, ◌+◌, ◌++◌, ◌∷◌, [], ◌≤◌, refl, sym, ap, ◌∙◌, subst, arith, vec_len, length}
+use Rattle.std.proofs.Common.{◌≡◌, ◌++◌, ◌∷◌, [], sym, ◌∙◌, arith, vec_len, length}
 use Rattle.step_core.proofs.Seated.{AreOut, none_out, out_none, out_one, last_of}
 use Rattle.step_core.proofs.seats.unseat_all.Goals as goal
 

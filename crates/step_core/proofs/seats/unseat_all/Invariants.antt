@@ -1,4 +1,4 @@
-use Rattle.std.proofs.Common.{◌≡◌, ℕ, ◌+◌, ◌≤◌, vec_len, vec_capacity}
+use Rattle.std.proofs.Common.{◌+◌, ◌≤◌, vec_len, vec_capacity}
 use Rattle.step_core.proofs.Seated.{AreOut}
 use Rattle.step_core.proofs.seats.unseat_all.Given as goal
 

@@ -1,4 +1,4 @@
-use Rattle.std.proofs.Common.{rules, ◌∙◌, ap, sym, subst}
+use Rattle.std.proofs.Common.{rules, sym}
 use Rattle.map_join.proofs.Listing.{told_key}
 use Rattle.map_join.proofs.block_map.BlockMap.get.Goals as goal
 

@@ -1,4 +1,4 @@
-use Rattle.std.proofs.Common.{◌≡◌, ◌∙◌}
+use Rattle.std.proofs.Common.{◌∙◌}
 use Rattle.map_join.specs.Maps.{at}
 use Rattle.step_core.proofs.Adoptions.{none_left}
 use Rattle.step_core.proofs.array.Array.adopt.Goals as goal

@@ -1,11 +1,9 @@
-use Rattle.std.proofs.Common.{◌≡◌, ℕ, List, length, sym, ap, ◌∙◌, subst, rules}
+use Rattle.std.proofs.Common.{sym, ◌∙◌}
 use Rattle.std.proofs.lemmas.List.{length-map}
 use Rattle.map_join.specs.Maps.{at}
 use Rattle.array_parts.specs.Views.{drive_view, view_of}
-use Rattle.array_model.specs.Adopted.{IsAdopted}
 use Rattle.array_model.proofs.Adopting.{adopted_shows}
 use Rattle.step_core.specs.Inside.{seen}
-use Rattle.step_core.specs.Adopted.{AreReady}
 use Rattle.step_core.proofs.News.{none_kept}
 use Rattle.step_core.proofs.Adopters.{fit_parts, free_of, adopted, is_adopted, is_whole, is_ready_too}
 use Rattle.step_core.proofs.array.Array.adopt_among.Goals as goal

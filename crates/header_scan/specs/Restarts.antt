@@ -1,0 +1,50 @@
+-- What a restart makes of parts and claims, and why it makes nothing of them.
+use Rattle.std.specs.Prelude.{◌≡◌, ℕ, ◌^◌, is_some, Bool, List}
+use Rattle.extent_groups.specs.Stores.{unit_of, AreSound}
+use Rattle.array_parts.specs.declared.parts.Parts.{Parts}
+use Rattle.array_parts.specs.Losses.{LosesOnly}
+use Rattle.array_parts.specs.Slots.{cells_in}
+use Rattle.array_parts.specs.Views.{view_of}
+use Rattle.flat_machine.specs.Cases.{Leaves}
+use Rattle.flat_machine.specs.Flat.{Flat}
+use Rattle.flat_machine.specs.Groups.{class_at}
+use Rattle.flat_machine.specs.Restarted.{IsRestarted}
+use Rattle.flat_machine.specs.Scanned.{IsScanned}
+use Rattle.array_model.specs.Adopted.{HasParts, IsAdopted}
+use Rattle.array_model.specs.Represents.{ShowsArray}
+use Rattle.array_model.specs.Views.{ArrayView}
+use Rattle.step_core.specs.Adopted.{IsUnclaimed}
+use Rattle.header_scan.specs.Faults.{between, AreFine, IsFirstFault, IsTwice}
+use Rattle.header_scan.specs.declared.fault.ScanFault.{ScanFault}
+use Rattle.header_scan.specs.declared.fault.ScanFault.TheVariants.{NoClaim}
+
+-- each slot of a group has a unit, and no other slot has one
+abbrev pub HasUnits : Flat → Type 0
+HasUnits F = (s : ℕ) → is_some (F.units s) ≡ is_some (class_at F.groups s)
+
+-- every slot is sound
+abbrev pub AreAllSound : {D : Type 0} → (D → List (List ℕ)) → (D → Bool) → Parts D → Type 0
+AreAllSound units lost parts = AreSound parts.groups (cells_in units lost parts)
+
+-- the parts' headers tell this map, without a fault
+pub record TellAll {D : Type 0} (units : D → List (List ℕ)) (lost : D → Bool) (parts : Parts D) (keys : ℕ → ℕ) : Type 0 where
+  pub scanned : IsScanned (between 0 (2 ^ 16) (unit_of parts.groups (cells_in units lost parts))) keys
+  pub fine : AreFine parts.groups 0 (2 ^ 16) (unit_of parts.groups (cells_in units lost parts))
+  pub once : (b p q : ℕ) → IsTwice (between 0 (2 ^ 16) (unit_of parts.groups (cells_in units lost parts))) b p q → ⊥
+
+-- an array was put together of what the scan left of parts, with the map that their headers tell; for every state whose groups,
+-- drives and units the parts are, it stands for that state made anew
+pub record WasMade {D : Type 0} (units : D → List (List ℕ)) (lost : D → Bool) (failures : D → ℕ) (parts : Parts D) (a : ArrayView) : Type 0 where
+  pub left : Parts D
+  pub keys : ℕ → ℕ
+  pub loses : LosesOnly units lost failures parts left
+  pub adopted : IsAdopted (view_of units lost failures left) keys a
+  pub told : AreAllSound units lost parts → TellAll units lost parts keys
+  pub flat : (F : Flat) → HasParts (view_of units lost failures parts) F → HasUnits F
+      → (G : Flat) × (H : Flat) × Leaves F G × IsRestarted G keys H × ShowsArray a H
+
+-- why none was: the fault of the scan; else the lowest newest place of which there is no claim
+abbrev pub IsRestartFault : {D C : Type 0} → (D → List (List ℕ)) → (D → Bool) → Parts D → Parts D → (C → ℕ) → List C → ScanFault → Type 0
+IsRestartFault units lost parts left names claims (NoClaim slot) = (keys : ℕ → ℕ) × TellAll units lost parts keys × IsUnclaimed names claims keys slot
+IsRestartFault units lost parts left names claims fault =
+    IsFirstFault parts.groups 0 (2 ^ 16) (unit_of parts.groups (cells_in units lost parts)) (unit_of parts.groups (cells_in units lost left)) fault
