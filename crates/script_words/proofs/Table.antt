@@ -6,36 +6,31 @@ use Rattle.std.proofs.lemmas.List.Elements.{All-from_recursion}
 use Rattle.map_join.specs.declared.records.Record.{Record}
 use Rattle.extent_groups.specs.declared.class.Class.{Class}
 use Rattle.script_words.specs.Order as o
-use Rattle.script_words.specs.Order.{Order, Behind, Nothing, Told, Content, Members, behind_of, kind_behind, kinds_of, ordered, tail_of, values_of, verb_of, word_of}
+use Rattle.script_words.specs.Order.{Order, all_verbs, Behind, Nothing, Told, Content, Members, behind_of, kind_behind, kinds_of, ordered, tail_of, values_of, verb_of, word_of}
 use Rattle.script_words.specs.declared.command.Named.{Named}
 use Rattle.script_words.specs.declared.verb.Verb.{Verb}
 use Rattle.script_words.specs.declared.verb.Verb.TheVariants as verb
 use Rattle.script_words.specs.declared.verb.Tail.{Tail}
 use Rattle.script_words.specs.declared.verb.Tail.TheVariants as tail
-use Rattle.script_words.specs.declared.verb.TheConstants.{VERBS}
 use Rattle.script_words.proofs.Splits.{Differs}
 
 -- where a word stands among the words of verbs
-abbrev pub place_in : List Verb → List ℕ → ℕ
+abbrev place_in : List Verb → List ℕ → ℕ
 place_in [] word = 0
 place_in (asked ∷ later) word = cond (bytes_eq (word_of asked) word) 0 (1 + place_in later word)
 
-abbrev pub place_of : Verb → ℕ
-place_of asked = place_in VERBS (word_of asked)
+abbrev place_of : Verb → ℕ
+place_of asked = place_in all_verbs (word_of asked)
 
--- every verb stands in the table of verbs, at the place of its word
-pub place_below : (asked : Verb) → place_of asked < 19
-place_below verb.Array = lit< tt
-place_below _ = lit< tt
-
-pub at_place : (asked d : Verb) → slice_index_or VERBS (place_of asked) d ≡ asked
+-- each verb stands at the place of its word
+at_place : (asked d : Verb) → slice_index_or all_verbs (place_of asked) d ≡ asked
 at_place verb.Array d = refl
 at_place _ d = refl
 
 -- so two verbs have two words
 pub one_verb : (a b : Verb) → word_of a ≡ word_of b → a ≡ b
 one_verb a b e =
-    sym (at_place a verb.Array) ∙ ap (λ word. slice_index_or VERBS (place_in VERBS word) verb.Array) e ∙ at_place b verb.Array
+    sym (at_place a verb.Array) ∙ ap (λ word. slice_index_or all_verbs (place_in all_verbs word) verb.Array) e ∙ at_place b verb.Array
 
 -- and none of them has a space
 pub verb_word : (asked : Verb) → All (Differs 32) (word_of asked)

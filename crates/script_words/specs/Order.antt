@@ -96,6 +96,10 @@ word_of verb.Scan = codes "scan"
 word_of verb.Restart = codes "restart"
 word_of verb.Lose = codes "lose"
 
+-- every verb
+abbrev pub all_verbs : List Verb
+all_verbs = verb.Array ∷ verb.Make ∷ verb.Claim ∷ verb.Release ∷ verb.Fill ∷ verb.Copy ∷ verb.Commit ∷ verb.Discard ∷ verb.Read ∷ verb.At ∷ verb.Take ∷ verb.Merge ∷ verb.Same ∷ verb.Show ∷ verb.Map ∷ verb.Log ∷ verb.Scan ∷ verb.Restart ∷ verb.Lose ∷ []
+
 -- how each command is written: a row of the table
 abbrev pub shape : Order → Shape
 shape (Array drives extents segments payload blocks) =
