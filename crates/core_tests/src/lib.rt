@@ -8,6 +8,8 @@ mod losses;
 #[cfg(test)]
 mod reads;
 #[cfg(test)]
+mod restarts;
+#[cfg(test)]
 mod runs;
 #[cfg(test)]
 mod scans;

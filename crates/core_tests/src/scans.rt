@@ -1,5 +1,5 @@
 // The map that the headers tell is the running map, with a drive lost too.
-use header_scan::{ScanFault, scan};
+use header_scan::{ScanFault, scan, scan_world};
 use map_join::Record;
 use std::alloc::Global;
 use std::test::Fail;
@@ -46,7 +46,7 @@ fn a_scan_of_a_world_finds_its_map_until_a_slot_is_gone(rt: HostRuntime) -> Resu
     let before = scan(alloc, &mut world)?;
     assert!(rt; before.get(3) == Some(newest) && before.agrees(&world.array().map(alloc)?));
     world.lose(1);
-    let after = scan(alloc, &mut world)?;
+    let after = scan_world(alloc, &mut world)?;
     assert!(rt; after.get(3) == Some(newest) && after.agrees(&before));
     world.lose(0);
     assert!(rt; matches!(scan(alloc, &mut world), Err(ScanFault::Gone(0))));
