@@ -1,10 +1,13 @@
 // An array taken apart and made anew: its map, its log, its claims, and what each block reads.
-use header_scan::restart;
+use header_scan::{restart, scan};
 use map_join::Record;
 use std::alloc::{AllocError, Global};
 use std::process::Abort;
 use std::test::Fail;
 use step_core::{Answer, Array, Class, MemDrive, Member, Plain, Refusal, Shape, World};
+
+/// More calls of one drive than the restart below makes.
+const CALLS: u64 = 30;
 
 type Memory = Array<MemDrive, Plain>;
 
@@ -186,5 +189,55 @@ fn a_world_of_an_array_has_empty_hands(rt: HostRuntime) -> Result<(), Fail> {
     assert!(rt; matches!(world.discard(6, 3), Answer::Refused(Refusal::NoTicket)));
     assert!(rt; matches!(world.claim(1, 5), Answer::Claimed(5)));
     assert!(rt; matches!(world.claim(1, 3), Answer::Taken(3)));
+    Ok(())
+}
+
+#[test]
+fn parts_with_their_map_are_adopted(rt: HostRuntime) -> Result<(), Fail> {
+    let alloc = rt.alloc();
+    let Ok((mut parts, claims)) = written(&rt, alloc)?.into_parts(alloc) else {
+        panic!(rt; "not taken apart")
+    };
+    let map = scan(alloc, &mut parts)?;
+    let Ok((mut anew, others)) = Array::adopt_among(alloc, parts, map, claims) else {
+        panic!(rt; "not put together")
+    };
+    assert!(rt; others.is_empty() && lists_newest(alloc, &anew)? && holds_newest(&anew));
+    assert!(rt; reads_as_written(&rt, alloc, &mut anew));
+    Ok(())
+}
+
+// Whether a drive is lost at a call of a restart.
+fn burns(rt: &impl Abort, alloc: Global, drive: u8, call: u64) -> Result<bool, Fail> {
+    let Ok(mut world) = World::of(alloc, written(rt, alloc)?) else {
+        panic!(rt; "no world")
+    };
+    assert!(rt; drive < world.array().drive_count() && call > 0);
+    world.fuse(drive, call);
+    let Ok((parts, claims)) = world.into_array().into_parts(alloc) else {
+        panic!(rt; "not taken apart")
+    };
+    let Ok((mut anew, others)) = restart(alloc, parts, claims) else {
+        panic!(rt; "not made anew")
+    };
+    let burnt = anew.is_lost(drive);
+    assert!(rt; others.is_empty() && lists_newest(alloc, &anew)? && holds_newest(&anew));
+    assert!(rt; reads_as_written(rt, alloc, &mut anew));
+    Ok(burnt)
+}
+
+#[test]
+fn a_restart_tells_the_same_whichever_drive_is_lost_at_whichever_call(
+    rt: HostRuntime,
+) -> Result<(), Fail> {
+    let alloc = rt.alloc();
+    for drive in 0..4u8 {
+        assert!(rt; burns(&rt, alloc, drive, 1)?);
+        let mut burnt = true;
+        for call in 2..CALLS {
+            burnt = burns(&rt, alloc, drive, call)?;
+        }
+        assert!(rt; !burnt);
+    }
     Ok(())
 }

@@ -4,6 +4,8 @@
 #[cfg(test)]
 mod entries;
 #[cfg(test)]
+mod restarts;
+#[cfg(test)]
 mod rig;
 #[cfg(test)]
 mod scans;

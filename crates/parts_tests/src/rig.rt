@@ -13,10 +13,11 @@ use array_parts::{Parts, Sight, Units};
 use extent_groups::{Class, GroupTable, Member, SLOTS, are_there, put_check};
 use extents::{Drive, ExtentTable, Header, MemDrive, Shape};
 use flat_machine::Refusal;
-use header_scan::{ScanFault, scan, scan_groups};
+use header_scan::{ScanFault, restart, scan, scan_groups};
 use map_join::{BlockMap, Record};
 use std::alloc::{AllocError, Global};
 use std::process::Abort;
+use step_core::{Array, Plain};
 
 /// Bytes of a unit, header and payload.
 pub(crate) const SIZE: usize = 40;
@@ -79,6 +80,25 @@ fn is_slot(groups: &GroupTable, slot: u16) -> bool
     ensures { IsTrue result → IsSlot groups.now slot }
 {
     slot % SLOTS < groups.slots_of(slot / SLOTS)
+}
+
+/// What a restart makes of drives in memory: an array and the claims left over, or a fault, the parts and
+/// all claims.
+pub(crate) type Restarted = Result<
+    (Array<MemDrive, Plain>, Vec<Plain>),
+    (ScanFault, Parts<MemDrive>, Vec<Plain>),
+>;
+
+/// Makes an array anew from parts that fit, with these claims.
+pub(crate) fn restart_parts(
+    rt: &impl Abort,
+    alloc: Global,
+    parts: Parts<MemDrive>,
+    claims: Vec<Plain>,
+) -> Restarted {
+    assert!(rt; are_sized(&parts.drives, parts.groups.shape().unit_bytes()));
+    assert!(rt; parts.is_fit());
+    restart(alloc, parts, claims)
 }
 
 /// Reads the effective unit of a slot of whoever has units.
@@ -172,6 +192,22 @@ impl Rig {
         let header = Header::Is(record);
         self.parts
             .carry(from, to, &header, &mut self.unit, &mut self.scratch)
+    }
+
+    /// Sets a byte of what a slot holds.
+    pub(crate) fn set(
+        &mut self,
+        rt: &impl Abort,
+        slot: u16,
+        at: usize,
+        byte: u8,
+    ) -> Result<(), Refusal> {
+        self.read(rt, slot)?;
+        assert!(rt; at < self.unit.len());
+        self.unit[at] = byte;
+        assert!(rt; self.is_ready());
+        assert!(rt; is_slot(&self.parts.groups, slot));
+        self.parts.write(slot, &self.unit, &mut self.scratch)
     }
 
     /// The map of the headers of all groups.
