@@ -22,7 +22,7 @@ use Rattle.array_model.specs.Views.{ArrayView}
 use Rattle.step_core.specs.Adopted.{IsIdle}
 use Rattle.header_scan.specs.Faults.{between, AreFine, IsTwice}
 use Rattle.header_scan.specs.Found.{Keeps}
-use Rattle.header_scan.specs.Restarts.{AreAllSound, HasUnits, TellAll}
+use Rattle.header_scan.specs.Restarts.{AreAllSound, HasUnits, StandsForOne, TellAll}
 use Rattle.header_scan.proofs.Telling.{scan_tells, scan_units}
 
 -- a state whose parts were read: some of its drives may have been lost
@@ -81,13 +81,14 @@ module _ {D : Type 0} (units : D → List (List ℕ)) (lost : D → Bool) (failu
         (fared F w, restarted (fared F w) M a.log, leaves_left F lose has, record { log = list; is = refl }, shows (fared F w) (has_left F lose has) tell)
 
     -- and there is one
-    pub made_stands : AreAllSound units lost p → (H : Flat) × ShowsArray a H × IsIdle H
+    pub made_stands : AreAllSound units lost p → StandsForOne units lost failures p a
     made_stands sound =
         let told = tells sound in
         let found = scan_units v fit.groups (subst (λ (c : Cells). AreFine p.groups 0 (2 ^ 16) (unit_of p.groups c)) same told.fine) (subst (AreSound p.groups) same sound) in
         let F : Flat = bare found.0 in
-        let made = made_shows F (record { groups = refl; drives = refl; lost = refl; failures = refl; units = found.1 }) found.2 in
-        (made.1, made.4, subst IsIdle (sym made.3.is) (λ s u. (refl, refl)))
+        let has : HasParts v F = record { groups = refl; drives = refl; lost = refl; failures = refl; units = found.1 } in
+        let made = made_shows F has found.2 in
+        record { before = F; has = has; there = found.2; after = made.1; shows = made.4; idle = subst IsIdle (sym made.3.is) (λ s u. (refl, refl)) }
       where
         same : cells_in units lost p ≡ cells_of v
         same = sym (view_cells units lost failures p)

@@ -13,7 +13,7 @@ use Rattle.flat_machine.specs.Scanned.{IsScanned}
 use Rattle.array_model.specs.Adopted.{HasParts, IsAdopted}
 use Rattle.array_model.specs.Represents.{ShowsArray}
 use Rattle.array_model.specs.Views.{ArrayView}
-use Rattle.step_core.specs.Adopted.{IsUnclaimed}
+use Rattle.step_core.specs.Adopted.{IsUnclaimed, IsIdle}
 use Rattle.header_scan.specs.Faults.{between, AreFine, IsFirstFault, IsTwice}
 use Rattle.header_scan.specs.declared.fault.ScanFault.{ScanFault}
 use Rattle.header_scan.specs.declared.fault.ScanFault.TheVariants.{NoClaim}
@@ -42,6 +42,15 @@ pub record WasMade {D : Type 0} (units : D → List (List ℕ)) (lost : D → Bo
   pub told : AreAllSound units lost parts → TellAll units lost parts keys
   pub flat : (F : Flat) → HasParts (view_of units lost failures parts) F → HasUnits F
       → (G : Flat) × (H : Flat) × Leaves F G × IsRestarted G keys H × ShowsArray a H
+
+-- there is a state whose groups, drives and units the parts are, and the array stands for one in which nobody works
+pub record StandsForOne {D : Type 0} (units : D → List (List ℕ)) (lost : D → Bool) (failures : D → ℕ) (parts : Parts D) (a : ArrayView) : Type 0 where
+  pub before : Flat
+  pub has : HasParts (view_of units lost failures parts) before
+  pub there : HasUnits before
+  pub after : Flat
+  pub shows : ShowsArray a after
+  pub idle : IsIdle after
 
 -- why none was: the fault of the scan; else the lowest newest place of which there is no claim
 abbrev pub IsRestartFault : {D C : Type 0} → (D → List (List ℕ)) → (D → Bool) → Parts D → Parts D → (C → ℕ) → List C → ScanFault → Type 0

@@ -2,10 +2,8 @@
 ghost use Rattle.std.specs.Prelude.{◌≡◌, IfOk, IfErr};
 ghost use Rattle.array_parts.specs.Fit.{IsFit};
 ghost use Rattle.array_parts.specs.Losses.{LosesOnly};
-ghost use Rattle.array_model.specs.Represents.{ShowsArray};
-ghost use Rattle.flat_machine.specs.Flat.{Flat};
-ghost use Rattle.step_core.specs.Adopted.{AreShared, IsIdle};
-ghost use Rattle.header_scan.specs.Restarts.{AreAllSound, IsRestartFault, WasMade};
+ghost use Rattle.step_core.specs.Adopted.{AreShared};
+ghost use Rattle.header_scan.specs.Restarts.{AreAllSound, IsRestartFault, StandsForOne, WasMade};
 
 use crate::{ScanFault, scan};
 use array_parts::Parts;
@@ -25,8 +23,9 @@ pub fn restart<D: Drive, C: Hold>(
     requires { IsFit D.units parts }
     ensures ok { IfOk result (λ r. WasMade D.units D.lost D.failures parts r.0) }
     ensures claims { IfOk result (λ r. AreShared C.names claims.items r.0 r.1.items) }
-    ensures stands { AreAllSound D.units D.lost parts → IfOk result (λ r. (H : Flat) × ShowsArray r.0 H × IsIdle H) }
+    ensures stands { AreAllSound D.units D.lost parts → IfOk result (λ r. StandsForOne D.units D.lost D.failures parts r.0) }
     ensures fault { AreAllSound D.units D.lost parts → IfErr result (λ e. IsRestartFault D.units D.lost parts e.1 C.names claims.items e.0) }
+    ensures fit { IfErr result (λ e. IsFit D.units e.1) }
     ensures back { IfErr result (λ e. LosesOnly D.units D.lost D.failures parts e.1 × (e.2 ≡ claims)) }
 {
     let mut parts = parts;

@@ -3,6 +3,7 @@ pub mod Seated
 pub mod Adoptions
 pub mod Adopters
 pub mod Restarting
+pub mod Resting
 pub mod Ready
 pub mod News
 pub mod BlockReads

@@ -26,7 +26,7 @@ impl World {
         self.array
     }
 
-    /// A world of an array, in which no worker has anything in hand. Refused for want of memory it hands
+    /// A world of an array, in which no worker has anything in hand; nothing may be pending in it. Refused for want of memory it hands
     /// the array back.
     pub fn of(alloc: Global, array: Array<MemDrive, Plain>) -> Result<World, Array<MemDrive, Plain>>
         ensures array { IfOk result (λ world. world.array ≡ array) }
@@ -41,8 +41,8 @@ impl World {
     }
 
     /// The world made anew with a map of its headers: the map's list is the log, each block's newest place
-    /// is held and no other slot, and nothing is pending. It takes some 10 bytes for each slot number; where
-    /// they are refused the world is given up.
+    /// is held and no other slot, and nothing is pending. It takes some 30 bytes for each slot number, about half
+    /// of it in place of the old tables; where they are refused the world is given up.
     pub fn restarted(self, alloc: Global, map: BlockMap) -> Result<World, NotAdopted>
         requires { HasPlaces self.array.parts.groups (at map) }
         ensures ok { IfOk result (λ world. (F : Flat) → Represents self F → IsMapOf F.emitted (at map) → WasRestarted F (at map) world) }

@@ -1,7 +1,11 @@
 use Rattle.std.proofs.Common.{subst}
 use Rattle.array_model.specs.Views.{ArrayView}
 use Rattle.step_core.specs.Adopted.{AreClaimsOf}
+use Rattle.step_core.proofs.Resting.{claims_rest}
 use Rattle.step_core.proofs.array.Array.into_parts.Goals as goal
 
 pub returns-clause-claims : goal.returns-clause-claims
 returns-clause-claims g c = subst (λ (a : ArrayView). AreClaimsOf g.C.Hold.names a c.unseat_all.new.claims.items) c.self.view_is c.unseat_all.ensures
+
+pub returns-clause-rests : goal.returns-clause-rests
+returns-clause-rests g c F shows rests = claims_rest g.C.Hold.names c.unseat_all.new.claims.items _ F shows rests (returns-clause-claims g c)
