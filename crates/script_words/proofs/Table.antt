@@ -1,5 +1,5 @@
 -- The table of commands: a verb's row is that of each of its commands.
-use Rattle.std.proofs.Common.{◌≡◌, ℕ, ◌+◌, ◌<◌, cond, List, [], ◌∷◌, length, refl, sym, ap, ◌∙◌, arith, take, slice_index, slice_index_or, lit<, codes, rules}
+use Rattle.std.proofs.Common.{◌≡◌, ℕ, ◌+◌, cond, List, [], ◌∷◌, length, refl, sym, ap, ◌∙◌, arith, take, slice_index, slice_index_or, codes, rules}
 use Rattle.std.specs.List.{All}
 use Rattle.std.specs.Str.{bytes_eq}
 use Rattle.std.proofs.lemmas.List.Elements.{All-from_recursion}

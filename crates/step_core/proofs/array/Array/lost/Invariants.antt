@@ -1,4 +1,4 @@
-use Rattle.std.proofs.Common.{◌≡◌, ℕ, ◌<◌, ◌≤◌, length, get_or, true}
+use Rattle.std.proofs.Common.{◌≡◌, ℕ, ◌<◌, length, get_or, true}
 use Rattle.array_parts.specs.Views.{lost_of}
 use Rattle.step_core.proofs.array.Array.lost.Given as goal
 
