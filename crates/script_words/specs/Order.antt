@@ -24,6 +24,10 @@ pub data Order : Type 0 where
   Discard : ℕ → ℕ → Order
   Read : ℕ → Order
   At : Record → Order
+  Write : ℕ → ℕ → List ℕ → Order
+  Demote : ℕ → Order
+  Plug : ℕ → Order
+  Clean : ℕ → Order
   Take : ℕ → Record → Order
   Merge : ℕ → ℕ → Order
   Same : ℕ → ℕ → Order
@@ -86,6 +90,10 @@ word_of verb.Commit = codes "commit"
 word_of verb.Discard = codes "discard"
 word_of verb.Read = codes "read"
 word_of verb.At = codes "at"
+word_of verb.Write = codes "write"
+word_of verb.Demote = codes "demote"
+word_of verb.Plug = codes "plug"
+word_of verb.Clean = codes "clean"
 word_of verb.Take = codes "take"
 word_of verb.Merge = codes "merge"
 word_of verb.Same = codes "same"
@@ -98,7 +106,7 @@ word_of verb.Lose = codes "lose"
 
 -- every verb
 abbrev pub all_verbs : List Verb
-all_verbs = verb.Array ∷ verb.Make ∷ verb.Claim ∷ verb.Release ∷ verb.Fill ∷ verb.Copy ∷ verb.Commit ∷ verb.Discard ∷ verb.Read ∷ verb.At ∷ verb.Take ∷ verb.Merge ∷ verb.Same ∷ verb.Show ∷ verb.Map ∷ verb.Log ∷ verb.Scan ∷ verb.Restart ∷ verb.Lose ∷ []
+all_verbs = verb.Array ∷ verb.Make ∷ verb.Claim ∷ verb.Release ∷ verb.Fill ∷ verb.Copy ∷ verb.Commit ∷ verb.Discard ∷ verb.Read ∷ verb.At ∷ verb.Write ∷ verb.Demote ∷ verb.Plug ∷ verb.Clean ∷ verb.Take ∷ verb.Merge ∷ verb.Same ∷ verb.Show ∷ verb.Map ∷ verb.Log ∷ verb.Scan ∷ verb.Restart ∷ verb.Lose ∷ []
 
 -- how each command is written: a row of the table
 abbrev pub shape : Order → Shape
@@ -113,6 +121,10 @@ shape (Commit w s b) = form verb.Commit (worker w ∷ slot s ∷ block b ∷ [])
 shape (Discard w s) = form verb.Discard (worker w ∷ slot s ∷ []) Nothing
 shape (Read b) = form verb.Read (block b ∷ []) Nothing
 shape (At r) = form verb.At [] (Told r)
+shape (Write w b payload) = form verb.Write (worker w ∷ block b ∷ []) (Content payload)
+shape (Demote w) = form verb.Demote (worker w ∷ []) Nothing
+shape (Plug w) = form verb.Plug (worker w ∷ []) Nothing
+shape (Clean w) = form verb.Clean (worker w ∷ []) Nothing
 shape (Take m r) = form verb.Take (table m ∷ []) (Told r)
 shape (Merge into from) = form verb.Merge (table into ∷ table from ∷ []) Nothing
 shape (Same left right) = form verb.Same (table left ∷ table right ∷ []) Nothing
@@ -148,6 +160,10 @@ ordered verb.Commit n r payload level members = Commit (n 0) (n 1) (n 2)
 ordered verb.Discard n r payload level members = Discard (n 0) (n 1)
 ordered verb.Read n r payload level members = Read (n 0)
 ordered verb.At n r payload level members = At r
+ordered verb.Write n r payload level members = Write (n 0) (n 1) payload
+ordered verb.Demote n r payload level members = Demote (n 0)
+ordered verb.Plug n r payload level members = Plug (n 0)
+ordered verb.Clean n r payload level members = Clean (n 0)
 ordered verb.Take n r payload level members = Take (n 0) r
 ordered verb.Merge n r payload level members = Merge (n 0) (n 1)
 ordered verb.Same n r payload level members = Same (n 0) (n 1)

@@ -15,6 +15,10 @@ pub enum Verb {
     Discard,
     Read,
     At,
+    Write,
+    Demote,
+    Plug,
+    Clean,
     Take,
     Merge,
     Same,
@@ -57,6 +61,15 @@ pub struct Row {
     pub tail: Tail,
 }
 
+impl Row {
+    fn new(kinds: &'static [Kind], tail: Tail) -> Row
+        ensures kinds { result.kinds.now ≡ kinds.now }
+        ensures tail { result.tail ≡ tail }
+    {
+        Row { kinds, tail }
+    }
+}
+
 impl Verb {
     /// The verb's row of the table.
     pub fn row(self) -> Row
@@ -65,82 +78,32 @@ impl Verb {
         ensures tail { result.tail ≡ tail_of self }
     {
         match self {
-            Verb::Array => Row {
-                kinds: &[Kind::Size, Kind::Size, Kind::Size, Kind::Size, Kind::Size],
-                tail: Tail::Nothing,
-            },
-            Verb::Make => Row {
-                kinds: &[],
-                tail: Tail::Members,
-            },
-            Verb::Claim => Row {
-                kinds: &[Kind::Worker, Kind::Slot],
-                tail: Tail::Nothing,
-            },
-            Verb::Release => Row {
-                kinds: &[Kind::Worker, Kind::Slot],
-                tail: Tail::Nothing,
-            },
-            Verb::Fill => Row {
-                kinds: &[Kind::Worker, Kind::Slot],
-                tail: Tail::Payload,
-            },
-            Verb::Copy => Row {
-                kinds: &[Kind::Worker, Kind::Slot, Kind::Block],
-                tail: Tail::Nothing,
-            },
-            Verb::Commit => Row {
-                kinds: &[Kind::Worker, Kind::Slot, Kind::Block],
-                tail: Tail::Nothing,
-            },
-            Verb::Discard => Row {
-                kinds: &[Kind::Worker, Kind::Slot],
-                tail: Tail::Nothing,
-            },
-            Verb::Read => Row {
-                kinds: &[Kind::Block],
-                tail: Tail::Nothing,
-            },
-            Verb::At => Row {
-                kinds: &[],
-                tail: Tail::Record,
-            },
-            Verb::Take => Row {
-                kinds: &[Kind::Map],
-                tail: Tail::Record,
-            },
-            Verb::Merge => Row {
-                kinds: &[Kind::Map, Kind::Map],
-                tail: Tail::Nothing,
-            },
-            Verb::Same => Row {
-                kinds: &[Kind::Map, Kind::Map],
-                tail: Tail::Nothing,
-            },
-            Verb::Show => Row {
-                kinds: &[Kind::Map],
-                tail: Tail::Nothing,
-            },
-            Verb::Map => Row {
-                kinds: &[],
-                tail: Tail::Nothing,
-            },
-            Verb::Log => Row {
-                kinds: &[],
-                tail: Tail::Nothing,
-            },
-            Verb::Scan => Row {
-                kinds: &[],
-                tail: Tail::Nothing,
-            },
-            Verb::Restart => Row {
-                kinds: &[],
-                tail: Tail::Nothing,
-            },
-            Verb::Lose => Row {
-                kinds: &[Kind::Drive],
-                tail: Tail::Nothing,
-            },
+            Verb::Array => Row::new(
+                &[Kind::Size, Kind::Size, Kind::Size, Kind::Size, Kind::Size],
+                Tail::Nothing,
+            ),
+            Verb::Make => Row::new(&[], Tail::Members),
+            Verb::Claim => Row::new(&[Kind::Worker, Kind::Slot], Tail::Nothing),
+            Verb::Release => Row::new(&[Kind::Worker, Kind::Slot], Tail::Nothing),
+            Verb::Fill => Row::new(&[Kind::Worker, Kind::Slot], Tail::Payload),
+            Verb::Copy => Row::new(&[Kind::Worker, Kind::Slot, Kind::Block], Tail::Nothing),
+            Verb::Commit => Row::new(&[Kind::Worker, Kind::Slot, Kind::Block], Tail::Nothing),
+            Verb::Discard => Row::new(&[Kind::Worker, Kind::Slot], Tail::Nothing),
+            Verb::Read => Row::new(&[Kind::Block], Tail::Nothing),
+            Verb::At => Row::new(&[], Tail::Record),
+            Verb::Write => Row::new(&[Kind::Worker, Kind::Block], Tail::Payload),
+            Verb::Demote => Row::new(&[Kind::Worker], Tail::Nothing),
+            Verb::Plug => Row::new(&[Kind::Worker], Tail::Nothing),
+            Verb::Clean => Row::new(&[Kind::Worker], Tail::Nothing),
+            Verb::Take => Row::new(&[Kind::Map], Tail::Record),
+            Verb::Merge => Row::new(&[Kind::Map, Kind::Map], Tail::Nothing),
+            Verb::Same => Row::new(&[Kind::Map, Kind::Map], Tail::Nothing),
+            Verb::Show => Row::new(&[Kind::Map], Tail::Nothing),
+            Verb::Map => Row::new(&[], Tail::Nothing),
+            Verb::Log => Row::new(&[], Tail::Nothing),
+            Verb::Scan => Row::new(&[], Tail::Nothing),
+            Verb::Restart => Row::new(&[], Tail::Nothing),
+            Verb::Lose => Row::new(&[Kind::Drive], Tail::Nothing),
         }
     }
 }
@@ -161,6 +124,10 @@ pub fn verb_of(word: &[u8]) -> Option<Verb>
         b"discard" => Some(Verb::Discard),
         b"read" => Some(Verb::Read),
         b"at" => Some(Verb::At),
+        b"write" => Some(Verb::Write),
+        b"demote" => Some(Verb::Demote),
+        b"plug" => Some(Verb::Plug),
+        b"clean" => Some(Verb::Clean),
         b"take" => Some(Verb::Take),
         b"merge" => Some(Verb::Merge),
         b"same" => Some(Verb::Same),
