@@ -1,5 +1,5 @@
 -- Workers claim and release, and the array stands for the state after it as it stood before.
-use Rattle.std.proofs.Common.{◌≡◌, ℕ, ◌<◌, Bool, true, false, not, length, refl, sym, ap, ◌∙◌, subst}
+use Rattle.std.proofs.Common.{◌↔◌, ◌≡◌, ℕ, ◌<◌, Bool, true, false, not, length, refl, sym, ap, ◌∙◌, subst}
 use Rattle.std.proofs.Math.ListN.{set}
 use Rattle.std.proofs.lemmas.List.{get_or-set_same, get_or-set_other}
 use Rattle.flat_machine.specs.Flat.{Flat, Holder, Worker, Ticket, Block, Shut, with_pair, without_pair, IsArrays, for_block, for_shut, IsFree}
@@ -125,7 +125,7 @@ free_iff v F s rep = (there, λ free. go free (has_no_holder (kept_at v.array s)
     go : IsFree F s → (b : Bool) → has_no_holder (kept_at v.array s) (hand_at v.hands s) ≡ b → b ≡ true
     go free true e = refl
     go free false e =
-        let held = (taken_case v F 0 s e rep).1.0 in
+        let held = (taken_case v F 0 s e rep).1 in
         let both : true ≡ false = sym held.1 ∙ free held.0 in
         cc
 

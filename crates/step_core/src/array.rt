@@ -181,8 +181,14 @@ impl<D: Drive, C: Hold> Array<D, C> {
 
     /// The block whose newest place the slot is, if any.
     pub fn block_at(&self, slot: u16) -> Option<u32>
+        ensures { IsBlockAt (key_at self.now) slot result }
+    {
+        self.placed(slot)
+    }
+
+    fn placed(&self, slot: u16) -> Option<u32>
         ensures value { result ≡ block_in (kept_at self.now slot) }
-        ensures lies { IsBlockAt (key_at self.now) slot result }
+        ensures whole { IsWhole self.now }
     {
         match &self.places[usize::from(slot)] {
             Place::Free => None,
