@@ -7,7 +7,7 @@ use Rattle.extent_groups.specs.Stores.{IsSlotOf}
 use Rattle.flat_machine.specs.Flat.{Flat, Content, Waiting, IsFree}
 use Rattle.flat_machine.specs.Flat as f
 use Rattle.flat_machine.specs.Steps.{FlatAnswer, Committed}
-use Rattle.flat_machine.specs.Steps as s
+use Rattle.flat_machine.specs.Steps as step
 use Rattle.flat_machine.specs.Cases.{Case}
 use Rattle.migrator.specs.Ages.{written, IsOldest}
 use Rattle.migrator.specs.Slots.{End, end_at, IsMirrored}
@@ -166,6 +166,6 @@ order_behind order b _ _ = order
 
 -- a commit by itself, noted where it is a write
 pub record CommitNoted (T : Tiered) (w s b : ℕ) (answer : FlatAnswer) (U : Tiered) : Type 0 where
-  pub case : Case T.flat (s.Commit w s b) answer U.flat
+  pub case : Case T.flat (step.Commit w s b) answer U.flat
   pub noted : U.order ≡ order_behind T.order b (T.flat.tickets s) answer
   pub same : U.end ≡ T.end

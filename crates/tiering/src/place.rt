@@ -22,7 +22,7 @@ pub(crate) fn place(
     payload: Option<&[u8]>,
 ) -> Result<Outcome, AllocError>
     requires block { block < world.old.array.parts.groups.blocks }
-    requires payload { IsSizedFor world.old.array.parts.groups.payload payload.entry }
+    requires payload { IsSizedFor world.old.array.parts.groups.payload payload }
     ensures ok { IfOk result (λ outcome. (F : Flat) → Represents world.old F
         → (G : Flat) × PlaceCase F worker slot block (put_of payload.entry) outcome G × Represents world.new G) }
     ensures err { OnErr result ((F : Flat) → Represents world.old F
