@@ -1,10 +1,10 @@
 -- A block goes into a slot: the slot is claimed, filled or copied into, and committed; then the block's old place is given back. Where
 -- the array refuses, the slot is given back.
-use Rattle.std.specs.Prelude.{◌≡◌, ◌⊎◌, ℕ, List, [], ◌∷◌, length, true, Option, Some, None}
+use Rattle.std.specs.Prelude.{◌≡◌, ◌⊎◌, ℕ, List, [], ◌∷◌, Option, Some, None}
 use Rattle.std.specs.Borrow.{Bor}
 use Rattle.map_join.specs.declared.records.Record.{Record}
 use Rattle.flat_machine.specs.declared.refusal.Refusal.{Refusal}
-use Rattle.flat_machine.specs.Flat.{Flat, Content, Payload, Worker, IsNewest}
+use Rattle.flat_machine.specs.Flat.{Flat, Content, Payload, IsNewest}
 use Rattle.flat_machine.specs.Steps.{FlatStep, FlatAnswer, Claimed, Taken, Released, Filled, Copied, Committed, Discarded}
 use Rattle.flat_machine.specs.Steps as step
 use Rattle.flat_machine.specs.Cases.{Runs}
@@ -70,28 +70,3 @@ PlaceStops F w s b what G =
     Runs F (step.Claim w s ∷ step.Release w s ∷ []) (Claimed s ∷ Released s ∷ []) G
     ⊎ Runs F (step.Claim w s ∷ put_step what w s b ∷ step.Discard w s ∷ step.Release w s ∷ [])
         (Claimed s ∷ put_answer what s ∷ Discarded s ∷ Released s ∷ []) G
-
--- the ticket of a slot ends, and the slot is given back
-abbrev pub GivesUp : Flat → ℕ → ℕ → Flat → Type 0
-GivesUp F w s G = Runs F (step.Discard w s ∷ step.Release w s ∷ []) (Discarded s ∷ Released s ∷ []) G
-
--- what comes of committing what waits in a slot
-pub record IsCommitted (F : Flat) (w s b : ℕ) (r : Record) (G : Flat) : Type 0 where
-  pub old : Option Record
-  pub newest : IsNewest F.emitted b old
-  pub run : Runs F (step.Commit w s b ∷ back_steps w old) (Committed r ∷ back_answers old) G
-
-abbrev pub CommitsIn : Flat → ℕ → ℕ → ℕ → Outcome → Flat → Type 0
-CommitsIn F w s b (Placed r) G = IsCommitted F w s b r G
-CommitsIn F w s b (Refused k) G = Runs F (step.Commit w s b ∷ step.Discard w s ∷ step.Release w s ∷ []) (step.Refused k ∷ Discarded s ∷ Released s ∷ []) G
-CommitsIn F w s b _ G = ⊥
-
--- the worker holds the place that a block had, if it had one
-abbrev pub HoldsOld : Flat → ℕ → Option Record → Type 0
-HoldsOld F w None = Unit {0}
-HoldsOld F w (Some old) = F.held old.place (Worker w) ≡ true
-
--- a payload that is lent fits the units
-abbrev pub IsSizedFor : ℕ → Option (Bor (List ℕ)) → Type 0
-IsSizedFor size None = Unit {0}
-IsSizedFor size (Some payload) = length payload.now ≡ size

@@ -1,0 +1,2 @@
+pub mod Placings
+pub mod Standing

@@ -1,0 +1,1 @@
+-- What stands for a flat state, behind each part of a step.
