@@ -6,7 +6,7 @@ use Rattle.flat_machine.specs.declared.refusal.Refusal.{Refusal}
 use Rattle.flat_machine.specs.Flat.{Flat, Worker, IsNewest}
 use Rattle.flat_machine.specs.Steps.{FlatAnswer, Released, Committed, Discarded}
 use Rattle.flat_machine.specs.Steps as step
-use Rattle.flat_machine.specs.Cases.{Runs}
+use Rattle.flat_machine.specs.Cases.{Case, Runs}
 use Rattle.array_model.specs.Views.{WorldView, kept_at, hand_at, has_no_holder}
 use Rattle.step_core.specs.declared.step.Answer.{Answer}
 use Rattle.step_core.specs.declared.step.Answer.TheVariants as answer
@@ -38,11 +38,17 @@ outcome_of _ = Nothing
 abbrev pub GivesUp : Flat → ℕ → ℕ → Flat → Type 0
 GivesUp F w s G = Runs F (step.Discard w s ∷ step.Release w s ∷ []) (Discarded s ∷ Released s ∷ []) G
 
--- what comes of committing what waits in a slot
+-- what comes of committing what waits in a slot, and of giving back what it leaves
 pub record IsCommitted (F : Flat) (w s b : ℕ) (r : Record) (G : Flat) : Type 0 where
   pub old : Option Record
   pub newest : IsNewest F.emitted b old
   pub run : Runs F (step.Commit w s b ∷ back_steps w old) (Committed r ∷ back_answers old) G
+
+-- what comes of a commit
+abbrev pub CommitIs : Flat → ℕ → ℕ → ℕ → Outcome → Flat → Type 0
+CommitIs F w s b (Placed r) G = Case F (step.Commit w s b) (Committed r) G
+CommitIs F w s b (Refused k) G = Case F (step.Commit w s b) (step.Refused k) G
+CommitIs F w s b _ G = ⊥
 
 abbrev pub CommitsIn : Flat → ℕ → ℕ → ℕ → Outcome → Flat → Type 0
 CommitsIn F w s b (Placed r) G = IsCommitted F w s b r G
