@@ -1,2 +1,3 @@
 pub mod Placings
+pub mod Counts
 pub mod Standing

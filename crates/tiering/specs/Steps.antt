@@ -160,12 +160,12 @@ TierStops T (Plug w) U = PutStops T w Again U
 TierStops T (Clean w) U = PutStops T w Again U
 
 -- the order of last writes behind a commit, by what waited in the slot: a commit of a fresh content is a write
-abbrev pub order_behind : List ℕ → ℕ → Option Waiting → FlatAnswer → List ℕ
-order_behind order b (Some (f.Fresh x)) (Committed r) = written order b
+abbrev pub order_behind : List ℕ → ℕ → FlatAnswer → Option Waiting → List ℕ
+order_behind order b (Committed r) (Some (f.Fresh x)) = written order b
 order_behind order b _ _ = order
 
 -- a commit by itself, noted where it is a write
 pub record CommitNoted (T : Tiered) (w s b : ℕ) (answer : FlatAnswer) (U : Tiered) : Type 0 where
   pub case : Case T.flat (step.Commit w s b) answer U.flat
-  pub noted : U.order ≡ order_behind T.order b (T.flat.tickets s) answer
+  pub noted : U.order ≡ order_behind T.order b answer (T.flat.tickets s)
   pub same : U.end ≡ T.end

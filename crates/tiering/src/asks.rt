@@ -1,6 +1,8 @@
 // What the plans ask of a running array, answered by its tables.
 ghost use Rattle.std.specs.Prelude.{◌≡◌, true};
+ghost use Rattle.std.specs.Prelude.{◌↔◌, IsTrue};
 ghost use Rattle.array_model.specs.Views.{key_at};
+ghost use Rattle.map_join.specs.Live.{IsLive};
 ghost use Rattle.tiering.specs.Inside.{IsFreeHere};
 
 use extent_groups::SLOTS;
@@ -37,12 +39,19 @@ impl<'a> Live for Running<'a> {
     fn count_live(&self, group: u16, slots: u16) -> u16 {
         let mut count = 0;
         for index in 0..slots {
-            if self.world.array().block_at(SLOTS * group + index).is_some() {
+            if is_live(self.world, SLOTS * group + index) {
                 count += 1;
             }
         }
         count
     }
+}
+
+// Whether the slot is the newest place of a block.
+fn is_live(world: &World, slot: u16) -> bool
+    ensures { IsTrue result ↔ IsLive (key_at world.now.array) slot }
+{
+    world.array().block_at(slot).is_some()
 }
 
 impl<'a> Free for Running<'a> {

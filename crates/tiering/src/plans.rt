@@ -8,7 +8,7 @@ ghost use Rattle.migrator.specs.Slots.{IsMirrored};
 ghost use Rattle.tiering.specs.Inside.{IsFreeHere};
 ghost use Rattle.tiering.specs.Placing.{Again};
 ghost use Rattle.tiering.specs.Stands.{StandsFor};
-ghost use Rattle.tiering.specs.Steps.{AppendsAt, PutStops, TierCase, TierStops};
+ghost use Rattle.tiering.specs.Steps.{AppendsAt, PutStops, TierCase, TierStops, end_after};
 ghost use Rattle.tiering.specs.Steps as t;
 ghost use Rattle.tiering.specs.Tiered.{Tiered};
 
@@ -16,7 +16,7 @@ use crate::asks::{Any, Running};
 use crate::place::place;
 use crate::{Outcome, Tiers};
 use cleaner::{Move, clean_plan, plug_plan};
-use migrator::first_append;
+use migrator::{LogEnd, first_append};
 use std::alloc::{AllocError, Global};
 
 impl Tiers {
@@ -79,11 +79,13 @@ impl Tiers {
         ensures err { OnErr result ((T : Tiered) → StandsFor self.old T → (U : Tiered) × PutStops T worker Again U × StandsFor self.new U) }
         ensures room { SameSizes self.old.world.array self.new.world.array }
     {
-        let outcome = place(&mut self.world, alloc, worker, slot, block, None)?;
-        if let Outcome::Placed(_) = outcome {
-            self.end.appended(slot);
+        match place(&mut self.world, alloc, worker, slot, block, None) {
+            Ok(outcome) => {
+                note_end(&mut self.end, slot, &outcome);
+                Ok(outcome)
+            }
+            Err(_) => Err(AllocError),
         }
-        Ok(outcome)
     }
 
     // The block in a mirrored group that was written longest ago.
@@ -123,5 +125,14 @@ impl Tiers {
         let groups = self.world.array().groups();
         let append = first_append(&self.end, groups, &running, &Any);
         clean_plan(groups, &running, self.end.group(), append)
+    }
+}
+
+// Notes where the log goes on behind a move to the slot, by what came of it.
+fn note_end(end: &mut LogEnd, slot: u16, outcome: &Outcome)
+    ensures { end.new ≡ end_after end.old slot outcome.now }
+{
+    if let Outcome::Placed(_) = outcome {
+        end.appended(slot);
     }
 }

@@ -6,9 +6,11 @@ ghost use Rattle.flat_machine.specs.Flat.{Flat};
 ghost use Rattle.migrator.specs.Ages.{written};
 ghost use Rattle.step_core.specs.Told.{flat_answer};
 ghost use Rattle.tiering.specs.Stands.{StandsFor};
-ghost use Rattle.tiering.specs.Steps.{CommitNoted};
+ghost use Rattle.tiering.specs.Inside.{order_told};
+ghost use Rattle.tiering.specs.Steps.{CommitNoted, order_after};
 ghost use Rattle.tiering.specs.Tiered.{Tiered, begun};
 
+use crate::Outcome;
 use migrator::{LogEnd, Recency};
 use std::alloc::{AllocError, Global};
 use step_core::{Answer, World};
@@ -53,18 +55,37 @@ impl Tiers {
         ensures room { SameSizes self.old.world.array self.new.world.array }
     {
         let answer = self.world.commit(alloc, worker, slot, block)?;
-        if let Answer::Committed(record) = &answer {
-            if record.hop == 0 {
-                note(&mut self.recency, block);
-            }
-        }
+        note_answer(&mut self.recency, block, &answer);
         Ok(answer)
     }
 }
 
+// Notes a commit of a fresh payload, whose record has no hop.
+fn note_answer(recency: &mut Recency, block: u32, answer: &Answer)
+    ensures order { block < length recency.old → recency.new ≡ order_told recency.old block answer.now }
+    ensures long { length recency.new ≡ length recency.old }
+{
+    if let Answer::Committed(record) = answer {
+        if record.hop == 0 {
+            note(recency, block);
+        }
+    }
+}
+
+// Notes a write by what came of it.
+pub(crate) fn note_write(recency: &mut Recency, block: u32, outcome: &Outcome)
+    ensures order { block < length recency.old → recency.new ≡ order_after recency.old block outcome.now }
+    ensures long { length recency.new ≡ length recency.old }
+{
+    if let Outcome::Placed(_) = outcome {
+        note(recency, block);
+    }
+}
+
 // Notes a write of a block that is there.
-pub(crate) fn note(recency: &mut Recency, block: u32)
-    ensures { block < length recency.old → recency.new ≡ written recency.old block }
+fn note(recency: &mut Recency, block: u32)
+    ensures order { block < length recency.old → recency.new ≡ written recency.old block }
+    ensures long { length recency.new ≡ length recency.old }
 {
     if (block as usize) < recency.len() {
         recency.wrote(block);

@@ -1,5 +1,5 @@
 //! Blocks that are written into the mirrored level.
-ghost use Rattle.std.specs.Prelude.{◌≡◌, ◌<◌, IfOk, OnErr, length};
+ghost use Rattle.std.specs.Prelude.{◌≡◌, ℕ, ◌<◌, IfOk, OnErr, Option, length};
 ghost use Rattle.array_model.specs.Views.{SameSizes};
 ghost use Rattle.extent_groups.specs.declared.class.Class.TheVariants.{Mirrored};
 ghost use Rattle.extent_groups.specs.Stores.{IsSlotOf};
@@ -8,13 +8,13 @@ ghost use Rattle.migrator.specs.First.{IsFirst};
 ghost use Rattle.tiering.specs.Inside.{IsFreeHere};
 ghost use Rattle.tiering.specs.Placing.{Fresh};
 ghost use Rattle.tiering.specs.Stands.{StandsFor};
-ghost use Rattle.tiering.specs.Steps.{PutStops, TierCase, TierStops, WritesAt};
+ghost use Rattle.tiering.specs.Steps.{IsFreeMirror, PutStops, TierCase, TierStops, WritesAt, WritesIn};
 ghost use Rattle.tiering.specs.Steps as t;
 ghost use Rattle.tiering.specs.Tiered.{Tiered};
 
 use crate::asks::Running;
 use crate::place::place;
-use crate::tiers::note;
+use crate::tiers::note_write;
 use crate::{Outcome, Tiers};
 use migrator::first_mirror;
 use std::alloc::{AllocError, Global};
@@ -40,7 +40,28 @@ impl Tiers {
         if let Some(slot) = self.free_mirror() {
             return self.write_at(alloc, worker, block, slot, payload);
         }
-        let _demoted = self.demote(alloc, worker)?;
+        match self.demote(alloc, worker) {
+            Ok(_) => self.write_behind(alloc, worker, block, payload),
+            Err(_) => Err(AllocError),
+        }
+    }
+
+    // Looks for a slot once more.
+    fn write_behind(
+        &mut self,
+        alloc: Global,
+        worker: u8,
+        block: u32,
+        payload: &[u8],
+    ) -> Result<Outcome, AllocError>
+        requires block { block < self.old.world.array.parts.groups.blocks }
+        requires payload { length payload.now ≡ self.old.world.array.parts.groups.payload }
+        ensures ok { IfOk result (λ outcome. (T : Tiered) → StandsFor self.old T → (slot : Option ℕ) × IsFirst (IsFreeMirror T.flat) slot
+            × ((U : Tiered) × WritesIn T worker block (Payload payload.now) slot outcome U × StandsFor self.new U)) }
+        ensures err { OnErr result ((T : Tiered) → StandsFor self.old T
+            → (U : Tiered) × PutStops T worker (Fresh (Payload payload.now)) U × StandsFor self.new U) }
+        ensures room { SameSizes self.old.world.array self.new.world.array }
+    {
         match self.free_mirror() {
             Some(slot) => self.write_at(alloc, worker, block, slot, payload),
             None => Ok(Outcome::NoRoom),
@@ -64,11 +85,13 @@ impl Tiers {
             → (U : Tiered) × PutStops T worker (Fresh (Payload payload.now)) U × StandsFor self.new U) }
         ensures room { SameSizes self.old.world.array self.new.world.array }
     {
-        let outcome = place(&mut self.world, alloc, worker, slot, block, Some(payload))?;
-        if let Outcome::Placed(_) = outcome {
-            note(&mut self.recency, block);
+        match place(&mut self.world, alloc, worker, slot, block, Some(payload)) {
+            Ok(outcome) => {
+                note_write(&mut self.recency, block, &outcome);
+                Ok(outcome)
+            }
+            Err(_) => Err(AllocError),
         }
-        Ok(outcome)
     }
 
     // The lowest free slot of mirrored groups.
