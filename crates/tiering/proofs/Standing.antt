@@ -36,7 +36,7 @@ use Rattle.tiering.specs.declared.tiers.Tiers.{Tiers}
 groups_of : (t : Tiers) (T : Tiered) → StandsFor t T → T.flat.groups ≡ t.world.array.parts.groups
 groups_of t T stands = stands.world.array.tables.groups
 
-same_blocks : (u v : WorldView) (F G : Flat) → Represents u F → Represents v G → SameSizes u.array v.array → G.groups.blocks ≡ F.groups.blocks
+pub same_blocks : (u v : WorldView) (F G : Flat) → Represents u F → Represents v G → SameSizes u.array v.array → G.groups.blocks ≡ F.groups.blocks
 same_blocks u v F G before after same =
     ap (λ (z : Groups). z.blocks) after.array.tables.groups ∙ same.blocks ∙ sym (ap (λ (z : Groups). z.blocks) before.array.tables.groups)
 
@@ -379,3 +379,8 @@ notes t u w s b a inside commits same order long end T stands =
         end = end ∙ stands.end;
       },
     )
+
+-- another world stands beside what is kept, with as many blocks
+pub stands_with : (t : Tiers) (v : WorldView) (T : Tiered) (G : Flat) → StandsFor t T → Represents v G → G.groups.blocks ≡ T.flat.groups.blocks
+    → StandsFor (record t { world = v }) (record T { flat = G })
+stands_with t v T G stands rep same = record { world = rep; order = stands.order; long = stands.long ∙ sym same; end = stands.end }
