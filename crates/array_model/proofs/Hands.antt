@@ -1,5 +1,5 @@
 -- Workers claim and release, and the array stands for the state after it as it stood before.
-use Rattle.std.proofs.Common.{◌≡◌, ℕ, ◌<◌, Bool, true, false, not, length, refl, sym, ap, ◌∙◌, subst}
+use Rattle.std.proofs.Common.{◌↔◌, ◌≡◌, ℕ, ◌<◌, Bool, true, false, not, length, refl, sym, ap, ◌∙◌, subst}
 use Rattle.std.proofs.Math.ListN.{set}
 use Rattle.std.proofs.lemmas.List.{get_or-set_same, get_or-set_other}
 use Rattle.flat_machine.specs.Flat.{Flat, Holder, Worker, Ticket, Block, Shut, with_pair, without_pair, IsArrays, for_block, for_shut, IsFree}
@@ -114,6 +114,20 @@ taken_case v F w s held rep = (refl, holder (hand_at v.hands s) refl, itself F)
         (k.0, k.2)
     holder (Holds u) e = (Worker u, (rep.hands s).claims u ∙ ap (λ h. is_claim h u) e ∙ equal u u refl)
     holder (Waits u) e = (Ticket u, (rep.hands s).tickets u ∙ ap (λ h. is_ticket h u) e ∙ equal u u refl)
+
+-- so the tables tell just which slots are free
+pub free_iff : (v : WorldView) (F : Flat) (s : ℕ) → Represents v F → has_no_holder (kept_at v.array s) (hand_at v.hands s) ≡ true ↔ IsFree F s
+free_iff v F s rep = (there, λ free. go free (has_no_holder (kept_at v.array s) (hand_at v.hands s)) refl)
+  where
+    there : has_no_holder (kept_at v.array s) (hand_at v.hands s) ≡ true → IsFree F s
+    there is = let none = no_hand (kept_at v.array s) (hand_at v.hands s) is in free_holder v F s rep none.0 none.1
+
+    go : IsFree F s → (b : Bool) → has_no_holder (kept_at v.array s) (hand_at v.hands s) ≡ b → b ≡ true
+    go free true e = refl
+    go free false e =
+        let held = (taken_case v F 0 s e rep).1 in
+        let both : true ≡ false = sym held.1 ∙ free held.0 in
+        cc
 
 nobody_hand : (h : Holder → Bool) → IsNobodys Any h → HandSlot Empty h
 nobody_hand h free = record { claims = λ w. free (Worker w) tt; tickets = λ w. free (Ticket w) tt }

@@ -1,11 +1,12 @@
 -- The newest record of a block, told from the array's key.
-use Rattle.std.proofs.Common.{◌≡◌, ℕ, zero, suc, ◌<◌, ◌≤◌, List, [], ◌∷◌, length, get_or, refl, sym, ◌∙◌, subst, arith, ◌⊎◌, inl, inr, Option}
+use Rattle.std.proofs.Common.{◌≡◌, ◌≢◌, ℕ, zero, suc, ◌<◌, ◌≤◌, List, [], ◌∷◌, length, get_or, refl, sym, ap, ◌∙◌, subst, arith, ◌⊎◌, inl, inr, Option, Some, None}
 use Rattle.map_join.specs.declared.records.Record.{Record}
-use Rattle.map_join.specs.Record.{record_at}
+use Rattle.map_join.specs.Record.{record_of, record_at}
+use Rattle.map_join.specs.Live.{IsLive, IsBlockAt}
 use Rattle.map_join.specs.Maps.{IsSame}
 use Rattle.flat_machine.specs.Flat.{Flat, IsNewest}
 use Rattle.flat_machine.proofs.Newest as flat
-use Rattle.array_model.specs.Views.{ArrayView, key_at, IsRoomy}
+use Rattle.array_model.specs.Views.{Kept, Nothing, Pending, Moving, Newest, ArrayView, block_in, kept_at, key_at, IsRoomy, IsWhole}
 use Rattle.array_model.specs.Represents.{ShowsArray}
 
 -- the block's key tells its newest record
@@ -33,3 +34,39 @@ map_whole a M i room end before rest b = go (side b i)
     go : (b < i) ⊎ (i ≤ b) → M b ≡ key_at a b
     go (inl h) = before b h
     go (inr h) = let e = room.keys in rest b h ∙ sym (get_or_past a.keys b 0 (omega arith))
+
+-- a slot that is a block's newest place is told as that block's, and no other slot is live
+pub lies_at : (a : ArrayView) (s : ℕ) → IsWhole a → IsBlockAt (key_at a) s (block_in (kept_at a s))
+lies_at a s whole = go (kept_at a s) refl
+  where
+    other : (k : Kept) → kept_at a s ≡ k → ((b : ℕ) → k ≢ Newest b) → IsLive (key_at a) s → ⊥
+    other k e nobody live =
+        let key = flat.told_key live.0 (key_at a live.0) live.1.0 live.1.1 in
+        let is : kept_at a (record_of live.0 (key_at a live.0)).place ≡ Newest live.0 = whole.newest live.0 (omega (arith, key.0)) in
+        let same : (record_of live.0 (key_at a live.0)).place ≡ s = ap (λ (r : Record). r.place) key.1 ∙ live.1.2 in
+        nobody live.0 (sym e ∙ (sym (ap (kept_at a) same) ∙ is))
+
+    go : (k : Kept) → kept_at a s ≡ k → IsBlockAt (key_at a) s (block_in k)
+    go Nothing e = other Nothing e (λ b is. cc)
+    go Pending e = other Pending e (λ b is. cc)
+    go (Moving r) e = other (Moving r) e (λ b is. cc)
+    go (Newest b) e =
+        let only = whole.only s b e in
+        (record_of b (key_at a b), flat.told_at b (key_at a b) (whole.keys b only.0), only.1)
+
+-- a number past the array's blocks has no record
+pub told_past : (a : ArrayView) (b : ℕ) → IsRoomy a → a.parts.groups.blocks ≤ b → record_at b (key_at a b) ≡ None
+told_past a b room past =
+    let wide = room.keys in
+    ap (record_at b) (get_or_past a.keys b 0 (omega (arith, wide)))
+
+-- so a block that has one is one of the array's
+pub block_inside : (a : ArrayView) (b : ℕ) (r : Record) → IsRoomy a → record_at b (key_at a b) ≡ Some r → b < a.parts.groups.blocks
+block_inside a b r room is = go (side b a.parts.groups.blocks)
+  where
+    side : (m n : ℕ) → (m < n) ⊎ (n ≤ m)
+    side m n = grind arith
+
+    go : (b < a.parts.groups.blocks) ⊎ (a.parts.groups.blocks ≤ b) → b < a.parts.groups.blocks
+    go (inl l) = l
+    go (inr past) = let none : None ≡ Some r = sym (told_past a b room past) ∙ is in absurd (cc)

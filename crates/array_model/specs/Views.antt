@@ -1,5 +1,5 @@
 -- What contracts see of an array and of a world: plain data, without claims.
-use Rattle.std.specs.Prelude.{◌≡◌, ◌≢◌, ℕ, ◌<◌, ◌≤◌, ◌^◌, Bool, true, false, not, List, [], slice_index, slice_index_or, length, None}
+use Rattle.std.specs.Prelude.{◌≡◌, ◌≢◌, ℕ, ◌<◌, ◌≤◌, ◌^◌, Bool, true, false, not, List, [], slice_index, slice_index_or, length, Option, Some, None}
 use Rattle.map_join.specs.declared.records.Record.{Record}
 use Rattle.map_join.specs.Record.{record_of}
 use Rattle.extent_groups.specs.Groups.{Agree}
@@ -23,6 +23,13 @@ is_kept Nothing = false
 is_kept Pending = true
 is_kept (Moving r) = true
 is_kept (Newest block) = true
+
+-- the block whose newest place the slot is, if any
+abbrev pub block_in : Kept → Option ℕ
+block_in Nothing = None
+block_in Pending = None
+block_in (Moving r) = None
+block_in (Newest block) = Some block
 
 -- a ticket waits at the slot
 abbrev pub is_waiting : Kept → Bool

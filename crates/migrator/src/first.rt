@@ -1,10 +1,12 @@
 // The first free slot where the log goes on, without a list of them all.
 ghost use Rattle.std.specs.Prelude.{◌≡◌, ◌↔◌, ℕ, ◌/◌, ◌<◌, ◌≤◌, IsTrue, MatchOption};
+ghost use Rattle.extent_groups.specs.declared.class.Class.TheVariants.{Mirrored};
+ghost use Rattle.extent_groups.specs.Stores.{IsSlotOf};
 ghost use Rattle.migrator.specs.First.{IsFirst, IsFirstAppend, IsFreePick};
 
 use crate::LogEnd;
 use crate::append::{Fresh, GoingOn};
-use crate::slots::{Picks, count_of};
+use crate::slots::{Every, Picks, count_of};
 use extent_groups::{Class, GROUPS, GroupTable, SLOTS};
 use map_join::Live;
 
@@ -32,6 +34,13 @@ pub fn first_append<L: Live, F: Free>(
         None => {}
     }
     first_picked(groups, Class::Parity, &Fresh { end, groups, live }, free)
+}
+
+/// The lowest free slot of mirrored groups. It takes no memory.
+pub fn first_mirror<F: Free>(groups: &GroupTable, free: &F) -> Option<u16>
+    ensures { IsFirst (λ slot. IsSlotOf Mirrored groups.now slot × F.free free.now slot) result }
+{
+    first_picked(groups, Class::Mirrored, &Every, free)
 }
 
 // The lowest slot of a class that is picked and free.

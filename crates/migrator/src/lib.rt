@@ -10,7 +10,7 @@ mod recency;
 mod slots;
 
 pub use append::append_slots;
-pub use first::{Free, first_append};
+pub use first::{Free, first_append, first_mirror};
 pub use laws::{age_law, mark_law};
 pub use log_end::{LogEnd, wants_demotion};
 pub use marked_ages::MarkedAges;

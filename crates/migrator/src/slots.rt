@@ -24,8 +24,8 @@ pub(crate) trait Picks {
         ensures { IsTrue result ↔ slot_is self.now slot };
 }
 
-/// Every slot.
-struct Every;
+//// Every slot.
+pub(crate) struct Every;
 
 impl Picks for Every {
     ghost group_is = { λ every group. Unit {0} };

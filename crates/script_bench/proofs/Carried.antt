@@ -7,13 +7,19 @@ use Rattle.map_join.specs.Maps.{Entries, at, IsDifference}
 use Rattle.flat_machine.specs.Flat.{Flat, put}
 use Rattle.flat_machine.specs.Steps.{FlatStep, FlatAnswer}
 use Rattle.flat_machine.specs.Cases.{Case}
-use Rattle.step_core.specs.Views.{WorldView}
+use Rattle.step_core.specs.Views.{WorldView, SameSizes}
+use Rattle.tiering.specs.Tiered.{Tiered}
+use Rattle.tiering.specs.Steps.{TierStep, TierCase, CommitNoted}
+use Rattle.tiering.specs.Stands.{StandsFor}
+use Rattle.tiering.specs.declared.outcome.Outcome.{Outcome}
+use Rattle.tiering.specs.declared.tiers.Tiers.{Tiers}
+use Rattle.tiering.proofs.Standing.{same_blocks, stands_with}
 use Rattle.step_core.specs.Represents.{Represents}
 use Rattle.script_words.specs.Order.{Order}
 use Rattle.script_words.specs.Order as o
 use Rattle.script_bench.specs.State.{Position, State}
-use Rattle.script_bench.specs.Answers.{Answers, Steps, with_taken}
-use Rattle.script_bench.specs.Text.{answer_text, asked_version, difference_text, record_text}
+use Rattle.script_bench.specs.Answers.{Answers, Steps, TierSteps, with_flat, with_taken}
+use Rattle.script_bench.specs.Text.{answer_text, asked_version, difference_text, outcome_text, record_text}
 use Rattle.script_bench.specs.Carrying.{AreMapsOf, Carries, IsCarried, IsMap, StandsAt}
 use Rattle.script_bench.specs.declared.bench.Bench.{Bench}
 use Rattle.script_bench.proofs.Benches.{put_here}
@@ -22,31 +28,70 @@ use Rattle.script_bench.proofs.Benches.{put_here}
 abbrev pub Took : Flat → FlatStep → FlatAnswer → WorldView → Type 0
 Took F step answer after = (G : Flat) × (Case F step answer G) × (Represents after G)
 
+-- the bench with another world
+abbrev pub with_world : Bench → WorldView → Bench
+with_world bench v = record bench { tiers = record bench.tiers { world = v } }
+
 -- a step that was told carries its command out
-pub told_step : {E : Type 0} (r : Result (Unit {0}) E) (before after : Bench) (order : Order) (step : FlatStep) (answer : FlatAnswer)
+pub told_step : {E : Type 0} (r : Result (Unit {0}) E) (before : Bench) (v : WorldView) (order : Order) (step : FlatStep) (answer : FlatAnswer)
     (old new : List ℕ) → OnOk r (new ≡ old ++ answer_text (asked_version step) answer)
-    → ((P : Position) → StandsAt before P → Took P.flat step answer after.world)
-    → ((P : Position) → StandsAt before P → AreMapsOf after.maps P.taken)
+    → ((P : Position) → StandsAt before P → Took P.tiers.flat step answer v)
+    → SameSizes before.tiers.world.array v.array
     → ((P : Position) (text : List ℕ) (t : State) → Steps P step text t → Answers (Some P) order text t)
-    → OnOk r (Carries before after order old new)
-told_step (Ok u) before after order step answer old new ok takes maps answers = λ P stands.
+    → OnOk r (Carries before (with_world before v) order old new)
+told_step (Ok u) before v order step answer old new ok takes same answers = λ P stands.
     let took = takes P stands in record {
       text = answer_text (asked_version step) answer;
-      next = Some (record P { flat = took.0 });
-      answers = answers P (answer_text (asked_version step) answer) (Some (record P { flat = took.0 }))
+      next = Some (with_flat P took.0);
+      answers = answers P (answer_text (asked_version step) answer) (Some (with_flat P took.0))
           (record { answer = answer; next = took.0; case = took.1; text_is = refl; state_is = refl });
-      stands = record { world = took.2; maps = maps P stands };
+      stands = record {
+        tiers = stands_with before.tiers v P.tiers took.0 stands.tiers took.2 (same_blocks before.tiers.world v P.tiers.flat took.0 stands.tiers.world took.2 same);
+        maps = stands.maps;
+      };
       out = ok;
     }
-told_step (Err e) before after order step answer old new ok takes maps answers = tt
+told_step (Err e) before v order step answer old new ok takes same answers = tt
+
+-- a commit that was told
+pub told_commit : {E : Type 0} (r : Result (Unit {0}) E) (before : Bench) (u : Tiers) (worker slot block : ℕ) (answer : FlatAnswer) (old new : List ℕ)
+    → OnOk r (new ≡ old ++ answer_text 0 answer)
+    → ((T : Tiered) → StandsFor before.tiers T → (U : Tiered) × CommitNoted T worker slot block answer U × StandsFor u U)
+    → OnOk r (Carries before (record before { tiers = u }) (o.Commit worker slot block) old new)
+told_commit (Ok x) before u worker slot block answer old new ok commits = λ P stands.
+    let done = commits P.tiers stands.tiers in record {
+      text = answer_text 0 answer;
+      next = Some (record P { tiers = done.0 });
+      answers = record { answer = answer; next = done.0; case = done.1; text_is = refl; state_is = refl };
+      stands = record { tiers = done.2; maps = stands.maps };
+      out = ok;
+    }
+told_commit (Err e) before u worker slot block answer old new ok commits = tt
+
+-- a step by a plan that was told
+pub told_tier : {E : Type 0} (r : Result (Unit {0}) E) (before : Bench) (u : Tiers) (order : Order) (step : TierStep) (outcome : Outcome) (old new : List ℕ)
+    → OnOk r (new ≡ old ++ outcome_text outcome)
+    → ((T : Tiered) → StandsFor before.tiers T → (U : Tiered) × TierCase T step outcome U × StandsFor u U)
+    → ((P : Position) (text : List ℕ) (t : State) → TierSteps P step text t → Answers (Some P) order text t)
+    → OnOk r (Carries before (record before { tiers = u }) order old new)
+told_tier (Ok x) before u order step outcome old new ok steps answers = λ P stands.
+    let done = steps P.tiers stands.tiers in record {
+      text = outcome_text outcome;
+      next = Some (record P { tiers = done.0 });
+      answers = answers P (outcome_text outcome) (Some (record P { tiers = done.0 }))
+          (record { outcome = outcome; next = done.0; case = done.1; text_is = refl; state_is = refl });
+      stands = record { tiers = done.2; maps = stands.maps };
+      out = ok;
+    }
+told_tier (Err e) before u order step outcome old new ok steps answers = tt
 
 -- a record that a map took, and was told
-pub took_record : (P : Position) (world : WorldView) (maps : List Entries) (map : ℕ) (r newest : Record) (old new : List ℕ)
-    → IsMap map → Represents world P.flat
+pub took_record : (P : Position) (tiers : Tiers) (maps : List Entries) (map : ℕ) (r newest : Record) (old new : List ℕ)
+    → IsMap map → StandsFor tiers P.tiers
     → AreMapsOf maps (put P.taken map (P.taken map ++ r ∷ [])) → record_at r.block (at (slice_index_or maps map []) r.block) ≡ Some newest
     → new ≡ old ++ (codes "took " ++ record_text newest)
-    → IsCarried (Some P) (Some (record { world = world; maps = maps })) (o.Take map r) old new
-took_record P world maps map r newest old new is_map shows are told out = record {
+    → IsCarried (Some P) (Some (record { tiers = tiers; maps = maps })) (o.Take map r) old new
+took_record P tiers maps map r newest old new is_map shows are told out = record {
   text = codes "took " ++ record_text newest;
   next = Some (with_taken P map (P.taken map ++ r ∷ []));
   answers = record {
@@ -57,19 +102,19 @@ took_record P world maps map r newest old new is_map shows are told out = record
     text_is = refl;
     state_is = refl;
   };
-  stands = record { world = shows; maps = are };
+  stands = record { tiers = shows; maps = are };
   out = out;
 }
 
 -- a map that was joined with another
-pub merged_maps : (P : Position) (world : WorldView) (maps : List Entries) (into from : ℕ) (old new : List ℕ)
-    → Represents world P.flat → AreMapsOf maps (put P.taken into (P.taken into ++ P.taken from))
-    → new ≡ old ++ codes "merged" → IsCarried (Some P) (Some (record { world = world; maps = maps })) (o.Merge into from) old new
-merged_maps P world maps into from old new shows are out = record {
+pub merged_maps : (P : Position) (tiers : Tiers) (maps : List Entries) (into from : ℕ) (old new : List ℕ)
+    → StandsFor tiers P.tiers → AreMapsOf maps (put P.taken into (P.taken into ++ P.taken from))
+    → new ≡ old ++ codes "merged" → IsCarried (Some P) (Some (record { tiers = tiers; maps = maps })) (o.Merge into from) old new
+merged_maps P tiers maps into from old new shows are out = record {
   text = codes "merged";
   next = Some (with_taken P into (P.taken into ++ P.taken from));
   answers = record { text_is = refl; state_is = refl };
-  stands = record { world = shows; maps = are };
+  stands = record { tiers = shows; maps = are };
   out = out;
 }
 

@@ -29,7 +29,7 @@ pub spelled_written : (order : Order) (line : List ℕ) → Spells order line �
 spelled_written order line s = of_write (behind_of order) s.follows.rest s.follows.behind
 
 -- a line that spells none of them says none
-pub unsaid : (P : Position) (size : ℕ) (line out : List ℕ) → P.flat.groups.payload ≡ size
+pub unsaid : (P : Position) (size : ℕ) (line out : List ℕ) → P.tiers.flat.groups.payload ≡ size
     → ((order : Order) → IsRead size line order → ⊥) → IsUnsaid (Some P) line out out
 unsaid P size line out e none = record {
   none = λ order said. none order (record { spells = said.spells; sized = rw e at said.due.1 });
@@ -66,8 +66,8 @@ unsaid_first size line out none = record {
 }
 
 -- a payload's buffer is as long as the payload
-pub buffer_size : (P : Position) (size : ℕ) (buffer : List ℕ) → P.flat.groups.payload ≡ size → size ≤ length buffer
-    → P.flat.groups.payload ≡ length (take size buffer)
+pub buffer_size : (P : Position) (size : ℕ) (buffer : List ℕ) → P.tiers.flat.groups.payload ≡ size → size ≤ length buffer
+    → P.tiers.flat.groups.payload ≡ length (take size buffer)
 buffer_size P size buffer e room = omega (arith, length-take size buffer)
 
 -- an order that isn't the array's has no rule of its own
@@ -76,7 +76,7 @@ fit_later (o.Array drives extents segments payload blocks) other = absurd (other
 fit_later _ other = tt
 
 -- a command that was read, may come and is within the limits, and was carried out, is replied to
-pub replied : (P : Position) (bench : Option Bench) (size blocks : ℕ) (line old new : List ℕ) (order : Order) → P.flat.groups.payload ≡ size → P.flat.groups.blocks ≡ blocks
+pub replied : (P : Position) (bench : Option Bench) (size blocks : ℕ) (line old new : List ℕ) (order : Order) → P.tiers.flat.groups.payload ≡ size → P.tiers.flat.groups.blocks ≡ blocks
     → IsRead size line order → (verb_of order ≡ verb.Array → ⊥) → IsWithin blocks order → IsCarried (Some P) bench order old new
     → IsReplied (Some P) bench line old new
 replied P bench size blocks line old new order long many read other within carried = record {

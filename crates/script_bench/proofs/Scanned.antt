@@ -15,8 +15,28 @@ use Rattle.step_core.specs.Adopted.{WasRestarted}
 use Rattle.header_scan.specs.Worlds.{IsToldOf}
 use Rattle.script_words.specs.Order as o
 use Rattle.script_bench.specs.Text.{fault_text, listing}
-use Rattle.script_bench.specs.Carrying.{Carries}
+use Rattle.script_bench.specs.Answers.{with_flat}
+use Rattle.script_bench.specs.State.{Position}
+use Rattle.script_bench.specs.Carrying.{Carries, StandsAt}
+use Rattle.script_bench.proofs.Carried.{with_world}
+use Rattle.tiering.specs.Tiered.{begun}
+use Rattle.tiering.specs.Stands.{StandsFor}
+use Rattle.tiering.specs.declared.tiers.Tiers.{Tiers}
+use Rattle.tiering.proofs.Standing.{stands_with}
 use Rattle.script_bench.specs.declared.bench.Bench.{Bench}
+
+-- a scan leaves the state, but for drives that failed
+scan_leaves : (F G : Flat) (answer : ScanAnswer) → ScanCase F answer G → Leaves F G
+scan_leaves F G (Told keys) case = case.2
+scan_leaves F G (NotTold slot) case = case.leaves
+
+-- the bench with another world stands for the state that is left
+stands_left : (before : Bench) (after : WorldView) (P : Position) (G : Flat) → StandsAt before P → Represents after G → Leaves P.tiers.flat G
+    → StandsAt (with_world before after) (with_flat P G)
+stands_left before after P G stands rep leaves = record {
+  tiers = stands_with before.tiers after P.tiers G stands.tiers rep (ap (λ (x : Flat). x.groups.blocks) leaves.same);
+  maps = stands.maps;
+}
 
 -- the headers were scanned with this answer
 abbrev pub Scanned : Flat → ScanAnswer → WorldView → Type 0
@@ -36,48 +56,48 @@ gone_told before after _ F other told shows = absurd (told F shows)
 
 -- a map that was listed
 pub listed_map : (before : Bench) (after : WorldView) (keys : ℕ → ℕ) (listed : List Record) (old new : List ℕ) → IsListOf keys listed
-    → ((F : Flat) → Represents before.world F → Scanned F (Told keys) after) → new ≡ old ++ (codes "scan " ++ listing listed)
-    → Carries before (record { world = after; maps = before.maps }) o.Scan old new
+    → ((F : Flat) → Represents before.tiers.world F → Scanned F (Told keys) after) → new ≡ old ++ (codes "scan " ++ listing listed)
+    → Carries before (with_world before after) o.Scan old new
 listed_map before after keys listed old new list scans out = λ P stands.
-    let scanned = scans P.flat stands.world in record {
+    let scanned = scans P.tiers.flat stands.tiers.world in record {
       text = codes "scan " ++ listing listed;
-      next = Some (record P { flat = scanned.0 });
+      next = Some (with_flat P scanned.0);
       answers = record { answer = Told keys; next = scanned.0; case = scanned.1; told = (listed, list, refl); state_is = refl };
-      stands = record { world = scanned.2; maps = stands.maps };
+      stands = stands_left before after P scanned.0 stands scanned.2 (scan_leaves P.tiers.flat scanned.0 _ scanned.1);
       out = out;
     }
 
 -- a fault that was told in place of a map
 scan_fault : (before : Bench) (after : WorldView) (found : ScanFault) (old new : List ℕ) → found ≢ fault.Memory
-    → IsToldOf before.world after found → new ≡ old ++ fault_text found
-    → Carries before (record { world = after; maps = before.maps }) o.Scan old new
+    → IsToldOf before.tiers.world after found → new ≡ old ++ fault_text found
+    → Carries before (with_world before after) o.Scan old new
 scan_fault before after found old new other tells out = λ P stands.
-    let gone = gone_told before.world after found P.flat other tells stands.world in
+    let gone = gone_told before.tiers.world after found P.tiers.flat other tells stands.tiers.world in
     let scanned = gone.scanned in record {
       text = fault_text found;
-      next = Some (record P { flat = scanned.0 });
+      next = Some (with_flat P scanned.0);
       answers = record { answer = NotTold gone.slot; next = scanned.0; case = scanned.1; told = ap fault_text gone.is; state_is = refl };
-      stands = record { world = scanned.2; maps = stands.maps };
+      stands = stands_left before after P scanned.0 stands scanned.2 (scan_leaves P.tiers.flat scanned.0 _ scanned.1);
       out = out;
     }
 
 pub on_fault : {E : Type 0} (r : Result (Unit {0}) E) (before : Bench) (after : WorldView) (found : ScanFault) (old new : List ℕ)
-    → OnOk r (found ≢ fault.Memory) → IsToldOf before.world after found
-    → OnOk r (new ≡ old ++ fault_text found) → OnOk r (Carries before (record { world = after; maps = before.maps }) o.Scan old new)
+    → OnOk r (found ≢ fault.Memory) → IsToldOf before.tiers.world after found
+    → OnOk r (new ≡ old ++ fault_text found) → OnOk r (Carries before (with_world before after) o.Scan old new)
 on_fault (Ok u) before after found old new other tells out = scan_fault before after found old new other tells out
 on_fault (Err e) before after found old new other tells out = tt
 
 -- and in place of a restart
 pub restart_fault : (before : Bench) (after : WorldView) (found : ScanFault) (old new : List ℕ) → found ≢ fault.Memory
-    → IsToldOf before.world after found → new ≡ old ++ fault_text found
-    → Carries before (record { world = after; maps = before.maps }) o.Restart old new
+    → IsToldOf before.tiers.world after found → new ≡ old ++ fault_text found
+    → Carries before (with_world before after) o.Restart old new
 restart_fault before after found old new other tells out = λ P stands.
-    let gone = gone_told before.world after found P.flat other tells stands.world in
+    let gone = gone_told before.tiers.world after found P.tiers.flat other tells stands.tiers.world in
     let scanned = gone.scanned in record {
       text = fault_text found;
-      next = Some (record P { flat = scanned.0 });
+      next = Some (with_flat P scanned.0);
       answers = record { answer = NotRestarted gone.slot; next = scanned.0; case = scanned.1; text_is = ap fault_text gone.is; state_is = refl };
-      stands = record { world = scanned.2; maps = stands.maps };
+      stands = stands_left before after P scanned.0 stands scanned.2 (scan_leaves P.tiers.flat scanned.0 _ scanned.1);
       out = out;
     }
 
@@ -89,13 +109,14 @@ leaves_anew F G keys records leaves = record {
 }
 
 -- a restart that was told
-pub made_anew : (before : Bench) (between after : WorldView) (keys : ℕ → ℕ) (count : ℕ) (old new : List ℕ)
-    → ((F : Flat) → Represents before.world F → Scanned F (Told keys) between)
+pub made_anew : (before : Bench) (between after : WorldView) (tiers : Tiers) (keys : ℕ → ℕ) (count : ℕ) (old new : List ℕ)
+    → ((F : Flat) → Represents before.tiers.world F → Scanned F (Told keys) between)
     → ((F : Flat) → Represents between F → IsMapOf F.emitted keys → WasRestarted F keys after) → count ≡ length after.array.log
+    → ((F : Flat) → Represents after F → StandsFor tiers (begun F))
     → new ≡ old ++ (codes "restarted " ++ decimal count)
-    → Carries before (record { world = after; maps = before.maps }) o.Restart old new
-made_anew before between after keys count old new scans makes counted out = λ P stands.
-    let scanned = scans P.flat stands.world in
+    → Carries before (record { tiers = tiers; maps = before.maps }) o.Restart old new
+made_anew before between after tiers keys count old new scans makes counted begins out = λ P stands.
+    let scanned = scans P.tiers.flat stands.tiers.world in
     let none = scanned.1.0 in
     let map_of = scanned.1.1 in
     let leaves = scanned.1.2 in
@@ -103,14 +124,14 @@ made_anew before between after keys count old new scans makes counted out = λ P
     let log = after.array.log in
     let next = restarted scanned.0 keys log in record {
       text = codes "restarted " ++ decimal count;
-      next = Some (record P { flat = next });
+      next = Some (record P { tiers = begun next });
       answers = record {
         answer = Restarted count;
         next = next;
-        case = (none, (keys, log, record { map = map_of; list = made.log }, counted, leaves_anew P.flat scanned.0 keys log leaves));
+        case = (none, (keys, log, record { map = map_of; list = made.log }, counted, leaves_anew P.tiers.flat scanned.0 keys log leaves));
         text_is = refl;
         state_is = refl;
       };
-      stands = record { world = made.stands; maps = stands.maps };
+      stands = record { tiers = begins next made.stands; maps = stands.maps };
       out = out;
     }

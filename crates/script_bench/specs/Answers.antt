@@ -13,19 +13,43 @@ use Rattle.flat_machine.specs.Scans.{ScanAnswer, Told, NotTold, RestartAnswer, R
 use Rattle.header_scan.specs.declared.fault.ScanFault.TheVariants.{Gone}
 use Rattle.extent_groups.specs.declared.class.Member.{Member}
 use Rattle.std.specs.Prelude.{map}
+use Rattle.tiering.specs.Tiered.{Tiered, begun}
+use Rattle.tiering.specs.Steps.{TierStep, TierCase, CommitNoted}
+use Rattle.tiering.specs.Steps as tier
+use Rattle.tiering.specs.declared.outcome.Outcome.{Outcome}
 use Rattle.script_words.specs.Order.{Order}
 use Rattle.script_words.specs.Order as o
 use Rattle.script_bench.specs.State.{Position, State, nothing_taken}
-use Rattle.script_bench.specs.Text.{answer_text, asked_version, difference_text, fault_text, listing, record_text}
+use Rattle.script_bench.specs.Text.{answer_text, asked_version, outcome_text, difference_text, fault_text, listing, record_text}
 use Rattle.script_words.specs.declared.command.Named.{Named}
+
+-- the same position with another flat state
+abbrev pub with_flat : Position → Flat → Position
+with_flat P next = record P { tiers = record P.tiers { flat = next } }
 
 -- a step of the flat machine, its answer and the state after it; the maps are as they were
 pub record Steps (P : Position) (step : FlatStep) (text : List ℕ) (t : State) : Type 0 where
   pub answer : FlatAnswer
   pub next : Flat
-  pub case : Case P.flat step answer next
+  pub case : Case P.tiers.flat step answer next
   pub text_is : text ≡ answer_text (asked_version step) answer
-  pub state_is : t ≡ Some (record P { flat = next })
+  pub state_is : t ≡ Some (with_flat P next)
+
+-- a commit, and the write is noted where it is one
+pub record Commits (P : Position) (worker slot block : ℕ) (text : List ℕ) (t : State) : Type 0 where
+  pub answer : FlatAnswer
+  pub next : Tiered
+  pub case : CommitNoted P.tiers worker slot block answer next
+  pub text_is : text ≡ answer_text (asked_version (s.Commit worker slot block)) answer
+  pub state_is : t ≡ Some (record P { tiers = next })
+
+-- a step by a plan, and what came of it
+pub record TierSteps (P : Position) (step : TierStep) (text : List ℕ) (t : State) : Type 0 where
+  pub outcome : Outcome
+  pub next : Tiered
+  pub case : TierCase P.tiers step outcome next
+  pub text_is : text ≡ outcome_text outcome
+  pub state_is : t ≡ Some (record P { tiers = next })
 
 -- the newest record of each block among some records, in the blocks' order
 pub record ShowsMap (records : List Record) (text : List ℕ) : Type 0 where
@@ -76,22 +100,27 @@ TellsScan (NotTold slot) text = text ≡ fault_text (Gone slot)
 pub record Scans (P : Position) (text : List ℕ) (t : State) : Type 0 where
   pub answer : ScanAnswer
   pub next : Flat
-  pub case : ScanCase P.flat answer next
+  pub case : ScanCase P.tiers.flat answer next
   pub told : TellsScan answer text
-  pub state_is : t ≡ Some (record P { flat = next })
+  pub state_is : t ≡ Some (with_flat P next)
 
 -- what is told of a restart: how many blocks there are, or the slot whose unit is gone
 abbrev pub restart_text : RestartAnswer → List ℕ
 restart_text (Restarted count) = codes "restarted " ++ decimal count
 restart_text (NotRestarted slot) = fault_text (Gone slot)
 
+-- behind a restart no write is noted, and nothing was appended
+abbrev pub tiers_behind : Tiered → RestartAnswer → Flat → Tiered
+tiers_behind T (Restarted count) next = begun next
+tiers_behind T (NotRestarted slot) next = record T { flat = next }
+
 -- the array is made anew from what its drives hold, and the maps are as they were
 pub record Restarts (P : Position) (text : List ℕ) (t : State) : Type 0 where
   pub answer : RestartAnswer
   pub next : Flat
-  pub case : RestartCase P.flat answer next
+  pub case : RestartCase P.tiers.flat answer next
   pub text_is : text ≡ restart_text answer
-  pub state_is : t ≡ Some (record P { flat = next })
+  pub state_is : t ≡ Some (record P { tiers = tiers_behind P.tiers answer next })
 
 -- groups of an array of these sizes, none of which is made
 pub record AreNoGroups (groups : Groups) (extents segments payload blocks : ℕ) : Type 0 where
@@ -106,7 +135,7 @@ pub record Begins (drives extents segments payload blocks : ℕ) (text : List �
   pub groups : Groups
   pub none : AreNoGroups groups extents segments payload blocks
   pub text_is : text ≡ codes "array"
-  pub state_is : t ≡ Some (record { flat = new_flat groups drives (nat_le drives) (λ _. 0); taken = nothing_taken })
+  pub state_is : t ≡ Some (record { tiers = begun (new_flat groups drives (nat_le drives) (λ _. 0)); taken = nothing_taken })
 
 -- the members that a command names
 abbrev pub members_named : List Named → List Member
@@ -122,7 +151,7 @@ Answers (Some P) (o.Claim worker slot) text t = Steps P (s.Claim worker slot) te
 Answers (Some P) (o.Release worker slot) text t = Steps P (s.Release worker slot) text t
 Answers (Some P) (o.Fill worker slot payload) text t = Steps P (s.Fill worker slot (Payload payload)) text t
 Answers (Some P) (o.Copy worker slot block) text t = Steps P (s.Copy worker slot block) text t
-Answers (Some P) (o.Commit worker slot block) text t = Steps P (s.Commit worker slot block) text t
+Answers (Some P) (o.Commit worker slot block) text t = Commits P worker slot block text t
 Answers (Some P) (o.Discard worker slot) text t = Steps P (s.Discard worker slot) text t
 Answers (Some P) (o.Lose drive) text t = Steps P (s.Lose drive) text t
 Answers (Some P) (o.Read block) text t = Steps P (s.Read block) text t
@@ -131,7 +160,11 @@ Answers (Some P) (o.Take map r) text t = Takes P map r text t
 Answers (Some P) (o.Merge into from) text t = Merges P into from text t
 Answers (Some P) (o.Same left right) text t = Compares (P.taken left) (P.taken right) text × (t ≡ Some P)
 Answers (Some P) (o.Show map) text t = ShowsMap (P.taken map) text × (t ≡ Some P)
-Answers (Some P) o.Map text t = ShowsMap P.flat.emitted text × (t ≡ Some P)
-Answers (Some P) o.Log text t = ShowsLog P.flat text × (t ≡ Some P)
+Answers (Some P) o.Map text t = ShowsMap P.tiers.flat.emitted text × (t ≡ Some P)
+Answers (Some P) o.Log text t = ShowsLog P.tiers.flat text × (t ≡ Some P)
 Answers (Some P) o.Scan text t = Scans P text t
 Answers (Some P) o.Restart text t = Restarts P text t
+Answers (Some P) (o.Write worker block payload) text t = TierSteps P (tier.Write worker block (Payload payload)) text t
+Answers (Some P) (o.Demote worker) text t = TierSteps P (tier.Demote worker) text t
+Answers (Some P) (o.Plug worker) text t = TierSteps P (tier.Plug worker) text t
+Answers (Some P) (o.Clean worker) text t = TierSteps P (tier.Clean worker) text t

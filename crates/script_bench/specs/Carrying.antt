@@ -2,7 +2,7 @@
 use Rattle.std.specs.Prelude.{◌≡◌, ℕ, ◌<◌, ◌≤◌, List, ◌++◌, slice_index_or, Result, Ok, Err, Option, Some, None}
 use Rattle.map_join.specs.declared.records.Record.{Record}
 use Rattle.map_join.specs.Maps.{Entries, at, IsMapOf}
-use Rattle.step_core.specs.Represents.{Represents}
+use Rattle.tiering.specs.Stands.{StandsFor}
 use Rattle.script_words.specs.Order.{Order}
 use Rattle.script_bench.specs.State.{Position, State, IsDue, IsInRange, block_count}
 use Rattle.script_bench.specs.Answers.{Answers}
@@ -19,9 +19,9 @@ IsMap map = map ≤ 3
 abbrev pub AreMapsOf : List Entries → (ℕ → List Record) → Type 0
 AreMapsOf maps taken = (map : ℕ) (d : Entries) → map < 4 → IsMapOf (taken map) (at (slice_index_or maps map d))
 
--- the world and the maps stand for where the script stands
+-- the array with what is kept beside it, and the maps, stand for where the script stands
 pub record StandsAt (bench : Bench) (P : Position) : Type 0 where
-  pub world : Represents bench.world P.flat
+  pub tiers : StandsFor bench.tiers P.tiers
   pub maps : AreMapsOf bench.maps P.taken
 
 -- the same before there is a world

@@ -2,7 +2,7 @@
 use Rattle.std.specs.Prelude.{◌≡◌, ℕ, ◌<◌, ◌≤◌, List, [], Option, Some, None}
 use Rattle.std.specs.List.{All, AllByRecursion}
 use Rattle.map_join.specs.declared.records.Record.{Record}
-use Rattle.flat_machine.specs.Flat.{Flat}
+use Rattle.tiering.specs.Tiered.{Tiered}
 use Rattle.extents.specs.Sizes.{AreInRange}
 use Rattle.script_words.specs.Order.{Order, Number, Behind, Told, Members, behind_of, numbers_of, verb_of}
 use Rattle.script_words.specs.Order as o
@@ -12,9 +12,9 @@ use Rattle.script_words.specs.declared.verb.Kind.TheVariants as kind
 use Rattle.script_words.specs.declared.verb.Verb.TheVariants as verb
 use Rattle.script_words.specs.declared.command.Named.{Named}
 
--- a state of the array, and of each of the four maps the records that it took or merged
+-- a state of the array with what is kept beside it for its plans, and of each of the four maps the records that it took or merged
 pub record Position : Type 0 where
-  pub flat : Flat
+  pub tiers : Tiered
   pub taken : ℕ → List Record
 
 -- before the array, or where the script stands behind it
@@ -28,12 +28,12 @@ nothing_taken map = []
 -- how many blocks there are
 abbrev pub block_count : State → ℕ
 block_count None = 0
-block_count (Some P) = P.flat.groups.blocks
+block_count (Some P) = P.tiers.flat.groups.blocks
 
 -- whether a command may come: the array once and first, every other one behind it, and a payload of the array's length
 abbrev pub IsDue : State → Order → Type 0
 IsDue None order = verb_of order ≡ verb.Array
-IsDue (Some P) order = (verb_of order ≡ verb.Array → ⊥) × IsSized P.flat.groups.payload order
+IsDue (Some P) order = (verb_of order ≡ verb.Array → ⊥) × IsSized P.tiers.flat.groups.payload order
 
 -- the limit of each kind of number, with so many blocks; the array has a rule of its own for its sizes
 abbrev pub IsKindInRange : ℕ → Kind → ℕ → Type 0

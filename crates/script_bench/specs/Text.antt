@@ -9,6 +9,8 @@ use Rattle.flat_machine.specs.Steps as s
 use Rattle.flat_machine.specs.Numbers.{number_of}
 use Rattle.flat_machine.specs.declared.refusal.Refusal.{Refusal}
 use Rattle.flat_machine.specs.declared.refusal.Refusal.TheVariants as refusal
+use Rattle.tiering.specs.declared.outcome.Outcome.{Outcome}
+use Rattle.tiering.specs.declared.outcome.Outcome.TheVariants as outcome
 use Rattle.header_scan.specs.Numbers.{number_of as fault_number}
 use Rattle.header_scan.specs.declared.fault.ScanFault.{ScanFault}
 use Rattle.header_scan.specs.declared.fault.ScanFault.TheVariants as fault
@@ -75,6 +77,13 @@ answer_text asked (s.FoundAt seen) = seen_text asked seen
 answer_text asked (s.MadeGroup group) = codes "made " ++ decimal group
 answer_text asked (s.LostDrive drive) = codes "lost " ++ decimal drive
 answer_text asked (s.Refused r) = codes "refused " ++ (decimal (number_of r) ++ detail r)
+
+-- what comes of a step by a plan
+abbrev pub outcome_text : Outcome → List ℕ
+outcome_text (outcome.Placed r) = answer_text 0 (s.Committed r)
+outcome_text (outcome.Refused k) = answer_text 0 (s.Refused k)
+outcome_text outcome.NoRoom = codes "noroom"
+outcome_text outcome.Nothing = codes "nothing"
 
 -- the lowest block of which two maps differ, if they do
 abbrev pub difference_text : Option ℕ → List ℕ

@@ -5,23 +5,23 @@ ghost use Rattle.script_bench.specs.Carrying.{AreMapsOf};
 
 use map_join::BlockMap;
 use std::alloc::Global;
-use step_core::World;
+use tiering::Tiers;
 
-/// The world of the array, and beside it four block maps in which a script joins records.
+/// The world of the array with what its plans keep, and beside it four block maps in which a script joins records.
 #[derive(Drop)]
 pub struct Bench {
-    pub world: World,
+    pub tiers: Tiers,
     pub maps: [BlockMap; 4],
 }
 
 impl Bench {
-    /// The world and four empty maps.
-    pub fn new(alloc: Global, world: World) -> Bench
-        ensures world { result.world ≡ world }
+    /// The array and four empty maps.
+    pub fn new(alloc: Global, tiers: Tiers) -> Bench
+        ensures tiers { result.tiers ≡ tiers }
         ensures maps { AreMapsOf result.maps nothing_taken }
     {
         Bench {
-            world,
+            tiers,
             maps: [
                 BlockMap::new(alloc),
                 BlockMap::new(alloc),

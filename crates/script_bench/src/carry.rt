@@ -11,7 +11,7 @@ use crate::bench::Bench;
 use crate::limits::members_of;
 use crate::maps::{merge, same, show, take};
 use crate::scans::scan;
-use crate::texts::{put_answer, put_listing};
+use crate::texts::{put_answer, put_listing, put_outcome};
 use map_join::Record;
 use script_words::{Command, Named, Verb};
 use std::alloc::{AllocError, Global};
@@ -25,12 +25,12 @@ pub fn carry_out(
     command: &Command,
     out: &mut Vec<u8>,
 ) -> Result<(), AllocError>
-    requires payload { length payload.now ≡ bench.old.world.array.parts.groups.payload }
+    requires payload { length payload.now ≡ bench.old.tiers.world.array.parts.groups.payload }
     requires written { IsWritten (order_of «command».now payload.now) }
     requires later { «command».now.verb ≡ Verb.Array → ⊥ }
     requires stays { «command».now.verb ≡ Verb.Restart → ⊥ }
-    requires blocks { bench.old.world.array.parts.groups.blocks < 2 ^ 32 }
-    requires range { IsWithin bench.old.world.array.parts.groups.blocks (order_of «command».now payload.now) }
+    requires blocks { bench.old.tiers.world.array.parts.groups.blocks < 2 ^ 32 }
+    requires range { IsWithin bench.old.tiers.world.array.parts.groups.blocks (order_of «command».now payload.now) }
     ensures { OnOk result (Carries bench.old bench.new (order_of «command».now payload.now) out.old.items out.new.items) }
 {
     let [first, second, third, ..] = command.numbers;
@@ -53,20 +53,24 @@ pub fn carry_out(
         Verb::Map => map(alloc, bench, out),
         Verb::Log => log(alloc, bench, out),
         Verb::Scan => scan(alloc, bench, out),
+        Verb::Write => write(alloc, bench, first as u8, second as u32, payload, out),
+        Verb::Demote => demote(alloc, bench, first as u8, out),
+        Verb::Plug => plug(alloc, bench, first as u8, out),
+        Verb::Clean => clean(alloc, bench, first as u8, out),
     }
 }
 
 fn claim(bench: &mut Bench, worker: u8, slot: u16, out: &mut Vec<u8>) -> Result<(), AllocError>
     ensures { OnOk result (Carries bench.old bench.new (o.Claim worker slot) out.old.items out.new.items) }
 {
-    let answer = bench.world.claim(worker, slot);
+    let answer = bench.tiers.world.claim(worker, slot);
     put_answer(out, &answer, 0)
 }
 
 fn release(bench: &mut Bench, worker: u8, slot: u16, out: &mut Vec<u8>) -> Result<(), AllocError>
     ensures { OnOk result (Carries bench.old bench.new (o.Release worker slot) out.old.items out.new.items) }
 {
-    let answer = bench.world.release(worker, slot);
+    let answer = bench.tiers.world.release(worker, slot);
     put_answer(out, &answer, 0)
 }
 
@@ -78,10 +82,10 @@ fn fill(
     payload: &[u8],
     out: &mut Vec<u8>,
 ) -> Result<(), AllocError>
-    requires payload { length payload.now ≡ bench.old.world.array.parts.groups.payload }
+    requires payload { length payload.now ≡ bench.old.tiers.world.array.parts.groups.payload }
     ensures { OnOk result (Carries bench.old bench.new (o.Fill worker slot payload.now) out.old.items out.new.items) }
 {
-    let answer = bench.world.fill(alloc, worker, slot, payload)?;
+    let answer = bench.tiers.world.fill(alloc, worker, slot, payload)?;
     put_answer(out, &answer, 0)
 }
 
@@ -93,10 +97,10 @@ fn copy(
     block: u32,
     out: &mut Vec<u8>,
 ) -> Result<(), AllocError>
-    requires block { block < bench.old.world.array.parts.groups.blocks }
+    requires block { block < bench.old.tiers.world.array.parts.groups.blocks }
     ensures { OnOk result (Carries bench.old bench.new (o.Copy worker slot block) out.old.items out.new.items) }
 {
-    let answer = bench.world.copy(alloc, worker, slot, block)?;
+    let answer = bench.tiers.world.copy(alloc, worker, slot, block)?;
     put_answer(out, &answer, 0)
 }
 
@@ -108,24 +112,24 @@ fn commit(
     block: u32,
     out: &mut Vec<u8>,
 ) -> Result<(), AllocError>
-    requires block { block < bench.old.world.array.parts.groups.blocks }
+    requires block { block < bench.old.tiers.world.array.parts.groups.blocks }
     ensures { OnOk result (Carries bench.old bench.new (o.Commit worker slot block) out.old.items out.new.items) }
 {
-    let answer = bench.world.commit(alloc, worker, slot, block)?;
+    let answer = bench.tiers.commit(alloc, worker, slot, block)?;
     put_answer(out, &answer, 0)
 }
 
 fn discard(bench: &mut Bench, worker: u8, slot: u16, out: &mut Vec<u8>) -> Result<(), AllocError>
     ensures { OnOk result (Carries bench.old bench.new (o.Discard worker slot) out.old.items out.new.items) }
 {
-    let answer = bench.world.discard(worker, slot);
+    let answer = bench.tiers.world.discard(worker, slot);
     put_answer(out, &answer, 0)
 }
 
 fn lose(bench: &mut Bench, drive: u8, out: &mut Vec<u8>) -> Result<(), AllocError>
     ensures { OnOk result (Carries bench.old bench.new (o.Lose drive) out.old.items out.new.items) }
 {
-    let answer = bench.world.lose(drive);
+    let answer = bench.tiers.world.lose(drive);
     put_answer(out, &answer, 0)
 }
 
@@ -135,18 +139,18 @@ fn read_at(
     record: Record,
     out: &mut Vec<u8>,
 ) -> Result<(), AllocError>
-    requires { «record».block < bench.old.world.array.parts.groups.blocks }
+    requires { «record».block < bench.old.tiers.world.array.parts.groups.blocks }
     ensures { OnOk result (Carries bench.old bench.new (o.At «record») out.old.items out.new.items) }
 {
-    let answer = bench.world.read_at(alloc, record)?;
+    let answer = bench.tiers.world.read_at(alloc, record)?;
     put_answer(out, &answer, record.version)
 }
 
 fn read(alloc: Global, bench: &mut Bench, block: u32, out: &mut Vec<u8>) -> Result<(), AllocError>
-    requires { block < bench.old.world.array.parts.groups.blocks }
+    requires { block < bench.old.tiers.world.array.parts.groups.blocks }
     ensures { OnOk result (Carries bench.old bench.new (o.Read block) out.old.items out.new.items) }
 {
-    let answer = bench.world.read(alloc, block)?;
+    let answer = bench.tiers.world.read(alloc, block)?;
     put_answer(out, &answer, 0)
 }
 
@@ -161,14 +165,14 @@ fn make(
     ensures { OnOk result (Carries bench.old bench.new (o.Make class named.now) out.old.items out.new.items) }
 {
     let members = members_of(alloc, named)?;
-    let answer = bench.world.make(alloc, class, &members)?;
+    let answer = bench.tiers.world.make(alloc, class, &members)?;
     put_answer(out, &answer, 0)
 }
 
 fn map(alloc: Global, bench: &mut Bench, out: &mut Vec<u8>) -> Result<(), AllocError>
     ensures { OnOk result (Carries bench.old bench.new o.Map out.old.items out.new.items) }
 {
-    let Ok(map) = bench.world.array().map(alloc) else {
+    let Ok(map) = bench.tiers.world.array().map(alloc) else {
         return Err(AllocError)
     };
     let Ok(records) = map.to_list(alloc) else {
@@ -180,8 +184,50 @@ fn map(alloc: Global, bench: &mut Bench, out: &mut Vec<u8>) -> Result<(), AllocE
 fn log(alloc: Global, bench: &mut Bench, out: &mut Vec<u8>) -> Result<(), AllocError>
     ensures { OnOk result (Carries bench.old bench.new o.Log out.old.items out.new.items) }
 {
-    let Ok(records) = bench.world.array().records_from(alloc, 0) else {
+    let Ok(records) = bench.tiers.world.array().records_from(alloc, 0) else {
         return Err(AllocError)
     };
     put_listing(out, b"log ", &records)
+}
+
+fn write(
+    alloc: Global,
+    bench: &mut Bench,
+    worker: u8,
+    block: u32,
+    payload: &[u8],
+    out: &mut Vec<u8>,
+) -> Result<(), AllocError>
+    requires block { block < bench.old.tiers.world.array.parts.groups.blocks }
+    requires payload { length payload.now ≡ bench.old.tiers.world.array.parts.groups.payload }
+    ensures { OnOk result (Carries bench.old bench.new (o.Write worker block payload.now) out.old.items out.new.items) }
+{
+    let outcome = bench.tiers.write(alloc, worker, block, payload)?;
+    put_outcome(out, outcome)
+}
+
+fn demote(
+    alloc: Global,
+    bench: &mut Bench,
+    worker: u8,
+    out: &mut Vec<u8>,
+) -> Result<(), AllocError>
+    ensures { OnOk result (Carries bench.old bench.new (o.Demote worker) out.old.items out.new.items) }
+{
+    let outcome = bench.tiers.demote(alloc, worker)?;
+    put_outcome(out, outcome)
+}
+
+fn plug(alloc: Global, bench: &mut Bench, worker: u8, out: &mut Vec<u8>) -> Result<(), AllocError>
+    ensures { OnOk result (Carries bench.old bench.new (o.Plug worker) out.old.items out.new.items) }
+{
+    let outcome = bench.tiers.plug(alloc, worker)?;
+    put_outcome(out, outcome)
+}
+
+fn clean(alloc: Global, bench: &mut Bench, worker: u8, out: &mut Vec<u8>) -> Result<(), AllocError>
+    ensures { OnOk result (Carries bench.old bench.new (o.Clean worker) out.old.items out.new.items) }
+{
+    let outcome = bench.tiers.clean(alloc, worker)?;
+    put_outcome(out, outcome)
 }

@@ -14,6 +14,7 @@ use crate::why::{Failure, Why};
 use script_words::{Command, Verb, command_of};
 use std::alloc::Global;
 use step_core::World;
+use tiering::Tiers;
 
 /// Appends the answer to a line's command. The buffer holds the payload of a fill.
 pub fn reply(
@@ -75,8 +76,11 @@ fn begin(
     let Ok(world) = World::new(alloc, shape, drives) else {
         return Err(Failure::Memory)
     };
+    let Ok(tiers) = Tiers::new(alloc, world) else {
+        return Err(Failure::Memory)
+    };
     match put(out, b"array") {
-        Ok(()) => Ok(Bench::new(alloc, world)),
+        Ok(()) => Ok(Bench::new(alloc, tiers)),
         Err(_) => Err(Failure::Memory),
     }
 }
@@ -96,7 +100,7 @@ fn later(
     let Some(standing) = bench else {
         return Err(Failure::Wrong(Why::Form))
     };
-    let shape = standing.world.array().shape();
+    let shape = standing.tiers.world.array().shape();
     let payload = &mut payload[..shape.payload as usize];
     let command = match command_of(alloc, line, payload) {
         Ok(Some(command)) => command,

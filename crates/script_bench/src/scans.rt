@@ -8,12 +8,13 @@ use crate::bench::Bench;
 use crate::texts::{put_fault, put_listing, put_numbered};
 use header_scan::scan_world;
 use std::alloc::{AllocError, Global};
+use tiering::Tiers;
 
 /// Lists the map that the headers tell, or tells the fault that comes first.
 pub fn scan(alloc: Global, bench: &mut Bench, out: &mut Vec<u8>) -> Result<(), AllocError>
     ensures { OnOk result (Carries bench.old bench.new o.Scan out.old.items out.new.items) }
 {
-    let map = match scan_world(alloc, &mut bench.world) {
+    let map = match scan_world(alloc, &mut bench.tiers.world) {
         Ok(map) => map,
         Err(fault) => return put_fault(out, &fault),
     };
@@ -45,18 +46,20 @@ pub fn restart(
 fn made_anew(alloc: Global, bench: Bench, out: &mut Vec<u8>) -> Result<Bench, AllocError>
     ensures { IfOk result (λ after. Carries bench after o.Restart out.old.items out.new.items) }
 {
-    let Bench { mut world, maps } = bench;
-    let map = match scan_world(alloc, &mut world) {
+    let Bench { mut tiers, maps } = bench;
+    let map = match scan_world(alloc, &mut tiers.world) {
         Ok(map) => map,
         Err(fault) => {
             put_fault(out, &fault)?;
-            return Ok(Bench { world, maps });
+            return Ok(Bench { tiers, maps });
         }
     };
+    let Tiers { world, .. } = tiers;
     let Ok(world) = world.restarted(alloc, map) else {
         return Err(AllocError)
     };
     let count = world.array().record_count();
     put_numbered(out, b"restarted ", count as u64)?;
-    Ok(Bench { world, maps })
+    let tiers = Tiers::new(alloc, world)?;
+    Ok(Bench { tiers, maps })
 }

@@ -2,7 +2,7 @@
 ghost use Rattle.std.specs.Prelude.{◌≡◌, ◌≢◌, ◌∷◌, ◌++◌, [], OnOk, codes, decimal, Some, None};
 ghost use Rattle.hex.specs.Hex.{encode_lower};
 ghost use Rattle.step_core.specs.Told.{flat_answer, seen_of};
-ghost use Rattle.script_bench.specs.Text.{answer_text, data_text, detail, difference_text, fault_detail, fault_text, found_text, header_text, seen_text, listing, record_or_none, record_text, records_text};
+ghost use Rattle.script_bench.specs.Text.{answer_text, data_text, detail, difference_text, fault_detail, fault_text, found_text, header_text, outcome_text, seen_text, listing, record_or_none, record_text, records_text};
 ghost use Rattle.flat_machine.specs.Steps as s;
 
 use header_scan::ScanFault;
@@ -11,6 +11,7 @@ use itoa::Buffer;
 use map_join::Record;
 use std::alloc::AllocError;
 use step_core::{Answer, At, Refusal};
+use tiering::Outcome;
 
 /// A text as it stands.
 pub fn put(out: &mut Vec<u8>, text: &[u8]) -> Result<(), AllocError>
@@ -96,10 +97,7 @@ pub fn put_answer(out: &mut Vec<u8>, answer: &Answer, asked: u32) -> Result<(), 
         Answer::NotHeld(slot) => put_numbered(out, b"notheld ", u64::from(*slot)),
         Answer::Filled(slot) => put_numbered(out, b"filled ", u64::from(*slot)),
         Answer::Copied(slot) => put_numbered(out, b"copied ", u64::from(*slot)),
-        Answer::Committed(record) => {
-            put(out, b"record ")?;
-            put_record(out, record)
-        }
+        Answer::Committed(record) => put_emitted(out, record),
         Answer::Discarded(slot) => put_numbered(out, b"discarded ", u64::from(*slot)),
         Answer::Read(Some((version, payload))) => put_data(out, *version, payload),
         Answer::Read(None) => put(out, b"none"),
@@ -108,6 +106,26 @@ pub fn put_answer(out: &mut Vec<u8>, answer: &Answer, asked: u32) -> Result<(), 
         Answer::Lost(drive) => put_numbered(out, b"lost ", u64::from(*drive)),
         Answer::Refused(refusal) => put_refusal(out, refusal),
     }
+}
+
+/// What comes of a step by a plan.
+pub fn put_outcome(out: &mut Vec<u8>, outcome: Outcome) -> Result<(), AllocError>
+    ensures { OnOk result (out.new.items ≡ out.old.items ++ outcome_text outcome) }
+{
+    match outcome {
+        Outcome::Placed(record) => put_emitted(out, &record),
+        Outcome::Refused(refusal) => put_refusal(out, &refusal),
+        Outcome::NoRoom => put(out, b"noroom"),
+        Outcome::Nothing => put(out, b"nothing"),
+    }
+}
+
+// A record that was emitted.
+fn put_emitted(out: &mut Vec<u8>, record: &Record) -> Result<(), AllocError>
+    ensures { OnOk result (out.new.items ≡ out.old.items ++ answer_text 0 (s.Committed «record».now)) }
+{
+    put(out, b"record ")?;
+    put_record(out, record)
 }
 
 /// A refusal: its number, and what it names.

@@ -1,6 +1,7 @@
 // The array: its tables, and the small reads of them.
 ghost use Rattle.std.specs.Prelude.{◌≡◌, ℕ, ◌+◌, ◌*◌, ◌<◌, ◌≤◌, length, map, drop, replicate, slice_index, slice_index_or, None, true, IsTrue, ◌↔◌, IfOk, IfErr, OnOk};
 ghost use Rattle.map_join.specs.Record.{record_at};
+ghost use Rattle.map_join.specs.Live.{IsBlockAt};
 ghost use Rattle.map_join.specs.Maps.{at, IsSame, IsMapOf};
 ghost use Rattle.extents.specs.Shapes.{IsShapeOf};
 ghost use Rattle.extents.specs.Sizes.{extent_units};
@@ -10,7 +11,7 @@ ghost use Rattle.array_parts.specs.Fit.{HaveUnits};
 ghost use Rattle.array_parts.specs.Views.{drive_view, lost_of, failed_of};
 ghost use Rattle.flat_machine.specs.Groups.{class_at, IsEmpty};
 ghost use Rattle.flat_machine.specs.Flat.{Flat, new_flat, put, IsKept, IsNewest};
-ghost use Rattle.array_model.specs.Views.{kept_at, key_at, is_kept, is_waiting, IsWhole};
+ghost use Rattle.array_model.specs.Views.{kept_at, key_at, block_in, is_kept, is_waiting, IsWhole};
 ghost use Rattle.array_model.specs.Represents.{ShowsArray};
 
 use crate::hold::Hold;
@@ -176,6 +177,25 @@ impl<D: Drive, C: Hold> Array<D, C> {
         ensures flat { (F : Flat) → ShowsArray self.now F → IsNewest F.emitted block result }
     {
         self.told(block)
+    }
+
+    /// The block whose newest place the slot is, if any.
+    pub fn block_at(&self, slot: u16) -> Option<u32>
+        ensures { IsBlockAt (key_at self.now) slot result }
+    {
+        self.placed(slot)
+    }
+
+    fn placed(&self, slot: u16) -> Option<u32>
+        ensures value { result ≡ block_in (kept_at self.now slot) }
+        ensures whole { IsWhole self.now }
+    {
+        match &self.places[usize::from(slot)] {
+            Place::Free => None,
+            Place::Pending(_) => None,
+            Place::Moving(_, _) => None,
+            Place::Newest(block, _) => Some(*block),
+        }
     }
 
     pub(crate) fn told(&self, block: u32) -> Option<Record>

@@ -93,8 +93,8 @@ impl World {
         self.array.effective(slot, unit, scratch)
     }
 
-    // Nobody holds the slot.
-    fn is_free(&self, slot: u16) -> bool
+    /// Whether nobody holds the slot, neither a worker nor the array.
+    pub fn is_free(&self, slot: u16) -> bool
         ensures { result ≡ has_no_holder (kept_at self.now.array slot) (hand_at self.now.hands slot) }
     {
         match self.hands[usize::from(slot)] {

@@ -1,10 +1,8 @@
-use Rattle.flat_machine.specs.Steps as s
-use Rattle.script_words.specs.Order as o
-use Rattle.script_bench.proofs.Carried.{told_step}
+use Rattle.step_core.specs.Told.{flat_answer}
+use Rattle.script_bench.proofs.Carried.{told_commit}
 use Rattle.script_bench.proofs.carry.commit.Goals as goal
 
 pub returns : goal.returns
 returns c =
-    told_step c.put_answer.result c.args.bench.now _ (o.Commit c.args.worker c.args.slot c.args.block)
-    (s.Commit c.args.worker c.args.slot c.args.block) _ _ _ c.put_answer.ensures
-    (λ P stands. c.in_ok-answer.ensures.ok P.flat stands.world) (λ P stands. stands.maps) (λ P text t steps. steps)
+    told_commit c.put_answer.result c.args.bench.now c.commit.new.self c.args.worker c.args.slot c.args.block (flat_answer c.in_ok-answer.answer) _ _ c.put_answer.ensures
+    c.in_ok-answer.ensures.ok

@@ -7,4 +7,4 @@ pub returns : goal.returns
 returns c =
     told_step c.put_answer.result c.args.bench.now _ (o.Copy c.args.worker c.args.slot c.args.block)
     (s.Copy c.args.worker c.args.slot c.args.block) _ _ _ c.put_answer.ensures
-    (λ P stands. c.in_ok-answer.ensures.ok P.flat stands.world) (λ P stands. stands.maps) (λ P text t steps. steps)
+    (λ P stands. c.in_ok-answer.ensures.ok P.tiers.flat stands.tiers.world) c.in_ok-answer.ensures.room (λ P text t steps. steps)

@@ -7,4 +7,4 @@ pub returns : goal.returns
 returns c =
     told_step c.put_answer.result c.args.bench.now _ (o.Release c.args.worker c.args.slot)
     (s.Release c.args.worker c.args.slot) _ _ _ c.put_answer.ensures
-    (λ P stands. c.release-answer.ensures.flat P.flat stands.world) (λ P stands. stands.maps) (λ P text t steps. steps)
+    (λ P stands. c.release-answer.ensures.flat P.tiers.flat stands.tiers.world) c.release-answer.ensures.room (λ P text t steps. steps)

@@ -5,5 +5,5 @@ pub returns : goal.returns
 returns c =
     on_ok c.put_took.result _ _ c.put_took.ensures
     (λ out P stands.
-    took_record P c.args.bench.now.world c.take_into.new.maps c.args.map c.args.record c.in-Ok.newest _ _
-    c.requires.map stands.world (c.in-Ok.ensures.taken P.taken stands.maps) c.in-Ok.ensures.newest out)
+    took_record P c.args.bench.now.tiers c.take_into.new.maps c.args.map c.args.record c.in-Ok.newest _ _
+    c.requires.map stands.tiers (c.in-Ok.ensures.taken P.taken stands.maps) c.in-Ok.ensures.newest out)

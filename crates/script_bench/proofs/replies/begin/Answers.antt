@@ -1,14 +1,15 @@
 use Rattle.std.proofs.Common.{ℕ, nat_le, codes, refl, sym, ap, subst, ◌∙◌, rules, Some}
 use Rattle.extent_groups.specs.Groups.{Groups}
 use Rattle.flat_machine.specs.Flat.{new_flat}
-use Rattle.step_core.specs.Views.{WorldView}
-use Rattle.step_core.specs.Represents.{Represents}
+use Rattle.tiering.specs.Tiered.{begun}
+use Rattle.tiering.specs.Stands.{StandsFor}
+use Rattle.tiering.specs.declared.tiers.Tiers.{Tiers}
 use Rattle.script_bench.specs.State.{State, nothing_taken}
 use Rattle.script_bench.proofs.replies.begin.Goals as goal
 
 -- where a new array stands
-abbrev begun : Groups → ℕ → State
-begun groups drives = Some (record { flat = new_flat groups drives (nat_le drives) (λ _. 0); taken = nothing_taken })
+abbrev begun_state : Groups → ℕ → State
+begun_state groups drives = Some (record { tiers = begun (new_flat groups drives (nat_le drives) (λ _. 0)); taken = nothing_taken })
 
 pub returns-in-Ok-put : goal.returns-in-Ok-put
 returns-in-Ok-put c =
@@ -20,7 +21,7 @@ returns-in-Ok-put c =
       range = record { within = search rules; fit = some.2 };
       carried = record {
         text = codes "array";
-        next = begun groups c.in-Some.drives;
+        next = begun_state groups c.in-Some.drives;
         answers = record {
           groups = groups;
           none = record {
@@ -31,10 +32,11 @@ returns-in-Ok-put c =
             empty = c.in-Ok.ensures.empty;
           };
           text_is = refl;
-          state_is = ap (begun groups) some.0;
+          state_is = ap (begun_state groups) some.0;
         };
         stands = record {
-          world = subst (λ (w : WorldView). Represents w (new_flat groups c.in-Some.drives (nat_le c.in-Some.drives) (λ _. 0))) (sym c.new-in-Ok-put.ensures.world) c.in-Ok.ensures.ok;
+          tiers = subst (λ (t : Tiers). StandsFor t (begun (new_flat groups c.in-Some.drives (nat_le c.in-Some.drives) (λ _. 0)))) (sym c.new-in-Ok-put.ensures.tiers)
+              (c.in-Ok-new.ensures.ok _ c.in-Ok.ensures.ok);
           maps = c.new-in-Ok-put.ensures.maps;
         };
         out = c.in-Ok-put.ensures;

@@ -8,7 +8,7 @@ use Rattle.script_bench.proofs.replies.later.Goals as goal
 pub returns-in-Ok-None : goal.returns-in-Ok-None
 returns-in-Ok-None c P stands =
     let stand = rw c.in-Some.is at stands in
-    let groups = stand.world.array.tables.groups ∙ ap (λ (a : ArrayView). a.parts.groups) (sym c.array.ensures) in
+    let groups = stand.tiers.world.array.tables.groups ∙ ap (λ (a : ArrayView). a.parts.groups) (sym c.array.ensures) in
     let size = ap (λ (z : Groups). z.payload) groups ∙ sym c.shape-shape.ensures.of_payload in
     let room : c.shape-shape.result.payload ≤ length c.args.payload.now = omega arith in
     unsaid P _ c.args.line.now c.args.out.now.items
@@ -18,7 +18,7 @@ returns-in-Ok-None c P stands =
 pub returns-in-Ok-carry_out : goal.returns-in-Ok-carry_out
 returns-in-Ok-carry_out c P stands =
     let stand = rw c.in-Some.is at stands in
-    let groups = stand.world.array.tables.groups ∙ ap (λ (a : ArrayView). a.parts.groups) (sym c.array.ensures) in
+    let groups = stand.tiers.world.array.tables.groups ∙ ap (λ (a : ArrayView). a.parts.groups) (sym c.array.ensures) in
     let size = ap (λ (z : Groups). z.payload) groups ∙ sym c.shape-shape.ensures.of_payload in
     let room : c.shape-shape.result.payload ≤ length c.args.payload.now = omega arith in
     let bytes = c.command_of.new.payload in

@@ -11,5 +11,5 @@ returns-in-Err c =
 
 pub returns : goal.returns
 returns c =
-    made_anew c.args.bench c.scan_world.new.world c.in-Ok-restarted.world (at c.in-Ok.map) _ _ _ c.in-Ok.ensures.ok c.in-Ok-restarted.ensures.ok
-    (c.record_count-count.ensures ∙ ap (λ (a : ArrayView). length a.log) c.array.ensures) c.in_ok-put_numbered.ensures
+    made_anew c.args.bench c.scan_world.new.world c.in-Ok-restarted.world c.in_ok-tiers.tiers (at c.in-Ok.map) _ _ _ c.in-Ok.ensures.ok c.in-Ok-restarted.ensures.ok
+    (c.record_count-count.ensures ∙ ap (λ (a : ArrayView). length a.log) c.array.ensures) c.in_ok-tiers.ensures.ok c.in_ok-put_numbered.ensures

@@ -1,0 +1,39 @@
+-- The live slots of a group, counted one after another.
+use Rattle.std.proofs.Common.{◌≡◌, ℕ, ◌+◌, ◌*◌, ◌/◌, ◌%◌, ◌<◌, ◌≤◌, List, [], ◌∷◌, ◌++◌, length, refl, sym, ap, ◌∙◌, subst, arith}
+use Rattle.std.proofs.lemmas.List.{length_push}
+use Rattle.map_join.specs.Lists.{IsCount, Lists, ListsBelow}
+use Rattle.map_join.specs.Live.{IsLive, IsLiveIn, IsLiveCount}
+use Rattle.map_join.proofs.Rising.{below_none, below_more, below_skip, below_all}
+
+-- so many of a group's slots below an index are live
+abbrev pub IsCounted : (ℕ → ℕ) → ℕ → ℕ → ℕ → ℕ → Type 0
+IsCounted keys group slots index count =
+    (found : List ℕ) × ListsBelow (IsLiveIn keys group slots) (128 * group + index) found × (length found ≡ count) × (count ≤ index)
+
+pub counted_none : (keys : ℕ → ℕ) (group slots : ℕ) → IsCounted keys group slots 0 0
+counted_none keys group slots = ([], below_none (IsLiveIn keys group slots) (128 * group + 0) (λ n l live. let own = live.own in omega (arith, l, own)), refl, omega arith)
+
+pub counted_more : (keys : ℕ → ℕ) (group slots index count : ℕ) → index < slots → slots ≤ 128 → IsLive keys (128 * group + index)
+    → IsCounted keys group slots index count → IsCounted keys group slots (index + 1) (count + 1)
+counted_more keys group slots index count l few live h =
+    let slot : ℕ = 128 * group + index in
+    let at : slot % 128 ≡ index = omega arith in
+    let is : IsLiveIn keys group slots slot = record { own = omega arith; among = omega (arith, at); live = live } in
+    let more = below_more (IsLiveIn keys group slots) slot h.0 is h.1 in
+    (h.0 ++ slot ∷ [], subst (λ b. ListsBelow (IsLiveIn keys group slots) b (h.0 ++ slot ∷ [])) (omega arith) more, length_push h.0 slot ∙ ap (λ n. n + 1) h.2, omega (arith, h.3))
+
+pub counted_skip : (keys : ℕ → ℕ) (group slots index count : ℕ) → (IsLive keys (128 * group + index) → ⊥)
+    → IsCounted keys group slots index count → IsCounted keys group slots (index + 1) count
+counted_skip keys group slots index count dead h = (
+  h.0,
+  below_skip (IsLiveIn keys group slots) (128 * group + index) (128 * group + (index + 1)) h.0 (omega arith) none h.1,
+  h.2,
+  omega (arith, h.3),
+)
+  where
+    none : (n : ℕ) → 128 * group + index ≤ n → n < 128 * group + (index + 1) → IsLiveIn keys group slots n → ⊥
+    none n a b live = dead (subst (IsLive keys) (omega (arith, a, b)) live.live)
+
+pub counted_all : (keys : ℕ → ℕ) (group slots index count : ℕ) → slots ≤ index → index ≤ 128 → IsCounted keys group slots index count → IsLiveCount keys group slots count
+counted_all keys group slots index count all few h =
+    (h.0, below_all (IsLiveIn keys group slots) (128 * group + index) h.0 (λ n live. let own = live.own in let among = live.among in omega (arith, own, among, all)) h.1, h.2)

@@ -1,0 +1,5 @@
+pub mod Tiered
+pub mod Placing
+pub mod Steps
+pub mod Stands
+pub mod Inside

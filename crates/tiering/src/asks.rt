@@ -1,0 +1,74 @@
+// What the plans ask of a running array, answered by its tables.
+ghost use Rattle.std.specs.Prelude.{◌≡◌, true};
+ghost use Rattle.std.specs.Prelude.{◌↔◌, IsTrue};
+ghost use Rattle.array_model.specs.Views.{key_at};
+ghost use Rattle.map_join.specs.Live.{IsLive};
+ghost use Rattle.tiering.specs.Inside.{IsFreeHere};
+
+use extent_groups::SLOTS;
+use map_join::{Live, Newest, Record};
+use migrator::Free;
+use step_core::World;
+
+// The tables of a world.
+#[derive(Drop)]
+pub(crate) struct Running<'a> {
+    pub(crate) world: &'a World,
+}
+
+impl<'a> Newest for Running<'a> {
+    ghost keys = { λ r. key_at r.world.now.array };
+
+    fn newest(&self, block: u32) -> Option<Record> {
+        self.world.whole();
+        let array = self.world.array();
+        if block >= array.shape().blocks {
+            return None;
+        }
+        array.newest(block)
+    }
+}
+
+impl<'a> Live for Running<'a> {
+    ghost keys = { λ r. key_at r.world.now.array };
+
+    fn block_at(&self, slot: u16) -> Option<u32> {
+        self.world.array().block_at(slot)
+    }
+
+    fn count_live(&self, group: u16, slots: u16) -> u16 {
+        let mut count = 0;
+        for index in 0..slots {
+            if is_live(self.world, SLOTS * group + index) {
+                count += 1;
+            }
+        }
+        count
+    }
+}
+
+// Whether the slot is the newest place of a block.
+fn is_live(world: &World, slot: u16) -> bool
+    ensures { IsTrue result ↔ IsLive (key_at world.now.array) slot }
+{
+    world.array().block_at(slot).is_some()
+}
+
+impl<'a> Free for Running<'a> {
+    ghost free = { λ r slot. IsFreeHere r.world.now slot };
+
+    fn is_free(&self, slot: u16) -> bool {
+        self.world.is_free(slot)
+    }
+}
+
+// Every slot, held or not.
+pub(crate) struct Any;
+
+impl Free for Any {
+    ghost free = { λ any slot. Unit {0} };
+
+    fn is_free(&self, slot: u16) -> bool {
+        true
+    }
+}

@@ -1,0 +1,13 @@
+//! What a worker does by a plan: it writes a block into the mirrored level, demotes the oldest into the parity level, plugs a
+//! hole, cleans a group.
+#![tactic(auto)]
+
+mod asks;
+mod outcome;
+mod place;
+mod plans;
+mod tiers;
+mod write;
+
+pub use outcome::Outcome;
+pub use tiers::Tiers;
