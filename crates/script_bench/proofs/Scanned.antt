@@ -63,7 +63,7 @@ listed_map before after keys listed old new list scans out = λ P stands.
       text = codes "scan " ++ listing listed;
       next = Some (with_flat P scanned.0);
       answers = record { answer = Told keys; next = scanned.0; case = scanned.1; told = (listed, list, refl); state_is = refl };
-      stands = stands_left before after P scanned.0 stands scanned.2 (scan_leaves P.tiers.flat scanned.0 _ scanned.1);
+      stands = stands_left before after P scanned.0 stands scanned.2 (scan_leaves P.tiers.flat scanned.0 (Told keys) scanned.1);
       out = out;
     }
 
@@ -77,7 +77,7 @@ scan_fault before after found old new other tells out = λ P stands.
       text = fault_text found;
       next = Some (with_flat P scanned.0);
       answers = record { answer = NotTold gone.slot; next = scanned.0; case = scanned.1; told = ap fault_text gone.is; state_is = refl };
-      stands = stands_left before after P scanned.0 stands scanned.2 (scan_leaves P.tiers.flat scanned.0 _ scanned.1);
+      stands = stands_left before after P scanned.0 stands scanned.2 (scan_leaves P.tiers.flat scanned.0 (NotTold gone.slot) scanned.1);
       out = out;
     }
 
@@ -97,7 +97,7 @@ restart_fault before after found old new other tells out = λ P stands.
       text = fault_text found;
       next = Some (with_flat P scanned.0);
       answers = record { answer = NotRestarted gone.slot; next = scanned.0; case = scanned.1; text_is = ap fault_text gone.is; state_is = refl };
-      stands = stands_left before after P scanned.0 stands scanned.2 (scan_leaves P.tiers.flat scanned.0 _ scanned.1);
+      stands = stands_left before after P scanned.0 stands scanned.2 (scan_leaves P.tiers.flat scanned.0 (NotTold gone.slot) scanned.1);
       out = out;
     }
 
