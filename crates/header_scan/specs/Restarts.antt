@@ -14,9 +14,11 @@ use Rattle.array_model.specs.Adopted.{HasParts, IsAdopted}
 use Rattle.array_model.specs.Represents.{ShowsArray}
 use Rattle.array_model.specs.Views.{ArrayView}
 use Rattle.step_core.specs.Adopted.{IsUnclaimed, IsIdle}
+use Rattle.step_core.specs.declared.adopt.NotAdopted.{NotAdopted}
+use Rattle.step_core.specs.declared.adopt.NotAdopted.TheVariants as adopted
 use Rattle.header_scan.specs.Faults.{between, AreFine, IsFirstFault, IsTwice}
 use Rattle.header_scan.specs.declared.fault.ScanFault.{ScanFault}
-use Rattle.header_scan.specs.declared.fault.ScanFault.TheVariants.{NoClaim}
+use Rattle.header_scan.specs.declared.fault.ScanFault.TheVariants.{Memory, NoClaim}
 
 -- each slot of a group has a unit, and no other slot has one
 abbrev pub HasUnits : Flat → Type 0
@@ -57,3 +59,8 @@ abbrev pub IsRestartFault : {D C : Type 0} → (D → List (List ℕ)) → (D �
 IsRestartFault units lost parts left names claims (NoClaim slot) = (keys : ℕ → ℕ) × TellAll units lost parts keys × IsUnclaimed names claims keys slot
 IsRestartFault units lost parts left names claims fault =
     IsFirstFault parts.groups 0 (2 ^ 16) (unit_of parts.groups (cells_in units lost parts)) (unit_of parts.groups (cells_in units lost left)) fault
+
+-- the fault that tells why no array was put together
+abbrev pub fault_of : NotAdopted → ScanFault
+fault_of adopted.Memory = Memory
+fault_of (adopted.NoClaim slot) = NoClaim slot

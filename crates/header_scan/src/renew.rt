@@ -3,7 +3,7 @@ ghost use Rattle.std.specs.Prelude.{◌≡◌, IfOk, IfErr};
 ghost use Rattle.array_parts.specs.Fit.{IsFit};
 ghost use Rattle.array_parts.specs.Losses.{LosesOnly};
 ghost use Rattle.step_core.specs.Adopted.{AreShared};
-ghost use Rattle.header_scan.specs.Restarts.{AreAllSound, IsRestartFault, StandsForOne, WasMade};
+ghost use Rattle.header_scan.specs.Restarts.{AreAllSound, IsRestartFault, StandsForOne, WasMade, fault_of};
 
 use crate::{ScanFault, scan};
 use array_parts::Parts;
@@ -35,9 +35,16 @@ pub fn restart<D: Drive, C: Hold>(
     };
     match Array::adopt_among(alloc, parts, map, claims) {
         Ok(made) => Ok(made),
-        Err((NotAdopted::Memory, parts, _map, claims)) => Err((ScanFault::Memory, parts, claims)),
-        Err((NotAdopted::NoClaim(slot), parts, _map, claims)) => {
-            Err((ScanFault::NoClaim(slot), parts, claims))
-        }
+        Err((why, parts, _map, claims)) => Err((told(why), parts, claims)),
+    }
+}
+
+// The fault that tells why no array was put together.
+fn told(why: NotAdopted) -> ScanFault
+    ensures { result ≡ fault_of why }
+{
+    match why {
+        NotAdopted::Memory => ScanFault::Memory,
+        NotAdopted::NoClaim(slot) => ScanFault::NoClaim(slot),
     }
 }

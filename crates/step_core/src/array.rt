@@ -1,5 +1,5 @@
 // The array: its tables, and the small reads of them.
-ghost use Rattle.std.specs.Prelude.{◌≡◌, ℕ, ◌+◌, ◌*◌, ◌<◌, ◌≤◌, length, map, drop, replicate, slice_index, slice_index_or, None, true, IsTrue, ◌↔◌, IfOk, IfErr, OnOk};
+ghost use Rattle.std.specs.Prelude.{◌≡◌, ℕ, ◌+◌, ◌*◌, ◌<◌, ◌≤◌, length, map, drop, replicate, slice_index, slice_index_or, None, true, IsTrue, ◌↔◌, IsOk, IfOk, IfErr, OnOk};
 ghost use Rattle.map_join.specs.Record.{record_at};
 ghost use Rattle.map_join.specs.Live.{IsBlockAt};
 ghost use Rattle.map_join.specs.Maps.{at, IsSame, IsMapOf};
@@ -213,12 +213,14 @@ impl<D: Drive, C: Hold> Array<D, C> {
         self.log.len()
     }
 
-    /// The emitted records from the n-th on, in order of emission; none where n is past the end.
+    /// The emitted records from the n-th on, in order of emission; none where n is past the end, and then no
+    /// memory is wanted.
     pub fn records_from(&self, alloc: Global, n: usize) -> Result<Vec<Record>, Refusal>
         ensures ok { IfOk result (λ records. records.items ≡ drop n self.now.log) }
+        ensures there { length self.now.log ≤ n → IsOk result }
         ensures err { IfErr result (λ refusal. refusal ≡ Refusal.Memory) }
     {
-        if n > self.log.len() {
+        if n >= self.log.len() {
             return Ok(Vec::new(alloc));
         }
         match self.log[n..].to_vec(alloc) {
@@ -227,9 +229,10 @@ impl<D: Drive, C: Hold> Array<D, C> {
         }
     }
 
-    /// The running map, copied.
+    /// The running map, copied. Memory is wanted only where a block was written.
     pub fn map(&self, alloc: Global) -> Result<BlockMap, Refusal>
         ensures ok { IfOk result (λ map. IsSame (at map) (key_at self.now)) }
+        ensures there { IsSame (key_at self.now) (λ _. 0) → IsOk result }
         ensures flat { IfOk result (λ map. (F : Flat) → ShowsArray self.now F → IsMapOf F.emitted (at map)) }
         ensures err { IfErr result (λ refusal. refusal ≡ Refusal.Memory) }
     {
@@ -247,7 +250,8 @@ impl<D: Drive, C: Hold> Array<D, C> {
     fn take_newest(&self, alloc: Global, block: u32, map: &mut BlockMap) -> Result<(), MapRefusal>
         requires inside { block < self.now.parts.groups.blocks }
         requires none { at map.old block ≡ 0 }
-        ensures { OnOk result (IsSame (at map.new) (put (at map.old) block (key_at self.now block))) }
+        ensures ok { OnOk result (IsSame (at map.new) (put (at map.old) block (key_at self.now block))) }
+        ensures there { key_at self.now block ≡ 0 → IsOk result }
     {
         match self.told(block) {
             None => Ok(()),
