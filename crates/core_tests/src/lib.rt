@@ -10,8 +10,12 @@ mod reads;
 #[cfg(test)]
 mod restarts;
 #[cfg(test)]
+mod rig;
+#[cfg(test)]
 mod runs;
 #[cfg(test)]
 mod scans;
+#[cfg(test)]
+mod script;
 #[cfg(test)]
 mod sizes;
