@@ -1,17 +1,17 @@
 // An array taken apart and made anew: its map, its log, its claims, and what each block reads.
 use crate::rig::{Memory, Rig, record};
 use crate::script::{Told, tell};
-use header_scan::{restart, scan};
+use header_scan::restart;
 use std::alloc::Global;
 use std::process::Abort;
-use step_core::{Array, Class, Plain, Refusal, World};
+use step_core::{Class, Plain, Refusal, World};
 
 /// More calls of one drive than the restart below makes.
 const CALLS: u64 = 30;
 
-// Slots 0 to 5 are mirrored on drives 0 to 2, slots 128 to 135 have parity on drives 1 to 3. Block 3 was written at slot 0
-// and again at slot 2, block 5 at slot 1 and copied to slot 130, block 0 at slot 4.
-fn written(rt: &impl Abort, alloc: Global) -> Rig {
+/// Slots 0 to 5 are mirrored on drives 0 to 2, slots 128 to 135 have parity on drives 1 to 3. Block 3 was written at slot 0
+/// and again at slot 2, block 5 at slot 1 and copied to slot 130, block 0 at slot 4.
+pub(crate) fn written(rt: &impl Abort, alloc: Global) -> Rig {
     let mut rig = Rig::new(rt, alloc, 4);
     assert!(rt; rig.make(rt, Class::Parity, [1, 2, 3], 1) == 1);
     assert!(rt; rig.write(rt, 0, 3, 0x11) == record(3, 1, 0, 0));
@@ -41,8 +41,8 @@ fn holds_newest(array: &Memory) -> bool {
     (0..256).all(|slot| array.is_held(slot) == (slot == 2 || slot == 4 || slot == 130))
 }
 
-// Whether the array made anew tells what `written` left, and no more.
-fn is_as_written(rt: &impl Abort, rig: &mut Rig) -> bool {
+/// Whether the array tells what `written` left, made anew, and no more.
+pub(crate) fn is_as_written(rt: &impl Abort, rig: &mut Rig) -> bool {
     lists_newest(rig) && holds_newest(&rig.array) && reads_as_written(rt, rig)
 }
 
@@ -122,27 +122,6 @@ fn a_world_of_an_array_has_empty_hands(rt: HostRuntime) {
     assert!(rt; tell(&world.discard(6, 3)) == Told::Refused(Refusal::NoTicket));
     assert!(rt; tell(&world.claim(1, 5)) == Told::Claimed(5));
     assert!(rt; tell(&world.claim(1, 3)) == Told::Taken(3));
-}
-
-// Takes the array apart, and puts it together by a scan: the array, and how many claims it doesn't take.
-fn adopted(rt: &impl Abort, rig: Rig) -> (Rig, usize) {
-    let Rig { array, alloc } = rig;
-    let Ok((mut parts, claims)) = array.into_parts(alloc) else {
-        panic!(rt; "not taken apart")
-    };
-    let Ok(map) = scan(alloc, &mut parts) else {
-        panic!(rt; "no map")
-    };
-    let Ok((array, others)) = Array::adopt_among(alloc, parts, map, claims) else {
-        panic!(rt; "not put together")
-    };
-    (Rig { array, alloc }, others.len())
-}
-
-#[test]
-fn parts_with_their_map_are_adopted(rt: HostRuntime) {
-    let (mut anew, others) = adopted(&rt, written(&rt, rt.alloc()));
-    assert!(rt; others == 0 && is_as_written(&rt, &mut anew));
 }
 
 // The array as `written` left it, with a drive fused as a world fuses it.
