@@ -2,6 +2,8 @@
 #![tactic(auto)]
 
 #[cfg(test)]
+mod adoptions;
+#[cfg(test)]
 mod learned;
 #[cfg(test)]
 mod losses;
@@ -10,8 +12,12 @@ mod reads;
 #[cfg(test)]
 mod restarts;
 #[cfg(test)]
+mod rig;
+#[cfg(test)]
 mod runs;
 #[cfg(test)]
 mod scans;
+#[cfg(test)]
+mod script;
 #[cfg(test)]
 mod sizes;

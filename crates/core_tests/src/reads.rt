@@ -1,13 +1,9 @@
 // What an array answers by itself, and what is learned of a stale record.
+use crate::rig::{Rig, is_refused, record};
 use map_join::Record;
 use std::alloc::Global;
 use std::process::Abort;
-use std::test::Fail;
-use step_core::{Array, At, Class, MemDrive, Member, Plain, Refusal, Shape};
-
-fn member(drive: u8, extent: u16) -> Member {
-    Member { drive, extent }
-}
+use step_core::Refusal;
 
 const FIRST: Record = Record {
     block: 3,
@@ -16,107 +12,71 @@ const FIRST: Record = Record {
     place: 0,
 };
 
-fn three_drives(alloc: Global) -> Result<Array<MemDrive, Plain>, Fail> {
-    let shape = Shape::new(8, 2, 8, 16)?;
-    let mut array: Array<MemDrive, Plain> = Array::in_memory(alloc, shape, 3)?;
-    let members = [member(0, 0), member(1, 0), member(2, 0)];
-    array.make_group(alloc, Class::Mirrored, &members)?;
-    Ok(array)
-}
-
-// Block 3 is written at slot 0 of a mirrored group.
-fn written(rt: &impl Abort, alloc: Global) -> Result<Array<MemDrive, Plain>, Fail> {
-    let mut array = three_drives(alloc)?;
-    assert_eq!(rt; (array.shape().payload, array.shape().blocks), (8, 16));
-    let Ok(ticket) = array.fill(alloc, Plain { slot: 0 }, &[0x11; 8]) else {
-        panic!(rt; "not filled")
-    };
-    assert_eq!(rt; array.shape().blocks, 16);
-    let Ok(done) = array.commit(alloc, ticket, 3) else {
-        panic!(rt; "not committed")
-    };
+// Block 3 is written at slot 0 of a mirrored group on three drives.
+fn written(rt: &impl Abort, alloc: Global) -> Rig {
+    let mut rig = Rig::new(rt, alloc, 3);
+    let done = rig.put(rt, 0, 3, 0x11);
     assert!(rt; done.emitted.record() == FIRST && done.old.is_none());
-    Ok(array)
+    rig
 }
 
-#[test]
-fn an_array_tells_its_log_its_map_and_its_slots(rt: HostRuntime) -> Result<(), Fail> {
-    let alloc = rt.alloc();
-    let array = written(&rt, alloc)?;
-    assert_eq!(rt; array.records_from(alloc, 0)?.len(), 1);
-    assert_eq!(rt; array.records_from(alloc, 2)?.len(), 0);
-    assert_eq!(rt; array.map(alloc)?.get(3), Some(FIRST));
-    assert!(rt; array.is_held(0) && !array.is_held(1));
-    assert_eq!(rt; array.drive_count(), 3);
-    assert!(rt; !array.is_lost(2) && array.is_lost(3));
-    Ok(())
-}
-
-#[test]
-fn an_array_hands_claims_back(rt: HostRuntime) -> Result<(), Fail> {
-    let alloc = rt.alloc();
-    let mut array = three_drives(alloc)?;
-    assert_eq!(rt; array.shape().payload, 8);
-    let Err((refusal, claim)) = array.fill(alloc, Plain { slot: 9 }, &[7u8; 8]) else {
-        panic!(rt; "filled a slot of no group")
+// How many records were emitted from the n-th on.
+fn count_from(rt: &impl Abort, rig: &Rig, n: usize) -> usize {
+    let Ok(records) = rig.array.records_from(rig.alloc, n) else {
+        panic!(rt; "no memory")
     };
-    assert_eq!(rt; (refusal, claim), (Refusal::NoGroup, Plain { slot: 9 }));
-    Ok(())
+    records.len()
+}
+
+// What the running map has of a block.
+fn mapped(rt: &impl Abort, rig: &Rig, block: u32) -> Option<Record> {
+    let Ok(map) = rig.array.map(rig.alloc) else {
+        panic!(rt; "no memory")
+    };
+    map.get(block)
 }
 
 #[test]
-fn a_slot_that_the_array_holds_is_in_use(rt: HostRuntime) -> Result<(), Fail> {
-    let alloc = rt.alloc();
-    let mut array = three_drives(alloc)?;
-    assert_eq!(rt; (array.shape().payload, array.shape().blocks), (8, 16));
-    let Ok(_ticket) = array.fill(alloc, Plain { slot: 0 }, &[7u8; 8]) else {
-        panic!(rt; "not filled")
-    };
-    let again = array.fill(alloc, Plain { slot: 0 }, &[7u8; 8]);
-    assert!(rt; matches!(again, Err((Refusal::InUse, Plain { slot: 0 }))));
-    assert_eq!(rt; array.shape().blocks, 16);
-    let copied = array.copy(alloc, Plain { slot: 0 }, 3);
-    assert!(rt; matches!(copied, Err((Refusal::InUse, Plain { slot: 0 }))));
-    Ok(())
+fn an_array_tells_its_log_its_map_and_its_slots(rt: HostRuntime) {
+    let rig = written(&rt, rt.alloc());
+    assert!(rt; count_from(&rt, &rig, 0) == 1 && count_from(&rt, &rig, 2) == 0);
+    assert!(rt; mapped(&rt, &rig, 3) == Some(FIRST));
+    assert!(rt; rig.array.is_held(0) && !rig.array.is_held(1));
+    assert!(rt; rig.array.drive_count() == 3);
+    assert!(rt; !rig.array.is_lost(2) && rig.array.is_lost(3));
 }
 
 #[test]
-fn a_record_is_read_at_its_place_or_learned(rt: HostRuntime) -> Result<(), Fail> {
-    let alloc = rt.alloc();
-    let mut array = written(&rt, alloc)?;
-    assert_eq!(rt; array.shape().blocks, 16);
-    let At::Data(payload) = array.read_at(alloc, FIRST)? else {
-        panic!(rt; "nothing at its place")
-    };
-    assert_eq!(rt; payload.as_slice(), [0x11u8; 8].as_slice());
-    let elsewhere = Record { place: 1, ..FIRST };
-    assert_eq!(rt; array.shape().blocks, 16);
-    let ahead = array.read_or_learn(alloc, elsewhere);
-    assert!(rt; matches!(ahead, Err(Refusal::Ahead(Some(newest))) if newest == FIRST));
-    assert_eq!(rt; array.shape().blocks, 16);
-    let reading = array.read_or_learn(alloc, FIRST)?;
-    assert!(rt; reading.record() == FIRST);
-    assert_eq!(rt; reading.payload(), [0x11u8; 8].as_slice());
-    Ok(())
+fn an_array_hands_claims_back(rt: HostRuntime) {
+    let mut rig = Rig::new(&rt, rt.alloc(), 3);
+    assert!(rt; is_refused(&rig.fill(&rt, 9, 7), Refusal::NoGroup, 9));
+}
+
+#[test]
+fn a_slot_that_the_array_holds_is_in_use(rt: HostRuntime) {
+    let mut rig = Rig::new(&rt, rt.alloc(), 3);
+    assert!(rt; rig.fill(&rt, 0, 7).is_ok());
+    assert!(rt; is_refused(&rig.fill(&rt, 0, 7), Refusal::InUse, 0));
+    assert!(rt; is_refused(&rig.copy(&rt, 0, 3), Refusal::InUse, 0));
+}
+
+#[test]
+fn a_record_is_read_at_its_place_or_learned(rt: HostRuntime) {
+    let mut rig = written(&rt, rt.alloc());
+    assert!(rt; rig.finds(&rt, FIRST, 0x11));
+    let ahead = rig.learn(&rt, record(3, 1, 0, 1)).err();
+    assert!(rt; ahead == Some(Refusal::Ahead(Some(FIRST))));
+    assert!(rt; rig.learns(&rt, FIRST, FIRST, 0x11));
 }
 
 // What two copies on drives 0 and 1 tell of block 3 once drives are lost.
 #[test]
-fn a_block_is_read_until_both_its_copies_are_lost(rt: HostRuntime) -> Result<(), Fail> {
-    let alloc = rt.alloc();
-    let mut array = written(&rt, alloc)?;
-    assert_eq!(rt; array.drive_count(), 3);
-    array.lose(0);
-    assert_eq!(rt; array.shape().blocks, 16);
-    let Some((version, payload)) = array.read(alloc, 3)? else {
-        panic!(rt; "no block")
-    };
-    assert!(rt; version == 1 && payload.as_slice() == [0x11u8; 8].as_slice());
-    assert_eq!(rt; array.drive_count(), 3);
-    array.fuse(1, 1);
-    assert!(rt; !array.is_lost(1));
-    assert_eq!(rt; array.shape().blocks, 16);
-    assert!(rt; matches!(array.read(alloc, 3), Err(Refusal::Gone(0))));
-    assert!(rt; array.is_lost(1));
-    Ok(())
+fn a_block_is_read_until_both_its_copies_are_lost(rt: HostRuntime) {
+    let mut rig = written(&rt, rt.alloc());
+    rig.lose(&rt, 0);
+    assert!(rt; rig.reads(&rt, 3, 1, 0x11));
+    rig.fuse(&rt, 1, 1);
+    assert!(rt; !rig.array.is_lost(1));
+    assert!(rt; rig.read(&rt, 3).err() == Some(Refusal::Gone(0)));
+    assert!(rt; rig.array.is_lost(1));
 }

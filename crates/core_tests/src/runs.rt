@@ -1,29 +1,17 @@
 // Runs of many steps: no count of them, and no length of the log, ends one.
+use crate::rig::members_on;
+use crate::script::new_world;
 use std::alloc::{AllocError, Global};
-use std::test::Fail;
-use step_core::{Answer, Class, Member, Shape, Step, World, run_steps};
+use std::process::Abort;
+use step_core::{Answer, Class, Run, Step, World, run_steps};
 
 /// More commits than a log of 4,096 records takes.
 const WRITES: u16 = 4_200;
 
 fn group(alloc: Global) -> Result<Step, AllocError> {
-    let members = [
-        Member {
-            drive: 0,
-            extent: 0,
-        },
-        Member {
-            drive: 1,
-            extent: 0,
-        },
-        Member {
-            drive: 2,
-            extent: 0,
-        },
-    ];
     Ok(Step::Make {
         class: Class::Mirrored,
-        members: members.to_vec(alloc)?,
+        members: members_on([0, 1, 2], 0).to_vec(alloc)?,
     })
 }
 
@@ -57,21 +45,34 @@ fn writes(alloc: Global) -> Result<Vec<Step>, AllocError> {
     Ok(steps)
 }
 
-#[test]
-fn thousands_of_steps_run_to_their_end(rt: HostRuntime) -> Result<(), Fail> {
-    let alloc = rt.alloc();
-    let world = World::new(alloc, Shape::new(8, 2, 8, 16)?, 4)?;
-    let steps = writes(alloc)?;
+// Runs a world over steps to their end.
+fn run(rt: &impl Abort, alloc: Global, world: World, steps: &[Step]) -> Run {
     assert!(rt; steps.iter().all(|step| world.fits(step)));
-    let Ok(run) = run_steps(alloc, world, &steps) else {
+    let Ok(run) = run_steps(alloc, world, steps) else {
         panic!(rt; "stopped")
     };
-    assert_eq!(rt; run.answers.len(), steps.len());
-    let records = run.world.array().records_from(alloc, 0)?;
-    assert_eq!(rt; records.len(), usize::from(WRITES));
+    run
+}
+
+// How many records the world emitted, as its log lists them.
+fn listed(rt: &impl Abort, alloc: Global, world: &World) -> usize {
+    let Ok(records) = world.array().records_from(alloc, 0) else {
+        panic!(rt; "no memory")
+    };
+    records.len()
+}
+
+#[test]
+fn thousands_of_steps_run_to_their_end(rt: HostRuntime) {
+    let alloc = rt.alloc();
+    let Ok(steps) = writes(alloc) else {
+        panic!(rt; "no memory")
+    };
+    let run = run(&rt, alloc, new_world(&rt, alloc), &steps);
+    assert!(rt; run.answers.len() == steps.len());
+    assert!(rt; listed(&rt, alloc, &run.world) == usize::from(WRITES));
     assert!(rt; matches!(run.answers.last(), Some(Answer::Released(0))));
     for drive in 0..4u8 {
         assert!(rt; !run.world.array().is_lost(drive));
     }
-    Ok(())
 }

@@ -1,10 +1,6 @@
 // Sizes and members that are refused.
-use std::test::Fail;
+use crate::script::new_world;
 use step_core::{Answer, Class, Member, Refusal, Shape, ShapeRefusal, World};
-
-fn member(drive: u8, extent: u16) -> Member {
-    Member { drive, extent }
-}
 
 #[test]
 fn sizes_are_refused_by_the_first_that_is_out(rt: HostRuntime) {
@@ -13,34 +9,27 @@ fn sizes_are_refused_by_the_first_that_is_out(rt: HostRuntime) {
     assert!(rt; Shape::new(8, 2, 8, 16).is_ok());
 }
 
-// What making a group is answered, and the number of a refusal.
-fn made(world: &mut World, rt: &HostRuntime, members: [Member; 3]) -> Result<u8, Fail> {
-    match world.make(rt.alloc(), Class::Mirrored, &members)? {
-        Answer::Made(_) => Ok(0),
-        Answer::Refused(refusal) => Ok(refusal.number()),
-        _ => Ok(255),
+// What making a group is answered, 0 or the number of a refusal.
+fn made(world: &mut World, rt: &HostRuntime, places: [(u8, u16); 3]) -> u8 {
+    let members = places.map(|(drive, extent)| Member { drive, extent });
+    match world.make(rt.alloc(), Class::Mirrored, &members) {
+        Ok(Answer::Made(_)) => 0,
+        Ok(Answer::Refused(refusal)) => refusal.number(),
+        _ => 255,
     }
 }
 
 #[test]
-fn groups_are_refused_in_the_order_of_the_checks(rt: HostRuntime) -> Result<(), Fail> {
-    let mut world = World::new(rt.alloc(), Shape::new(8, 2, 8, 16)?, 4)?;
-    assert_eq!(rt;
-        made(&mut world, &rt, [member(0, 0), member(1, 0), member(2, 0)])?,
-        0
-    );
-    assert_eq!(rt;
-        made(&mut world, &rt, [member(0, 1), member(0, 2), member(1, 1)])?,
-        13
-    );
-    assert_eq!(rt;
-        made(&mut world, &rt, [member(0, 0), member(1, 1), member(2, 1)])?,
-        12
-    );
-    assert_eq!(rt;
-        made(&mut world, &rt, [member(0, 8), member(1, 1), member(2, 1)])?,
-        18
-    );
-    assert_eq!(rt; Refusal::Memory.number(), 1);
-    Ok(())
+fn groups_are_refused_in_the_order_of_the_checks(rt: HostRuntime) {
+    let mut world = new_world(&rt, rt.alloc());
+    let cases = [
+        ([(0, 0), (1, 0), (2, 0)], 0),
+        ([(0, 1), (0, 2), (1, 1)], 13),
+        ([(0, 0), (1, 1), (2, 1)], 12),
+        ([(0, 8), (1, 1), (2, 1)], 18),
+    ];
+    for (places, number) in cases {
+        assert!(rt; made(&mut world, &rt, places) == number);
+    }
+    assert!(rt; Refusal::Memory.number() == 1);
 }

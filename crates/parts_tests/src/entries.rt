@@ -1,9 +1,8 @@
 // Groups that enter: their extents are wiped and the tables have them, or a drive is lost and the tables stay.
-use crate::rig::{Rig, is_all};
+use crate::rig::Rig;
 use extent_groups::Class;
 use flat_machine::Refusal;
 use std::process::Abort;
-use std::test::Fail;
 
 /// Writes sevens to the units of the first two extents of all drives.
 fn soil(rt: &impl Abort, rig: &mut Rig) {
@@ -18,7 +17,7 @@ fn soil(rt: &impl Abort, rig: &mut Rig) {
 fn hold(rt: &impl Abort, rig: &mut Rig, drives: &[usize], first: u32, end: u32, byte: u8) -> bool {
     for drive in drives {
         for at in first..end {
-            if !rig.peek(rt, *drive, at) || !is_all(&rig.unit, byte) {
+            if !rig.drive_holds(rt, *drive, at, byte) {
                 return false;
             }
         }
@@ -27,13 +26,13 @@ fn hold(rt: &impl Abort, rig: &mut Rig, drives: &[usize], first: u32, end: u32, 
 }
 
 #[test]
-fn a_group_that_enters_is_wiped_and_the_tables_have_it(rt: HostRuntime) -> Result<(), Fail> {
+fn a_group_that_enters_is_wiped_and_the_tables_have_it(rt: HostRuntime) {
     let alloc = rt.alloc();
-    let mut rig = Rig::new(&rt, alloc)?;
+    let mut rig = Rig::new(&rt, alloc);
     soil(&rt, &mut rig);
-    assert!(rt; rig.enter(&rt, alloc, 0, Class::Mirrored, &[0, 1, 2], 0)? == Ok(()));
+    assert!(rt; rig.enter(&rt, alloc, 0, Class::Mirrored, &[0, 1, 2], 0) == Ok(()));
     rig.unit.fill(7);
-    assert!(rt; rig.enter(&rt, alloc, 5, Class::Parity, &[3, 1, 2], 1)? == Ok(()));
+    assert!(rt; rig.enter(&rt, alloc, 5, Class::Parity, &[3, 1, 2], 1) == Ok(()));
 
     assert!(rt; hold(&rt, &mut rig, &[0, 1, 2], 0, 4, 0));
     assert!(rt; hold(&rt, &mut rig, &[1, 2, 3], 4, 8, 0));
@@ -50,34 +49,30 @@ fn a_group_that_enters_is_wiped_and_the_tables_have_it(rt: HostRuntime) -> Resul
     assert!(rt; rig.write(&rt, 640, 9) == Ok(()));
     assert!(rt; hold(&rt, &mut rig, &[3, 2], 4, 5, 9));
     assert!(rt; hold(&rt, &mut rig, &[1], 4, 5, 0));
-    Ok(())
 }
 
 #[test]
-fn a_group_is_refused_with_its_first_member_whose_drive_is_lost(
-    rt: HostRuntime,
-) -> Result<(), Fail> {
+fn a_group_is_refused_with_its_first_member_whose_drive_is_lost(rt: HostRuntime) {
     let alloc = rt.alloc();
-    let mut rig = Rig::new(&rt, alloc)?;
-    assert!(rt; rig.enter(&rt, alloc, 1, Class::Mirrored, &[0, 1, 2], 0)? == Ok(()));
+    let mut rig = Rig::new(&rt, alloc);
+    assert!(rt; rig.enter(&rt, alloc, 1, Class::Mirrored, &[0, 1, 2], 0) == Ok(()));
     rig.fuse(&rt, 3, 2);
-    assert!(rt; rig.first_lost(&rt, alloc, &[1, 3, 0])?.is_none());
-    let refused = rig.enter(&rt, alloc, 2, Class::Mirrored, &[1, 3, 0], 1)?;
+    assert!(rt; rig.first_lost(&rt, alloc, &[1, 3, 0]).is_none());
+    let refused = rig.enter(&rt, alloc, 2, Class::Mirrored, &[1, 3, 0], 1);
     assert!(rt; refused == Err(Refusal::DriveLost(3)));
     rig.lose(&rt, 0);
-    let refused = rig.enter(&rt, alloc, 2, Class::Parity, &[1, 0, 3], 1)?;
+    let refused = rig.enter(&rt, alloc, 2, Class::Parity, &[1, 0, 3], 1);
     assert!(rt; refused == Err(Refusal::DriveLost(0)));
-    let refused = rig.enter(&rt, alloc, 2, Class::Parity, &[1, 3, 0], 1)?;
+    let refused = rig.enter(&rt, alloc, 2, Class::Parity, &[1, 3, 0], 1);
     assert!(rt; refused == Err(Refusal::DriveLost(3)));
 
-    assert!(rt; rig.first_lost(&rt, alloc, &[1, 3, 0])? == Some(3));
-    assert!(rt; rig.first_lost(&rt, alloc, &[1, 0, 3])? == Some(0));
-    assert!(rt; rig.first_lost(&rt, alloc, &[2, 1])?.is_none());
+    assert!(rt; rig.first_lost(&rt, alloc, &[1, 3, 0]) == Some(3));
+    assert!(rt; rig.first_lost(&rt, alloc, &[1, 0, 3]) == Some(0));
+    assert!(rt; rig.first_lost(&rt, alloc, &[2, 1]).is_none());
     assert!(rt; rig.parts.groups.is_free(2));
     assert!(rt; rig.parts.groups.class_of(1) == Some(Class::Mirrored));
     for drive in 0..4 {
         assert!(rt; rig.owner(&rt, drive, 1).is_none());
     }
     assert!(rt; rig.owner(&rt, 0, 0) == Some(1));
-    Ok(())
 }

@@ -1,162 +1,193 @@
 // Arrays made anew from drives that were written by hand: the last version, the last hop, and one of each fault.
-use crate::rig::{Restarted, Rig, record, restart_parts};
+use crate::rig::{Restarted, Rig, is_all, record, restart_parts};
+use array_parts::Parts;
 use extent_groups::Class;
 use extents::MemDrive;
 use flat_machine::Refusal;
 use header_scan::ScanFault;
 use map_join::Record;
-use std::alloc::{AllocError, Global};
+use std::alloc::Global;
 use std::process::Abort;
-use std::test::Fail;
-use step_core::{Array, Plain};
+use step_core::{Array, Done, Plain, Ticket};
 
 type Memory = Array<MemDrive, Plain>;
 
 /// Slots 0 to 5 are mirrored, 0 and 1 on drives 0 and 1, 2 and 3 on drives 2 and 0, 4 and 5 on drives 1 and 2. A
 /// payload without a record stands at slot 5.
-fn mirrored(rt: &impl Abort, alloc: Global) -> Result<Rig, AllocError> {
-    let mut rig = Rig::new(rt, alloc)?;
-    assert!(rt; rig.make(rt, alloc, 0, Class::Mirrored, &[0, 1, 2], 0)? == Ok(()));
+fn mirrored(rt: &impl Abort, alloc: Global) -> Rig {
+    let mut rig = Rig::new(rt, alloc);
+    assert!(rt; rig.make(rt, alloc, 0, Class::Mirrored, &[0, 1, 2], 0) == Ok(()));
     assert!(rt; rig.put(rt, 5, 9) == Ok(()));
-    Ok(rig)
+    rig
 }
 
 /// The same, with each of these records at a slot.
-fn holding(rt: &impl Abort, alloc: Global, held: &[(u16, Record)]) -> Result<Rig, AllocError> {
-    let mut rig = mirrored(rt, alloc)?;
+fn holding(rt: &impl Abort, alloc: Global, held: &[(u16, Record)]) -> Rig {
+    let mut rig = mirrored(rt, alloc);
     for (slot, told) in held {
         assert!(rt; rig.carry(rt, 5, *slot, *told) == Ok(()));
     }
-    Ok(rig)
+    rig
 }
 
 /// Makes an array anew with a claim of each of these slots.
-fn restarted(
+fn restarted(rt: &impl Abort, alloc: Global, rig: Rig, slots: &[u16]) -> Restarted {
+    let mut claims = Vec::new(alloc);
+    for slot in slots {
+        assert!(rt; claims.push(Plain { slot: *slot }).is_ok());
+    }
+    restart_parts(rt, alloc, rig.parts, claims)
+}
+
+/// The array that is made anew of these parts and claims, and the claims that it doesn't take.
+fn made_of(
+    rt: &impl Abort,
+    alloc: Global,
+    parts: Parts<MemDrive>,
+    claims: Vec<Plain>,
+) -> (Memory, Vec<Plain>) {
+    let Ok(made) = restart_parts(rt, alloc, parts, claims) else {
+        panic!(rt; "not made anew")
+    };
+    made
+}
+
+/// The array that is made anew with a claim of slot 0.
+fn made(rt: &impl Abort, alloc: Global, rig: Rig) -> Memory {
+    let Ok((array, others)) = restarted(rt, alloc, rig, &[0]) else {
+        panic!(rt; "not made anew")
+    };
+    assert!(rt; others.is_empty());
+    array
+}
+
+/// What a restart with these claims hands back, which tells a fault.
+fn refused(
     rt: &impl Abort,
     alloc: Global,
     rig: Rig,
     slots: &[u16],
-) -> Result<Restarted, AllocError> {
-    let mut claims = Vec::new(alloc);
-    for slot in slots {
-        claims.push(Plain { slot: *slot })?;
-    }
-    Ok(restart_parts(rt, alloc, rig.parts, claims))
-}
-
-/// The array that is made anew with a claim of slot 0.
-fn made(rt: &impl Abort, alloc: Global, rig: Rig) -> Result<Memory, AllocError> {
-    let Ok((array, others)) = restarted(rt, alloc, rig, &[0])? else {
-        panic!(rt; "not made anew")
+) -> (ScanFault, Parts<MemDrive>, Vec<Plain>) {
+    let Err(refused) = restarted(rt, alloc, rig, slots) else {
+        panic!(rt; "made anew")
     };
-    assert!(rt; others.is_empty());
-    Ok(array)
+    refused
 }
 
 /// The fault that a restart with a claim of slot 0 tells.
-fn fault(rt: &impl Abort, alloc: Global, rig: Rig) -> Result<Option<ScanFault>, AllocError> {
-    match restarted(rt, alloc, rig, &[0])? {
-        Ok(_) => Ok(None),
-        Err((fault, _parts, _claims)) => Ok(Some(fault)),
-    }
+fn fault(rt: &impl Abort, alloc: Global, rig: Rig) -> ScanFault {
+    let (fault, _parts, _claims) = refused(rt, alloc, rig, &[0]);
+    fault
 }
 
-#[test]
-fn a_block_found_at_its_last_hop_is_written_and_not_moved(rt: HostRuntime) -> Result<(), Fail> {
-    let alloc = rt.alloc();
-    let rig = holding(&rt, alloc, &[(0, record(3, 1, 65_535, 0))])?;
-    let mut array = made(&rt, alloc, rig)?;
-    assert!(rt; array.shape().blocks == 16);
-    let Err((refusal, claim)) = array.copy(alloc, Plain { slot: 1 }, 3) else {
-        panic!(rt; "copied past the last hop")
-    };
-    assert!(rt; refusal == Refusal::HopsSpent && refusal.number() == 8);
+/// Fills a slot.
+fn fill(rt: &impl Abort, alloc: Global, array: &mut Memory, claim: Plain) -> Ticket {
     assert!(rt; array.shape().payload == 8);
     let Ok(ticket) = array.fill(alloc, claim, &[0x11; 8]) else {
         panic!(rt; "not filled")
     };
+    ticket
+}
+
+/// Commits what waits, as block 3.
+fn commit(
+    rt: &impl Abort,
+    alloc: Global,
+    array: &mut Memory,
+    ticket: Ticket,
+) -> Result<Done<Plain>, (Refusal, Ticket)> {
     assert!(rt; array.shape().blocks == 16);
-    let Ok(done) = array.commit(alloc, ticket, 3) else {
+    array.commit(alloc, ticket, 3)
+}
+
+/// The refusal of a copy of block 3 to a slot, and the claim that it hands back.
+fn copy(rt: &impl Abort, alloc: Global, array: &mut Memory, slot: u16) -> (Refusal, Plain) {
+    assert!(rt; array.shape().blocks == 16);
+    let Err(refused) = array.copy(alloc, Plain { slot }, 3) else {
+        panic!(rt; "copied")
+    };
+    refused
+}
+
+/// Whether block 3 reads as this version of this byte.
+fn reads(rt: &impl Abort, alloc: Global, array: &mut Memory, version: u32, byte: u8) -> bool {
+    assert!(rt; array.shape().blocks == 16);
+    match array.read(alloc, 3) {
+        Ok(Some((told, payload))) => told == version && is_all(&payload, byte),
+        _ => false,
+    }
+}
+
+#[test]
+fn a_block_found_at_its_last_hop_is_written_and_not_moved(rt: HostRuntime) {
+    let alloc = rt.alloc();
+    let rig = holding(&rt, alloc, &[(0, record(3, 1, 65_535, 0))]);
+    let mut array = made(&rt, alloc, rig);
+    let (refusal, claim) = copy(&rt, alloc, &mut array, 1);
+    assert!(rt; refusal == Refusal::HopsSpent && refusal.number() == 8);
+    let ticket = fill(&rt, alloc, &mut array, claim);
+    let Ok(done) = commit(&rt, alloc, &mut array, ticket) else {
         panic!(rt; "not committed")
     };
     assert!(rt; done.emitted.record() == record(3, 2, 0, 1));
     assert!(rt; done.old == Some(Plain { slot: 0 }));
-    Ok(())
 }
 
 #[test]
-fn a_block_found_at_its_last_version_is_not_written(rt: HostRuntime) -> Result<(), Fail> {
+fn a_block_found_at_its_last_version_is_not_written(rt: HostRuntime) {
     let alloc = rt.alloc();
-    let rig = holding(&rt, alloc, &[(0, record(3, 4_294_967_295, 0, 0))])?;
-    let mut array = made(&rt, alloc, rig)?;
-    assert!(rt; array.shape().payload == 8);
-    let Ok(ticket) = array.fill(alloc, Plain { slot: 1 }, &[0x11; 8]) else {
-        panic!(rt; "not filled")
-    };
-    assert!(rt; array.shape().blocks == 16);
-    let Err((refusal, ticket)) = array.commit(alloc, ticket, 3) else {
+    let rig = holding(&rt, alloc, &[(0, record(3, 4_294_967_295, 0, 0))]);
+    let mut array = made(&rt, alloc, rig);
+    let ticket = fill(&rt, alloc, &mut array, Plain { slot: 1 });
+    let Err((refusal, ticket)) = commit(&rt, alloc, &mut array, ticket) else {
         panic!(rt; "written past the last version")
     };
     assert!(rt; refusal == Refusal::VersionSpent && refusal.number() == 7);
     assert!(rt; ticket.slot() == 1 && array.is_held(1));
-    Ok(())
 }
 
 #[test]
-fn the_fault_of_the_lowest_slot_is_told(rt: HostRuntime) -> Result<(), Fail> {
+fn the_fault_of_the_lowest_slot_is_told(rt: HostRuntime) {
     let alloc = rt.alloc();
-    let mut rig = holding(&rt, alloc, &[(2, record(3, 1, 0, 0))])?;
+    let mut rig = holding(&rt, alloc, &[(2, record(3, 1, 0, 0))]);
     assert!(rt; rig.set(&rt, 4, 20, 1) == Ok(()));
-    let told = fault(&rt, alloc, rig)?;
-    assert!(rt; told == Some(ScanFault::WrongSlot(2, 0)));
-    assert!(rt; told.is_some_and(|fault| fault.number() == 3));
-    let mut rig = mirrored(&rt, alloc)?;
+    let told = fault(&rt, alloc, rig);
+    assert!(rt; told == ScanFault::WrongSlot(2, 0) && told.number() == 3);
+    let mut rig = mirrored(&rt, alloc);
     assert!(rt; rig.set(&rt, 4, 20, 1) == Ok(()));
-    assert!(rt; fault(&rt, alloc, rig)? == Some(ScanFault::BadHeader(4)));
-    let rig = holding(&rt, alloc, &[(0, record(16, 1, 0, 0))])?;
-    assert!(rt; fault(&rt, alloc, rig)? == Some(ScanFault::BadHeader(0)));
-    Ok(())
+    assert!(rt; fault(&rt, alloc, rig) == ScanFault::BadHeader(4));
+    let rig = holding(&rt, alloc, &[(0, record(16, 1, 0, 0))]);
+    assert!(rt; fault(&rt, alloc, rig) == ScanFault::BadHeader(0));
 }
 
 #[test]
-fn a_block_at_two_slots_is_told_with_both(rt: HostRuntime) -> Result<(), Fail> {
+fn a_block_at_two_slots_is_told_with_both(rt: HostRuntime) {
     let alloc = rt.alloc();
     let twice = [(0, record(3, 1, 0, 0)), (1, record(3, 1, 0, 1))];
-    let rig = holding(&rt, alloc, &twice)?;
-    assert!(rt; fault(&rt, alloc, rig)? == Some(ScanFault::Twice(3, 0, 1)));
-    Ok(())
+    let rig = holding(&rt, alloc, &twice);
+    assert!(rt; fault(&rt, alloc, rig) == ScanFault::Twice(3, 0, 1));
 }
 
 #[test]
-fn two_mirrored_drives_lost_leave_no_array(rt: HostRuntime) -> Result<(), Fail> {
+fn two_mirrored_drives_lost_leave_no_array(rt: HostRuntime) {
     let alloc = rt.alloc();
-    let mut rig = holding(&rt, alloc, &[(0, record(3, 1, 0, 0))])?;
+    let mut rig = holding(&rt, alloc, &[(0, record(3, 1, 0, 0))]);
     rig.lose(&rt, 0);
     rig.lose(&rt, 2);
-    assert!(rt; fault(&rt, alloc, rig)? == Some(ScanFault::Gone(2)));
-    Ok(())
+    assert!(rt; fault(&rt, alloc, rig) == ScanFault::Gone(2));
 }
 
 #[test]
-fn a_restart_without_a_claim_hands_all_back(rt: HostRuntime) -> Result<(), Fail> {
+fn a_restart_without_a_claim_hands_all_back(rt: HostRuntime) {
     let alloc = rt.alloc();
-    let rig = holding(&rt, alloc, &[(0, record(3, 1, 0, 0))])?;
-    let Err((fault, parts, mut claims)) = restarted(&rt, alloc, rig, &[4, 1])? else {
-        panic!(rt; "made anew without a claim")
-    };
+    let rig = holding(&rt, alloc, &[(0, record(3, 1, 0, 0))]);
+    let (fault, parts, mut claims) = refused(&rt, alloc, rig, &[4, 1]);
     assert!(rt; fault == ScanFault::NoClaim(0) && fault.number() == 6);
     assert!(rt; claims.as_slice() == [Plain { slot: 4 }, Plain { slot: 1 }].as_slice());
-    claims.push(Plain { slot: 0 })?;
-    let Ok((mut array, others)) = restart_parts(&rt, alloc, parts, claims) else {
-        panic!(rt; "not made anew")
-    };
+    assert!(rt; claims.push(Plain { slot: 0 }).is_ok());
+    let (mut array, others) = made_of(&rt, alloc, parts, claims);
     assert!(rt; others.len() == 2);
     assert!(rt; others.contains(&Plain { slot: 1 }) && others.contains(&Plain { slot: 4 }));
     assert!(rt; array.is_held(0) && !array.is_held(1) && !array.is_held(4));
-    assert!(rt; array.shape().blocks == 16);
-    let Some((version, payload)) = array.read(alloc, 3)? else {
-        panic!(rt; "no block")
-    };
-    assert!(rt; version == 1 && payload.as_slice() == [9; 8].as_slice());
-    Ok(())
+    assert!(rt; reads(&rt, alloc, &mut array, 1, 9));
 }

@@ -48,15 +48,16 @@ pub(crate) fn is_all(unit: &[u8], wanted: u8) -> bool {
 }
 
 /// An extent of this number on each of these drives in turn.
-fn members_on(alloc: Global, drives: &[u8], extent: u16) -> Result<Vec<Member>, AllocError> {
-    let mut members = Vec::with_capacity(alloc, drives.len())?;
+fn members_on(rt: &impl Abort, alloc: Global, drives: &[u8], extent: u16) -> Vec<Member> {
+    let mut members = Vec::new(alloc);
     for drive in drives {
-        members.push(Member {
+        let member = Member {
             drive: *drive,
             extent,
-        })?;
+        };
+        assert!(rt; members.push(member).is_ok());
     }
-    Ok(members)
+    members
 }
 
 /// Whether each member is on one of so many drives.
@@ -117,7 +118,15 @@ fn read_unit<U: Units>(
 }
 
 impl Rig {
-    pub(crate) fn new(rt: &impl Abort, alloc: Global) -> Result<Rig, AllocError> {
+    /// Drives all of whose units are zero, and no group.
+    pub(crate) fn new(rt: &impl Abort, alloc: Global) -> Rig {
+        let Ok(rig) = Rig::try_new(rt, alloc) else {
+            panic!(rt; "no memory")
+        };
+        rig
+    }
+
+    fn try_new(rt: &impl Abort, alloc: Global) -> Result<Rig, AllocError> {
         let shape = Shape::new(8, 2, 8, 16).expect(rt, "a shape");
         let mut drives = Vec::with_capacity(alloc, 4)?;
         for _drive in 0..4 {
@@ -134,6 +143,14 @@ impl Rig {
             payload: [0; 8],
             scratch: vec![in alloc; 0; 2 * SIZE]?,
         })
+    }
+
+    /// Slots 0 to 5 are mirrored on drives 0 to 2, slots 128 to 135 have parity on drives 1 to 3.
+    pub(crate) fn grouped(rt: &impl Abort, alloc: Global) -> Rig {
+        let mut rig = Rig::new(rt, alloc);
+        assert!(rt; rig.make(rt, alloc, 0, Class::Mirrored, &[0, 1, 2], 0) == Ok(()));
+        assert!(rt; rig.make(rt, alloc, 1, Class::Parity, &[1, 2, 3], 1) == Ok(()));
+        rig
     }
 
     /// Whether the parts fit, and the buffers them.
@@ -194,6 +211,23 @@ impl Rig {
             .carry(from, to, &header, &mut self.unit, &mut self.scratch)
     }
 
+    /// Carries what a slot holds to another, or the same, each under a record's header.
+    pub(crate) fn carry_all(&mut self, rt: &impl Abort, carried: &[(u16, Record)]) {
+        for (from, told) in carried {
+            assert!(rt; self.carry(rt, *from, told.place, *told) == Ok(()));
+        }
+    }
+
+    /// Whether a slot's unit is of this byte.
+    pub(crate) fn holds(&mut self, rt: &impl Abort, slot: u16, byte: u8) -> bool {
+        self.read(rt, slot) == Ok(()) && is_all(&self.unit, byte)
+    }
+
+    /// Whether the unit at an address of a drive is of this byte.
+    pub(crate) fn drive_holds(&mut self, rt: &impl Abort, drive: usize, at: u32, byte: u8) -> bool {
+        self.peek(rt, drive, at) && is_all(&self.unit, byte)
+    }
+
     /// Sets a byte of what a slot holds.
     pub(crate) fn set(
         &mut self,
@@ -239,15 +273,15 @@ impl Rig {
         class: Class,
         drives: &[u8],
         extent: u16,
-    ) -> Result<Result<(), Refusal>, AllocError> {
-        let members = members_on(alloc, drives, extent)?;
+    ) -> Result<(), Refusal> {
+        let members = members_on(rt, alloc, drives, extent);
         assert!(rt; self.is_ready());
         assert!(rt; self.parts.groups.shape().payload == 8);
         assert!(rt; self.parts.groups.is_free(group));
         assert!(rt; are_there(&self.parts.extents, &members));
         assert!(rt; put_check(&self.parts.extents, &members).is_none());
         let zeros = [0; SIZE];
-        Ok(self.parts.make(group, class, members, &zeros))
+        self.parts.make(group, class, members, &zeros)
     }
 
     /// Lets a group enter, of an extent of this number on each of these drives in turn.
@@ -259,25 +293,20 @@ impl Rig {
         class: Class,
         drives: &[u8],
         extent: u16,
-    ) -> Result<Result<(), Refusal>, AllocError> {
-        let members = members_on(alloc, drives, extent)?;
+    ) -> Result<(), Refusal> {
+        let members = members_on(rt, alloc, drives, extent);
         assert!(rt; self.is_ready());
         assert!(rt; self.parts.groups.is_free(group));
         assert!(rt; are_there(&self.parts.extents, &members));
         assert!(rt; put_check(&self.parts.extents, &members).is_none());
-        Ok(self.parts.enter(group, class, members, &mut self.unit))
+        self.parts.enter(group, class, members, &mut self.unit)
     }
 
     /// The first of these drives, in the order given, that is lost.
-    pub(crate) fn first_lost(
-        &self,
-        rt: &impl Abort,
-        alloc: Global,
-        drives: &[u8],
-    ) -> Result<Option<u8>, AllocError> {
-        let members = members_on(alloc, drives, 0)?;
+    pub(crate) fn first_lost(&self, rt: &impl Abort, alloc: Global, drives: &[u8]) -> Option<u8> {
+        let members = members_on(rt, alloc, drives, 0);
         assert!(rt; are_on(self.parts.drives.len(), &members));
-        Ok(self.parts.first_lost(&members))
+        self.parts.first_lost(&members)
     }
 
     /// Reads the payload of a slot into the buffer.
@@ -320,20 +349,22 @@ impl Rig {
 
     /// The unit at an address of a drive, read from the drive itself.
     pub(crate) fn peek(&mut self, rt: &impl Abort, drive: usize, at: u32) -> bool {
-        assert!(rt; drive < self.parts.drives.len());
-        assert!(rt; self.parts.drives[drive].unit_bytes() == self.unit.len());
-        assert!(rt; at < self.parts.drives[drive].units());
-        self.parts.drives[drive]
-            .read_unit(at, &mut self.unit)
-            .is_ok()
+        let Some(drive) = self.parts.drives.get_mut(drive) else {
+            panic!(rt; "no drive")
+        };
+        assert!(rt; drive.unit_bytes() == self.unit.len());
+        assert!(rt; at < drive.units());
+        drive.read_unit(at, &mut self.unit).is_ok()
     }
 
     /// Writes a unit of one byte throughout at an address of a drive, on the drive itself.
     pub(crate) fn poke(&mut self, rt: &impl Abort, drive: usize, at: u32, byte: u8) -> bool {
         self.unit.fill(byte);
-        assert!(rt; drive < self.parts.drives.len());
-        assert!(rt; self.parts.drives[drive].unit_bytes() == self.unit.len());
-        assert!(rt; at < self.parts.drives[drive].units());
-        self.parts.drives[drive].write_unit(at, &self.unit).is_ok()
+        let Some(drive) = self.parts.drives.get_mut(drive) else {
+            panic!(rt; "no drive")
+        };
+        assert!(rt; drive.unit_bytes() == self.unit.len());
+        assert!(rt; at < drive.units());
+        drive.write_unit(at, &self.unit).is_ok()
     }
 }

@@ -1,27 +1,27 @@
 // What is seen at the places of records, and payloads read, in both classes: with all drives there, one lost, and two.
 use crate::rig::{Rig, is_all, record};
 use array_parts::Sight;
-use extent_groups::Class;
 use flat_machine::Refusal;
 use map_join::Record;
-use std::alloc::{AllocError, Global};
+use std::alloc::Global;
 use std::process::Abort;
-use std::test::Fail;
 
 /// Slots 0 to 5 are mirrored, slots 128 to 135 have parity. Block 5 stands at slot 4 with nines, blocks 3 and 7 at slots
 /// 130 and 134 with eights, which slot 1 holds without a record. Slots 2 and 133 hold bytes that begin with no header.
-fn filled(rt: &impl Abort, alloc: Global) -> Result<Rig, AllocError> {
-    let mut rig = Rig::new(rt, alloc)?;
-    assert!(rt; rig.make(rt, alloc, 0, Class::Mirrored, &[0, 1, 2], 0)? == Ok(()));
-    assert!(rt; rig.make(rt, alloc, 1, Class::Parity, &[1, 2, 3], 1)? == Ok(()));
+fn filled(rt: &impl Abort, alloc: Global) -> Rig {
+    let mut rig = Rig::grouped(rt, alloc);
     assert!(rt; rig.put(rt, 4, 9) == Ok(()));
-    assert!(rt; rig.carry(rt, 4, 4, record(5, 2, 0, 4)) == Ok(()));
     assert!(rt; rig.put(rt, 1, 8) == Ok(()));
-    assert!(rt; rig.carry(rt, 1, 130, record(3, 1, 1, 130)) == Ok(()));
-    assert!(rt; rig.carry(rt, 130, 134, record(7, 1, 1, 134)) == Ok(()));
-    assert!(rt; rig.write(rt, 2, 7) == Ok(()));
-    assert!(rt; rig.write(rt, 133, 7) == Ok(()));
-    Ok(rig)
+    let carried = [
+        (4, record(5, 2, 0, 4)),
+        (1, record(3, 1, 1, 130)),
+        (130, record(7, 1, 1, 134)),
+    ];
+    rig.carry_all(rt, &carried);
+    for slot in [2, 133] {
+        assert!(rt; rig.write(rt, slot, 7) == Ok(()));
+    }
+    rig
 }
 
 /// Whether exactly this record lies at its place, with a payload of this byte.
@@ -68,20 +68,17 @@ fn read_all(rt: &impl Abort, rig: &mut Rig) {
 }
 
 #[test]
-fn what_lies_at_a_place_is_seen_with_a_drive_lost_too(rt: HostRuntime) -> Result<(), Fail> {
-    let mut rig = filled(&rt, rt.alloc())?;
+fn what_lies_at_a_place_is_seen_with_a_drive_lost_too(rt: HostRuntime) {
+    let mut rig = filled(&rt, rt.alloc());
     see_all(&rt, &mut rig);
     rig.lose(&rt, 2);
     see_all(&rt, &mut rig);
     read_all(&rt, &mut rig);
-    Ok(())
 }
 
 #[test]
-fn a_slot_whose_two_drives_are_lost_is_gone_and_others_are_seen(
-    rt: HostRuntime,
-) -> Result<(), Fail> {
-    let mut rig = filled(&rt, rt.alloc())?;
+fn a_slot_whose_two_drives_are_lost_is_gone_and_others_are_seen(rt: HostRuntime) {
+    let mut rig = filled(&rt, rt.alloc());
     read_all(&rt, &mut rig);
     rig.lose(&rt, 1);
     read_all(&rt, &mut rig);
@@ -90,5 +87,4 @@ fn a_slot_whose_two_drives_are_lost_is_gone_and_others_are_seen(
     assert!(rt; is_gone(&rt, &mut rig, record(3, 1, 1, 130)));
     assert!(rt; sees(&rt, &mut rig, record(7, 1, 1, 134), 8));
     assert!(rt; reads(&rt, &mut rig, 1, 8));
-    Ok(())
 }

@@ -1,55 +1,45 @@
 // Short stories of parts: reads and writes of both classes under losses, parity, and a group that isn't made.
-use crate::rig::{Rig, is_all};
+use crate::rig::Rig;
 use extent_groups::Class;
 use flat_machine::Refusal;
-use std::test::Fail;
 
 #[test]
-fn a_mirrored_slot_stands_one_loss_and_is_gone_with_two(rt: HostRuntime) -> Result<(), Fail> {
+fn a_mirrored_slot_stands_one_loss_and_is_gone_with_two(rt: HostRuntime) {
     let alloc = rt.alloc();
-    let mut rig = Rig::new(&rt, alloc)?;
-    assert!(rt; rig.make(&rt, alloc, 0, Class::Mirrored, &[0, 1, 2], 0)? == Ok(()));
-    assert!(rt; rig.read(&rt, 5) == Ok(()));
-    assert!(rt; is_all(&rig.unit, 0));
+    let mut rig = Rig::new(&rt, alloc);
+    assert!(rt; rig.make(&rt, alloc, 0, Class::Mirrored, &[0, 1, 2], 0) == Ok(()));
+    assert!(rt; rig.holds(&rt, 5, 0));
     assert!(rt; rig.write(&rt, 0, 7) == Ok(()));
     assert!(rt; rig.write(&rt, 2, 9) == Ok(()));
     rig.lose(&rt, 0);
-    assert!(rt; rig.read(&rt, 0) == Ok(()));
-    assert!(rt; is_all(&rig.unit, 7));
+    assert!(rt; rig.holds(&rt, 0, 7));
     rig.fuse(&rt, 1, 1);
     assert!(rt; rig.read(&rt, 0) == Err(Refusal::Gone(0)));
     assert!(rt; rig.write(&rt, 0, 8) == Err(Refusal::Gone(0)));
-    assert!(rt; rig.read(&rt, 2) == Ok(()));
-    assert!(rt; is_all(&rig.unit, 9));
-    Ok(())
+    assert!(rt; rig.holds(&rt, 2, 9));
 }
 
 #[test]
-fn the_parity_of_three_members_is_the_exclusive_or(rt: HostRuntime) -> Result<(), Fail> {
+fn the_parity_of_three_members_is_the_exclusive_or(rt: HostRuntime) {
     let alloc = rt.alloc();
-    let mut rig = Rig::new(&rt, alloc)?;
-    assert!(rt; rig.make(&rt, alloc, 1, Class::Parity, &[1, 2, 3], 1)? == Ok(()));
+    let mut rig = Rig::new(&rt, alloc);
+    assert!(rt; rig.make(&rt, alloc, 1, Class::Parity, &[1, 2, 3], 1) == Ok(()));
     assert!(rt; rig.write(&rt, 128, 0x5A) == Ok(()));
-    assert!(rt; rig.peek(&rt, 3, 4));
-    assert!(rt; is_all(&rig.unit, 0x5A));
+    assert!(rt; rig.drive_holds(&rt, 3, 4, 0x5A));
     assert!(rt; rig.write(&rt, 130, 0x33) == Ok(()));
-    assert!(rt; rig.peek(&rt, 3, 4));
-    assert!(rt; is_all(&rig.unit, 0x69));
+    assert!(rt; rig.drive_holds(&rt, 3, 4, 0x69));
     rig.lose(&rt, 1);
-    assert!(rt; rig.read(&rt, 128) == Ok(()));
-    assert!(rt; is_all(&rig.unit, 0x5A));
-    Ok(())
+    assert!(rt; rig.holds(&rt, 128, 0x5A));
 }
 
 #[test]
-fn a_group_whose_second_drive_fails_is_not_made(rt: HostRuntime) -> Result<(), Fail> {
+fn a_group_whose_second_drive_fails_is_not_made(rt: HostRuntime) {
     let alloc = rt.alloc();
-    let mut rig = Rig::new(&rt, alloc)?;
+    let mut rig = Rig::new(&rt, alloc);
     rig.fuse(&rt, 1, 3);
     assert!(rt;
-        rig.make(&rt, alloc, 2, Class::Parity, &[0, 1, 2], 2)? == Err(Refusal::DriveLost(1))
+        rig.make(&rt, alloc, 2, Class::Parity, &[0, 1, 2], 2) == Err(Refusal::DriveLost(1))
     );
     assert!(rt; rig.parts.groups.is_free(2));
-    assert!(rt; rig.make(&rt, alloc, 2, Class::Parity, &[0, 2, 3], 2)? == Ok(()));
-    Ok(())
+    assert!(rt; rig.make(&rt, alloc, 2, Class::Parity, &[0, 2, 3], 2) == Ok(()));
 }

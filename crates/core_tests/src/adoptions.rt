@@ -1,0 +1,106 @@
+// An array put together again from its parts, their map and its claims.
+ghost use Rattle.std.specs.Prelude.{ℕ};
+ghost use Rattle.map_join.specs.Maps.{at};
+ghost use Rattle.flat_machine.specs.Restarted.{HasPlaces};
+ghost use Rattle.array_parts.specs.Fit.{IsFit};
+ghost use Rattle.array_parts.specs.Memory.{held_units};
+ghost use Rattle.array_model.specs.Adopted.{IsPlaced};
+ghost use Rattle.array_model.specs.Views.{kept_at};
+
+use crate::restarts::{is_as_written, written};
+use crate::rig::{Memory, Rig};
+use array_parts::Parts;
+use header_scan::scan;
+use map_join::BlockMap;
+use std::alloc::Global;
+use std::process::Abort;
+use step_core::{Array, MemDrive, NotAdopted, Plain};
+
+// The array's parts, the map that their headers tell, and its claims.
+fn taken_apart(
+    rt: &impl Abort,
+    alloc: Global,
+    array: Memory,
+) -> (Parts<MemDrive>, BlockMap, Vec<Plain>)
+    ensures fit { IsFit held_units result.0 }
+    ensures places { HasPlaces result.0.groups (at result.1) }
+{
+    let Ok((mut parts, claims)) = array.into_parts(alloc) else {
+        panic!(rt; "not taken apart")
+    };
+    let Ok(map) = scan(alloc, &mut parts) else {
+        panic!(rt; "no map")
+    };
+    (parts, map, claims)
+}
+
+// Takes the array apart and puts it together: the array, in which nothing is pending, and a second map of it.
+fn adopted(rt: &impl Abort, alloc: Global, array: Memory) -> (Memory, BlockMap)
+    ensures places { HasPlaces result.0.parts.groups (at result.1) }
+    ensures kept { (s : ℕ) → IsPlaced (at result.1) s (kept_at result.0 s) }
+{
+    let (parts, map, claims) = taken_apart(rt, alloc, array);
+    let Ok(copy) = map.copied(alloc) else {
+        panic!(rt; "no second map")
+    };
+    let Ok((array, others)) = Array::adopt_among(alloc, parts, map, claims) else {
+        panic!(rt; "not put together")
+    };
+    assert!(rt; others.is_empty());
+    (array, copy)
+}
+
+// Takes an array apart in which nothing is pending, and puts it together from all of its claims.
+fn adopted_again(rt: &impl Abort, alloc: Global, array: Memory, map: BlockMap) -> Memory
+    requires places { HasPlaces array.parts.groups (at map) }
+    requires kept { (s : ℕ) → IsPlaced (at map) s (kept_at array s) }
+{
+    let Ok((parts, claims)) = array.into_parts(alloc) else {
+        panic!(rt; "not taken apart")
+    };
+    let Ok(array) = Array::adopt(alloc, parts, map, claims) else {
+        panic!(rt; "not put together")
+    };
+    array
+}
+
+#[test]
+fn parts_with_their_map_are_adopted(rt: HostRuntime) {
+    let alloc = rt.alloc();
+    let (array, _map) = adopted(&rt, alloc, written(&rt, alloc).array);
+    assert!(rt; is_as_written(&rt, &mut Rig { array, alloc }));
+}
+
+#[test]
+fn an_array_at_rest_that_is_taken_apart_is_adopted(rt: HostRuntime) {
+    let alloc = rt.alloc();
+    let (array, map) = adopted(&rt, alloc, written(&rt, alloc).array);
+    let array = adopted_again(&rt, alloc, array, map);
+    assert!(rt; is_as_written(&rt, &mut Rig { array, alloc }));
+}
+
+// Takes the array apart, and puts it together first without its last claim, which is of its lowest slot, and then with it.
+fn adopted_at_last(rt: &impl Abort, alloc: Global, array: Memory, lowest: u16) -> Memory {
+    let (parts, map, mut claims) = taken_apart(rt, alloc, array);
+    let Some(last) = claims.pop() else {
+        panic!(rt; "no claim")
+    };
+    let Err((why, parts, map, mut claims)) = Array::adopt_among(alloc, parts, map, claims) else {
+        panic!(rt; "put together without a claim")
+    };
+    assert!(rt; why == NotAdopted::NoClaim(lowest));
+    assert!(rt; claims.as_slice() == [Plain { slot: 130 }, Plain { slot: 4 }].as_slice());
+    assert!(rt; claims.push(last).is_ok());
+    let Ok((array, others)) = Array::adopt_among(alloc, parts, map, claims) else {
+        panic!(rt; "not put together")
+    };
+    assert!(rt; others.is_empty());
+    array
+}
+
+#[test]
+fn one_claim_too_few_hands_parts_map_and_claims_back(rt: HostRuntime) {
+    let alloc = rt.alloc();
+    let array = adopted_at_last(&rt, alloc, written(&rt, alloc).array, 2);
+    assert!(rt; is_as_written(&rt, &mut Rig { array, alloc }));
+}

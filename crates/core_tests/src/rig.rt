@@ -1,0 +1,206 @@
+// An array of drives in memory, by calls with no clause: what a call needs is looked at when it is made.
+use map_join::Record;
+use std::alloc::Global;
+use std::process::Abort;
+use step_core::{Array, At, Class, Done, MemDrive, Member, Plain, Reading, Refusal, Shape, Ticket};
+
+pub(crate) type Memory = Array<MemDrive, Plain>;
+
+/// Payloads of eight bytes, each of one byte throughout, and sixteen blocks.
+#[derive(Drop)]
+pub(crate) struct Rig {
+    pub(crate) array: Memory,
+    pub(crate) alloc: Global,
+}
+
+pub(crate) fn record(block: u32, version: u32, hop: u16, place: u16) -> Record {
+    Record {
+        block,
+        version,
+        hop,
+        place,
+    }
+}
+
+/// An extent of this number on each of three drives.
+pub(crate) fn members_on(drives: [u8; 3], extent: u16) -> [Member; 3] {
+    let [first, second, third] = drives;
+    [
+        Member {
+            drive: first,
+            extent,
+        },
+        Member {
+            drive: second,
+            extent,
+        },
+        Member {
+            drive: third,
+            extent,
+        },
+    ]
+}
+
+// Whether a payload is of this byte.
+fn is_all(payload: &[u8], byte: u8) -> bool {
+    payload == [byte; 8].as_slice()
+}
+
+/// Whether a call was refused so, with the claim of its slot back.
+pub(crate) fn is_refused(
+    called: &Result<Ticket, (Refusal, Plain)>,
+    refusal: Refusal,
+    slot: u16,
+) -> bool {
+    match called {
+        Ok(_) => false,
+        Err((told, claim)) => *told == refusal && claim.slot == slot,
+    }
+}
+
+// So many drives, with no group.
+fn new_array(rt: &impl Abort, alloc: Global, drives: u8) -> Memory {
+    let Ok(shape) = Shape::new(8, 2, 8, 16) else {
+        panic!(rt; "no shape")
+    };
+    assert!(rt; 3 <= drives && drives <= 16);
+    let Ok(array) = Array::in_memory(alloc, shape, drives) else {
+        panic!(rt; "no array")
+    };
+    array
+}
+
+impl Rig {
+    /// So many drives, of which 0 to 2 have a mirrored group: slot 0 lies on drives 0 and 1, slot 1 on 1 and 2, slot 2 on
+    /// 2 and 0.
+    pub(crate) fn new(rt: &impl Abort, alloc: Global, drives: u8) -> Rig {
+        let array = new_array(rt, alloc, drives);
+        let mut rig = Rig { array, alloc };
+        assert!(rt; rig.make(rt, Class::Mirrored, [0, 1, 2], 0) == 0);
+        rig
+    }
+
+    /// Makes a group of an extent of this number on each of these drives, and tells its number.
+    pub(crate) fn make(
+        &mut self,
+        rt: &impl Abort,
+        class: Class,
+        drives: [u8; 3],
+        extent: u16,
+    ) -> u16 {
+        let members = members_on(drives, extent);
+        let Ok((group, _claims)) = self.array.make_group(self.alloc, class, &members) else {
+            panic!(rt; "not made")
+        };
+        group
+    }
+
+    pub(crate) fn fill(
+        &mut self,
+        rt: &impl Abort,
+        slot: u16,
+        byte: u8,
+    ) -> Result<Ticket, (Refusal, Plain)> {
+        assert!(rt; self.array.shape().payload == 8);
+        self.array.fill(self.alloc, Plain { slot }, &[byte; 8])
+    }
+
+    pub(crate) fn copy(
+        &mut self,
+        rt: &impl Abort,
+        slot: u16,
+        block: u32,
+    ) -> Result<Ticket, (Refusal, Plain)> {
+        assert!(rt; block < self.array.shape().blocks);
+        self.array.copy(self.alloc, Plain { slot }, block)
+    }
+
+    // Commits what waits.
+    fn commit(&mut self, rt: &impl Abort, ticket: Ticket, block: u32) -> Done<Plain> {
+        assert!(rt; block < self.array.shape().blocks);
+        let Ok(done) = self.array.commit(self.alloc, ticket, block) else {
+            panic!(rt; "not committed")
+        };
+        done
+    }
+
+    /// Writes a block at a slot.
+    pub(crate) fn put(&mut self, rt: &impl Abort, slot: u16, block: u32, byte: u8) -> Done<Plain> {
+        let Ok(ticket) = self.fill(rt, slot, byte) else {
+            panic!(rt; "not filled")
+        };
+        self.commit(rt, ticket, block)
+    }
+
+    /// Writes a block at a slot, and tells the record.
+    pub(crate) fn write(&mut self, rt: &impl Abort, slot: u16, block: u32, byte: u8) -> Record {
+        self.put(rt, slot, block, byte).emitted.record()
+    }
+
+    /// Copies a block to a slot, and tells the record.
+    pub(crate) fn carry(&mut self, rt: &impl Abort, slot: u16, block: u32) -> Record {
+        let Ok(ticket) = self.copy(rt, slot, block) else {
+            panic!(rt; "not copied")
+        };
+        self.commit(rt, ticket, block).emitted.record()
+    }
+
+    pub(crate) fn read(
+        &mut self,
+        rt: &impl Abort,
+        block: u32,
+    ) -> Result<Option<(u32, Vec<u8>)>, Refusal> {
+        assert!(rt; block < self.array.shape().blocks);
+        self.array.read(self.alloc, block)
+    }
+
+    /// Whether a block reads as this version of this byte.
+    pub(crate) fn reads(&mut self, rt: &impl Abort, block: u32, version: u32, byte: u8) -> bool {
+        match self.read(rt, block) {
+            Ok(Some((told, payload))) => told == version && is_all(&payload, byte),
+            _ => false,
+        }
+    }
+
+    pub(crate) fn read_at(&mut self, rt: &impl Abort, asked: Record) -> Result<At, Refusal> {
+        assert!(rt; asked.block < self.array.shape().blocks);
+        self.array.read_at(self.alloc, asked)
+    }
+
+    /// Whether exactly this record lies at its place, with a payload of this byte.
+    pub(crate) fn finds(&mut self, rt: &impl Abort, asked: Record, byte: u8) -> bool {
+        match self.read_at(rt, asked) {
+            Ok(At::Data(payload)) => is_all(&payload, byte),
+            _ => false,
+        }
+    }
+
+    pub(crate) fn learn(&mut self, rt: &impl Abort, asked: Record) -> Result<Reading, Refusal> {
+        assert!(rt; asked.block < self.array.shape().blocks);
+        self.array.read_or_learn(self.alloc, asked)
+    }
+
+    /// Whether who asks for a record is told another, or the same, with a payload of this byte.
+    pub(crate) fn learns(
+        &mut self,
+        rt: &impl Abort,
+        asked: Record,
+        told: Record,
+        byte: u8,
+    ) -> bool {
+        match self.learn(rt, asked) {
+            Ok(reading) => reading.record() == told && is_all(reading.payload(), byte),
+            Err(_) => false,
+        }
+    }
+
+    pub(crate) fn lose(&mut self, rt: &impl Abort, drive: u8) {
+        assert!(rt; drive < self.array.drive_count());
+        self.array.lose(drive);
+    }
+
+    pub(crate) fn fuse(&mut self, rt: &impl Abort, drive: u8, calls: u64) {
+        assert!(rt; drive < self.array.drive_count() && calls > 0);
+        self.array.fuse(drive, calls);
+    }
+}
