@@ -1,5 +1,5 @@
 // Arrays made anew from drives that were written by hand: the last version, the last hop, and one of each fault.
-use crate::rig::{Restarted, Rig, is_all, record, restart_parts};
+use crate::rig::{Restarted, Rig, record, restart_parts};
 use array_parts::Parts;
 use extent_groups::Class;
 use extents::MemDrive;
@@ -109,11 +109,11 @@ fn copy(rt: &impl Abort, alloc: Global, array: &mut Memory, slot: u16) -> (Refus
     refused
 }
 
-/// Whether block 3 reads as this version of this byte.
+/// Whether block 3 reads as this version, with eight of this byte.
 fn reads(rt: &impl Abort, alloc: Global, array: &mut Memory, version: u32, byte: u8) -> bool {
     assert!(rt; array.shape().blocks == 16);
     match array.read(alloc, 3) {
-        Ok(Some((told, payload))) => told == version && is_all(&payload, byte),
+        Ok(Some((told, payload))) => told == version && payload.as_slice() == [byte; 8].as_slice(),
         _ => false,
     }
 }
