@@ -206,12 +206,7 @@ fn write(
     put_outcome(out, outcome)
 }
 
-fn demote(
-    alloc: Global,
-    bench: &mut Bench,
-    worker: u8,
-    out: &mut Vec<u8>,
-) -> Result<(), AllocError>
+fn demote(alloc: Global, bench: &mut Bench, worker: u8, out: &mut Vec<u8>) -> Result<(), AllocError>
     ensures { OnOk result (Carries bench.old bench.new (o.Demote worker) out.old.items out.new.items) }
 {
     let outcome = bench.tiers.demote(alloc, worker)?;

@@ -1,7 +1,7 @@
 -- The live slots of a group, counted one after another.
-use Rattle.std.proofs.Common.{◌≡◌, ℕ, ◌+◌, ◌*◌, ◌/◌, ◌%◌, ◌<◌, ◌≤◌, List, [], ◌∷◌, ◌++◌, length, refl, sym, ap, ◌∙◌, subst, arith}
+use Rattle.std.proofs.Common.{◌≡◌, ℕ, ◌+◌, ◌*◌, ◌%◌, ◌<◌, ◌≤◌, List, [], ◌∷◌, ◌++◌, length, refl, ap, ◌∙◌, subst, arith}
 use Rattle.std.proofs.lemmas.List.{length_push}
-use Rattle.map_join.specs.Lists.{IsCount, Lists, ListsBelow}
+use Rattle.map_join.specs.Lists.{ListsBelow}
 use Rattle.map_join.specs.Live.{IsLive, IsLiveIn, IsLiveCount}
 use Rattle.map_join.proofs.Rising.{below_none, below_more, below_skip, below_all}
 

@@ -1,5 +1,5 @@
 -- Who holds a slot on its way: what each step of a placing leaves to the next.
-use Rattle.std.proofs.Common.{◌≡◌, ◌≢◌, ℕ, Bool, true, false, ◌||◌, List, refl, sym, ap, ◌∙◌, subst, ◌⊎◌, inl, inr, Option, Some, None, Result, Ok, Err}
+use Rattle.std.proofs.Common.{◌≡◌, ◌≢◌, ℕ, Bool, true, false, ◌||◌, List, refl, sym, ap, ◌∙◌, subst, inl, inr, Option, Some, None, Result, Ok, Err}
 use Rattle.std.specs.Prelude.{IfOk, OnErr}
 use Rattle.map_join.specs.declared.records.Record.{Record}
 use Rattle.flat_machine.specs.declared.refusal.Refusal.{Refusal}
@@ -9,7 +9,7 @@ use Rattle.flat_machine.specs.Steps.{FlatStep}
 use Rattle.flat_machine.specs.Steps as step
 use Rattle.flat_machine.specs.Cases.{Case, Leaves, Runs, FillCase, CopyCase, CommitCase, CommitWith, place_passed}
 use Rattle.flat_machine.proofs.Newest.{newest_unique}
-use Rattle.flat_machine.proofs.Pairs.{itself, with_here, turned_here}
+use Rattle.flat_machine.proofs.Pairs.{itself, with_here}
 use Rattle.array_model.specs.Views.{WorldView}
 use Rattle.array_model.specs.Represents.{Represents}
 use Rattle.step_core.proofs.Worlds.{refused_leaves}

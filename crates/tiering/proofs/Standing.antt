@@ -1,5 +1,5 @@
 -- What stands for a flat state with what is kept beside it, behind each part of a step.
-use Rattle.std.proofs.Common.{◌≡◌, ℕ, ◌+◌, ◌<◌, if◌then◌else◌, arith, ◌↔◌, ◌⊎◌, inl, inr, List, length, refl, sym, ap, ◌∙◌, subst, Option, Some, None, Result, Ok, Err, true}
+use Rattle.std.proofs.Common.{◌≡◌, ℕ, ◌+◌, ◌<◌, if◌then◌else◌, arith, ◌↔◌, inl, inr, List, length, refl, sym, ap, ◌∙◌, subst, Option, Some, None, Result, Ok, Err}
 use Rattle.std.specs.Prelude.{IfOk, OnErr}
 use Rattle.std.proofs.lemmas.List.FromFn.{length-range_with_len}
 use Rattle.map_join.specs.declared.records.Record.{Record}
@@ -11,7 +11,7 @@ use Rattle.flat_machine.specs.Flat.{Flat, Content, Waiting, IsFree}
 use Rattle.flat_machine.specs.Flat as waiting
 use Rattle.flat_machine.specs.Steps as step
 use Rattle.flat_machine.specs.Cases.{Case, CommitWith}
-use Rattle.array_model.specs.Views.{ArrayView, WorldView, key_at, SameSizes}
+use Rattle.array_model.specs.Views.{WorldView, key_at, SameSizes}
 use Rattle.array_model.specs.Represents.{Represents}
 use Rattle.flat_machine.proofs.Pairs.{unequal}
 use Rattle.array_model.proofs.Hands.{free_iff}
@@ -29,7 +29,7 @@ use Rattle.tiering.specs.Steps.{Write, AppendsAt, MovesTo, WritesAt, WritesIn, P
 use Rattle.tiering.specs.Stands.{StandsFor}
 use Rattle.tiering.specs.Inside.{IsFreeHere, order_told}
 use Rattle.tiering.specs.declared.outcome.Outcome.{Outcome}
-use Rattle.tiering.specs.declared.outcome.Outcome.TheVariants.{Placed, Refused, NoRoom, Nothing}
+use Rattle.tiering.specs.declared.outcome.Outcome.TheVariants.{NoRoom, Nothing}
 use Rattle.tiering.specs.declared.tiers.Tiers.{Tiers}
 
 -- the groups of the state are the world's
@@ -129,8 +129,10 @@ append_as end groups keys P Q None same h = λ slot is q. h slot is ((same slot)
 append_as end groups keys P Q (Some n) same (inl h) =
     inl (lowest_as (IsFreeBehind end groups keys P) (IsFreeBehind end groups keys Q) n (λ m. ((λ x. (x.0, (same m).0 x.1)), (λ x. (x.0, (same m).1 x.1)))) h)
 append_as end groups keys P Q (Some n) same (inr h) =
-    inr ((λ other x. h.0 other (x.0, (same other).1 x.1)),
-    lowest_as (IsFreeFresh end groups keys P) (IsFreeFresh end groups keys Q) n (λ m. ((λ x. (x.0, (same m).0 x.1)), (λ x. (x.0, (same m).1 x.1)))) h.1)
+    inr (
+      (λ other x. h.0 other (x.0, (same other).1 x.1)),
+      lowest_as (IsFreeFresh end groups keys P) (IsFreeFresh end groups keys Q) n (λ m. ((λ x. (x.0, (same m).0 x.1)), (λ x. (x.0, (same m).1 x.1)))) h.1,
+    )
 
 -- the plans of a world's tables are those of the state
 pub oldest_is : (t : Tiers) (T : Tiered) (chosen : Option ℕ) → StandsFor t T → IsOldest t.recency (IsMirrored t.world.array.parts.groups (key_at t.world.array)) chosen
@@ -369,7 +371,7 @@ notes t u w s b a inside commits same order long end T stands =
     let c = commits T.flat stands.world in
     let there = block_there t T b stands inside in
     let told : u.recency ≡ order_behind T.order b (flat_answer a) (T.flat.tickets s) =
-        order there ∙ ap (λ l. order_told l b a) stands.order ∙ order_is T.flat c.0 w s b T.order a c.1 in (
+    order there ∙ ap (λ l. order_told l b a) stands.order ∙ order_is T.flat c.0 w s b T.order a c.1 in (
       record { flat = c.0; order = order_behind T.order b (flat_answer a) (T.flat.tickets s); end = T.end },
       record { case = c.1; noted = refl; same = refl },
       record {

@@ -1,6 +1,6 @@
 -- A block goes into a slot: the slot is claimed, filled or copied into, and committed; then the block's old place is given back. Where
 -- the array refuses, the slot is given back.
-use Rattle.std.specs.Prelude.{◌≡◌, ◌⊎◌, ℕ, List, [], ◌∷◌, Option, Some, None}
+use Rattle.std.specs.Prelude.{◌⊎◌, ℕ, List, [], ◌∷◌, Option, Some, None}
 use Rattle.std.specs.Borrow.{Bor}
 use Rattle.map_join.specs.declared.records.Record.{Record}
 use Rattle.flat_machine.specs.declared.refusal.Refusal.{Refusal}
@@ -55,7 +55,7 @@ IsRefusedAtOnce F w s b what k G =
 abbrev pub IsRefusedLate : Flat → ℕ → ℕ → ℕ → Put → Refusal → Flat → Type 0
 IsRefusedLate F w s b what k G =
     Runs F (step.Claim w s ∷ put_step what w s b ∷ step.Commit w s b ∷ step.Discard w s ∷ step.Release w s ∷ [])
-      (Claimed s ∷ put_answer what s ∷ step.Refused k ∷ Discarded s ∷ Released s ∷ []) G
+    (Claimed s ∷ put_answer what s ∷ step.Refused k ∷ Discarded s ∷ Released s ∷ []) G
 
 -- what comes of it: there is no room where somebody holds the slot
 abbrev pub PlaceCase : Flat → ℕ → ℕ → ℕ → Put → Outcome → Flat → Type 0
@@ -69,4 +69,4 @@ abbrev pub PlaceStops : Flat → ℕ → ℕ → ℕ → Put → Flat → Type 0
 PlaceStops F w s b what G =
     Runs F (step.Claim w s ∷ step.Release w s ∷ []) (Claimed s ∷ Released s ∷ []) G
     ⊎ Runs F (step.Claim w s ∷ put_step what w s b ∷ step.Discard w s ∷ step.Release w s ∷ [])
-        (Claimed s ∷ put_answer what s ∷ Discarded s ∷ Released s ∷ []) G
+    (Claimed s ∷ put_answer what s ∷ Discarded s ∷ Released s ∷ []) G

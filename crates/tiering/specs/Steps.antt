@@ -1,6 +1,5 @@
 -- What a worker does by a plan: write a block, demote the oldest, plug a hole, clean a group.
 use Rattle.std.specs.Prelude.{◌≡◌, ◌⊎◌, ℕ, List, Option, Some, None}
-use Rattle.map_join.specs.declared.records.Record.{Record}
 use Rattle.map_join.specs.Maps.{IsMapOf}
 use Rattle.extent_groups.specs.declared.class.Class.TheVariants.{Mirrored}
 use Rattle.extent_groups.specs.Stores.{IsSlotOf}
@@ -17,7 +16,7 @@ use Rattle.cleaner.specs.Plans.{IsPlugPlan, IsCleanPlan}
 use Rattle.tiering.specs.Tiered.{Tiered}
 use Rattle.tiering.specs.Placing.{Put, Fresh, Again, PlaceCase, PlaceStops}
 use Rattle.tiering.specs.declared.outcome.Outcome.{Outcome}
-use Rattle.tiering.specs.declared.outcome.Outcome.TheVariants.{Placed, Refused, NoRoom, Nothing}
+use Rattle.tiering.specs.declared.outcome.Outcome.TheVariants.{Placed, NoRoom, Nothing}
 
 -- a worker comes first, then what goes in
 pub data TierStep : Type 0 where

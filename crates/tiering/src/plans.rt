@@ -95,7 +95,8 @@ impl Tiers {
     {
         self.world.whole();
         let running = Running { world: &self.world };
-        self.recency.next_to_demote(self.world.array().groups(), &running)
+        self.recency
+            .next_to_demote(self.world.array().groups(), &running)
     }
 
     // The first free slot where the log goes on.

@@ -1,4 +1,4 @@
-use Rattle.std.proofs.Common.{subst, None, Some}
+use Rattle.std.proofs.Common.{subst}
 use Rattle.tiering.specs.Placing.{put_of}
 use Rattle.tiering.proofs.Placings.{Gives, Puts, placed_in, stopped_in, refused_at_once, stopped_at_once}
 use Rattle.tiering.proofs.place.place.Goals as goal

@@ -1,4 +1,4 @@
-use Rattle.std.proofs.Common.{refl, ap}
+use Rattle.std.proofs.Common.{ap}
 use Rattle.tiering.specs.Placing.{Fresh, Again, put_of}
 use Rattle.flat_machine.specs.Flat.{Payload}
 use Rattle.tiering.proofs.Placings.{answers_as, puts_is}

@@ -1,4 +1,4 @@
-use Rattle.std.proofs.Common.{◌+◌, subst, sym, refl, arith, true, IsTrue}
+use Rattle.std.proofs.Common.{◌+◌, subst, sym, arith}
 use Rattle.array_model.specs.Views.{key_at}
 use Rattle.tiering.proofs.Counts.{IsCounted, counted_more, counted_skip, counted_all}
 use Rattle.tiering.proofs.asks.RunningLive.count_live.Goals as goal

@@ -1,4 +1,3 @@
-use Rattle.std.proofs.Common.{ℕ}
 use Rattle.array_model.specs.Views.{key_at}
 use Rattle.tiering.proofs.Counts.{IsCounted}
 use Rattle.tiering.proofs.asks.RunningLive.count_live.Given as goal

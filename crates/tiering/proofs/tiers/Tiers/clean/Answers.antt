@@ -1,4 +1,3 @@
-use Rattle.std.proofs.Common.{rules}
 use Rattle.tiering.proofs.Standing.{cleans}
 use Rattle.tiering.proofs.tiers.Tiers.clean.Goals as goal
 

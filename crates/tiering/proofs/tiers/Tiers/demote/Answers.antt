@@ -1,4 +1,3 @@
-use Rattle.std.proofs.Common.{rules}
 use Rattle.tiering.proofs.Standing.{demotes, demotes_nowhere}
 use Rattle.tiering.proofs.tiers.Tiers.demote.Goals as goal
 

@@ -1,4 +1,3 @@
-use Rattle.std.proofs.Common.{rules}
 use Rattle.tiering.proofs.Standing.{plugs, stops_if}
 use Rattle.tiering.proofs.tiers.Tiers.plug.Goals as goal
 use Rattle.tiering.specs.Placing.{Again}

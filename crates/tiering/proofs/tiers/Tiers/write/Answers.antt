@@ -1,4 +1,3 @@
-use Rattle.std.proofs.Common.{rules}
 use Rattle.tiering.proofs.Standing.{writes_here, stops_here, writes_behind, stops_behind}
 use Rattle.tiering.proofs.tiers.Tiers.write.Goals as goal
 use Rattle.flat_machine.specs.Flat.{Payload}

@@ -1,4 +1,3 @@
-use Rattle.std.proofs.Common.{rules}
 use Rattle.tiering.proofs.Standing.{finds_again, finds_none}
 use Rattle.tiering.proofs.tiers.Tiers.write_behind.Goals as goal
 use Rattle.flat_machine.specs.Flat.{Payload}
