@@ -1,6 +1,7 @@
 pub mod Groups
 pub mod Flat
 pub mod Steps
+pub mod Moves
 pub mod Cases
 pub mod Numbers
 pub mod History

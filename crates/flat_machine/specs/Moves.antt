@@ -1,0 +1,83 @@
+-- Groups that are unmade, members that go onto other extents, and drives that come to an array: when that may be, and the
+-- state that it leaves.
+use Rattle.std.specs.Prelude.{◌≡◌, ◌≢◌, ◌⊎◌, ℕ, ◌+◌, ◌/◌, ◌%◌, ◌<◌, ◌==◌, ◌&&◌, nat_lt, Bool, true, false, if◌then◌else◌, length, slice_get, Option, Some, None}
+use Rattle.extent_groups.specs.declared.class.Member.{Member}
+use Rattle.extent_groups.specs.Groups.{Group, Groups, group_at, members_of, slots_in, with_group, with_member, swapped_in, Stands}
+use Rattle.extent_groups.specs.Missing.{IsGone, IsGoneAt}
+use Rattle.extent_groups.specs.Stores.{HasMemberOn, IsDriveOf}
+use Rattle.extent_groups.specs.Units.{Site, site_of}
+use Rattle.flat_machine.specs.Flat.{Flat, Holder, Worker, Shut, Stored, class_of, put, turned}
+
+-- a slot of the group
+pub record IsIn (F : Flat) (g slot : ℕ) : Type 0 where
+  pub group : slot / 128 ≡ g
+  pub made : class_of F slot ≢ None
+
+-- the lowest slot of the group that the worker doesn't hold
+pub record IsFirstStray (F : Flat) (w g slot : ℕ) : Type 0 where
+  pub is : IsIn F g slot
+  pub stray : F.held slot (Worker w) ≡ false
+  pub below : (other : ℕ) → other < slot → IsIn F g other → F.held other (Worker w) ≡ true
+
+-- the pairs in which the first slots of a group, so many, go from the worker to the group's number
+abbrev pub shut_first : (ℕ → Holder → Bool) → ℕ → ℕ → ℕ → ℕ → Holder → Bool
+shut_first held w g count slot =
+    if (slot / 128 == g) && nat_lt (slot % 128) count then turned held slot (Worker w) (Shut g) slot else held slot
+
+-- the units without those of a group
+abbrev pub without_group : (ℕ → Option Stored) → ℕ → ℕ → Option Stored
+without_group units g slot = if slot / 128 == g then None else units slot
+
+-- the state in which a group is unmade: its slots have no unit, and the claims that the worker had of them are kept
+abbrev pub unmade : Flat → ℕ → ℕ → Flat
+unmade F w g = record F {
+  groups = with_group F.groups g None;
+  held = shut_first F.held w g (slots_in F.groups.segments (group_at F.groups g));
+  units = without_group F.units g;
+}
+
+-- an extent that is there, on a drive of none of the group's members, and of no group
+pub record IsTarget (F : Flat) (g : ℕ) (to : Member) : Type 0 where
+  pub drive : to.drive < F.drives
+  pub extent : to.extent < F.groups.extents
+  pub apart : HasMemberOn F.groups g to.drive → ⊥
+  pub unowned : (h : ℕ) → Stands (members_of F.groups h) to.drive to.extent → ⊥
+
+-- nothing that moving the group's member of this number tests before it takes memory speaks against it
+pub record MovePasses (F : Flat) (g k : ℕ) (to : Member) : Type 0 where
+  pub was : Member
+  pub member : slice_get (members_of F.groups g) k ≡ Some was
+  pub target : IsTarget F g to
+  pub present : F.lost to.drive ≡ false
+
+-- what lies on a lost drive for a group can't be rebuilt: a slot of the group that has a unit there is gone
+pub record IsBeyond (groups : Groups) (missing : ℕ → Bool) (g drive : ℕ) : Type 0 where
+  pub lost : missing drive ≡ true
+  pub slot : ℕ
+  pub group : slot / 128 ≡ g
+  pub site : Site
+  pub there : site_of groups slot ≡ Some site
+  pub on : IsDriveOf site drive
+  pub gone : IsGoneAt missing site
+
+-- the lowest slot of the group that is gone
+pub record IsFirstGone (groups : Groups) (missing : ℕ → Bool) (g slot : ℕ) : Type 0 where
+  pub group : slot / 128 ≡ g
+  pub gone : IsGone groups missing slot
+  pub below : (other : ℕ) → other < slot → other / 128 ≡ g → IsGone groups missing other → ⊥
+
+-- a unit of the group's member of this number can't be had
+abbrev pub IsBeyondOf : Groups → (ℕ → Bool) → ℕ → ℕ → Type 0
+IsBeyondOf groups missing g k = (was : Member) × (slice_get (members_of groups g) k ≡ Some was) × (IsBeyond groups missing g was.drive)
+
+-- the state in which the group's member of this number is another extent: slots, units and holders are as they were
+abbrev pub moved_to : Flat → ℕ → ℕ → Member → Flat
+moved_to F g k to = record F { groups = with_group F.groups g (swapped_in (group_at F.groups g) k to) }
+
+-- the state with one drive more, which is lost or not and has failed so often
+abbrev pub with_drive : Flat → Bool → ℕ → Flat
+with_drive F lost failures = record F {
+  drives = F.drives + 1;
+  lost = put F.lost F.drives lost;
+  failures = put F.failures F.drives failures;
+}
