@@ -1,16 +1,19 @@
 -- No slot ever has two holders: each case keeps it.
-use Rattle.std.proofs.Common.{◌≡◌, ℕ, ◌<◌, Bool, true, false, not, ◌&&◌, List, refl, sym, ap, ◌∙◌, subst, ◌⊎◌, inl, inr, Option, Some, None}
+use Rattle.std.proofs.Common.{◌≡◌, ◌≢◌, ℕ, ◌<◌, Bool, true, false, not, ◌&&◌, List, refl, sym, ap, ◌∙◌, subst, ◌⊎◌, inl, inr, Option, Some, None}
 use Rattle.std.proofs.lemmas.Bool.{cases_eq}
 use Rattle.std.proofs.lemmas.Option.{same_Some}
 use Rattle.map_join.specs.declared.records.Record.{Record}
 use Rattle.extent_groups.specs.declared.class.Class.{Class}
 use Rattle.extent_groups.specs.declared.class.Member.{Member}
-use Rattle.flat_machine.specs.declared.refusal.Refusal.TheVariants.{NoGroup, WrongClass, InUse, NoTicket, Outrun, VersionSpent, HopsSpent, Unwritten, Gone, DriveLost, Ahead, ExtentTaken, SameDrive, LogFull, Full, BadMember}
+use Rattle.flat_machine.specs.declared.refusal.Refusal.TheVariants.{NoGroup, WrongClass, InUse, NoTicket, Outrun, VersionSpent, HopsSpent, Unwritten, Gone, SlotsHeld, DriveLost, Ahead, ExtentTaken, SameDrive, LogFull, Full, BadMember}
 use Rattle.flat_machine.specs.Flat.{Flat, Content, Holder, Worker, Ticket, Block, Shut, Waiting, Fresh, Moved, same_holder, with_pair, without_pair, turned, IsNewest}
-use Rattle.flat_machine.specs.Steps.{FlatStep, Claim, Release, Fill, Copy, Commit, Discard, Read, ReadAt, Make, Lose, FlatAnswer, Claimed, Taken, Released, NotHeld, Filled, Copied, Committed, Discarded, Found, FoundAt, MadeGroup, LostDrive, Refused}
-use Rattle.flat_machine.specs.Cases.{Case, ClaimCase, ReleaseCase, FillCase, CopyCase, CommitCase, CommitWith, DiscardCase, ReadCase, ReadAtCase, MakeCase, LoseCase, Leaves}
+use Rattle.flat_machine.specs.Steps.{FlatStep, Claim, Release, Fill, Copy, Commit, Discard, Read, ReadAt, Make, Unmake, MoveExtent, AddDrive, Lose, FlatAnswer, Claimed, Taken, Released, NotHeld, Filled, Copied, Committed, Discarded, Found, FoundAt, MadeGroup, UnmadeGroup, MovedExtent, AddedDrive, LostDrive, Refused}
+use Rattle.flat_machine.specs.Cases.{Case, ClaimCase, ReleaseCase, FillCase, CopyCase, CommitCase, CommitWith, DiscardCase, ReadCase, ReadAtCase, MakeCase, UnmakeCase, MoveCase, AddCase, LoseCase, Leaves}
 use Rattle.flat_machine.specs.History.{IsHistory, AreHeld, IsStep}
 use Rattle.flat_machine.proofs.Pairs.{Any, IsOnce, IsJust, just_one, just_once, with_just, with_else, without_here, without_else, turned_just, turned_else}
+use Rattle.extent_groups.specs.Groups.{group_at}
+use Rattle.flat_machine.specs.Moves.{IsIn, IsClaimed, unmade}
+use Rattle.flat_machine.proofs.Unmakes.{unmade_at}
 use Rattle.flat_machine.proofs.Passing.{Passes, passed, passed_on}
 
 -- told of every slot
@@ -177,6 +180,49 @@ loses F G d (LostDrive e) is case = fared _ G (record { once = is.once; inside =
 loses F G d (Refused BadMember) is case = stays F G is case.1
 loses F G d _ is case = absurd case
 
+-- the slots of a group go from the worker, who alone has each, to the group's number
+unmade_holds : (F : Flat) (keys : ℕ → ℕ) (w g : ℕ) → IsHistory F keys → AreHeld F → group_at F.groups g ≢ None → ((s : ℕ) → IsIn F g s → IsClaimed F w s) → AreHeld (unmade F w g)
+unmade_holds F keys w g history is made claimed = held_as (unmade F w g) once inside
+  where
+    at : (t : ℕ) → ((unmade F w g).held t ≡ F.held t) ⊎ ((F.held t (Worker w) ≡ true) × ((unmade F w g).held t ≡ turned F.held t (Worker w) (Shut g) t))
+    at t = unmade_at F keys w g history made claimed t
+
+    once : (t : ℕ) → IsOnce Any ((unmade F w g).held t)
+    once t = go (at t)
+      where
+        go : ((unmade F w g).held t ≡ F.held t) ⊎ ((F.held t (Worker w) ≡ true) × ((unmade F w g).held t ≡ turned F.held t (Worker w) (Shut g) t)) → IsOnce Any ((unmade F w g).held t)
+        go (inl same) = subst (IsOnce Any) (sym same) (once_any F is t)
+        go (inr turns) = subst (IsOnce Any) (sym turns.1)
+            (just_once Any (turned F.held t (Worker w) (Shut g) t) (Shut g) (turned_just Any F.held t (Worker w) (Shut g) (just_one Any (F.held t) (Worker w) (once_any F is t) tt turns.0)))
+
+    inside : (t : ℕ) (j : Holder) → (unmade F w g).held t j ≡ true → t < 65536
+    inside t j has = go (at t)
+      where
+        go : ((unmade F w g).held t ≡ F.held t) ⊎ ((F.held t (Worker w) ≡ true) × ((unmade F w g).held t ≡ turned F.held t (Worker w) (Shut g) t)) → t < 65536
+        go (inl same) = is.inside t j (sym (ap (λ (h : Holder → Bool). h j) same) ∙ has)
+        go (inr turns) = is.inside t (Worker w) turns.0
+
+unmakes : (F G : Flat) (keys : ℕ → ℕ) (w g : ℕ) (answer : FlatAnswer) → IsHistory F keys → AreHeld F → UnmakeCase F w g answer G → AreHeld G
+unmakes F G keys w g (Refused NoGroup) history is case = stays F G is case.1
+unmakes F G keys w g (Refused (SlotsHeld s)) history is case = stays F G is case.1
+unmakes F G keys w g (UnmadeGroup h) history is case = fared _ G (unmade_holds F keys w g history is case.1 case.2) case.3
+unmakes F G keys w g _ history is case = absurd case
+
+moves : (F G : Flat) (g k : ℕ) (to : Member) (answer : FlatAnswer) → AreHeld F → MoveCase F g k to answer G → AreHeld G
+moves F G g k to (Refused NoGroup) is case = stays F G is case.1
+moves F G g k to (Refused BadMember) is case = stays F G is case.2
+moves F G g k to (Refused SameDrive) is case = stays F G is case.4
+moves F G g k to (Refused ExtentTaken) is case = stays F G is case.5
+moves F G g k to (Refused (DriveLost d)) is case = stays F G is case.4
+moves F G g k to (Refused (Gone s)) is case = stays F G is case.3
+moves F G g k to MovedExtent is case = fared _ G (record { once = is.once; inside = is.inside }) case.3
+moves F G g k to _ is case = absurd case
+
+adds : (F G : Flat) (answer : FlatAnswer) → AreHeld F → AddCase F answer G → AreHeld G
+adds F G (Refused Full) is case = stays F G is case.1
+adds F G (AddedDrive d) is case = fared _ G (record { once = is.once; inside = is.inside }) case.2
+adds F G _ is case = absurd case
+
 -- a step of numbers that there are, whatever its answer
 pub step_holds : (F G : Flat) (keys : ℕ → ℕ) (step : FlatStep) (answer : FlatAnswer) → IsHistory F keys → AreHeld F → IsStep F.groups step → Case F step answer G → AreHeld G
 step_holds F G keys (Claim w s) answer history is fits case = claims F G w s answer is fits case
@@ -188,4 +234,7 @@ step_holds F G keys (Discard w s) answer history is fits case = discards F G w s
 step_holds F G keys (Read b) answer history is fits case = reads F G b answer is case
 step_holds F G keys (ReadAt r) answer history is fits case = looks F G r answer is case
 step_holds F G keys (Make class members) answer history is fits case = makes F G class members answer is case
+step_holds F G keys (Unmake w g) answer history is fits case = unmakes F G keys w g answer history is case
+step_holds F G keys (MoveExtent g k to) answer history is fits case = moves F G g k to answer is case
+step_holds F G keys AddDrive answer history is fits case = adds F G answer is case
 step_holds F G keys (Lose d) answer history is fits case = loses F G d answer is case

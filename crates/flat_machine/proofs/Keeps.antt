@@ -1,5 +1,5 @@
 -- Each case of the flat machine keeps what is true of every state.
-use Rattle.std.proofs.Common.{◌≡◌, ℕ, ◌+◌, ◌<◌, ◌≤◌, ◌/◌, ◌%◌, is_some, Bool, true, List, [], ◌∷◌, ◌++◌, length, Contains, refl, sym, ap, ◌∙◌, subst, arith, ◌⊎◌, inl, inr, Option, Some, None}
+use Rattle.std.proofs.Common.{◌≡◌, ℕ, ◌+◌, ◌<◌, ◌≤◌, ◌/◌, ◌%◌, is_some, Bool, true, false, List, [], ◌∷◌, ◌++◌, length, Contains, refl, sym, ap, ◌∙◌, subst, arith, ◌⊎◌, inl, inr, Option, Some, None}
 use Rattle.std.proofs.lemmas.List.Elements.{Contains-append_left, Contains-push_cases}
 use Rattle.std.proofs.lemmas.Option.{same_Some}
 use Rattle.map_join.specs.declared.records.Record.{Record}
@@ -8,13 +8,13 @@ use Rattle.map_join.specs.Maps.{IsMapOf}
 use Rattle.extent_groups.specs.declared.class.Class.{Class}
 use Rattle.extent_groups.specs.declared.class.Class.TheVariants.{Mirrored}
 use Rattle.extent_groups.specs.declared.class.Member.{Member}
-use Rattle.flat_machine.specs.declared.refusal.Refusal.TheVariants.{NoGroup, WrongClass, InUse, NoTicket, Outrun, VersionSpent, HopsSpent, Unwritten, Gone, DriveLost, Ahead, ExtentTaken, SameDrive, LogFull, Full, BadMember}
+use Rattle.flat_machine.specs.declared.refusal.Refusal.TheVariants.{NoGroup, WrongClass, InUse, NoTicket, Outrun, VersionSpent, HopsSpent, Unwritten, Gone, SlotsHeld, DriveLost, Ahead, ExtentTaken, SameDrive, LogFull, Full, BadMember}
 use Rattle.extent_groups.specs.Groups.{Groups}
 use Rattle.extent_groups.proofs.Fresh.{free_groups, no_members}
 use Rattle.flat_machine.specs.Groups.{AreSizes, IsEmpty, class_below}
 use Rattle.flat_machine.specs.Flat.{Flat, for_ticket, Write, Content, Payload, bytes_of, IsSized, Ticket, Waiting, Fresh, Moved, waiting_unit, class_of, last_write, IsNewest, new_flat, put}
-use Rattle.flat_machine.specs.Steps.{FlatStep, Claim, Release, Fill, Copy, Commit, Discard, Read, ReadAt, Make, Lose, FlatAnswer, Claimed, Taken, Released, NotHeld, Filled, Copied, Committed, Discarded, Found, FoundAt, MadeGroup, LostDrive, Refused}
-use Rattle.flat_machine.specs.Cases.{Case, ClaimCase, ReleaseCase, FillCase, CopyCase, CommitCase, CommitWith, DiscardCase, ReadCase, ReadAtCase, MakeCase, LoseCase, Leaves, IsFor, HasStamp, next_version, last_version, longest_log, committed, CopyPasses}
+use Rattle.flat_machine.specs.Steps.{FlatStep, Claim, Release, Fill, Copy, Commit, Discard, Read, ReadAt, Make, Unmake, MoveExtent, AddDrive, Lose, FlatAnswer, Claimed, Taken, Released, NotHeld, Filled, Copied, Committed, Discarded, Found, FoundAt, MadeGroup, UnmadeGroup, MovedExtent, AddedDrive, LostDrive, Refused}
+use Rattle.flat_machine.specs.Cases.{Case, ClaimCase, ReleaseCase, FillCase, CopyCase, CommitCase, CommitWith, DiscardCase, ReadCase, ReadAtCase, MakeCase, UnmakeCase, MoveCase, AddCase, LoseCase, Leaves, IsFor, HasStamp, next_version, last_version, longest_log, committed, CopyPasses}
 use Rattle.flat_machine.specs.History.{IsWrite, IsWriteOf, IsCopy, IsHistory, IsStep}
 use Rattle.flat_machine.proofs.Newest.{newest_key, newest_zero, newest_record, same_map, key_least}
 use Rattle.flat_machine.proofs.Writes.{last_here, last_else, last_there, write_chained, write_most}
@@ -22,6 +22,8 @@ use Rattle.flat_machine.proofs.Claims.{claim_keeps, release_keeps}
 use Rattle.flat_machine.proofs.Tickets.{ticket_keeps, discard_keeps}
 use Rattle.flat_machine.proofs.Commits.{emitted_by, IsReady, commit_keeps}
 use Rattle.flat_machine.proofs.Makes.{make_keeps}
+use Rattle.flat_machine.proofs.Unmakes.{unmake_keeps}
+use Rattle.flat_machine.proofs.Regroups.{move_keeps, add_keeps}
 use Rattle.flat_machine.proofs.Slots.{block_same}
 
 -- a content fits where its bytes do
@@ -302,6 +304,27 @@ loses F G keys M d (LostDrive e) is case map = stays _ G keys M (fared F (put F.
 loses F G keys M d (Refused BadMember) is case map = stays F G keys M is case.1 map
 loses F G keys M d _ is case map = absurd case
 
+unmakes : (F G : Flat) (keys M : ℕ → ℕ) (w g : ℕ) (answer : FlatAnswer) → IsHistory F keys → UnmakeCase F w g answer G → IsMapOf G.emitted M → IsHistory G M
+unmakes F G keys M w g (Refused NoGroup) is case map = stays F G keys M is case.1 map
+unmakes F G keys M w g (Refused (SlotsHeld s)) is case map = stays F G keys M is case.1 map
+unmakes F G keys M w g (UnmadeGroup h) is case map = stays _ G keys M (unmake_keeps F keys w g is case.1 case.2) case.3 map
+unmakes F G keys M w g _ is case map = absurd case
+
+moves : (F G : Flat) (keys M : ℕ → ℕ) (g k : ℕ) (to : Member) (answer : FlatAnswer) → IsHistory F keys → MoveCase F g k to answer G → IsMapOf G.emitted M → IsHistory G M
+moves F G keys M g k to (Refused NoGroup) is case map = stays F G keys M is case.1 map
+moves F G keys M g k to (Refused BadMember) is case map = stays F G keys M is case.2 map
+moves F G keys M g k to (Refused SameDrive) is case map = stays F G keys M is case.4 map
+moves F G keys M g k to (Refused ExtentTaken) is case map = stays F G keys M is case.5 map
+moves F G keys M g k to (Refused (DriveLost d)) is case map = stays F G keys M is case.4 map
+moves F G keys M g k to (Refused (Gone s)) is case map = stays F G keys M is case.3 map
+moves F G keys M g k to MovedExtent is case map = stays _ G keys M (move_keeps F keys g k to is case.0) case.3 map
+moves F G keys M g k to _ is case map = absurd case
+
+adds : (F G : Flat) (keys M : ℕ → ℕ) (answer : FlatAnswer) → IsHistory F keys → AddCase F answer G → IsMapOf G.emitted M → IsHistory G M
+adds F G keys M (Refused Full) is case map = stays F G keys M is case.1 map
+adds F G keys M (AddedDrive d) is case map = stays _ G keys M (add_keeps F keys false 0 is case.1) case.2 map
+adds F G keys M _ is case map = absurd case
+
 -- a step of numbers that there are, whatever its answer
 pub step_keeps : (F G : Flat) (keys M : ℕ → ℕ) (step : FlatStep) (answer : FlatAnswer) → IsHistory F keys → IsStep F.groups step → Case F step answer G → IsMapOf G.emitted M → IsHistory G M
 step_keeps F G keys M (Claim w s) answer is fits case map = claims F G keys M w s answer is case map
@@ -313,6 +336,9 @@ step_keeps F G keys M (Discard w s) answer is fits case map = discards F G keys 
 step_keeps F G keys M (Read b) answer is fits case map = reads F G keys M b answer is case map
 step_keeps F G keys M (ReadAt r) answer is fits case map = looks F G keys M r answer is case map
 step_keeps F G keys M (Make class members) answer is fits case map = makes F G keys M class members answer is case map
+step_keeps F G keys M (Unmake w g) answer is fits case map = unmakes F G keys M w g answer is case map
+step_keeps F G keys M (MoveExtent g k to) answer is fits case map = moves F G keys M g k to answer is case map
+step_keeps F G keys M AddDrive answer is fits case map = adds F G keys M answer is case map
 step_keeps F G keys M (Lose d) answer is fits case map = loses F G keys M d answer is case map
 
 -- a new array's state

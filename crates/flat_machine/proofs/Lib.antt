@@ -7,6 +7,8 @@ pub mod Claims
 pub mod Tickets
 pub mod Commits
 pub mod Makes
+pub mod Unmakes
+pub mod Regroups
 pub mod Keeps
 pub mod Holding
 pub mod Gones

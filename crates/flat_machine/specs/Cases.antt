@@ -1,6 +1,6 @@
 -- The flat machine: which answer a step gives in a state, and which state it leaves. Each pair of step and answer has its
 -- case; what never comes is impossible.
-use Rattle.std.specs.Prelude.{◌≡◌, ◌≢◌, ◌⊎◌, ℕ, ◌+◌, ◌/◌, ◌%◌, ◌<◌, ◌≤◌, ◌==◌, ◌&&◌, not, nat_lt, Bool, true, false, if◌then◌else◌, List, [], ◌∷◌, ◌++◌, length, replicate, Option, Some, None}
+use Rattle.std.specs.Prelude.{◌≡◌, ◌≢◌, ◌⊎◌, ℕ, ◌+◌, ◌/◌, ◌%◌, ◌<◌, ◌≤◌, ◌==◌, ◌&&◌, not, nat_lt, Bool, true, false, if◌then◌else◌, List, [], ◌∷◌, ◌++◌, length, replicate, slice_get, Option, Some, None}
 use Rattle.map_join.specs.declared.records.Record.{Record}
 use Rattle.extents.specs.Units.{loss}
 use Rattle.extents.specs.declared.header.Header.{Header}
@@ -9,13 +9,15 @@ use Rattle.extent_groups.specs.declared.class.Class.{Class}
 use Rattle.extent_groups.specs.declared.class.Class.TheVariants.{Mirrored, Parity}
 use Rattle.extent_groups.specs.declared.class.Member.{Member}
 use Rattle.extent_groups.specs.Geometry.{slot_count}
-use Rattle.extent_groups.specs.Groups.{with_group}
-use Rattle.extent_groups.specs.Missing.{IsGone}
-use Rattle.flat_machine.specs.declared.refusal.Refusal.TheVariants.{NoGroup, WrongClass, InUse, NoTicket, Outrun, VersionSpent, HopsSpent, Unwritten, Gone, DriveLost, Ahead, ExtentTaken, SameDrive, LogFull, Full, BadMember}
+use Rattle.extent_groups.specs.Groups.{group_at, members_of, with_group, Stands}
+use Rattle.extent_groups.specs.Stores.{HasMemberOn}
+use Rattle.extent_groups.specs.Missing.{IsGone, MissAtMostOne}
+use Rattle.flat_machine.specs.declared.refusal.Refusal.TheVariants.{NoGroup, WrongClass, InUse, NoTicket, Outrun, VersionSpent, HopsSpent, Unwritten, Gone, SlotsHeld, DriveLost, Ahead, ExtentTaken, SameDrive, LogFull, Full, BadMember}
 use Rattle.flat_machine.specs.Groups.{AreMembers, AreApart, AreUnowned, ArePresent, IsFirstLost, IsLowestFree, IsFull}
 use Rattle.flat_machine.specs.Flat.{Flat, Write, Holder, Worker, Ticket, Block, Shut, Content, Waiting, Fresh, Moved, content_of, blank_header, header_for, Stored, content_in, waiting_unit, put, with_pair, without_pair, turned, same_holder, IsFree, IsKept, class_of, last_write, IsNewest}
 use Rattle.map_join.specs.Record.{key_of}
-use Rattle.flat_machine.specs.Steps.{FlatStep, Claim, Release, Fill, Copy, Commit, Discard, Read, ReadAt, Make, Lose, Version, Seen, Data, Stale, FlatAnswer, Claimed, Taken, Released, NotHeld, Filled, Copied, Committed, Discarded, Found, FoundAt, MadeGroup, LostDrive, Refused}
+use Rattle.flat_machine.specs.Moves.{IsIn, IsClaimed, IsFirstStray, unmade, IsTarget, MovePasses, IsBeyondOf, IsFirstGone, moved_to, with_drive}
+use Rattle.flat_machine.specs.Steps.{FlatStep, Claim, Release, Fill, Copy, Commit, Discard, Read, ReadAt, Make, Unmake, MoveExtent, AddDrive, Lose, Version, Seen, Data, Stale, FlatAnswer, Claimed, Taken, Released, NotHeld, Filled, Copied, Committed, Discarded, Found, FoundAt, MadeGroup, UnmadeGroup, MovedExtent, AddedDrive, LostDrive, Refused}
 
 -- how a drive fares: once lost it stays lost, and its own failures rose by one where it is lost now and wasn't, and else not
 pub record Fares (was is : Bool) (before after : ℕ) : Type 0 where
@@ -256,6 +258,43 @@ MakeCase F class members (Refused Full) G = (AreFit F members) × (ArePresent F.
 MakeCase F class members (MadeGroup g) G = (MakePasses F members g) × (ArePresent G.lost members) × (Leaves (made F class members g) G)
 MakeCase F class members _ G = ⊥
 
+-- unmake: where the worker has a plain claim of every slot of the group, they are its number's
+abbrev pub UnmakeCase : Flat → ℕ → ℕ → FlatAnswer → Flat → Type 0
+UnmakeCase F w g (Refused NoGroup) G = (group_at F.groups g ≡ None) × (Leaves F G)
+UnmakeCase F w g (Refused (SlotsHeld s)) G = (IsFirstStray F w g s) × (Leaves F G)
+UnmakeCase F w g (UnmadeGroup h) G =
+    (h ≡ g) × (group_at F.groups g ≢ None) × ((s : ℕ) → IsIn F g s → IsClaimed F w s) × (Leaves (unmade F w g) G)
+UnmakeCase F w g _ G = ⊥
+
+-- the greatest number of drives
+abbrev pub most_drives : ℕ
+most_drives = 16
+
+-- move an extent: what lies on the group's member of this number is copied to another extent, or rebuilt where its drive is
+-- lost, and then that is the member. What is copied or rebuilt was there when the step began
+abbrev pub MoveCase : Flat → ℕ → ℕ → Member → FlatAnswer → Flat → Type 0
+MoveCase F g k to (Refused NoGroup) G = (slice_get (members_of F.groups g) k ≡ None) × (Leaves F G)
+MoveCase F g k to (Refused BadMember) G =
+    (slice_get (members_of F.groups g) k ≢ None) × (((to.drive < F.drives) × (to.extent < F.groups.extents)) → ⊥) × (Leaves F G)
+MoveCase F g k to (Refused SameDrive) G =
+    (slice_get (members_of F.groups g) k ≢ None) × (to.drive < F.drives) × (to.extent < F.groups.extents) × (HasMemberOn F.groups g to.drive) × (Leaves F G)
+MoveCase F g k to (Refused ExtentTaken) G =
+    (slice_get (members_of F.groups g) k ≢ None) × (to.drive < F.drives) × (to.extent < F.groups.extents) × (HasMemberOn F.groups g to.drive → ⊥)
+    × ((h : ℕ) × (Stands (members_of F.groups h) to.drive to.extent)) × (Leaves F G)
+MoveCase F g k to (Refused (DriveLost d)) G =
+    (slice_get (members_of F.groups g) k ≢ None) × (IsTarget F g to) × (d ≡ to.drive) × (G.lost d ≡ true) × (Leaves F G)
+MoveCase F g k to (Refused (Gone s)) G =
+    (MovePasses F g k to) × (IsBeyondOf G.groups G.lost g k) × (IsFirstGone G.groups G.lost g s) × (Leaves F G)
+MoveCase F g k to MovedExtent G =
+    (MovePasses F g k to) × (IsBeyondOf F.groups F.lost g k → ⊥) × (G.lost to.drive ≡ false) × (Leaves (moved_to F g k to) G)
+MoveCase F g k to _ G = ⊥
+
+-- add a drive: it has the next number, is present, and hasn't failed
+abbrev pub AddCase : Flat → FlatAnswer → Flat → Type 0
+AddCase F (Refused Full) G = (most_drives ≤ F.drives) × (Leaves F G)
+AddCase F (AddedDrive d) G = (d ≡ F.drives) × (F.drives < most_drives) × (Leaves (with_drive F false 0) G)
+AddCase F _ G = ⊥
+
 -- lose: the drive is lost from outside, which is no failure of its own
 abbrev pub LoseCase : Flat → ℕ → FlatAnswer → Flat → Type 0
 LoseCase F d (LostDrive e) G = (e ≡ d) × (d < F.drives) × (Leaves (record F { lost = put F.lost d true }) G)
@@ -273,6 +312,9 @@ Case F (Discard w s) answer G = DiscardCase F w s answer G
 Case F (Read b) answer G = ReadCase F b answer G
 Case F (ReadAt r) answer G = ReadAtCase F r answer G
 Case F (Make class members) answer G = MakeCase F class members answer G
+Case F (Unmake w g) answer G = UnmakeCase F w g answer G
+Case F (MoveExtent g k to) answer G = MoveCase F g k to answer G
+Case F AddDrive answer G = AddCase F answer G
 Case F (Lose d) answer G = LoseCase F d answer G
 
 -- a commit of a ticket, given the newest record of the block, passes all that is tested before memory is taken
@@ -290,6 +332,8 @@ IsWanted F (Commit w s b) = (F.held s (Ticket w) ≡ true) × (IsFor (F.tickets 
 IsWanted F (Read b) = (r : Record) × IsNewest F.emitted b (Some r)
 IsWanted F (ReadAt r) = IsBehind F r
 IsWanted F (Make class members) = (g : ℕ) × MakePasses F members g
+IsWanted F (MoveExtent g k to) = MovePasses F g k to
+IsWanted F AddDrive = F.drives < most_drives
 IsWanted F _ = ⊥
 
 -- a run of the flat machine over a list of steps, with one answer for each
@@ -297,6 +341,13 @@ abbrev pub Runs : Flat → List FlatStep → List FlatAnswer → Flat → Type 0
 Runs F [] [] G = G ≡ F
 Runs F (step ∷ steps) (answer ∷ answers) G = (M : Flat) × (Case F step answer M) × (Runs M steps answers G)
 Runs F _ _ G = ⊥
+
+-- in no state that a run passes through, from its first to its last, does a group miss two members
+abbrev pub NeverMissesTwo : (F : Flat) (steps : List FlatStep) (answers : List FlatAnswer) (G : Flat) → Runs F steps answers G → Type 0
+NeverMissesTwo F [] [] G run = MissAtMostOne F.groups F.lost
+NeverMissesTwo F (step ∷ steps) (answer ∷ answers) G run = (MissAtMostOne F.groups F.lost) × (NeverMissesTwo run.0 steps answers G run.2)
+NeverMissesTwo F [] (answer ∷ answers) G run = ⊥
+NeverMissesTwo F (step ∷ steps) [] G run = ⊥
 
 -- an answer that tells no slot gone
 abbrev pub TellsPresent : FlatAnswer → Type 0

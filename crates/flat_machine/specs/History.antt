@@ -9,7 +9,7 @@ use Rattle.extent_groups.specs.declared.class.Class.TheVariants.{Mirrored}
 use Rattle.extent_groups.specs.Groups.{Groups, group_at}
 use Rattle.flat_machine.specs.Groups.{AreSizes, GroupsStand}
 use Rattle.flat_machine.specs.Flat.{Flat, Content, IsSized, Write, Holder, Ticket, Block, Shut, Waiting, Fresh, Moved, content_of, Stored, content_in, waiting_unit, class_of, last_write, IsNewest, IsArrays, HeldOnce}
-use Rattle.flat_machine.specs.Steps.{FlatStep, Claim, Release, Fill, Copy, Commit, Discard, Read, ReadAt, Make, Lose}
+use Rattle.flat_machine.specs.Steps.{FlatStep, Claim, Release, Fill, Copy, Commit, Discard, Read, ReadAt, Make, Unmake, MoveExtent, AddDrive, Lose}
 use Rattle.flat_machine.specs.Cases.{last_hop, longest_log}
 
 -- sizes, a number of drives and a number of emitted records that an array can have
@@ -136,4 +136,7 @@ IsStep z (Discard w s) = Unit {0}
 IsStep z (Read b) = Unit {0}
 IsStep z (ReadAt r) = Unit {0}
 IsStep z (Make class members) = Unit {0}
+IsStep z (Unmake w g) = Unit {0}
+IsStep z (MoveExtent g k to) = Unit {0}
+IsStep z AddDrive = Unit {0}
 IsStep z (Lose d) = Unit {0}

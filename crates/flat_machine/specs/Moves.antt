@@ -1,23 +1,27 @@
 -- Groups that are unmade, members that go onto other extents, and drives that come to an array: when that may be, and the
 -- state that it leaves.
-use Rattle.std.specs.Prelude.{◌≡◌, ◌≢◌, ◌⊎◌, ℕ, ◌+◌, ◌/◌, ◌%◌, ◌<◌, ◌==◌, ◌&&◌, nat_lt, Bool, true, false, if◌then◌else◌, length, slice_get, Option, Some, None}
+use Rattle.std.specs.Prelude.{◌≡◌, ◌≢◌, ℕ, ◌+◌, ◌/◌, ◌%◌, ◌<◌, ◌==◌, ◌&&◌, nat_lt, Bool, true, false, if◌then◌else◌, slice_get, Option, Some, None}
 use Rattle.extent_groups.specs.declared.class.Member.{Member}
-use Rattle.extent_groups.specs.Groups.{Group, Groups, group_at, members_of, slots_in, with_group, with_member, swapped_in, Stands}
+use Rattle.extent_groups.specs.Groups.{Groups, group_at, members_of, slots_in, with_group, swapped_in, Stands}
 use Rattle.extent_groups.specs.Missing.{IsGone, IsGoneAt}
 use Rattle.extent_groups.specs.Stores.{HasMemberOn, IsDriveOf}
 use Rattle.extent_groups.specs.Units.{Site, site_of}
-use Rattle.flat_machine.specs.Flat.{Flat, Holder, Worker, Shut, Stored, class_of, put, turned}
+use Rattle.flat_machine.specs.Flat.{Flat, Holder, Worker, Shut, Stored, IsKept, class_of, put, turned}
 
 -- a slot of the group
 pub record IsIn (F : Flat) (g slot : ℕ) : Type 0 where
   pub group : slot / 128 ≡ g
   pub made : class_of F slot ≢ None
 
--- the lowest slot of the group that the worker doesn't hold
+-- the worker has a plain claim of the slot: the array itself holds it for nothing
+abbrev pub IsClaimed : Flat → ℕ → ℕ → Type 0
+IsClaimed F w slot = (F.held slot (Worker w) ≡ true) × (IsKept F slot → ⊥)
+
+-- the lowest slot of the group that the worker has no plain claim of
 pub record IsFirstStray (F : Flat) (w g slot : ℕ) : Type 0 where
   pub is : IsIn F g slot
-  pub stray : F.held slot (Worker w) ≡ false
-  pub below : (other : ℕ) → other < slot → IsIn F g other → F.held other (Worker w) ≡ true
+  pub stray : IsClaimed F w slot → ⊥
+  pub below : (other : ℕ) → other < slot → IsIn F g other → IsClaimed F w other
 
 -- the pairs in which the first slots of a group, so many, go from the worker to the group's number
 abbrev pub shut_first : (ℕ → Holder → Bool) → ℕ → ℕ → ℕ → ℕ → Holder → Bool

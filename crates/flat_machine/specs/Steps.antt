@@ -6,7 +6,7 @@ use Rattle.extent_groups.specs.declared.class.Member.{Member}
 use Rattle.flat_machine.specs.declared.refusal.Refusal.{Refusal}
 use Rattle.flat_machine.specs.Flat.{Content}
 
--- a step: worker and slot come first, then what goes in
+-- a step: worker and slot, or worker and group, come first, then what goes in
 pub data FlatStep : Type 0 where
   Claim : ℕ → ℕ → FlatStep
   Release : ℕ → ℕ → FlatStep
@@ -17,6 +17,9 @@ pub data FlatStep : Type 0 where
   Read : ℕ → FlatStep
   ReadAt : Record → FlatStep
   Make : Class → List Member → FlatStep
+  Unmake : ℕ → ℕ → FlatStep
+  MoveExtent : ℕ → ℕ → Member → FlatStep
+  AddDrive : FlatStep
   Lose : ℕ → FlatStep
 
 -- what is read of a block: its version and content
@@ -43,5 +46,8 @@ pub data FlatAnswer : Type 0 where
   Found : Option Version → FlatAnswer
   FoundAt : Seen → FlatAnswer
   MadeGroup : ℕ → FlatAnswer
+  UnmadeGroup : ℕ → FlatAnswer
+  MovedExtent : FlatAnswer
+  AddedDrive : ℕ → FlatAnswer
   LostDrive : ℕ → FlatAnswer
   Refused : Refusal → FlatAnswer
