@@ -2,6 +2,7 @@ pub mod Reading
 mod Fitting
 pub mod Wiping
 pub mod Making
+mod Adding
 mod Setting
 pub mod Shows
 pub mod Views

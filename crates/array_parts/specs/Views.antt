@@ -1,8 +1,8 @@
 -- An array's parts as plain data, and what calls of its drives leave of its slots, told of any units that the drives show.
-use Rattle.std.specs.Prelude.{◌≡◌, ◌⊎◌, ℕ, Bool, List, length, map, Option, Some}
+use Rattle.std.specs.Prelude.{◌≡◌, ◌⊎◌, ℕ, ◌+◌, Bool, List, length, map, Option, Some}
 use Rattle.map_join.specs.declared.records.Record.{Record}
 use Rattle.extents.specs.declared.header.Header.{Header}
-use Rattle.extents.specs.Owners.{Owners}
+use Rattle.extents.specs.Owners.{Owners, with_drive}
 use Rattle.extent_groups.specs.declared.class.Class.{Class}
 use Rattle.extent_groups.specs.declared.class.Member.{Member}
 use Rattle.extent_groups.specs.Geometry.{slot_count}
@@ -144,3 +144,12 @@ pub record Entered (a : PartsView) (g : ℕ) (class : Class) (members : List Mem
 pub record FoundLost (a : PartsView) (members : List Member) (b : PartsView) (refusal : Refusal) : Type 0 where
   pub loses : Loses a b
   pub told : TellsLost (lost_of b) members refusal
+
+-- a drive was added, which is lost or not and has failed so often: it has the next number, and its extents are free
+pub record WasAdded (a : PartsView) (lost : Bool) (failures : ℕ) (b : PartsView) : Type 0 where
+  pub many : length b.drives ≡ length a.drives + 1
+  pub lost_are : (d : ℕ) → lost_of b d ≡ put (lost_of a) (length a.drives) lost d
+  pub failures_are : (d : ℕ) → failed_of b d ≡ put (failed_of a) (length a.drives) failures d
+  pub shows : (units : ℕ → Option Stored) → Shows a units → Shows b units
+  pub groups : b.groups ≡ a.groups
+  pub owners : b.owners ≡ with_drive a.owners

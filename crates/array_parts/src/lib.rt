@@ -1,6 +1,7 @@
 //! An array's parts on drives: its shape, its groups, the owners of its extents, and the drives.
 #![tactic(auto)]
 
+mod add;
 mod carry;
 mod enter;
 mod make;

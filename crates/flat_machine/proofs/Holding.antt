@@ -12,7 +12,7 @@ use Rattle.flat_machine.specs.Cases.{Case, ClaimCase, ReleaseCase, FillCase, Cop
 use Rattle.flat_machine.specs.History.{IsHistory, AreHeld, IsStep}
 use Rattle.flat_machine.proofs.Pairs.{Any, IsOnce, IsJust, just_one, just_once, with_just, with_else, without_here, without_else, turned_just, turned_else}
 use Rattle.extent_groups.specs.Groups.{group_at}
-use Rattle.flat_machine.specs.Moves.{IsIn, IsClaimed, unmade}
+use Rattle.flat_machine.specs.Moves.{IsIn, HasClaim, unmade}
 use Rattle.flat_machine.proofs.Unmakes.{unmade_at}
 use Rattle.flat_machine.proofs.Passing.{Passes, passed, passed_on}
 
@@ -181,7 +181,7 @@ loses F G d (Refused BadMember) is case = stays F G is case.1
 loses F G d _ is case = absurd case
 
 -- the slots of a group go from the worker, who alone has each, to the group's number
-unmade_holds : (F : Flat) (keys : ℕ → ℕ) (w g : ℕ) → IsHistory F keys → AreHeld F → group_at F.groups g ≢ None → ((s : ℕ) → IsIn F g s → IsClaimed F w s) → AreHeld (unmade F w g)
+unmade_holds : (F : Flat) (keys : ℕ → ℕ) (w g : ℕ) → IsHistory F keys → AreHeld F → group_at F.groups g ≢ None → ((s : ℕ) → IsIn F g s → HasClaim F w s) → AreHeld (unmade F w g)
 unmade_holds F keys w g history is made claimed = held_as (unmade F w g) once inside
   where
     at : (t : ℕ) → ((unmade F w g).held t ≡ F.held t) ⊎ ((F.held t (Worker w) ≡ true) × ((unmade F w g).held t ≡ turned F.held t (Worker w) (Shut g) t))

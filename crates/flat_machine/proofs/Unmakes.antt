@@ -15,7 +15,7 @@ use Rattle.extent_groups.proofs.Agreement.{members_other}
 use Rattle.extent_groups.proofs.Fresh.{no_members}
 use Rattle.flat_machine.specs.Groups.{class_below, GroupsStand}
 use Rattle.flat_machine.specs.Flat.{Flat, Holder, Worker, Ticket, Block, Shut, IsArrays, for_ticket, for_block, for_shut, Waiting, Write, Stored, waiting_unit, content_of, class_of, turned}
-use Rattle.flat_machine.specs.Moves.{IsIn, IsClaimed, unmade}
+use Rattle.flat_machine.specs.Moves.{IsIn, HasClaim, unmade}
 use Rattle.flat_machine.specs.History.{HoldersStand, UnitStands, BlockStands, IsHistory}
 use Rattle.flat_machine.proofs.Pairs.{equal, unequal, not_workers, IsNobodys, IsJust, just_once, just_is, turned_just}
 use Rattle.flat_machine.proofs.Slots.{block_same, free_waits}
@@ -112,7 +112,7 @@ not_held : (q : Bool) → (q ≡ true → ⊥) → q ≡ false
 not_held true never = absurd (never refl)
 not_held false never = refl
 
-module _ (F : Flat) (keys : ℕ → ℕ) (w g : ℕ) (is : IsHistory F keys) (made : group_at F.groups g ≢ None) (claimed : (s : ℕ) → IsIn F g s → IsClaimed F w s) where
+module _ (F : Flat) (keys : ℕ → ℕ) (w g : ℕ) (is : IsHistory F keys) (made : group_at F.groups g ≢ None) (claimed : (s : ℕ) → IsIn F g s → HasClaim F w s) where
   abbrev count : ℕ
   count = slots_in F.groups.segments (group_at F.groups g)
 
@@ -239,7 +239,7 @@ module _ (F : Flat) (keys : ℕ → ℕ) (w g : ℕ) (is : IsHistory F keys) (ma
   }
 
 -- a slot has the holders that it had, or it was the worker's and is the group's number's
-pub unmade_at : (F : Flat) (keys : ℕ → ℕ) (w g : ℕ) → IsHistory F keys → group_at F.groups g ≢ None → ((s : ℕ) → IsIn F g s → IsClaimed F w s) → (t : ℕ)
+pub unmade_at : (F : Flat) (keys : ℕ → ℕ) (w g : ℕ) → IsHistory F keys → group_at F.groups g ≢ None → ((s : ℕ) → IsIn F g s → HasClaim F w s) → (t : ℕ)
     → ((unmade F w g).held t ≡ F.held t) ⊎ ((F.held t (Worker w) ≡ true) × ((unmade F w g).held t ≡ turned F.held t (Worker w) (Shut g) t))
 unmade_at F keys w g is made claimed t = go (cases_eq (t / 128) g) (nat_lt (t % 128) (slots_in F.groups.segments (group_at F.groups g))) refl
   where

@@ -16,7 +16,7 @@ use Rattle.flat_machine.specs.declared.refusal.Refusal.TheVariants.{NoGroup, Wro
 use Rattle.flat_machine.specs.Groups.{AreMembers, AreApart, AreUnowned, ArePresent, IsFirstLost, IsLowestFree, IsFull}
 use Rattle.flat_machine.specs.Flat.{Flat, Write, Holder, Worker, Ticket, Block, Shut, Content, Waiting, Fresh, Moved, content_of, blank_header, header_for, Stored, content_in, waiting_unit, put, with_pair, without_pair, turned, same_holder, IsFree, IsKept, class_of, last_write, IsNewest}
 use Rattle.map_join.specs.Record.{key_of}
-use Rattle.flat_machine.specs.Moves.{IsIn, IsClaimed, IsFirstStray, unmade, IsTarget, MovePasses, IsBeyondOf, IsFirstGone, moved_to, with_drive}
+use Rattle.flat_machine.specs.Moves.{IsIn, HasClaim, IsFirstStray, unmade, IsTarget, MovePasses, IsBeyondOf, IsFirstGone, moved_to, with_drive}
 use Rattle.flat_machine.specs.Steps.{FlatStep, Claim, Release, Fill, Copy, Commit, Discard, Read, ReadAt, Make, Unmake, MoveExtent, AddDrive, Lose, Version, Seen, Data, Stale, FlatAnswer, Claimed, Taken, Released, NotHeld, Filled, Copied, Committed, Discarded, Found, FoundAt, MadeGroup, UnmadeGroup, MovedExtent, AddedDrive, LostDrive, Refused}
 
 -- how a drive fares: once lost it stays lost, and its own failures rose by one where it is lost now and wasn't, and else not
@@ -263,7 +263,7 @@ abbrev pub UnmakeCase : Flat → ℕ → ℕ → FlatAnswer → Flat → Type 0
 UnmakeCase F w g (Refused NoGroup) G = (group_at F.groups g ≡ None) × (Leaves F G)
 UnmakeCase F w g (Refused (SlotsHeld s)) G = (IsFirstStray F w g s) × (Leaves F G)
 UnmakeCase F w g (UnmadeGroup h) G =
-    (h ≡ g) × (group_at F.groups g ≢ None) × ((s : ℕ) → IsIn F g s → IsClaimed F w s) × (Leaves (unmade F w g) G)
+    (h ≡ g) × (group_at F.groups g ≢ None) × ((s : ℕ) → IsIn F g s → HasClaim F w s) × (Leaves (unmade F w g) G)
 UnmakeCase F w g _ G = ⊥
 
 -- the greatest number of drives

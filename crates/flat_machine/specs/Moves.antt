@@ -14,14 +14,14 @@ pub record IsIn (F : Flat) (g slot : ℕ) : Type 0 where
   pub made : class_of F slot ≢ None
 
 -- the worker has a plain claim of the slot: the array itself holds it for nothing
-abbrev pub IsClaimed : Flat → ℕ → ℕ → Type 0
-IsClaimed F w slot = (F.held slot (Worker w) ≡ true) × (IsKept F slot → ⊥)
+abbrev pub HasClaim : Flat → ℕ → ℕ → Type 0
+HasClaim F w slot = (F.held slot (Worker w) ≡ true) × (IsKept F slot → ⊥)
 
 -- the lowest slot of the group that the worker has no plain claim of
 pub record IsFirstStray (F : Flat) (w g slot : ℕ) : Type 0 where
   pub is : IsIn F g slot
-  pub stray : IsClaimed F w slot → ⊥
-  pub below : (other : ℕ) → other < slot → IsIn F g other → IsClaimed F w other
+  pub stray : HasClaim F w slot → ⊥
+  pub below : (other : ℕ) → other < slot → IsIn F g other → HasClaim F w other
 
 -- the pairs in which the first slots of a group, so many, go from the worker to the group's number
 abbrev pub shut_first : (ℕ → Holder → Bool) → ℕ → ℕ → ℕ → ℕ → Holder → Bool
