@@ -2,6 +2,7 @@ pub mod Fit
 pub mod Losses
 pub mod Slots
 pub mod Making
+pub mod Shifting
 pub mod Laws
 pub mod Memory
 pub mod Shows

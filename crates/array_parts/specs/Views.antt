@@ -1,17 +1,18 @@
 -- An array's parts as plain data, and what calls of its drives leave of its slots, told of any units that the drives show.
-use Rattle.std.specs.Prelude.{◌≡◌, ◌⊎◌, ℕ, ◌+◌, Bool, List, length, map, Option, Some}
+use Rattle.std.specs.Prelude.{◌≡◌, ◌⊎◌, ℕ, ◌+◌, Bool, true, false, List, length, map, Option, Some}
 use Rattle.map_join.specs.declared.records.Record.{Record}
 use Rattle.extents.specs.declared.header.Header.{Header}
 use Rattle.extents.specs.Owners.{Owners, with_drive}
 use Rattle.extent_groups.specs.declared.class.Class.{Class}
 use Rattle.extent_groups.specs.declared.class.Member.{Member}
 use Rattle.extent_groups.specs.Geometry.{slot_count}
-use Rattle.extent_groups.specs.Groups.{Groups, with_group, with_owners, Agree}
+use Rattle.extent_groups.specs.Groups.{Groups, with_group, with_owners, Agree, IsSwap, IsMove}
 use Rattle.extent_groups.specs.Cells.{Cells, cells}
 use Rattle.extent_groups.specs.Missing.{missing_of, IsGone}
 use Rattle.flat_machine.specs.declared.refusal.Refusal.{Refusal}
-use Rattle.flat_machine.specs.declared.refusal.Refusal.TheVariants.{Gone}
+use Rattle.flat_machine.specs.declared.refusal.Refusal.TheVariants.{Gone, DriveLost}
 use Rattle.flat_machine.specs.Groups.{ArePresent}
+use Rattle.flat_machine.specs.Moves.{IsBeyondOf, IsFirstGone}
 use Rattle.flat_machine.specs.Flat.{Stored, Payload, put}
 use Rattle.flat_machine.specs.Steps.{Seen, Data, Stale}
 use Rattle.flat_machine.specs.Cases.{IsSeen, wiped}
@@ -153,3 +154,26 @@ pub record WasAdded (a : PartsView) (lost : Bool) (failures : ℕ) (b : PartsVie
   pub shows : (units : ℕ → Option Stored) → Shows a units → Shows b units
   pub groups : b.groups ≡ a.groups
   pub owners : b.owners ≡ with_drive a.owners
+
+-- a group's member of this number was moved onto another extent, whose drive isn't lost: the tables tell it and agree, each of
+-- its units could be had, and the drives show the same units of slots
+pub record Shifted (a : PartsView) (g k : ℕ) (to : Member) (b : PartsView) : Type 0 where
+  pub fares : DrivesFare a b
+  pub had : IsBeyondOf a.groups (lost_of a) g k → ⊥
+  pub present : lost_of b to.drive ≡ false
+  pub shows : (units : ℕ → Option Stored) → Shows a units → Shows b units
+  pub groups : IsSwap a.groups b.groups g k to
+  pub owners : IsMove a.groups a.owners b.owners g k to
+  pub agree : Agree b.groups b.owners
+
+-- the refusal tells why a member isn't moved: the other extent's drive is lost, or one of the member's units can't be had, and
+-- then it names the lowest slot of the group that is gone
+abbrev pub TellsUnmoved : PartsView → ℕ → ℕ → Member → Refusal → Type 0
+TellsUnmoved b g k to (DriveLost d) = (d ≡ to.drive) × (lost_of b d ≡ true)
+TellsUnmoved b g k to (Gone slot) = (IsBeyondOf b.groups (lost_of b) g k) × (IsFirstGone b.groups (lost_of b) g slot)
+TellsUnmoved b g k to _ = ⊥
+
+-- it wasn't: drives may have been lost, and the refusal tells why
+pub record NotShifted (a : PartsView) (g k : ℕ) (to : Member) (b : PartsView) (refusal : Refusal) : Type 0 where
+  pub loses : Loses a b
+  pub told : TellsUnmoved b g k to refusal

@@ -7,6 +7,7 @@ mod enter;
 mod make;
 mod memory;
 mod parts;
+mod relocate;
 mod see;
 mod slots;
 mod unit;

@@ -12,12 +12,14 @@ abbrev pub LiesAt : Class → ℕ → ℕ → ℕ → ℕ → Type 0
 LiesAt Mirrored n i m o = ((copies_of n i).first ≡ record { member = m; offset = o }) ⊎ ((copies_of n i).second ≡ record { member = m; offset = o })
 LiesAt Parity n i m o = ((stripe_of n i).member ≡ m) × ((stripe_of n i).offset ≡ o)
 
--- the role is that of the unit: a slot's, of which a unit lies there; the parity's; or no slot's
+-- the role is that of the unit: a slot's, of which a unit lies there; the parity's; or no slot's, as there may be in a mirrored
+-- group alone
 abbrev pub IsRole : Class → ℕ → ℕ → ℕ → ℕ → Role → Type 0
 IsRole class n s m o (Slot i) = (i < slot_count class n s) × LiesAt class n i m o
 IsRole Mirrored n s m o ParityUnit = ⊥
 IsRole Parity n s m o ParityUnit = m ≡ parity_of n (o / 2)
-IsRole class n s m o Unused = (i : ℕ) → i < slot_count class n s → LiesAt class n i m o → ⊥
+IsRole Mirrored n s m o Unused = (i : ℕ) → i < slot_count Mirrored n s → LiesAt Mirrored n i m o → ⊥
+IsRole Parity n s m o Unused = ⊥
 
 -- the same of what may be a group
 abbrev pub IsRoleIn : Option Group → ℕ → ℕ → ℕ → Role → Type 0

@@ -1,0 +1,51 @@
+-- A member of a group moved onto another extent: what is to lie at each of its offsets, and why it can't be.
+use Rattle.std.specs.Prelude.{◌≡◌, ◌⊎◌, ℕ, ◌+◌, ◌*◌, ◌/◌, ◌<◌, Bool, true, Some, List, replicate}
+use Rattle.extents.specs.Sizes.{extent_units}
+use Rattle.flat_machine.specs.Moves.{IsBeyond}
+use Rattle.extent_groups.specs.declared.class.Member.{Member}
+use Rattle.extent_groups.specs.declared.role.Role.TheVariants.{Unused}
+use Rattle.extent_groups.specs.Groups.{Groups, group_at}
+use Rattle.extent_groups.specs.Calls.{SameBut, KeepsDrives}
+use Rattle.extent_groups.specs.Cells.{Cells, cells, held}
+use Rattle.extent_groups.specs.Layout.{IsOf}
+use Rattle.extent_groups.specs.Missing.{missing_of, IsGoneAt}
+use Rattle.extent_groups.specs.Moving.{member_unit}
+use Rattle.extent_groups.specs.Roles.{IsRoleIn}
+use Rattle.extent_groups.specs.Stores.{unit_bytes, AreSound}
+use Rattle.extent_groups.specs.Units.{Site, place_of, site_of}
+use Rattle.extent_groups.specs.Wiping.{IsIn}
+use Rattle.array_parts.specs.declared.relocate.Stop.{Stop}
+use Rattle.array_parts.specs.declared.relocate.Stop.TheVariants.{Beyond, TargetLost}
+
+-- where no slot lies, the extent holds what the member's held, or zeros where the member's drive is lost
+abbrev pub KeepsUnused : Groups → ℕ → ℕ → Member → Member → Cells → Cells → (ℕ → Bool) → Type 0
+KeepsUnused groups g k was to c new missing = (offset : ℕ) → offset < extent_units groups.segments → IsRoleIn (group_at groups g) groups.segments k offset Unused
+    → (held new (place_of groups.segments offset to) ≡ held c (place_of groups.segments offset was))
+    ⊎ ((missing was.drive ≡ true) × (held new (place_of groups.segments offset to) ≡ Some (replicate (unit_bytes groups) 0)))
+
+-- the unit is the one for an offset of a group's member: what the member was to hold for each slot whose site has that place,
+-- none of which was gone where the member's drive was lost; or where no slot lies what the place held, or zeros where its drive
+-- is lost
+pub record IsUnitFor (groups : Groups) (g k : ℕ) (was : Member) (offset : ℕ) (c : Cells) (before after : ℕ → Bool) (unit : List ℕ) : Type 0 where
+  pub copied : AreSound groups c → (slot : ℕ) (site : Site) → slot / 128 ≡ g → site_of groups slot ≡ Some site → IsOf site (place_of groups.segments offset was)
+      → member_unit (unit_bytes groups) c site k ≡ Some unit
+  pub had : (slot : ℕ) (site : Site) → slot / 128 ≡ g → site_of groups slot ≡ Some site → IsOf site (place_of groups.segments offset was)
+      → before was.drive ≡ true → IsGoneAt before site → ⊥
+  pub unused : IsRoleIn (group_at groups g) groups.segments k offset Unused
+      → (held c (place_of groups.segments offset was) ≡ Some unit) ⊎ ((after was.drive ≡ true) × (unit ≡ replicate (unit_bytes groups) 0))
+
+-- the other extent holds the unit for an offset
+pub record IsOnTarget {D : Type 0} (units : D → List (List ℕ)) (lost : D → Bool) (groups : Groups) (g k : ℕ) (was to : Member) (offset : ℕ) (old new : List D) : Type 0 where
+  pub unit : List ℕ
+  pub there : held (cells units lost new) (place_of groups.segments offset to) ≡ Some unit
+  pub is : IsUnitFor groups g k was offset (cells units lost old) (missing_of lost old) (missing_of lost new) unit
+
+-- the units for the offsets below a number were put on the other extent, one after another
+pub record AreOnTarget {D : Type 0} (units : D → List (List ℕ)) (lost : D → Bool) (failures : D → ℕ) (groups : Groups) (g k : ℕ) (was to : Member) (bound : ℕ) (old new : List D) : Type 0 where
+  pub each : (offset : ℕ) → offset < bound → IsOnTarget units lost groups g k was to offset old new
+  pub touched : KeepsDrives units lost failures (IsIn groups.segments to) old new
+
+-- why no more is moved: a unit of the member can't be had, or the other extent's drive is lost
+abbrev pub StopsFor : Groups → (ℕ → Bool) → ℕ → Member → Member → Stop → Type 0
+StopsFor groups missing g was to Beyond = IsBeyond groups missing g was.drive
+StopsFor groups missing g was to TargetLost = missing to.drive ≡ true
