@@ -1,5 +1,5 @@
 -- A drive more, told of the parts as plain data.
-use Rattle.std.proofs.Common.{◌≡◌, ℕ, zero, suc, ◌+◌, ◌*◌, ◌<◌, ◌≤◌, Bool, List, [], ◌∷◌, ◌++◌, length, refl, sym, ◌∙◌, ap, subst, arith, ◌⊎◌, inl, inr, Option, Some, None}
+use Rattle.std.proofs.Common.{◌≡◌, ℕ, zero, suc, ◌+◌, ◌*◌, ◌<◌, Bool, List, [], ◌∷◌, ◌++◌, length, refl, sym, ◌∙◌, ap, arith, ◌⊎◌, inl, inr, Option, Some}
 use Rattle.std.specs.Prelude.{slice_get}
 use Rattle.std.proofs.lemmas.List.{length-append}
 use Rattle.std.proofs.lemmas.Bool.{cases_eq}
@@ -7,7 +7,6 @@ use Rattle.extents.specs.Owners.{Owners, with_drive}
 use Rattle.extents.specs.Sizes.{extent_units}
 use Rattle.extents.specs.Units.{IsSized}
 use Rattle.extent_groups.specs.Cells.{cells}
-use Rattle.extent_groups.specs.Groups.{Agree}
 use Rattle.extent_groups.specs.Missing.{is_missing}
 use Rattle.extent_groups.specs.Stores.{unit_bytes, unit_of, AreDrives, AreSound}
 use Rattle.extent_groups.proofs.Agreement.{agree_more}
@@ -19,7 +18,7 @@ use Rattle.array_parts.specs.Fit.{IsFit}
 use Rattle.array_parts.specs.Losses.{failures_at, failures_of}
 use Rattle.array_parts.specs.Shows.{ShowsUnits}
 use Rattle.array_parts.specs.Slots.{cells_in, missing_in}
-use Rattle.array_parts.specs.Views.{view_of, lost_of, failed_of, WasAdded}
+use Rattle.array_parts.specs.Views.{view_of, WasAdded}
 use Rattle.array_parts.proofs.Calls.{shows_in, shows_out}
 use Rattle.array_parts.proofs.Shows.{shows_kept}
 use Rattle.array_parts.proofs.Views.{view_lost, view_failures, view_length}
@@ -81,9 +80,11 @@ module _ {D : Type 0} (units : D → List (List ℕ)) (lost : D → Bool) (failu
   was_added = record {
     many = view_length units lost failures q ∙ count ∙ sym (ap (λ n. n + 1) (view_length units lost failures p));
     lost_are = λ d. ap (λ f. f d) (view_lost units lost failures q) ∙ ap (λ ds. is_missing lost (slice_get ds d)) more.drives ∙ told_pushed (is_missing lost) p.drives.items y d
-        ∙ rw (view_lost units lost failures p, view_length units lost failures p) refl;
+        ∙ ap (λ n. put (missing_in lost p) n (lost y) d) (sym (view_length units lost failures p))
+        ∙ ap (λ f. put f (length (view_of units lost failures p).drives) (lost y) d) (sym (view_lost units lost failures p));
     failures_are = λ d. ap (λ f. f d) (view_failures units lost failures q) ∙ ap (λ ds. failures_at failures (slice_get ds d)) more.drives ∙ told_pushed (failures_at failures) p.drives.items y d
-        ∙ rw (view_failures units lost failures p, view_length units lost failures p) refl;
+        ∙ ap (λ n. put (failures_of failures p.drives.items) n (failures y) d) (sym (view_length units lost failures p))
+        ∙ ap (λ f. put f (length (view_of units lost failures p).drives) (failures y) d) (sym (view_failures units lost failures p));
     shows = λ f shows. shows_out units lost failures q f (shown f (shows_in units lost failures p f shows));
     groups = more.groups;
     owners = more.extents;

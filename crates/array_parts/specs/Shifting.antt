@@ -1,11 +1,11 @@
 -- A member of a group moved onto another extent: what is to lie at each of its offsets, and why it can't be.
-use Rattle.std.specs.Prelude.{◌≡◌, ◌⊎◌, ℕ, ◌+◌, ◌*◌, ◌/◌, ◌<◌, Bool, true, Some, List, replicate}
+use Rattle.std.specs.Prelude.{◌≡◌, ◌⊎◌, ℕ, ◌/◌, ◌<◌, Bool, true, Some, List, replicate}
 use Rattle.extents.specs.Sizes.{extent_units}
 use Rattle.flat_machine.specs.Moves.{IsBeyond}
 use Rattle.extent_groups.specs.declared.class.Member.{Member}
 use Rattle.extent_groups.specs.declared.role.Role.TheVariants.{Unused}
 use Rattle.extent_groups.specs.Groups.{Groups, group_at}
-use Rattle.extent_groups.specs.Calls.{SameBut, KeepsDrives}
+use Rattle.extent_groups.specs.Calls.{KeepsDrives}
 use Rattle.extent_groups.specs.Cells.{Cells, cells, held}
 use Rattle.extent_groups.specs.Layout.{IsOf}
 use Rattle.extent_groups.specs.Missing.{missing_of, IsGoneAt}

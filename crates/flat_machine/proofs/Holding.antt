@@ -210,10 +210,10 @@ unmakes F G keys w g _ history is case = absurd case
 
 moves : (F G : Flat) (g k : ℕ) (to : Member) (answer : FlatAnswer) → AreHeld F → MoveCase F g k to answer G → AreHeld G
 moves F G g k to (Refused NoGroup) is case = stays F G is case.1
-moves F G g k to (Refused BadMember) is case = stays F G is case.2
-moves F G g k to (Refused SameDrive) is case = stays F G is case.4
-moves F G g k to (Refused ExtentTaken) is case = stays F G is case.5
-moves F G g k to (Refused (DriveLost d)) is case = stays F G is case.4
+moves F G g k to (Refused BadMember) is case = stays F G is case.1
+moves F G g k to (Refused SameDrive) is case = stays F G is case.1
+moves F G g k to (Refused ExtentTaken) is case = stays F G is case.1
+moves F G g k to (Refused (DriveLost d)) is case = stays F G is case.3
 moves F G g k to (Refused (Gone s)) is case = stays F G is case.3
 moves F G g k to MovedExtent is case = fared _ G (record { once = is.once; inside = is.inside }) case.3
 moves F G g k to _ is case = absurd case

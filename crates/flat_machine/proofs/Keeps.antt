@@ -312,12 +312,12 @@ unmakes F G keys M w g _ is case map = absurd case
 
 moves : (F G : Flat) (keys M : ℕ → ℕ) (g k : ℕ) (to : Member) (answer : FlatAnswer) → IsHistory F keys → MoveCase F g k to answer G → IsMapOf G.emitted M → IsHistory G M
 moves F G keys M g k to (Refused NoGroup) is case map = stays F G keys M is case.1 map
-moves F G keys M g k to (Refused BadMember) is case map = stays F G keys M is case.2 map
-moves F G keys M g k to (Refused SameDrive) is case map = stays F G keys M is case.4 map
-moves F G keys M g k to (Refused ExtentTaken) is case map = stays F G keys M is case.5 map
-moves F G keys M g k to (Refused (DriveLost d)) is case map = stays F G keys M is case.4 map
+moves F G keys M g k to (Refused BadMember) is case map = stays F G keys M is case.1 map
+moves F G keys M g k to (Refused SameDrive) is case map = stays F G keys M is case.1 map
+moves F G keys M g k to (Refused ExtentTaken) is case map = stays F G keys M is case.1 map
+moves F G keys M g k to (Refused (DriveLost d)) is case map = stays F G keys M is case.3 map
 moves F G keys M g k to (Refused (Gone s)) is case map = stays F G keys M is case.3 map
-moves F G keys M g k to MovedExtent is case map = stays _ G keys M (move_keeps F keys g k to is case.0) case.3 map
+moves F G keys M g k to MovedExtent is case map = stays _ G keys M (move_keeps F keys g k to is case.0.0) case.3 map
 moves F G keys M g k to _ is case map = absurd case
 
 adds : (F G : Flat) (keys M : ℕ → ℕ) (answer : FlatAnswer) → IsHistory F keys → AddCase F answer G → IsMapOf G.emitted M → IsHistory G M

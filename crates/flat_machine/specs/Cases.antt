@@ -1,6 +1,6 @@
 -- The flat machine: which answer a step gives in a state, and which state it leaves. Each pair of step and answer has its
 -- case; what never comes is impossible.
-use Rattle.std.specs.Prelude.{◌≡◌, ◌≢◌, ◌⊎◌, ℕ, ◌+◌, ◌/◌, ◌%◌, ◌<◌, ◌≤◌, ◌==◌, ◌&&◌, not, nat_lt, Bool, true, false, if◌then◌else◌, List, [], ◌∷◌, ◌++◌, length, replicate, slice_get, Option, Some, None}
+use Rattle.std.specs.Prelude.{◌≡◌, ◌≢◌, ◌⊎◌, ℕ, ◌+◌, ◌/◌, ◌%◌, ◌<◌, ◌≤◌, ◌==◌, ◌&&◌, not, nat_lt, Bool, true, false, if◌then◌else◌, List, [], ◌∷◌, ◌++◌, length, replicate, Option, Some, None}
 use Rattle.map_join.specs.declared.records.Record.{Record}
 use Rattle.extents.specs.Units.{loss}
 use Rattle.extents.specs.declared.header.Header.{Header}
@@ -9,14 +9,13 @@ use Rattle.extent_groups.specs.declared.class.Class.{Class}
 use Rattle.extent_groups.specs.declared.class.Class.TheVariants.{Mirrored, Parity}
 use Rattle.extent_groups.specs.declared.class.Member.{Member}
 use Rattle.extent_groups.specs.Geometry.{slot_count}
-use Rattle.extent_groups.specs.Groups.{group_at, members_of, with_group, Stands}
-use Rattle.extent_groups.specs.Stores.{HasMemberOn}
+use Rattle.extent_groups.specs.Groups.{group_at, with_group}
 use Rattle.extent_groups.specs.Missing.{IsGone, MissAtMostOne}
 use Rattle.flat_machine.specs.declared.refusal.Refusal.TheVariants.{NoGroup, WrongClass, InUse, NoTicket, Outrun, VersionSpent, HopsSpent, Unwritten, Gone, SlotsHeld, DriveLost, Ahead, ExtentTaken, SameDrive, LogFull, Full, BadMember}
 use Rattle.flat_machine.specs.Groups.{AreMembers, AreApart, AreUnowned, ArePresent, IsFirstLost, IsLowestFree, IsFull}
 use Rattle.flat_machine.specs.Flat.{Flat, Write, Holder, Worker, Ticket, Block, Shut, Content, Waiting, Fresh, Moved, content_of, blank_header, header_for, Stored, content_in, waiting_unit, put, with_pair, without_pair, turned, same_holder, IsFree, IsKept, class_of, last_write, IsNewest}
 use Rattle.map_join.specs.Record.{key_of}
-use Rattle.flat_machine.specs.Moves.{IsIn, HasClaim, IsFirstStray, unmade, IsTarget, MovePasses, IsBeyondOf, IsFirstGone, moved_to, with_drive}
+use Rattle.flat_machine.specs.Moves.{IsIn, HasClaim, IsFirstStray, unmade, IsMoveReason, MovePasses, IsBeyondOf, IsFirstGone, moved_to, with_drive}
 use Rattle.flat_machine.specs.Steps.{FlatStep, Claim, Release, Fill, Copy, Commit, Discard, Read, ReadAt, Make, Unmake, MoveExtent, AddDrive, Lose, Version, Seen, Data, Stale, FlatAnswer, Claimed, Taken, Released, NotHeld, Filled, Copied, Committed, Discarded, Found, FoundAt, MadeGroup, UnmadeGroup, MovedExtent, AddedDrive, LostDrive, Refused}
 
 -- how a drive fares: once lost it stays lost, and its own failures rose by one where it is lost now and wasn't, and else not
@@ -273,16 +272,11 @@ most_drives = 16
 -- move an extent: what lies on the group's member of this number is copied to another extent, or rebuilt where its drive is
 -- lost, and then that is the member. What is copied or rebuilt was there when the step began
 abbrev pub MoveCase : Flat → ℕ → ℕ → Member → FlatAnswer → Flat → Type 0
-MoveCase F g k to (Refused NoGroup) G = (slice_get (members_of F.groups g) k ≡ None) × (Leaves F G)
-MoveCase F g k to (Refused BadMember) G =
-    (slice_get (members_of F.groups g) k ≢ None) × (((to.drive < F.drives) × (to.extent < F.groups.extents)) → ⊥) × (Leaves F G)
-MoveCase F g k to (Refused SameDrive) G =
-    (slice_get (members_of F.groups g) k ≢ None) × (to.drive < F.drives) × (to.extent < F.groups.extents) × (HasMemberOn F.groups g to.drive) × (Leaves F G)
-MoveCase F g k to (Refused ExtentTaken) G =
-    (slice_get (members_of F.groups g) k ≢ None) × (to.drive < F.drives) × (to.extent < F.groups.extents) × (HasMemberOn F.groups g to.drive → ⊥)
-    × ((h : ℕ) × (Stands (members_of F.groups h) to.drive to.extent)) × (Leaves F G)
-MoveCase F g k to (Refused (DriveLost d)) G =
-    (slice_get (members_of F.groups g) k ≢ None) × (IsTarget F g to) × (d ≡ to.drive) × (G.lost d ≡ true) × (Leaves F G)
+MoveCase F g k to (Refused NoGroup) G = (IsMoveReason F.groups F.drives g k to (Some NoGroup)) × (Leaves F G)
+MoveCase F g k to (Refused BadMember) G = (IsMoveReason F.groups F.drives g k to (Some BadMember)) × (Leaves F G)
+MoveCase F g k to (Refused SameDrive) G = (IsMoveReason F.groups F.drives g k to (Some SameDrive)) × (Leaves F G)
+MoveCase F g k to (Refused ExtentTaken) G = (IsMoveReason F.groups F.drives g k to (Some ExtentTaken)) × (Leaves F G)
+MoveCase F g k to (Refused (DriveLost d)) G = (IsMoveReason F.groups F.drives g k to None) × (d ≡ to.drive) × (G.lost d ≡ true) × (Leaves F G)
 MoveCase F g k to (Refused (Gone s)) G =
     (MovePasses F g k to) × (IsBeyondOf G.groups G.lost g k) × (IsFirstGone G.groups G.lost g s) × (Leaves F G)
 MoveCase F g k to MovedExtent G =

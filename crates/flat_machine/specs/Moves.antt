@@ -2,6 +2,8 @@
 -- state that it leaves.
 use Rattle.std.specs.Prelude.{◌≡◌, ◌≢◌, ℕ, ◌+◌, ◌/◌, ◌%◌, ◌<◌, ◌==◌, ◌&&◌, nat_lt, Bool, true, false, if◌then◌else◌, slice_get, Option, Some, None}
 use Rattle.extent_groups.specs.declared.class.Member.{Member}
+use Rattle.flat_machine.specs.declared.refusal.Refusal.{Refusal}
+use Rattle.flat_machine.specs.declared.refusal.Refusal.TheVariants.{NoGroup, BadMember, SameDrive, ExtentTaken}
 use Rattle.extent_groups.specs.Groups.{Groups, group_at, members_of, slots_in, with_group, swapped_in, Stands}
 use Rattle.extent_groups.specs.Missing.{IsGone, IsGoneAt}
 use Rattle.extent_groups.specs.Stores.{HasMemberOn, IsDriveOf}
@@ -41,18 +43,28 @@ unmade F w g = record F {
 }
 
 -- an extent that is there, on a drive of none of the group's members, and of no group
-pub record IsTarget (F : Flat) (g : ℕ) (to : Member) : Type 0 where
-  pub drive : to.drive < F.drives
-  pub extent : to.extent < F.groups.extents
-  pub apart : HasMemberOn F.groups g to.drive → ⊥
-  pub unowned : (h : ℕ) → Stands (members_of F.groups h) to.drive to.extent → ⊥
+pub record IsTarget (groups : Groups) (drives g : ℕ) (to : Member) : Type 0 where
+  pub drive : to.drive < drives
+  pub extent : to.extent < groups.extents
+  pub apart : HasMemberOn groups g to.drive → ⊥
+  pub unowned : (h : ℕ) → Stands (members_of groups h) to.drive to.extent → ⊥
+
+-- why the group's member of this number can't go onto the extent, lost drives aside; none where nothing speaks against it
+abbrev pub IsMoveReason : Groups → ℕ → ℕ → ℕ → Member → Option Refusal → Type 0
+IsMoveReason groups drives g k to (Some NoGroup) = slice_get (members_of groups g) k ≡ None
+IsMoveReason groups drives g k to (Some BadMember) =
+    (slice_get (members_of groups g) k ≢ None) × (((to.drive < drives) × (to.extent < groups.extents)) → ⊥)
+IsMoveReason groups drives g k to (Some SameDrive) =
+    (slice_get (members_of groups g) k ≢ None) × (to.drive < drives) × (to.extent < groups.extents) × (HasMemberOn groups g to.drive)
+IsMoveReason groups drives g k to (Some ExtentTaken) =
+    (slice_get (members_of groups g) k ≢ None) × (to.drive < drives) × (to.extent < groups.extents) × (HasMemberOn groups g to.drive → ⊥)
+    × ((h : ℕ) × (Stands (members_of groups h) to.drive to.extent))
+IsMoveReason groups drives g k to None = (slice_get (members_of groups g) k ≢ None) × (IsTarget groups drives g to)
+IsMoveReason groups drives g k to (Some _) = ⊥
 
 -- nothing that moving the group's member of this number tests before it takes memory speaks against it
-pub record MovePasses (F : Flat) (g k : ℕ) (to : Member) : Type 0 where
-  pub was : Member
-  pub member : slice_get (members_of F.groups g) k ≡ Some was
-  pub target : IsTarget F g to
-  pub present : F.lost to.drive ≡ false
+abbrev pub MovePasses : Flat → ℕ → ℕ → Member → Type 0
+MovePasses F g k to = (IsMoveReason F.groups F.drives g k to None) × (F.lost to.drive ≡ false)
 
 -- what lies on a lost drive for a group can't be rebuilt: a slot of the group that has a unit there is gone
 pub record IsBeyond (groups : Groups) (missing : ℕ → Bool) (g drive : ℕ) : Type 0 where
