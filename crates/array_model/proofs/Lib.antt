@@ -15,3 +15,4 @@ pub mod Seeing
 pub mod News
 pub mod Adopting
 pub mod Hands
+pub mod Regroups

@@ -15,7 +15,7 @@ use Rattle.extent_groups.proofs.Places.{get-set_same, get-set_other}
 use Rattle.extent_groups.proofs.Swapping.{formed_swap}
 use Rattle.flat_machine.specs.Groups.{class_at, class_below, GroupsStand}
 use Rattle.flat_machine.specs.Flat.{Flat}
-use Rattle.flat_machine.specs.Moves.{IsTarget, IsMoveReason, moved_to, with_drive}
+use Rattle.flat_machine.specs.Moves.{IsTarget, IsMoveReason, moved_to, with_new_drive}
 use Rattle.flat_machine.specs.History.{HoldersStand, UnitStands, IsHistory}
 use Rattle.flat_machine.proofs.Pairs.{unequal}
 use Rattle.flat_machine.proofs.Slots.{block_same}
@@ -31,7 +31,7 @@ none_on : (drive : ℕ) (ms : List Member) → ((k : ℕ) (m : Member) → slice
 none_on drive ms away = list_any_none (λ m. m.drive == drive) ms (λ k d low. unequal (get_or ms k d).drive drive (away k (get_or ms k d) (slice_get-get_or ms k d low)))
 
 -- a list that has an element of a number has that element
-element : (ms : List Member) (k : ℕ) → slice_get ms k ≢ None → (m : Member) × (slice_get ms k ≡ Some m)
+pub element : (ms : List Member) (k : ℕ) → slice_get ms k ≢ None → (m : Member) × (slice_get ms k ≡ Some m)
 element ms k some = go (slice_get ms k) refl
   where
     go : (o : Option Member) → slice_get ms k ≡ o → (m : Member) × (slice_get ms k ≡ Some m)
@@ -150,7 +150,7 @@ move_keeps F keys g k to is passes = record {
     }
 
 -- a drive more
-pub add_keeps : (F : Flat) (keys : ℕ → ℕ) (lost : Bool) (failures : ℕ) → IsHistory F keys → F.drives < 16 → IsHistory (with_drive F lost failures) keys
+pub add_keeps : (F : Flat) (keys : ℕ → ℕ) (lost : Bool) (failures : ℕ) → IsHistory F keys → F.drives < 16 → IsHistory (with_new_drive F lost failures) keys
 add_keeps F keys lost failures is room = record {
   limits = record { sizes = is.limits.sizes; least = let n = is.limits.least in omega arith; most = omega arith; log = is.limits.log };
   groups = record { table = is.groups.table; there = λ g k m at. let y = is.groups.there g k m at in let low = y.0 in (omega arith, y.1) };
@@ -162,5 +162,5 @@ add_keeps F keys lost failures is room = record {
   versions = is.versions;
   holders = is.holders;
   units = is.units;
-  written = λ b. block_same F (with_drive F lost failures) b (keys b) refl (λ has. (refl, has)) (is.written b);
+  written = λ b. block_same F (with_new_drive F lost failures) b (keys b) refl (λ has. (refl, has)) (is.written b);
 }

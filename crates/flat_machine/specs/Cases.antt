@@ -15,7 +15,7 @@ use Rattle.flat_machine.specs.declared.refusal.Refusal.TheVariants.{NoGroup, Wro
 use Rattle.flat_machine.specs.Groups.{AreMembers, AreApart, AreUnowned, ArePresent, IsFirstLost, IsLowestFree, IsFull}
 use Rattle.flat_machine.specs.Flat.{Flat, Write, Holder, Worker, Ticket, Block, Shut, Content, Waiting, Fresh, Moved, content_of, blank_header, header_for, Stored, content_in, waiting_unit, put, with_pair, without_pair, turned, same_holder, IsFree, IsKept, class_of, last_write, IsNewest}
 use Rattle.map_join.specs.Record.{key_of}
-use Rattle.flat_machine.specs.Moves.{IsIn, HasClaim, IsFirstStray, unmade, IsMoveReason, MovePasses, IsBeyondOf, IsFirstGone, moved_to, with_drive}
+use Rattle.flat_machine.specs.Moves.{IsIn, HasClaim, IsFirstStray, unmade, IsMoveReason, MovePasses, IsBeyondOf, IsFirstGone, moved_to, with_new_drive}
 use Rattle.flat_machine.specs.Steps.{FlatStep, Claim, Release, Fill, Copy, Commit, Discard, Read, ReadAt, Make, Unmake, MoveExtent, AddDrive, Lose, Version, Seen, Data, Stale, FlatAnswer, Claimed, Taken, Released, NotHeld, Filled, Copied, Committed, Discarded, Found, FoundAt, MadeGroup, UnmadeGroup, MovedExtent, AddedDrive, LostDrive, Refused}
 
 -- how a drive fares: once lost it stays lost, and its own failures rose by one where it is lost now and wasn't, and else not
@@ -286,7 +286,7 @@ MoveCase F g k to _ G = ⊥
 -- add a drive: it has the next number, is present, and hasn't failed
 abbrev pub AddCase : Flat → FlatAnswer → Flat → Type 0
 AddCase F (Refused Full) G = (most_drives ≤ F.drives) × (Leaves F G)
-AddCase F (AddedDrive d) G = (d ≡ F.drives) × (F.drives < most_drives) × (Leaves (with_drive F false 0) G)
+AddCase F (AddedDrive d) G = (d ≡ F.drives) × (F.drives < most_drives) × (Leaves (with_new_drive F false 0) G)
 AddCase F _ G = ⊥
 
 -- lose: the drive is lost from outside, which is no failure of its own

@@ -91,8 +91,8 @@ abbrev pub moved_to : Flat → ℕ → ℕ → Member → Flat
 moved_to F g k to = record F { groups = with_group F.groups g (swapped_in (group_at F.groups g) k to) }
 
 -- the state with one drive more, which is lost or not and has failed so often
-abbrev pub with_drive : Flat → Bool → ℕ → Flat
-with_drive F lost failures = record F {
+abbrev pub with_new_drive : Flat → Bool → ℕ → Flat
+with_new_drive F lost failures = record F {
   drives = F.drives + 1;
   lost = put F.lost F.drives lost;
   failures = put F.failures F.drives failures;
