@@ -16,3 +16,4 @@ pub mod News
 pub mod Adopting
 pub mod Hands
 pub mod Regroups
+pub mod MoveReasons

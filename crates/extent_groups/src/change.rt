@@ -83,8 +83,8 @@ pub fn put_check(extents: &ExtentTable, members: &[Member]) -> Option<GroupRefus
     None
 }
 
-/// Why a member isn't swapped for the extent.
-fn swap_check(extents: &ExtentTable, members: &[Member], to: Member) -> Option<GroupRefusal>
+/// Why a member isn't swapped for an extent that is there: one of the members is on its drive, or a group owns it.
+pub fn swap_check(extents: &ExtentTable, members: &[Member], to: Member) -> Option<GroupRefusal>
     requires { IsExtent extents.now to.drive to.extent }
     ensures { result ≡ swap_check_of extents.now members.now to }
 {

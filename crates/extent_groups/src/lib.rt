@@ -12,7 +12,7 @@ mod role;
 mod table;
 mod wipe;
 
-pub use change::{are_there, put_check};
+pub use change::{are_there, put_check, swap_check};
 pub use class::{Class, Member};
 pub use geometry::{Copies, Spot, Stripe};
 pub use place::{Place, read_place, write_place};

@@ -36,6 +36,9 @@ pub data Order : Type 0 where
   Log : Order
   Scan : Order
   Restart : Order
+  Add : Order
+  Balance : Order
+  Rebuild : ℕ → Order
   Lose : ℕ → Order
 
 -- a number, and what it stands for
@@ -102,11 +105,14 @@ word_of verb.Map = codes "map"
 word_of verb.Log = codes "log"
 word_of verb.Scan = codes "scan"
 word_of verb.Restart = codes "restart"
+word_of verb.Add = codes "add"
+word_of verb.Balance = codes "balance"
+word_of verb.Rebuild = codes "rebuild"
 word_of verb.Lose = codes "lose"
 
 -- every verb
 abbrev pub all_verbs : List Verb
-all_verbs = verb.Array ∷ verb.Make ∷ verb.Claim ∷ verb.Release ∷ verb.Fill ∷ verb.Copy ∷ verb.Commit ∷ verb.Discard ∷ verb.Read ∷ verb.At ∷ verb.Write ∷ verb.Demote ∷ verb.Plug ∷ verb.Clean ∷ verb.Take ∷ verb.Merge ∷ verb.Same ∷ verb.Show ∷ verb.Map ∷ verb.Log ∷ verb.Scan ∷ verb.Restart ∷ verb.Lose ∷ []
+all_verbs = verb.Array ∷ verb.Make ∷ verb.Claim ∷ verb.Release ∷ verb.Fill ∷ verb.Copy ∷ verb.Commit ∷ verb.Discard ∷ verb.Read ∷ verb.At ∷ verb.Write ∷ verb.Demote ∷ verb.Plug ∷ verb.Clean ∷ verb.Take ∷ verb.Merge ∷ verb.Same ∷ verb.Show ∷ verb.Map ∷ verb.Log ∷ verb.Scan ∷ verb.Restart ∷ verb.Add ∷ verb.Balance ∷ verb.Rebuild ∷ verb.Lose ∷ []
 
 -- how each command is written: a row of the table
 abbrev pub shape : Order → Shape
@@ -133,6 +139,9 @@ shape Map = form verb.Map [] Nothing
 shape Log = form verb.Log [] Nothing
 shape Scan = form verb.Scan [] Nothing
 shape Restart = form verb.Restart [] Nothing
+shape Add = form verb.Add [] Nothing
+shape Balance = form verb.Balance [] Nothing
+shape (Rebuild d) = form verb.Rebuild (drive d ∷ []) Nothing
 shape (Lose d) = form verb.Lose (drive d ∷ []) Nothing
 
 -- what a command asks for, its numbers, and what stands behind them
@@ -172,6 +181,9 @@ ordered verb.Map n r payload level members = Map
 ordered verb.Log n r payload level members = Log
 ordered verb.Scan n r payload level members = Scan
 ordered verb.Restart n r payload level members = Restart
+ordered verb.Add n r payload level members = Add
+ordered verb.Balance n r payload level members = Balance
+ordered verb.Rebuild n r payload level members = Rebuild (n 0)
 ordered verb.Lose n r payload level members = Lose (n 0)
 
 -- a command of the program, with the payload that stands in the buffer

@@ -27,6 +27,9 @@ pub enum Verb {
     Log,
     Scan,
     Restart,
+    Add,
+    Balance,
+    Rebuild,
     Lose,
 }
 
@@ -103,6 +106,9 @@ impl Verb {
             Verb::Log => Row::new(&[], Tail::Nothing),
             Verb::Scan => Row::new(&[], Tail::Nothing),
             Verb::Restart => Row::new(&[], Tail::Nothing),
+            Verb::Add => Row::new(&[], Tail::Nothing),
+            Verb::Balance => Row::new(&[], Tail::Nothing),
+            Verb::Rebuild => Row::new(&[Kind::Drive], Tail::Nothing),
             Verb::Lose => Row::new(&[Kind::Drive], Tail::Nothing),
         }
     }
@@ -136,6 +142,9 @@ pub fn verb_of(word: &[u8]) -> Option<Verb>
         b"log" => Some(Verb::Log),
         b"scan" => Some(Verb::Scan),
         b"restart" => Some(Verb::Restart),
+        b"add" => Some(Verb::Add),
+        b"balance" => Some(Verb::Balance),
+        b"rebuild" => Some(Verb::Rebuild),
         b"lose" => Some(Verb::Lose),
         _ => None,
     }

@@ -14,3 +14,4 @@ pub mod Beginnings
 pub mod Worlds
 pub mod Refusals
 pub mod Runnings
+mod Regrouping

@@ -7,17 +7,31 @@ use Rattle.step_core.specs.declared.step.Step.TheVariants as step
 use Rattle.step_core.specs.declared.step.Answer.{Answer}
 use Rattle.step_core.specs.Told.{flat_step, flat_answer, FitsStep}
 use Rattle.flat_machine.specs.Steps.{FlatStep, FlatAnswer}
+use Rattle.extent_groups.specs.Groups.{AreGroups}
 use Rattle.flat_machine.specs.Cases.{Case, Runs}
+use Rattle.flat_machine.proofs.Gones.{AllStand, all_present}
+use Rattle.step_core.specs.Headline.{TellingRun}
 use Rattle.flat_machine.specs.Flat.{Flat}
 use Rattle.array_model.specs.Views.{ArrayView, SameSizes}
 
--- a run that goes one step further
+-- a run through states whose groups stand
+abbrev pub StandingRun : Flat → List FlatStep → List FlatAnswer → Flat → Type 0
+StandingRun F steps answers G = (run : Runs F steps answers G) × AllStand F steps answers G run
+
+-- one that goes one step further
 pub run_more : (F M G : Flat) (steps : List FlatStep) (answers : List FlatAnswer) (step : FlatStep) (answer : FlatAnswer)
-    → Runs F steps answers M → Case M step answer G → Runs F (steps ++ step ∷ []) (answers ++ answer ∷ []) G
-run_more F M G [] [] step answer run case = (G, subst (λ (N : Flat). Case N step answer G) run case, refl)
-run_more F M G [] (a ∷ answers) step answer run case = absurd run
-run_more F M G (s ∷ steps) [] step answer run case = absurd run
-run_more F M G (s ∷ steps) (a ∷ answers) step answer run case = (run.0, run.1, run_more run.0 M G steps answers step answer run.2 case)
+    → StandingRun F steps answers M → Case M step answer G → AreGroups G.groups → StandingRun F (steps ++ step ∷ []) (answers ++ answer ∷ []) G
+run_more F M G [] [] step answer run case are =
+    ((G, subst (λ (N : Flat). Case N step answer G) run.0 case, refl), (run.1, are))
+run_more F M G [] (a ∷ answers) step answer run case are = absurd run.0
+run_more F M G (s ∷ steps) [] step answer run case are = absurd run.0
+run_more F M G (s ∷ steps) (a ∷ answers) step answer run case are =
+    let rest = run_more run.0.0 M G steps answers step answer (run.0.2, run.1.1) case are in
+    ((run.0.0, run.0.1, rest.0), run.1.0, rest.1)
+
+-- a run through such states tells no slot gone where no group ever misses two members
+pub telling : (F G : Flat) (steps : List FlatStep) (answers : List FlatAnswer) → StandingRun F steps answers G → TellingRun F steps answers G
+telling F G steps answers run = record { run = run.0; present = all_present F G steps answers run.0 run.1 }
 
 -- a step that fits an array fits one of the same sizes
 fits_same : (a b : ArrayView) (step : Step) → SameSizes a b → FitsStep a.parts.groups step → FitsStep b.parts.groups step
@@ -30,6 +44,8 @@ fits_same a b (step.Discard w s) same fits = fits
 fits_same a b (step.Read c) same fits = subst (λ n. c < n) (sym same.blocks) fits
 fits_same a b (step.ReadAt r) same fits = subst (λ n. r.block < n) (sym same.blocks) fits
 fits_same a b (step.Make class members) same fits = fits
+fits_same a b (step.MoveExtent g k to) same fits = fits
+fits_same a b step.AddDrive same fits = fits
 fits_same a b (step.Lose d) same fits = fits
 
 pub fits_at : (steps : List Step) (i : ℕ) (one : Step) → i < length steps → one ≡ get_or steps i one → (a b : ArrayView) → SameSizes a b → All (FitsStep a.parts.groups) steps
@@ -46,14 +62,16 @@ sizes_again a b c one two = record { payload = two.payload ∙ one.payload; bloc
 -- a run over the first steps goes one step further
 pub runs_step : (F M G : Flat) (steps : List Step) (answers next : List Answer) (i : ℕ) (step : Step) (answer : Answer)
     → i < length steps → step ≡ get_or steps i step → next ≡ answers ++ answer ∷ []
-    → Runs F (map flat_step (take i steps)) (map flat_answer answers) M → Case M (flat_step step) (flat_answer answer) G
-    → Runs F (map flat_step (take (i + 1) steps)) (map flat_answer next) G
-runs_step F M G steps answers next i step answer inside is grown run case =
+    → StandingRun F (map flat_step (take i steps)) (map flat_answer answers) M → Case M (flat_step step) (flat_answer answer) G → AreGroups G.groups
+    → StandingRun F (map flat_step (take (i + 1) steps)) (map flat_answer next) G
+runs_step F M G steps answers next i step answer inside is grown run case are =
     let more : map flat_step (take (i + 1) steps) ≡ map flat_step (take i steps) ++ flat_step step ∷ [] =
     map_more flat_step steps i step inside ∙ ap (λ s. map flat_step (take i steps) ++ flat_step s ∷ []) (sym is)
     in
     let told : map flat_answer next ≡ map flat_answer answers ++ flat_answer answer ∷ [] = ap (map flat_answer) grown ∙ map-append flat_answer answers (answer ∷ []) in
-    rw (more, told) (run_more F M G (map flat_step (take i steps)) (map flat_answer answers) (flat_step step) (flat_answer answer) run case)
+    subst (λ ss. StandingRun F ss (map flat_answer next) G) (sym more)
+    (subst (λ told. StandingRun F (map flat_step (take i steps) ++ flat_step step ∷ []) told G) (sym told)
+    (run_more F M G (map flat_step (take i steps)) (map flat_answer answers) (flat_step step) (flat_answer answer) run case are))
 
 -- all of a list
 pub take_past : {X : Type 0} (xs : List X) (i : ℕ) → length xs ≤ i → take i xs ≡ xs

@@ -20,11 +20,9 @@ use Rattle.flat_machine.specs.Scanned.{HasHeader, IsScanned}
 use Rattle.flat_machine.specs.Steps.{FlatStep, FlatAnswer}
 use Rattle.flat_machine.specs.Cases.{Runs}
 use Rattle.flat_machine.proofs.Newest.{map_unique}
-use Rattle.flat_machine.proofs.Gones.{all_present}
-use Rattle.array_model.proofs.Fares.{gone_before}
 use Rattle.array_model.specs.Represents.{ShowsArray, Represents}
 use Rattle.array_model.specs.Views.{ArrayView, WorldView, IsWhole, Nothing, Newest, key_at}
-use Rattle.step_core.specs.Headline.{bytes_of, LiesAt, IsOneMissed, Stands, AllTellPresent}
+use Rattle.step_core.specs.Headline.{bytes_of, LiesAt, IsOneMissed, Stands}
 
 -- a slot of a group lies somewhere
 site_below : (segments : ℕ) (o : Option Group) (i : ℕ) → class_below segments o i ≢ None → (site : Site) × (site_of_index segments o i ≡ Some site)
@@ -133,8 +131,3 @@ stands w F whole rep = record {
   scanned = λ most M is. one_scan (bytes_of w.array.parts) M (key_at w.array) is (headers w.array F whole rep.array most);
   headers = λ most. headers w.array F whole rep.array most;
 }
-
--- and where each group misses at most one member no answer of a run to it told a slot gone
-pub tell_present : (w : WorldView) (F G : Flat) (steps : List FlatStep) (answers : List FlatAnswer) → IsWhole w.array → Represents w G → Runs F steps answers G → AllTellPresent w answers
-tell_present w F G steps answers whole rep run most =
-    all_present F G steps answers run (λ t gone. all_here w.array whole most t (gone_before G w.array.parts t rep.array.tables.groups rep.array.tables.lost gone))

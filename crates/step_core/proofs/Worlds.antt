@@ -11,8 +11,8 @@ use Rattle.extent_groups.specs.declared.class.Class.{Class}
 use Rattle.extent_groups.specs.declared.class.Member.{Member}
 use Rattle.flat_machine.specs.Flat.{Flat, Write, Content, Worker, Ticket, Waiting, Fresh, Moved, IsNewest, turned, put}
 use Rattle.flat_machine.specs.declared.refusal.Refusal.{Refusal}
-use Rattle.flat_machine.specs.declared.refusal.Refusal.TheVariants.{NoGroup, WrongClass, InUse, NoTicket, Outrun, VersionSpent, HopsSpent, Unwritten, Gone, DriveLost, Ahead, ExtentTaken, SameDrive, LogFull, Full, BadMember}
-use Rattle.flat_machine.specs.Steps.{FlatStep, FlatAnswer, Filled, Copied, Committed, Discarded, MadeGroup, LostDrive, Refused, Fill, Copy, Commit, Discard, Make, Read, ReadAt, Lose}
+use Rattle.flat_machine.specs.declared.refusal.Refusal.TheVariants.{NoGroup, WrongClass, InUse, NoTicket, Outrun, VersionSpent, HopsSpent, Unwritten, Gone, SlotsHeld, DriveLost, Ahead, ExtentTaken, SameDrive, LogFull, Full, BadMember}
+use Rattle.flat_machine.specs.Steps.{FlatStep, FlatAnswer, Filled, Copied, Committed, Discarded, MadeGroup, LostDrive, Refused, Fill, Copy, Commit, Discard, Make, Unmake, MoveExtent, AddDrive, Read, ReadAt, Lose}
 use Rattle.flat_machine.specs.Cases.{FillCase, CopyCase, ticketed, CommitCase, CommitWith, committed, DiscardCase, discarded, MakeCase, made, LoseCase, Case, Leaves}
 use Rattle.flat_machine.proofs.Newest.{newest_unique, place_small}
 use Rattle.flat_machine.proofs.Pairs.{turned_else, turned_just, just_one, Any}
@@ -222,6 +222,15 @@ refused_leaves F G (Make class members) SameDrive y = y.2
 refused_leaves F G (Make class members) ExtentTaken y = y.3
 refused_leaves F G (Make class members) (DriveLost d) y = y.2
 refused_leaves F G (Make class members) Full y = y.3
+refused_leaves F G (Unmake w g) NoGroup y = y.1
+refused_leaves F G (Unmake w g) (SlotsHeld s) y = y.1
+refused_leaves F G (MoveExtent g k to) NoGroup y = y.1
+refused_leaves F G (MoveExtent g k to) BadMember y = y.1
+refused_leaves F G (MoveExtent g k to) SameDrive y = y.1
+refused_leaves F G (MoveExtent g k to) ExtentTaken y = y.1
+refused_leaves F G (MoveExtent g k to) (DriveLost d) y = y.3
+refused_leaves F G (MoveExtent g k to) (Gone s) y = y.3
+refused_leaves F G AddDrive Full y = y.1
 refused_leaves F G (Lose d) BadMember y = y.1
 refused_leaves F G _ _ y = absurd y
 

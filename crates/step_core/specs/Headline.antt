@@ -11,8 +11,8 @@ use Rattle.extent_groups.specs.Stores.{unit_of}
 use Rattle.array_parts.specs.Shows.{IsUnit}
 use Rattle.array_parts.specs.Views.{PartsView, IsLost, cells_of, lost_of}
 use Rattle.flat_machine.specs.Flat.{Flat, Write, HeldOnce, Content, Stored, content_in, last_write}
-use Rattle.flat_machine.specs.Steps.{FlatAnswer}
-use Rattle.flat_machine.specs.Cases.{TellsPresent}
+use Rattle.flat_machine.specs.Steps.{FlatStep, FlatAnswer}
+use Rattle.flat_machine.specs.Cases.{Runs, NeverMissesTwo, TellsPresent}
 use Rattle.flat_machine.specs.Scanned.{IsScanned}
 use Rattle.array_model.specs.Views.{WorldView, key_at}
 
@@ -50,6 +50,8 @@ pub record Stands (w : WorldView) (F : Flat) : Type 0 where
   pub scanned : IsOneMissed w.array.parts → (M : ℕ → ℕ) → IsScanned (bytes_of w.array.parts) M → IsSame M (key_at w.array)
   pub headers : IsOneMissed w.array.parts → IsScanned (bytes_of w.array.parts) (key_at w.array)
 
--- where each group misses at most one member no answer told a slot gone
-abbrev pub AllTellPresent : WorldView → List FlatAnswer → Type 0
-AllTellPresent w answers = IsOneMissed w.array.parts → All TellsPresent answers
+-- the flat machine runs over the steps with these answers; and where no group misses two members in any state of the run, from
+-- the first to the last, none of them tells a slot gone
+pub record TellingRun (F : Flat) (steps : List FlatStep) (answers : List FlatAnswer) (G : Flat) : Type 0 where
+  pub run : Runs F steps answers G
+  pub present : NeverMissesTwo F steps answers G run → All TellsPresent answers

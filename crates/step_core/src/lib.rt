@@ -8,6 +8,7 @@ mod copy;
 mod discard;
 mod drives;
 mod fill;
+mod grow;
 mod hold;
 mod make;
 mod memory;

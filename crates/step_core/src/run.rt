@@ -1,12 +1,12 @@
 // Runs of a world over a list of steps.
 ghost use Rattle.std.specs.Prelude.{◌≡◌, ◌⊎◌, ◌<◌, length, take, map, slice_get, All, MatchResult, IsTrue, ◌↔◌, IfOk, OnErr, Some};
 ghost use Rattle.flat_machine.specs.Flat.{Flat};
-ghost use Rattle.flat_machine.specs.Cases.{Case, Runs, IsWanted};
+ghost use Rattle.flat_machine.specs.Cases.{Case, IsWanted};
 ghost use Rattle.step_core.specs.Told.{flat_answer, flat_step, FitsStep};
 ghost use Rattle.step_core.specs.declared.step.Step.{Step};
 ghost use Rattle.array_model.specs.Views.{WorldView, SameSizes, IsWhole};
 ghost use Rattle.array_model.specs.Represents.{Represents};
-ghost use Rattle.step_core.specs.Headline.{Stands, AllTellPresent};
+ghost use Rattle.step_core.specs.Headline.{Stands, TellingRun};
 
 use crate::step::{Answer, Step};
 use crate::world::World;
@@ -72,6 +72,12 @@ impl World {
                 class: _,
                 members: _,
             } => true,
+            Step::MoveExtent {
+                group: _,
+                member: _,
+                to: _,
+            } => true,
+            Step::AddDrive => true,
             Step::Lose { drive: _ } => true,
         }
     }
@@ -107,6 +113,12 @@ impl World {
             Step::Read { block } => self.read(alloc, *block),
             Step::ReadAt { record } => self.read_at(alloc, *record),
             Step::Make { class, members } => self.make(alloc, *class, members),
+            Step::MoveExtent {
+                group: _,
+                member: _,
+                to: _,
+            } => Ok(Answer::Refused(flat_machine::Refusal::Full)),
+            Step::AddDrive => self.add_drive(alloc),
             Step::Lose { drive } => Ok(self.lose(*drive)),
         }
     }
@@ -116,10 +128,8 @@ impl World {
 pub fn run_steps(alloc: Global, mut world: World, steps: &[Step]) -> Result<Run, Stopped>
     requires { All (FitsStep world.array.parts.groups) steps.now }
     ensures { (F : Flat) → Represents world F → MatchResult result
-        (λ run. (G : Flat) × Runs F (map flat_step steps.now) (map flat_answer run.answers.items) G × Represents run.world G × Stands run.world G
-        × AllTellPresent run.world (map flat_answer run.answers.items))
-        (λ stop. (G : Flat) × Runs F (map flat_step (take stop.at steps.now)) (map flat_answer stop.answers.items) G × Represents stop.world G × Stands stop.world G
-        × AllTellPresent stop.world (map flat_answer stop.answers.items)
+        (λ run. (G : Flat) × TellingRun F (map flat_step steps.now) (map flat_answer run.answers.items) G × Represents run.world G × Stands run.world G)
+        (λ stop. (G : Flat) × TellingRun F (map flat_step (take stop.at steps.now)) (map flat_answer stop.answers.items) G × Represents stop.world G × Stands stop.world G
         × (stop.at < length steps.now)
         × ((stop.at ≡ 0) ⊎ ((step : Step) × (slice_get steps.now stop.at ≡ Some step) × IsWanted G (flat_step step)))) }
 {

@@ -43,6 +43,14 @@ pub enum Step {
         class: Class,
         members: Vec<Member>,
     },
+    /// What lies on the group's member of this number goes onto another extent, which is the member then.
+    MoveExtent {
+        group: u16,
+        member: u8,
+        to: Member,
+    },
+    /// A new drive, all of whose units are zero.
+    AddDrive,
     /// A drive is lost from outside.
     Lose {
         drive: u8,
@@ -68,6 +76,10 @@ pub enum Answer {
     Found(At),
     /// The number of the group that was made.
     Made(u16),
+    /// The member is the other extent now.
+    Shifted,
+    /// The number of the drive that was added.
+    Added(u8),
     /// The drive is lost, also where it was before.
     Lost(u8),
     /// Never for want of memory, which stops a run.

@@ -328,7 +328,7 @@ impl World {
 }
 
 // What a step that is refused answers; want of memory is no answer.
-fn refused(refusal: Refusal) -> Result<Answer, AllocError>
+pub(crate) fn refused(refusal: Refusal) -> Result<Answer, AllocError>
     ensures ok { IfOk result (λ answer. (answer ≡ Answer.Refused refusal) × (refusal ≢ Refusal.Memory)) }
     ensures err { OnErr result (refusal ≡ Refusal.Memory) }
 {
