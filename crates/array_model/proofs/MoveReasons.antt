@@ -1,5 +1,5 @@
 -- Why a member can't go onto an extent, told from the tests of the tables.
-use Rattle.std.proofs.Common.{◌≡◌, ◌≢◌, ℕ, suc, ◌<◌, ◌==◌, ◌||◌, Bool, true, false, cond, is_some, List, [], ◌∷◌, length, refl, sym, ◌∙◌, arith, Option, Some, None}
+use Rattle.std.proofs.Common.{◌≡◌, ◌≢◌, ℕ, zero, suc, ◌<◌, ◌==◌, ◌||◌, Bool, true, false, cond, is_some, List, [], ◌∷◌, length, refl, sym, ◌∙◌, arith, Option, Some, None}
 use Rattle.std.specs.Prelude.{slice_get}
 use Rattle.std.proofs.lemmas.Option.{none-some}
 use Rattle.extents.specs.Owners.{owner_of, IsExtent}
@@ -58,3 +58,9 @@ swap_reason a g k to whole some inside = go (is_on to.drive (members_of a.parts.
 pub not_there : (a : ArrayView) (g k : ℕ) (to : Member) → IsWhole a → slice_get (members_of a.parts.groups g) k ≢ None → (IsExtent a.parts.owners to.drive to.extent → ⊥)
     → (slice_get (members_of a.parts.groups g) k ≢ None) × (((to.drive < length a.parts.drives) × (to.extent < a.parts.groups.extents)) → ⊥)
 not_there a g k to whole some out = (some, λ inside. out (let rows = whole.rows in let wide = whole.wide in let low = inside.0 in let small = inside.1 in record { within = omega arith; inside = omega arith }))
+
+-- there is a member of a number below their count
+pub some_member : (ms : List Member) (k : ℕ) → k < length ms → slice_get ms k ≢ None
+some_member [] k low = absurd (omega arith)
+some_member (m ∷ ms) zero low = λ none. let bad : Some m ≡ None = none in cc
+some_member (m ∷ ms) (suc k) low = some_member ms k (omega arith)

@@ -15,6 +15,7 @@ mod memory;
 mod place;
 mod read;
 mod reading;
+mod relocate;
 mod restart;
 mod run;
 mod seats;

@@ -76,7 +76,7 @@ impl<D: Drive, C: Hold> Array<D, C> {
 }
 
 // The refusal of a fault.
-fn told(fault: Option<GroupRefusal>) -> Option<Refusal>
+pub(crate) fn told(fault: Option<GroupRefusal>) -> Option<Refusal>
     ensures value { result ≡ told_of fault }
     ensures none { result ≡ None → fault ≡ None }
 {

@@ -1,0 +1,8 @@
+//! Extents that go to other drives by a plan: the drives' loads are evened out, and what lay on a lost drive is rebuilt.
+#![tactic(auto)]
+
+mod outcome;
+mod regroup;
+
+pub use outcome::Regrouped;
+pub use regroup::{balance, rebuild};
