@@ -7,3 +7,6 @@ pub mod Shows
 pub mod Views
 pub mod Calls
 pub mod Entering
+pub mod Offsets
+pub mod UnitFor
+pub mod Outcomes
