@@ -10,3 +10,4 @@ pub mod Entering
 pub mod Offsets
 pub mod UnitFor
 pub mod Outcomes
+pub mod Shifting

@@ -1,5 +1,5 @@
 -- What a read for an offset of a group's member comes to, by the role that the offset has.
-use Rattle.std.proofs.Common.{◌≡◌, ℕ, ◌+◌, ◌*◌, ◌/◌, ◌%◌, ◌<◌, ◌≤◌, ◌⊎◌, Bool, true, false, Option, Some, None, List, length, refl, sym, ◌∙◌, ap, subst, arith}
+use Rattle.std.proofs.Common.{◌≡◌, ℕ, ◌+◌, ◌*◌, ◌/◌, ◌%◌, ◌<◌, ◌⊎◌, Bool, true, false, Option, Some, None, List, length, refl, sym, ◌∙◌, ap, subst, arith}
 use Rattle.std.specs.Prelude.{slice_get, replicate, unwrap_or}
 use Rattle.std.specs.Bool.{MatchBool}
 use Rattle.std.proofs.lemmas.Option.{none-some, slice_get_within}
@@ -8,7 +8,7 @@ use Rattle.extent_groups.specs.declared.class.Class.{Class}
 use Rattle.extent_groups.specs.declared.class.Class.TheVariants.{Mirrored, Parity}
 use Rattle.extent_groups.specs.declared.class.Member.{Member}
 use Rattle.extent_groups.specs.declared.role.Role.TheVariants.{Slot, ParityUnit, Unused}
-use Rattle.extent_groups.specs.Geometry.{slot_count, stripe_of, parity_of}
+use Rattle.extent_groups.specs.Geometry.{slot_count, parity_of}
 use Rattle.extent_groups.specs.Groups.{Group, Groups, AreGroups, group_at, class_in, members_in, members_of, slots_in}
 use Rattle.extent_groups.specs.Cells.{cells, held}
 use Rattle.extent_groups.specs.Calls.{if_ok}

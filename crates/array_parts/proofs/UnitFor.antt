@@ -4,7 +4,6 @@ use Rattle.std.specs.Prelude.{slice_get, replicate}
 use Rattle.std.proofs.lemmas.List.{length-map}
 use Rattle.std.proofs.lemmas.Option.{same_Some, none-some, slice_get_within, slice_get-get_or}
 use Rattle.flat_machine.specs.Moves.{IsBeyond}
-use Rattle.extent_groups.specs.declared.class.Class.{Class}
 use Rattle.extent_groups.specs.declared.class.Class.TheVariants.{Mirrored, Parity}
 use Rattle.extent_groups.specs.declared.class.Member.{Member}
 use Rattle.extent_groups.specs.declared.place.Place.{Place}
@@ -17,11 +16,11 @@ use Rattle.extent_groups.specs.Layout.{IsOf}
 use Rattle.extent_groups.specs.Missing.{missing_of, IsGoneAt}
 use Rattle.extent_groups.specs.Moving.{member_unit}
 use Rattle.extent_groups.specs.Roles.{LiesAt, IsRole, IsRoleIn}
-use Rattle.extent_groups.specs.Stores.{unit_bytes, unit_of, AreDrives, IsDriveOf}
-use Rattle.extent_groups.specs.Units.{Site, Pair, InStripe, put, others, held_in, row_of, unit_at, place_of, places_of, site_in, site_of}
+use Rattle.extent_groups.specs.Stores.{unit_bytes, unit_of, AreDrives}
+use Rattle.extent_groups.specs.Units.{Site, InStripe, put, others, held_in, row_of, unit_at, place_of, places_of, site_in, site_of}
 use Rattle.extent_groups.proofs.Bounds.{slot_count_small}
 use Rattle.extent_groups.proofs.Fading.{effective}
-use Rattle.extent_groups.proofs.LayoutLaw.{layout_law, any_member}
+use Rattle.extent_groups.proofs.LayoutLaw.{layout_law}
 use Rattle.extent_groups.proofs.Missing.{cell_missing, missing_if, gone_holds, gone_law, neither, total_none}
 use Rattle.extent_groups.proofs.Places.{same_or_not}
 use Rattle.extent_groups.proofs.RowWrites.{both_missing}

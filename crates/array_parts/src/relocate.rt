@@ -149,3 +149,54 @@ fn unit_for<D: Drive>(
         }
     }
 }
+
+/// Puts the unit for an offset of the member on the other extent.
+fn shift_unit<D: Drive>(
+    groups: &GroupTable,
+    drives: &mut [D],
+    at: Route,
+    offset: u16,
+    unit: &mut [u8],
+    scratch: &mut [u8],
+) -> Result<(), Stop>
+    requires route { IsRoute D.units groups.now at.group at.member at.from at.to drives.old }
+    requires offset { offset < extent_units groups.now.segments }
+    requires unit { length unit.old ≡ unit_bytes groups.now }
+    requires scratch { length scratch.old ≡ 2 * unit_bytes groups.now }
+    ensures ok { OnOk result (IsOnTarget D.units D.lost groups.now at.group at.member at.from at.to offset drives.old drives.new) }
+    ensures err { IfErr result (StopsFor groups.now (missing_of D.lost drives.new) at.group at.from at.to) }
+    ensures touched { KeepsDrives D.units D.lost D.failures (Only (place_of groups.now.segments offset at.to)) drives.old drives.new }
+{
+    if !unit_for(groups, drives, at, offset, unit, scratch) {
+        return Err(Stop::Beyond);
+    }
+    if !write_place(drives, place_in(groups, at.to, offset), unit) {
+        return Err(Stop::TargetLost);
+    }
+    Ok(())
+}
+
+/// Puts the units for all offsets of the member on the other extent, with a buffer of a unit's length and one
+/// of two units'.
+pub(crate) fn shift_units<D: Drive>(
+    groups: &GroupTable,
+    drives: &mut [D],
+    at: Route,
+    unit: &mut [u8],
+    scratch: &mut [u8],
+) -> Result<(), Stop>
+    requires route { IsRoute D.units groups.now at.group at.member at.from at.to drives.old }
+    requires unit { length unit.old ≡ unit_bytes groups.now }
+    requires scratch { length scratch.old ≡ 2 * unit_bytes groups.now }
+    ensures ok { OnOk result (AreOnTarget D.units D.lost D.failures groups.now at.group at.member at.from at.to (extent_units groups.now.segments) drives.old drives.new) }
+    ensures err { IfErr result (StopsFor groups.now (missing_of D.lost drives.new) at.group at.from at.to) }
+    ensures touched { KeepsDrives D.units D.lost D.failures (IsIn groups.now.segments at.to) drives.old drives.new }
+{
+    let shape = groups.shape();
+    for offset in 0..shape.extent_units() as u16 {
+        if let Err(stop) = shift_unit(groups, drives, at, offset, unit, scratch) {
+            return Err(stop);
+        }
+    }
+    Ok(())
+}

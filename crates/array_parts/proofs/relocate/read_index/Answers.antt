@@ -1,4 +1,4 @@
-use Rattle.std.proofs.Common.{◌<◌, arith}
+use Rattle.std.proofs.Common.{arith}
 use Rattle.array_parts.proofs.Outcomes.{group_below, member_at, role_slot, index_had, index_beyond}
 use Rattle.array_parts.proofs.relocate.read_index.Goals as goal
 

@@ -1,4 +1,4 @@
-use Rattle.std.proofs.Common.{◌≡◌, ◌⊎◌, ◌∙◌, true, Some, length, sym, ap, subst}
+use Rattle.std.proofs.Common.{◌≡◌, ◌⊎◌, true, Some, length, sym, subst}
 use Rattle.std.specs.Prelude.{replicate}
 use Rattle.extent_groups.specs.declared.place.Place.{Place}
 use Rattle.extent_groups.specs.Cells.{cells, held}
