@@ -11,3 +11,4 @@ pub mod Offsets
 pub mod UnitFor
 pub mod Outcomes
 pub mod Shifting
+pub mod GoneSlots

@@ -37,11 +37,14 @@ member_at units t ds g k o was groups drives at low =
     (is.0, record { groups = groups; drives = drives; made = is.1; at = is.2; low = low })
 
 -- and its number below that of all
-pub group_below : (t : Groups) (g k : ℕ) (m : Member) → AreGroups t → slice_get (members_of t g) k ≡ Some m → g < 512
-group_below t g k m groups at = by_place (slice_get t.table g) refl where
+pub group_past : (t : Groups) (g : ℕ) → AreGroups t → (group_at t g ≡ None → ⊥) → g < 512
+group_past t g groups made = by_place (slice_get t.table g) refl where
   by_place : (o : Option (Option Group)) → slice_get t.table g ≡ o → g < 512
-  by_place None e = absurd (none-some m (sym (ap (λ x. slice_get (members_in (unwrap_or x None)) k) e) ∙ at))
+  by_place None e = absurd (made (ap (λ x. unwrap_or x None) e))
   by_place (Some x) e = omega (arith, slice_get_within t.table g x e, groups.numbers)
+
+pub group_below : (t : Groups) (g k : ℕ) (m : Member) → AreGroups t → slice_get (members_of t g) k ≡ Some m → g < 512
+group_below t g k m groups at = group_past t g groups (λ none. none-some m (sym (ap (λ x. slice_get (members_in x) k) none) ∙ at))
 
 -- the index of a role is small, and its slot one of the group's
 pub role_slot : (t : Groups) (g k o i : ℕ) (group : Group) → AreGroups t → group_at t g ≡ Some group → IsRoleIn (group_at t g) t.segments k o (Slot i) → (i < 128) × IsSlot t (128 * g + i)

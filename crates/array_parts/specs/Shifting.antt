@@ -62,3 +62,7 @@ pub record AreOnTarget {D : Type 0} (units : D → List (List ℕ)) (lost : D �
 abbrev pub StopsFor : Groups → (ℕ → Bool) → ℕ → Member → Member → Stop → Type 0
 StopsFor groups missing g was to Beyond = IsBeyond groups missing g was.drive
 StopsFor groups missing g was to TargetLost = missing to.drive ≡ true
+
+-- another of the members than the one of this number is on a missing drive
+abbrev pub HasOtherMissing : (ℕ → Bool) → List Member → ℕ → Type 0
+HasOtherMissing missing members own = (k : ℕ) × (m : Member) × (k ≢ own) × (slice_get members k ≡ Some m) × (missing m.drive ≡ true)

@@ -3,6 +3,7 @@
 
 mod carry;
 mod enter;
+mod gone;
 mod make;
 mod memory;
 mod parts;
