@@ -12,3 +12,4 @@ pub mod UnitFor
 pub mod Outcomes
 pub mod Shifting
 pub mod GoneSlots
+pub mod Shifts

@@ -1,7 +1,9 @@
 -- A member of a group moved onto another extent: what is to lie at each of its offsets, and why it can't be.
 use Rattle.std.specs.Prelude.{◌≡◌, ◌≢◌, ◌⊎◌, ℕ, ◌/◌, ◌<◌, Bool, true, Some, List, replicate, slice_get}
 use Rattle.extents.specs.Sizes.{extent_units}
-use Rattle.flat_machine.specs.Moves.{IsBeyond}
+use Rattle.flat_machine.specs.declared.refusal.Refusal.{Refusal}
+use Rattle.flat_machine.specs.declared.refusal.Refusal.TheVariants.{Gone, DriveLost}
+use Rattle.flat_machine.specs.Moves.{IsBeyond, IsBeyondOf, IsFirstGone}
 use Rattle.extent_groups.specs.declared.class.Member.{Member}
 use Rattle.extent_groups.specs.declared.role.Role.TheVariants.{Unused}
 use Rattle.extent_groups.specs.Groups.{Groups, AreGroups, group_at, members_of}
@@ -66,3 +68,10 @@ StopsFor groups missing g was to TargetLost = missing to.drive ≡ true
 -- another of the members than the one of this number is on a missing drive
 abbrev pub HasOtherMissing : (ℕ → Bool) → List Member → ℕ → Type 0
 HasOtherMissing missing members own = (k : ℕ) × (m : Member) × (k ≢ own) × (slice_get members k ≡ Some m) × (missing m.drive ≡ true)
+
+-- the refusal tells why a member isn't moved: the other extent's drive is lost, or one of the member's units can't be had, and
+-- then it names the lowest slot of the group that is gone
+abbrev pub IsWhyUnmoved : Groups → (ℕ → Bool) → ℕ → ℕ → Member → Refusal → Type 0
+IsWhyUnmoved groups missing g k to (DriveLost d) = (d ≡ to.drive) × (missing d ≡ true)
+IsWhyUnmoved groups missing g k to (Gone slot) = (IsBeyondOf groups missing g k) × (IsFirstGone groups missing g slot)
+IsWhyUnmoved groups missing g k to _ = ⊥

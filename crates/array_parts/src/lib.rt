@@ -9,6 +9,7 @@ mod memory;
 mod parts;
 mod relocate;
 mod see;
+mod shift;
 mod slots;
 mod unit;
 mod units;
