@@ -140,7 +140,7 @@ loses_more a b c one two = record {
   rest = tables_more a b c one.rest two.rest;
 }
 
-gone_more : (old new : ℕ → Bool) → ((d : ℕ) → old d ≡ true → new d ≡ true) → (site : Site) → IsGoneAt old site → IsGoneAt new site
+pub gone_more : (old new : ℕ → Bool) → ((d : ℕ) → old d ≡ true → new d ≡ true) → (site : Site) → IsGoneAt old site → IsGoneAt new site
 gone_more old new stays (Pair p q) gone = (stays p.drive gone.0, stays q.drive gone.1)
 gone_more old new stays (InStripe row parity i) gone =
     ((gone.0.0, gone.0.1, stays gone.0.0.drive gone.0.2), (gone.1.0, gone.1.1, gone.1.2, gone.1.3, stays gone.1.1.drive gone.1.4))

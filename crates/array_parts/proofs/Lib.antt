@@ -8,3 +8,9 @@ pub mod Shows
 pub mod Views
 pub mod Calls
 pub mod Entering
+pub mod Offsets
+pub mod UnitFor
+pub mod Outcomes
+pub mod Shifting
+pub mod GoneSlots
+pub mod Shifts

@@ -1,21 +1,36 @@
 -- A member of a group moved onto another extent: what is to lie at each of its offsets, and why it can't be.
-use Rattle.std.specs.Prelude.{◌≡◌, ◌⊎◌, ℕ, ◌/◌, ◌<◌, Bool, true, Some, List, replicate}
+use Rattle.std.specs.Prelude.{◌≡◌, ◌≢◌, ◌⊎◌, ℕ, ◌/◌, ◌<◌, Bool, true, Some, List, replicate, slice_get}
 use Rattle.extents.specs.Sizes.{extent_units}
-use Rattle.flat_machine.specs.Moves.{IsBeyond}
+use Rattle.flat_machine.specs.declared.refusal.Refusal.{Refusal}
+use Rattle.flat_machine.specs.declared.refusal.Refusal.TheVariants.{Gone, DriveLost}
+use Rattle.flat_machine.specs.Moves.{IsBeyond, IsBeyondOf, IsFirstGone}
 use Rattle.extent_groups.specs.declared.class.Member.{Member}
 use Rattle.extent_groups.specs.declared.role.Role.TheVariants.{Unused}
-use Rattle.extent_groups.specs.Groups.{Groups, group_at}
+use Rattle.extent_groups.specs.Groups.{Groups, AreGroups, group_at, members_of}
 use Rattle.extent_groups.specs.Calls.{KeepsDrives}
 use Rattle.extent_groups.specs.Cells.{Cells, cells, held}
 use Rattle.extent_groups.specs.Layout.{IsOf}
 use Rattle.extent_groups.specs.Missing.{missing_of, IsGoneAt}
 use Rattle.extent_groups.specs.Moving.{member_unit}
 use Rattle.extent_groups.specs.Roles.{IsRoleIn}
-use Rattle.extent_groups.specs.Stores.{unit_bytes, AreSound}
+use Rattle.extent_groups.specs.Stores.{unit_bytes, AreSound, AreDrives}
 use Rattle.extent_groups.specs.Units.{Site, place_of, site_of}
-use Rattle.extent_groups.specs.Wiping.{IsIn}
+use Rattle.extent_groups.specs.Wiping.{HasExtent, IsIn}
 use Rattle.array_parts.specs.declared.relocate.Stop.{Stop}
 use Rattle.array_parts.specs.declared.relocate.Stop.TheVariants.{Beyond, TargetLost}
+
+-- no slot lies on the extent
+abbrev pub IsClear : Groups → Member → Type 0
+IsClear groups to = (offset slot : ℕ) (site : Site) → offset < extent_units groups.segments → site_of groups slot ≡ Some site → IsOf site (place_of groups.segments offset to) → ⊥
+
+-- the group's member of this number is one extent, and may go onto the other, on another drive, where no slot lies
+pub record IsRoute {D : Type 0} (units : D → List (List ℕ)) (groups : Groups) (g k : ℕ) (was to : Member) (drives : List D) : Type 0 where
+  pub groups_are : AreGroups groups
+  pub drives_are : AreDrives units groups drives
+  pub member : slice_get (members_of groups g) k ≡ Some was
+  pub there : HasExtent units groups.segments drives to
+  pub apart : to.drive ≢ was.drive
+  pub clear : IsClear groups to
 
 -- where no slot lies, the extent holds what the member's held, or zeros where the member's drive is lost
 abbrev pub KeepsUnused : Groups → ℕ → ℕ → Member → Member → Cells → Cells → (ℕ → Bool) → Type 0
@@ -49,3 +64,14 @@ pub record AreOnTarget {D : Type 0} (units : D → List (List ℕ)) (lost : D �
 abbrev pub StopsFor : Groups → (ℕ → Bool) → ℕ → Member → Member → Stop → Type 0
 StopsFor groups missing g was to Beyond = IsBeyond groups missing g was.drive
 StopsFor groups missing g was to TargetLost = missing to.drive ≡ true
+
+-- another of the members than the one of this number is on a missing drive
+abbrev pub HasOtherMissing : (ℕ → Bool) → List Member → ℕ → Type 0
+HasOtherMissing missing members own = (k : ℕ) × (m : Member) × (k ≢ own) × (slice_get members k ≡ Some m) × (missing m.drive ≡ true)
+
+-- the refusal tells why a member isn't moved: the other extent's drive is lost, or one of the member's units can't be had, and
+-- then it names the lowest slot of the group that is gone
+abbrev pub IsWhyUnmoved : Groups → (ℕ → Bool) → ℕ → ℕ → Member → Refusal → Type 0
+IsWhyUnmoved groups missing g k to (DriveLost d) = (d ≡ to.drive) × (missing d ≡ true)
+IsWhyUnmoved groups missing g k to (Gone slot) = (IsBeyondOf groups missing g k) × (IsFirstGone groups missing g slot)
+IsWhyUnmoved groups missing g k to _ = ⊥

@@ -10,9 +10,9 @@ use Rattle.extent_groups.specs.Groups.{Groups, with_group, with_owners, Agree, I
 use Rattle.extent_groups.specs.Cells.{Cells, cells}
 use Rattle.extent_groups.specs.Missing.{missing_of, IsGone}
 use Rattle.flat_machine.specs.declared.refusal.Refusal.{Refusal}
-use Rattle.flat_machine.specs.declared.refusal.Refusal.TheVariants.{Gone, DriveLost}
+use Rattle.flat_machine.specs.declared.refusal.Refusal.TheVariants.{Gone}
 use Rattle.flat_machine.specs.Groups.{ArePresent}
-use Rattle.flat_machine.specs.Moves.{IsBeyondOf, IsFirstGone}
+use Rattle.flat_machine.specs.Moves.{IsBeyondOf}
 use Rattle.flat_machine.specs.Flat.{Stored, Payload, put}
 use Rattle.flat_machine.specs.Steps.{Seen, Data, Stale}
 use Rattle.flat_machine.specs.Cases.{IsSeen, wiped}
@@ -21,6 +21,7 @@ use Rattle.array_parts.specs.declared.see.Sight.{Sight}
 use Rattle.array_parts.specs.declared.see.Sight.TheVariants as sight
 use Rattle.array_parts.specs.Losses.{AllFare, failures_of}
 use Rattle.array_parts.specs.Making.{TellsLost}
+use Rattle.array_parts.specs.Shifting.{IsWhyUnmoved}
 use Rattle.array_parts.specs.Shows.{ShowsUnits}
 
 -- a drive: its units, whether it is lost, and how often it failed by itself
@@ -166,12 +167,9 @@ pub record Shifted (a : PartsView) (g k : ℕ) (to : Member) (b : PartsView) : T
   pub owners : IsMove a.groups a.owners b.owners g k to
   pub agree : Agree b.groups b.owners
 
--- the refusal tells why a member isn't moved: the other extent's drive is lost, or one of the member's units can't be had, and
--- then it names the lowest slot of the group that is gone
+-- the refusal tells why a member isn't moved
 abbrev pub TellsUnmoved : PartsView → ℕ → ℕ → Member → Refusal → Type 0
-TellsUnmoved b g k to (DriveLost d) = (d ≡ to.drive) × (lost_of b d ≡ true)
-TellsUnmoved b g k to (Gone slot) = (IsBeyondOf b.groups (lost_of b) g k) × (IsFirstGone b.groups (lost_of b) g slot)
-TellsUnmoved b g k to _ = ⊥
+TellsUnmoved b g k to refusal = IsWhyUnmoved b.groups (lost_of b) g k to refusal
 
 -- it wasn't: drives may have been lost, and the refusal tells why
 pub record NotShifted (a : PartsView) (g k : ℕ) (to : Member) (b : PartsView) (refusal : Refusal) : Type 0 where

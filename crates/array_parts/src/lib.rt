@@ -4,11 +4,13 @@
 mod add;
 mod carry;
 mod enter;
+mod gone;
 mod make;
 mod memory;
 mod parts;
 mod relocate;
 mod see;
+mod shift;
 mod slots;
 mod unit;
 mod units;

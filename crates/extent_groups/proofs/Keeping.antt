@@ -30,7 +30,7 @@ pub record HasPassed (o : Owners) (ms : List Member) : Type 0 where
   pub free : (k : ℕ) (m : Member) → slice_get ms k ≡ Some m → owner_of o m.drive m.extent ≡ None
 
 -- a check that passed, and those after it
-check_passed : {X : Type 0} (b : Bool) (x : X) (rest : Option X) → (if b then Some x else rest) ≡ None → (b ≡ false) × (rest ≡ None)
+pub check_passed : {X : Type 0} (b : Bool) (x : X) (rest : Option X) → (if b then Some x else rest) ≡ None → (b ≡ false) × (rest ≡ None)
 check_passed true x rest e = absurd (let both : Some x ≡ None = e in cc)
 check_passed false x rest e = (refl, e)
 

@@ -37,7 +37,7 @@ abbrev pub any_member : Member
 any_member = record { drive = 0; extent = 0 }
 
 -- a member of this number, and its place at an offset
-place_is : (s : ℕ) (ms : List Member) (k o : ℕ) → k < length ms → place_at s ms k o ≡ place_of s o (get_or ms k any_member)
+pub place_is : (s : ℕ) (ms : List Member) (k o : ℕ) → k < length ms → place_at s ms k o ≡ place_of s o (get_or ms k any_member)
 place_is s ms k o h =
     get_or_from_slice_get (map (place_of s o) ms) k (place_of s o (get_or ms k any_member)) _
     (slice_get-map (place_of s o) ms k ∙ ap (option_map (place_of s o)) (slice_get-get_or ms k any_member h))

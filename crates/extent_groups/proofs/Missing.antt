@@ -24,11 +24,11 @@ none_more m r (Some u) None ra later e = let is = later refl in (is.0, omega (ar
 none_more m r (Some u) (Some v) ra later e = absurd (none-some (plus u v) (sym e))
 
 -- an exclusive or that isn't there misses a member
-total_none : (n m : ℕ) (r : Row) → total n m r ≡ None → (k : ℕ) × (k < m) × (r k ≡ None)
+pub total_none : (n m : ℕ) (r : Row) → total n m r ≡ None → (k : ℕ) × (k < m) × (r k ≡ None)
 total_none n zero r e = absurd (none-some (replicate n 0) (sym e))
 total_none n (suc m) r e = none_more m r (r m) (total n m r) refl (λ f. total_none n m r f) e
 
-neither : (a b : Option (List ℕ)) → or_else a b ≡ None → (a ≡ None) × (b ≡ None)
+pub neither : (a b : Option (List ℕ)) → or_else a b ≡ None → (a ≡ None) × (b ≡ None)
 neither None b e = (refl, e)
 neither (Some u) b e = absurd (none-some u (sym e))
 
@@ -70,7 +70,7 @@ gone_at units lost ds n (InStripe row parity i) whole place e =
     )
 
 -- a site that is gone has no effective unit
-gone_holds : {D : Type 0} (units : D → List (List ℕ)) (lost : D → Bool) (ds : List D) (n : ℕ) (site : Site) → IsGoneAt (missing_of lost ds) site → unit_at n (cells units lost ds) site ≡ None
+pub gone_holds : {D : Type 0} (units : D → List (List ℕ)) (lost : D → Bool) (ds : List D) (n : ℕ) (site : Site) → IsGoneAt (missing_of lost ds) site → unit_at n (cells units lost ds) site ≡ None
 gone_holds units lost ds n (Pair p q) gone =
     ap (λ a. or_else a (held (cells units lost ds) q)) (cell_missing units lost (slice_get ds p.drive) p.address gone.0) ∙ cell_missing units lost (slice_get ds q.drive) q.address gone.1
 gone_holds units lost ds n (InStripe row parity i) gone =

@@ -71,7 +71,7 @@ swapped_second n c new p q to sound fades is =
     record { sound = still; unit = λ v e. turn (held c q) (held c p) back v (both.1 v (turn (held new p) (held new to) still v e)) }
 
 -- the place at an offset of the member that is swapped, before and after, and of another
-at_was : (s : ℕ) (ms : List Member) (k o : ℕ) (m : Member) → slice_get ms k ≡ Some m → place_at s ms k o ≡ place_of s o m
+pub at_was : (s : ℕ) (ms : List Member) (k o : ℕ) (m : Member) → slice_get ms k ≡ Some m → place_at s ms k o ≡ place_of s o m
 at_was s ms k o m at = get_or_from_slice_get (map (place_of s o) ms) k (place_of s o m) _ (slice_get-map (place_of s o) ms k ∙ ap (option_map (place_of s o)) at)
 
 at_other : (s : ℕ) (ms : List Member) (k j o : ℕ) (to : Member) → j ≢ k → place_at s (slice_set ms k to) j o ≡ place_at s ms j o

@@ -19,7 +19,7 @@ extent_there units t drives m are within inside o low =
     record { inside = within; low = λ x ex. omega (arith, low, are.many m.drive x ex, mul-le-mul_right (2 * t.segments) more) }
 
 -- and so each place of a member
-member_there : {D : Type 0} (units : D → List (List ℕ)) (t : Groups) (drives : List D) (g k o : ℕ) (m : Member) → AreDrives units t drives
+pub member_there : {D : Type 0} (units : D → List (List ℕ)) (t : Groups) (drives : List D) (g k o : ℕ) (m : Member) → AreDrives units t drives
     → slice_get (members_of t g) k ≡ Some m → o < 2 * t.segments → IsPlace units drives (place_of t.segments o m)
 member_there units t drives g k o m are at low = let there = are.there g k m at in extent_there units t drives m are there.0 there.1 o low
 

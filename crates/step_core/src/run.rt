@@ -113,11 +113,7 @@ impl World {
             Step::Read { block } => self.read(alloc, *block),
             Step::ReadAt { record } => self.read_at(alloc, *record),
             Step::Make { class, members } => self.make(alloc, *class, members),
-            Step::MoveExtent {
-                group: _,
-                member: _,
-                to: _,
-            } => Ok(Answer::Refused(flat_machine::Refusal::Full)),
+            Step::MoveExtent { group, member, to } => self.move_extent(alloc, *group, *member, *to),
             Step::AddDrive => self.add_drive(alloc),
             Step::Lose { drive } => Ok(self.lose(*drive)),
         }

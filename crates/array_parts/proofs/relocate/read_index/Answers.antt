@@ -1,0 +1,25 @@
+use Rattle.std.proofs.Common.{arith}
+use Rattle.array_parts.proofs.Outcomes.{group_below, member_at, role_slot, index_had, index_beyond}
+use Rattle.array_parts.proofs.relocate.read_index.Goals as goal
+
+pub overflow_add-at : goal.overflow_add-at
+overflow_add-at g c =
+    let is = member_at g.D.Drive.units c.args.groups.now c.args.drives.now c.args.at.group c.args.at.member c.args.offset c.args.at.from c.requires.route.groups_are c.requires.route.drives_are c.requires.route.member c.requires.offset in
+    let small = (role_slot c.args.groups.now c.args.at.group c.args.at.member c.args.offset c.args.index is.0 c.requires.route.groups_are is.1.made c.requires.role).0 in
+    let below = group_below c.args.groups.now c.args.at.group c.args.at.member c.args.at.from c.requires.route.groups_are c.requires.route.member in
+    omega (arith, small, below)
+
+pub read_slot-requires-clause-slot : goal.read_slot-requires-clause-slot
+read_slot-requires-clause-slot g c =
+    let is = member_at g.D.Drive.units c.args.groups.now c.args.drives.now c.args.at.group c.args.at.member c.args.offset c.args.at.from c.requires.route.groups_are c.requires.route.drives_are c.requires.route.member c.requires.offset in
+    (role_slot c.args.groups.now c.args.at.group c.args.at.member c.args.offset c.args.index is.0 c.requires.route.groups_are is.1.made c.requires.role).1
+
+pub returns-in-Ok-clause-outcome : goal.returns-in-Ok-clause-outcome
+returns-in-Ok-clause-outcome g c =
+    index_had g.D.Drive.units g.D.Drive.lost c.args.groups.now c.read_slot.new.drives c.args.at.group c.args.at.member c.args.offset c.args.index c.args.at.from c.read_slot.new.unit
+    c.requires.route.groups_are c.read_slot.ensures.drives c.requires.route.member c.requires.offset c.requires.role c.in-Ok.ensures.ok
+
+pub returns-in-Err-clause-outcome : goal.returns-in-Err-clause-outcome
+returns-in-Err-clause-outcome g c =
+    index_beyond g.D.Drive.units g.D.Drive.lost c.args.groups.now c.read_slot.new.drives c.args.at.group c.args.at.member c.args.offset c.args.index c.args.at.from
+    c.requires.route.groups_are c.read_slot.ensures.drives c.requires.route.member c.requires.offset c.requires.role c.in-Err.ensures.gone.1
