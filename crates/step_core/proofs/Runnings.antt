@@ -27,7 +27,7 @@ run_more F M G [] (a ∷ answers) step answer run case are = absurd run.0
 run_more F M G (s ∷ steps) [] step answer run case are = absurd run.0
 run_more F M G (s ∷ steps) (a ∷ answers) step answer run case are =
     let rest = run_more run.0.0 M G steps answers step answer (run.0.2, run.1.1) case are in
-    ((run.0.0, run.0.1, rest.0), run.1.0, rest.1)
+    ((run.0.0, run.0.1, rest.0), (run.1.0, rest.1))
 
 -- a run through such states tells no slot gone where no group ever misses two members
 pub telling : (F G : Flat) (steps : List FlatStep) (answers : List FlatAnswer) → StandingRun F steps answers G → TellingRun F steps answers G

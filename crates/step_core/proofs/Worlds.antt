@@ -12,8 +12,9 @@ use Rattle.extent_groups.specs.declared.class.Member.{Member}
 use Rattle.flat_machine.specs.Flat.{Flat, Write, Content, Worker, Ticket, Waiting, Fresh, Moved, IsNewest, turned, put}
 use Rattle.flat_machine.specs.declared.refusal.Refusal.{Refusal}
 use Rattle.flat_machine.specs.declared.refusal.Refusal.TheVariants.{NoGroup, WrongClass, InUse, NoTicket, Outrun, VersionSpent, HopsSpent, Unwritten, Gone, SlotsHeld, DriveLost, Ahead, ExtentTaken, SameDrive, LogFull, Full, BadMember}
-use Rattle.flat_machine.specs.Steps.{FlatStep, FlatAnswer, Filled, Copied, Committed, Discarded, MadeGroup, LostDrive, Refused, Fill, Copy, Commit, Discard, Make, Unmake, MoveExtent, AddDrive, Read, ReadAt, Lose}
-use Rattle.flat_machine.specs.Cases.{FillCase, CopyCase, ticketed, CommitCase, CommitWith, committed, DiscardCase, discarded, MakeCase, made, LoseCase, Case, Leaves}
+use Rattle.flat_machine.specs.Moves.{moved_to}
+use Rattle.flat_machine.specs.Steps.{FlatStep, FlatAnswer, Filled, Copied, Committed, Discarded, MadeGroup, MovedExtent, LostDrive, Refused, Fill, Copy, Commit, Discard, Make, Unmake, MoveExtent, AddDrive, Read, ReadAt, Lose}
+use Rattle.flat_machine.specs.Cases.{FillCase, CopyCase, ticketed, CommitCase, CommitWith, committed, DiscardCase, discarded, MakeCase, made, MoveCase, LoseCase, Case, Leaves}
 use Rattle.flat_machine.proofs.Newest.{newest_unique, place_small}
 use Rattle.flat_machine.proofs.Pairs.{turned_else, turned_just, just_one, Any}
 use Rattle.flat_machine.proofs.Passing.{Passes, passed, passed_on}
@@ -187,6 +188,20 @@ make_world v F class members g a rep y = (
       claims = λ w. and_true (F.held t (Worker w)) ∙ h.claims w;
       tickets = λ w. and_true (F.held t (Ticket w)) ∙ h.tickets w;
     });
+  },
+)
+
+-- and one whose array has a member on another extent
+pub move_world : (v : WorldView) (F : Flat) (g k : ℕ) (to : Member) (a : ArrayView) → Represents v F
+    → (G : Flat) × (MoveCase F g k to MovedExtent G) × (ShowsArray a G)
+    → (G : Flat) × (MoveCase F g k to MovedExtent G) × (Represents (record { array = a; hands = v.hands }) G)
+move_world v F g k to a rep y = (
+  y.0,
+  y.1,
+  record {
+    array = y.2;
+    held = step_holds F y.0 (key_at v.array) (MoveExtent g k to) MovedExtent rep.array.history rep.held tt y.1;
+    hands = hands_as v.hands y.0 (moved_to F g k to) y.1.3 rep.hands;
   },
 )
 

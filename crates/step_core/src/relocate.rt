@@ -96,6 +96,7 @@ impl World {
             → (G : Flat) × Case F (say.MoveExtent group member to) (flat_answer answer) G × Represents self.new G) }
         ensures err { OnErr result (self.new ≡ self.old) }
         ensures wants { OnErr result ((F : Flat) → Represents self.old F → IsWanted F (say.MoveExtent group member to)) }
+        ensures shifted { IfOk result (λ answer. answer ≡ Answer.Shifted → Shifted self.old.array.parts group member to self.new.array.parts) }
         ensures room { SameSizes self.old.array self.new.array }
     {
         match self.array.move_extent(alloc, group, member, to) {

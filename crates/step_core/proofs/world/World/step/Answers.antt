@@ -53,3 +53,9 @@ returns-in-Make c =
     (record { ok = e.ok; err = e.err; wants = e.wants })
     in
     record { ok = told.ok; err = told.err; wants = told.wants; room = e.room }
+
+pub returns-in-MoveExtent-clause-ok : goal.returns-in-MoveExtent-clause-ok
+returns-in-MoveExtent-clause-ok c =
+    let e = c.move_extent.ensures in
+    (subst (λ (f : FlatStep). WasStep c.args.self.now c.move_extent.new.self f c.move_extent.result) (ap flat_step (sym c.in-MoveExtent.is))
+    (record { ok = e.ok; err = e.err; wants = e.wants })).ok
