@@ -26,3 +26,4 @@ pub mod Wiping
 pub mod Agreeing
 pub mod Moving
 pub mod Roles
+pub mod Elsewhere

@@ -1,12 +1,12 @@
 //! Reads and writes of mirrored slots: each lies in two copies, on two drives.
 #![tactic(auto)]
 
-ghost use Rattle.std.specs.Prelude.{◌≡◌, ◌≢◌, ◌*◌, length, Some, OnOk, IfErr};
+ghost use Rattle.std.specs.Prelude.{◌≡◌, ◌≢◌, ◌⊎◌, ◌*◌, ◌/◌, length, Some, OnOk, IfErr};
 ghost use Rattle.extent_groups.specs.declared.class.Class.TheVariants.{Mirrored};
 ghost use Rattle.extent_groups.specs.Cells.{cells};
 ghost use Rattle.extent_groups.specs.Units.{Pair, unit_at};
-ghost use Rattle.extent_groups.specs.Calls.{AreSized, IsPlace, FadesAt, if_ok, NoPlace, KeepsDrives};
-ghost use Rattle.extent_groups.specs.Stores.{unit_bytes, unit_of, AreSound, IsSlotOf, AreDrives, KeepsUnits, Wrote, NamesGone, IsOwn, IsOwnOf, LeavesSites};
+ghost use Rattle.extent_groups.specs.Calls.{AreSized, IsPlace, FadesAt, if_ok, NoPlace, SameBut, KeepsDrives};
+ghost use Rattle.extent_groups.specs.Stores.{unit_bytes, unit_of, AreSound, IsSlotOf, AreDrives, KeepsUnits, Wrote, NamesGone, IsOwn, IsOwnOf, LeavesSites, HasMemberOn};
 
 use extent_groups::{GroupTable, Place, StoreRefusal, read_place, write_place};
 use extents::Drive;
@@ -19,6 +19,7 @@ fn read_pair<D: Drive>(drives: &mut [D], first: Place, second: Place, unit: &mut
     ensures unit { unit_at (length unit.new) (cells D.units D.lost drives.new) (Pair first second) ≡ if_ok result unit.new }
     ensures fades { (x : Place) → FadesAt (cells D.units D.lost drives.old) (cells D.units D.lost drives.new) x }
     ensures touched { KeepsDrives D.units D.lost D.failures NoPlace drives.old drives.new }
+    ensures elsewhere { SameBut (λ d. (d ≡ first.drive) ⊎ (d ≡ second.drive)) drives.old drives.new }
 {
     if read_place(drives, first, unit) {
         return true;
@@ -58,6 +59,7 @@ pub fn read<D: Drive>(
     ensures units { AreSound groups.now (cells D.units D.lost drives.old) → KeepsUnits groups.now (cells D.units D.lost drives.old) (cells D.units D.lost drives.new) }
     ensures sound { AreSound groups.now (cells D.units D.lost drives.old) → AreSound groups.now (cells D.units D.lost drives.new) }
     ensures touched { KeepsDrives D.units D.lost D.failures NoPlace drives.old drives.new }
+    ensures elsewhere { SameBut (HasMemberOn groups.now (slot / 128)) drives.old drives.new }
     ensures drives { AreDrives D.units groups.now drives.new }
 {
     let (first, second) = groups.pair_of(slot);

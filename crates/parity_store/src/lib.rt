@@ -7,11 +7,11 @@ mod others;
 mod parity;
 mod stripe;
 
-ghost use Rattle.std.specs.Prelude.{◌≡◌, ◌*◌, length, Some, OnOk, IfErr};
+ghost use Rattle.std.specs.Prelude.{◌≡◌, ◌*◌, ◌/◌, length, Some, OnOk, IfErr};
 ghost use Rattle.extent_groups.specs.declared.class.Class.TheVariants.{Parity};
 ghost use Rattle.extent_groups.specs.Cells.{cells};
-ghost use Rattle.extent_groups.specs.Calls.{NoPlace, KeepsDrives};
-ghost use Rattle.extent_groups.specs.Stores.{unit_bytes, unit_of, AreSound, IsSlotOf, AreDrives, KeepsUnits, Wrote, NamesGone, IsOwnOf};
+ghost use Rattle.extent_groups.specs.Calls.{NoPlace, SameBut, KeepsDrives};
+ghost use Rattle.extent_groups.specs.Stores.{unit_bytes, unit_of, AreSound, IsSlotOf, AreDrives, KeepsUnits, Wrote, NamesGone, IsOwnOf, HasMemberOn};
 
 pub use exclusive_or::xor_into;
 use extent_groups::{GroupTable, SLOTS, StoreRefusal};
@@ -35,6 +35,7 @@ pub fn read<D: Drive>(
     ensures units { AreSound groups.now (cells D.units D.lost drives.old) → KeepsUnits groups.now (cells D.units D.lost drives.old) (cells D.units D.lost drives.new) }
     ensures sound { AreSound groups.now (cells D.units D.lost drives.old) → AreSound groups.now (cells D.units D.lost drives.new) }
     ensures touched { KeepsDrives D.units D.lost D.failures NoPlace drives.old drives.new }
+    ensures elsewhere { SameBut (HasMemberOn groups.now (slot / 128)) drives.old drives.new }
     ensures drives { AreDrives D.units groups.now drives.new }
 {
     let at = groups.row_of(slot);

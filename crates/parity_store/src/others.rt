@@ -4,7 +4,8 @@ ghost use Rattle.std.specs.Bool.{MatchBool};
 ghost use Rattle.extents.specs.Sizes.{extent_units};
 ghost use Rattle.extent_groups.specs.Groups.{members_of};
 ghost use Rattle.extent_groups.specs.Cells.{cells};
-ghost use Rattle.extent_groups.specs.Calls.{AreSized, NoPlace, KeepsDrives};
+ghost use Rattle.extent_groups.specs.Calls.{AreSized, NoPlace, SameBut, KeepsDrives};
+ghost use Rattle.extent_groups.specs.Stores.{HasMemberOn};
 ghost use Rattle.parity_store.specs.Ways.{row_at, IsRow, Added, AddedOne, Missed};
 
 use crate::xor_into;
@@ -36,6 +37,7 @@ fn add_member<D: Drive>(
     requires part { length part.old ≡ length sum.old }
     ensures outcome { MatchBool result (AddedOne (length sum.old) (cells D.units D.lost drives.old) (cells D.units D.lost drives.new) (row_at groups.now others.group others.offset) others.first others.second number sum.old sum.new) (Missed (cells D.units D.lost drives.old) (cells D.units D.lost drives.new) (row_at groups.now others.group others.offset) others.first others.second) }
     ensures touched { KeepsDrives D.units D.lost D.failures NoPlace drives.old drives.new }
+    ensures elsewhere { SameBut (HasMemberOn groups.now others.group) drives.old drives.new }
 {
     if number == others.first {
         return true;
@@ -66,6 +68,7 @@ pub(crate) fn add_others<D: Drive>(
     requires part { length part.old ≡ length sum.old }
     ensures outcome { MatchBool result (Added (length sum.old) (cells D.units D.lost drives.old) (cells D.units D.lost drives.new) (row_at groups.now others.group others.offset) others.first others.second sum.old sum.new) (Missed (cells D.units D.lost drives.old) (cells D.units D.lost drives.new) (row_at groups.now others.group others.offset) others.first others.second) }
     ensures touched { KeepsDrives D.units D.lost D.failures NoPlace drives.old drives.new }
+    ensures elsewhere { SameBut (HasMemberOn groups.now others.group) drives.old drives.new }
 {
     let members = groups.members(others.group).len() as u8;
     for number in 0..members {

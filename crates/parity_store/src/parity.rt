@@ -4,8 +4,8 @@ ghost use Rattle.extents.specs.Sizes.{extent_units};
 ghost use Rattle.extent_groups.specs.declared.class.Class.TheVariants.{Parity};
 ghost use Rattle.extent_groups.specs.Groups.{class_in, group_at};
 ghost use Rattle.extent_groups.specs.Cells.{cells};
-ghost use Rattle.extent_groups.specs.Calls.{if_ok, NoPlace, KeepsDrives};
-ghost use Rattle.extent_groups.specs.Stores.{unit_bytes, AreSound, AreDrives, KeepsUnits};
+ghost use Rattle.extent_groups.specs.Calls.{if_ok, NoPlace, SameBut, KeepsDrives};
+ghost use Rattle.extent_groups.specs.Stores.{unit_bytes, AreSound, AreDrives, KeepsUnits, HasMemberOn};
 ghost use Rattle.parity_store.specs.Ways.{parity_unit};
 
 use crate::stripe::read_stripe;
@@ -30,6 +30,7 @@ pub fn read_parity<D: Drive>(
     ensures units { AreSound groups.now (cells D.units D.lost drives.old) → KeepsUnits groups.now (cells D.units D.lost drives.old) (cells D.units D.lost drives.new) }
     ensures sound { AreSound groups.now (cells D.units D.lost drives.old) → AreSound groups.now (cells D.units D.lost drives.new) }
     ensures touched { KeepsDrives D.units D.lost D.failures NoPlace drives.old drives.new }
+    ensures elsewhere { SameBut (HasMemberOn groups.now group) drives.old drives.new }
     ensures drives { AreDrives D.units groups.now drives.new }
 {
     let parity = groups.parity_member(group, offset);

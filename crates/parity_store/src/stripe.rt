@@ -5,10 +5,10 @@ ghost use Rattle.extents.specs.Sizes.{extent_units};
 ghost use Rattle.extent_groups.specs.declared.place.Place.{Place};
 ghost use Rattle.extent_groups.specs.Groups.{members_of};
 ghost use Rattle.extent_groups.specs.Cells.{cells, held};
-ghost use Rattle.extent_groups.specs.Calls.{AreSized, FadesAt, if_ok, NoPlace, Only, KeepsDrives};
+ghost use Rattle.extent_groups.specs.Calls.{AreSized, FadesAt, if_ok, NoPlace, Only, SameBut, KeepsDrives};
 ghost use Rattle.extent_groups.specs.Layout.{IsWhole};
 ghost use Rattle.extent_groups.specs.Units.{InStripe, unit_at, row_of, IsSoundAt};
-ghost use Rattle.extent_groups.specs.Stores.{IsOwn, LeavesSites};
+ghost use Rattle.extent_groups.specs.Stores.{IsOwn, LeavesSites, HasMemberOn};
 ghost use Rattle.parity_store.specs.Ways.{row_at, IsRow, ParityWritten, ParityMissed};
 
 use crate::difference::write_by_difference;
@@ -43,6 +43,7 @@ pub(crate) fn read_stripe<D: Drive>(
     ensures unit { unit_at (length unit.old) (cells D.units D.lost drives.new) (InStripe (row_at groups.now group at.now.offset) at.now.parity at.now.member) ≡ if_ok result unit.new }
     ensures fades { (x : Place) → FadesAt (cells D.units D.lost drives.old) (cells D.units D.lost drives.new) x }
     ensures touched { KeepsDrives D.units D.lost D.failures NoPlace drives.old drives.new }
+    ensures elsewhere { SameBut (HasMemberOn groups.now group) drives.old drives.new }
 {
     let home = groups.place(group, at.member, at.offset);
     if read_place(drives, home, unit) {

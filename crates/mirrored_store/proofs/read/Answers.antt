@@ -1,4 +1,6 @@
-use Rattle.std.proofs.Common.{inl, inr, refl}
+use Rattle.std.proofs.Common.{◌≡◌, ◌/◌, ◌⊎◌, ℕ, inl, inr, refl, sym, subst}
+use Rattle.extent_groups.specs.Stores.{HasMemberOn}
+use Rattle.extent_groups.proofs.Elsewhere.{same_more, site_member}
 use Rattle.extent_groups.proofs.Sites.{site_places}
 use Rattle.extent_groups.proofs.StoreCalls.{read_keeps, drives_kept}
 use Rattle.mirrored_store.proofs.read.Goals as goal
@@ -26,3 +28,21 @@ returns-clause-sound g c = λ s. (read_keeps _ _ _ c.pair_of.ensures.groups c.re
 
 pub returns-clause-drives : goal.returns-clause-drives
 returns-clause-drives g c = drives_kept _ c.read_pair.ensures.touched c.requires.drives
+
+pub returns-then-read_pair-clause-elsewhere : goal.returns-then-read_pair-clause-elsewhere
+returns-then-read_pair-clause-elsewhere g c =
+    same_more c.args.drives.now c.read_pair.new.drives
+    (λ d is. elim is [
+      | inl e ↦ subst (HasMemberOn c.args.groups.now (c.args.slot / 128)) (sym e) (site_member c.args.groups.now c.args.slot _ c.pair_of.result.0 c.pair_of.ensures.groups c.pair_of.ensures.site (inl refl))
+      | inr e ↦ subst (HasMemberOn c.args.groups.now (c.args.slot / 128)) (sym e) (site_member c.args.groups.now c.args.slot _ c.pair_of.result.1 c.pair_of.ensures.groups c.pair_of.ensures.site (inr refl))
+    ])
+    c.read_pair.ensures.elsewhere
+
+pub returns-clause-elsewhere : goal.returns-clause-elsewhere
+returns-clause-elsewhere g c =
+    same_more c.args.drives.now c.read_pair.new.drives
+    (λ d is. elim is [
+      | inl e ↦ subst (HasMemberOn c.args.groups.now (c.args.slot / 128)) (sym e) (site_member c.args.groups.now c.args.slot _ c.pair_of.result.0 c.pair_of.ensures.groups c.pair_of.ensures.site (inl refl))
+      | inr e ↦ subst (HasMemberOn c.args.groups.now (c.args.slot / 128)) (sym e) (site_member c.args.groups.now c.args.slot _ c.pair_of.result.1 c.pair_of.ensures.groups c.pair_of.ensures.site (inr refl))
+    ])
+    c.read_pair.ensures.elsewhere

@@ -1,7 +1,9 @@
-use Rattle.std.proofs.Common.{arith}
+use Rattle.std.proofs.Common.{◌≡◌, ℕ, arith, sym, subst}
 use Rattle.std.proofs.lemmas.List.{length-map}
 use Rattle.extent_groups.specs.Groups.{members_of}
 use Rattle.extent_groups.specs.Units.{place_of}
+use Rattle.extent_groups.specs.Stores.{HasMemberOn}
+use Rattle.extent_groups.proofs.Elsewhere.{same_more, row_drive}
 use Rattle.parity_store.proofs.Sums.{passed_first, passed_second, missed_one}
 use Rattle.parity_store.proofs.others.add_member.Goals as goal
 
@@ -15,3 +17,15 @@ pub returns-then-not-read_place-clause-outcome : goal.returns-then-not-read_plac
 returns-then-not-read_place-clause-outcome g c =
     let wide = length-map (members_of c.args.groups.now c.args.others.group) (place_of c.args.groups.now.segments c.args.others.offset) in
     missed_one _ _ _ c.args.others.first c.args.others.second c.args.number c.place-place.result c.read_place.new.unit (omega (arith, wide, c.requires.number)) c.if-number-others.false c.if-number-others-2.false c.place-place.ensures.place c.if-not-read_place.ensures.read
+
+pub returns-then-not-read_place-clause-elsewhere : goal.returns-then-not-read_place-clause-elsewhere
+returns-then-not-read_place-clause-elsewhere g c =
+    same_more c.args.drives.now c.read_place.new.drives
+    (λ d e. subst (HasMemberOn c.args.groups.now c.args.others.group) (sym e) (row_drive c.args.groups.now c.args.others.group c.args.others.offset c.args.number c.place-place.result c.place-place.ensures.place))
+    c.read_place.ensures.others
+
+pub returns-clause-elsewhere : goal.returns-clause-elsewhere
+returns-clause-elsewhere g c =
+    same_more c.args.drives.now c.read_place.new.drives
+    (λ d e. subst (HasMemberOn c.args.groups.now c.args.others.group) (sym e) (row_drive c.args.groups.now c.args.others.group c.args.others.offset c.args.number c.place-place.result c.place-place.ensures.place))
+    c.read_place.ensures.others

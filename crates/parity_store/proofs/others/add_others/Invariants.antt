@@ -2,7 +2,8 @@ use Rattle.std.proofs.Common.{◌≡◌, Some, length}
 use Rattle.extent_groups.specs.declared.place.Place.{Place}
 use Rattle.extent_groups.specs.Cells.{cells, held}
 use Rattle.extent_groups.specs.Units.{add, total, row_of}
-use Rattle.extent_groups.specs.Calls.{NoPlace, KeepsDrives}
+use Rattle.extent_groups.specs.Calls.{NoPlace, SameBut, KeepsDrives}
+use Rattle.extent_groups.specs.Stores.{HasMemberOn}
 use Rattle.parity_store.specs.Ways.{bare, row_at}
 use Rattle.parity_store.proofs.others.add_others.Given as goal
 
@@ -11,4 +12,5 @@ invariant-loop-number g l = record {
   same : (x : Place) → held (cells g.D.Drive.units g.D.Drive.lost l.drives) x ≡ held (cells g.D.Drive.units g.D.Drive.lost l.fn.drives) x;
   sum : add (Some l.fn.sum) (total (length l.fn.sum) l.number (bare (length l.fn.sum) (row_of (cells g.D.Drive.units g.D.Drive.lost l.fn.drives) (row_at l.groups l.others.group l.others.offset)) l.others.first l.others.second)) ≡ Some l.sum;
   touched : KeepsDrives g.D.Drive.units g.D.Drive.lost g.D.Drive.failures NoPlace l.fn.drives l.drives;
+  elsewhere : SameBut (HasMemberOn l.groups l.others.group) l.fn.drives l.drives;
 }

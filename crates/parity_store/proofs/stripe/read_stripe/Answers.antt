@@ -1,8 +1,10 @@
-use Rattle.std.proofs.Common.{length, sym, ◌∙◌, ap, subst}
+use Rattle.std.proofs.Common.{◌≡◌, ℕ, length, sym, ◌∙◌, ap, subst}
 use Rattle.std.specs.Prelude.{replicate}
 use Rattle.extent_groups.specs.Cells.{cells}
 use Rattle.extent_groups.specs.Calls.{AreSized}
 use Rattle.extent_groups.proofs.DriveCalls.{keeps_trans, keeps_place, keeps_sizes}
+use Rattle.extent_groups.specs.Stores.{HasMemberOn}
+use Rattle.extent_groups.proofs.Elsewhere.{same_trans, same_more, row_drive}
 use Rattle.parity_store.specs.Ways.{row_at}
 use Rattle.parity_store.proofs.Stripes.{rebuilt, from_zeros}
 use Rattle.parity_store.proofs.stripe.read_stripe.Goals as goal
@@ -23,3 +25,17 @@ returns-clause-unit g c =
 
 pub returns-clause-touched : goal.returns-clause-touched
 returns-clause-touched g c = keeps_trans c.read_place.ensures.drives c.add_others.ensures.touched
+
+pub returns-then-read_place-clause-elsewhere : goal.returns-then-read_place-clause-elsewhere
+returns-then-read_place-clause-elsewhere g c =
+    same_more c.args.drives.now c.read_place.new.drives
+    (λ d e. subst (HasMemberOn c.args.groups.now c.args.group) (sym e) (row_drive c.args.groups.now c.args.group c.args.at.now.offset c.args.at.now.member c.place-home.result c.place-home.ensures.place))
+    c.read_place.ensures.others
+
+pub returns-clause-elsewhere : goal.returns-clause-elsewhere
+returns-clause-elsewhere g c =
+    same_trans c.args.drives.now c.read_place.new.drives c.add_others.new.drives
+    (same_more c.args.drives.now c.read_place.new.drives
+    (λ d e. subst (HasMemberOn c.args.groups.now c.args.group) (sym e) (row_drive c.args.groups.now c.args.group c.args.at.now.offset c.args.at.now.member c.place-home.result c.place-home.ensures.place))
+    c.read_place.ensures.others)
+    c.add_others.ensures.elsewhere
