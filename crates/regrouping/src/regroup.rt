@@ -1,5 +1,5 @@
 //! One extent after another, by a plan.
-ghost use Rattle.std.specs.Prelude.{◌≡◌, ◌+◌, ◌<◌, ◌≤◌, IfOk, OnErr, IfSome, length};
+ghost use Rattle.std.specs.Prelude.{◌≡◌, ◌+◌, ◌<◌, ◌≤◌, Bool, IfOk, IfSome, List, OnErr};
 ghost use Rattle.array_model.specs.Represents.{Represents};
 ghost use Rattle.array_model.specs.Views.{SameSizes, IsWhole};
 ghost use Rattle.flat_machine.specs.Flat.{Flat};
@@ -54,6 +54,7 @@ fn plan_balance(world: &World) -> Option<Shift>
 }
 
 fn plan_rebuild(world: &World, drive: u8) -> Option<Shift>
+    requires { drive < 16 }
     ensures plan { (lost : List Bool) × AreLostOf world.now.array.parts lost × IsRebuild world.now.array.parts.owners world.now.array.parts.groups lost drive result }
     ensures whole { IsWhole world.now.array }
 {

@@ -106,9 +106,10 @@ impl<D: Drive, C: Hold> Array<D, C> {
         &self.parts.extents
     }
 
-    /// How many drives there are, lost ones too.
+    /// How many drives there are, lost ones too: 3 to 16.
     pub fn drive_count(&self) -> u8
-        ensures { result ≡ length self.now.parts.drives }
+        ensures count { result ≡ length self.now.parts.drives }
+        ensures most { result ≤ 16 }
     {
         self.parts.drives.len() as u8
     }

@@ -9,7 +9,7 @@ pub returns-in-Ok-clause-flat : goal.returns-in-Ok-clause-flat
 returns-in-Ok-clause-flat g c F shows =
     let lost = g.D.Drive.lost c.args.drive in
     let failures = g.D.Drive.failures c.args.drive in
-    let count = c.drive_count-number.ensures in
+    let count = c.drive_count-number.ensures.count in
     let few = c.if-number-ge-DRIVES.false in
     let room : length c.args.self.now.parts.drives < 16 = omega (arith, count, few) in
     let case = add_case F c.args.self.now shows room in (

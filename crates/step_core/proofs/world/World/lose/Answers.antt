@@ -13,6 +13,6 @@ returns-clause-flat c F rep =
     let v = c.args.self.now in
     let p = c.lose.new.self.parts in
     let array : c.self.inside.array ≡ v.array = ap (λ (w : WorldView). w.array) c.self.view_is in
-    let inside : d < length v.array.parts.drives = subst (λ (a : ArrayView). d < length a.parts.drives) array (subst (λ n. d < n) c.drive_count.ensures c.if-drive-drive_count.false) in
+    let inside : d < length v.array.parts.drives = subst (λ (a : ArrayView). d < length a.parts.drives) array (subst (λ n. d < n) c.drive_count.ensures.count c.if-drive-drive_count.false) in
     as_world (λ G. LoseCase F d (LostDrive d) G) _ (record { array = with_parts v.array p; hands = v.hands }) (search rules)
     (lose_world v F d p inside rep (subst (λ (a : ArrayView). WasLost a.parts p d) array c.lose.ensures.lost))
