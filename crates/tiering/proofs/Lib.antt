@@ -1,3 +1,5 @@
 pub mod Placings
+pub mod Emitting
+pub mod Marks
 pub mod Counts
 pub mod Standing

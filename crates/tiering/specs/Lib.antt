@@ -1,5 +1,6 @@
 pub mod Tiered
 pub mod Placing
 pub mod Steps
+pub mod Marking
 pub mod Stands
 pub mod Inside

@@ -3,9 +3,11 @@
 #![tactic(auto)]
 
 mod asks;
+mod notes;
 mod outcome;
 mod place;
 mod plans;
+mod put;
 mod tiers;
 mod write;
 

@@ -8,13 +8,11 @@ ghost use Rattle.migrator.specs.First.{IsFirst};
 ghost use Rattle.tiering.specs.Inside.{IsFreeHere};
 ghost use Rattle.tiering.specs.Placing.{Fresh};
 ghost use Rattle.tiering.specs.Stands.{StandsFor};
-ghost use Rattle.tiering.specs.Steps.{IsFreeMirror, PutStops, TierCase, TierStops, WritesAt, WritesIn};
+ghost use Rattle.tiering.specs.Steps.{IsFreeMirror, PutStops, TierCase, TierStops, WritesIn};
 ghost use Rattle.tiering.specs.Steps as t;
 ghost use Rattle.tiering.specs.Tiered.{Tiered};
 
 use crate::asks::Running;
-use crate::place::place;
-use crate::tiers::note_write;
 use crate::{Outcome, Tiers};
 use migrator::first_mirror;
 use std::alloc::{AllocError, Global};
@@ -38,7 +36,7 @@ impl Tiers {
         ensures room { SameSizes self.old.world.array self.new.world.array }
     {
         if let Some(slot) = self.free_mirror() {
-            return self.write_at(alloc, worker, block, slot, payload);
+            return self.put(alloc, worker, slot, block, Some(payload));
         }
         match self.demote(alloc, worker) {
             Ok(_) => self.write_behind(alloc, worker, block, payload),
@@ -63,34 +61,8 @@ impl Tiers {
         ensures room { SameSizes self.old.world.array self.new.world.array }
     {
         match self.free_mirror() {
-            Some(slot) => self.write_at(alloc, worker, block, slot, payload),
+            Some(slot) => self.put(alloc, worker, slot, block, Some(payload)),
             None => Ok(Outcome::NoRoom),
-        }
-    }
-
-    // Writes the block into a slot, and notes the write.
-    fn write_at(
-        &mut self,
-        alloc: Global,
-        worker: u8,
-        block: u32,
-        slot: u16,
-        payload: &[u8],
-    ) -> Result<Outcome, AllocError>
-        requires block { block < self.old.world.array.parts.groups.blocks }
-        requires payload { length payload.now ≡ self.old.world.array.parts.groups.payload }
-        ensures ok { IfOk result (λ outcome. (T : Tiered) → StandsFor self.old T
-            → (U : Tiered) × WritesAt T worker block (Payload payload.now) slot outcome U × StandsFor self.new U) }
-        ensures err { OnErr result ((T : Tiered) → StandsFor self.old T
-            → (U : Tiered) × PutStops T worker (Fresh (Payload payload.now)) U × StandsFor self.new U) }
-        ensures room { SameSizes self.old.world.array self.new.world.array }
-    {
-        match place(&mut self.world, alloc, worker, slot, block, Some(payload)) {
-            Ok(outcome) => {
-                note_write(&mut self.recency, block, &outcome);
-                Ok(outcome)
-            }
-            Err(_) => Err(AllocError),
         }
     }
 

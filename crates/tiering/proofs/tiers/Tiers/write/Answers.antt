@@ -4,10 +4,10 @@ use Rattle.flat_machine.specs.Flat.{Payload}
 
 pub returns-in-Some-clause-ok : goal.returns-in-Some-clause-ok
 returns-in-Some-clause-ok c =
-    writes_here c.args.self.now c.write_at.new.self c.args.worker c.args.block c.in-Some.slot (Payload c.args.payload.now) c.write_at.result c.in-Some.ensures c.write_at.ensures.ok
+    writes_here c.args.self.now c.put.new.self c.args.worker c.args.block c.in-Some.slot (Payload c.args.payload.now) c.put.result c.in-Some.ensures c.put.ensures.ok
 
 pub returns-in-Some-clause-err : goal.returns-in-Some-clause-err
-returns-in-Some-clause-err c = stops_here c.args.self.now c.write_at.new.self c.args.worker c.args.block (Payload c.args.payload.now) c.write_at.result c.write_at.ensures.err
+returns-in-Some-clause-err c = stops_here c.args.self.now c.put.new.self c.args.worker c.args.block (Payload c.args.payload.now) c.put.result c.put.ensures.err
 
 pub returns-in-Ok-clause-ok : goal.returns-in-Ok-clause-ok
 returns-in-Ok-clause-ok c =
