@@ -163,9 +163,10 @@ place_emits F G w s b what (outcome.Refused k) all case = place_refused F G w s 
 place_emits F G w s b what outcome.NoRoom all case = alike_more F case.0 G (alike_left F case.0 case.1.2) (alike_same case.0 G case.2)
 place_emits F G w s b what outcome.Nothing all case = absurd case
 
--- a step that emits no record and changes no group
+-- a step that emits no record, changes no group and frees no slot
 abbrev pub IsCalm : FlatStep → Type 0
 IsCalm (step.Commit w s b) = ⊥
+IsCalm (step.Release w s) = ⊥
 IsCalm (step.Make class members) = ⊥
 IsCalm _ = Unit {0}
 
@@ -173,8 +174,6 @@ pub calm_alike : (F G : Flat) (taken : FlatStep) (answer : FlatAnswer) → IsCal
 calm_alike F G taken (Refused k) calm case = alike_refused F G taken k case
 calm_alike F G (step.Claim w s) (step.Claimed t) calm case = alike_claimed F G w s t case
 calm_alike F G (step.Claim w s) (step.Taken t) calm case = alike_left F G case.2
-calm_alike F G (step.Release w s) (Released t) calm case = alike_released F G w s t case
-calm_alike F G (step.Release w s) (step.NotHeld t) calm case = alike_left F G case.2
 calm_alike F G (step.Fill w s x) (step.Filled t) calm case = record { groups = ap (λ (x : Flat). x.groups) case.3.same; emitted = ap (λ (x : Flat). x.emitted) case.3.same }
 calm_alike F G (step.Fill w s x) (step.NotHeld t) calm case = alike_left F G case.2
 calm_alike F G (step.Copy w s b) (step.Copied t) calm case = record { groups = ap (λ (x : Flat). x.groups) case.1.6.same; emitted = ap (λ (x : Flat). x.emitted) case.1.6.same }
@@ -184,5 +183,6 @@ calm_alike F G (step.Read b) (step.Found found) calm case = alike_left F G case.
 calm_alike F G (step.ReadAt r) (step.FoundAt seen) calm case = alike_left F G case.3
 calm_alike F G (step.Lose d) (step.LostDrive e) calm case = record { groups = ap (λ (x : Flat). x.groups) case.2.same; emitted = ap (λ (x : Flat). x.emitted) case.2.same }
 calm_alike F G (step.Commit w s b) answer calm case = absurd calm
+calm_alike F G (step.Release w s) answer calm case = absurd calm
 calm_alike F G (step.Make class members) answer calm case = absurd calm
 calm_alike F G _ _ calm case = absurd case

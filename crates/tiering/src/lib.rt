@@ -3,6 +3,7 @@
 #![tactic(auto)]
 
 mod asks;
+mod hints;
 mod notes;
 mod outcome;
 mod place;
@@ -11,5 +12,6 @@ mod put;
 mod tiers;
 mod write;
 
+pub use hints::FreeHints;
 pub use outcome::Outcome;
 pub use tiers::Tiers;

@@ -8,6 +8,7 @@ ghost use Rattle.tiering.specs.Stands.{StandsFor};
 ghost use Rattle.tiering.specs.Steps.{PutStops};
 ghost use Rattle.tiering.specs.Tiered.{Tiered};
 
+use crate::hints::hint_left;
 use crate::notes::{mark_placed, note_put};
 use crate::place::place;
 use crate::{Outcome, Tiers};
@@ -32,8 +33,10 @@ impl Tiers {
             → (U : Tiered) × PutStops T worker (put_of payload.entry) U × StandsFor self.new U) }
         ensures room { SameSizes self.old.world.array self.new.world.array }
     {
+        let left = self.world.array().newest(block);
         match place(&mut self.world, alloc, worker, slot, block, payload) {
             Ok(outcome) => {
+                hint_left(&mut self.hints, left);
                 note_put(&mut self.recency, block, payload, &outcome);
                 mark_placed(
                     &mut self.recency,

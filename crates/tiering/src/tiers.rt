@@ -5,21 +5,26 @@ ghost use Rattle.array_model.specs.Views.{SameSizes};
 ghost use Rattle.flat_machine.specs.Flat.{Flat};
 ghost use Rattle.step_core.specs.Told.{flat_answer};
 ghost use Rattle.tiering.specs.Stands.{StandsFor};
-ghost use Rattle.tiering.specs.Steps.{CommitNoted};
+ghost use Rattle.flat_machine.specs.Steps as f;
+ghost use Rattle.tiering.specs.Steps.{CommitNoted, StepNoted};
 ghost use Rattle.tiering.specs.Tiered.{Tiered, begun};
 
+use crate::FreeHints;
+use crate::hints::hint_made;
 use crate::notes::{mark_answer, mark_stored, note_answer};
 use migrator::{LogEnd, MarkedAges};
 use std::alloc::{AllocError, Global};
-use step_core::{Answer, World};
+use step_core::{Answer, Class, Member, World};
 
 /// A world; the order in which its blocks were last written since the array was made or restarted, those in mirrored groups
-/// marked; and the end of its write log. Whoever commits by the world itself leaves that write out of the order and the marks.
+/// marked; the end of its write log; and which slots may be free. Commits, releases and groups to be made go by the calls here:
+/// by the world itself they leave the order, the marks and the free slots behind. Its other steps may go by the world.
 #[derive(Drop)]
 pub struct Tiers {
     pub world: World,
     pub recency: MarkedAges,
     pub end: LogEnd,
+    pub hints: FreeHints,
 }
 
 impl Tiers {
@@ -32,10 +37,12 @@ impl Tiers {
         world.whole();
         let mut recency = MarkedAges::new(alloc, world.array().shape().blocks)?;
         mark_stored(&mut recency, &world);
+        let hints = FreeHints::new(alloc)?;
         Ok(Tiers {
             world,
             recency,
             end: LogEnd::new(),
+            hints,
         })
     }
 
@@ -61,6 +68,34 @@ impl Tiers {
             block,
             &answer,
         );
+        Ok(answer)
+    }
+
+    /// Gives back a slot that the worker holds.
+    pub fn release(&mut self, worker: u8, slot: u16) -> Answer
+        ensures flat { (T : Tiered) → StandsFor self.old T
+            → (U : Tiered) × StepNoted T (f.Release worker slot) (flat_answer result) U × StandsFor self.new U }
+        ensures room { SameSizes self.old.world.array self.new.world.array }
+    {
+        let answer = self.world.release(worker, slot);
+        self.hints.add(slot);
+        answer
+    }
+
+    /// Makes a group.
+    pub fn make(
+        &mut self,
+        alloc: Global,
+        class: Class,
+        members: &[Member],
+    ) -> Result<Answer, AllocError>
+        ensures ok { IfOk result (λ answer. (T : Tiered) → StandsFor self.old T
+            → (U : Tiered) × StepNoted T (f.Make class members.now) (flat_answer answer) U × StandsFor self.new U) }
+        ensures err { OnErr result (self.new ≡ self.old) }
+        ensures room { SameSizes self.old.world.array self.new.world.array }
+    {
+        let answer = self.world.make(alloc, class, members)?;
+        hint_made(&mut self.hints, &answer);
         Ok(answer)
     }
 }

@@ -1,20 +1,16 @@
 //! Blocks that are written into the mirrored level.
 ghost use Rattle.std.specs.Prelude.{◌≡◌, ℕ, ◌<◌, IfOk, OnErr, Option, length};
 ghost use Rattle.array_model.specs.Views.{SameSizes};
-ghost use Rattle.extent_groups.specs.declared.class.Class.TheVariants.{Mirrored};
-ghost use Rattle.extent_groups.specs.Stores.{IsSlotOf};
 ghost use Rattle.flat_machine.specs.Flat.{Payload};
 ghost use Rattle.migrator.specs.First.{IsFirst};
-ghost use Rattle.tiering.specs.Inside.{IsFreeHere};
 ghost use Rattle.tiering.specs.Placing.{Fresh};
 ghost use Rattle.tiering.specs.Stands.{StandsFor};
 ghost use Rattle.tiering.specs.Steps.{IsFreeMirror, PutStops, TierCase, TierStops, WritesIn};
 ghost use Rattle.tiering.specs.Steps as t;
 ghost use Rattle.tiering.specs.Tiered.{Tiered};
 
-use crate::asks::Running;
+use crate::asks::Mirrors;
 use crate::{Outcome, Tiers};
-use migrator::first_mirror;
 use std::alloc::{AllocError, Global};
 
 impl Tiers {
@@ -67,10 +63,11 @@ impl Tiers {
     }
 
     // The lowest free slot of mirrored groups.
-    fn free_mirror(&self) -> Option<u16>
-        ensures { IsFirst (λ slot. IsSlotOf Mirrored self.now.world.array.parts.groups slot × IsFreeHere self.now.world slot) result }
+    fn free_mirror(&mut self) -> Option<u16>
+        ensures first { (T : Tiered) → StandsFor self.old T → IsFirst (IsFreeMirror T.flat) result × StandsFor self.new T }
+        ensures same { self.new.world ≡ self.old.world }
     {
-        let running = Running { world: &self.world };
-        first_mirror(self.world.array().groups(), &running)
+        let mirrors = Mirrors { world: &self.world };
+        self.hints.first(&mirrors)
     }
 }

@@ -20,5 +20,5 @@ returns-clause-ok c F rep =
     let blocks = c.shape.ensures.of_blocks ∙ ap (λ (a : ArrayView). a.parts.groups.blocks) c.array.ensures in
     let new = c.in_ok-recency.ensures in
     let marked = c.mark_stored.ensures in
-    begins c.args.world F c.mark_stored.new.recency c.new-2.result (marked.order ∙ new.order ∙ ap by_number blocks)
-    (marked.long ∙ ap length new.marks ∙ length-replicate c.shape.result.blocks false ∙ blocks) marked.marks c.new-2.ensures rep
+    begins c.args.world F c.mark_stored.new.recency c.new-3.result c.in_ok-hints.hints (marked.order ∙ new.order ∙ ap by_number blocks)
+    (marked.long ∙ ap length new.marks ∙ length-replicate c.shape.result.blocks false ∙ blocks) marked.marks c.new-3.ensures c.in_ok-hints.ensures rep
