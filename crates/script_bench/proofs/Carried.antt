@@ -1,5 +1,5 @@
 -- A step that the world took is the answer to its command.
-use Rattle.std.proofs.Common.{◌≡◌, ℕ, List, [], ◌∷◌, ◌++◌, codes, slice_index_or, Result, Ok, Err, Option, Some, refl, arith}
+use Rattle.std.proofs.Common.{◌≡◌, ℕ, List, [], ◌∷◌, ◌++◌, codes, slice_index_or, Result, Ok, Err, Option, Some, refl, subst, arith}
 use Rattle.std.specs.Prelude.{OnOk}
 use Rattle.map_join.specs.declared.records.Record.{Record}
 use Rattle.map_join.specs.Record.{record_at}
@@ -9,11 +9,12 @@ use Rattle.flat_machine.specs.Steps.{FlatStep, FlatAnswer}
 use Rattle.flat_machine.specs.Cases.{Case}
 use Rattle.step_core.specs.Views.{WorldView, SameSizes}
 use Rattle.tiering.specs.Tiered.{Tiered}
-use Rattle.tiering.specs.Steps.{TierStep, TierCase, CommitNoted}
+use Rattle.tiering.specs.Steps.{TierStep, TierCase, CommitNoted, StepNoted}
 use Rattle.tiering.specs.Stands.{StandsFor}
 use Rattle.tiering.specs.declared.outcome.Outcome.{Outcome}
 use Rattle.tiering.specs.declared.tiers.Tiers.{Tiers}
-use Rattle.tiering.proofs.Standing.{same_blocks, stands_with}
+use Rattle.tiering.proofs.Emitting.{IsCalm}
+use Rattle.tiering.proofs.Standing.{stands_with}
 use Rattle.step_core.specs.Represents.{Represents}
 use Rattle.script_words.specs.Order.{Order}
 use Rattle.script_words.specs.Order as o
@@ -34,24 +35,41 @@ with_world bench v = record bench { tiers = record bench.tiers { world = v } }
 
 -- a step that was told carries its command out
 pub told_step : {E : Type 0} (r : Result (Unit {0}) E) (before : Bench) (v : WorldView) (order : Order) (step : FlatStep) (answer : FlatAnswer)
-    (old new : List ℕ) → OnOk r (new ≡ old ++ answer_text (asked_version step) answer)
+    (old new : List ℕ) → IsCalm step → OnOk r (new ≡ old ++ answer_text (asked_version step) answer)
     → ((P : Position) → StandsAt before P → Took P.tiers.flat step answer v)
     → SameSizes before.tiers.world.array v.array
     → ((P : Position) (text : List ℕ) (t : State) → Steps P step text t → Answers (Some P) order text t)
     → OnOk r (Carries before (with_world before v) order old new)
-told_step (Ok u) before v order step answer old new ok takes same answers = λ P stands.
+told_step (Ok u) before v order step answer old new other ok takes same answers = λ P stands.
     let took = takes P stands in record {
       text = answer_text (asked_version step) answer;
       next = Some (with_flat P took.0);
       answers = answers P (answer_text (asked_version step) answer) (Some (with_flat P took.0))
           (record { answer = answer; next = took.0; case = took.1; text_is = refl; state_is = refl });
       stands = record {
-        tiers = stands_with before.tiers v P.tiers took.0 stands.tiers took.2 (same_blocks before.tiers.world v P.tiers.flat took.0 stands.tiers.world took.2 same);
+        tiers = stands_with before.tiers v P.tiers took.0 step answer other stands.tiers took.2 took.1;
         maps = stands.maps;
       };
       out = ok;
     }
-told_step (Err e) before v order step answer old new ok takes same answers = tt
+told_step (Err e) before v order step answer old new other ok takes same answers = tt
+
+-- a step that was told, by a call that notes what it leaves
+pub told_noted : {E : Type 0} (r : Result (Unit {0}) E) (before : Bench) (u : Tiers) (order : Order) (step : FlatStep) (answer : FlatAnswer)
+    (old new : List ℕ) → OnOk r (new ≡ old ++ answer_text (asked_version step) answer)
+    → ((T : Tiered) → StandsFor before.tiers T → (U : Tiered) × StepNoted T step answer U × StandsFor u U)
+    → ((P : Position) (text : List ℕ) (t : State) → Steps P step text t → Answers (Some P) order text t)
+    → OnOk r (Carries before (record before { tiers = u }) order old new)
+told_noted (Ok x) before u order step answer old new ok steps answers = λ P stands.
+    let done = steps P.tiers stands.tiers in record {
+      text = answer_text (asked_version step) answer;
+      next = Some (with_flat P done.1.0);
+      answers = answers P (answer_text (asked_version step) answer) (Some (with_flat P done.1.0))
+          (record { answer = answer; next = done.1.0; case = done.1.1; text_is = refl; state_is = refl });
+      stands = record { tiers = subst (StandsFor u) done.1.2 done.2; maps = stands.maps };
+      out = ok;
+    }
+told_noted (Err e) before u order step answer old new ok steps answers = tt
 
 -- a commit that was told
 pub told_commit : {E : Type 0} (r : Result (Unit {0}) E) (before : Bench) (u : Tiers) (worker slot block : ℕ) (answer : FlatAnswer) (old new : List ℕ)

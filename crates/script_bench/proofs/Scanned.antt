@@ -22,7 +22,7 @@ use Rattle.script_bench.proofs.Carried.{with_world}
 use Rattle.tiering.specs.Tiered.{begun}
 use Rattle.tiering.specs.Stands.{StandsFor}
 use Rattle.tiering.specs.declared.tiers.Tiers.{Tiers}
-use Rattle.tiering.proofs.Standing.{stands_with}
+use Rattle.tiering.proofs.Standing.{stands_left as left}
 use Rattle.script_bench.specs.declared.bench.Bench.{Bench}
 
 -- a scan leaves the state, but for drives that failed
@@ -34,7 +34,7 @@ scan_leaves F G (NotTold slot) case = case.leaves
 stands_left : (before : Bench) (after : WorldView) (P : Position) (G : Flat) → StandsAt before P → Represents after G → Leaves P.tiers.flat G
     → StandsAt (with_world before after) (with_flat P G)
 stands_left before after P G stands rep leaves = record {
-  tiers = stands_with before.tiers after P.tiers G stands.tiers rep (ap (λ (x : Flat). x.groups.blocks) leaves.same);
+  tiers = left before.tiers after P.tiers G stands.tiers rep leaves;
   maps = stands.maps;
 }
 

@@ -70,7 +70,7 @@ fn claim(bench: &mut Bench, worker: u8, slot: u16, out: &mut Vec<u8>) -> Result<
 fn release(bench: &mut Bench, worker: u8, slot: u16, out: &mut Vec<u8>) -> Result<(), AllocError>
     ensures { OnOk result (Carries bench.old bench.new (o.Release worker slot) out.old.items out.new.items) }
 {
-    let answer = bench.tiers.world.release(worker, slot);
+    let answer = bench.tiers.release(worker, slot);
     put_answer(out, &answer, 0)
 }
 
@@ -165,7 +165,7 @@ fn make(
     ensures { OnOk result (Carries bench.old bench.new (o.Make class named.now) out.old.items out.new.items) }
 {
     let members = members_of(alloc, named)?;
-    let answer = bench.tiers.world.make(alloc, class, &members)?;
+    let answer = bench.tiers.make(alloc, class, &members)?;
     put_answer(out, &answer, 0)
 }
 

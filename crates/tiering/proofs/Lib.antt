@@ -1,3 +1,7 @@
 pub mod Placings
+pub mod Emitting
+pub mod Freeing
+pub mod Marks
+pub mod Hinted
 pub mod Counts
 pub mod Standing

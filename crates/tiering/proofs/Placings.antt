@@ -33,7 +33,7 @@ or_last false c is = is
 holds_with : (held : ℕ → Holder → Bool) (s : ℕ) (k : Holder) → with_pair held s k s k ≡ true
 holds_with held s k = with_here held s k k ∙ or_last (held s k) (same_holder k k) (itself k)
 
-holds_turned : (held : ℕ → Holder → Bool) (s : ℕ) (j k : Holder) → turned held s j k s k ≡ true
+pub holds_turned : (held : ℕ → Holder → Bool) (s : ℕ) (j k : Holder) → turned held s j k s k ≡ true
 holds_turned held s j k = holds_with (without_pair held s j) s k
 
 -- behind a claim the worker holds the slot

@@ -1,12 +1,20 @@
 -- When a world with what is kept beside it stands for a flat state with the same.
-use Rattle.std.specs.Prelude.{◌≡◌, length}
+use Rattle.std.specs.Prelude.{◌≡◌, ℕ, length}
 use Rattle.array_model.specs.Represents.{Represents}
+use Rattle.array_model.specs.Views.{key_at}
+use Rattle.tiering.specs.Hints.{IsHinted}
+use Rattle.tiering.specs.Marking.{AreMarked}
+use Rattle.tiering.specs.Steps.{IsFreeMirror}
 use Rattle.tiering.specs.Tiered.{Tiered}
 use Rattle.tiering.specs.declared.tiers.Tiers.{Tiers}
 
--- the world stands for the flat state, and the order has a place for each block
+-- the world stands for the flat state; the order has a place for each block, and marks on just those in mirrored groups; and
+-- each free slot of a mirrored group is hinted
 pub record StandsFor (tiers : Tiers) (T : Tiered) : Type 0 where
   pub world : Represents tiers.world T.flat
-  pub order : tiers.recency ≡ T.order
+  pub order : tiers.recency.order ≡ T.order
   pub long : length T.order ≡ T.flat.groups.blocks
   pub end : tiers.end ≡ T.end
+  pub marked : length tiers.recency.marks ≡ T.flat.groups.blocks
+  pub marks : AreMarked tiers.recency.marks T.flat.groups (key_at tiers.world.array)
+  pub hints : (s : ℕ) → IsFreeMirror T.flat s → IsHinted tiers.hints s

@@ -5,7 +5,7 @@ use Rattle.extent_groups.specs.declared.class.Class.TheVariants.{Mirrored}
 use Rattle.extent_groups.specs.Stores.{IsSlotOf}
 use Rattle.flat_machine.specs.Flat.{Flat, Content, Waiting, IsFree}
 use Rattle.flat_machine.specs.Flat as f
-use Rattle.flat_machine.specs.Steps.{FlatAnswer, Committed}
+use Rattle.flat_machine.specs.Steps.{FlatStep, FlatAnswer, Committed}
 use Rattle.flat_machine.specs.Steps as step
 use Rattle.flat_machine.specs.Cases.{Case}
 use Rattle.migrator.specs.Ages.{written, IsOldest}
@@ -168,3 +168,7 @@ pub record CommitNoted (T : Tiered) (w s b : ℕ) (answer : FlatAnswer) (U : Tie
   pub case : Case T.flat (step.Commit w s b) answer U.flat
   pub noted : U.order ≡ order_behind T.order b answer (T.flat.tickets s)
   pub same : U.end ≡ T.end
+
+-- a step of the flat machine by itself, which notes nothing
+abbrev pub StepNoted : Tiered → FlatStep → FlatAnswer → Tiered → Type 0
+StepNoted T taken answer U = (G : Flat) × Case T.flat taken answer G × (U ≡ record T { flat = G })

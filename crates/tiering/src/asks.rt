@@ -2,10 +2,12 @@
 ghost use Rattle.std.specs.Prelude.{◌≡◌, true};
 ghost use Rattle.std.specs.Prelude.{◌↔◌, IsTrue};
 ghost use Rattle.array_model.specs.Views.{key_at};
+ghost use Rattle.extent_groups.specs.declared.class.Class.TheVariants.{Mirrored};
+ghost use Rattle.extent_groups.specs.Stores.{IsSlotOf};
 ghost use Rattle.map_join.specs.Live.{IsLive};
 ghost use Rattle.tiering.specs.Inside.{IsFreeHere};
 
-use extent_groups::SLOTS;
+use extent_groups::{Class, GroupTable, SLOTS};
 use map_join::{Live, Newest, Record};
 use migrator::Free;
 use step_core::World;
@@ -60,6 +62,29 @@ impl<'a> Free for Running<'a> {
     fn is_free(&self, slot: u16) -> bool {
         self.world.is_free(slot)
     }
+}
+
+// The free slots of mirrored groups.
+#[derive(Drop)]
+pub(crate) struct Mirrors<'a> {
+    pub(crate) world: &'a World,
+}
+
+impl<'a> Free for Mirrors<'a> {
+    ghost free = { λ m slot. IsSlotOf Mirrored m.world.now.array.parts.groups slot × IsFreeHere m.world.now slot };
+
+    fn is_free(&self, slot: u16) -> bool {
+        is_mirror(self.world.array().groups(), slot) && self.world.is_free(slot)
+    }
+}
+
+// Whether the slot is one of a mirrored group.
+fn is_mirror(groups: &GroupTable, slot: u16) -> bool
+    ensures { IsTrue result ↔ IsSlotOf Mirrored groups.now slot }
+{
+    let _members = groups.members(slot / SLOTS);
+    groups.class_of(slot / SLOTS) == Some(Class::Mirrored)
+        && slot % SLOTS < groups.slots_of(slot / SLOTS)
 }
 
 // Every slot, held or not.

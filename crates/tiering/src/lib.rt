@@ -3,11 +3,15 @@
 #![tactic(auto)]
 
 mod asks;
+mod hints;
+mod notes;
 mod outcome;
 mod place;
 mod plans;
+mod put;
 mod tiers;
 mod write;
 
+pub use hints::FreeHints;
 pub use outcome::Outcome;
 pub use tiers::Tiers;

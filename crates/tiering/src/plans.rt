@@ -13,7 +13,6 @@ ghost use Rattle.tiering.specs.Steps as t;
 ghost use Rattle.tiering.specs.Tiered.{Tiered};
 
 use crate::asks::{Any, Running};
-use crate::place::place;
 use crate::{Outcome, Tiers};
 use cleaner::{Move, clean_plan, plug_plan};
 use migrator::{LogEnd, first_append};
@@ -46,7 +45,7 @@ impl Tiers {
         ensures room { SameSizes self.old.world.array self.new.world.array }
     {
         match self.plan_plug() {
-            Some(plan) => place(&mut self.world, alloc, worker, plan.to, plan.block, None),
+            Some(plan) => self.put(alloc, worker, plan.to, plan.block, None),
             None => Ok(Outcome::Nothing),
         }
     }
@@ -79,7 +78,7 @@ impl Tiers {
         ensures err { OnErr result ((T : Tiered) → StandsFor self.old T → (U : Tiered) × PutStops T worker Again U × StandsFor self.new U) }
         ensures room { SameSizes self.old.world.array self.new.world.array }
     {
-        match place(&mut self.world, alloc, worker, slot, block, None) {
+        match self.put(alloc, worker, slot, block, None) {
             Ok(outcome) => {
                 note_end(&mut self.end, slot, &outcome);
                 Ok(outcome)
@@ -89,14 +88,14 @@ impl Tiers {
     }
 
     // The block in a mirrored group that was written longest ago.
-    fn oldest_mirrored(&self) -> Option<u32>
-        ensures oldest { IsOldest self.now.recency (IsMirrored self.now.world.array.parts.groups (key_at self.now.world.array)) result }
-        ensures block { MatchOption result (Unit {0}) (λ block. block < self.now.world.array.parts.groups.blocks) }
+    fn oldest_mirrored(&mut self) -> Option<u32>
+        ensures oldest { (T : Tiered) → StandsFor self.old T → IsOldest T.order (IsMirrored T.flat.groups (key_at self.old.world.array)) result }
+        ensures block { MatchOption result (Unit {0}) (λ block. block < self.old.world.array.parts.groups.blocks) }
+        ensures same { self.new ≡ self.old }
     {
         self.world.whole();
-        let running = Running { world: &self.world };
-        self.recency
-            .next_to_demote(self.world.array().groups(), &running)
+        let found = self.recency.oldest_marked();
+        below(found, self.world.array().shape().blocks)
     }
 
     // The first free slot where the log goes on.
@@ -135,5 +134,16 @@ fn note_end(end: &mut LogEnd, slot: u16, outcome: &Outcome)
 {
     if let Outcome::Placed(_) = outcome {
         end.appended(slot);
+    }
+}
+
+// The block, where it is one of so many.
+fn below(block: Option<u32>, blocks: u32) -> Option<u32>
+    ensures within { MatchOption result (Unit {0}) (λ block. block < blocks) }
+    ensures same { MatchOption block (Unit {0}) (λ block. block < blocks) → result ≡ block }
+{
+    match block {
+        Some(block) if block < blocks => Some(block),
+        _ => None,
     }
 }

@@ -1,27 +1,30 @@
 //! A world, and what is kept beside it for the plans.
-ghost use Rattle.std.specs.Prelude.{◌≡◌, ◌<◌, IfOk, OnErr, length};
+ghost use Rattle.std.specs.Prelude.{◌≡◌, ◌<◌, IfOk, OnErr};
 ghost use Rattle.array_model.specs.Represents.{Represents};
 ghost use Rattle.array_model.specs.Views.{SameSizes};
 ghost use Rattle.flat_machine.specs.Flat.{Flat};
-ghost use Rattle.migrator.specs.Ages.{written};
 ghost use Rattle.step_core.specs.Told.{flat_answer};
 ghost use Rattle.tiering.specs.Stands.{StandsFor};
-ghost use Rattle.tiering.specs.Inside.{order_told};
-ghost use Rattle.tiering.specs.Steps.{CommitNoted, order_after};
+ghost use Rattle.flat_machine.specs.Steps as f;
+ghost use Rattle.tiering.specs.Steps.{CommitNoted, StepNoted};
 ghost use Rattle.tiering.specs.Tiered.{Tiered, begun};
 
-use crate::Outcome;
-use migrator::{LogEnd, Recency};
+use crate::FreeHints;
+use crate::hints::hint_made;
+use crate::notes::{mark_answer, mark_stored, note_answer};
+use migrator::{LogEnd, MarkedAges};
 use std::alloc::{AllocError, Global};
-use step_core::{Answer, World};
+use step_core::{Answer, Class, Member, World};
 
-/// A world; the order in which its blocks were last written since the array was made or restarted; and the end of its
-/// write log. Whoever commits by the world itself leaves that write out of the order.
+/// A world; the order in which its blocks were last written since the array was made or restarted, those in mirrored groups
+/// marked; the end of its write log; and which slots may be free. Commits, releases and groups to be made go by the calls here:
+/// by the world itself they leave the order, the marks and the free slots behind. Its other steps may go by the world.
 #[derive(Drop)]
 pub struct Tiers {
     pub world: World,
-    pub recency: Recency,
+    pub recency: MarkedAges,
     pub end: LogEnd,
+    pub hints: FreeHints,
 }
 
 impl Tiers {
@@ -32,11 +35,14 @@ impl Tiers {
         ensures ok { IfOk result (λ tiers. (F : Flat) → Represents world F → StandsFor tiers (begun F)) }
     {
         world.whole();
-        let recency = Recency::new(alloc, world.array().shape().blocks)?;
+        let mut recency = MarkedAges::new(alloc, world.array().shape().blocks)?;
+        mark_stored(&mut recency, &world);
+        let hints = FreeHints::new(alloc)?;
         Ok(Tiers {
             world,
             recency,
             end: LogEnd::new(),
+            hints,
         })
     }
 
@@ -56,38 +62,40 @@ impl Tiers {
     {
         let answer = self.world.commit(alloc, worker, slot, block)?;
         note_answer(&mut self.recency, block, &answer);
+        mark_answer(
+            &mut self.recency,
+            self.world.array().groups(),
+            block,
+            &answer,
+        );
         Ok(answer)
     }
-}
 
-// Notes a commit of a fresh payload, whose record has no hop.
-fn note_answer(recency: &mut Recency, block: u32, answer: &Answer)
-    ensures order { block < length recency.old → recency.new ≡ order_told recency.old block answer.now }
-    ensures long { length recency.new ≡ length recency.old }
-{
-    if let Answer::Committed(record) = answer {
-        if record.hop == 0 {
-            note(recency, block);
-        }
+    /// Gives back a slot that the worker holds.
+    pub fn release(&mut self, worker: u8, slot: u16) -> Answer
+        ensures flat { (T : Tiered) → StandsFor self.old T
+            → (U : Tiered) × StepNoted T (f.Release worker slot) (flat_answer result) U × StandsFor self.new U }
+        ensures room { SameSizes self.old.world.array self.new.world.array }
+    {
+        let answer = self.world.release(worker, slot);
+        self.hints.add(slot);
+        answer
     }
-}
 
-// Notes a write by what came of it.
-pub(crate) fn note_write(recency: &mut Recency, block: u32, outcome: &Outcome)
-    ensures order { block < length recency.old → recency.new ≡ order_after recency.old block outcome.now }
-    ensures long { length recency.new ≡ length recency.old }
-{
-    if let Outcome::Placed(_) = outcome {
-        note(recency, block);
-    }
-}
-
-// Notes a write of a block that is there.
-fn note(recency: &mut Recency, block: u32)
-    ensures order { block < length recency.old → recency.new ≡ written recency.old block }
-    ensures long { length recency.new ≡ length recency.old }
-{
-    if (block as usize) < recency.len() {
-        recency.wrote(block);
+    /// Makes a group.
+    pub fn make(
+        &mut self,
+        alloc: Global,
+        class: Class,
+        members: &[Member],
+    ) -> Result<Answer, AllocError>
+        ensures ok { IfOk result (λ answer. (T : Tiered) → StandsFor self.old T
+            → (U : Tiered) × StepNoted T (f.Make class members.now) (flat_answer answer) U × StandsFor self.new U) }
+        ensures err { OnErr result (self.new ≡ self.old) }
+        ensures room { SameSizes self.old.world.array self.new.world.array }
+    {
+        let answer = self.world.make(alloc, class, members)?;
+        hint_made(&mut self.hints, &answer);
+        Ok(answer)
     }
 }

@@ -1,22 +1,16 @@
 //! Blocks that are written into the mirrored level.
 ghost use Rattle.std.specs.Prelude.{◌≡◌, ℕ, ◌<◌, IfOk, OnErr, Option, length};
 ghost use Rattle.array_model.specs.Views.{SameSizes};
-ghost use Rattle.extent_groups.specs.declared.class.Class.TheVariants.{Mirrored};
-ghost use Rattle.extent_groups.specs.Stores.{IsSlotOf};
 ghost use Rattle.flat_machine.specs.Flat.{Payload};
 ghost use Rattle.migrator.specs.First.{IsFirst};
-ghost use Rattle.tiering.specs.Inside.{IsFreeHere};
 ghost use Rattle.tiering.specs.Placing.{Fresh};
 ghost use Rattle.tiering.specs.Stands.{StandsFor};
-ghost use Rattle.tiering.specs.Steps.{IsFreeMirror, PutStops, TierCase, TierStops, WritesAt, WritesIn};
+ghost use Rattle.tiering.specs.Steps.{IsFreeMirror, PutStops, TierCase, TierStops, WritesIn};
 ghost use Rattle.tiering.specs.Steps as t;
 ghost use Rattle.tiering.specs.Tiered.{Tiered};
 
-use crate::asks::Running;
-use crate::place::place;
-use crate::tiers::note_write;
+use crate::asks::Mirrors;
 use crate::{Outcome, Tiers};
-use migrator::first_mirror;
 use std::alloc::{AllocError, Global};
 
 impl Tiers {
@@ -38,7 +32,7 @@ impl Tiers {
         ensures room { SameSizes self.old.world.array self.new.world.array }
     {
         if let Some(slot) = self.free_mirror() {
-            return self.write_at(alloc, worker, block, slot, payload);
+            return self.put(alloc, worker, slot, block, Some(payload));
         }
         match self.demote(alloc, worker) {
             Ok(_) => self.write_behind(alloc, worker, block, payload),
@@ -63,42 +57,17 @@ impl Tiers {
         ensures room { SameSizes self.old.world.array self.new.world.array }
     {
         match self.free_mirror() {
-            Some(slot) => self.write_at(alloc, worker, block, slot, payload),
+            Some(slot) => self.put(alloc, worker, slot, block, Some(payload)),
             None => Ok(Outcome::NoRoom),
         }
     }
 
-    // Writes the block into a slot, and notes the write.
-    fn write_at(
-        &mut self,
-        alloc: Global,
-        worker: u8,
-        block: u32,
-        slot: u16,
-        payload: &[u8],
-    ) -> Result<Outcome, AllocError>
-        requires block { block < self.old.world.array.parts.groups.blocks }
-        requires payload { length payload.now ≡ self.old.world.array.parts.groups.payload }
-        ensures ok { IfOk result (λ outcome. (T : Tiered) → StandsFor self.old T
-            → (U : Tiered) × WritesAt T worker block (Payload payload.now) slot outcome U × StandsFor self.new U) }
-        ensures err { OnErr result ((T : Tiered) → StandsFor self.old T
-            → (U : Tiered) × PutStops T worker (Fresh (Payload payload.now)) U × StandsFor self.new U) }
-        ensures room { SameSizes self.old.world.array self.new.world.array }
-    {
-        match place(&mut self.world, alloc, worker, slot, block, Some(payload)) {
-            Ok(outcome) => {
-                note_write(&mut self.recency, block, &outcome);
-                Ok(outcome)
-            }
-            Err(_) => Err(AllocError),
-        }
-    }
-
     // The lowest free slot of mirrored groups.
-    fn free_mirror(&self) -> Option<u16>
-        ensures { IsFirst (λ slot. IsSlotOf Mirrored self.now.world.array.parts.groups slot × IsFreeHere self.now.world slot) result }
+    fn free_mirror(&mut self) -> Option<u16>
+        ensures first { (T : Tiered) → StandsFor self.old T → IsFirst (IsFreeMirror T.flat) result × StandsFor self.new T }
+        ensures same { self.new.world ≡ self.old.world }
     {
-        let running = Running { world: &self.world };
-        first_mirror(self.world.array().groups(), &running)
+        let mirrors = Mirrors { world: &self.world };
+        self.hints.first(&mirrors)
     }
 }

@@ -6,5 +6,5 @@ use Rattle.script_bench.proofs.carry.claim.Goals as goal
 pub returns : goal.returns
 returns c =
     told_step c.put_answer.result c.args.bench.now _ (o.Claim c.args.worker c.args.slot)
-    (s.Claim c.args.worker c.args.slot) _ _ _ c.put_answer.ensures
+    (s.Claim c.args.worker c.args.slot) _ _ _ tt c.put_answer.ensures
     (λ P stands. c.claim-answer.ensures.flat P.tiers.flat stands.tiers.world) c.claim-answer.ensures.room (λ P text t steps. steps)

@@ -6,5 +6,5 @@ use Rattle.script_bench.proofs.carry.copy.Goals as goal
 pub returns : goal.returns
 returns c =
     told_step c.put_answer.result c.args.bench.now _ (o.Copy c.args.worker c.args.slot c.args.block)
-    (s.Copy c.args.worker c.args.slot c.args.block) _ _ _ c.put_answer.ensures
+    (s.Copy c.args.worker c.args.slot c.args.block) _ _ _ tt c.put_answer.ensures
     (λ P stands. c.in_ok-answer.ensures.ok P.tiers.flat stands.tiers.world) c.in_ok-answer.ensures.room (λ P text t steps. steps)

@@ -2,11 +2,11 @@ use Rattle.std.proofs.Common.{◌∙◌}
 use Rattle.script_bench.specs.Answers.{members_named}
 use Rattle.flat_machine.specs.Steps as s
 use Rattle.script_words.specs.Order as o
-use Rattle.script_bench.proofs.Carried.{told_step}
+use Rattle.script_bench.proofs.Carried.{told_noted}
 use Rattle.script_bench.proofs.carry.make.Goals as goal
 
 pub returns : goal.returns
 returns c =
-    told_step c.put_answer.result c.args.bench.now _ (o.Make c.args.class c.args.named.now)
+    told_noted c.put_answer.result c.args.bench.now _ (o.Make c.args.class c.args.named.now)
     (s.Make c.args.class (members_named c.args.named.now)) _ _ _ c.put_answer.ensures
-    (λ P stands. rw (c.deref.ensures.value ∙ c.in_ok-members.ensures) at (c.in_ok-answer.ensures.ok P.tiers.flat stands.tiers.world)) c.in_ok-answer.ensures.room (λ P text t steps. steps)
+    (rw (c.deref.ensures.value ∙ c.in_ok-members.ensures) at c.in_ok-answer.ensures.ok) (λ P text t steps. steps)

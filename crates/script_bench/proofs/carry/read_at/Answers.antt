@@ -6,5 +6,5 @@ use Rattle.script_bench.proofs.carry.read_at.Goals as goal
 pub returns : goal.returns
 returns c =
     told_step c.put_answer.result c.args.bench.now _ (o.At c.args.record)
-    (s.ReadAt c.args.record) _ _ _ c.put_answer.ensures
+    (s.ReadAt c.args.record) _ _ _ tt c.put_answer.ensures
     (λ P stands. c.in_ok-answer.ensures.ok P.tiers.flat stands.tiers.world) c.in_ok-answer.ensures.room (λ P text t steps. steps)

@@ -1,10 +1,9 @@
 use Rattle.flat_machine.specs.Steps as s
 use Rattle.script_words.specs.Order as o
-use Rattle.script_bench.proofs.Carried.{told_step}
+use Rattle.script_bench.proofs.Carried.{told_noted}
 use Rattle.script_bench.proofs.carry.release.Goals as goal
 
 pub returns : goal.returns
 returns c =
-    told_step c.put_answer.result c.args.bench.now _ (o.Release c.args.worker c.args.slot)
-    (s.Release c.args.worker c.args.slot) _ _ _ c.put_answer.ensures
-    (λ P stands. c.release-answer.ensures.flat P.tiers.flat stands.tiers.world) c.release-answer.ensures.room (λ P text t steps. steps)
+    told_noted c.put_answer.result c.args.bench.now _ (o.Release c.args.worker c.args.slot)
+    (s.Release c.args.worker c.args.slot) _ _ _ c.put_answer.ensures c.release-answer.ensures.flat (λ P text t steps. steps)

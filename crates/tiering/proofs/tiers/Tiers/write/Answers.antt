@@ -4,17 +4,22 @@ use Rattle.flat_machine.specs.Flat.{Payload}
 
 pub returns-in-Some-clause-ok : goal.returns-in-Some-clause-ok
 returns-in-Some-clause-ok c =
-    writes_here c.args.self.now c.write_at.new.self c.args.worker c.args.block c.in-Some.slot (Payload c.args.payload.now) c.write_at.result c.in-Some.ensures c.write_at.ensures.ok
+    let a = c.args in
+    writes_here a.self.now c.free_mirror.new.self c.put.new.self a.worker a.block c.in-Some.slot (Payload a.payload.now) c.put.result c.in-Some.ensures.first c.put.ensures.ok
 
 pub returns-in-Some-clause-err : goal.returns-in-Some-clause-err
-returns-in-Some-clause-err c = stops_here c.args.self.now c.write_at.new.self c.args.worker c.args.block (Payload c.args.payload.now) c.write_at.result c.write_at.ensures.err
+returns-in-Some-clause-err c =
+    let a = c.args in
+    stops_here a.self.now c.free_mirror.new.self c.put.new.self a.worker a.block c.in-Some.slot (Payload a.payload.now) c.put.result c.in-Some.ensures.first c.put.ensures.err
 
 pub returns-in-Ok-clause-ok : goal.returns-in-Ok-clause-ok
 returns-in-Ok-clause-ok c =
-    writes_behind c.args.self.now c.demote.new.self c.write_behind.new.self c.args.worker c.args.block (Payload c.args.payload.now) c.in-Ok.field-0 c.write_behind.result
-    c.in_default.ensures c.in-Ok.ensures.ok c.write_behind.ensures.ok
+    let a = c.args in
+    writes_behind a.self.now c.free_mirror.new.self c.demote.new.self c.write_behind.new.self a.worker a.block (Payload a.payload.now) c.in-Ok.field-0 c.write_behind.result
+    c.in_default.ensures.first c.in-Ok.ensures.ok c.write_behind.ensures.ok
 
 pub returns-in-Ok-clause-err : goal.returns-in-Ok-clause-err
 returns-in-Ok-clause-err c =
-    stops_behind c.args.self.now c.demote.new.self c.write_behind.new.self c.args.worker c.args.block (Payload c.args.payload.now) c.in-Ok.field-0 c.write_behind.result
-    c.in-Ok.ensures.ok c.write_behind.ensures.err
+    let a = c.args in
+    stops_behind a.self.now c.free_mirror.new.self c.demote.new.self c.write_behind.new.self a.worker a.block (Payload a.payload.now) c.in-Ok.field-0 c.write_behind.result
+    c.in_default.ensures.first c.in-Ok.ensures.ok c.write_behind.ensures.err

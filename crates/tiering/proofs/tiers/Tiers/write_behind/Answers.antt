@@ -4,7 +4,10 @@ use Rattle.flat_machine.specs.Flat.{Payload}
 
 pub returns-in-Some-clause-ok : goal.returns-in-Some-clause-ok
 returns-in-Some-clause-ok c =
-    finds_again c.args.self.now c.write_at.new.self c.args.worker c.args.block c.in-Some.slot (Payload c.args.payload.now) c.write_at.result c.in-Some.ensures c.write_at.ensures.ok
+    let a = c.args in
+    finds_again a.self.now c.free_mirror.new.self c.put.new.self a.worker a.block c.in-Some.slot (Payload a.payload.now) c.put.result c.in-Some.ensures.first c.put.ensures.ok
 
 pub returns-in-None-clause-ok : goal.returns-in-None-clause-ok
-returns-in-None-clause-ok c = finds_none c.args.self.now c.args.worker c.args.block (Payload c.args.payload.now) c.in-None.ensures
+returns-in-None-clause-ok c =
+    let a = c.args in
+    finds_none a.self.now c.free_mirror.new.self a.worker a.block (Payload a.payload.now) c.in-None.ensures.first
