@@ -3,3 +3,4 @@ pub mod Carried
 pub mod Ranges
 pub mod Said
 pub mod Scanned
+pub mod Regrouped

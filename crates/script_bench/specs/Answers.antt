@@ -17,10 +17,12 @@ use Rattle.tiering.specs.Tiered.{Tiered, begun}
 use Rattle.tiering.specs.Steps.{TierStep, TierCase, CommitNoted}
 use Rattle.tiering.specs.Steps as tier
 use Rattle.tiering.specs.declared.outcome.Outcome.{Outcome}
+use Rattle.regrouping.specs.declared.outcome.Regrouped.{Regrouped}
+use Rattle.regrouping.specs.Regrouping.{BalanceCase, RebuildCase}
 use Rattle.script_words.specs.Order.{Order}
 use Rattle.script_words.specs.Order as o
 use Rattle.script_bench.specs.State.{Position, State, nothing_taken}
-use Rattle.script_bench.specs.Text.{answer_text, asked_version, outcome_text, difference_text, fault_text, listing, record_text}
+use Rattle.script_bench.specs.Text.{answer_text, asked_version, outcome_text, regrouped_text, difference_text, fault_text, listing, record_text}
 use Rattle.script_words.specs.declared.command.Named.{Named}
 
 -- the same position with another flat state
@@ -50,6 +52,14 @@ pub record TierSteps (P : Position) (step : TierStep) (text : List ℕ) (t : Sta
   pub case : TierCase P.tiers step outcome next
   pub text_is : text ≡ outcome_text outcome
   pub state_is : t ≡ Some (record P { tiers = next })
+
+-- a shift by a plan, and what came of it, as this says; the maps are as they were
+pub record Regroups (P : Position) (comes : Regrouped → Flat → Type 0) (text : List ℕ) (t : State) : Type 0 where
+  pub outcome : Regrouped
+  pub next : Flat
+  pub case : comes outcome next
+  pub text_is : text ≡ regrouped_text outcome
+  pub state_is : t ≡ Some (with_flat P next)
 
 -- the newest record of each block among some records, in the blocks' order
 pub record ShowsMap (records : List Record) (text : List ℕ) : Type 0 where
@@ -168,3 +178,6 @@ Answers (Some P) (o.Write worker block payload) text t = TierSteps P (tier.Write
 Answers (Some P) (o.Demote worker) text t = TierSteps P (tier.Demote worker) text t
 Answers (Some P) (o.Plug worker) text t = TierSteps P (tier.Plug worker) text t
 Answers (Some P) (o.Clean worker) text t = TierSteps P (tier.Clean worker) text t
+Answers (Some P) o.Add text t = Steps P s.AddDrive text t
+Answers (Some P) o.Balance text t = Regroups P (BalanceCase P.tiers.flat) text t
+Answers (Some P) (o.Rebuild drive) text t = Regroups P (RebuildCase P.tiers.flat drive) text t

@@ -9,6 +9,10 @@ use Rattle.flat_machine.specs.Steps as s
 use Rattle.flat_machine.specs.Numbers.{number_of}
 use Rattle.flat_machine.specs.declared.refusal.Refusal.{Refusal}
 use Rattle.flat_machine.specs.declared.refusal.Refusal.TheVariants as refusal
+use Rattle.extent_groups.specs.declared.class.Member.{Member}
+use Rattle.rebalancer.specs.declared.shift.Shift.{Shift}
+use Rattle.regrouping.specs.declared.outcome.Regrouped.{Regrouped}
+use Rattle.regrouping.specs.declared.outcome.Regrouped.TheVariants as regrouped
 use Rattle.tiering.specs.declared.outcome.Outcome.{Outcome}
 use Rattle.tiering.specs.declared.outcome.Outcome.TheVariants as outcome
 use Rattle.header_scan.specs.Numbers.{number_of as fault_number}
@@ -75,6 +79,9 @@ answer_text asked (s.Discarded slot) = codes "discarded " ++ decimal slot
 answer_text asked (s.Found found) = found_text found
 answer_text asked (s.FoundAt seen) = seen_text asked seen
 answer_text asked (s.MadeGroup group) = codes "made " ++ decimal group
+answer_text asked (s.UnmadeGroup group) = codes "unmade " ++ decimal group
+answer_text asked s.MovedExtent = codes "moved"
+answer_text asked (s.AddedDrive drive) = codes "added " ++ decimal drive
 answer_text asked (s.LostDrive drive) = codes "lost " ++ decimal drive
 answer_text asked (s.Refused r) = codes "refused " ++ (decimal (number_of r) ++ detail r)
 
@@ -84,6 +91,19 @@ outcome_text (outcome.Placed r) = answer_text 0 (s.Committed r)
 outcome_text (outcome.Refused k) = answer_text 0 (s.Refused k)
 outcome_text outcome.NoRoom = codes "noroom"
 outcome_text outcome.Nothing = codes "nothing"
+
+-- an extent, and a shift of a group's member onto one
+abbrev pub extent_text : Member → List ℕ
+extent_text m = decimal m.drive ++ (codes "." ++ decimal m.extent)
+
+abbrev pub shift_text : Shift → List ℕ
+shift_text shift = codes "moved " ++ (decimal shift.group ++ (codes " " ++ (decimal shift.member ++ (codes " " ++ extent_text shift.to))))
+
+-- what comes of a shift by a plan
+abbrev pub regrouped_text : Regrouped → List ℕ
+regrouped_text (regrouped.Moved shift) = shift_text shift
+regrouped_text (regrouped.Refused k) = answer_text 0 (s.Refused k)
+regrouped_text regrouped.Nothing = codes "nothing"
 
 -- the lowest block of which two maps differ, if they do
 abbrev pub difference_text : Option ℕ → List ℕ

@@ -11,7 +11,7 @@ use crate::bench::Bench;
 use crate::limits::members_of;
 use crate::maps::{merge, same, show, take};
 use crate::scans::scan;
-use crate::texts::{put_answer, put_listing, put_outcome};
+use crate::texts::{put_answer, put_listing, put_outcome, put_regrouped};
 use map_join::Record;
 use script_words::{Command, Named, Verb};
 use std::alloc::{AllocError, Global};
@@ -43,6 +43,9 @@ pub fn carry_out(
         Verb::Copy => copy(alloc, bench, first as u8, second as u16, third as u32, out),
         Verb::Commit => commit(alloc, bench, first as u8, second as u16, third as u32, out),
         Verb::Discard => discard(bench, first as u8, second as u16, out),
+        Verb::Add => add(alloc, bench, out),
+        Verb::Balance => balance(alloc, bench, out),
+        Verb::Rebuild => rebuild(alloc, bench, first as u8, out),
         Verb::Lose => lose(bench, first as u8, out),
         Verb::Read => read(alloc, bench, first as u32, out),
         Verb::At => read_at(alloc, bench, command.record, out),
@@ -225,4 +228,30 @@ fn clean(alloc: Global, bench: &mut Bench, worker: u8, out: &mut Vec<u8>) -> Res
 {
     let outcome = bench.tiers.clean(alloc, worker)?;
     put_outcome(out, outcome)
+}
+
+fn add(alloc: Global, bench: &mut Bench, out: &mut Vec<u8>) -> Result<(), AllocError>
+    ensures { OnOk result (Carries bench.old bench.new o.Add out.old.items out.new.items) }
+{
+    let answer = bench.tiers.world.add_drive(alloc)?;
+    put_answer(out, &answer, 0)
+}
+
+fn balance(alloc: Global, bench: &mut Bench, out: &mut Vec<u8>) -> Result<(), AllocError>
+    ensures { OnOk result (Carries bench.old bench.new o.Balance out.old.items out.new.items) }
+{
+    let outcome = regrouping::balance(&mut bench.tiers.world, alloc)?;
+    put_regrouped(out, outcome)
+}
+
+fn rebuild(
+    alloc: Global,
+    bench: &mut Bench,
+    drive: u8,
+    out: &mut Vec<u8>,
+) -> Result<(), AllocError>
+    ensures { OnOk result (Carries bench.old bench.new (o.Rebuild drive) out.old.items out.new.items) }
+{
+    let outcome = regrouping::rebuild(&mut bench.tiers.world, alloc, drive)?;
+    put_regrouped(out, outcome)
 }

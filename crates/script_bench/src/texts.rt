@@ -2,13 +2,15 @@
 ghost use Rattle.std.specs.Prelude.{◌≡◌, ◌≢◌, ◌∷◌, ◌++◌, [], OnOk, codes, decimal, Some, None};
 ghost use Rattle.hex.specs.Hex.{encode_lower};
 ghost use Rattle.step_core.specs.Told.{flat_answer, seen_of};
-ghost use Rattle.script_bench.specs.Text.{answer_text, data_text, detail, difference_text, fault_detail, fault_text, found_text, header_text, outcome_text, seen_text, listing, record_or_none, record_text, records_text};
+ghost use Rattle.script_bench.specs.Text.{answer_text, data_text, detail, difference_text, fault_detail, fault_text, found_text, header_text, outcome_text, regrouped_text, shift_text, seen_text, listing, record_or_none, record_text, records_text};
 ghost use Rattle.flat_machine.specs.Steps as s;
 
 use header_scan::ScanFault;
 use hex_lanes::encode_hex;
 use itoa::Buffer;
 use map_join::Record;
+use rebalancer::Shift;
+use regrouping::Regrouped;
 use std::alloc::AllocError;
 use step_core::{Answer, At, Refusal};
 use tiering::Outcome;
@@ -103,6 +105,8 @@ pub fn put_answer(out: &mut Vec<u8>, answer: &Answer, asked: u32) -> Result<(), 
         Answer::Read(None) => put(out, b"none"),
         Answer::Found(seen) => put_seen(out, asked, seen),
         Answer::Made(group) => put_numbered(out, b"made ", u64::from(*group)),
+        Answer::Shifted => put(out, b"moved"),
+        Answer::Added(drive) => put_numbered(out, b"added ", u64::from(*drive)),
         Answer::Lost(drive) => put_numbered(out, b"lost ", u64::from(*drive)),
         Answer::Refused(refusal) => put_refusal(out, refusal),
     }
@@ -118,6 +122,27 @@ pub fn put_outcome(out: &mut Vec<u8>, outcome: Outcome) -> Result<(), AllocError
         Outcome::NoRoom => put(out, b"noroom"),
         Outcome::Nothing => put(out, b"nothing"),
     }
+}
+
+/// What comes of a shift by a plan.
+pub fn put_regrouped(out: &mut Vec<u8>, outcome: Regrouped) -> Result<(), AllocError>
+    ensures { OnOk result (out.new.items ≡ out.old.items ++ regrouped_text outcome) }
+{
+    match outcome {
+        Regrouped::Moved(shift) => put_shift(out, shift),
+        Regrouped::Refused(refusal) => put_refusal(out, &refusal),
+        Regrouped::Nothing => put(out, b"nothing"),
+    }
+}
+
+// The group, the number of its member, and the extent that this is now.
+fn put_shift(out: &mut Vec<u8>, shift: Shift) -> Result<(), AllocError>
+    ensures { OnOk result (out.new.items ≡ out.old.items ++ shift_text shift) }
+{
+    put_numbered(out, b"moved ", u64::from(shift.group))?;
+    put_numbered(out, b" ", u64::from(shift.member))?;
+    put_numbered(out, b" ", u64::from(shift.to.drive))?;
+    put_numbered(out, b".", u64::from(shift.to.extent))
 }
 
 // A record that was emitted.

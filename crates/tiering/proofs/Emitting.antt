@@ -168,6 +168,8 @@ abbrev pub IsCalm : FlatStep → Type 0
 IsCalm (step.Commit w s b) = ⊥
 IsCalm (step.Release w s) = ⊥
 IsCalm (step.Make class members) = ⊥
+IsCalm (step.Unmake w g) = ⊥
+IsCalm (step.MoveExtent g k to) = ⊥
 IsCalm _ = Unit {0}
 
 pub calm_alike : (F G : Flat) (taken : FlatStep) (answer : FlatAnswer) → IsCalm taken → Case F taken answer G → IsAlike F G
@@ -182,7 +184,10 @@ calm_alike F G (step.Discard w s) (step.Discarded t) calm case = alike_discarded
 calm_alike F G (step.Read b) (step.Found found) calm case = alike_left F G case.2
 calm_alike F G (step.ReadAt r) (step.FoundAt seen) calm case = alike_left F G case.3
 calm_alike F G (step.Lose d) (step.LostDrive e) calm case = record { groups = ap (λ (x : Flat). x.groups) case.2.same; emitted = ap (λ (x : Flat). x.emitted) case.2.same }
+calm_alike F G step.AddDrive (step.AddedDrive d) calm case = record { groups = ap (λ (x : Flat). x.groups) case.2.same; emitted = ap (λ (x : Flat). x.emitted) case.2.same }
 calm_alike F G (step.Commit w s b) answer calm case = absurd calm
 calm_alike F G (step.Release w s) answer calm case = absurd calm
 calm_alike F G (step.Make class members) answer calm case = absurd calm
+calm_alike F G (step.Unmake w g) answer calm case = absurd calm
+calm_alike F G (step.MoveExtent g k to) answer calm case = absurd calm
 calm_alike F G _ _ calm case = absurd case

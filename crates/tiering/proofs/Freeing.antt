@@ -169,8 +169,11 @@ step_frees F G (step.Discard w s) (step.Discarded t) calm case = discard_frees F
 step_frees F G (step.Read b) (step.Found found) calm case = left_frees F G case.2
 step_frees F G (step.ReadAt r) (step.FoundAt seen) calm case = left_frees F G case.3
 step_frees F G (step.Lose d) (step.LostDrive e) calm case = λ n free. held_as _ G n case.2 free
+step_frees F G step.AddDrive (step.AddedDrive d) calm case = λ n free. held_as _ G n case.2 free
 step_frees F G (step.Release w s) answer calm case = absurd calm
 step_frees F G (step.Make class members) answer calm case = absurd calm
+step_frees F G (step.Unmake w g) answer calm case = absurd calm
+step_frees F G (step.MoveExtent g k to) answer calm case = absurd calm
 step_frees F G _ _ calm case = absurd case
 
 -- where a group is made, a slot of another group that is free then was free

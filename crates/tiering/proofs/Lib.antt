@@ -5,3 +5,4 @@ pub mod Marks
 pub mod Hinted
 pub mod Counts
 pub mod Standing
+pub mod Moving

@@ -67,6 +67,8 @@ put_is F G (Fresh x) w s b a held case = fill_is a case
     fill_is (answer.Read found) case = absurd case
     fill_is (answer.Found seen) case = absurd case
     fill_is (answer.Made g) case = absurd case
+    fill_is answer.Shifted case = absurd case
+    fill_is (answer.Added d) case = absurd case
     fill_is (answer.Lost d) case = absurd case
 put_is F G Again w s b a held case = copy_is a case
   where
@@ -83,6 +85,8 @@ put_is F G Again w s b a held case = copy_is a case
     copy_is (answer.Read found) case = absurd case
     copy_is (answer.Found seen) case = absurd case
     copy_is (answer.Made g) case = absurd case
+    copy_is answer.Shifted case = absurd case
+    copy_is (answer.Added d) case = absurd case
     copy_is (answer.Lost d) case = absurd case
 
 -- the place that a block had is the worker's behind a commit
@@ -133,7 +137,11 @@ commits_else F G w s b found (Some (waiting.Fresh x)) (answer.Found seen) other 
 commits_else F G w s b found (Some (waiting.Moved c p h x)) (answer.Found seen) other with = with
 commits_else F G w s b found (Some (waiting.Fresh x)) (answer.Made g) other with = with
 commits_else F G w s b found (Some (waiting.Moved c p h x)) (answer.Made g) other with = with
+commits_else F G w s b found (Some (waiting.Fresh x)) answer.Shifted other with = with
+commits_else F G w s b found (Some (waiting.Fresh x)) (answer.Added d) other with = with
 commits_else F G w s b found (Some (waiting.Fresh x)) (answer.Lost d) other with = with
+commits_else F G w s b found (Some (waiting.Moved c p h x)) answer.Shifted other with = with
+commits_else F G w s b found (Some (waiting.Moved c p h x)) (answer.Added d) other with = with
 commits_else F G w s b found (Some (waiting.Moved c p h x)) (answer.Lost d) other with = with
 
 pub commit_is : (F G : Flat) (w s b : ℕ) (a : Answer) → Case F (step.Commit w s b) (flat_answer a) G → CommitIs F w s b (outcome_of a) G
@@ -149,6 +157,8 @@ commit_is F G w s b (answer.Discarded t) case = commits_else F G w s b case.2.0 
 commit_is F G w s b (answer.Read found) case = commits_else F G w s b case.2.0 (F.tickets s) (answer.Read found) refl case.2.2
 commit_is F G w s b (answer.Found seen) case = commits_else F G w s b case.2.0 (F.tickets s) (answer.Found seen) refl case.2.2
 commit_is F G w s b (answer.Made g) case = commits_else F G w s b case.2.0 (F.tickets s) (answer.Made g) refl case.2.2
+commit_is F G w s b answer.Shifted case = commits_else F G w s b case.2.0 (F.tickets s) answer.Shifted refl case.2.2
+commit_is F G w s b (answer.Added d) case = commits_else F G w s b case.2.0 (F.tickets s) (answer.Added d) refl case.2.2
 commit_is F G w s b (answer.Lost d) case = commits_else F G w s b case.2.0 (F.tickets s) (answer.Lost d) refl case.2.2
 
 -- neither a claim nor a fill or a copy emits a record

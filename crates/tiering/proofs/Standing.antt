@@ -484,6 +484,8 @@ order_is F G w s b order (answer.Discarded t) case = refl
 order_is F G w s b order (answer.Read read) case = refl
 order_is F G w s b order (answer.Found seen) case = refl
 order_is F G w s b order (answer.Made g) case = refl
+order_is F G w s b order answer.Shifted case = refl
+order_is F G w s b order (answer.Added d) case = refl
 order_is F G w s b order (answer.Lost d) case = refl
 
 -- what a commit emits, by its answer

@@ -1,0 +1,10 @@
+use Rattle.flat_machine.specs.Steps as s
+use Rattle.script_words.specs.Order as o
+use Rattle.script_bench.proofs.Carried.{told_step}
+use Rattle.script_bench.proofs.carry.add.Goals as goal
+
+pub returns : goal.returns
+returns c =
+    told_step c.put_answer.result c.args.bench.now _ o.Add
+    s.AddDrive _ _ _ tt c.put_answer.ensures
+    (λ P stands. c.in_ok-answer.ensures.ok P.tiers.flat stands.tiers.world) c.in_ok-answer.ensures.room (λ P text t steps. steps)
