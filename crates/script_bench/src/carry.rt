@@ -244,12 +244,7 @@ fn balance(alloc: Global, bench: &mut Bench, out: &mut Vec<u8>) -> Result<(), Al
     put_regrouped(out, outcome)
 }
 
-fn rebuild(
-    alloc: Global,
-    bench: &mut Bench,
-    drive: u8,
-    out: &mut Vec<u8>,
-) -> Result<(), AllocError>
+fn rebuild(alloc: Global, bench: &mut Bench, drive: u8, out: &mut Vec<u8>) -> Result<(), AllocError>
     ensures { OnOk result (Carries bench.old bench.new (o.Rebuild drive) out.old.items out.new.items) }
 {
     let outcome = regrouping::rebuild(&mut bench.tiers.world, alloc, drive)?;
