@@ -1,5 +1,5 @@
 -- The units of a member put on another extent one after another.
-use Rattle.std.proofs.Common.{◌≡◌, ◌≢◌, ℕ, ◌+◌, ◌*◌, ◌%◌, ◌<◌, inl, inr, Bool, true, Some, None, List, length, sym, ◌∙◌, ap, subst, arith}
+use Rattle.std.proofs.Common.{◌≡◌, ◌≢◌, ℕ, ◌+◌, ◌*◌, ◌%◌, ◌<◌, inl, inr, Bool, true, Some, None, List, length, sym, ◌∙◌, ap, subst, arith, refl}
 use Rattle.std.specs.Prelude.{slice_get}
 use Rattle.std.proofs.lemmas.List.{length-map}
 use Rattle.std.proofs.lemmas.Option.{none-some, slice_get_within}
@@ -11,14 +11,15 @@ use Rattle.extent_groups.specs.declared.place.Place.{Place}
 use Rattle.extent_groups.specs.Geometry.{stripe_of}
 use Rattle.extent_groups.specs.Groups.{Groups}
 use Rattle.extent_groups.specs.Cells.{Cells, cells, held}
-use Rattle.extent_groups.specs.Calls.{FadesAt, NoPlace, Only, DidWrite, KeepsDrives}
+use Rattle.extent_groups.specs.Calls.{FadesAt, NoPlace, Only, DidWrite, SameBut, KeepsDrives}
 use Rattle.extent_groups.specs.Layout.{IsOf, IsWhole}
 use Rattle.extent_groups.specs.Missing.{missing_of}
 use Rattle.extent_groups.specs.Moving.{member_unit}
-use Rattle.extent_groups.specs.Stores.{unit_bytes}
+use Rattle.extent_groups.specs.Stores.{unit_bytes, HasMemberOn}
 use Rattle.extent_groups.specs.Units.{Site, row_of, place_of, places_of, site_in, site_of, IsSoundAt}
 use Rattle.extent_groups.specs.Wiping.{IsIn}
 use Rattle.extent_groups.proofs.DriveCalls.{keeps_trans, keeps_more, keeps_none, keeps_place}
+use Rattle.extent_groups.proofs.Elsewhere.{same_trans, same_more}
 use Rattle.extent_groups.proofs.Fading.{faded, fade_effective, row_fades, row_sized, site_fades}
 use Rattle.extent_groups.proofs.LayoutLaw.{layout_law}
 use Rattle.extent_groups.proofs.Losses.{kept_fades, untouched_fades}
@@ -26,7 +27,7 @@ use Rattle.extent_groups.proofs.Missing.{cell_missing, missing_if}
 use Rattle.extent_groups.proofs.Places.{same_or_not}
 use Rattle.extent_groups.proofs.SlotWrites.{AreSizedCells, slots_kept}
 use Rattle.extent_groups.proofs.StoreCalls.{drives_kept, sized_cells}
-use Rattle.array_parts.specs.Shifting.{IsRoute, IsUnitFor, IsOnTarget, AreOnTarget}
+use Rattle.array_parts.specs.Shifting.{IsRoute, IsUnitFor, IsOnTarget, IsUsed, AreOnTarget}
 use Rattle.array_parts.proofs.Calls.{gone_more}
 use Rattle.array_parts.proofs.Offsets.{index_of}
 use Rattle.array_parts.proofs.Outcomes.{group_there}
@@ -108,7 +109,7 @@ one_touched units lost failures p old mid new read wrote = keeps_trans (keeps_mo
 
 -- at first no unit is there
 pub none_on_target : {D : Type 0} (units : D → List (List ℕ)) (lost : D → Bool) (failures : D → ℕ) (t : Groups) (g k : ℕ) (was to : Member) (ds : List D) → AreOnTarget units lost failures t g k was to 0 ds ds
-none_on_target units lost failures t g k was to ds = record { each = λ o low. absurd (omega arith); touched = keeps_none ds }
+none_on_target units lost failures t g k was to ds = record { each = λ o low. absurd (omega arith); touched = keeps_none ds; elsewhere = λ d apart. refl }
 
 -- what one more offset touches
 pub more_in : {D : Type 0} (units : D → List (List ℕ)) (lost : D → Bool) (failures : D → ℕ) (s o : ℕ) (to : Member) (old mid new : List D) → o < extent_units s
@@ -132,8 +133,8 @@ still_there units lost failures t g k o p was to old mid new u v route low less 
 -- one more unit is there
 pub more_on_target : {D : Type 0} (units : D → List (List ℕ)) (lost : D → Bool) (failures : D → ℕ) (t : Groups) (g k o : ℕ) (was to : Member) (old mid new : List D)
     → IsRoute units t g k was to old → o < extent_units t.segments → AreOnTarget units lost failures t g k was to o old mid → IsOnTarget units lost t g k was to o mid new
-    → KeepsDrives units lost failures (Only (place_of t.segments o to)) mid new → AreOnTarget units lost failures t g k was to (o + 1) old new
-more_on_target units lost failures t g k o was to old mid new route low before next one =
+    → KeepsDrives units lost failures (Only (place_of t.segments o to)) mid new → SameBut (IsUsed t g to) mid new → AreOnTarget units lost failures t g k was to (o + 1) old new
+more_on_target units lost failures t g k o was to old mid new route low before next one same =
     let site_fade : (slot : ℕ) (site : Site) (x : Place) → site_of t slot ≡ Some site → IsOf site x → FadesAt (cells units lost old) (cells units lost mid) x =
     λ slot site x there of. untouched_fades before.touched x (λ hit. route.clear hit.0 slot site hit.1 there (subst (IsOf site) hit.2 of)) in
     let own_fade : FadesAt (cells units lost old) (cells units lost mid) (place_of t.segments o was) =
@@ -161,4 +162,13 @@ more_on_target units lost failures t g k o was to old mid new route low before n
             })
       ];
       touched = more_in units lost failures t.segments o to old mid new low before.touched one;
+      elsewhere = same_trans old mid new before.elsewhere same;
     }
+
+-- reads used the group's drives, and the write the other extent's
+pub one_used : {D : Type 0} (t : Groups) (g : ℕ) (to : Member) (p : Place) (old mid new : List D) → p.drive ≡ to.drive → SameBut (HasMemberOn t g) old mid → SameBut (λ d. d ≡ p.drive) mid new
+    → SameBut (IsUsed t g to) old new
+one_used t g to p old mid new drive read wrote = same_trans old mid new (same_more old mid (λ d is. inl is) read) (same_more mid new (λ d e. inr (e ∙ drive)) wrote)
+
+pub none_written : {D : Type 0} (t : Groups) (g : ℕ) (to : Member) (old mid : List D) → SameBut (HasMemberOn t g) old mid → SameBut (IsUsed t g to) old mid
+none_written t g to old mid read = same_more old mid (λ d is. inl is) read

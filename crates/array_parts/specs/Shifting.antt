@@ -7,13 +7,13 @@ use Rattle.flat_machine.specs.Moves.{IsBeyond, IsBeyondOf, IsFirstGone}
 use Rattle.extent_groups.specs.declared.class.Member.{Member}
 use Rattle.extent_groups.specs.declared.role.Role.TheVariants.{Unused}
 use Rattle.extent_groups.specs.Groups.{Groups, AreGroups, group_at, members_of}
-use Rattle.extent_groups.specs.Calls.{KeepsDrives}
+use Rattle.extent_groups.specs.Calls.{SameBut, KeepsDrives}
 use Rattle.extent_groups.specs.Cells.{Cells, cells, held}
 use Rattle.extent_groups.specs.Layout.{IsOf}
 use Rattle.extent_groups.specs.Missing.{missing_of, IsGoneAt}
 use Rattle.extent_groups.specs.Moving.{member_unit}
 use Rattle.extent_groups.specs.Roles.{IsRoleIn}
-use Rattle.extent_groups.specs.Stores.{unit_bytes, AreSound, AreDrives}
+use Rattle.extent_groups.specs.Stores.{unit_bytes, AreSound, AreDrives, HasMemberOn}
 use Rattle.extent_groups.specs.Units.{Site, place_of, site_of}
 use Rattle.extent_groups.specs.Wiping.{HasExtent, IsIn}
 use Rattle.array_parts.specs.declared.relocate.Stop.{Stop}
@@ -55,10 +55,15 @@ pub record IsOnTarget {D : Type 0} (units : D → List (List ℕ)) (lost : D →
   pub there : held (cells units lost new) (place_of groups.segments offset to) ≡ Some unit
   pub is : IsUnitFor groups g k was offset (cells units lost old) (missing_of lost old) (missing_of lost new) unit
 
+-- the drive is the other extent's, or a member of the group is on it
+abbrev pub IsUsed : Groups → ℕ → Member → ℕ → Type 0
+IsUsed groups g to d = HasMemberOn groups g d ⊎ (d ≡ to.drive)
+
 -- the units for the offsets below a number were put on the other extent, one after another
 pub record AreOnTarget {D : Type 0} (units : D → List (List ℕ)) (lost : D → Bool) (failures : D → ℕ) (groups : Groups) (g k : ℕ) (was to : Member) (bound : ℕ) (old new : List D) : Type 0 where
   pub each : (offset : ℕ) → offset < bound → IsOnTarget units lost groups g k was to offset old new
   pub touched : KeepsDrives units lost failures (IsIn groups.segments to) old new
+  pub elsewhere : SameBut (IsUsed groups g to) old new
 
 -- why no more is moved: a unit of the member can't be had, or the other extent's drive is lost
 abbrev pub StopsFor : Groups → (ℕ → Bool) → ℕ → Member → Member → Stop → Type 0

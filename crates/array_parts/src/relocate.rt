@@ -3,16 +3,16 @@ ghost use Rattle.std.specs.Prelude.{◌≡◌, ◌⊎◌, ◌*◌, ◌<◌, true
 ghost use Rattle.std.specs.Bool.{MatchBool};
 ghost use Rattle.extents.specs.Sizes.{extent_units};
 ghost use Rattle.extent_groups.specs.declared.role.Role.TheVariants.{Slot, ParityUnit, Unused};
-ghost use Rattle.extent_groups.specs.Calls.{AreSized, IsPlace, NoPlace, Only, KeepsDrives};
+ghost use Rattle.extent_groups.specs.Calls.{AreSized, IsPlace, NoPlace, Only, SameBut, KeepsDrives};
 ghost use Rattle.extent_groups.specs.Cells.{cells, held};
 ghost use Rattle.extent_groups.specs.Groups.{group_at};
 ghost use Rattle.extent_groups.specs.Missing.{missing_of};
 ghost use Rattle.extent_groups.specs.Roles.{IsRoleIn};
-ghost use Rattle.extent_groups.specs.Stores.{unit_bytes};
+ghost use Rattle.extent_groups.specs.Stores.{unit_bytes, HasMemberOn};
 ghost use Rattle.extent_groups.specs.Units.{place_of};
 ghost use Rattle.extent_groups.specs.Wiping.{IsIn};
 ghost use Rattle.flat_machine.specs.Moves.{IsBeyond};
-ghost use Rattle.array_parts.specs.Shifting.{IsRoute, IsUnitFor, IsOnTarget, AreOnTarget, StopsFor};
+ghost use Rattle.array_parts.specs.Shifting.{IsRoute, IsUnitFor, IsOnTarget, AreOnTarget, IsUsed, StopsFor};
 
 use crate::slots::read_slot;
 use crate::unit::clear;
@@ -56,6 +56,7 @@ fn read_or_clear<D: Drive>(drives: &mut [D], place: Place, unit: &mut [u8])
     requires size { AreSized D.units (length unit.old) drives.old }
     ensures told { (held (cells D.units D.lost drives.new) place ≡ Some unit.new) ⊎ ((missing_of D.lost drives.new place.drive ≡ true) × (unit.new ≡ replicate (length unit.old) 0)) }
     ensures touched { KeepsDrives D.units D.lost D.failures NoPlace drives.old drives.new }
+    ensures elsewhere { SameBut (λ d. d ≡ place.drive) drives.old drives.new }
 {
     if !read_place(drives, place, unit) {
         clear(unit);
@@ -79,6 +80,7 @@ fn read_index<D: Drive>(
     requires scratch { length scratch.old ≡ 2 * unit_bytes groups.now }
     ensures outcome { MatchBool result (IsUnitFor groups.now at.group at.member at.from offset (cells D.units D.lost drives.new) (missing_of D.lost drives.new) (missing_of D.lost drives.new) unit.new) (IsBeyond groups.now (missing_of D.lost drives.new) at.group at.from.drive) }
     ensures touched { KeepsDrives D.units D.lost D.failures NoPlace drives.old drives.new }
+    ensures elsewhere { SameBut (HasMemberOn groups.now at.group) drives.old drives.new }
 {
     match read_slot(groups, drives, SLOTS * at.group + index, unit, scratch) {
         Ok(()) => true,
@@ -102,6 +104,7 @@ fn read_wandering<D: Drive>(
     requires scratch { length scratch.old ≡ 2 * unit_bytes groups.now }
     ensures outcome { MatchBool result (IsUnitFor groups.now at.group at.member at.from offset (cells D.units D.lost drives.new) (missing_of D.lost drives.new) (missing_of D.lost drives.new) unit.new) (IsBeyond groups.now (missing_of D.lost drives.new) at.group at.from.drive) }
     ensures touched { KeepsDrives D.units D.lost D.failures NoPlace drives.old drives.new }
+    ensures elsewhere { SameBut (HasMemberOn groups.now at.group) drives.old drives.new }
 {
     read_parity(groups, drives, at.group, offset, unit, scratch)
 }
@@ -120,6 +123,7 @@ fn read_unused<D: Drive>(
     requires unit { length unit.old ≡ unit_bytes groups.now }
     ensures had { IsUnitFor groups.now at.group at.member at.from offset (cells D.units D.lost drives.new) (missing_of D.lost drives.new) (missing_of D.lost drives.new) unit.new }
     ensures touched { KeepsDrives D.units D.lost D.failures NoPlace drives.old drives.new }
+    ensures elsewhere { SameBut (HasMemberOn groups.now at.group) drives.old drives.new }
 {
     read_or_clear(drives, place_in(groups, at.from, offset), unit);
 }
@@ -139,6 +143,7 @@ fn unit_for<D: Drive>(
     requires scratch { length scratch.old ≡ 2 * unit_bytes groups.now }
     ensures outcome { MatchBool result (IsUnitFor groups.now at.group at.member at.from offset (cells D.units D.lost drives.new) (missing_of D.lost drives.new) (missing_of D.lost drives.new) unit.new) (IsBeyond groups.now (missing_of D.lost drives.new) at.group at.from.drive) }
     ensures touched { KeepsDrives D.units D.lost D.failures NoPlace drives.old drives.new }
+    ensures elsewhere { SameBut (HasMemberOn groups.now at.group) drives.old drives.new }
 {
     match groups.role(at.group, at.member, offset) {
         Role::Slot(index) => read_index(groups, drives, at, offset, index, unit, scratch),
@@ -166,6 +171,7 @@ fn shift_unit<D: Drive>(
     ensures ok { OnOk result (IsOnTarget D.units D.lost groups.now at.group at.member at.from at.to offset drives.old drives.new) }
     ensures err { IfErr result (StopsFor groups.now (missing_of D.lost drives.new) at.group at.from at.to) }
     ensures touched { KeepsDrives D.units D.lost D.failures (Only (place_of groups.now.segments offset at.to)) drives.old drives.new }
+    ensures elsewhere { SameBut (IsUsed groups.now at.group at.to) drives.old drives.new }
 {
     if !unit_for(groups, drives, at, offset, unit, scratch) {
         return Err(Stop::Beyond);
@@ -191,6 +197,7 @@ pub(crate) fn shift_units<D: Drive>(
     ensures ok { OnOk result (AreOnTarget D.units D.lost D.failures groups.now at.group at.member at.from at.to (extent_units groups.now.segments) drives.old drives.new) }
     ensures err { IfErr result (StopsFor groups.now (missing_of D.lost drives.new) at.group at.from at.to) }
     ensures touched { KeepsDrives D.units D.lost D.failures (IsIn groups.now.segments at.to) drives.old drives.new }
+    ensures elsewhere { SameBut (IsUsed groups.now at.group at.to) drives.old drives.new }
 {
     let shape = groups.shape();
     for offset in 0..shape.extent_units() as u16 {

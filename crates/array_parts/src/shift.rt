@@ -3,7 +3,7 @@ ghost use Rattle.std.specs.Prelude.{◌≡◌, ◌*◌, ◌/◌, ◌<◌, ℕ, L
 ghost use Rattle.extents.specs.Owners.{IsExtent};
 ghost use Rattle.extents.specs.Sizes.{extent_units};
 ghost use Rattle.extent_groups.specs.declared.class.Member.{Member};
-ghost use Rattle.extent_groups.specs.Calls.{KeepsDrives};
+ghost use Rattle.extent_groups.specs.Calls.{SameBut, KeepsDrives};
 ghost use Rattle.extent_groups.specs.Faults.{swap_fault};
 ghost use Rattle.extent_groups.specs.Groups.{group_at, members_of, IsSwap, IsMove};
 ghost use Rattle.extent_groups.specs.Missing.{IsGone};
@@ -13,7 +13,7 @@ ghost use Rattle.extent_groups.specs.Wiping.{IsIn};
 ghost use Rattle.flat_machine.specs.Moves.{IsBeyondOf, IsFirstGone};
 ghost use Rattle.array_parts.specs.Fit.{IsFit};
 ghost use Rattle.array_parts.specs.Losses.{AllFare, KeepsTables};
-ghost use Rattle.array_parts.specs.Shifting.{IsRoute, AreOnTarget, StopsFor, KeepsUnused, IsWhyUnmoved};
+ghost use Rattle.array_parts.specs.Shifting.{IsRoute, AreOnTarget, IsUsed, StopsFor, KeepsUnused, IsWhyUnmoved};
 ghost use Rattle.array_parts.specs.Slots.{cells_in, missing_in};
 ghost use Rattle.array_parts.specs.Views.{view_of, Shifted, NotShifted};
 
@@ -43,6 +43,7 @@ impl<D: Drive> Parts<D> {
         ensures ok { OnOk result (AreOnTarget D.units D.lost D.failures self.old.groups at.group at.member at.from at.to (extent_units self.old.groups.segments) self.old.drives.items self.new.drives.items) }
         ensures err { IfErr result (StopsFor self.old.groups (missing_in D.lost self.new) at.group at.from at.to) }
         ensures touched { KeepsDrives D.units D.lost D.failures (IsIn self.old.groups.segments at.to) self.old.drives.items self.new.drives.items }
+        ensures elsewhere { SameBut (IsUsed self.old.groups at.group at.to) self.old.drives.items self.new.drives.items }
         ensures tables { KeepsTables self.old self.new }
     {
         let drives: &mut [D] = &mut self.drives;
@@ -104,6 +105,7 @@ impl<D: Drive> Parts<D> {
             → unit_of self.new.groups (cells_in D.units D.lost self.new) slot ≡ Some unit → unit_of self.old.groups (cells_in D.units D.lost self.old) slot ≡ Some unit) }
         ensures sound { AreSound self.old.groups (cells_in D.units D.lost self.old) → AreSound self.new.groups (cells_in D.units D.lost self.new) }
         ensures touched { KeepsDrives D.units D.lost D.failures (IsIn self.old.groups.segments to) self.old.drives.items self.new.drives.items }
+        ensures elsewhere { SameBut (IsUsed self.old.groups group to) self.old.drives.items self.new.drives.items }
         ensures fares { AllFare D.lost D.failures self.old.drives.items self.new.drives.items }
         ensures fit { IsFit D.units self.new }
     {
@@ -142,6 +144,7 @@ impl<D: Drive> Parts<D> {
         requires scratch { length scratch.old ≡ 2 * unit_bytes self.old.groups }
         ensures ok { OnOk result (Shifted (view_of D.units D.lost D.failures self.old) group member to (view_of D.units D.lost D.failures self.new)) }
         ensures err { IfErr result (NotShifted (view_of D.units D.lost D.failures self.old) group member to (view_of D.units D.lost D.failures self.new)) }
+        ensures elsewhere { SameBut (IsUsed self.old.groups group to) self.old.drives.items self.new.drives.items }
         ensures fit { IsFit D.units self.new }
     {
         self.swap(group, member, to, unit, scratch)

@@ -1,8 +1,8 @@
 // Reads and writes of slots of either class.
-ghost use Rattle.std.specs.Prelude.{◌≡◌, ◌*◌, length, Some, OnOk, IfErr};
+ghost use Rattle.std.specs.Prelude.{◌≡◌, ◌*◌, ◌/◌, length, Some, OnOk, IfErr};
 ghost use Rattle.extent_groups.specs.Cells.{cells};
-ghost use Rattle.extent_groups.specs.Calls.{NoPlace, KeepsDrives};
-ghost use Rattle.extent_groups.specs.Stores.{unit_bytes, unit_of, AreSound, AreDrives, KeepsUnits, Wrote, NamesGone, IsOwnOf};
+ghost use Rattle.extent_groups.specs.Calls.{NoPlace, SameBut, KeepsDrives};
+ghost use Rattle.extent_groups.specs.Stores.{unit_bytes, unit_of, AreSound, AreDrives, KeepsUnits, Wrote, NamesGone, IsOwnOf, HasMemberOn};
 ghost use Rattle.array_parts.specs.Slots.{IsSlot};
 
 use extent_groups::{Class, GroupTable, SLOTS, StoreRefusal};
@@ -25,6 +25,7 @@ pub(crate) fn read_slot<D: Drive>(
     ensures units { AreSound groups.now (cells D.units D.lost drives.old) → KeepsUnits groups.now (cells D.units D.lost drives.old) (cells D.units D.lost drives.new) }
     ensures sound { AreSound groups.now (cells D.units D.lost drives.old) → AreSound groups.now (cells D.units D.lost drives.new) }
     ensures touched { KeepsDrives D.units D.lost D.failures NoPlace drives.old drives.new }
+    ensures elsewhere { SameBut (HasMemberOn groups.now (slot / 128)) drives.old drives.new }
     ensures drives { AreDrives D.units groups.now drives.new }
 {
     match groups.class_of(slot / SLOTS) {

@@ -176,6 +176,22 @@ impl GroupTable {
         Ok(())
     }
 
+    /// Why a member of a group isn't swapped for the extent, none where it may be.
+    pub fn swap_refusal(
+        &self,
+        extents: &ExtentTable,
+        group: u16,
+        to: Member,
+    ) -> Option<GroupRefusal>
+        requires { IsExtent extents.now to.drive to.extent }
+        ensures { result ≡ swap_fault extents.now (group_at self.now group) to }
+    {
+        match self.find(group) {
+            Some(kept) => swap_check(extents, &kept.members, to),
+            None => Some(GroupRefusal::NoGroup),
+        }
+    }
+
     /// Puts another extent in the place of a member, which keeps its number; the extent of the member is free then.
     pub fn swap_member(
         &mut self,

@@ -10,6 +10,8 @@ mod rig;
 #[cfg(test)]
 mod scans;
 #[cfg(test)]
+mod shifts;
+#[cfg(test)]
 mod sights;
 #[cfg(test)]
 mod stories;

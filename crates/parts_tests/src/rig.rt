@@ -302,6 +302,33 @@ impl Rig {
         self.parts.enter(group, class, members, &mut self.unit)
     }
 
+    /// Moves a group's member onto another extent.
+    pub(crate) fn shift(
+        &mut self,
+        rt: &impl Abort,
+        group: u16,
+        member: u8,
+        to: Member,
+    ) -> Result<(), Refusal> {
+        assert!(rt; self.is_ready());
+        assert!(rt; (member as usize) < self.parts.groups.members(group).len());
+        assert!(rt; self.parts.extents.has_extent(to.drive, to.extent));
+        assert!(rt;
+            self.parts
+                .groups
+                .swap_refusal(&self.parts.extents, group, to)
+                .is_none()
+        );
+        self.parts
+            .shift(group, member, to, &mut self.unit, &mut self.scratch)
+    }
+
+    /// The lowest slot of a group that is gone.
+    pub(crate) fn first_gone(&self, rt: &impl Abort, group: u16) -> Option<u16> {
+        assert!(rt; self.is_ready());
+        self.parts.first_gone(group)
+    }
+
     /// The first of these drives, in the order given, that is lost.
     pub(crate) fn first_lost(&self, rt: &impl Abort, alloc: Global, drives: &[u8]) -> Option<u8> {
         let members = members_on(rt, alloc, drives, 0);

@@ -1,4 +1,6 @@
-use Rattle.std.proofs.Common.{arith}
+use Rattle.std.proofs.Common.{arith, ◌≡◌, ◌+◌, ◌*◌, ◌/◌, subst}
+use Rattle.extent_groups.specs.Calls.{SameBut}
+use Rattle.extent_groups.specs.Stores.{HasMemberOn}
 use Rattle.array_parts.proofs.Outcomes.{group_below, member_at, role_slot, index_had, index_beyond}
 use Rattle.array_parts.proofs.relocate.read_index.Goals as goal
 
@@ -23,3 +25,17 @@ pub returns-in-Err-clause-outcome : goal.returns-in-Err-clause-outcome
 returns-in-Err-clause-outcome g c =
     index_beyond g.D.Drive.units g.D.Drive.lost c.args.groups.now c.read_slot.new.drives c.args.at.group c.args.at.member c.args.offset c.args.index c.args.at.from
     c.requires.route.groups_are c.read_slot.ensures.drives c.requires.route.member c.requires.offset c.requires.role c.in-Err.ensures.gone.1
+
+pub returns-in-Ok-clause-elsewhere : goal.returns-in-Ok-clause-elsewhere
+returns-in-Ok-clause-elsewhere g c =
+    let is = member_at g.D.Drive.units c.args.groups.now c.args.drives.now c.args.at.group c.args.at.member c.args.offset c.args.at.from c.requires.route.groups_are c.requires.route.drives_are c.requires.route.member c.requires.offset in
+    let small = (role_slot c.args.groups.now c.args.at.group c.args.at.member c.args.offset c.args.index is.0 c.requires.route.groups_are is.1.made c.requires.role).0 in
+    let whole : (128 * c.args.at.group + c.args.index) / 128 ≡ c.args.at.group = omega (arith, small) in
+    subst (λ h. SameBut (HasMemberOn c.args.groups.now h) c.args.drives.now c.read_slot.new.drives) whole c.read_slot.ensures.elsewhere
+
+pub returns-in-Err-clause-elsewhere : goal.returns-in-Err-clause-elsewhere
+returns-in-Err-clause-elsewhere g c =
+    let is = member_at g.D.Drive.units c.args.groups.now c.args.drives.now c.args.at.group c.args.at.member c.args.offset c.args.at.from c.requires.route.groups_are c.requires.route.drives_are c.requires.route.member c.requires.offset in
+    let small = (role_slot c.args.groups.now c.args.at.group c.args.at.member c.args.offset c.args.index is.0 c.requires.route.groups_are is.1.made c.requires.role).0 in
+    let whole : (128 * c.args.at.group + c.args.index) / 128 ≡ c.args.at.group = omega (arith, small) in
+    subst (λ h. SameBut (HasMemberOn c.args.groups.now h) c.args.drives.now c.read_slot.new.drives) whole c.read_slot.ensures.elsewhere

@@ -1,10 +1,11 @@
-use Rattle.std.proofs.Common.{◌≡◌, ◌⊎◌, true, Some, length, sym, subst}
+use Rattle.std.proofs.Common.{◌≡◌, ◌⊎◌, true, Some, length, sym, subst, ◌∙◌, ap}
 use Rattle.std.specs.Prelude.{replicate}
 use Rattle.extent_groups.specs.declared.place.Place.{Place}
 use Rattle.extent_groups.specs.Cells.{cells, held}
 use Rattle.extent_groups.specs.Calls.{IsPlace}
 use Rattle.extent_groups.specs.Missing.{missing_of}
 use Rattle.extent_groups.specs.Units.{place_of}
+use Rattle.extent_groups.proofs.Elsewhere.{same_more}
 use Rattle.extent_groups.proofs.Sites.{member_there}
 use Rattle.extent_groups.proofs.StoreCalls.{drives_kept}
 use Rattle.array_parts.proofs.Outcomes.{unused_had}
@@ -23,3 +24,9 @@ returns-clause-had g c =
     ⊎ ((missing_of g.D.Drive.lost c.read_or_clear.new.drives c.args.at.from.drive ≡ true) × (c.read_or_clear.new.unit ≡ replicate n 0))) c.requires.unit
     (subst (λ (p : Place). (held (cells g.D.Drive.units g.D.Drive.lost c.read_or_clear.new.drives) p ≡ Some c.read_or_clear.new.unit)
     ⊎ ((missing_of g.D.Drive.lost c.read_or_clear.new.drives p.drive ≡ true) × (c.read_or_clear.new.unit ≡ replicate (length c.args.unit.now) 0))) c.place_in.ensures c.read_or_clear.ensures.told))
+
+pub returns-clause-elsewhere : goal.returns-clause-elsewhere
+returns-clause-elsewhere g c =
+    same_more c.args.drives.now c.read_or_clear.new.drives
+    (λ d e. (c.args.at.member, c.args.at.from, c.requires.route.member, sym (e ∙ ap (λ (p : Place). p.drive) c.place_in.ensures)))
+    c.read_or_clear.ensures.elsewhere

@@ -1,9 +1,9 @@
-use Rattle.std.proofs.Common.{◌≡◌, ◌∙◌, true, None, sym, subst}
+use Rattle.std.proofs.Common.{◌≡◌, ◌∙◌, true, None, sym, subst, ap}
 use Rattle.extent_groups.specs.declared.place.Place.{Place}
 use Rattle.extent_groups.specs.Cells.{cells, held}
 use Rattle.extent_groups.specs.Calls.{AreSized, IsPlace, DidWrite, Only, KeepsDrives}
 use Rattle.extent_groups.proofs.DriveCalls.{keeps_place, keeps_sizes, keeps_more}
-use Rattle.array_parts.proofs.Shifting.{on_target, target_lost, one_touched}
+use Rattle.array_parts.proofs.Shifting.{on_target, target_lost, one_touched, one_used, none_written}
 use Rattle.array_parts.proofs.relocate.shift_unit.Goals as goal
 
 pub returns-then-not-unit_for-clause-touched : goal.returns-then-not-unit_for-clause-touched
@@ -45,3 +45,16 @@ pub returns-clause-touched : goal.returns-clause-touched
 returns-clause-touched g c =
     one_touched g.D.Drive.units g.D.Drive.lost g.D.Drive.failures _ c.args.drives.now c.unit_for.new.drives c.write_place.new.drives c.unit_for.ensures.touched
     (subst (λ (p : Place). KeepsDrives g.D.Drive.units g.D.Drive.lost g.D.Drive.failures (Only p) c.unit_for.new.drives c.write_place.new.drives) c.place_in.ensures c.write_place.ensures.drives)
+
+pub returns-then-not-unit_for-clause-elsewhere : goal.returns-then-not-unit_for-clause-elsewhere
+returns-then-not-unit_for-clause-elsewhere g c = none_written c.args.groups.now c.args.at.group c.args.at.to c.args.drives.now c.unit_for.new.drives c.unit_for.ensures.elsewhere
+
+pub returns-then-not-write_place-clause-elsewhere : goal.returns-then-not-write_place-clause-elsewhere
+returns-then-not-write_place-clause-elsewhere g c =
+    one_used c.args.groups.now c.args.at.group c.args.at.to c.place_in.result c.args.drives.now c.unit_for.new.drives c.write_place.new.drives (ap (λ (p : Place). p.drive) c.place_in.ensures)
+    c.unit_for.ensures.elsewhere c.write_place.ensures.others
+
+pub returns-clause-elsewhere : goal.returns-clause-elsewhere
+returns-clause-elsewhere g c =
+    one_used c.args.groups.now c.args.at.group c.args.at.to c.place_in.result c.args.drives.now c.unit_for.new.drives c.write_place.new.drives (ap (λ (p : Place). p.drive) c.place_in.ensures)
+    c.unit_for.ensures.elsewhere c.write_place.ensures.others

@@ -1,8 +1,8 @@
-use Rattle.std.proofs.Common.{subst, sym}
+use Rattle.std.proofs.Common.{refl, subst, sym}
 use Rattle.extent_groups.specs.Cells.{cells}
 use Rattle.extent_groups.specs.Stores.{AreSound, KeepsUnits}
 use Rattle.extent_groups.specs.Missing.{missing_of, IsGone}
-use Rattle.array_parts.proofs.Reading.{written_back, fares_back, not_gone, gone_of}
+use Rattle.array_parts.proofs.Reading.{written_back, fares_back, told_back, not_gone, gone_of}
 use Rattle.array_parts.proofs.parts.Parts.read.Goals as goal
 
 pub returns-in-Ok-clause-there : goal.returns-in-Ok-clause-there
@@ -36,3 +36,13 @@ returns-in-Err-clause-units g c =
     (sym (written_back c.args.self.now.drives c.deref_mut-drives.result.now c.read_slot.new.drives c.deref_mut-drives.ensures.value c.read_slot.ensures.touched.many))
     (subst (λ ds. AreSound c.args.self.now.groups (cells g.D.Drive.units g.D.Drive.lost ds) → KeepsUnits c.args.self.now.groups (cells g.D.Drive.units g.D.Drive.lost ds) (cells g.D.Drive.units g.D.Drive.lost c.read_slot.new.drives))
     c.deref_mut-drives.ensures.value c.read_slot.ensures.units)
+
+pub returns-in-Ok-clause-sound : goal.returns-in-Ok-clause-sound
+returns-in-Ok-clause-sound g c =
+    told_back (λ a b n. AreSound c.args.self.now.groups (cells g.D.Drive.units g.D.Drive.lost a) → AreSound c.args.self.now.groups (cells g.D.Drive.units g.D.Drive.lost b))
+    c.args.self.now.drives c.deref_mut-drives.result.now c.read_slot.new.drives 0 0 c.deref_mut-drives.ensures.value c.read_slot.ensures.touched.many refl c.read_slot.ensures.sound
+
+pub returns-in-Err-clause-sound : goal.returns-in-Err-clause-sound
+returns-in-Err-clause-sound g c =
+    told_back (λ a b n. AreSound c.args.self.now.groups (cells g.D.Drive.units g.D.Drive.lost a) → AreSound c.args.self.now.groups (cells g.D.Drive.units g.D.Drive.lost b))
+    c.args.self.now.drives c.deref_mut-drives.result.now c.read_slot.new.drives 0 0 c.deref_mut-drives.ensures.value c.read_slot.ensures.touched.many refl c.read_slot.ensures.sound
