@@ -1,11 +1,14 @@
 -- The first free slot, group by group.
-use Rattle.std.proofs.Common.{◌≡◌, ◌⊎◌, inl, inr, ℕ, ◌+◌, ◌*◌, ◌/◌, ◌%◌, ◌<◌, ◌≤◌, arith, Option, Some, None}
+use Rattle.std.proofs.Common.{◌≡◌, ◌⊎◌, inl, inr, ℕ, ◌+◌, ◌*◌, ◌/◌, ◌%◌, ◌<◌, ◌≤◌, arith, length, sym, ◌∙◌, Option, Some, None}
+use Rattle.std.specs.Prelude.{MatchOption}
+use Rattle.std.proofs.lemmas.Option.{same_Some}
+use Rattle.migrator.proofs.Picks.{made_low}
 use Rattle.std.proofs.lemmas.Bool.{cases_lt}
 use Rattle.extent_groups.specs.declared.class.Class.TheVariants.{Parity}
 use Rattle.extent_groups.specs.Groups.{Groups}
 use Rattle.migrator.specs.Slots.{End, IsBehind, IsFresh}
-use Rattle.migrator.specs.Picking.{IsFreeFrom, IsOtherIdle}
-use Rattle.migrator.specs.First.{IsLowest, IsFirst, IsFreeBehind, IsFreeFresh, IsFirstAppend, IsFreePick}
+use Rattle.migrator.specs.Picking.{IsOtherIdle}
+use Rattle.migrator.specs.First.{Behind, IsLowest, IsFirst, IsFreeBehind, IsFreeFresh, IsFirstAppend, IsFreePick}
 
 -- a number is its group's first and its index
 pub slot_is : (group slot : ℕ) → slot / 128 ≡ group → 128 * group + slot % 128 ≡ slot
@@ -32,18 +35,18 @@ module _ (P : ℕ → Type 0) where
 
 -- picked and free is what each kind says
 module _ (end : End) (groups : Groups) (keys : ℕ → ℕ) (free : ℕ → Type 0) where
-  abbrev pub Behind : ℕ → Type 0
-  Behind = IsFreePick Parity groups (λ group. end.group ≡ Some group) (IsFreeFrom end.next keys) free
+  abbrev Goes : ℕ → Type 0
+  Goes = Behind end groups keys free
 
   abbrev pub Anew : ℕ → Type 0
   Anew = IsFreePick Parity groups (IsOtherIdle end groups keys) (λ _. Unit {0}) free
 
-  to_behind : (s : ℕ) → Behind s → IsFreeBehind end groups keys free s
+  to_behind : (s : ℕ) → Goes s → IsFreeBehind end groups keys free s
   to_behind s p =
       let q = p.picked in
       (record { slot_of = q.slot_of; own = q.group_too; from = q.slot_too.from; free = q.slot_too.free }, p.is_free)
 
-  from_behind : (s : ℕ) → IsFreeBehind end groups keys free s → Behind s
+  from_behind : (s : ℕ) → IsFreeBehind end groups keys free s → Goes s
   from_behind s b =
       record { picked = record { slot_of = b.0.slot_of; group_too = b.0.own; slot_too = record { from = b.0.from; free = b.0.free } }; is_free = b.1 }
 
@@ -57,11 +60,11 @@ module _ (end : End) (groups : Groups) (keys : ℕ → ℕ) (free : ℕ → Type
       record { picked = record { slot_of = b.0.slot_of; group_too = record { other = b.0.other; idle = b.0.idle }; slot_too = tt }; is_free = b.1 }
 
   -- one of the write group
-  pub found_behind : (slot : ℕ) → IsLowest Behind slot → IsFirstAppend end groups keys free (Some slot)
+  pub found_behind : (slot : ℕ) → IsLowest Goes slot → IsFirstAppend end groups keys free (Some slot)
   found_behind slot h = inl (record { holds = to_behind slot h.holds; least = λ m p. h.least m (from_behind m p) })
 
   -- else one of the others, or none
-  pub found_fresh : (result : Option ℕ) → IsFirst Behind None → IsFirst Anew result → IsFirstAppend end groups keys free result
+  pub found_fresh : (result : Option ℕ) → IsFirst Goes None → IsFirst Anew result → IsFirstAppend end groups keys free result
   found_fresh None none other = λ slot which f. by slot f which
     where
       by : (slot : ℕ) → free slot → IsBehind end groups keys slot ⊎ IsFresh end groups keys slot → ⊥
@@ -71,3 +74,17 @@ module _ (end : End) (groups : Groups) (keys : ℕ → ℕ) (free : ℕ → Type
     (λ s b. none s (from_behind s b)),
     record { holds = to_fresh slot other.holds; least = λ m p. other.least m (from_fresh m p) },
   )
+
+-- the first of the write group is the first where the log goes on behind it
+pub behind_first : (end : End) (groups : Groups) (keys : ℕ → ℕ) (free : ℕ → Type 0) (group : ℕ) (result : Option ℕ) → end.group ≡ Some group
+    → MatchOption result (Unit {0}) (λ slot. Behind end groups keys free slot)
+    → ((slot : ℕ) → slot / 128 ≡ group → Behind end groups keys free slot → MatchOption result ⊥ (λ found. found ≤ slot))
+    → IsFirst (Behind end groups keys free) result
+behind_first end groups keys free group None is some first = λ n p. first n (same_Some (n / 128) group (sym p.picked.group_too ∙ is)) p
+behind_first end groups keys free group (Some slot) is some first =
+    record { holds = some; least = λ n p. first n (same_Some (n / 128) group (sym p.picked.group_too ∙ is)) p }
+
+-- there is none where there is no write group of a number that groups have
+pub behind_none : (end : End) (groups : Groups) (keys : ℕ → ℕ) (free : ℕ → Type 0) → length groups.table ≡ 512
+    → ((group : ℕ) → end.group ≡ Some group → group < 512 → ⊥) → IsFirst (Behind end groups keys free) None
+behind_none end groups keys free long none = λ n p. none (n / 128) p.picked.group_too (made_low groups (n / 128) Parity long p.picked.slot_of.made)

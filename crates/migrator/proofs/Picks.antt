@@ -1,9 +1,8 @@
 -- Picked slots of groups.
-use Rattle.std.proofs.Common.{◌≡◌, ◌∙◌, ◌⊎◌, inl, inr, ℕ, ◌/◌, ◌%◌, ◌<◌, ◌≤◌, length, sym, ap, arith, Some, None, slice_get, unwrap_or, ◌↔◌}
+use Rattle.std.proofs.Common.{◌≡◌, ◌∙◌, ◌⊎◌, inl, inr, ℕ, ◌+◌, ◌*◌, ◌/◌, ◌%◌, ◌<◌, ◌≤◌, length, sym, ap, subst, arith, Some, None, slice_get, unwrap_or, ◌↔◌}
 use Rattle.std.proofs.lemmas.Bool.{cases_lt}
 use Rattle.std.proofs.lemmas.Option.{slice_get_past}
-use Rattle.map_join.specs.Live.{IsLiveIn, IsLiveCount}
-use Rattle.map_join.proofs.Rising.{count_zero, count_none}
+use Rattle.map_join.specs.Live.{IsLive}
 use Rattle.extent_groups.specs.declared.class.Class.{Class}
 use Rattle.extent_groups.specs.declared.class.Class.TheVariants.{Parity}
 use Rattle.extent_groups.specs.Groups.{Groups, class_in, group_at}
@@ -22,16 +21,19 @@ made_low groups g class long made = by (cases_lt g 512)
         let both : None ≡ Some class = sym none ∙ made in
         cc
 
--- a parity group is idle just where none of its slots is counted
-pub idle_counted : (groups : Groups) (keys : ℕ → ℕ) (group slots count : ℕ)
-    → ((slot : ℕ) → slot / 128 ≡ group → IsSlotOf Parity groups slot ↔ (slot % 128 < slots))
-    → IsLiveCount keys group slots count → (count ≡ 0 → IsIdle groups keys group) × (IsIdle groups keys group → count ≡ 0)
-idle_counted groups keys group slots count just counted = (to, from)
-  where
-    to : count ≡ 0 → IsIdle groups keys group
-    to zero slot is own live =
-        count_zero (IsLiveIn keys group slots) (counted.0, counted.1, counted.2 ∙ zero) slot
-        (record { own = own; among = (just slot own).0 is; live = live })
+-- a group with a live slot isn't idle, and one of which no slot is live is
+pub live_busy : (groups : Groups) (keys : ℕ → ℕ) (group slots index : ℕ)
+    → ((slot : ℕ) → slot / 128 ≡ group → IsSlotOf Parity groups slot ↔ (slot % 128 < slots)) → slots ≤ 128 → index < slots
+    → IsLive keys (128 * group + index) → IsIdle groups keys group → ⊥
+live_busy groups keys group slots index just few inside live idle =
+    let slot : ℕ = 128 * group + index in
+    let own : slot / 128 ≡ group = omega arith in
+    let at : slot % 128 ≡ index = omega arith in
+    idle slot ((just slot own).1 (omega (arith, at))) own live
 
-    from : IsIdle groups keys group → count ≡ 0
-    from idle = count_none (IsLiveIn keys group slots) count counted (λ slot h. idle slot ((just slot h.own).1 h.among) h.own h.live)
+pub all_dead : (groups : Groups) (keys : ℕ → ℕ) (group slots : ℕ)
+    → ((slot : ℕ) → slot / 128 ≡ group → IsSlotOf Parity groups slot ↔ (slot % 128 < slots))
+    → ((k : ℕ) → k < slots → IsLive keys (128 * group + k) → ⊥) → IsIdle groups keys group
+all_dead groups keys group slots just dead slot is own live =
+    let same : slot ≡ 128 * group + slot % 128 = omega arith in
+    dead (slot % 128) ((just slot own).0 is) (subst (IsLive keys) same live)

@@ -1,9 +1,10 @@
 -- The first free slot where the log goes on.
-use Rattle.std.specs.Prelude.{◌⊎◌, ℕ, ◌≤◌, Option, Some, None}
+use Rattle.std.specs.Prelude.{◌≡◌, ◌⊎◌, ℕ, ◌≤◌, Option, Some, None}
 use Rattle.extent_groups.specs.declared.class.Class.{Class}
+use Rattle.extent_groups.specs.declared.class.Class.TheVariants.{Parity}
 use Rattle.extent_groups.specs.Groups.{Groups}
 use Rattle.migrator.specs.Slots.{End, IsBehind, IsFresh}
-use Rattle.migrator.specs.Picking.{IsPicked}
+use Rattle.migrator.specs.Picking.{IsPicked, IsFreeFrom}
 
 -- the lowest number that is so
 pub record IsLowest (P : ℕ → Type 0) (n : ℕ) : Type 0 where
@@ -33,3 +34,7 @@ IsFirstAppend end groups keys free (Some slot) =
 pub record IsFreePick (class : Class) (groups : Groups) (group_is slot_is free : ℕ → Type 0) (slot : ℕ) : Type 0 where
   pub picked : IsPicked class groups group_is slot_is slot
   pub is_free : free slot
+
+-- a picked and free slot of the write group, from the next index on
+abbrev pub Behind : End → Groups → (ℕ → ℕ) → (ℕ → Type 0) → ℕ → Type 0
+Behind end groups keys free = IsFreePick Parity groups (λ group. end.group ≡ Some group) (IsFreeFrom end.next keys) free

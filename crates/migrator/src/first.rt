@@ -2,7 +2,7 @@
 ghost use Rattle.std.specs.Prelude.{◌≡◌, ◌↔◌, ℕ, ◌/◌, ◌<◌, ◌≤◌, IsTrue, MatchOption};
 ghost use Rattle.extent_groups.specs.declared.class.Class.TheVariants.{Mirrored};
 ghost use Rattle.extent_groups.specs.Stores.{IsSlotOf};
-ghost use Rattle.migrator.specs.First.{IsFirst, IsFirstAppend, IsFreePick};
+ghost use Rattle.migrator.specs.First.{Behind, IsFirst, IsFirstAppend, IsFreePick};
 
 use crate::LogEnd;
 use crate::append::{Fresh, GoingOn};
@@ -29,11 +29,29 @@ pub fn first_append<L: Live, F: Free>(
 ) -> Option<u16>
     ensures { IsFirstAppend end.now groups.now (L.keys live.now) (F.free free.now) result }
 {
-    match first_picked(groups, Class::Parity, &GoingOn { end, live }, free) {
+    match first_behind(end, groups, live, free) {
         Some(slot) => return Some(slot),
         None => {}
     }
     first_picked(groups, Class::Parity, &Fresh { end, groups, live }, free)
+}
+
+// The first of these in the write group; no other group is looked at.
+fn first_behind<L: Live, F: Free>(
+    end: &LogEnd,
+    groups: &GroupTable,
+    live: &L,
+    free: &F,
+) -> Option<u16>
+    ensures { IsFirst (Behind end.now groups.now (L.keys live.now) (F.free free.now)) result }
+{
+    let _members = groups.members(0);
+    match end.group() {
+        Some(group) if group < GROUPS as u16 => {
+            first_in(groups, Class::Parity, group, &GoingOn { end, live }, free)
+        }
+        _ => None,
+    }
 }
 
 /// The lowest free slot of mirrored groups. It takes no memory.
