@@ -1,5 +1,7 @@
 pub mod Lists
 pub mod Views
+pub mod Sums
+pub mod Shared
 pub mod Timed
 pub mod Winning
 pub mod Carried

@@ -9,7 +9,7 @@ use Rattle.slot_words.specs.declared.view.Kind.TheVariants.{Exchange, Store}
 use Rattle.slot_words.specs.declared.view.Sight.{Sight}
 use Rattle.slot_words.specs.declared.view.View.{View}
 use Rattle.slot_words.specs.Places.{word_of}
-use Rattle.slot_words.specs.ClaimRule.{sight_at, Stands, steps, generation_at, ClaimRule}
+use Rattle.slot_words.specs.ClaimRule.{sight_at, Stands, steps, generation_at, IsShared, ClaimRule}
 use Rattle.slot_words.proofs.Lists.{nowhere, alone}
 use Rattle.slot_words.proofs.Views.{stands_set, stands_again, still_stands}
 use Rattle.slot_words.proofs.Timed.{timed_next}
@@ -27,9 +27,9 @@ other_word a b ne e = ne (omega arith)
 
 -- a free slot is claimed: one seat comes to have the pair, and the word becomes odd
 pub claimed : (n : ℕ) (ws : List ℕ) (vs : List View) (id g : ℕ) (p : Held) (v w : View) → ClaimRule n ws vs → get_elem? vs id ≡ some v
-    → w.pairs ≡ p ∷ [] → w.won ≡ v.won ++ p ∷ [] → w.steps ≡ v.steps ++ w.sight ∷ [] → w.sight ≡ sight_at Exchange (word_of p.slot) (2 * p.generation + 1) (steps vs + 1) → p.slot < n
+    → w.pairs ≡ p ∷ [] → w.won ≡ v.won ++ p ∷ [] → w.steps ≡ v.steps ++ w.sight ∷ [] → w.sight ≡ sight_at Exchange (word_of p.slot) (2 * p.generation + 1) (steps vs + 1) → IsShared (set vs id w) → p.slot < n
     → get_or ws (word_of p.slot) 0 ≡ 2 * g → p.generation ≡ g + 1 → p.generation ≤ 2 ^ 62 → ClaimRule n (set ws (word_of p.slot) (2 * p.generation + 1)) (set vs id w)
-claimed n ws vs id g p v w rule here has wins more sees inside free next small = record {
+claimed n ws vs id g p v w rule here has wins more sees shared inside free next small = record {
   wide = length-set ws (word_of p.slot) (2 * p.generation + 1) ∙ rule.wide;
   low = stays_low ws (word_of p.slot) (2 * p.generation + 1) within (omega arith) rule.low;
   current = λ s k q st. ⊎_elim
@@ -51,6 +51,7 @@ claimed n ws vs id g p v w rule here has wins more sees inside free next small =
   won = won_next n ws vs id p v w rule.won here wins within (let e : generation_at ws p.slot ≡ g = omega arith in omega arith);
   timed = timed_next words vs id v w rule.timed.past here more (ap (λ (s : Sight). s.time) sees)
       (subst (λ (s : Sight). s.word ≡ get_or words s.place 0) (sym sees) (sym (get_or-set_same ws (word_of p.slot) (2 * p.generation + 1) 0 within)));
+  shared = shared;
 }
   where
     words : List ℕ
@@ -66,9 +67,9 @@ claimed n ws vs id g p v w rule here has wins more sees inside free next small =
 
 -- a held slot is released by the seat that has its pair: the word becomes even
 pub freed : (n : ℕ) (ws : List ℕ) (vs : List View) (id : ℕ) (p : Held) (v w : View) → ClaimRule n ws vs → get_elem? vs id ≡ some v
-    → v.pairs ≡ p ∷ [] → w.pairs ≡ [] → w.won ≡ v.won → w.steps ≡ v.steps ++ w.sight ∷ [] → w.sight ≡ sight_at Store (word_of p.slot) (2 * p.generation) (steps vs + 1) → p.slot < n
+    → v.pairs ≡ p ∷ [] → w.pairs ≡ [] → w.won ≡ v.won → w.steps ≡ v.steps ++ w.sight ∷ [] → w.sight ≡ sight_at Store (word_of p.slot) (2 * p.generation) (steps vs + 1) → IsShared (set vs id w) → p.slot < n
     → ClaimRule n (set ws (word_of p.slot) (2 * p.generation)) (set vs id w)
-freed n ws vs id p v w rule here has none won more sees inside = record {
+freed n ws vs id p v w rule here has none won more sees shared inside = record {
   wide = length-set ws (word_of p.slot) (2 * p.generation) ∙ rule.wide;
   low = stays_low ws (word_of p.slot) (2 * p.generation) within small rule.low;
   current = λ s k q st. let old = stood s k q st in
@@ -79,6 +80,7 @@ freed n ws vs id p v w rule here has none won more sees inside = record {
       (still_stands (λ (u : View). u.won) vs id v w [] here (won ∙ sym (append-nil v.won)));
   timed = timed_next words vs id v w rule.timed.past here more (ap (λ (s : Sight). s.time) sees)
       (subst (λ (s : Sight). s.word ≡ get_or words s.place 0) (sym sees) (sym (get_or-set_same ws (word_of p.slot) (2 * p.generation) 0 within)));
+  shared = shared;
 }
   where
     words : List ℕ

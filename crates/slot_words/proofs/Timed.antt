@@ -1,8 +1,8 @@
 -- The order of steps, after one more, after a seat came, and after two seats became one.
-use Rattle.std.proofs.Common.{◌≡◌, ℕ, zero, suc, ◌+◌, ◌<◌, ◌≤◌, ◌≢◌, ◌⊎◌, List, [], ◌∷◌, ◌++◌, length, length-append, set, get_or, Bool, true, false, nat_lt, sym, refl, ap, ◌∙◌, inl, inr, ⊎_elim, subst, arith}
+use Rattle.std.proofs.Common.{◌≡◌, ℕ, ◌+◌, ◌<◌, ◌≤◌, ◌≢◌, ◌⊎◌, List, [], ◌∷◌, ◌++◌, length, length-append, set, get_or, Bool, true, false, nat_lt, sym, refl, ap, ◌∙◌, inl, inr, ⊎_elim, subst, arith}
 use Rattle.std.proofs.lemmas.Bool.Decides.{nat_tests}
 use Rattle.atomic_table.proofs.Lists.{at_set, set_here, set_else, at_longer, at_snoc, at_last}
-use mathlib.Core.Option.{some, some-injective, some-ne-none}
+use mathlib.Core.Option.{some, some-injective}
 use mathlib.Core.Logic.{dite}
 use native.Mathlib.Decide.{ℕ_discrete}
 use lib.ListN.{get_elem?}
@@ -12,17 +12,15 @@ use Rattle.slot_words.specs.ClaimRule.{steps, blank, IsTimed}
 use Rattle.slot_words.specs.Sight.{later}
 use Rattle.slot_words.specs.Steps.{pair_part, step_part}
 use Rattle.slot_words.proofs.Lists.{at_inside}
+use Rattle.slot_words.proofs.Sums.{total_set, total_push}
 
 -- one view changes
 steps_set : (vs : List View) (id : ℕ) (v w : View) → get_elem? vs id ≡ some v → steps (set vs id w) + length v.steps ≡ steps vs + length w.steps
-steps_set [] id v w e = absurd (some-ne-none v (sym e))
-steps_set (x ∷ xs) zero v w e = let is : length x.steps ≡ length v.steps = ap (λ (y : View). length y.steps) (some-injective x v e) in omega arith
-steps_set (x ∷ xs) (suc id) v w e = let h : steps (set xs id w) + length v.steps ≡ steps xs + length w.steps = steps_set xs id v w e in omega arith
+steps_set = total_set (λ (u : View). length u.steps)
 
 -- one view comes
 steps_push : (vs : List View) (w : View) → steps (vs ++ w ∷ []) ≡ steps vs + length w.steps
-steps_push [] w = omega arith
-steps_push (x ∷ xs) w = let h : steps (xs ++ w ∷ []) ≡ steps xs + length w.steps = steps_push xs w in omega arith
+steps_push = total_push (λ (u : View). length u.steps)
 
 -- no seat's last step is after the last one
 abbrev pub ArePast : List View → Type 0
@@ -50,22 +48,45 @@ timed_next ws vs id v w past here more now is = record {
     sum : steps (set vs id w) ≡ steps vs + 1
     sum = let all = steps_set vs id v w here in let count : length w.steps ≡ length v.steps + 1 = ap (λ (l : List Sight). length l) more ∙ length-append v.steps (w.sight ∷ []) in omega arith
 
--- a seat comes
-pub timed_more : (ws : List ℕ) (vs : List View) → IsTimed ws vs → IsTimed ws (vs ++ blank ∷ [])
-timed_more ws vs so = record {
+-- a seat comes that made no step
+pub timed_more : (ws : List ℕ) (vs : List View) (w : View) → IsTimed ws vs → w.sight.time ≡ 0 → w.steps ≡ [] → IsTimed ws (vs ++ w ∷ [])
+timed_more ws vs w so never none = record {
   past = λ s x at. ⊎_elim
       (λ (old : get_elem? vs s ≡ some x). let h = so.past s x old in let all = sum in omega arith)
-      (λ (new : blank ≡ x). subst (λ (y : View). y.sight.time ≤ steps (vs ++ blank ∷ [])) new (omega arith))
-      (at_snoc vs blank x s at);
-  latest = let l = so.latest in (l.0, l.1, at_longer vs (blank ∷ []) l.0 l.1 l.2, l.3 ∙ sym sum);
+      (λ (new : w ≡ x). subst (λ (y : View). y.sight.time ≤ steps (vs ++ w ∷ [])) new (omega arith))
+      (at_snoc vs w x s at);
+  latest = let l = so.latest in (l.0, l.1, at_longer vs (w ∷ []) l.0 l.1 l.2, l.3 ∙ sym sum);
   exact = λ s x at. ⊎_elim
       (λ (old : get_elem? vs s ≡ some x). λ above same. so.exact s x old above (same ∙ sum))
-      (λ (new : blank ≡ x). subst (λ (y : View). Exact ws (steps (vs ++ blank ∷ [])) y.sight) new (λ above same. absurd (omega arith)))
-      (at_snoc vs blank x s at);
+      (λ (new : w ≡ x). subst (λ (y : View). Exact ws (steps (vs ++ w ∷ [])) y.sight) new (λ above same. absurd (omega arith)))
+      (at_snoc vs w x s at);
 }
   where
-    sum : steps (vs ++ blank ∷ []) ≡ steps vs
-    sum = let all = steps_push vs blank in omega arith
+    sum : steps (vs ++ w ∷ []) ≡ steps vs
+    sum = let all = steps_push vs w in let zero : length w.steps ≡ 0 = ap (λ (l : List Sight). length l) none in omega arith
+
+-- a seat's view changes, and its steps don't
+pub timed_same : (ws : List ℕ) (vs : List View) (id : ℕ) (v w : View) → IsTimed ws vs → get_elem? vs id ≡ some v → w.sight ≡ v.sight → w.steps ≡ v.steps → IsTimed ws (set vs id w)
+timed_same ws vs id v w so here last same = record {
+  past = λ s x at. ⊎_elim
+      (λ (h : (s ≡ id) × (w ≡ x)). subst (λ (y : View). y.sight.time ≤ steps (set vs id w)) h.1 (let p = so.past id v here in let all = sum in let e : w.sight.time ≡ v.sight.time = ap (λ (t : Sight). t.time) last in omega arith))
+      (λ (h : (s ≢ id) × (get_elem? vs s ≡ some x)). let old = so.past s x h.1 in let all = sum in omega arith)
+      (at_set vs id s w x at);
+  latest = let l = so.latest in dite (ℕ_discrete l.0 id)
+      (λ (e : l.0 ≡ id).
+      let was : l.1.sight.time ≡ v.sight.time = ap (λ (y : View). y.sight.time) (some-injective l.1 v (sym l.2 ∙ ap (get_elem? vs) e ∙ here)) in
+      let now : w.sight.time ≡ v.sight.time = ap (λ (t : Sight). t.time) last in
+      let time = l.3 in let all = sum in (id, w, set_here vs id w (at_inside vs id v here), omega arith))
+      (λ (ne : l.0 ≢ id). (l.0, l.1, set_else vs id l.0 w ne ∙ l.2, l.3 ∙ sym sum));
+  exact = λ s x at. ⊎_elim
+      (λ (h : (s ≡ id) × (w ≡ x)). subst (λ (y : View). Exact ws (steps (set vs id w)) y.sight) h.1
+      (subst (λ (t : Sight). Exact ws (steps (set vs id w)) t) (sym last) (λ above same. so.exact id v here above (same ∙ sum))))
+      (λ (h : (s ≢ id) × (get_elem? vs s ≡ some x)). λ above same. so.exact s x h.1 above (same ∙ sum))
+      (at_set vs id s w x at);
+}
+  where
+    sum : steps (set vs id w) ≡ steps vs
+    sum = let all = steps_set vs id v w here in let count : length w.steps ≡ length v.steps = ap (λ (l : List Sight). length l) same in omega arith
 
 -- a seat is cut in two, and the new one remembers the steps
 pub timed_parts : (ws : List ℕ) (vs : List View) (id : ℕ) (v : View) → IsTimed ws vs → get_elem? vs id ≡ some v → IsTimed ws (set vs id (pair_part v) ++ step_part v ∷ [])

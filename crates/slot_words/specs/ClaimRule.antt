@@ -21,18 +21,42 @@ sight_at kind place word time = record { kind = kind; place = place; word = word
 abbrev pub no_sight : Sight
 no_sight = sight_at Look 0 0 0
 
--- the view of a seat whose last step was this, that made these, and that has and won these pairs
-abbrev pub knows : Sight → List Sight → List Held → List Held → View
-knows sight steps pairs won = record { sight = sight; steps = steps; pairs = pairs; won = won }
+-- the view of a seat whose last step was this, that made these, that has and won these pairs, and that has this share of
+-- the right to step and granted so many more
+abbrev pub knows : Sight → List Sight → List Held → List Held → ℕ → ℕ → View
+knows sight steps pairs won share grants = record {
+  sight = sight;
+  steps = steps;
+  pairs = pairs;
+  won = won;
+  share = share;
+  grants = grants;
+}
 
--- the view of a seat that made no step
+-- the view of a seat that made no step, and may make none
 abbrev pub blank : View
-blank = knows no_sight [] [] []
+blank = knows no_sight [] [] [] 0 0
+
+-- the view of a seat that made no step yet
+abbrev pub fresh : View
+fresh = knows no_sight [] [] [] 1 0
+
+-- a number of each view, added up
+abbrev pub total : (View → ℕ) → List View → ℕ
+total f [] = 0
+total f (v ∷ vs) = f v + total f vs
 
 -- how many steps all seats made
 abbrev pub steps : List View → ℕ
-steps [] = 0
-steps (v ∷ vs) = length v.steps + steps vs
+steps views = total (λ v. length v.steps) views
+
+-- all shares together
+abbrev pub shares : List View → ℕ
+shares views = total (λ v. v.share) views
+
+-- how many shares were granted
+abbrev pub grants : List View → ℕ
+grants views = total (λ v. v.grants) views
 
 -- the pair p stands in this list of this seat's view, at this place
 abbrev pub StandsIn : (View → List Held) → List View → ℕ → ℕ → Held → Type 0
@@ -64,6 +88,11 @@ pub record IsTimed (words : List ℕ) (views : List View) : Type 0 where
   pub latest : (seat : ℕ) × (v : View) × (get_elem? views seat ≡ some v) × (v.sight.time ≡ steps views)
   pub exact : (seat : ℕ) (v : View) → get_elem? views seat ≡ some v → 0 < v.sight.time → v.sight.time ≡ steps views → v.sight.word ≡ slice_index words v.sight.place
 
+-- At first there is one share, and each grant makes one more. Who has none made no step and granted none.
+pub record IsShared (views : List View) : Type 0 where
+  pub within : shares views ≤ grants views + 1
+  pub spent : (seat : ℕ) (v : View) → get_elem? views seat ≡ some v → v.share ≡ 0 → (v.steps ≡ []) × (v.grants ≡ 0)
+
 -- A slot's word is twice a generation, and one more where the slot is held. Where it is even no pair of any view
 -- names the slot. Where it is odd at most one does, and with that generation.
 pub record ClaimRule (slots : ℕ) (words : List ℕ) (views : List View) : Type 0 where
@@ -73,3 +102,4 @@ pub record ClaimRule (slots : ℕ) (words : List ℕ) (views : List View) : Type
   pub once : (seat place other spot : ℕ) (p q : Held) → Stands views seat place p → Stands views other spot q → p.slot ≡ q.slot → (seat ≡ other) × (place ≡ spot)
   pub won : IsWon slots words views
   pub timed : IsTimed words views
+  pub shared : IsShared views

@@ -3,7 +3,7 @@ use Rattle.std.specs.Prelude.{◌≡◌, ◌≢◌, ◌⊎◌, ℕ, zero, suc, �
 use Rattle.slot_words.specs.declared.claim.ClaimRefusal.{ClaimRefusal}
 use Rattle.slot_words.specs.declared.claim.ClaimRefusal.TheVariants.{Taken, Spent, Moved}
 use Rattle.slot_words.specs.declared.view.Held.{Held}
-use Rattle.slot_words.specs.declared.view.Kind.TheVariants.{Look, Exchange}
+use Rattle.slot_words.specs.declared.view.Kind.TheVariants.{Look, Exchange, Store}
 use Rattle.slot_words.specs.declared.view.Sight.{Sight}
 use Rattle.slot_words.specs.Sight.{Sights, IsNext}
 
@@ -18,6 +18,11 @@ HasTried slot before after = IsNext Exchange slot before.stepped before.steps af
 -- the Pass made no exchange
 abbrev pub HasNotTried : Sights → Sights → Type 0
 HasNotTried before after = (after.stepped ≡ before.stepped) × (after.steps ≡ before.steps)
+
+-- the Pass made one store more, which left the claim's slot free at its generation; no look and no other step was made
+abbrev pub HasFreed : Held → Sights → Sights → Type 0
+HasFreed claim before after = IsNext Store claim.slot before.stepped before.steps after.stepped after.steps × (after.stepped.word ≡ 2 * claim.generation)
+    × (after.looked ≡ before.looked) × (after.looks ≡ before.looks)
 
 -- one exchange won the slot at the generation after the one that the look found, and left it held
 abbrev pub IsClaimed : ℕ → Sights → Sights → Held → Type 0

@@ -1,5 +1,5 @@
 -- What a Pass remembers of the words.
-use Rattle.std.specs.Prelude.{◌≡◌, ℕ, ◌<◌, ◌++◌, nat_lt, Bool, true, false, List, [], ◌∷◌}
+use Rattle.std.specs.Prelude.{◌≡◌, ℕ, ◌+◌, ◌<◌, ◌++◌, nat_lt, Bool, true, false, List, [], ◌∷◌}
 use Rattle.slot_words.specs.declared.view.Held.{Held}
 use Rattle.slot_words.specs.declared.view.Kind.{Kind}
 use Rattle.slot_words.specs.declared.view.Sight.{Sight}
@@ -7,18 +7,36 @@ use Rattle.slot_words.specs.declared.view.View.{View}
 use Rattle.slot_words.specs.Places.{word_of}
 use Rattle.slot_words.specs.ClaimRule.{no_sight}
 
--- A Pass's last look and all that it made; its last exchange or store, and all of these that its seat made; and the pairs
--- that this seat won and still tells.
+-- A Pass's last look and all that it made; its last exchange or store, and all of these that it made; the pairs that it
+-- won and still tells; its share of the right to step, and how many shares it granted.
 pub record Sights : Type 0 where
   pub looked : Sight
   pub looks : List Sight
   pub stepped : Sight
   pub steps : List Sight
   pub won : List Held
+  pub share : ℕ
+  pub grants : ℕ
 
--- nothing yet
+-- of a new Pass: one share to look and one to exchange
 abbrev pub no_sights : Sights
-no_sights = record { looked = no_sight; looks = []; stepped = no_sight; steps = []; won = [] }
+no_sights = record { looked = no_sight; looks = []; stepped = no_sight; steps = []; won = []; share = 2; grants = 0 }
+
+-- so many shares were granted
+abbrev pub after_grants : ℕ → Sights → Sights
+after_grants count a = record {
+  looked = a.looked;
+  looks = a.looks;
+  stepped = a.stepped;
+  steps = a.steps;
+  won = a.won;
+  share = a.share;
+  grants = a.grants + count;
+}
+
+-- no share came or went, and none was granted
+abbrev pub KeepsShares : Sights → Sights → Type 0
+KeepsShares before after = (after.share ≡ before.share) × (after.grants ≡ before.grants)
 
 -- the second where the test says so, and else the first
 abbrev pub second_if : Bool → Sight → Sight → Sight
@@ -37,6 +55,8 @@ both_sights a b = record {
   stepped = later a.stepped b.stepped;
   steps = a.steps ++ b.steps;
   won = a.won ++ b.won;
+  share = a.share + b.share;
+  grants = a.grants + b.grants;
 }
 
 -- one step more than before, of this kind and at this slot's word, and after the last one

@@ -11,9 +11,9 @@ use Rattle.slot_words.specs.Sight.{later}
 
 -- the view of a seat that made this step, and now has and won these pairs
 abbrev pub after_step : View → Sight → List Held → List Held → View
-after_step v s pairs won = knows s (v.steps ++ s ∷ []) pairs won
+after_step v s pairs won = knows s (v.steps ++ s ∷ []) pairs won v.share v.grants
 
--- a load made a seat that knows nothing
+-- a load made a seat that knows nothing and may make no step
 abbrev pub Sat : {S : Type 0} → Step S → Me S View → ℕ → Me S View → Type 0
 Sat s before found after = after ≡ (blank, [])
 
@@ -39,13 +39,17 @@ Freed s before stored after = (time : ℕ) × (before.0.sight.time < time)
 abbrev pub Differed : {S : Type 0} → Step S → Me S View → ℕ → Me S View → Type 0
 Differed s before found after = (p q : Held) → before.0.pairs ≡ p ∷ q ∷ [] → p.slot ≢ q.slot
 
--- a seat that takes in another has the pairs of both, and of their last steps the later one
+-- a seat that takes in another has the pairs and the shares of both, and of their last steps the later one
 abbrev pub both_pairs : View → View → View
-both_pairs v w = knows (later v.sight w.sight) (v.steps ++ w.steps) (v.pairs ++ w.pairs) (v.won ++ w.won)
+both_pairs v w = knows (later v.sight w.sight) (v.steps ++ w.steps) (v.pairs ++ w.pairs) (v.won ++ w.won) (v.share + w.share) (v.grants + w.grants)
 
--- a seat is cut in two: one part has the pairs, and won them, and the other remembers the steps
+-- a seat is cut in two: one part has the pairs, and won them, and the other remembers the steps and may make more
 abbrev pub pair_part : View → View
-pair_part v = knows no_sight [] v.pairs v.won
+pair_part v = knows no_sight [] v.pairs v.won 0 0
 
 abbrev pub step_part : View → View
-step_part v = knows v.sight v.steps [] []
+step_part v = knows v.sight v.steps [] [] v.share v.grants
+
+-- a seat grants a share to another
+abbrev pub granting : View → View
+granting v = knows v.sight v.steps v.pairs v.won v.share (v.grants + 1)

@@ -1,18 +1,30 @@
-// The two steps that change no word: a load that makes a seat, and one that makes two seats one.
+// The steps that change no word: a load that makes a seat, one that grants a seat a share, and one that makes two seats one.
 ghost use Rattle.std.specs.Prelude.{◌≡◌, ◌<◌, []};
-ghost use Rattle.slot_words.specs.Idle.{IsIdle};
-ghost use Rattle.slot_words.specs.ClaimRule.{blank};
-ghost use Rattle.slot_words.specs.Steps.{both_pairs};
+ghost use Rattle.slot_words.specs.ClaimRule.{blank, fresh};
+ghost use Rattle.slot_words.specs.Steps.{both_pairs, granting};
 
-use crate::rule::{Both, Sits, Sitting, Words};
+use crate::rule::{Both, Grants, Sits, Sitting, Words};
 
-// Loads word 0, and makes a seat that knows nothing.
+// Loads word 0, and makes a seat that knows nothing and may make no step.
 pub(crate) fn sit(table: &Words) -> Sitting
     requires { 0 < table.now.shared.table_id.words }
-    ensures idle { IsIdle table.now.shared.table_id result }
-    ensures blank { result.me.0 ≡ blank }
+    ensures table { result.table_id ≡ table.now.shared.table_id }
+    ensures blank { result.me ≡ (blank, []) }
 {
     table.shared.load_new_seat::<Sits>(0).1
+}
+
+// A new seat with a share, which the first grants.
+pub(crate) fn grant(table: &Words, seat: &mut Sitting) -> Sitting
+    requires room { 0 < table.now.shared.table_id.words }
+    requires seat { seat.old.table_id ≡ table.now.shared.table_id }
+    requires share { 0 < seat.old.me.0.share }
+    ensures seat { seat.new.table_id ≡ seat.old.table_id }
+    ensures granted { seat.new.me ≡ (granting seat.old.me.0, seat.old.me.1) }
+    ensures table { result.table_id ≡ table.now.shared.table_id }
+    ensures fresh { result.me ≡ (fresh, []) }
+{
+    table.shared.split_seat::<Grants>(seat)
 }
 
 // The first seat takes in the pairs of the other.

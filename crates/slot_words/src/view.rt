@@ -26,10 +26,13 @@ pub struct Sight {
     pub time: u64,
 }
 
-/// The seat's last step, all that it made, the pairs that it has, and those that it ever won.
+/// The seat's last step, all that it made, the pairs that it has, and those that it ever won; its share of the right to
+/// step, and how many shares it granted to others.
 pub struct View {
     pub sight: Sight,
     pub steps: LinkedList<Sight>,
     pub pairs: LinkedList<Held>,
     pub won: LinkedList<Held>,
+    pub share: u64,
+    pub grants: u64,
 }

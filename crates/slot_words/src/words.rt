@@ -1,16 +1,16 @@
 // The table of words, and the steps on it.
 ghost use Rattle.std.specs.Prelude.{◌≡◌, ◌≢◌, ◌↔◌, ℕ, ◌+◌, ◌*◌, ◌/◌, ◌%◌, ◌^◌, ◌<◌, ◌≤◌, [], ◌∷◌, length, All, Contains, IfOk, IfErr, None};
 ghost use Rattle.slot_words.specs.Places.{word_of, slots_of};
-ghost use Rattle.slot_words.specs.Sight.{HasStepped, no_sights, both_sights};
-ghost use Rattle.slot_words.specs.Refused.{HasLooked, IsClaimed, IsRefused, WereRefused, IsFirst, IsMissed};
-ghost use Rattle.slot_words.specs.declared.view.Kind.TheVariants.{Exchange, Store};
+ghost use Rattle.slot_words.specs.Sight.{HasStepped, KeepsShares, no_sights, after_grants, both_sights};
+ghost use Rattle.slot_words.specs.Refused.{HasLooked, HasFreed, IsClaimed, IsRefused, WereRefused, IsFirst, IsMissed};
+ghost use Rattle.slot_words.specs.declared.view.Kind.TheVariants.{Exchange};
 ghost use Rattle.slot_words.specs.Idle.{IsIdle};
 
 use crate::claim::{Claim, ClaimRefusal, NoneFree};
 use crate::naming::Naming;
 use crate::pass::Pass;
 use crate::rule::{Differs, Frees, Looks, Parts, Sitting, Takes, Words};
-use crate::steps::{merge, sit};
+use crate::steps::{grant, merge, sit};
 use atomic_table::Table;
 use std::alloc::Global;
 use std::marker::{Brand, Model, PhantomData};
@@ -42,12 +42,14 @@ pub struct Unnamed {
 impl Model for Unnamed {
     ghost use Rattle.std.specs.Prelude.{◌≡◌, ◌+◌, []};
     ghost use Rattle.atomic_table.specs.Seated.{TableId};
+    ghost use Rattle.slot_words.specs.ClaimRule.{fresh};
+    ghost use Rattle.slot_words.specs.Steps.{granting};
 
     ghost Value = { TableId };
 
     ghost view = { λ t. t.table.shared.table_id };
 
-    ghost invariant = { λ t. (t.table.shared.table_id.words ≡ t.table.shared.key + 8) × (t.seat.table_id ≡ t.table.shared.table_id) × (t.seat.me.0.pairs ≡ []) × (t.seat.me.1 ≡ []) × (t.look.table_id ≡ t.table.shared.table_id) × (t.look.me.0.pairs ≡ []) × (t.look.me.1 ≡ []) };
+    ghost invariant = { λ t. (t.table.shared.table_id.words ≡ t.table.shared.key + 8) × (t.seat.table_id ≡ t.table.shared.table_id) × (t.seat.me ≡ (granting fresh, [])) × (t.look.table_id ≡ t.table.shared.table_id) × (t.look.me ≡ (fresh, [])) };
 }
 
 /// Why a table was not made.
@@ -65,10 +67,10 @@ impl SlotWords<Brand> {
         let Ok(words) = vec![in alloc; 0; slots as usize + FIRST] else {
             return Err(TableRefusal::Memory);
         };
-        let Ok((table, seat)) = Table::of_words(alloc, &words, &u64::from(slots)) else {
+        let Ok((table, mut seat)) = Table::of_words(alloc, &words, &u64::from(slots)) else {
             return Err(TableRefusal::Memory);
         };
-        let look = sit(&table);
+        let look = grant(&table, &mut seat);
         Ok(Unnamed { table, seat, look })
     }
 }
@@ -77,6 +79,7 @@ impl Unnamed {
     /// Gives the table its name.
     pub fn named<N: Naming>(self) -> (SlotWords<N>, Pass<N>)
         requires { self ≡ N.table }
+        ensures { result.1 ≡ after_grants 1 no_sights }
     {
         let Unnamed { table, seat, look } = self;
         let words = SlotWords {
@@ -100,14 +103,13 @@ fn place_of(slot: u16) -> usize
 }
 
 impl<N: Naming> SlotWords<N> {
-    /// A second Pass, for another thread. The first stays as it was.
+    /// A second Pass, for another thread. The first stays as it was, but for the two shares that it granted.
     pub fn split(&self, pass: &mut Pass<N>) -> Pass<N>
-        ensures same { pass.new ≡ pass.old }
+        ensures granted { pass.new ≡ after_grants 2 pass.old }
         ensures fresh { result ≡ no_sights }
     {
-        let _ = pass;
-        let seat = sit(&self.table);
-        let look = sit(&self.table);
+        let seat = grant(&self.table, &mut pass.seat);
+        let look = grant(&self.table, &mut pass.seat);
         Pass {
             seat,
             look,
@@ -133,6 +135,8 @@ impl<N: Naming> SlotWords<N> {
         ensures ok { IfOk result (IsClaimed slot pass.old pass.new) }
         // the look is why, or one exchange more
         ensures err { IfErr result (IsRefused slot pass.old pass.new) }
+        // all its right to step is still the Pass's
+        ensures shares { KeepsShares pass.old pass.new }
     {
         let seen = self
             .table
@@ -157,6 +161,7 @@ impl<N: Naming> SlotWords<N> {
         ensures err { IfErr result (IsMissed seen seat.new.me.0.sight) }
         ensures tried { HasStepped Exchange slot seat.old.me.0 seat.new.me.0 }
         ensures idle { IsIdle N.table seat.new }
+        ensures shares { (seat.new.me.0.share ≡ seat.old.me.0.share) × (seat.new.me.0.grants ≡ seat.old.me.0.grants) }
     {
         let generation = seen / 2 + 1;
         let held = 2 * generation + 1;
@@ -188,6 +193,7 @@ impl<N: Naming> SlotWords<N> {
         // all were, and the last refusal is answered
         ensures err { IfErr result (λ e. WereRefused slots.now (length slots.now) pass.old pass.new e.0) }
         ensures empty { IfErr result (λ e. e.0 ≡ None ↔ slots.now ≡ []) }
+        ensures shares { KeepsShares pass.old pass.new }
     {
         let mut last = None;
         for slot in slots {
@@ -201,20 +207,20 @@ impl<N: Naming> SlotWords<N> {
 
     /// Frees the slot at the claim's generation, by one store. It always succeeds.
     pub fn release(&self, pass: &mut Pass<N>, claim: Claim<N>)
-        ensures stored { (pass.new.stepped.kind ≡ Store) × (pass.new.stepped.place ≡ word_of claim.slot) × (pass.new.stepped.word ≡ 2 * claim.generation) }
+        ensures stored { HasFreed claim pass.old pass.new }
         ensures won { Contains pass.new.won claim }
-        ensures same { (pass.new.looked ≡ pass.old.looked) × (pass.new.looks ≡ pass.old.looks) }
+        ensures shares { KeepsShares pass.old pass.new }
     {
         let Claim {
             slot,
             generation,
-            mut seat,
+            seat,
             of: _,
         } = claim;
+        merge(&self.table, &mut pass.seat, seat);
         self.table
             .shared
-            .store::<Frees>(&mut seat, place_of(slot), 2 * generation);
-        pass.seat = seat;
+            .store::<Frees>(&mut pass.seat, place_of(slot), 2 * generation);
     }
 
     /// Promises that the two claims' slots differ.
