@@ -2,6 +2,7 @@ pub mod Lists
 pub mod Views
 pub mod Sums
 pub mod Shared
+pub mod Made
 pub mod Timed
 pub mod Winning
 pub mod Carried

@@ -1,10 +1,10 @@
 -- The rule of the slot words: what is true of the words and of all claims between any two atomic steps.
-use Rattle.std.specs.Prelude.{◌≡◌, ℕ, ◌+◌, ◌*◌, ◌/◌, ◌^◌, ◌<◌, ◌≤◌, List, [], ◌∷◌, length, slice_index}
+use Rattle.std.specs.Prelude.{◌≡◌, ◌⊎◌, ℕ, ◌+◌, ◌*◌, ◌/◌, ◌%◌, ◌^◌, ◌<◌, ◌≤◌, List, [], ◌∷◌, length, slice_index, Contains}
 use mathlib.Core.Option.{some}
 use lib.ListN.{get_elem?}
 use Rattle.slot_words.specs.declared.view.Held.{Held}
 use Rattle.slot_words.specs.declared.view.Kind.{Kind}
-use Rattle.slot_words.specs.declared.view.Kind.TheVariants.{Look}
+use Rattle.slot_words.specs.declared.view.Kind.TheVariants.{Look, Exchange, Store}
 use Rattle.slot_words.specs.declared.view.Sight.{Sight}
 use Rattle.slot_words.specs.declared.view.View.{View}
 use Rattle.slot_words.specs.Places.{word_of}
@@ -13,13 +13,13 @@ use Rattle.slot_words.specs.Places.{word_of}
 abbrev pub held : ℕ → ℕ → Held
 held slot generation = record { slot = slot; generation = generation }
 
--- the table's step number `time` did this at this place, and right after it this number stood there
-abbrev pub sight_at : Kind → ℕ → ℕ → ℕ → Sight
-sight_at kind place word time = record { kind = kind; place = place; word = word; time = time }
+-- the table's step number `time` did this at this place, found this number there, and left that one
+abbrev pub sight_at : Kind → ℕ → ℕ → ℕ → ℕ → Sight
+sight_at kind place found left time = record { kind = kind; place = place; found = found; left = left; time = time }
 
 -- before any step
 abbrev pub no_sight : Sight
-no_sight = sight_at Look 0 0 0
+no_sight = sight_at Look 0 0 0 0
 
 -- the view of a seat whose last step was this, that made these, that has and won these pairs, and that has this share of
 -- the right to step and granted so many more
@@ -82,11 +82,39 @@ pub record IsWon (slots : ℕ) (words : List ℕ) (views : List View) : Type 0 w
   pub reached : (seat place : ℕ) (p : Held) → Won views seat place p → p.generation ≤ generation_at words p.slot
   pub single : (seat place other spot : ℕ) (p q : Held) → Won views seat place p → Won views other spot q → p.slot ≡ q.slot → p.generation ≡ q.generation → (seat ≡ other) × (place ≡ spot)
 
--- All steps have one order, and the last one is some seat's last. What a seat saw in it still stands there.
+-- some seat made this step
+abbrev pub MadeBy : List View → Sight → Type 0
+MadeBy views s = (seat : ℕ) × (v : View) × (get_elem? views seat ≡ some v) × Contains v.steps s
+
+-- of the steps at this place before this time, this is the last
+pub record IsLast (step : Sight → Type 0) (place time : ℕ) (s : Sight) : Type 0 where
+  pub made : step s
+  pub here : s.place ≡ place
+  pub early : s.time < time
+  pub most : (t : Sight) → step t → t.place ≡ place → t.time < time → t.time ≤ s.time
+
+-- this number is what the last step at this place before this time left there, or 0 where there was none
+pub record IsLeft (step : Sight → Type 0) (place time word : ℕ) : Type 0 where
+  pub told : 0 < word → (s : Sight) × IsLast step place time s × (s.left ≡ word)
+  pub most : (s : Sight) → IsLast step place time s → s.left ≡ word
+
+-- What each kind of step does to the number found. A look leaves it. So does an exchange that lost; one that won found a
+-- free word, and left it held at the next generation. A store found a held word, and left it free.
+abbrev pub IsMove : Kind → ℕ → ℕ → Type 0
+IsMove Look found left = left ≡ found
+IsMove Exchange found left = (left ≡ found) ⊎ ((found % 2 ≡ 0) × (left ≡ found + 3))
+IsMove Store found left = (found % 2 ≡ 1) × (found ≡ left + 1)
+
+-- All steps have one order: each has a number up to how many there were, and some step has the last one. Each found exactly
+-- what the one before it at its place had left, 0 at first, and did what its kind does; and what the last one left there
+-- still stands. No seat's last step has a number above the last.
 pub record IsTimed (words : List ℕ) (views : List View) : Type 0 where
-  pub past : (seat : ℕ) (v : View) → get_elem? views seat ≡ some v → v.sight.time ≤ steps views
-  pub latest : (seat : ℕ) × (v : View) × (get_elem? views seat ≡ some v) × (v.sight.time ≡ steps views)
-  pub exact : (seat : ℕ) (v : View) → get_elem? views seat ≡ some v → 0 < v.sight.time → v.sight.time ≡ steps views → v.sight.word ≡ slice_index words v.sight.place
+  pub past : (s : Sight) → MadeBy views s → s.time ≤ steps views
+  pub latest : 0 < steps views → (s : Sight) × MadeBy views s × (s.time ≡ steps views)
+  pub exact : (s : Sight) → MadeBy views s → IsLeft (MadeBy views) s.place s.time s.found
+  pub moves : (s : Sight) → MadeBy views s → IsMove s.kind s.found s.left
+  pub current : (place : ℕ) → IsLeft (MadeBy views) place (steps views + 1) (slice_index words place)
+  pub seen : (seat : ℕ) (v : View) → get_elem? views seat ≡ some v → v.sight.time ≤ steps views
 
 -- At first there is one share, and each grant makes one more. Who has none made no step and granted none.
 pub record IsShared (views : List View) : Type 0 where

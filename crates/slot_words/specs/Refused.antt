@@ -19,24 +19,29 @@ HasTried slot before after = IsNext Exchange slot before.stepped before.steps af
 abbrev pub HasNotTried : Sights → Sights → Type 0
 HasNotTried before after = (after.stepped ≡ before.stepped) × (after.steps ≡ before.steps)
 
--- the Pass made one store more, which left the claim's slot free at its generation; no look and no other step was made
+-- the Pass made one store more, which found the claim's slot held at its generation, and left it free; no look was made
 abbrev pub HasFreed : Held → Sights → Sights → Type 0
-HasFreed claim before after = IsNext Store claim.slot before.stepped before.steps after.stepped after.steps × (after.stepped.word ≡ 2 * claim.generation)
+HasFreed claim before after = IsNext Store claim.slot before.stepped before.steps after.stepped after.steps
+    × (after.stepped.found ≡ 2 * claim.generation + 1) × (after.stepped.left ≡ 2 * claim.generation)
     × (after.looked ≡ before.looked) × (after.looks ≡ before.looks)
 
--- one exchange won the slot at the generation after the one that the look found, and left it held
+-- one exchange found the slot as the look had found it, free, and left it held at the next generation
 abbrev pub IsClaimed : ℕ → Sights → Sights → Held → Type 0
-IsClaimed slot before after claim = (claim.slot ≡ slot) × (2 * claim.generation ≡ after.looked.word + 2) × HasTried slot before after
-    × (after.stepped.word ≡ 2 * claim.generation + 1)
+IsClaimed slot before after claim = (claim.slot ≡ slot) × (2 * claim.generation ≡ after.looked.found + 2) × HasTried slot before after
+    × (after.stepped.found ≡ after.looked.found) × (after.stepped.left ≡ 2 * claim.generation + 1)
+
+-- the Pass made one exchange more, at this slot's word, which found this number and left it
+abbrev pub HasMissed : ℕ → Sights → Sights → ℕ → Type 0
+HasMissed slot before after word = HasTried slot before after × (after.stepped.found ≡ word) × (after.stepped.left ≡ word)
 
 -- Taken: the word given is odd, and the look found it at the slot, or an exchange did. Spent: the look found the slot
 -- free at the last generation. Moved: the word given is even, an exchange found it at the slot, and the look had
 -- found another even word there.
 abbrev pub IsWhy : ℕ → Sights → Sights → ClaimRefusal → Type 0
-IsWhy slot before after (Taken word) = (word % 2 ≡ 1) × (((after.looked.word ≡ word) × HasNotTried before after) ⊎ (HasTried slot before after × (after.stepped.word ≡ word)))
-IsWhy slot before after Spent = (after.looked.word ≡ 2 ^ 63) × HasNotTried before after
-IsWhy slot before after (Moved word) = (word % 2 ≡ 0) × HasTried slot before after × (after.stepped.word ≡ word)
-    × (after.looked.word % 2 ≡ 0) × (after.looked.word ≢ word)
+IsWhy slot before after (Taken word) = (word % 2 ≡ 1) × (((after.looked.found ≡ word) × HasNotTried before after) ⊎ ((after.looked.found % 2 ≡ 0) × HasMissed slot before after word))
+IsWhy slot before after Spent = (after.looked.found ≡ 2 ^ 63) × HasNotTried before after
+IsWhy slot before after (Moved word) = (word % 2 ≡ 0) × HasMissed slot before after word
+    × (after.looked.found % 2 ≡ 0) × (after.looked.found ≢ word)
 
 -- one look was made, and it or an exchange after it is why
 abbrev pub IsRefused : ℕ → Sights → Sights → ClaimRefusal → Type 0
@@ -55,11 +60,11 @@ IsFirst slots before after claim = (k : ℕ) × (between : Sights) × (last : Op
     × WereRefused slots k before between last × HasLooked (slice_index slots k) between after
     × IsClaimed (slice_index slots k) between after claim
 
--- why an exchange missed that sought the even word `seen`, and then saw this
+-- why an exchange missed that sought the even word `seen`: it found this one, and left it
 abbrev pub IsMissed : ℕ → Sight → ClaimRefusal → Type 0
-IsMissed seen stepped (Taken word) = (word % 2 ≡ 1) × (stepped.word ≡ word)
+IsMissed seen stepped (Taken word) = (word % 2 ≡ 1) × (stepped.found ≡ word) × (stepped.left ≡ word)
 IsMissed seen stepped Spent = ⊥
-IsMissed seen stepped (Moved word) = (word % 2 ≡ 0) × (stepped.word ≡ word) × (seen ≢ word)
+IsMissed seen stepped (Moved word) = (word % 2 ≡ 0) × (stepped.found ≡ word) × (stepped.left ≡ word) × (seen ≢ word)
 
 -- the refusals' numbers
 abbrev pub number_of : ClaimRefusal → ℕ

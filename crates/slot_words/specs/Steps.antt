@@ -20,20 +20,20 @@ Sat s before found after = after ≡ (blank, [])
 -- a look: the seat knows what was found
 abbrev pub Looked : {S : Type 0} → Step S → Me S View → ℕ → Me S View → Type 0
 Looked s before found after = (found ≤ 2 ^ 63 + 1) × (time : ℕ) × (before.0.sight.time < time)
-    × (after ≡ (after_step before.0 (sight_at Look s.word found time) before.0.pairs before.0.won, []))
+    × (after ≡ (after_step before.0 (sight_at Look s.word found found time) before.0.pairs before.0.won, []))
 
 -- The exchange of a claim: where it found what it sought the seat has the pair of the word's slot and of the
 -- generation put there, and won it; else it has no pair, and knows what was found.
 abbrev pub Taken : {S : Type 0} → Step S → Me S View → ℕ → Me S View → Type 0
 Taken s before found after = MatchBool (found == s.first)
     ((p : Held) × (word_of p.slot ≡ s.word) × (2 * p.generation + 1 ≡ s.second) × (time : ℕ) × (before.0.sight.time < time)
-    × (after ≡ (after_step before.0 (sight_at Exchange s.word s.second time) (p ∷ []) (before.0.won ++ p ∷ []), [])))
-    ((time : ℕ) × (before.0.sight.time < time) × (after ≡ (after_step before.0 (sight_at Exchange s.word found time) [] before.0.won, [])))
+    × (after ≡ (after_step before.0 (sight_at Exchange s.word found s.second time) (p ∷ []) (before.0.won ++ p ∷ []), [])))
+    ((time : ℕ) × (before.0.sight.time < time) × (after ≡ (after_step before.0 (sight_at Exchange s.word found found time) [] before.0.won, [])))
 
--- the store of a release: the seat has no pair, and knows what was stored
+-- the store of a release: the seat has no pair, and knows that the word was held and what was stored
 abbrev pub Freed : {S : Type 0} → Step S → Me S View → ℕ → Me S View → Type 0
 Freed s before stored after = (time : ℕ) × (before.0.sight.time < time)
-    × (after ≡ (after_step before.0 (sight_at Store s.word stored time) [] before.0.won, []))
+    × (after ≡ (after_step before.0 (sight_at Store s.word (stored + 1) stored time) [] before.0.won, []))
 
 -- a load by a seat of two pairs, which name different slots
 abbrev pub Differed : {S : Type 0} → Step S → Me S View → ℕ → Me S View → Type 0

@@ -16,13 +16,14 @@ pub enum Kind {
     Store,
 }
 
-/// What a step did, the place of its word, what stood there right after it, and how many steps the table had had by
+/// What a step did, the place of its word, what it found there and what it left, and how many steps the table had had by
 /// then, this one counted.
 #[derive(Clone, Copy)]
 pub struct Sight {
     pub kind: Kind,
     pub place: u64,
-    pub word: u64,
+    pub found: u64,
+    pub left: u64,
     pub time: u64,
 }
 

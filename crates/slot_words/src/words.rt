@@ -157,7 +157,7 @@ impl<N: Naming> SlotWords<N> {
         requires free { seen % 2 ≡ 0 }
         requires lasting { seen < 2 ^ 63 }
         requires seat { IsIdle N.table seat.old }
-        ensures ok { IfOk result (λ c. (c.slot ≡ slot) × (2 * c.generation ≡ seen + 2) × (seat.new.me.0.sight.word ≡ 2 * c.generation + 1)) }
+        ensures ok { IfOk result (λ c. (c.slot ≡ slot) × (2 * c.generation ≡ seen + 2) × (seat.new.me.0.sight.found ≡ seen) × (seat.new.me.0.sight.left ≡ 2 * c.generation + 1)) }
         ensures err { IfErr result (IsMissed seen seat.new.me.0.sight) }
         ensures tried { HasStepped Exchange slot seat.old.me.0 seat.new.me.0 }
         ensures idle { IsIdle N.table seat.new }
