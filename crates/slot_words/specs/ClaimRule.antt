@@ -21,10 +21,11 @@ sight_at kind place found left time = record { kind = kind; place = place; found
 abbrev pub no_sight : Sight
 no_sight = sight_at Look 0 0 0 0
 
--- the view of a seat whose last step was this, that made these, that has and won these pairs, and that has this share of
--- the right to step and granted so many more
-abbrev pub knows : Sight → List Sight → List Held → List Held → ℕ → ℕ → View
-knows sight steps pairs won share grants = record {
+-- the view of a seat whose last look and last step were these, that made these steps, that has and won these pairs, and
+-- that has this share of the right to step and granted so many more
+abbrev pub knows : Sight → Sight → List Sight → List Held → List Held → ℕ → ℕ → View
+knows look sight steps pairs won share grants = record {
+  look = look;
   sight = sight;
   steps = steps;
   pairs = pairs;
@@ -35,11 +36,11 @@ knows sight steps pairs won share grants = record {
 
 -- the view of a seat that made no step, and may make none
 abbrev pub blank : View
-blank = knows no_sight [] [] [] 0 0
+blank = knows no_sight no_sight [] [] [] 0 0
 
 -- the view of a seat that made no step yet
 abbrev pub fresh : View
-fresh = knows no_sight [] [] [] 1 0
+fresh = knows no_sight no_sight [] [] [] 1 0
 
 -- a number of each view, added up
 abbrev pub total : (View → ℕ) → List View → ℕ

@@ -2,6 +2,7 @@
 use Rattle.std.specs.Prelude.{◌≡◌, ◌≢◌, ℕ, ◌+◌, ◌*◌, ◌^◌, ◌<◌, ◌≤◌, ◌==◌, List, [], ◌∷◌, ◌++◌, MatchBool}
 use Rattle.atomic_table.specs.Table.{Me, Step}
 use Rattle.slot_words.specs.declared.view.Held.{Held}
+use Rattle.slot_words.specs.declared.view.Kind.{Kind}
 use Rattle.slot_words.specs.declared.view.Kind.TheVariants.{Look, Exchange, Store}
 use Rattle.slot_words.specs.declared.view.Sight.{Sight}
 use Rattle.slot_words.specs.declared.view.View.{View}
@@ -9,9 +10,15 @@ use Rattle.slot_words.specs.Places.{word_of}
 use Rattle.slot_words.specs.ClaimRule.{knows, sight_at, no_sight, blank}
 use Rattle.slot_words.specs.Sight.{later}
 
+-- the last look, after a step of this kind
+abbrev pub look_after : Kind → Sight → Sight → Sight
+look_after Look look s = s
+look_after Exchange look s = look
+look_after Store look s = look
+
 -- the view of a seat that made this step, and now has and won these pairs
 abbrev pub after_step : View → Sight → List Held → List Held → View
-after_step v s pairs won = knows s (v.steps ++ s ∷ []) pairs won v.share v.grants
+after_step v s pairs won = knows (look_after s.kind v.look s) s (v.steps ++ s ∷ []) pairs won v.share v.grants
 
 -- a load made a seat that knows nothing and may make no step
 abbrev pub Sat : {S : Type 0} → Step S → Me S View → ℕ → Me S View → Type 0
@@ -39,17 +46,17 @@ Freed s before stored after = (time : ℕ) × (before.0.sight.time < time)
 abbrev pub Differed : {S : Type 0} → Step S → Me S View → ℕ → Me S View → Type 0
 Differed s before found after = (p q : Held) → before.0.pairs ≡ p ∷ q ∷ [] → p.slot ≢ q.slot
 
--- a seat that takes in another has the pairs and the shares of both, and of their last steps the later one
+-- a seat that takes in another has the pairs and the shares of both, and of their last looks and steps the later ones
 abbrev pub both_pairs : View → View → View
-both_pairs v w = knows (later v.sight w.sight) (v.steps ++ w.steps) (v.pairs ++ w.pairs) (v.won ++ w.won) (v.share + w.share) (v.grants + w.grants)
+both_pairs v w = knows (later v.look w.look) (later v.sight w.sight) (v.steps ++ w.steps) (v.pairs ++ w.pairs) (v.won ++ w.won) (v.share + w.share) (v.grants + w.grants)
 
 -- a seat is cut in two: one part has the pairs, and won them, and the other remembers the steps and may make more
 abbrev pub pair_part : View → View
-pair_part v = knows no_sight [] v.pairs v.won 0 0
+pair_part v = knows no_sight no_sight [] v.pairs v.won 0 0
 
 abbrev pub step_part : View → View
-step_part v = knows v.sight v.steps [] [] v.share v.grants
+step_part v = knows v.look v.sight v.steps [] [] v.share v.grants
 
 -- a seat grants a share to another
 abbrev pub granting : View → View
-granting v = knows v.sight v.steps v.pairs v.won v.share (v.grants + 1)
+granting v = knows v.look v.sight v.steps v.pairs v.won v.share (v.grants + 1)

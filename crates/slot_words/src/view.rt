@@ -27,9 +27,10 @@ pub struct Sight {
     pub time: u64,
 }
 
-/// The seat's last step, all that it made, the pairs that it has, and those that it ever won; its share of the right to
-/// step, and how many shares it granted to others.
+/// The seat's last look, its last step of any kind, all that it made, the pairs that it has, and those that it ever won;
+/// its share of the right to step, and how many shares it granted to others.
 pub struct View {
+    pub look: Sight,
     pub sight: Sight,
     pub steps: LinkedList<Sight>,
     pub pairs: LinkedList<Held>,

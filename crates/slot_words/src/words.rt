@@ -1,8 +1,10 @@
 // The table of words, and the steps on it.
 ghost use Rattle.std.specs.Prelude.{◌≡◌, ◌≢◌, ◌↔◌, ℕ, ◌+◌, ◌*◌, ◌/◌, ◌%◌, ◌^◌, ◌<◌, ◌≤◌, [], ◌∷◌, length, All, Contains, IfOk, IfErr, None};
 ghost use Rattle.slot_words.specs.Places.{word_of, slots_of};
-ghost use Rattle.slot_words.specs.Sight.{HasStepped, KeepsShares, no_sights, after_grants, both_sights};
-ghost use Rattle.slot_words.specs.Refused.{HasLooked, HasFreed, IsClaimed, IsRefused, WereRefused, IsFirst, IsMissed};
+ghost use Rattle.slot_words.specs.ClaimRule.{fresh};
+ghost use Rattle.slot_words.specs.Sight.{HasStepped, KeepsShares};
+ghost use Rattle.slot_words.specs.Steps.{granting, both_pairs};
+ghost use Rattle.slot_words.specs.Refused.{HasFreed, IsClaimed, IsRefused, WereRefused, IsFirst, IsMissed};
 ghost use Rattle.slot_words.specs.declared.view.Kind.TheVariants.{Exchange};
 ghost use Rattle.slot_words.specs.Idle.{IsIdle};
 
@@ -36,20 +38,18 @@ pub struct SlotWords<N: Naming> {
 pub struct Unnamed {
     table: Words,
     seat: Sitting,
-    look: Sitting,
 }
 
 impl Model for Unnamed {
     ghost use Rattle.std.specs.Prelude.{◌≡◌, ◌+◌, []};
     ghost use Rattle.atomic_table.specs.Seated.{TableId};
     ghost use Rattle.slot_words.specs.ClaimRule.{fresh};
-    ghost use Rattle.slot_words.specs.Steps.{granting};
 
     ghost Value = { TableId };
 
     ghost view = { λ t. t.table.shared.table_id };
 
-    ghost invariant = { λ t. (t.table.shared.table_id.words ≡ t.table.shared.key + 8) × (t.seat.table_id ≡ t.table.shared.table_id) × (t.seat.me ≡ (granting fresh, [])) × (t.look.table_id ≡ t.table.shared.table_id) × (t.look.me ≡ (fresh, [])) };
+    ghost invariant = { λ t. (t.table.shared.table_id.words ≡ t.table.shared.key + 8) × (t.seat.table_id ≡ t.table.shared.table_id) × (t.seat.me ≡ (fresh, [])) };
 }
 
 /// Why a table was not made.
@@ -67,11 +67,10 @@ impl SlotWords<Brand> {
         let Ok(words) = vec![in alloc; 0; slots as usize + FIRST] else {
             return Err(TableRefusal::Memory);
         };
-        let Ok((table, mut seat)) = Table::of_words(alloc, &words, &u64::from(slots)) else {
-            return Err(TableRefusal::Memory);
-        };
-        let look = grant(&table, &mut seat);
-        Ok(Unnamed { table, seat, look })
+        match Table::of_words(alloc, &words, &u64::from(slots)) {
+            Ok((table, seat)) => Ok(Unnamed { table, seat }),
+            Err(_) => Err(TableRefusal::Memory),
+        }
     }
 }
 
@@ -79,16 +78,15 @@ impl Unnamed {
     /// Gives the table its name.
     pub fn named<N: Naming>(self) -> (SlotWords<N>, Pass<N>)
         requires { self ≡ N.table }
-        ensures { result.1 ≡ after_grants 1 no_sights }
+        ensures { result.1 ≡ fresh }
     {
-        let Unnamed { table, seat, look } = self;
+        let Unnamed { table, seat } = self;
         let words = SlotWords {
             table,
             of: PhantomData,
         };
         let pass = Pass {
             seat,
-            look,
             of: PhantomData,
         };
         (words, pass)
@@ -103,37 +101,32 @@ fn place_of(slot: u16) -> usize
 }
 
 impl<N: Naming> SlotWords<N> {
-    /// A second Pass, for another thread. The first stays as it was, but for the two shares that it granted.
+    /// A second Pass, for another thread. The first stays as it was, but for the share that it granted.
     pub fn split(&self, pass: &mut Pass<N>) -> Pass<N>
-        ensures granted { pass.new ≡ after_grants 2 pass.old }
-        ensures fresh { result ≡ no_sights }
+        ensures granted { pass.new ≡ granting pass.old }
+        ensures fresh { result ≡ fresh }
     {
         let seat = grant(&self.table, &mut pass.seat);
-        let look = grant(&self.table, &mut pass.seat);
         Pass {
             seat,
-            look,
             of: PhantomData,
         }
     }
 
     /// Takes the other Pass in, with what it remembers.
     pub fn join(&self, pass: &mut Pass<N>, other: Pass<N>)
-        ensures { pass.new ≡ both_sights pass.old other }
+        ensures { pass.new ≡ both_pairs pass.old other }
     {
-        let Pass { seat, look, of: _ } = other;
+        let Pass { seat, of: _ } = other;
         merge(&self.table, &mut pass.seat, seat);
-        merge(&self.table, &mut pass.look, look);
     }
 
     /// Looks once, and where the slot is free tries one exchange to the next generation, held.
     pub fn claim(&self, pass: &mut Pass<N>, slot: u16) -> Result<Claim<N>, ClaimRefusal>
         requires { slot < slots_of N.table }
-        // one look more, at this slot's word
-        ensures looked { HasLooked slot pass.old pass.new }
-        // the claim has the generation after it, and one exchange more won it
+        // one look more, and then one exchange, which won the next generation
         ensures ok { IfOk result (IsClaimed slot pass.old pass.new) }
-        // the look is why, or one exchange more
+        // one look more is why, or then one exchange
         ensures err { IfErr result (IsRefused slot pass.old pass.new) }
         // all its right to step is still the Pass's
         ensures shares { KeepsShares pass.old pass.new }
@@ -141,7 +134,7 @@ impl<N: Naming> SlotWords<N> {
         let seen = self
             .table
             .shared
-            .load::<Looks>(&mut pass.look, place_of(slot));
+            .load::<Looks>(&mut pass.seat, place_of(slot));
         if seen % 2 == 1 {
             return Err(ClaimRefusal::Taken(seen));
         }
@@ -160,6 +153,7 @@ impl<N: Naming> SlotWords<N> {
         ensures ok { IfOk result (λ c. (c.slot ≡ slot) × (2 * c.generation ≡ seen + 2) × (seat.new.me.0.sight.found ≡ seen) × (seat.new.me.0.sight.left ≡ 2 * c.generation + 1)) }
         ensures err { IfErr result (IsMissed seen seat.new.me.0.sight) }
         ensures tried { HasStepped Exchange slot seat.old.me.0 seat.new.me.0 }
+        ensures look { seat.new.me.0.look ≡ seat.old.me.0.look }
         ensures idle { IsIdle N.table seat.new }
         ensures shares { (seat.new.me.0.share ≡ seat.old.me.0.share) × (seat.new.me.0.grants ≡ seat.old.me.0.grants) }
     {
