@@ -5,11 +5,11 @@ use mathlib.Core.Option.{some}
 use lib.ListN.{get_elem?}
 use Rattle.slot_words.specs.declared.view.Held.{Held}
 use Rattle.slot_words.specs.declared.view.View.{View}
-use Rattle.slot_words.specs.ClaimRule.{blank, fresh, Stands, IsWon, IsTimed, IsShared, ClaimRule}
-use Rattle.slot_words.specs.Steps.{both_pairs, pair_part, step_part, granting}
+use Rattle.slot_words.specs.ClaimRule.{blank, Stands, IsWon, IsTimed, IsShared, ClaimRule}
+use Rattle.slot_words.specs.Steps.{both_pairs, pair_part, step_part, kept_half, given_half}
 use Rattle.slot_words.proofs.Views.{Glued, glued_once, stands_again, still_stands, stands_before, stands_after, stood_apart, stands_together}
 use Rattle.slot_words.proofs.Timed.{timed_more, timed_same, timed_both, timed_parts}
-use Rattle.slot_words.proofs.Shared.{shared_more, shared_both, shared_parts, shared_grant}
+use Rattle.slot_words.proofs.Shared.{shared_more, shared_both, shared_parts, shared_halves}
 use Rattle.slot_words.proofs.Winning.{won_moved, won_still}
 
 -- each pair of the new views stands in the old ones, by a relation that is one to one
@@ -86,13 +86,13 @@ parted n ws vs id v rule here = thinned n ws vs (set vs id (pair_part v) ++ step
     (timed_parts ws vs id v rule.timed here)
     (shared_parts vs id v rule.shared here)
 
--- a seat grants a share to a new one
-pub granted : (n : ℕ) (ws : List ℕ) (vs : List View) (id : ℕ) (v : View) → ClaimRule n ws vs → get_elem? vs id ≡ some v → 0 < v.share
-    → ClaimRule n ws (set vs id (granting v) ++ fresh ∷ [])
-granted n ws vs id v rule here live = thinned n ws vs (set vs id (granting v) ++ fresh ∷ []) rule
-    (λ s k p st. stands_again (λ (u : View). u.pairs) vs id v (granting v) here refl s k p (stands_before (λ (u : View). u.pairs) (set vs id (granting v)) fresh refl s k p st))
-    (won_still n ws ws vs (set vs id (granting v) ++ fresh ∷ []) rule.won (λ slot. refl) (λ slot above. above)
-    (λ s k p st. stands_again (λ (u : View). u.won) vs id v (granting v) here refl s k p (stands_before (λ (u : View). u.won) (set vs id (granting v)) fresh refl s k p st))
-    (λ s k p st. stands_after (λ (u : View). u.won) (set vs id (granting v)) fresh s k p (still_stands (λ (u : View). u.won) vs id v (granting v) [] here (sym (append-nil v.won)) s k p st)))
-    (timed_more ws (set vs id (granting v)) fresh (timed_same ws vs id v (granting v) rule.timed here refl refl) refl refl)
-    (shared_grant vs id v rule.shared here live)
+-- a share is cut in two
+pub halved : (n : ℕ) (ws : List ℕ) (vs : List View) (id : ℕ) (v : View) → ClaimRule n ws vs → get_elem? vs id ≡ some v → 0 < length v.shares
+    → ClaimRule n ws (set vs id (kept_half v) ++ given_half v ∷ [])
+halved n ws vs id v rule here live = thinned n ws vs (set vs id (kept_half v) ++ given_half v ∷ []) rule
+    (λ s k p st. stands_again (λ (u : View). u.pairs) vs id v (kept_half v) here refl s k p (stands_before (λ (u : View). u.pairs) (set vs id (kept_half v)) (given_half v) refl s k p st))
+    (won_still n ws ws vs (set vs id (kept_half v) ++ given_half v ∷ []) rule.won (λ slot. refl) (λ slot above. above)
+    (λ s k p st. stands_again (λ (u : View). u.won) vs id v (kept_half v) here refl s k p (stands_before (λ (u : View). u.won) (set vs id (kept_half v)) (given_half v) refl s k p st))
+    (λ s k p st. stands_after (λ (u : View). u.won) (set vs id (kept_half v)) (given_half v) s k p (still_stands (λ (u : View). u.won) vs id v (kept_half v) [] here (sym (append-nil v.won)) s k p st)))
+    (timed_more ws (set vs id (kept_half v)) (given_half v) (timed_same ws vs id v (kept_half v) rule.timed here refl refl) refl refl)
+    (shared_halves vs id v rule.shared here live)

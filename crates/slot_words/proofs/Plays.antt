@@ -15,12 +15,12 @@ use Rattle.slot_words.specs.declared.view.Kind.TheVariants.{Look, Exchange, Stor
 use Rattle.slot_words.specs.declared.view.Sight.{Sight}
 use Rattle.slot_words.specs.declared.view.View.{View}
 use Rattle.slot_words.specs.Places.{word_of}
-use Rattle.slot_words.specs.ClaimRule.{sight_at, blank, fresh, held, steps, StandsIn, Stands, MadeBy, IsMove, IsShared, ClaimRule}
-use Rattle.slot_words.specs.Steps.{after_step, Sat, Looked, Taken, Freed, Differed, both_pairs, pair_part, step_part, granting}
+use Rattle.slot_words.specs.ClaimRule.{sight_at, blank, opening, held, steps, StandsIn, Stands, MadeBy, IsMove, IsShared, ClaimRule}
+use Rattle.slot_words.specs.Steps.{after_step, Sat, Looked, Taken, Freed, Differed, both_pairs, pair_part, step_part, kept_half, given_half}
 use Rattle.slot_words.proofs.Lists.{nowhere, alone}
 use Rattle.slot_words.proofs.Timed.{timed_next}
 use Rattle.slot_words.proofs.Shared.{shared_next}
-use Rattle.slot_words.proofs.Carried.{noted, entered, joined, parted, granted}
+use Rattle.slot_words.proofs.Carried.{noted, entered, joined, parted, halved}
 use Rattle.slot_words.proofs.Moves.{claimed, freed}
 
 -- a load makes an empty seat
@@ -36,9 +36,9 @@ glues n id other v w s rule here differ there = joined n s.words s.views id othe
 pub parts : {S : Type 0} (n id : ℕ) (v : View) → Splits (λ (s : State S View). ClaimRule n s.words s.views) id v (pair_part v) (step_part v)
 parts n id v s rule here = parted n s.words s.views id v rule here
 
--- a seat grants a share to a new one
-pub grants : {S : Type 0} (n id : ℕ) (v : View) → 0 < v.share → Splits (λ (s : State S View). ClaimRule n s.words s.views) id v (granting v) fresh
-grants n id v live s rule here = granted n s.words s.views id v rule here live
+-- a share is cut in two
+pub halves : {S : Type 0} (n id : ℕ) (v : View) → 0 < length v.shares → Splits (λ (s : State S View). ClaimRule n s.words s.views) id v (kept_half v) (given_half v)
+halves n id v live s rule here = halved n s.words s.views id v rule here live
 
 -- the view of a seat whose step was the last one, found this word there, and left that one
 abbrev after : Kind → List View → View → ℕ → ℕ → ℕ → List Held → List Held → View
@@ -49,12 +49,12 @@ newer : (n : ℕ) (ws : List ℕ) (vs : List View) (id : ℕ) (v : View) → Cla
 newer n ws vs id v rule here = let h = rule.timed.seen id v here in omega arith
 
 -- a seat that has a share makes this step
-shares_on : (kind : Kind) (n : ℕ) (ws : List ℕ) (vs : List View) (id : ℕ) (v : View) (place found left : ℕ) (pairs won : List Held) → ClaimRule n ws vs → get_elem? vs id ≡ some v → 0 < v.share
+shares_on : (kind : Kind) (n : ℕ) (ws : List ℕ) (vs : List View) (id : ℕ) (v : View) (place found left : ℕ) (pairs won : List Held) → ClaimRule n ws vs → get_elem? vs id ≡ some v → 0 < length v.shares
     → IsShared (set vs id (after kind vs v place found left pairs won))
-shares_on kind n ws vs id v place found left pairs won rule here live = shared_next vs id v (after kind vs v place found left pairs won) rule.shared here refl refl live
+shares_on kind n ws vs id v place found left pairs won rule here live = shared_next vs id v (after kind vs v place found left pairs won) rule.shared here refl live
 
 -- a step that finds this word, and changes nothing
-sees : (kind : Kind) (n : ℕ) (ws : List ℕ) (vs : List View) (id place : ℕ) (v : View) → ClaimRule n ws vs → get_elem? vs id ≡ some v → 0 < v.share
+sees : (kind : Kind) (n : ℕ) (ws : List ℕ) (vs : List View) (id place : ℕ) (v : View) → ClaimRule n ws vs → get_elem? vs id ≡ some v → 0 < length v.shares
     → IsMove kind (get_or ws place 0) (get_or ws place 0) → ClaimRule n ws (set vs id (after kind vs v place (get_or ws place 0) (get_or ws place 0) v.pairs v.won))
 sees kind n ws vs id place v rule here live stays = noted n ws vs id v w rule here refl refl (timed_next ws ws vs id v w rule.timed here refl refl refl stays refl (λ other ne. refl))
     (shares_on kind n ws vs id v place (get_or ws place 0) (get_or ws place 0) v.pairs v.won rule here live)
@@ -63,7 +63,7 @@ sees kind n ws vs id place v rule here live stays = noted n ws vs id v w rule he
     w = after kind vs v place (get_or ws place 0) (get_or ws place 0) v.pairs v.won
 
 -- a look
-pub looks : {S : Type 0} (n slots id place : ℕ) (me : Me S View) → me.1 ≡ [] → 0 < me.0.share
+pub looks : {S : Type 0} (n slots id place : ℕ) (me : Me S View) → me.1 ≡ [] → 0 < length me.0.shares
     → Allows (λ (s : State S View). ClaimRule n s.words s.views) slots id me place (λ m. m) (Looked {S = S} (step slots place 0 0 none) me)
 looks {S} n slots id place me away live s rule homes here fits = (
   after Look s.views me.0 place (get_or s.words place 0) (get_or s.words place 0) me.0.pairs me.0.won,
@@ -80,7 +80,7 @@ looks {S} n slots id place me away live s rule homes here fits = (
 
 -- the exchange of a claim: it wins where it finds twice the generation before
 pub takes : {S : Type 0} (n slots id slot g sought put : ℕ) (me : Me S View) → slot < n → g < 2 ^ 62 → sought ≡ 2 * g → put ≡ 2 * (g + 1) + 1
-    → me.0.pairs ≡ [] → me.1 ≡ [] → 0 < me.0.share
+    → me.0.pairs ≡ [] → me.1 ≡ [] → 0 < length me.0.shares
     → Allows (λ (s : State S View). ClaimRule n s.words s.views) slots id me (word_of slot) (λ m. either (eqb m sought) put m)
     (Taken {S = S} (step slots (word_of slot) sought put none) me)
 takes {S} n slots id slot g sought put me inside below seeks puts bare away live s rule homes here fits = go (eqb (get_or s.words (word_of slot) 0) sought) refl
@@ -125,7 +125,7 @@ takes {S} n slots id slot g sought put me inside below seeks puts bare away live
     )
 
 -- the store of a release, by the seat that has the pair alone
-pub frees : {S : Type 0} (n slots id : ℕ) (p : Held) (me : Me S View) → p.slot < n → me.0.pairs ≡ p ∷ [] → me.1 ≡ [] → 0 < me.0.share
+pub frees : {S : Type 0} (n slots id : ℕ) (p : Held) (me : Me S View) → p.slot < n → me.0.pairs ≡ p ∷ [] → me.1 ≡ [] → 0 < length me.0.shares
     → Allows (λ (s : State S View). ClaimRule n s.words s.views) slots id me (word_of p.slot) (λ _. 2 * p.generation)
     (λ _. Freed {S = S} (step slots (word_of p.slot) (2 * p.generation) 0 none) me (2 * p.generation))
 frees {S} n slots id p me inside has away live s rule homes here fits = (
@@ -153,8 +153,8 @@ differs {S} n slots id place me s rule homes here fits = (
       let clash : 0 ≡ 1 = (rule.once id 0 id 1 p q first second same).1 in absurd (omega arith),
 )
 
--- words that are all 0, and a seat that knows nothing and has the one share
-pub begins : (n : ℕ) (ws : List ℕ) → ws ≡ replicate (n + 8) 0 → ClaimRule n ws (fresh ∷ [])
+-- words that are all 0, and a seat that knows nothing and has the whole right
+pub begins : (n : ℕ) (ws : List ℕ) → ws ≡ replicate (n + 8) 0 → ClaimRule n ws (opening ∷ [])
 begins n ws all = record {
   wide = long;
   low = λ i. let e = zeros i in omega arith;
@@ -175,11 +175,11 @@ begins n ws all = record {
       told = λ above. absurd (omega arith);
       most = λ s l. absurd (unmade s l.made);
     };
-    seen = λ s v at. subst (λ (u : View). u.sight.time ≤ 0) (alone (fresh ∷ []) s fresh v refl at).1 (omega arith);
+    seen = λ s v at. subst (λ (u : View). u.sight.time ≤ 0) (alone (opening ∷ []) s opening v refl at).1 (omega arith);
   };
   shared = record {
-    within = omega arith;
-    spent = λ s v at. subst (λ (u : View). u.share ≡ 0 → (u.steps ≡ []) × (u.grants ≡ 0)) (alone (fresh ∷ []) s fresh v refl at).1 (λ zero. absurd (omega arith));
+    within = (0, omega arith);
+    spent = λ s v at. subst (λ (u : View). u.shares ≡ [] → u.steps ≡ []) (alone (opening ∷ []) s opening v refl at).1 (λ none. refl);
   };
 }
   where
@@ -191,11 +191,11 @@ begins n ws all = record {
         (λ (small : i < n + 8). ap (λ (l : List ℕ). get_or l i 0) all ∙ get_or-replicate (n + 8) i 0 0 small)
         (λ (high : i < n + 8 → ⊥). get_or_past ws i 0 (let is = long in omega arith))
 
-    without : (part : View → List Held) → part fresh ≡ [] → (s k : ℕ) (p : Held) → StandsIn part (fresh ∷ []) s k p → ⊥
+    without : (part : View → List Held) → part opening ≡ [] → (s k : ℕ) (p : Held) → StandsIn part (opening ∷ []) s k p → ⊥
     without part bare s k p st =
-        nowhere (part fresh) k p bare (subst (λ (u : View). get_elem? (part u) k ≡ some p) (sym (alone (fresh ∷ []) s fresh st.0 refl st.1).1) st.2)
+        nowhere (part opening) k p bare (subst (λ (u : View). get_elem? (part u) k ≡ some p) (sym (alone (opening ∷ []) s opening st.0 refl st.1).1) st.2)
 
-    unmade : (s : Sight) → MadeBy (fresh ∷ []) s → ⊥
+    unmade : (s : Sight) → MadeBy (opening ∷ []) s → ⊥
     unmade s t =
-        let has : Contains [] s = subst (λ (u : View). Contains u.steps s) (sym (alone (fresh ∷ []) t.0 fresh t.1 refl t.2).1) t.3 in
+        let has : Contains [] s = subst (λ (u : View). Contains u.steps s) (sym (alone (opening ∷ []) t.0 opening t.1 refl t.2).1) t.3 in
         let k : has.0 < 0 = has.1 in omega arith

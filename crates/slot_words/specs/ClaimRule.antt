@@ -1,5 +1,5 @@
 -- The rule of the slot words: what is true of the words and of all claims between any two atomic steps.
-use Rattle.std.specs.Prelude.{◌≡◌, ◌⊎◌, ℕ, ◌+◌, ◌*◌, ◌/◌, ◌%◌, ◌^◌, ◌<◌, ◌≤◌, List, [], ◌∷◌, length, slice_index, Contains}
+use Rattle.std.specs.Prelude.{◌≡◌, ◌⊎◌, ℕ, ◌+◌, ◌-◌, ◌*◌, ◌/◌, ◌%◌, ◌^◌, ◌<◌, ◌≤◌, List, [], ◌∷◌, length, slice_index, Contains}
 use mathlib.Core.Option.{some}
 use lib.ListN.{get_elem?}
 use Rattle.slot_words.specs.declared.view.Held.{Held}
@@ -22,25 +22,28 @@ abbrev pub no_sight : Sight
 no_sight = sight_at Look 0 0 0 0
 
 -- the view of a seat whose last look and last step were these, that made these steps, that has and won these pairs, and
--- that has this share of the right to step and granted so many more
-abbrev pub knows : Sight → Sight → List Sight → List Held → List Held → ℕ → ℕ → View
-knows look sight steps pairs won share grants = record {
+-- that has these shares of the right to step
+abbrev pub knows : Sight → Sight → List Sight → List Held → List Held → List ℕ → View
+knows look sight steps pairs won shares = record {
   look = look;
   sight = sight;
   steps = steps;
   pairs = pairs;
   won = won;
-  share = share;
-  grants = grants;
+  shares = shares;
 }
 
--- the view of a seat that made no step, and may make none
-abbrev pub blank : View
-blank = knows no_sight no_sight [] [] [] 0 0
+-- the view of a seat that made no step yet, with these shares
+abbrev pub beginner : List ℕ → View
+beginner shares = knows no_sight no_sight [] [] [] shares
 
--- the view of a seat that made no step yet
-abbrev pub fresh : View
-fresh = knows no_sight no_sight [] [] [] 1 0
+-- with none
+abbrev pub blank : View
+blank = beginner []
+
+-- with the whole right, never halved
+abbrev pub opening : View
+opening = beginner (0 ∷ [])
 
 -- a number of each view, added up
 abbrev pub total : (View → ℕ) → List View → ℕ
@@ -51,13 +54,10 @@ total f (v ∷ vs) = f v + total f vs
 abbrev pub steps : List View → ℕ
 steps views = total (λ v. length v.steps) views
 
--- all shares together
-abbrev pub shares : List View → ℕ
-shares views = total (λ v. v.share) views
-
--- how many shares were granted
-abbrev pub grants : List View → ℕ
-grants views = total (λ v. v.grants) views
+-- Shares weighed, where the whole right is 2 ^ n: a share that was halved k times weighs 2 ^ (n - k), and at least 1.
+abbrev pub weight : ℕ → List ℕ → ℕ
+weight n [] = 0
+weight n (k ∷ ks) = 2 ^ (n - k) + weight n ks
 
 -- the pair p stands in this list of this seat's view, at this place
 abbrev pub StandsIn : (View → List Held) → List View → ℕ → ℕ → Held → Type 0
@@ -117,10 +117,10 @@ pub record IsTimed (words : List ℕ) (views : List View) : Type 0 where
   pub current : (place : ℕ) → IsLeft (MadeBy views) place (steps views + 1) (slice_index words place)
   pub seen : (seat : ℕ) (v : View) → get_elem? views seat ≡ some v → v.sight.time ≤ steps views
 
--- At first there is one share, and each grant makes one more. Who has none made no step and granted none.
+-- All shares together are at most the whole right. Who has none made no step.
 pub record IsShared (views : List View) : Type 0 where
-  pub within : shares views ≤ grants views + 1
-  pub spent : (seat : ℕ) (v : View) → get_elem? views seat ≡ some v → v.share ≡ 0 → (v.steps ≡ []) × (v.grants ≡ 0)
+  pub within : (n : ℕ) × (total (λ v. weight n v.shares) views ≤ 2 ^ n)
+  pub spent : (seat : ℕ) (v : View) → get_elem? views seat ≡ some v → v.shares ≡ [] → v.steps ≡ []
 
 -- A slot's word is twice a generation, and one more where the slot is held. Where it is even no pair of any view
 -- names the slot. Where it is odd at most one does, and with that generation.

@@ -31,7 +31,3 @@ pub record HasTried (slot : ℕ) (before after : View) : Type 0 where
   pub place : after.sight.place ≡ word_of slot
   pub behind : after.look.time < after.sight.time
   pub noted : after.steps ≡ (before.steps ++ after.look ∷ []) ++ after.sight ∷ []
-
--- no share came or went, and none was granted
-abbrev pub KeepsShares : View → View → Type 0
-KeepsShares before after = (after.share ≡ before.share) × (after.grants ≡ before.grants)

@@ -7,7 +7,7 @@ use Rattle.slot_words.specs.declared.view.Kind.TheVariants.{Look, Exchange, Stor
 use Rattle.slot_words.specs.declared.view.Sight.{Sight}
 use Rattle.slot_words.specs.declared.view.View.{View}
 use Rattle.slot_words.specs.Places.{word_of}
-use Rattle.slot_words.specs.ClaimRule.{knows, sight_at, no_sight, blank}
+use Rattle.slot_words.specs.ClaimRule.{knows, sight_at, no_sight, beginner, blank}
 use Rattle.slot_words.specs.Sight.{later}
 
 -- the last look, after a step of this kind
@@ -18,7 +18,7 @@ look_after Store look s = look
 
 -- the view of a seat that made this step, and now has and won these pairs
 abbrev pub after_step : View → Sight → List Held → List Held → View
-after_step v s pairs won = knows (look_after s.kind v.look s) s (v.steps ++ s ∷ []) pairs won v.share v.grants
+after_step v s pairs won = knows (look_after s.kind v.look s) s (v.steps ++ s ∷ []) pairs won v.shares
 
 -- a load made a seat that knows nothing and may make no step
 abbrev pub Sat : {S : Type 0} → Step S → Me S View → ℕ → Me S View → Type 0
@@ -48,15 +48,29 @@ Differed s before found after = (p q : Held) → before.0.pairs ≡ p ∷ q ∷ 
 
 -- a seat that takes in another has the pairs and the shares of both, and of their last looks and steps the later ones
 abbrev pub both_pairs : View → View → View
-both_pairs v w = knows (later v.look w.look) (later v.sight w.sight) (v.steps ++ w.steps) (v.pairs ++ w.pairs) (v.won ++ w.won) (v.share + w.share) (v.grants + w.grants)
+both_pairs v w = knows (later v.look w.look) (later v.sight w.sight) (v.steps ++ w.steps) (v.pairs ++ w.pairs) (v.won ++ w.won) (w.shares ++ v.shares)
 
 -- a seat is cut in two: one part has the pairs, and won them, and the other remembers the steps and may make more
 abbrev pub pair_part : View → View
-pair_part v = knows no_sight no_sight [] v.pairs v.won 0 0
+pair_part v = knows no_sight no_sight [] v.pairs v.won []
 
 abbrev pub step_part : View → View
-step_part v = knows v.look v.sight v.steps [] [] v.share v.grants
+step_part v = knows v.look v.sight v.steps [] [] v.shares
 
--- a seat grants a share to another
-abbrev pub granting : View → View
-granting v = knows v.look v.sight v.steps v.pairs v.won v.share (v.grants + 1)
+-- how often the first share was halved
+abbrev pub first_share : List ℕ → ℕ
+first_share [] = 0
+first_share (k ∷ ks) = k
+
+-- the other shares
+abbrev pub other_shares : List ℕ → List ℕ
+other_shares [] = []
+other_shares (k ∷ ks) = ks
+
+-- a seat keeps one half of its first share, and all else that it has
+abbrev pub kept_half : View → View
+kept_half v = knows v.look v.sight v.steps v.pairs v.won ((first_share v.shares + 1) ∷ other_shares v.shares)
+
+-- and a new seat, which made no step, has the other
+abbrev pub given_half : View → View
+given_half v = beginner ((first_share v.shares + 1) ∷ [])

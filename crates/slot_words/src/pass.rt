@@ -6,7 +6,7 @@ use crate::rule::Sitting;
 use std::marker::{Model, PhantomData};
 
 /// Lets its holder step on the words of the table N. It has no bytes. A contract sees its last look and its last step, all
-/// that there were, what was won, and its share of the right to step.
+/// that there were, what was won, and its shares of the right to step.
 #[derive(Drop)]
 pub struct Pass<N: Naming> {
     pub(crate) seat: Sitting,
@@ -14,7 +14,6 @@ pub struct Pass<N: Naming> {
 }
 
 impl<N: Naming> Model for Pass<N> {
-    ghost use Rattle.std.specs.Prelude.{◌≡◌, ◌<◌, []};
     ghost use Rattle.slot_words.specs.declared.view.View.{View};
     ghost use Rattle.slot_words.specs.Idle.{IsIdle};
 

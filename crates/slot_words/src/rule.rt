@@ -1,6 +1,6 @@
 // The rule of the table, and what each kind of step tells.
-ghost use Rattle.slot_words.specs.ClaimRule.{blank, fresh, ClaimRule};
-ghost use Rattle.slot_words.specs.Steps.{Sat, Looked, Taken, Freed, Differed, both_pairs, pair_part, step_part, granting};
+ghost use Rattle.slot_words.specs.ClaimRule.{blank, opening, ClaimRule};
+ghost use Rattle.slot_words.specs.Steps.{Sat, Looked, Taken, Freed, Differed, both_pairs, pair_part, step_part, kept_half, given_half};
 
 use crate::view::View;
 use atomic_table::{Join, Play, Seat, Split, Table, TableRule};
@@ -18,7 +18,7 @@ pub struct OnceHeld;
 impl TableRule<u8, View, u64> for OnceHeld {
     ghost holds = { λ slots s. ClaimRule slots s.words s.views };
 
-    ghost first = { λ _. fresh };
+    ghost first = { λ _. opening };
 }
 
 /// A load that makes an empty seat.
@@ -74,11 +74,11 @@ impl Split<View> for Parts {
     ghost right = { step_part };
 }
 
-/// A share granted to a new seat.
-pub struct Grants;
+/// A share cut in two.
+pub struct Halves;
 
-impl Split<View> for Grants {
-    ghost left = { granting };
+impl Split<View> for Halves {
+    ghost left = { kept_half };
 
-    ghost right = { λ _. fresh };
+    ghost right = { given_half };
 }

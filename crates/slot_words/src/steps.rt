@@ -1,9 +1,9 @@
-// The steps that change no word: a load that makes a seat, one that grants a seat a share, and one that makes two seats one.
-ghost use Rattle.std.specs.Prelude.{◌≡◌, ◌<◌, []};
-ghost use Rattle.slot_words.specs.ClaimRule.{blank, fresh};
-ghost use Rattle.slot_words.specs.Steps.{both_pairs, granting};
+// The steps that change no word: a load that makes a seat, one that halves a share, and one that makes two seats one.
+ghost use Rattle.std.specs.Prelude.{◌≡◌, ◌<◌, [], length};
+ghost use Rattle.slot_words.specs.ClaimRule.{blank};
+ghost use Rattle.slot_words.specs.Steps.{both_pairs, kept_half, given_half};
 
-use crate::rule::{Both, Grants, Sits, Sitting, Words};
+use crate::rule::{Both, Halves, Sits, Sitting, Words};
 
 // Loads word 0, and makes a seat that knows nothing and may make no step.
 pub(crate) fn sit(table: &Words) -> Sitting
@@ -14,17 +14,17 @@ pub(crate) fn sit(table: &Words) -> Sitting
     table.shared.load_new_seat::<Sits>(0).1
 }
 
-// A new seat with a share, which the first grants.
-pub(crate) fn grant(table: &Words, seat: &mut Sitting) -> Sitting
+// A new seat, with half of the first one's first share.
+pub(crate) fn halve(table: &Words, seat: &mut Sitting) -> Sitting
     requires room { 0 < table.now.shared.table_id.words }
     requires seat { seat.old.table_id ≡ table.now.shared.table_id }
-    requires share { 0 < seat.old.me.0.share }
+    requires share { 0 < length seat.old.me.0.shares }
     ensures seat { seat.new.table_id ≡ seat.old.table_id }
-    ensures granted { seat.new.me ≡ (granting seat.old.me.0, seat.old.me.1) }
+    ensures kept { seat.new.me ≡ (kept_half seat.old.me.0, seat.old.me.1) }
     ensures table { result.table_id ≡ table.now.shared.table_id }
-    ensures fresh { result.me ≡ (fresh, []) }
+    ensures given { result.me ≡ (given_half seat.old.me.0, []) }
 {
-    table.shared.split_seat::<Grants>(seat)
+    table.shared.split_seat::<Halves>(seat)
 }
 
 // The first seat takes in the pairs of the other.

@@ -28,13 +28,12 @@ pub struct Sight {
 }
 
 /// The seat's last look, its last step of any kind, all that it made, the pairs that it has, and those that it ever won;
-/// its share of the right to step, and how many shares it granted to others.
+/// and its shares of the right to step, each the whole right halved so many times.
 pub struct View {
     pub look: Sight,
     pub sight: Sight,
     pub steps: LinkedList<Sight>,
     pub pairs: LinkedList<Held>,
     pub won: LinkedList<Held>,
-    pub share: u64,
-    pub grants: u64,
+    pub shares: LinkedList<u64>,
 }

@@ -1,9 +1,9 @@
 // The table of words, and the steps on it.
 ghost use Rattle.std.specs.Prelude.{◌≡◌, ◌≢◌, ◌↔◌, ℕ, ◌+◌, ◌*◌, ◌/◌, ◌%◌, ◌^◌, ◌<◌, ◌≤◌, [], ◌∷◌, length, All, Contains, IfOk, IfErr, None};
 ghost use Rattle.slot_words.specs.Places.{word_of, slots_of};
-ghost use Rattle.slot_words.specs.ClaimRule.{fresh};
-ghost use Rattle.slot_words.specs.Sight.{HasStepped, KeepsShares};
-ghost use Rattle.slot_words.specs.Steps.{granting, both_pairs};
+ghost use Rattle.slot_words.specs.ClaimRule.{opening};
+ghost use Rattle.slot_words.specs.Sight.{HasStepped};
+ghost use Rattle.slot_words.specs.Steps.{kept_half, given_half, both_pairs};
 ghost use Rattle.slot_words.specs.Refused.{HasFreed, IsClaimed, IsRefused, WereRefused, IsFirst, IsMissed};
 ghost use Rattle.slot_words.specs.declared.view.Kind.TheVariants.{Exchange};
 ghost use Rattle.slot_words.specs.Idle.{IsIdle};
@@ -12,7 +12,7 @@ use crate::claim::{Claim, ClaimRefusal, NoneFree};
 use crate::naming::Naming;
 use crate::pass::Pass;
 use crate::rule::{Differs, Frees, Looks, Parts, Sitting, Takes, Words};
-use crate::steps::{grant, merge, sit};
+use crate::steps::{halve, merge, sit};
 use atomic_table::Table;
 use std::alloc::Global;
 use std::marker::{Brand, Model, PhantomData};
@@ -43,13 +43,13 @@ pub struct Unnamed {
 impl Model for Unnamed {
     ghost use Rattle.std.specs.Prelude.{◌≡◌, ◌+◌, []};
     ghost use Rattle.atomic_table.specs.Seated.{TableId};
-    ghost use Rattle.slot_words.specs.ClaimRule.{fresh};
+    ghost use Rattle.slot_words.specs.ClaimRule.{opening};
 
     ghost Value = { TableId };
 
     ghost view = { λ t. t.table.shared.table_id };
 
-    ghost invariant = { λ t. (t.table.shared.table_id.words ≡ t.table.shared.key + 8) × (t.seat.table_id ≡ t.table.shared.table_id) × (t.seat.me ≡ (fresh, [])) };
+    ghost invariant = { λ t. (t.table.shared.table_id.words ≡ t.table.shared.key + 8) × (t.seat.table_id ≡ t.table.shared.table_id) × (t.seat.me ≡ (opening, [])) };
 }
 
 /// Why a table was not made.
@@ -78,7 +78,7 @@ impl Unnamed {
     /// Gives the table its name.
     pub fn named<N: Naming>(self) -> (SlotWords<N>, Pass<N>)
         requires { self ≡ N.table }
-        ensures { result.1 ≡ fresh }
+        ensures { result.1 ≡ opening }
     {
         let Unnamed { table, seat } = self;
         let words = SlotWords {
@@ -101,12 +101,12 @@ fn place_of(slot: u16) -> usize
 }
 
 impl<N: Naming> SlotWords<N> {
-    /// A second Pass, for another thread. The first stays as it was, but for the share that it granted.
+    /// A second Pass, for another thread, with half of a share. The first keeps the rest, and all that it remembers.
     pub fn split(&self, pass: &mut Pass<N>) -> Pass<N>
-        ensures granted { pass.new ≡ granting pass.old }
-        ensures fresh { result ≡ fresh }
+        ensures kept { pass.new ≡ kept_half pass.old }
+        ensures given { result ≡ given_half pass.old }
     {
-        let seat = grant(&self.table, &mut pass.seat);
+        let seat = halve(&self.table, &mut pass.seat);
         Pass {
             seat,
             of: PhantomData,
@@ -129,7 +129,7 @@ impl<N: Naming> SlotWords<N> {
         // one look more is why, or then one exchange
         ensures err { IfErr result (IsRefused slot pass.old pass.new) }
         // all its right to step is still the Pass's
-        ensures shares { KeepsShares pass.old pass.new }
+        ensures shares { pass.new.shares ≡ pass.old.shares }
     {
         let seen = self
             .table
@@ -155,7 +155,7 @@ impl<N: Naming> SlotWords<N> {
         ensures tried { HasStepped Exchange slot seat.old.me.0 seat.new.me.0 }
         ensures look { seat.new.me.0.look ≡ seat.old.me.0.look }
         ensures idle { IsIdle N.table seat.new }
-        ensures shares { (seat.new.me.0.share ≡ seat.old.me.0.share) × (seat.new.me.0.grants ≡ seat.old.me.0.grants) }
+        ensures shares { seat.new.me.0.shares ≡ seat.old.me.0.shares }
     {
         let generation = seen / 2 + 1;
         let held = 2 * generation + 1;
@@ -187,7 +187,7 @@ impl<N: Naming> SlotWords<N> {
         // all were, and the last refusal is answered
         ensures err { IfErr result (λ e. WereRefused slots.now (length slots.now) pass.old pass.new e.0) }
         ensures empty { IfErr result (λ e. e.0 ≡ None ↔ slots.now ≡ []) }
-        ensures shares { KeepsShares pass.old pass.new }
+        ensures shares { pass.new.shares ≡ pass.old.shares }
     {
         let mut last = None;
         for slot in slots {
@@ -203,7 +203,7 @@ impl<N: Naming> SlotWords<N> {
     pub fn release(&self, pass: &mut Pass<N>, claim: Claim<N>)
         ensures stored { HasFreed claim pass.old pass.new }
         ensures won { Contains pass.new.won claim }
-        ensures shares { KeepsShares pass.old pass.new }
+        ensures shares { pass.new.shares ≡ pass.old.shares }
     {
         let Claim {
             slot,
