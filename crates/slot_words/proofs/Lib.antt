@@ -1,5 +1,8 @@
 pub mod Lists
 pub mod Views
+pub mod Sums
+pub mod Shared
+pub mod Made
 pub mod Timed
 pub mod Winning
 pub mod Carried

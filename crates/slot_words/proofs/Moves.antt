@@ -1,5 +1,5 @@
 -- A slot's word changes: it is claimed, or released.
-use Rattle.std.proofs.Common.{◌≡◌, ℕ, ◌+◌, ◌*◌, ◌^◌, ◌<◌, ◌≤◌, ◌≢◌, ◌/◌, List, [], ◌∷◌, ◌++◌, append-nil, length, set, get_or, get_or-set_same, get_or-set_other, length-set, sym, ap, ◌∙◌, ⊎_elim, subst, arith}
+use Rattle.std.proofs.Common.{◌≡◌, ℕ, ◌+◌, ◌*◌, ◌^◌, ◌<◌, ◌≤◌, ◌≢◌, ◌/◌, ◌%◌, List, [], ◌∷◌, ◌++◌, append-nil, length, set, get_or, get_or-set_same, get_or-set_other, length-set, sym, refl, ap, ◌∙◌, inr, ⊎_elim, subst, arith}
 use mathlib.Core.Option.{some}
 use mathlib.Core.Logic.{dite}
 use native.Mathlib.Decide.{ℕ_discrete}
@@ -9,7 +9,7 @@ use Rattle.slot_words.specs.declared.view.Kind.TheVariants.{Exchange, Store}
 use Rattle.slot_words.specs.declared.view.Sight.{Sight}
 use Rattle.slot_words.specs.declared.view.View.{View}
 use Rattle.slot_words.specs.Places.{word_of}
-use Rattle.slot_words.specs.ClaimRule.{sight_at, Stands, steps, generation_at, ClaimRule}
+use Rattle.slot_words.specs.ClaimRule.{sight_at, Stands, steps, generation_at, IsMove, IsShared, ClaimRule}
 use Rattle.slot_words.proofs.Lists.{nowhere, alone}
 use Rattle.slot_words.proofs.Views.{stands_set, stands_again, still_stands}
 use Rattle.slot_words.proofs.Timed.{timed_next}
@@ -27,9 +27,9 @@ other_word a b ne e = ne (omega arith)
 
 -- a free slot is claimed: one seat comes to have the pair, and the word becomes odd
 pub claimed : (n : ℕ) (ws : List ℕ) (vs : List View) (id g : ℕ) (p : Held) (v w : View) → ClaimRule n ws vs → get_elem? vs id ≡ some v
-    → w.pairs ≡ p ∷ [] → w.won ≡ v.won ++ p ∷ [] → w.steps ≡ v.steps ++ w.sight ∷ [] → w.sight ≡ sight_at Exchange (word_of p.slot) (2 * p.generation + 1) (steps vs + 1) → p.slot < n
+    → w.pairs ≡ p ∷ [] → w.won ≡ v.won ++ p ∷ [] → w.steps ≡ v.steps ++ w.sight ∷ [] → w.sight ≡ sight_at Exchange (word_of p.slot) (2 * g) (2 * p.generation + 1) (steps vs + 1) → IsShared (set vs id w) → p.slot < n
     → get_or ws (word_of p.slot) 0 ≡ 2 * g → p.generation ≡ g + 1 → p.generation ≤ 2 ^ 62 → ClaimRule n (set ws (word_of p.slot) (2 * p.generation + 1)) (set vs id w)
-claimed n ws vs id g p v w rule here has wins more sees inside free next small = record {
+claimed n ws vs id g p v w rule here has wins more sees shared inside free next small = record {
   wide = length-set ws (word_of p.slot) (2 * p.generation + 1) ∙ rule.wide;
   low = stays_low ws (word_of p.slot) (2 * p.generation + 1) within (omega arith) rule.low;
   current = λ s k q st. ⊎_elim
@@ -49,8 +49,12 @@ claimed n ws vs id g p v w rule here has wins more sees inside free next small =
       (stands_set (λ (u : View). u.pairs) vs id w t l r su))
       (stands_set (λ (u : View). u.pairs) vs id w s k q st);
   won = won_next n ws vs id p v w rule.won here wins within (let e : generation_at ws p.slot ≡ g = omega arith in omega arith);
-  timed = timed_next words vs id v w rule.timed.past here more (ap (λ (s : Sight). s.time) sees)
-      (subst (λ (s : Sight). s.word ≡ get_or words s.place 0) (sym sees) (sym (get_or-set_same ws (word_of p.slot) (2 * p.generation + 1) 0 within)));
+  timed = timed_next ws words vs id v w rule.timed here more (ap (λ (s : Sight). s.time) sees)
+      (subst (λ (s : Sight). s.found ≡ get_or ws s.place 0) (sym sees) (sym free))
+      (subst (λ (s : Sight). IsMove s.kind s.found s.left) (sym sees) (inr (even, omega arith)))
+      (subst (λ (s : Sight). get_or words s.place 0 ≡ s.left) (sym sees) (get_or-set_same ws (word_of p.slot) (2 * p.generation + 1) 0 within))
+      (subst (λ (s : Sight). (place : ℕ) → place ≢ s.place → get_or words place 0 ≡ get_or ws place 0) (sym sees) (λ place ne. get_or-set_other ws (word_of p.slot) place (2 * p.generation + 1) 0 ne));
+  shared = shared;
 }
   where
     words : List ℕ
@@ -59,6 +63,9 @@ claimed n ws vs id g p v w rule here has wins more sees inside free next small =
     within : word_of p.slot < length ws
     within = let wide = rule.wide in omega arith
 
+    even : (2 * g) % 2 ≡ 0
+    even = omega arith
+
     apart : (s k : ℕ) (q : Held) → Stands vs s k q → q.slot ≢ p.slot
     apart s k q st e = let odd = rule.current s k q st in
         let even : get_or ws (word_of q.slot) 0 ≡ 2 * g = subst (λ (x : ℕ). get_or ws (word_of x) 0 ≡ 2 * g) (sym e) free in
@@ -66,9 +73,9 @@ claimed n ws vs id g p v w rule here has wins more sees inside free next small =
 
 -- a held slot is released by the seat that has its pair: the word becomes even
 pub freed : (n : ℕ) (ws : List ℕ) (vs : List View) (id : ℕ) (p : Held) (v w : View) → ClaimRule n ws vs → get_elem? vs id ≡ some v
-    → v.pairs ≡ p ∷ [] → w.pairs ≡ [] → w.won ≡ v.won → w.steps ≡ v.steps ++ w.sight ∷ [] → w.sight ≡ sight_at Store (word_of p.slot) (2 * p.generation) (steps vs + 1) → p.slot < n
+    → v.pairs ≡ p ∷ [] → w.pairs ≡ [] → w.won ≡ v.won → w.steps ≡ v.steps ++ w.sight ∷ [] → w.sight ≡ sight_at Store (word_of p.slot) (2 * p.generation + 1) (2 * p.generation) (steps vs + 1) → IsShared (set vs id w) → p.slot < n
     → ClaimRule n (set ws (word_of p.slot) (2 * p.generation)) (set vs id w)
-freed n ws vs id p v w rule here has none won more sees inside = record {
+freed n ws vs id p v w rule here has none won more sees shared inside = record {
   wide = length-set ws (word_of p.slot) (2 * p.generation) ∙ rule.wide;
   low = stays_low ws (word_of p.slot) (2 * p.generation) within small rule.low;
   current = λ s k q st. let old = stood s k q st in
@@ -77,8 +84,12 @@ freed n ws vs id p v w rule here has none won more sees inside = record {
   won = won_still n ws words vs (set vs id w) rule.won same_generation stays_above
       (stands_again (λ (u : View). u.won) vs id v w here won)
       (still_stands (λ (u : View). u.won) vs id v w [] here (won ∙ sym (append-nil v.won)));
-  timed = timed_next words vs id v w rule.timed.past here more (ap (λ (s : Sight). s.time) sees)
-      (subst (λ (s : Sight). s.word ≡ get_or words s.place 0) (sym sees) (sym (get_or-set_same ws (word_of p.slot) (2 * p.generation) 0 within)));
+  timed = timed_next ws words vs id v w rule.timed here more (ap (λ (s : Sight). s.time) sees)
+      (subst (λ (s : Sight). s.found ≡ get_or ws s.place 0) (sym sees) (sym (rule.current id 0 p mine)))
+      (subst (λ (s : Sight). IsMove s.kind s.found s.left) (sym sees) (odd, refl))
+      (subst (λ (s : Sight). get_or words s.place 0 ≡ s.left) (sym sees) (get_or-set_same ws (word_of p.slot) (2 * p.generation) 0 within))
+      (subst (λ (s : Sight). (place : ℕ) → place ≢ s.place → get_or words place 0 ≡ get_or ws place 0) (sym sees) (λ place ne. get_or-set_other ws (word_of p.slot) place (2 * p.generation) 0 ne));
+  shared = shared;
 }
   where
     words : List ℕ
@@ -86,6 +97,9 @@ freed n ws vs id p v w rule here has none won more sees inside = record {
 
     within : word_of p.slot < length ws
     within = let wide = rule.wide in omega arith
+
+    odd : (2 * p.generation + 1) % 2 ≡ 1
+    odd = omega arith
 
     mine : Stands vs id 0 p
     mine = (v, here, ap (λ (l : List Held). get_elem? l 0) has)

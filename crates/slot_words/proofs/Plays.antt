@@ -1,5 +1,5 @@
 -- Each kind of step keeps the rule and tells what it is said to tell.
-use Rattle.std.proofs.Common.{◌≡◌, ℕ, ◌+◌, ◌*◌, ◌^◌, ◌<◌, ◌≤◌, List, [], ◌∷◌, ◌++◌, ◌∙◌, replicate, length, set, get_or, Bool, true, false, eqb, sym, refl, ap, subst, arith}
+use Rattle.std.proofs.Common.{◌≡◌, ℕ, ◌+◌, ◌*◌, ◌^◌, ◌<◌, ◌≤◌, List, [], ◌∷◌, ◌++◌, ◌∙◌, replicate, length, set, get_or, Contains, inl, Bool, true, false, eqb, sym, refl, ap, subst, arith}
 use Rattle.std.proofs.lemmas.List.{set-get_or, get_or-replicate, get_or_past, length-replicate}
 use Rattle.std.proofs.lemmas.Bool.Decides.{nat_tests}
 use mathlib.Core.Logic.{dite}
@@ -12,13 +12,15 @@ use prog.Atomic.{either}
 use Rattle.slot_words.specs.declared.view.Held.{Held}
 use Rattle.slot_words.specs.declared.view.Kind.{Kind}
 use Rattle.slot_words.specs.declared.view.Kind.TheVariants.{Look, Exchange, Store}
+use Rattle.slot_words.specs.declared.view.Sight.{Sight}
 use Rattle.slot_words.specs.declared.view.View.{View}
 use Rattle.slot_words.specs.Places.{word_of}
-use Rattle.slot_words.specs.ClaimRule.{sight_at, blank, held, steps, StandsIn, Stands, ClaimRule}
-use Rattle.slot_words.specs.Steps.{after_step, Sat, Looked, Taken, Freed, Differed, both_pairs, pair_part, step_part}
+use Rattle.slot_words.specs.ClaimRule.{sight_at, blank, opening, held, steps, StandsIn, Stands, MadeBy, IsMove, IsShared, ClaimRule}
+use Rattle.slot_words.specs.Steps.{after_step, Sat, Looked, Taken, Freed, Differed, both_pairs, pair_part, step_part, kept_half, given_half}
 use Rattle.slot_words.proofs.Lists.{nowhere, alone}
 use Rattle.slot_words.proofs.Timed.{timed_next}
-use Rattle.slot_words.proofs.Carried.{noted, entered, joined, parted}
+use Rattle.slot_words.proofs.Shared.{shared_next}
+use Rattle.slot_words.proofs.Carried.{noted, entered, joined, parted, halved}
 use Rattle.slot_words.proofs.Moves.{claimed, freed}
 
 -- a load makes an empty seat
@@ -34,44 +36,54 @@ glues n id other v w s rule here differ there = joined n s.words s.views id othe
 pub parts : {S : Type 0} (n id : ℕ) (v : View) → Splits (λ (s : State S View). ClaimRule n s.words s.views) id v (pair_part v) (step_part v)
 parts n id v s rule here = parted n s.words s.views id v rule here
 
--- the view of a seat whose step was the last one and left this word there
-abbrev after : Kind → List View → View → ℕ → ℕ → List Held → List Held → View
-after kind vs v place word pairs won = after_step v (sight_at kind place word (steps vs + 1)) pairs won
+-- a share is cut in two
+pub halves : {S : Type 0} (n id : ℕ) (v : View) → 0 < length v.shares → Splits (λ (s : State S View). ClaimRule n s.words s.views) id v (kept_half v) (given_half v)
+halves n id v live s rule here = halved n s.words s.views id v rule here live
+
+-- the view of a seat whose step was the last one, found this word there, and left that one
+abbrev after : Kind → List View → View → ℕ → ℕ → ℕ → List Held → List Held → View
+after kind vs v place found left pairs won = after_step v (sight_at kind place found left (steps vs + 1)) pairs won
 
 -- a seat's step is after the last one that it made
 newer : (n : ℕ) (ws : List ℕ) (vs : List View) (id : ℕ) (v : View) → ClaimRule n ws vs → get_elem? vs id ≡ some v → v.sight.time < steps vs + 1
-newer n ws vs id v rule here = let h = rule.timed.past id v here in omega arith
+newer n ws vs id v rule here = let h = rule.timed.seen id v here in omega arith
+
+-- a seat that has a share makes this step
+shares_on : (kind : Kind) (n : ℕ) (ws : List ℕ) (vs : List View) (id : ℕ) (v : View) (place found left : ℕ) (pairs won : List Held) → ClaimRule n ws vs → get_elem? vs id ≡ some v → 0 < length v.shares
+    → IsShared (set vs id (after kind vs v place found left pairs won))
+shares_on kind n ws vs id v place found left pairs won rule here live = shared_next vs id v (after kind vs v place found left pairs won) rule.shared here refl live
 
 -- a step that finds this word, and changes nothing
-sees : (kind : Kind) (n : ℕ) (ws : List ℕ) (vs : List View) (id place : ℕ) (v : View) → ClaimRule n ws vs → get_elem? vs id ≡ some v
-    → ClaimRule n ws (set vs id (after kind vs v place (get_or ws place 0) v.pairs v.won))
-sees kind n ws vs id place v rule here = noted n ws vs id v w rule here refl refl (timed_next ws vs id v w rule.timed.past here refl refl refl)
+sees : (kind : Kind) (n : ℕ) (ws : List ℕ) (vs : List View) (id place : ℕ) (v : View) → ClaimRule n ws vs → get_elem? vs id ≡ some v → 0 < length v.shares
+    → IsMove kind (get_or ws place 0) (get_or ws place 0) → ClaimRule n ws (set vs id (after kind vs v place (get_or ws place 0) (get_or ws place 0) v.pairs v.won))
+sees kind n ws vs id place v rule here live stays = noted n ws vs id v w rule here refl refl (timed_next ws ws vs id v w rule.timed here refl refl refl stays refl (λ other ne. refl))
+    (shares_on kind n ws vs id v place (get_or ws place 0) (get_or ws place 0) v.pairs v.won rule here live)
   where
     w : View
-    w = after kind vs v place (get_or ws place 0) v.pairs v.won
+    w = after kind vs v place (get_or ws place 0) (get_or ws place 0) v.pairs v.won
 
 -- a look
-pub looks : {S : Type 0} (n slots id place : ℕ) (me : Me S View) → me.1 ≡ []
+pub looks : {S : Type 0} (n slots id place : ℕ) (me : Me S View) → me.1 ≡ [] → 0 < length me.0.shares
     → Allows (λ (s : State S View). ClaimRule n s.words s.views) slots id me place (λ m. m) (Looked {S = S} (step slots place 0 0 none) me)
-looks {S} n slots id place me away s rule homes here fits = (
-  after Look s.views me.0 place (get_or s.words place 0) me.0.pairs me.0.won,
+looks {S} n slots id place me away live s rule homes here fits = (
+  after Look s.views me.0 place (get_or s.words place 0) (get_or s.words place 0) me.0.pairs me.0.won,
   keeps,
   tt,
-  rw (set-get_or s.words place 0) (sees Look n s.words s.views id place me.0 rule here),
+  rw (set-get_or s.words place 0) (sees Look n s.words s.views id place me.0 rule here live refl),
   (
     rule.low place,
     steps s.views + 1,
     newer n s.words s.views id me.0 rule here,
-    λ i. (after Look s.views me.0 place (get_or s.words place 0) me.0.pairs me.0.won, away i),
+    λ i. (after Look s.views me.0 place (get_or s.words place 0) (get_or s.words place 0) me.0.pairs me.0.won, away i),
   ),
 )
 
 -- the exchange of a claim: it wins where it finds twice the generation before
 pub takes : {S : Type 0} (n slots id slot g sought put : ℕ) (me : Me S View) → slot < n → g < 2 ^ 62 → sought ≡ 2 * g → put ≡ 2 * (g + 1) + 1
-    → me.0.pairs ≡ [] → me.1 ≡ []
+    → me.0.pairs ≡ [] → me.1 ≡ [] → 0 < length me.0.shares
     → Allows (λ (s : State S View). ClaimRule n s.words s.views) slots id me (word_of slot) (λ m. either (eqb m sought) put m)
     (Taken {S = S} (step slots (word_of slot) sought put none) me)
-takes {S} n slots id slot g sought put me inside below seeks puts bare away s rule homes here fits = go (eqb (get_or s.words (word_of slot) 0) sought) refl
+takes {S} n slots id slot g sought put me inside below seeks puts bare away live s rule homes here fits = go (eqb (get_or s.words (word_of slot) 0) sought) refl
   where
     x : ℕ
     x = get_or s.words (word_of slot) 0
@@ -80,14 +92,19 @@ takes {S} n slots id slot g sought put me inside below seeks puts bare away s ru
     p = held slot (g + 1)
 
     won : View
-    won = after Exchange s.views me.0 (word_of slot) put (p ∷ []) (me.0.won ++ p ∷ [])
+    won = after Exchange s.views me.0 (word_of slot) x put (p ∷ []) (me.0.won ++ p ∷ [])
 
     lost : View
-    lost = after Exchange s.views me.0 (word_of slot) x [] me.0.won
+    lost = after Exchange s.views me.0 (word_of slot) x x [] me.0.won
 
     wins : eqb x sought ≡ true → ClaimRule n (set s.words (word_of slot) (2 * (g + 1) + 1)) (set s.views id won)
-    wins e = claimed n s.words s.views id g p me.0 won rule here refl refl refl (ap (λ (m : ℕ). sight_at Exchange (word_of slot) m (steps s.views + 1)) puts)
-        inside (grind (arith, nat_tests)) refl (omega arith)
+    wins e = claimed n s.words s.views id g p me.0 won rule here refl refl refl
+        (let is : x ≡ 2 * g = free e in λ i. sight_at Exchange (word_of slot) (is i) (puts i) (steps s.views + 1))
+        (shares_on Exchange n s.words s.views id me.0 (word_of slot) x put (p ∷ []) (me.0.won ++ p ∷ []) rule here live)
+        inside (free e) refl (omega arith)
+      where
+        free : eqb x sought ≡ true → x ≡ 2 * g
+        free e = grind (arith, nat_tests)
 
     go : (b : Bool) → eqb x sought ≡ b → (w : View) × (a : Act S) × Valid s.homes me.1 a
         × ClaimRule n (set s.words (word_of slot) (either (eqb x sought) put x)) (set s.views id w)
@@ -103,24 +120,24 @@ takes {S} n slots id slot g sought put me inside below seeks puts bare away s ru
       lost,
       keeps,
       tt,
-      rw (e, set-get_or) (subst (λ (l : List Held). ClaimRule n s.words (set s.views id (after Exchange s.views me.0 (word_of slot) x l me.0.won))) bare (sees Exchange n s.words s.views id (word_of slot) me.0 rule here)),
+      rw (e, set-get_or) (subst (λ (l : List Held). ClaimRule n s.words (set s.views id (after Exchange s.views me.0 (word_of slot) x x l me.0.won))) bare (sees Exchange n s.words s.views id (word_of slot) me.0 rule here live (inl refl))),
       rw e (steps s.views + 1, newer n s.words s.views id me.0 rule here, λ i. (lost, away i)),
     )
 
 -- the store of a release, by the seat that has the pair alone
-pub frees : {S : Type 0} (n slots id : ℕ) (p : Held) (me : Me S View) → p.slot < n → me.0.pairs ≡ p ∷ [] → me.1 ≡ []
+pub frees : {S : Type 0} (n slots id : ℕ) (p : Held) (me : Me S View) → p.slot < n → me.0.pairs ≡ p ∷ [] → me.1 ≡ [] → 0 < length me.0.shares
     → Allows (λ (s : State S View). ClaimRule n s.words s.views) slots id me (word_of p.slot) (λ _. 2 * p.generation)
     (λ _. Freed {S = S} (step slots (word_of p.slot) (2 * p.generation) 0 none) me (2 * p.generation))
-frees {S} n slots id p me inside has away s rule homes here fits = (
+frees {S} n slots id p me inside has away live s rule homes here fits = (
   free,
   keeps,
   tt,
-  freed n s.words s.views id p me.0 free rule here has refl refl refl refl inside,
+  freed n s.words s.views id p me.0 free rule here has refl refl refl refl (shares_on Store n s.words s.views id me.0 (word_of p.slot) (2 * p.generation + 1) (2 * p.generation) [] me.0.won rule here live) inside,
   (steps s.views + 1, newer n s.words s.views id me.0 rule here, λ i. (free, away i)),
 )
   where
     free : View
-    free = after Store s.views me.0 (word_of p.slot) (2 * p.generation) [] me.0.won
+    free = after Store s.views me.0 (word_of p.slot) (2 * p.generation + 1) (2 * p.generation) [] me.0.won
 
 -- a seat that has two pairs names two slots
 pub differs : {S : Type 0} (n slots id place : ℕ) (me : Me S View)
@@ -136,8 +153,8 @@ differs {S} n slots id place me s rule homes here fits = (
       let clash : 0 ≡ 1 = (rule.once id 0 id 1 p q first second same).1 in absurd (omega arith),
 )
 
--- words that are all 0, and a seat that knows nothing
-pub begins : (n : ℕ) (ws : List ℕ) → ws ≡ replicate (n + 8) 0 → ClaimRule n ws (blank ∷ [])
+-- words that are all 0, and a seat that knows nothing and has the whole right
+pub begins : (n : ℕ) (ws : List ℕ) → ws ≡ replicate (n + 8) 0 → ClaimRule n ws (opening ∷ [])
 begins n ws all = record {
   wide = long;
   low = λ i. let e = zeros i in omega arith;
@@ -150,9 +167,19 @@ begins n ws all = record {
     single = λ s k t l p q st su e d. absurd (without (λ (u : View). u.won) refl s k p st);
   };
   timed = record {
-    past = λ s v at. subst (λ (u : View). u.sight.time ≤ 0) (alone (blank ∷ []) s blank v refl at).1 (omega arith);
-    latest = (0, blank, refl, refl);
-    exact = λ s v at. subst (λ (u : View). 0 < u.sight.time → u.sight.time ≡ 0 → u.sight.word ≡ get_or ws u.sight.place 0) (alone (blank ∷ []) s blank v refl at).1 (λ above same. absurd (omega arith));
+    past = λ s by. absurd (unmade s by);
+    latest = λ above. absurd (omega arith);
+    exact = λ s by. absurd (unmade s by);
+    moves = λ s by. absurd (unmade s by);
+    current = λ place. let zero = zeros place in record {
+      told = λ above. absurd (omega arith);
+      most = λ s l. absurd (unmade s l.made);
+    };
+    seen = λ s v at. subst (λ (u : View). u.sight.time ≤ 0) (alone (opening ∷ []) s opening v refl at).1 (omega arith);
+  };
+  shared = record {
+    within = (0, omega arith);
+    spent = λ s v at. subst (λ (u : View). u.shares ≡ [] → u.steps ≡ []) (alone (opening ∷ []) s opening v refl at).1 (λ none. refl);
   };
 }
   where
@@ -164,6 +191,11 @@ begins n ws all = record {
         (λ (small : i < n + 8). ap (λ (l : List ℕ). get_or l i 0) all ∙ get_or-replicate (n + 8) i 0 0 small)
         (λ (high : i < n + 8 → ⊥). get_or_past ws i 0 (let is = long in omega arith))
 
-    without : (part : View → List Held) → part blank ≡ [] → (s k : ℕ) (p : Held) → StandsIn part (blank ∷ []) s k p → ⊥
+    without : (part : View → List Held) → part opening ≡ [] → (s k : ℕ) (p : Held) → StandsIn part (opening ∷ []) s k p → ⊥
     without part bare s k p st =
-        nowhere (part blank) k p bare (subst (λ (u : View). get_elem? (part u) k ≡ some p) (sym (alone (blank ∷ []) s blank st.0 refl st.1).1) st.2)
+        nowhere (part opening) k p bare (subst (λ (u : View). get_elem? (part u) k ≡ some p) (sym (alone (opening ∷ []) s opening st.0 refl st.1).1) st.2)
+
+    unmade : (s : Sight) → MadeBy (opening ∷ []) s → ⊥
+    unmade s t =
+        let has : Contains [] s = subst (λ (u : View). Contains u.steps s) (sym (alone (opening ∷ []) t.0 opening t.1 refl t.2).1) t.3 in
+        let k : has.0 < 0 = has.1 in omega arith

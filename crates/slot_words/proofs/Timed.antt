@@ -1,95 +1,214 @@
 -- The order of steps, after one more, after a seat came, and after two seats became one.
-use Rattle.std.proofs.Common.{◌≡◌, ℕ, zero, suc, ◌+◌, ◌<◌, ◌≤◌, ◌≢◌, ◌⊎◌, List, [], ◌∷◌, ◌++◌, length, length-append, set, get_or, Bool, true, false, nat_lt, sym, refl, ap, ◌∙◌, inl, inr, ⊎_elim, subst, arith}
+use Rattle.std.proofs.Common.{◌≡◌, ℕ, ◌+◌, ◌<◌, ◌≤◌, ◌≢◌, ◌⊎◌, List, [], ◌∷◌, ◌++◌, length, length-append, set, get_or, Bool, true, false, nat_lt, sym, refl, ap, ◌∙◌, inl, inr, ⊎_elim, subst, arith}
 use Rattle.std.proofs.lemmas.Bool.Decides.{nat_tests}
-use Rattle.atomic_table.proofs.Lists.{at_set, set_here, set_else, at_longer, at_snoc, at_last}
-use mathlib.Core.Option.{some, some-injective, some-ne-none}
+use Rattle.atomic_table.proofs.Lists.{at_set, set_else, at_snoc}
+use mathlib.Core.Option.{some}
 use mathlib.Core.Logic.{dite}
 use native.Mathlib.Decide.{ℕ_discrete}
 use lib.ListN.{get_elem?}
 use Rattle.slot_words.specs.declared.view.Sight.{Sight}
 use Rattle.slot_words.specs.declared.view.View.{View}
-use Rattle.slot_words.specs.ClaimRule.{steps, blank, IsTimed}
+use Rattle.slot_words.specs.ClaimRule.{steps, blank, MadeBy, IsLast, IsLeft, IsMove, IsTimed}
 use Rattle.slot_words.specs.Sight.{later}
 use Rattle.slot_words.specs.Steps.{pair_part, step_part}
-use Rattle.slot_words.proofs.Lists.{at_inside}
+use Rattle.slot_words.proofs.Sums.{total_set, total_push}
+use Rattle.slot_words.proofs.Made.{next_to, next_it, next_from, same_to, same_from, parts_to, parts_from, more_to, more_from, both_to, both_from}
 
 -- one view changes
 steps_set : (vs : List View) (id : ℕ) (v w : View) → get_elem? vs id ≡ some v → steps (set vs id w) + length v.steps ≡ steps vs + length w.steps
-steps_set [] id v w e = absurd (some-ne-none v (sym e))
-steps_set (x ∷ xs) zero v w e = let is : length x.steps ≡ length v.steps = ap (λ (y : View). length y.steps) (some-injective x v e) in omega arith
-steps_set (x ∷ xs) (suc id) v w e = let h : steps (set xs id w) + length v.steps ≡ steps xs + length w.steps = steps_set xs id v w e in omega arith
+steps_set = total_set (λ (u : View). length u.steps)
 
 -- one view comes
 steps_push : (vs : List View) (w : View) → steps (vs ++ w ∷ []) ≡ steps vs + length w.steps
-steps_push [] w = omega arith
-steps_push (x ∷ xs) w = let h : steps (xs ++ w ∷ []) ≡ steps xs + length w.steps = steps_push xs w in omega arith
+steps_push = total_push (λ (u : View). length u.steps)
 
 -- no seat's last step is after the last one
-abbrev pub ArePast : List View → Type 0
-ArePast vs = (seat : ℕ) (v : View) → get_elem? vs seat ≡ some v → v.sight.time ≤ steps vs
+abbrev pub AreSeen : List View → Type 0
+AreSeen vs = (seat : ℕ) (v : View) → get_elem? vs seat ≡ some v → v.sight.time ≤ steps vs
 
--- if this was the last step of that number, its word still stands
-abbrev Exact : List ℕ → ℕ → Sight → Type 0
-Exact ws count s = 0 < s.time → s.time ≡ count → s.word ≡ get_or ws s.place 0
-
--- a seat makes a step, and knows what stands there then
-pub timed_next : (ws : List ℕ) (vs : List View) (id : ℕ) (v w : View) → ArePast vs → get_elem? vs id ≡ some v → w.steps ≡ v.steps ++ w.sight ∷ []
-    → w.sight.time ≡ steps vs + 1 → w.sight.word ≡ get_or ws w.sight.place 0 → IsTimed ws (set vs id w)
-timed_next ws vs id v w past here more now is = record {
-  past = λ s x at. ⊎_elim
-      (λ (h : (s ≡ id) × (w ≡ x)). subst (λ (y : View). y.sight.time ≤ steps (set vs id w)) h.1 (let all = sum in omega arith))
-      (λ (h : (s ≢ id) × (get_elem? vs s ≡ some x)). let old = past s x h.1 in let all = sum in omega arith)
-      (at_set vs id s w x at);
-  latest = (id, w, set_here vs id w (at_inside vs id v here), now ∙ sym sum);
-  exact = λ s x at. ⊎_elim
-      (λ (h : (s ≡ id) × (w ≡ x)). subst (λ (y : View). Exact ws (steps (set vs id w)) y.sight) h.1 (λ above same. is))
-      (λ (h : (s ≢ id) × (get_elem? vs s ≡ some x)). let old = past s x h.1 in let all = sum in λ above same. absurd (omega arith))
-      (at_set vs id s w x at);
+-- which step is the last depends on the steps alone
+last_again : (P Q : Sight → Type 0) (place time : ℕ) (s : Sight) → ((t : Sight) → P t → Q t) → ((t : Sight) → Q t → P t) → IsLast P place time s → IsLast Q place time s
+last_again P Q place time s to from l = record {
+  made = to s l.made;
+  here = l.here;
+  early = l.early;
+  most = λ t q at before. l.most t (from t q) at before;
 }
+
+-- and so does what is left
+left_again : (P Q : Sight → Type 0) (place time word : ℕ) → ((t : Sight) → P t → Q t) → ((t : Sight) → Q t → P t) → IsLeft P place time word → IsLeft Q place time word
+left_again P Q place time word to from is = record {
+  told = λ above. let t = is.told above in (t.0, last_again P Q place time t.0 to from t.1, t.2);
+  most = λ s l. is.most s (last_again Q P place time s from to l);
+}
+
+-- the steps are known to some seat as before
+timed_again : (ws : List ℕ) (vs xs : List View) → IsTimed ws vs → steps xs ≡ steps vs → ((s : Sight) → MadeBy vs s → MadeBy xs s) → ((s : Sight) → MadeBy xs s → MadeBy vs s) → AreSeen xs → IsTimed ws xs
+timed_again ws vs xs so same to from seen = record {
+  past = λ s by. let old = so.past s (from s by) in omega arith;
+  latest = λ above. let l = so.latest (omega arith) in (l.0, to l.0 l.1, l.2 ∙ sym same);
+  exact = λ s by. left_again (MadeBy vs) (MadeBy xs) s.place s.time s.found to from (so.exact s (from s by));
+  moves = λ s by. so.moves s (from s by);
+  current = λ place. subst (λ (n : ℕ). IsLeft (MadeBy xs) place (n + 1) (get_or ws place 0)) (sym same)
+      (left_again (MadeBy vs) (MadeBy xs) place (steps vs + 1) (get_or ws place 0) to from (so.current place));
+  seen = seen;
+}
+
+-- one seat makes the step e, the last of all
+timed_step : (ws us : List ℕ) (vs xs : List View) (e : Sight) → IsTimed ws vs → steps xs ≡ steps vs + 1 → e.time ≡ steps vs + 1 → e.found ≡ get_or ws e.place 0 → IsMove e.kind e.found e.left
+    → get_or us e.place 0 ≡ e.left → ((place : ℕ) → place ≢ e.place → get_or us place 0 ≡ get_or ws place 0)
+    → ((s : Sight) → MadeBy vs s → MadeBy xs s) → MadeBy xs e → ((s : Sight) → MadeBy xs s → MadeBy vs s ⊎ (e ≡ s)) → AreSeen xs → IsTimed us xs
+timed_step ws us vs xs e so more now finds_it moved written unmoved to made from seen = record {
+  past = before;
+  latest = λ _. (e, made, now ∙ sym more);
+  exact = λ s by. ⊎_elim
+      (λ (old : MadeBy vs s). let early = so.past s old in lasting s.place s.time s.found (omega arith) (so.exact s old))
+      (λ (new : e ≡ s). subst (λ (g : Sight). IsLeft (MadeBy xs) g.place g.time g.found) new
+      (lasting e.place e.time e.found (omega arith)
+      (subst (λ (k : ℕ). IsLeft (MadeBy vs) e.place e.time k) (sym finds_it) (subst (λ (t : ℕ). IsLeft (MadeBy vs) e.place t (get_or ws e.place 0)) (sym now) (so.current e.place)))))
+      (from s by);
+  moves = λ s by. ⊎_elim
+      (λ (old : MadeBy vs s). so.moves s old)
+      (λ (new : e ≡ s). subst (λ (g : Sight). IsMove g.kind g.found g.left) new moved)
+      (from s by);
+  current = λ place. dite (ℕ_discrete place e.place)
+      (λ (same : place ≡ e.place). subst (λ (p : ℕ). IsLeft (MadeBy xs) p (steps xs + 1) (get_or us p 0)) (sym same)
+      (subst (λ (k : ℕ). IsLeft (MadeBy xs) e.place (steps xs + 1) k) (sym written) here))
+      (λ (ne : place ≢ e.place). subst (λ (k : ℕ). IsLeft (MadeBy xs) place (steps xs + 1) k) (sym (unmoved place ne)) (elsewhere place ne));
+  seen = seen;
+}
+  where
+    before : (s : Sight) → MadeBy xs s → s.time ≤ steps xs
+    before s by = ⊎_elim
+        (λ (old : MadeBy vs s). let early = so.past s old in omega arith)
+        (λ (new : e ≡ s). subst (λ (g : Sight). g.time ≤ steps xs) new (omega arith))
+        (from s by)
+
+    -- what was left before some time up to now is so still
+    lasting : (place time word : ℕ) → time ≤ steps vs + 1 → IsLeft (MadeBy vs) place time word → IsLeft (MadeBy xs) place time word
+    lasting place time word past is = record {
+      told = λ above. let t = is.told above in (t.0, still t.0 t.1, t.2);
+      most = λ s l. is.most s (was s l);
+    }
+      where
+        too_early : (s : Sight) → e ≡ s → s.time < time → ⊥
+        too_early s new early = let same : e.time < time = subst (λ (g : Sight). g.time < time) (sym new) early in omega arith
+
+        still : (s : Sight) → IsLast (MadeBy vs) place time s → IsLast (MadeBy xs) place time s
+        still s l = record {
+          made = to s l.made;
+          here = l.here;
+          early = l.early;
+          most = λ t by at early. ⊎_elim
+              (λ (old : MadeBy vs t). l.most t old at early)
+              (λ (new : e ≡ t). absurd (too_early t new early))
+              (from t by);
+        }
+
+        was : (s : Sight) → IsLast (MadeBy xs) place time s → IsLast (MadeBy vs) place time s
+        was s l = record {
+          made = ⊎_elim
+              (λ (old : MadeBy vs s). old)
+              (λ (new : e ≡ s). absurd (too_early s new l.early))
+              (from s l.made);
+          here = l.here;
+          early = l.early;
+          most = λ t by at early. l.most t (to t by) at early;
+        }
+
+    here : IsLeft (MadeBy xs) e.place (steps xs + 1) e.left
+    here = record {
+      told = λ above. (e, record { made = made; here = refl; early = omega arith; most = λ t by at early. let old = before t by in omega arith }, refl);
+      most = λ s l. ⊎_elim
+          (λ (old : MadeBy vs s). let late = l.most e made refl (omega arith) in let early = so.past s old in absurd (omega arith))
+          (λ (new : e ≡ s). sym (ap (λ (g : Sight). g.left) new))
+          (from s l.made);
+    }
+
+    elsewhere : (place : ℕ) → place ≢ e.place → IsLeft (MadeBy xs) place (steps xs + 1) (get_or ws place 0)
+    elsewhere place ne = record {
+      told = λ above. let t = (so.current place).told above in (t.0, still t.0 t.1, t.2);
+      most = λ s l. (so.current place).most s (was s l);
+    }
+      where
+        other : (s : Sight) → e ≡ s → s.place ≡ place → ⊥
+        other s new at = ne (sym (subst (λ (g : Sight). g.place ≡ place) (sym new) at))
+
+        still : (s : Sight) → IsLast (MadeBy vs) place (steps vs + 1) s → IsLast (MadeBy xs) place (steps xs + 1) s
+        still s l = record {
+          made = to s l.made;
+          here = l.here;
+          early = let old = l.early in omega arith;
+          most = λ t by at early. ⊎_elim
+              (λ (old : MadeBy vs t). let late = so.past t old in l.most t old at (omega arith))
+              (λ (new : e ≡ t). absurd (other t new at))
+              (from t by);
+        }
+
+        was : (s : Sight) → IsLast (MadeBy xs) place (steps xs + 1) s → IsLast (MadeBy vs) place (steps vs + 1) s
+        was s l = record {
+          made = old;
+          here = l.here;
+          early = let late = so.past s old in omega arith;
+          most = λ t by at early. l.most t (to t by) at (omega arith);
+        }
+          where
+            old : MadeBy vs s
+            old = ⊎_elim
+                (λ (is : MadeBy vs s). is)
+                (λ (new : e ≡ s). absurd (other s new l.here))
+                (from s l.made)
+
+-- a seat makes a step
+pub timed_next : (ws us : List ℕ) (vs : List View) (id : ℕ) (v w : View) → IsTimed ws vs → get_elem? vs id ≡ some v → w.steps ≡ v.steps ++ w.sight ∷ []
+    → w.sight.time ≡ steps vs + 1 → w.sight.found ≡ get_or ws w.sight.place 0 → IsMove w.sight.kind w.sight.found w.sight.left
+    → get_or us w.sight.place 0 ≡ w.sight.left → ((place : ℕ) → place ≢ w.sight.place → get_or us place 0 ≡ get_or ws place 0) → IsTimed us (set vs id w)
+timed_next ws us vs id v w so here more now finds_it moved written unmoved = timed_step ws us vs (set vs id w) w.sight so sum now finds_it moved written unmoved
+    (next_to vs id v w here w.sight more)
+    (next_it vs id v w here w.sight more)
+    (next_from vs id v w here w.sight more)
+    (λ s x at. ⊎_elim
+    (λ (h : (s ≡ id) × (w ≡ x)). subst (λ (y : View). y.sight.time ≤ steps (set vs id w)) h.1 (let all = sum in omega arith))
+    (λ (h : (s ≢ id) × (get_elem? vs s ≡ some x)). let old = so.seen s x h.1 in let all = sum in omega arith)
+    (at_set vs id s w x at))
   where
     sum : steps (set vs id w) ≡ steps vs + 1
     sum = let all = steps_set vs id v w here in let count : length w.steps ≡ length v.steps + 1 = ap (λ (l : List Sight). length l) more ∙ length-append v.steps (w.sight ∷ []) in omega arith
 
--- a seat comes
-pub timed_more : (ws : List ℕ) (vs : List View) → IsTimed ws vs → IsTimed ws (vs ++ blank ∷ [])
-timed_more ws vs so = record {
-  past = λ s x at. ⊎_elim
-      (λ (old : get_elem? vs s ≡ some x). let h = so.past s x old in let all = sum in omega arith)
-      (λ (new : blank ≡ x). subst (λ (y : View). y.sight.time ≤ steps (vs ++ blank ∷ [])) new (omega arith))
-      (at_snoc vs blank x s at);
-  latest = let l = so.latest in (l.0, l.1, at_longer vs (blank ∷ []) l.0 l.1 l.2, l.3 ∙ sym sum);
-  exact = λ s x at. ⊎_elim
-      (λ (old : get_elem? vs s ≡ some x). λ above same. so.exact s x old above (same ∙ sum))
-      (λ (new : blank ≡ x). subst (λ (y : View). Exact ws (steps (vs ++ blank ∷ [])) y.sight) new (λ above same. absurd (omega arith)))
-      (at_snoc vs blank x s at);
-}
+-- a seat comes that made no step
+pub timed_more : (ws : List ℕ) (vs : List View) (w : View) → IsTimed ws vs → w.sight.time ≡ 0 → w.steps ≡ [] → IsTimed ws (vs ++ w ∷ [])
+timed_more ws vs w so never none = timed_again ws vs (vs ++ w ∷ []) so sum (more_to vs w none) (more_from vs w none)
+    (λ s x at. ⊎_elim
+    (λ (old : get_elem? vs s ≡ some x). let h = so.seen s x old in let all = sum in omega arith)
+    (λ (new : w ≡ x). subst (λ (y : View). y.sight.time ≤ steps (vs ++ w ∷ [])) new (omega arith))
+    (at_snoc vs w x s at))
   where
-    sum : steps (vs ++ blank ∷ []) ≡ steps vs
-    sum = let all = steps_push vs blank in omega arith
+    sum : steps (vs ++ w ∷ []) ≡ steps vs
+    sum = let all = steps_push vs w in let zero : length w.steps ≡ 0 = ap (λ (l : List Sight). length l) none in omega arith
+
+-- a seat's view changes, and its steps don't
+pub timed_same : (ws : List ℕ) (vs : List View) (id : ℕ) (v w : View) → IsTimed ws vs → get_elem? vs id ≡ some v → w.sight ≡ v.sight → w.steps ≡ v.steps → IsTimed ws (set vs id w)
+timed_same ws vs id v w so here last same = timed_again ws vs (set vs id w) so sum (same_to vs id v w here same) (same_from vs id v w here same)
+    (λ s x at. ⊎_elim
+    (λ (h : (s ≡ id) × (w ≡ x)). subst (λ (y : View). y.sight.time ≤ steps (set vs id w)) h.1 (let p = so.seen id v here in let all = sum in let e : w.sight.time ≡ v.sight.time = ap (λ (t : Sight). t.time) last in omega arith))
+    (λ (h : (s ≢ id) × (get_elem? vs s ≡ some x)). let old = so.seen s x h.1 in let all = sum in omega arith)
+    (at_set vs id s w x at))
+  where
+    sum : steps (set vs id w) ≡ steps vs
+    sum = let all = steps_set vs id v w here in let count : length w.steps ≡ length v.steps = ap (λ (l : List Sight). length l) same in omega arith
 
 -- a seat is cut in two, and the new one remembers the steps
 pub timed_parts : (ws : List ℕ) (vs : List View) (id : ℕ) (v : View) → IsTimed ws vs → get_elem? vs id ≡ some v → IsTimed ws (set vs id (pair_part v) ++ step_part v ∷ [])
-timed_parts ws vs id v so here = record {
-  past = λ s x at. ⊎_elim
-      (λ (old : get_elem? left s ≡ some x). ⊎_elim
-      (λ (h : (s ≡ id) × (pair_part v ≡ x)). subst (λ (y : View). y.sight.time ≤ steps new) h.1 (omega arith))
-      (λ (h : (s ≢ id) × (get_elem? vs s ≡ some x)). let p = so.past s x h.1 in let all = sum in omega arith)
-      (at_set vs id s (pair_part v) x old))
-      (λ (last : step_part v ≡ x). subst (λ (y : View). y.sight.time ≤ steps new) last (let p = so.past id v here in let all = sum in omega arith))
-      (at_snoc left (step_part v) x s at);
-  latest = let l = so.latest in dite (ℕ_discrete l.0 id)
-      (λ (e : l.0 ≡ id).
-      let same : l.1.sight.time ≡ v.sight.time = ap (λ (y : View). y.sight.time) (some-injective l.1 v (sym l.2 ∙ ap (get_elem? vs) e ∙ here)) in
-      let time = l.3 in let all = sum in (length left, step_part v, at_last left (step_part v) (length left) refl, omega arith))
-      (λ (ne : l.0 ≢ id). (l.0, l.1, at_longer left (step_part v ∷ []) l.0 l.1 (set_else vs id l.0 (pair_part v) ne ∙ l.2), l.3 ∙ sym sum));
-  exact = λ s x at. ⊎_elim
-      (λ (old : get_elem? left s ≡ some x). ⊎_elim
-      (λ (h : (s ≡ id) × (pair_part v ≡ x)). subst (λ (y : View). Exact ws (steps new) y.sight) h.1 (λ above same. absurd (omega arith)))
-      (λ (h : (s ≢ id) × (get_elem? vs s ≡ some x)). λ above same. so.exact s x h.1 above (same ∙ sum))
-      (at_set vs id s (pair_part v) x old))
-      (λ (last : step_part v ≡ x). subst (λ (y : View). Exact ws (steps new) y.sight) last (λ above same. so.exact id v here above (same ∙ sum)))
-      (at_snoc left (step_part v) x s at);
-}
+timed_parts ws vs id v so here = timed_again ws vs new so sum
+    (parts_to vs id v (pair_part v) here (step_part v) refl refl)
+    (parts_from vs id v (pair_part v) here (step_part v) refl refl)
+    (λ s x at. ⊎_elim
+    (λ (old : get_elem? left s ≡ some x). ⊎_elim
+    (λ (h : (s ≡ id) × (pair_part v ≡ x)). subst (λ (y : View). y.sight.time ≤ steps new) h.1 (omega arith))
+    (λ (h : (s ≢ id) × (get_elem? vs s ≡ some x)). let p = so.seen s x h.1 in let all = sum in omega arith)
+    (at_set vs id s (pair_part v) x old))
+    (λ (last : step_part v ≡ x). subst (λ (y : View). y.sight.time ≤ steps new) last (let p = so.seen id v here in let all = sum in omega arith))
+    (at_snoc left (step_part v) x s at))
   where
     left : List View
     left = set vs id (pair_part v)
@@ -112,33 +231,16 @@ later_is s t = go (nat_lt s.time t.time) refl
 pub timed_both : (ws : List ℕ) (vs : List View) (id other : ℕ) (v w both : View) → IsTimed ws vs → get_elem? vs id ≡ some v → other ≢ id
     → get_elem? (set vs id both) other ≡ some w → both.sight ≡ later v.sight w.sight → both.steps ≡ v.steps ++ w.steps
     → IsTimed ws (set (set vs id both) other blank)
-timed_both ws vs id other v w both so here differ there last count = record {
-  past = λ s x at. ⊎_elim
-      (λ (h : (s ≡ other) × (blank ≡ x)). subst (λ (y : View). y.sight.time ≤ steps new) h.1 (omega arith))
-      (λ (h : (s ≢ other) × (get_elem? (set vs id both) s ≡ some x)). ⊎_elim
-      (λ (i : (s ≡ id) × (both ≡ x)). subst (λ (y : View). y.sight.time ≤ steps new) i.1 (let e : both.sight.time ≡ newest = ap (λ (y : Sight). y.time) last in let b = bounds in let all = sum in omega arith))
-      (λ (i : (s ≢ id) × (get_elem? vs s ≡ some x)). let old = so.past s x i.1 in let all = sum in omega arith)
-      (at_set vs id s both x h.1))
-      (at_set (set vs id both) other s blank x at);
-  latest = let l = so.latest in dite (ℕ_discrete l.0 id)
-      (λ (e : l.0 ≡ id).
-      let same : l.1.sight.time ≡ v.sight.time = ap (λ (y : View). y.sight.time) (some-injective l.1 v (sym l.2 ∙ ap (get_elem? vs) e ∙ here)) in
-      let time = l.3 in let b = bounds in let all = sum in
-      let f : both.sight.time ≡ newest = ap (λ (y : Sight). y.time) last in (id, both, now, omega arith))
-      (λ (ne : l.0 ≢ id). dite (ℕ_discrete l.0 other)
-      (λ (e : l.0 ≡ other).
-      let same : l.1.sight.time ≡ w.sight.time = ap (λ (y : View). y.sight.time) (some-injective l.1 w (sym l.2 ∙ ap (get_elem? vs) e ∙ was_there)) in
-      let time = l.3 in let b = bounds in let all = sum in
-      let f : both.sight.time ≡ newest = ap (λ (y : Sight). y.time) last in (id, both, now, omega arith))
-      (λ (no : l.0 ≢ other). (l.0, l.1, set_else (set vs id both) other l.0 blank no ∙ set_else vs id l.0 both ne ∙ l.2, l.3 ∙ sym sum)));
-  exact = λ s x at. ⊎_elim
-      (λ (h : (s ≡ other) × (blank ≡ x)). subst (λ (y : View). Exact ws (steps new) y.sight) h.1 (λ above same. absurd (omega arith)))
-      (λ (h : (s ≢ other) × (get_elem? (set vs id both) s ≡ some x)). ⊎_elim
-      (λ (i : (s ≡ id) × (both ≡ x)). subst (λ (y : View). Exact ws (steps new) y.sight) i.1 (subst (λ (y : Sight). Exact ws (steps new) y) (sym last) newest_exact))
-      (λ (i : (s ≢ id) × (get_elem? vs s ≡ some x)). λ above same. so.exact s x i.1 above (same ∙ sum))
-      (at_set vs id s both x h.1))
-      (at_set (set vs id both) other s blank x at);
-}
+timed_both ws vs id other v w both so here differ there last count = timed_again ws vs new so sum
+    (both_to vs id other v w both blank here differ was_there count refl)
+    (both_from vs id other v w both blank here differ was_there count refl)
+    (λ s x at. ⊎_elim
+    (λ (h : (s ≡ other) × (blank ≡ x)). subst (λ (y : View). y.sight.time ≤ steps new) h.1 (omega arith))
+    (λ (h : (s ≢ other) × (get_elem? (set vs id both) s ≡ some x)). ⊎_elim
+    (λ (i : (s ≡ id) × (both ≡ x)). subst (λ (y : View). y.sight.time ≤ steps new) i.1 (let e : both.sight.time ≡ newest = ap (λ (y : Sight). y.time) last in let b = bound in let all = sum in omega arith))
+    (λ (i : (s ≢ id) × (get_elem? vs s ≡ some x)). let old = so.seen s x i.1 in let all = sum in omega arith)
+    (at_set vs id s both x h.1))
+    (at_set (set vs id both) other s blank x at))
   where
     new : List View
     new = set (set vs id both) other blank
@@ -149,24 +251,11 @@ timed_both ws vs id other v w both so here differ there last count = record {
     was_there : get_elem? vs other ≡ some w
     was_there = sym (set_else vs id other both differ) ∙ there
 
-    now : get_elem? new id ≡ some both
-    now = set_else (set vs id both) other id blank (λ e. differ (sym e)) ∙ set_here vs id both (at_inside vs id v here)
-
     sum : steps new ≡ steps vs
     sum = let sizes : length both.steps ≡ length v.steps + length w.steps = ap (λ (l : List Sight). length l) count ∙ length-append v.steps w.steps in let one = steps_set vs id v both here in let two = steps_set (set vs id both) other w blank there in omega arith
 
-    bounds : (v.sight.time ≤ newest) × (w.sight.time ≤ newest) × (newest ≤ steps vs)
-    bounds = let p = so.past id v here in let q = so.past other w was_there in ⊎_elim
-        (λ (h : (later v.sight w.sight ≡ v.sight) × (w.sight.time ≤ v.sight.time)).
-        let e : newest ≡ v.sight.time = ap (λ (y : Sight). y.time) h.0 in (omega arith, omega arith, omega arith))
-        (λ (h : (later v.sight w.sight ≡ w.sight) × (v.sight.time < w.sight.time)).
-        let e : newest ≡ w.sight.time = ap (λ (y : Sight). y.time) h.0 in (omega arith, omega arith, omega arith))
-        (later_is v.sight w.sight)
-
-    newest_exact : Exact ws (steps new) (later v.sight w.sight)
-    newest_exact = ⊎_elim
-        (λ (h : (later v.sight w.sight ≡ v.sight) × (w.sight.time ≤ v.sight.time)).
-        subst (λ (y : Sight). Exact ws (steps new) y) (sym h.0) (λ above same. so.exact id v here above (same ∙ sum)))
-        (λ (h : (later v.sight w.sight ≡ w.sight) × (v.sight.time < w.sight.time)).
-        subst (λ (y : Sight). Exact ws (steps new) y) (sym h.0) (λ above same. so.exact other w was_there above (same ∙ sum)))
+    bound : newest ≤ steps vs
+    bound = let p = so.seen id v here in let q = so.seen other w was_there in ⊎_elim
+        (λ (h : (later v.sight w.sight ≡ v.sight) × (w.sight.time ≤ v.sight.time)). let e : newest ≡ v.sight.time = ap (λ (y : Sight). y.time) h.0 in omega arith)
+        (λ (h : (later v.sight w.sight ≡ w.sight) × (v.sight.time < w.sight.time)). let e : newest ≡ w.sight.time = ap (λ (y : Sight). y.time) h.0 in omega arith)
         (later_is v.sight w.sight)

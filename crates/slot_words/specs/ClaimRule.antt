@@ -1,10 +1,10 @@
 -- The rule of the slot words: what is true of the words and of all claims between any two atomic steps.
-use Rattle.std.specs.Prelude.{◌≡◌, ℕ, ◌+◌, ◌*◌, ◌/◌, ◌^◌, ◌<◌, ◌≤◌, List, [], ◌∷◌, length, slice_index}
+use Rattle.std.specs.Prelude.{◌≡◌, ◌⊎◌, ℕ, ◌+◌, ◌-◌, ◌*◌, ◌/◌, ◌%◌, ◌^◌, ◌<◌, ◌≤◌, List, [], ◌∷◌, length, slice_index, Contains}
 use mathlib.Core.Option.{some}
 use lib.ListN.{get_elem?}
 use Rattle.slot_words.specs.declared.view.Held.{Held}
 use Rattle.slot_words.specs.declared.view.Kind.{Kind}
-use Rattle.slot_words.specs.declared.view.Kind.TheVariants.{Look}
+use Rattle.slot_words.specs.declared.view.Kind.TheVariants.{Look, Exchange, Store}
 use Rattle.slot_words.specs.declared.view.Sight.{Sight}
 use Rattle.slot_words.specs.declared.view.View.{View}
 use Rattle.slot_words.specs.Places.{word_of}
@@ -13,26 +13,51 @@ use Rattle.slot_words.specs.Places.{word_of}
 abbrev pub held : ℕ → ℕ → Held
 held slot generation = record { slot = slot; generation = generation }
 
--- the table's step number `time` did this at this place, and right after it this number stood there
-abbrev pub sight_at : Kind → ℕ → ℕ → ℕ → Sight
-sight_at kind place word time = record { kind = kind; place = place; word = word; time = time }
+-- the table's step number `time` did this at this place, found this number there, and left that one
+abbrev pub sight_at : Kind → ℕ → ℕ → ℕ → ℕ → Sight
+sight_at kind place found left time = record { kind = kind; place = place; found = found; left = left; time = time }
 
 -- before any step
 abbrev pub no_sight : Sight
-no_sight = sight_at Look 0 0 0
+no_sight = sight_at Look 0 0 0 0
 
--- the view of a seat whose last step was this, that made these, and that has and won these pairs
-abbrev pub knows : Sight → List Sight → List Held → List Held → View
-knows sight steps pairs won = record { sight = sight; steps = steps; pairs = pairs; won = won }
+-- the view of a seat whose last look and last step were these, that made these steps, that has and won these pairs, and
+-- that has these shares of the right to step
+abbrev pub knows : Sight → Sight → List Sight → List Held → List Held → List ℕ → View
+knows look sight steps pairs won shares = record {
+  look = look;
+  sight = sight;
+  steps = steps;
+  pairs = pairs;
+  won = won;
+  shares = shares;
+}
 
--- the view of a seat that made no step
+-- the view of a seat that made no step yet, with these shares
+abbrev pub beginner : List ℕ → View
+beginner shares = knows no_sight no_sight [] [] [] shares
+
+-- with none
 abbrev pub blank : View
-blank = knows no_sight [] [] []
+blank = beginner []
+
+-- with the whole right, never halved
+abbrev pub opening : View
+opening = beginner (0 ∷ [])
+
+-- a number of each view, added up
+abbrev pub total : (View → ℕ) → List View → ℕ
+total f [] = 0
+total f (v ∷ vs) = f v + total f vs
 
 -- how many steps all seats made
 abbrev pub steps : List View → ℕ
-steps [] = 0
-steps (v ∷ vs) = length v.steps + steps vs
+steps views = total (λ v. length v.steps) views
+
+-- Shares weighed, where the whole right is 2 ^ n: a share that was halved k times weighs 2 ^ (n - k), and at least 1.
+abbrev pub weight : ℕ → List ℕ → ℕ
+weight n [] = 0
+weight n (k ∷ ks) = 2 ^ (n - k) + weight n ks
 
 -- the pair p stands in this list of this seat's view, at this place
 abbrev pub StandsIn : (View → List Held) → List View → ℕ → ℕ → Held → Type 0
@@ -58,11 +83,44 @@ pub record IsWon (slots : ℕ) (words : List ℕ) (views : List View) : Type 0 w
   pub reached : (seat place : ℕ) (p : Held) → Won views seat place p → p.generation ≤ generation_at words p.slot
   pub single : (seat place other spot : ℕ) (p q : Held) → Won views seat place p → Won views other spot q → p.slot ≡ q.slot → p.generation ≡ q.generation → (seat ≡ other) × (place ≡ spot)
 
--- All steps have one order, and the last one is some seat's last. What a seat saw in it still stands there.
+-- some seat made this step
+abbrev pub MadeBy : List View → Sight → Type 0
+MadeBy views s = (seat : ℕ) × (v : View) × (get_elem? views seat ≡ some v) × Contains v.steps s
+
+-- of the steps at this place before this time, this is the last
+pub record IsLast (step : Sight → Type 0) (place time : ℕ) (s : Sight) : Type 0 where
+  pub made : step s
+  pub here : s.place ≡ place
+  pub early : s.time < time
+  pub most : (t : Sight) → step t → t.place ≡ place → t.time < time → t.time ≤ s.time
+
+-- this number is what the last step at this place before this time left there, or 0 where there was none
+pub record IsLeft (step : Sight → Type 0) (place time word : ℕ) : Type 0 where
+  pub told : 0 < word → (s : Sight) × IsLast step place time s × (s.left ≡ word)
+  pub most : (s : Sight) → IsLast step place time s → s.left ≡ word
+
+-- What each kind of step does to the number found. A look leaves it. So does an exchange that lost; one that won found a
+-- free word, and left it held at the next generation. A store found a held word, and left it free.
+abbrev pub IsMove : Kind → ℕ → ℕ → Type 0
+IsMove Look found left = left ≡ found
+IsMove Exchange found left = (left ≡ found) ⊎ ((found % 2 ≡ 0) × (left ≡ found + 3))
+IsMove Store found left = (found % 2 ≡ 1) × (found ≡ left + 1)
+
+-- All steps have one order: each has a number up to how many there were, and some step has the last one. Each found exactly
+-- what the one before it at its place had left, 0 at first, and did what its kind does; and what the last one left there
+-- still stands. No seat's last step has a number above the last.
 pub record IsTimed (words : List ℕ) (views : List View) : Type 0 where
-  pub past : (seat : ℕ) (v : View) → get_elem? views seat ≡ some v → v.sight.time ≤ steps views
-  pub latest : (seat : ℕ) × (v : View) × (get_elem? views seat ≡ some v) × (v.sight.time ≡ steps views)
-  pub exact : (seat : ℕ) (v : View) → get_elem? views seat ≡ some v → 0 < v.sight.time → v.sight.time ≡ steps views → v.sight.word ≡ slice_index words v.sight.place
+  pub past : (s : Sight) → MadeBy views s → s.time ≤ steps views
+  pub latest : 0 < steps views → (s : Sight) × MadeBy views s × (s.time ≡ steps views)
+  pub exact : (s : Sight) → MadeBy views s → IsLeft (MadeBy views) s.place s.time s.found
+  pub moves : (s : Sight) → MadeBy views s → IsMove s.kind s.found s.left
+  pub current : (place : ℕ) → IsLeft (MadeBy views) place (steps views + 1) (slice_index words place)
+  pub seen : (seat : ℕ) (v : View) → get_elem? views seat ≡ some v → v.sight.time ≤ steps views
+
+-- All shares together are at most the whole right. Who has none made no step.
+pub record IsShared (views : List View) : Type 0 where
+  pub within : (n : ℕ) × (total (λ v. weight n v.shares) views ≤ 2 ^ n)
+  pub spent : (seat : ℕ) (v : View) → get_elem? views seat ≡ some v → v.shares ≡ [] → v.steps ≡ []
 
 -- A slot's word is twice a generation, and one more where the slot is held. Where it is even no pair of any view
 -- names the slot. Where it is odd at most one does, and with that generation.
@@ -73,3 +131,4 @@ pub record ClaimRule (slots : ℕ) (words : List ℕ) (views : List View) : Type
   pub once : (seat place other spot : ℕ) (p q : Held) → Stands views seat place p → Stands views other spot q → p.slot ≡ q.slot → (seat ≡ other) × (place ≡ spot)
   pub won : IsWon slots words views
   pub timed : IsTimed words views
+  pub shared : IsShared views

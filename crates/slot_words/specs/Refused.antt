@@ -3,58 +3,53 @@ use Rattle.std.specs.Prelude.{◌≡◌, ◌≢◌, ◌⊎◌, ℕ, zero, suc, �
 use Rattle.slot_words.specs.declared.claim.ClaimRefusal.{ClaimRefusal}
 use Rattle.slot_words.specs.declared.claim.ClaimRefusal.TheVariants.{Taken, Spent, Moved}
 use Rattle.slot_words.specs.declared.view.Held.{Held}
-use Rattle.slot_words.specs.declared.view.Kind.TheVariants.{Look, Exchange}
+use Rattle.slot_words.specs.declared.view.Kind.TheVariants.{Look, Store}
 use Rattle.slot_words.specs.declared.view.Sight.{Sight}
-use Rattle.slot_words.specs.Sight.{Sights, IsNext}
+use Rattle.slot_words.specs.declared.view.View.{View}
+use Rattle.slot_words.specs.Sight.{HasStepped, HasTried}
 
--- the Pass made one look more, at this slot's word
-abbrev pub HasLooked : ℕ → Sights → Sights → Type 0
-HasLooked slot before after = IsNext Look slot before.looked before.looks after.looked after.looks
+-- the Pass made one store more, which found the claim's slot held at its generation, and left it free
+abbrev pub HasFreed : Held → View → View → Type 0
+HasFreed claim before after = HasStepped Store claim.slot before after × (after.sight.found ≡ 2 * claim.generation + 1) × (after.sight.left ≡ 2 * claim.generation)
 
--- the Pass made one exchange more, at this slot's word
-abbrev pub HasTried : ℕ → Sights → Sights → Type 0
-HasTried slot before after = IsNext Exchange slot before.stepped before.steps after.stepped after.steps
+-- one look found the slot free, and then one exchange found it the same, and left it held at the next generation
+abbrev pub IsClaimed : ℕ → View → View → Held → Type 0
+IsClaimed slot before after claim = (claim.slot ≡ slot) × HasTried slot before after × (2 * claim.generation ≡ after.look.found + 2)
+    × (after.sight.found ≡ after.look.found) × (after.sight.left ≡ 2 * claim.generation + 1)
 
--- the Pass made no exchange
-abbrev pub HasNotTried : Sights → Sights → Type 0
-HasNotTried before after = (after.stepped ≡ before.stepped) × (after.steps ≡ before.steps)
+-- one look was made, and found this
+abbrev pub HasLooked : ℕ → View → View → ℕ → Type 0
+HasLooked slot before after word = HasStepped Look slot before after × (after.sight.found ≡ word)
 
--- one exchange won the slot at the generation after the one that the look found, and left it held
-abbrev pub IsClaimed : ℕ → Sights → Sights → Held → Type 0
-IsClaimed slot before after claim = (claim.slot ≡ slot) × (2 * claim.generation ≡ after.looked.word + 2) × HasTried slot before after
-    × (after.stepped.word ≡ 2 * claim.generation + 1)
+-- one look found the slot free, and then one exchange found this there, and left it
+abbrev pub HasMissed : ℕ → View → View → ℕ → Type 0
+HasMissed slot before after word = HasTried slot before after × (after.look.found % 2 ≡ 0) × (after.sight.found ≡ word) × (after.sight.left ≡ word)
 
--- Taken: the word given is odd, and the look found it at the slot, or an exchange did. Spent: the look found the slot
--- free at the last generation. Moved: the word given is even, an exchange found it at the slot, and the look had
--- found another even word there.
-abbrev pub IsWhy : ℕ → Sights → Sights → ClaimRefusal → Type 0
-IsWhy slot before after (Taken word) = (word % 2 ≡ 1) × (((after.looked.word ≡ word) × HasNotTried before after) ⊎ (HasTried slot before after × (after.stepped.word ≡ word)))
-IsWhy slot before after Spent = (after.looked.word ≡ 2 ^ 63) × HasNotTried before after
-IsWhy slot before after (Moved word) = (word % 2 ≡ 0) × HasTried slot before after × (after.stepped.word ≡ word)
-    × (after.looked.word % 2 ≡ 0) × (after.looked.word ≢ word)
+-- Taken: the word given is odd, and the look found it at the slot, or an exchange after the look. Spent: the look found the
+-- slot free at the last generation. Moved: the word given is even, an exchange found it at the slot, and the look before it
+-- had found another even word there.
+abbrev pub IsRefused : ℕ → View → View → ClaimRefusal → Type 0
+IsRefused slot before after (Taken word) = (word % 2 ≡ 1) × (HasLooked slot before after word ⊎ HasMissed slot before after word)
+IsRefused slot before after Spent = HasLooked slot before after (2 ^ 63)
+IsRefused slot before after (Moved word) = (word % 2 ≡ 0) × HasMissed slot before after word × (after.look.found ≢ word)
 
--- one look was made, and it or an exchange after it is why
-abbrev pub IsRefused : ℕ → Sights → Sights → ClaimRefusal → Type 0
-IsRefused slot before after refusal = HasLooked slot before after × IsWhy slot before after refusal
-
--- The first k slots listed were each tried and refused, in order: one look for each and no other, and the exchanges that
--- were why. `last` is the last refusal, or none where k is 0.
-abbrev pub WereRefused : List ℕ → ℕ → Sights → Sights → Option ClaimRefusal → Type 0
+-- The first k slots listed were each tried and refused, in order, and no other step was made. `last` is the last refusal, or
+-- none where k is 0.
+abbrev pub WereRefused : List ℕ → ℕ → View → View → Option ClaimRefusal → Type 0
 WereRefused slots zero before after last = (after ≡ before) × (last ≡ None)
-WereRefused slots (suc k) before after last = (between : Sights) × (earlier : Option ClaimRefusal) × (refusal : ClaimRefusal)
+WereRefused slots (suc k) before after last = (between : View) × (earlier : Option ClaimRefusal) × (refusal : ClaimRefusal)
     × WereRefused slots k before between earlier × IsRefused (slice_index slots k) between after refusal × (last ≡ Some refusal)
 
--- the first slots listed were each tried and refused, in order, and then with one look more the next was claimed
-abbrev pub IsFirst : List ℕ → Sights → Sights → Held → Type 0
-IsFirst slots before after claim = (k : ℕ) × (between : Sights) × (last : Option ClaimRefusal) × (k < length slots)
-    × WereRefused slots k before between last × HasLooked (slice_index slots k) between after
-    × IsClaimed (slice_index slots k) between after claim
+-- the first slots listed were each tried and refused, in order, and then the next was claimed
+abbrev pub IsFirst : List ℕ → View → View → Held → Type 0
+IsFirst slots before after claim = (k : ℕ) × (between : View) × (last : Option ClaimRefusal) × (k < length slots)
+    × WereRefused slots k before between last × IsClaimed (slice_index slots k) between after claim
 
--- why an exchange missed that sought the even word `seen`, and then saw this
+-- why an exchange missed that sought the even word `seen`: it found this one, and left it
 abbrev pub IsMissed : ℕ → Sight → ClaimRefusal → Type 0
-IsMissed seen stepped (Taken word) = (word % 2 ≡ 1) × (stepped.word ≡ word)
+IsMissed seen stepped (Taken word) = (word % 2 ≡ 1) × (stepped.found ≡ word) × (stepped.left ≡ word)
 IsMissed seen stepped Spent = ⊥
-IsMissed seen stepped (Moved word) = (word % 2 ≡ 0) × (stepped.word ≡ word) × (seen ≢ word)
+IsMissed seen stepped (Moved word) = (word % 2 ≡ 0) × (stepped.found ≡ word) × (stepped.left ≡ word) × (seen ≢ word)
 
 -- the refusals' numbers
 abbrev pub number_of : ClaimRefusal → ℕ

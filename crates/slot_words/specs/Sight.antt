@@ -1,24 +1,10 @@
--- What a Pass remembers of the words.
-use Rattle.std.specs.Prelude.{◌≡◌, ℕ, ◌<◌, ◌++◌, nat_lt, Bool, true, false, List, [], ◌∷◌}
-use Rattle.slot_words.specs.declared.view.Held.{Held}
+-- What a Pass remembers of its steps.
+use Rattle.std.specs.Prelude.{◌≡◌, ℕ, ◌<◌, ◌++◌, nat_lt, Bool, true, false, [], ◌∷◌}
 use Rattle.slot_words.specs.declared.view.Kind.{Kind}
+use Rattle.slot_words.specs.declared.view.Kind.TheVariants.{Look, Exchange}
 use Rattle.slot_words.specs.declared.view.Sight.{Sight}
 use Rattle.slot_words.specs.declared.view.View.{View}
 use Rattle.slot_words.specs.Places.{word_of}
-use Rattle.slot_words.specs.ClaimRule.{no_sight}
-
--- A Pass's last look and all that it made; its last exchange or store, and all of these that its seat made; and the pairs
--- that this seat won and still tells.
-pub record Sights : Type 0 where
-  pub looked : Sight
-  pub looks : List Sight
-  pub stepped : Sight
-  pub steps : List Sight
-  pub won : List Held
-
--- nothing yet
-abbrev pub no_sights : Sights
-no_sights = record { looked = no_sight; looks = []; stepped = no_sight; steps = []; won = [] }
 
 -- the second where the test says so, and else the first
 abbrev pub second_if : Bool → Sight → Sight → Sight
@@ -29,23 +15,19 @@ second_if false s t = s
 abbrev pub later : Sight → Sight → Sight
 later s t = second_if (nat_lt s.time t.time) s t
 
--- what two Passes remember together
-abbrev pub both_sights : Sights → Sights → Sights
-both_sights a b = record {
-  looked = later a.looked b.looked;
-  looks = a.looks ++ b.looks;
-  stepped = later a.stepped b.stepped;
-  steps = a.steps ++ b.steps;
-  won = a.won ++ b.won;
-}
-
 -- one step more than before, of this kind and at this slot's word, and after the last one
-pub record IsNext (kind : Kind) (slot : ℕ) (last : Sight) (before : List Sight) (next : Sight) (after : List Sight) : Type 0 where
-  pub did : next.kind ≡ kind
-  pub place : next.place ≡ word_of slot
-  pub newer : last.time < next.time
-  pub noted : after ≡ before ++ next ∷ []
+pub record HasStepped (kind : Kind) (slot : ℕ) (before after : View) : Type 0 where
+  pub did : after.sight.kind ≡ kind
+  pub place : after.sight.place ≡ word_of slot
+  pub newer : before.sight.time < after.sight.time
+  pub noted : after.steps ≡ before.steps ++ after.sight ∷ []
 
--- the seat made one step more, of this kind and at this slot's word
-abbrev pub HasStepped : Kind → ℕ → View → View → Type 0
-HasStepped kind slot before after = IsNext kind slot before.sight before.steps after.sight after.steps
+-- two steps more than before, both at this slot's word: a look, after the last one, and then an exchange
+pub record HasTried (slot : ℕ) (before after : View) : Type 0 where
+  pub looked : after.look.kind ≡ Look
+  pub seen : after.look.place ≡ word_of slot
+  pub newer : before.sight.time < after.look.time
+  pub did : after.sight.kind ≡ Exchange
+  pub place : after.sight.place ≡ word_of slot
+  pub behind : after.look.time < after.sight.time
+  pub noted : after.steps ≡ (before.steps ++ after.look ∷ []) ++ after.sight ∷ []

@@ -18,14 +18,14 @@ pub struct Claim<N: Naming> {
 impl<N: Naming> Model for Claim<N> {
     ghost use Rattle.std.specs.Prelude.{◌≡◌, ◌<◌, ◌≤◌, ◌^◌, [], ◌∷◌, Contains};
     ghost use Rattle.slot_words.specs.declared.view.Held.{Held};
-    ghost use Rattle.slot_words.specs.ClaimRule.{held};
+    ghost use Rattle.slot_words.specs.ClaimRule.{held, no_sight};
     ghost use Rattle.slot_words.specs.Places.{slots_of};
 
     ghost Value = { Held };
 
     ghost view = { λ c. held c.slot c.generation };
 
-    ghost invariant = { λ c. (c.slot < slots_of N.table) × (0 < c.generation) × (c.generation ≤ 2 ^ 62) × (c.seat.table_id ≡ N.table) × (c.seat.me.0.pairs ≡ held c.slot c.generation ∷ []) × (c.seat.me.1 ≡ []) × Contains c.seat.me.0.won (held c.slot c.generation) };
+    ghost invariant = { λ c. (c.slot < slots_of N.table) × (0 < c.generation) × (c.generation ≤ 2 ^ 62) × (c.seat.table_id ≡ N.table) × (c.seat.me.0.pairs ≡ held c.slot c.generation ∷ []) × (c.seat.me.1 ≡ []) × Contains c.seat.me.0.won (held c.slot c.generation) × (c.seat.me.0.sight ≡ no_sight) × (c.seat.me.0.steps ≡ []) × (c.seat.me.0.shares ≡ []) };
 }
 
 impl<N: Naming> Claim<N> {

@@ -5,24 +5,21 @@ use crate::naming::Naming;
 use crate::rule::Sitting;
 use std::marker::{Model, PhantomData};
 
-/// Lets its holder step on the words of the table N. It has no bytes. A contract sees its last look and its last exchange
-/// or store, all that there were, and what was won.
+/// Lets its holder step on the words of the table N. It has no bytes. A contract sees its last look and its last step, all
+/// that there were, what was won, and its shares of the right to step.
 #[derive(Drop)]
 pub struct Pass<N: Naming> {
-    // The exchanges are this seat's.
     pub(crate) seat: Sitting,
-    // The looks are this seat's.
-    pub(crate) look: Sitting,
     pub(crate) of: PhantomData<N>,
 }
 
 impl<N: Naming> Model for Pass<N> {
-    ghost use Rattle.std.specs.Prelude.{◌≡◌, []};
-    ghost use Rattle.slot_words.specs.Sight.{Sights};
+    ghost use Rattle.slot_words.specs.declared.view.View.{View};
+    ghost use Rattle.slot_words.specs.Idle.{IsIdle};
 
-    ghost Value = { Sights };
+    ghost Value = { View };
 
-    ghost view = { λ p. record { looked = p.look.me.0.sight; looks = p.look.me.0.steps; stepped = p.seat.me.0.sight; steps = p.seat.me.0.steps; won = p.seat.me.0.won } };
+    ghost view = { λ p. p.seat.me.0 };
 
-    ghost invariant = { λ p. (p.seat.table_id ≡ N.table) × (p.seat.me.0.pairs ≡ []) × (p.seat.me.1 ≡ []) × (p.look.table_id ≡ N.table) × (p.look.me.0.pairs ≡ []) × (p.look.me.1 ≡ []) };
+    ghost invariant = { λ p. IsIdle N.table p.seat };
 }

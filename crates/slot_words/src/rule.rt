@@ -1,6 +1,6 @@
 // The rule of the table, and what each kind of step tells.
-ghost use Rattle.slot_words.specs.ClaimRule.{blank, ClaimRule};
-ghost use Rattle.slot_words.specs.Steps.{Sat, Looked, Taken, Freed, Differed, both_pairs, pair_part, step_part};
+ghost use Rattle.slot_words.specs.ClaimRule.{blank, opening, ClaimRule};
+ghost use Rattle.slot_words.specs.Steps.{Sat, Looked, Taken, Freed, Differed, both_pairs, pair_part, step_part, kept_half, given_half};
 
 use crate::view::View;
 use atomic_table::{Join, Play, Seat, Split, Table, TableRule};
@@ -18,7 +18,7 @@ pub struct OnceHeld;
 impl TableRule<u8, View, u64> for OnceHeld {
     ghost holds = { λ slots s. ClaimRule slots s.words s.views };
 
-    ghost first = { λ _. blank };
+    ghost first = { λ _. opening };
 }
 
 /// A load that makes an empty seat.
@@ -72,4 +72,13 @@ impl Split<View> for Parts {
     ghost left = { pair_part };
 
     ghost right = { step_part };
+}
+
+/// A share cut in two.
+pub struct Halves;
+
+impl Split<View> for Halves {
+    ghost left = { kept_half };
+
+    ghost right = { given_half };
 }

@@ -16,20 +16,24 @@ pub enum Kind {
     Store,
 }
 
-/// What a step did, the place of its word, what stood there right after it, and how many steps the table had had by
+/// What a step did, the place of its word, what it found there and what it left, and how many steps the table had had by
 /// then, this one counted.
 #[derive(Clone, Copy)]
 pub struct Sight {
     pub kind: Kind,
     pub place: u64,
-    pub word: u64,
+    pub found: u64,
+    pub left: u64,
     pub time: u64,
 }
 
-/// The seat's last step, all that it made, the pairs that it has, and those that it ever won.
+/// The seat's last look, its last step of any kind, all that it made, the pairs that it has, and those that it ever won;
+/// and its shares of the right to step, each the whole right halved so many times.
 pub struct View {
+    pub look: Sight,
     pub sight: Sight,
     pub steps: LinkedList<Sight>,
     pub pairs: LinkedList<Held>,
     pub won: LinkedList<Held>,
+    pub shares: LinkedList<u64>,
 }

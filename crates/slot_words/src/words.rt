@@ -1,16 +1,18 @@
 // The table of words, and the steps on it.
 ghost use Rattle.std.specs.Prelude.{◌≡◌, ◌≢◌, ◌↔◌, ℕ, ◌+◌, ◌*◌, ◌/◌, ◌%◌, ◌^◌, ◌<◌, ◌≤◌, [], ◌∷◌, length, All, Contains, IfOk, IfErr, None};
 ghost use Rattle.slot_words.specs.Places.{word_of, slots_of};
-ghost use Rattle.slot_words.specs.Sight.{HasStepped, no_sights, both_sights};
-ghost use Rattle.slot_words.specs.Refused.{HasLooked, IsClaimed, IsRefused, WereRefused, IsFirst, IsMissed};
-ghost use Rattle.slot_words.specs.declared.view.Kind.TheVariants.{Exchange, Store};
+ghost use Rattle.slot_words.specs.ClaimRule.{opening};
+ghost use Rattle.slot_words.specs.Sight.{HasStepped};
+ghost use Rattle.slot_words.specs.Steps.{kept_half, given_half, both_pairs};
+ghost use Rattle.slot_words.specs.Refused.{HasFreed, IsClaimed, IsRefused, WereRefused, IsFirst, IsMissed};
+ghost use Rattle.slot_words.specs.declared.view.Kind.TheVariants.{Exchange};
 ghost use Rattle.slot_words.specs.Idle.{IsIdle};
 
 use crate::claim::{Claim, ClaimRefusal, NoneFree};
 use crate::naming::Naming;
 use crate::pass::Pass;
 use crate::rule::{Differs, Frees, Looks, Parts, Sitting, Takes, Words};
-use crate::steps::{merge, sit};
+use crate::steps::{halve, merge, sit};
 use atomic_table::Table;
 use std::alloc::Global;
 use std::marker::{Brand, Model, PhantomData};
@@ -36,18 +38,18 @@ pub struct SlotWords<N: Naming> {
 pub struct Unnamed {
     table: Words,
     seat: Sitting,
-    look: Sitting,
 }
 
 impl Model for Unnamed {
     ghost use Rattle.std.specs.Prelude.{◌≡◌, ◌+◌, []};
     ghost use Rattle.atomic_table.specs.Seated.{TableId};
+    ghost use Rattle.slot_words.specs.ClaimRule.{opening};
 
     ghost Value = { TableId };
 
     ghost view = { λ t. t.table.shared.table_id };
 
-    ghost invariant = { λ t. (t.table.shared.table_id.words ≡ t.table.shared.key + 8) × (t.seat.table_id ≡ t.table.shared.table_id) × (t.seat.me.0.pairs ≡ []) × (t.seat.me.1 ≡ []) × (t.look.table_id ≡ t.table.shared.table_id) × (t.look.me.0.pairs ≡ []) × (t.look.me.1 ≡ []) };
+    ghost invariant = { λ t. (t.table.shared.table_id.words ≡ t.table.shared.key + 8) × (t.seat.table_id ≡ t.table.shared.table_id) × (t.seat.me ≡ (opening, [])) };
 }
 
 /// Why a table was not made.
@@ -65,11 +67,10 @@ impl SlotWords<Brand> {
         let Ok(words) = vec![in alloc; 0; slots as usize + FIRST] else {
             return Err(TableRefusal::Memory);
         };
-        let Ok((table, seat)) = Table::of_words(alloc, &words, &u64::from(slots)) else {
-            return Err(TableRefusal::Memory);
-        };
-        let look = sit(&table);
-        Ok(Unnamed { table, seat, look })
+        match Table::of_words(alloc, &words, &u64::from(slots)) {
+            Ok((table, seat)) => Ok(Unnamed { table, seat }),
+            Err(_) => Err(TableRefusal::Memory),
+        }
     }
 }
 
@@ -77,15 +78,15 @@ impl Unnamed {
     /// Gives the table its name.
     pub fn named<N: Naming>(self) -> (SlotWords<N>, Pass<N>)
         requires { self ≡ N.table }
+        ensures { result.1 ≡ opening }
     {
-        let Unnamed { table, seat, look } = self;
+        let Unnamed { table, seat } = self;
         let words = SlotWords {
             table,
             of: PhantomData,
         };
         let pass = Pass {
             seat,
-            look,
             of: PhantomData,
         };
         (words, pass)
@@ -100,44 +101,40 @@ fn place_of(slot: u16) -> usize
 }
 
 impl<N: Naming> SlotWords<N> {
-    /// A second Pass, for another thread. The first stays as it was.
+    /// A second Pass, for another thread, with half of a share. The first keeps the rest, and all that it remembers.
     pub fn split(&self, pass: &mut Pass<N>) -> Pass<N>
-        ensures same { pass.new ≡ pass.old }
-        ensures fresh { result ≡ no_sights }
+        ensures kept { pass.new ≡ kept_half pass.old }
+        ensures given { result ≡ given_half pass.old }
     {
-        let _ = pass;
-        let seat = sit(&self.table);
-        let look = sit(&self.table);
+        let seat = halve(&self.table, &mut pass.seat);
         Pass {
             seat,
-            look,
             of: PhantomData,
         }
     }
 
     /// Takes the other Pass in, with what it remembers.
     pub fn join(&self, pass: &mut Pass<N>, other: Pass<N>)
-        ensures { pass.new ≡ both_sights pass.old other }
+        ensures { pass.new ≡ both_pairs pass.old other }
     {
-        let Pass { seat, look, of: _ } = other;
+        let Pass { seat, of: _ } = other;
         merge(&self.table, &mut pass.seat, seat);
-        merge(&self.table, &mut pass.look, look);
     }
 
     /// Looks once, and where the slot is free tries one exchange to the next generation, held.
     pub fn claim(&self, pass: &mut Pass<N>, slot: u16) -> Result<Claim<N>, ClaimRefusal>
         requires { slot < slots_of N.table }
-        // one look more, at this slot's word
-        ensures looked { HasLooked slot pass.old pass.new }
-        // the claim has the generation after it, and one exchange more won it
+        // one look more, and then one exchange, which won the next generation
         ensures ok { IfOk result (IsClaimed slot pass.old pass.new) }
-        // the look is why, or one exchange more
+        // one look more is why, or then one exchange
         ensures err { IfErr result (IsRefused slot pass.old pass.new) }
+        // all its right to step is still the Pass's
+        ensures shares { pass.new.shares ≡ pass.old.shares }
     {
         let seen = self
             .table
             .shared
-            .load::<Looks>(&mut pass.look, place_of(slot));
+            .load::<Looks>(&mut pass.seat, place_of(slot));
         if seen % 2 == 1 {
             return Err(ClaimRefusal::Taken(seen));
         }
@@ -153,10 +150,12 @@ impl<N: Naming> SlotWords<N> {
         requires free { seen % 2 ≡ 0 }
         requires lasting { seen < 2 ^ 63 }
         requires seat { IsIdle N.table seat.old }
-        ensures ok { IfOk result (λ c. (c.slot ≡ slot) × (2 * c.generation ≡ seen + 2) × (seat.new.me.0.sight.word ≡ 2 * c.generation + 1)) }
+        ensures ok { IfOk result (λ c. (c.slot ≡ slot) × (2 * c.generation ≡ seen + 2) × (seat.new.me.0.sight.found ≡ seen) × (seat.new.me.0.sight.left ≡ 2 * c.generation + 1)) }
         ensures err { IfErr result (IsMissed seen seat.new.me.0.sight) }
         ensures tried { HasStepped Exchange slot seat.old.me.0 seat.new.me.0 }
+        ensures look { seat.new.me.0.look ≡ seat.old.me.0.look }
         ensures idle { IsIdle N.table seat.new }
+        ensures shares { seat.new.me.0.shares ≡ seat.old.me.0.shares }
     {
         let generation = seen / 2 + 1;
         let held = 2 * generation + 1;
@@ -188,6 +187,7 @@ impl<N: Naming> SlotWords<N> {
         // all were, and the last refusal is answered
         ensures err { IfErr result (λ e. WereRefused slots.now (length slots.now) pass.old pass.new e.0) }
         ensures empty { IfErr result (λ e. e.0 ≡ None ↔ slots.now ≡ []) }
+        ensures shares { pass.new.shares ≡ pass.old.shares }
     {
         let mut last = None;
         for slot in slots {
@@ -201,20 +201,20 @@ impl<N: Naming> SlotWords<N> {
 
     /// Frees the slot at the claim's generation, by one store. It always succeeds.
     pub fn release(&self, pass: &mut Pass<N>, claim: Claim<N>)
-        ensures stored { (pass.new.stepped.kind ≡ Store) × (pass.new.stepped.place ≡ word_of claim.slot) × (pass.new.stepped.word ≡ 2 * claim.generation) }
+        ensures stored { HasFreed claim pass.old pass.new }
         ensures won { Contains pass.new.won claim }
-        ensures same { (pass.new.looked ≡ pass.old.looked) × (pass.new.looks ≡ pass.old.looks) }
+        ensures shares { pass.new.shares ≡ pass.old.shares }
     {
         let Claim {
             slot,
             generation,
-            mut seat,
+            seat,
             of: _,
         } = claim;
+        merge(&self.table, &mut pass.seat, seat);
         self.table
             .shared
-            .store::<Frees>(&mut seat, place_of(slot), 2 * generation);
-        pass.seat = seat;
+            .store::<Frees>(&mut pass.seat, place_of(slot), 2 * generation);
     }
 
     /// Promises that the two claims' slots differ.

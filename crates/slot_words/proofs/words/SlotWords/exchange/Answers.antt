@@ -7,7 +7,7 @@ compare_exchange-found-requires g c = (
   (search rules),
   (search rules),
   rw c.place_of.ensures
-      (takes c.args.self.now.table.shared.key _ _ c.args.slot (c.args.seen / 2) _ _ _ (search rules) (omega arith) (omega arith) (omega arith) (search rules) (search rules)),
+      (takes c.args.self.now.table.shared.key _ _ c.args.slot (c.args.seen / 2) _ _ _ (search rules) (omega arith) (omega arith) (omega arith) (search rules) (search rules) (search rules)),
 )
 
 pub split_seat-rest-requires : goal.split_seat-rest-requires
