@@ -5,7 +5,7 @@ all: run
 
 run:
 	@answers=$$(mktemp) && trap 'rm -f "$$answers"' EXIT && \
-	for script in one_write two_workers two_controllers a_copy_outrun a_lost_drive; do \
+	for script in one_write two_workers two_controllers a_copy_outrun a_lost_drive hot_and_cold rebuilt_onto_a_new_drive; do \
 	    echo "== examples/$$script"; \
 	    (cd crates/raid_bench && rt run -- script < ../../examples/$$script 2>/dev/null) > "$$answers"; \
 	    cat "$$answers"; \
