@@ -8,6 +8,8 @@ mod learned;
 #[cfg(test)]
 mod losses;
 #[cfg(test)]
+mod moves;
+#[cfg(test)]
 mod reads;
 #[cfg(test)]
 mod restarts;

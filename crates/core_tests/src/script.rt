@@ -18,6 +18,8 @@ pub(crate) enum Told {
     Read(u32, Option<u8>),
     Data(Option<u8>),
     Made(u16),
+    Shifted,
+    Added(u8),
     Refused(Refusal),
     Other,
 }
@@ -34,6 +36,8 @@ pub(crate) fn tell(answer: &Answer) -> Told {
         Answer::Read(Some((version, payload))) => Told::Read(*version, payload.first().copied()),
         Answer::Found(At::Data(payload)) => Told::Data(payload.first().copied()),
         Answer::Made(group) => Told::Made(*group),
+        Answer::Shifted => Told::Shifted,
+        Answer::Added(drive) => Told::Added(*drive),
         Answer::Refused(refusal) => Told::Refused(*refusal),
         _ => Told::Other,
     }
