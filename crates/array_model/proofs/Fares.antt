@@ -20,7 +20,7 @@ no_loss n false = omega arith
 
 -- a state is what it leaves where nothing happens
 pub itself : (x : Flat) → Leaves x x
-itself x = record { same = refl; drives = λ d. record { stays = λ e. e; count = no_loss (x.failures d) (x.lost d) } }
+itself x = flat.itself x
 
 -- a state whose drives are those of an array leaves itself, with the drives that the array has then
 pub leaves : (x : Flat) (a b : PartsView) → x.lost ≡ lost_of a → x.failures ≡ failed_of a → DrivesFare a b → Leaves x (fared x b)

@@ -1,5 +1,5 @@
 -- An array with a drive more, or with a member on another extent, is whole, and stands for the state with the same.
-use Rattle.std.proofs.Common.{◌≡◌, ◌≢◌, ℕ, ◌+◌, ◌<◌, ◌≤◌, Bool, true, false, [], ◌∷◌, length, refl, sym, ap, ◌∙◌, subst, arith, Option, Some, None}
+use Rattle.std.proofs.Common.{◌≡◌, ◌≢◌, ℕ, ◌+◌, ◌<◌, ◌≤◌, Bool, true, false, [], ◌∷◌, length, refl, sym, ap, ◌∙◌, subst, arith, inl, inr, Option, Some, None}
 use Rattle.std.specs.Prelude.{slice_get}
 use Rattle.std.proofs.lemmas.List.{length-append}
 use Rattle.extents.specs.Owners.{Owners, with_owner}
@@ -67,10 +67,10 @@ added_shows a v F lost failures shows e room = record {
     failures_same d = ap (λ n. put F.failures n failures d) shows.tables.drives ∙ ap (λ f. put f (length a.parts.drives) failures d) shows.tables.failures ∙ sym (e.failures_are d)
 
 pub add_case : (F : Flat) (a : ArrayView) → ShowsArray a F → length a.parts.drives < 16 → AddCase F (AddedDrive (length a.parts.drives)) (with_new_drive F false 0)
-add_case F a shows room = (sym shows.tables.drives, subst (λ n. n < 16) (sym shows.tables.drives) room, itself (with_new_drive F false 0))
+add_case F a shows room = (sym shows.tables.drives, subst (λ n. n < 16) (sym shows.tables.drives) room, refl)
 
 pub add_full : (F : Flat) (a : ArrayView) → ShowsArray a F → 16 ≤ length a.parts.drives → AddCase F (Refused Full) F
-add_full F a shows full = (subst (λ n. 16 ≤ n) (sym shows.tables.drives) full, itself F)
+add_full F a shows full = (subst (λ n. 16 ≤ n) (sym shows.tables.drives) full, refl)
 
 -- why a member can't be moved, told of the flat state
 pub reason_as : (a : ArrayView) (F : Flat) (g k : ℕ) (to : Member) (why : Option Refusal) → ShowsArray a F → IsMoveReason a.parts.groups (length a.parts.drives) g k to why
@@ -90,7 +90,7 @@ move_refused a F g k to _ reason shows = absurd reason
 pub move_lost : (a : ArrayView) (F : Flat) (g k : ℕ) (to : Member) → IsMoveReason a.parts.groups (length a.parts.drives) g k to None → lost_of a.parts to.drive ≡ true → ShowsArray a F
     → (G : Flat) × MoveCase F g k to (Refused (DriveLost to.drive)) G × ShowsArray a G
 move_lost a F g k to reason lost shows =
-    (F, (reason_as a F g k to None shows reason, refl, ap (λ f. f to.drive) shows.tables.lost ∙ lost, itself F), shows)
+    (F, (reason_as a F g k to None shows reason, refl, inl (ap (λ f. f to.drive) shows.tables.lost ∙ lost, refl)), shows)
 
 pub move_passes : (a : ArrayView) (F : Flat) (g k : ℕ) (to : Member) → IsMoveReason a.parts.groups (length a.parts.drives) g k to None → lost_of a.parts to.drive ≡ false → ShowsArray a F
     → MovePasses F g k to
@@ -108,7 +108,7 @@ move_stopped a v F g k to r passes is shows = go r is.told
     groups = is.loses.rest.groups ∙ sym shows.tables.groups
 
     go : (r : Refusal) → TellsUnmoved v g k to r → MayRefuse r (IsWanted F (MoveExtent g k to)) ((G : Flat) × MoveCase F g k to (Refused r) G × ShowsArray (with_parts a v) G)
-    go (DriveLost d) told = (fared F v, (passes.0, told.0, told.1, left), lost_shows a F v shows is.loses)
+    go (DriveLost d) told = (fared F v, (passes.0, told.0, inr (ap F.lost told.0 ∙ passes.1, told.1, left)), lost_shows a F v shows is.loses)
     go (Gone s) told = (
       fared F v,
       (

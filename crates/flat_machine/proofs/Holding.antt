@@ -14,6 +14,7 @@ use Rattle.flat_machine.proofs.Pairs.{Any, IsOnce, IsJust, just_one, just_once, 
 use Rattle.extent_groups.specs.Groups.{group_at}
 use Rattle.flat_machine.specs.Moves.{IsIn, HasClaim, unmade}
 use Rattle.flat_machine.proofs.Unmakes.{unmade_at}
+use Rattle.flat_machine.proofs.Keeps.{lost_leaves, same_leaves}
 use Rattle.flat_machine.proofs.Passing.{Passes, passed, passed_on}
 
 -- told of every slot
@@ -213,14 +214,14 @@ moves F G g k to (Refused NoGroup) is case = stays F G is case.1
 moves F G g k to (Refused BadMember) is case = stays F G is case.1
 moves F G g k to (Refused SameDrive) is case = stays F G is case.1
 moves F G g k to (Refused ExtentTaken) is case = stays F G is case.1
-moves F G g k to (Refused (DriveLost d)) is case = stays F G is case.3
+moves F G g k to (Refused (DriveLost d)) is case = stays F G is (lost_leaves F G d case.2)
 moves F G g k to (Refused (Gone s)) is case = stays F G is case.3
 moves F G g k to MovedExtent is case = fared _ G (record { once = is.once; inside = is.inside }) case.3
 moves F G g k to _ is case = absurd case
 
 adds : (F G : Flat) (answer : FlatAnswer) → AreHeld F → AddCase F answer G → AreHeld G
-adds F G (Refused Full) is case = stays F G is case.1
-adds F G (AddedDrive d) is case = fared _ G (record { once = is.once; inside = is.inside }) case.2
+adds F G (Refused Full) is case = stays F G is (same_leaves F G case.1)
+adds F G (AddedDrive d) is case = fared _ G (record { once = is.once; inside = is.inside }) (same_leaves _ G case.2)
 adds F G _ is case = absurd case
 
 -- a step of numbers that there are, whatever its answer

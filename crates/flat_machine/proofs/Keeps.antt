@@ -5,6 +5,7 @@ use Rattle.std.proofs.lemmas.Option.{same_Some}
 use Rattle.map_join.specs.declared.records.Record.{Record}
 use Rattle.map_join.specs.Record.{key_of, stamp, stamp_in, IsRecord}
 use Rattle.map_join.specs.Maps.{IsMapOf}
+use Rattle.extents.specs.Units.{loss}
 use Rattle.extent_groups.specs.declared.class.Class.{Class}
 use Rattle.extent_groups.specs.declared.class.Class.TheVariants.{Mirrored}
 use Rattle.extent_groups.specs.declared.class.Member.{Member}
@@ -14,7 +15,7 @@ use Rattle.extent_groups.proofs.Fresh.{free_groups, no_members}
 use Rattle.flat_machine.specs.Groups.{AreSizes, IsEmpty, class_below}
 use Rattle.flat_machine.specs.Flat.{Flat, for_ticket, Write, Content, Payload, bytes_of, IsSized, Ticket, Waiting, Fresh, Moved, waiting_unit, class_of, last_write, IsNewest, new_flat, put}
 use Rattle.flat_machine.specs.Steps.{FlatStep, Claim, Release, Fill, Copy, Commit, Discard, Read, ReadAt, Make, Unmake, MoveExtent, AddDrive, Lose, FlatAnswer, Claimed, Taken, Released, NotHeld, Filled, Copied, Committed, Discarded, Found, FoundAt, MadeGroup, UnmadeGroup, MovedExtent, AddedDrive, LostDrive, Refused}
-use Rattle.flat_machine.specs.Cases.{Case, ClaimCase, ReleaseCase, FillCase, CopyCase, CommitCase, CommitWith, DiscardCase, ReadCase, ReadAtCase, MakeCase, UnmakeCase, MoveCase, AddCase, LoseCase, Leaves, IsFor, HasStamp, next_version, last_version, longest_log, committed, CopyPasses}
+use Rattle.flat_machine.specs.Cases.{Case, ClaimCase, ReleaseCase, FillCase, CopyCase, CommitCase, CommitWith, DiscardCase, ReadCase, ReadAtCase, MakeCase, UnmakeCase, MoveCase, AddCase, LoseCase, Leaves, WasOrGotLost, IsFor, HasStamp, next_version, last_version, longest_log, committed, CopyPasses}
 use Rattle.flat_machine.specs.History.{IsWrite, IsWriteOf, IsCopy, IsHistory, IsStep}
 use Rattle.flat_machine.proofs.Newest.{newest_key, newest_zero, newest_record, same_map, key_least}
 use Rattle.flat_machine.proofs.Writes.{last_here, last_else, last_there, write_chained, write_most}
@@ -176,6 +177,21 @@ fared F lost failures keys is = record {
   written = λ b. block_same F (record F { lost = lost; failures = failures }) b (keys b) refl (λ has. (refl, has)) (is.written b);
 }
 
+-- a state is what it leaves where nothing happens
+no_loss : (n : ℕ) (b : Bool) → n ≡ n + loss b b
+no_loss n true = omega arith
+no_loss n false = omega arith
+
+pub itself : (x : Flat) → Leaves x x
+itself x = record { same = refl; drives = λ d. record { stays = λ e. e; count = no_loss (x.failures d) (x.lost d) } }
+
+pub same_leaves : (F G : Flat) → G ≡ F → Leaves F G
+same_leaves F G same = subst (Leaves F) (sym same) (itself F)
+
+pub lost_leaves : (F G : Flat) (d : ℕ) → WasOrGotLost F d G → Leaves F G
+lost_leaves F G d (inl was) = same_leaves F G was.1
+lost_leaves F G d (inr got) = got.2
+
 -- the same log, where drives failed
 stays : (F G : Flat) (keys M : ℕ → ℕ) → IsHistory F keys → Leaves F G → IsMapOf G.emitted M → IsHistory G M
 stays F G keys M is leaves map =
@@ -315,14 +331,14 @@ moves F G keys M g k to (Refused NoGroup) is case map = stays F G keys M is case
 moves F G keys M g k to (Refused BadMember) is case map = stays F G keys M is case.1 map
 moves F G keys M g k to (Refused SameDrive) is case map = stays F G keys M is case.1 map
 moves F G keys M g k to (Refused ExtentTaken) is case map = stays F G keys M is case.1 map
-moves F G keys M g k to (Refused (DriveLost d)) is case map = stays F G keys M is case.3 map
+moves F G keys M g k to (Refused (DriveLost d)) is case map = stays F G keys M is (lost_leaves F G d case.2) map
 moves F G keys M g k to (Refused (Gone s)) is case map = stays F G keys M is case.3 map
 moves F G keys M g k to MovedExtent is case map = stays _ G keys M (move_keeps F keys g k to is case.0.0) case.3 map
 moves F G keys M g k to _ is case map = absurd case
 
 adds : (F G : Flat) (keys M : ℕ → ℕ) (answer : FlatAnswer) → IsHistory F keys → AddCase F answer G → IsMapOf G.emitted M → IsHistory G M
-adds F G keys M (Refused Full) is case map = stays F G keys M is case.1 map
-adds F G keys M (AddedDrive d) is case map = stays _ G keys M (add_keeps F keys false 0 is case.1) case.2 map
+adds F G keys M (Refused Full) is case map = stays F G keys M is (same_leaves F G case.1) map
+adds F G keys M (AddedDrive d) is case map = stays _ G keys M (add_keeps F keys false 0 is case.1) (same_leaves _ G case.2) map
 adds F G keys M _ is case map = absurd case
 
 -- a step of numbers that there are, whatever its answer

@@ -269,6 +269,10 @@ UnmakeCase F w g _ G = ⊥
 abbrev pub most_drives : ℕ
 most_drives = 16
 
+-- the drive was lost before, and no drive was called; or it got lost
+abbrev pub WasOrGotLost : Flat → ℕ → Flat → Type 0
+WasOrGotLost F d G = ((F.lost d ≡ true) × (G ≡ F)) ⊎ ((F.lost d ≡ false) × (G.lost d ≡ true) × (Leaves F G))
+
 -- move an extent: what lies on the group's member of this number is copied to another extent, or rebuilt where its drive is
 -- lost, and then that is the member. What is copied or rebuilt was there when the step began
 abbrev pub MoveCase : Flat → ℕ → ℕ → Member → FlatAnswer → Flat → Type 0
@@ -276,17 +280,17 @@ MoveCase F g k to (Refused NoGroup) G = (IsMoveReason F.groups F.drives g k to (
 MoveCase F g k to (Refused BadMember) G = (IsMoveReason F.groups F.drives g k to (Some BadMember)) × (Leaves F G)
 MoveCase F g k to (Refused SameDrive) G = (IsMoveReason F.groups F.drives g k to (Some SameDrive)) × (Leaves F G)
 MoveCase F g k to (Refused ExtentTaken) G = (IsMoveReason F.groups F.drives g k to (Some ExtentTaken)) × (Leaves F G)
-MoveCase F g k to (Refused (DriveLost d)) G = (IsMoveReason F.groups F.drives g k to None) × (d ≡ to.drive) × (G.lost d ≡ true) × (Leaves F G)
+MoveCase F g k to (Refused (DriveLost d)) G = (IsMoveReason F.groups F.drives g k to None) × (d ≡ to.drive) × (WasOrGotLost F d G)
 MoveCase F g k to (Refused (Gone s)) G =
     (MovePasses F g k to) × (IsBeyondOf G.groups G.lost g k) × (IsFirstGone G.groups G.lost g s) × (Leaves F G)
 MoveCase F g k to MovedExtent G =
     (MovePasses F g k to) × (IsBeyondOf F.groups F.lost g k → ⊥) × (G.lost to.drive ≡ false) × (Leaves (moved_to F g k to) G)
 MoveCase F g k to _ G = ⊥
 
--- add a drive: it has the next number, is present, and hasn't failed
+-- add a drive: it has the next number, is present, and hasn't failed; no drive is called
 abbrev pub AddCase : Flat → FlatAnswer → Flat → Type 0
-AddCase F (Refused Full) G = (most_drives ≤ F.drives) × (Leaves F G)
-AddCase F (AddedDrive d) G = (d ≡ F.drives) × (F.drives < most_drives) × (Leaves (with_new_drive F false 0) G)
+AddCase F (Refused Full) G = (most_drives ≤ F.drives) × (G ≡ F)
+AddCase F (AddedDrive d) G = (d ≡ F.drives) × (F.drives < most_drives) × (G ≡ with_new_drive F false 0)
 AddCase F _ G = ⊥
 
 -- lose: the drive is lost from outside, which is no failure of its own

@@ -1,11 +1,12 @@
 -- Plans of an array, told of the flat state that it stands for.
-use Rattle.std.proofs.Common.{◌≡◌, ℕ, ◌<◌, ◌≤◌, Bool, true, List, length, refl, sym, ap, ◌∙◌, subst, Option, Some, None, inl, inr, Result, Ok, Err, IfOk}
+use Rattle.std.proofs.Common.{◌≡◌, ℕ, ◌<◌, ◌≤◌, Bool, true, List, length, refl, sym, ap, ◌∙◌, subst, Option, Some, None, inl, inr, Result, Ok, Err, IfOk, OnErr}
 use Rattle.extents.specs.Owners.{Owners}
 use Rattle.extent_groups.specs.Groups.{Groups, Agree}
 use Rattle.array_model.specs.Represents.{Represents}
 use Rattle.array_model.specs.Views.{WorldView, IsWhole}
 use Rattle.flat_machine.specs.Flat.{Flat}
 use Rattle.flat_machine.specs.Cases.{MoveCase}
+use Rattle.flat_machine.specs.Moves.{MovePasses}
 use Rattle.flat_machine.specs.Steps.{FlatAnswer}
 use Rattle.rebalancer.specs.declared.shift.Shift.{Shift}
 use Rattle.rebalancer.specs.Balancing.{IsBalance}
@@ -88,3 +89,10 @@ pub all_rebuilt : {E : Type 0} (r : Result Regrouped E) (v w : WorldView) (drive
     → IfOk r (λ outcome. (F : Flat) → Represents v F → (G : Flat) × RebuildCase F drive outcome G × Represents w G)
 all_rebuilt (Ok outcome) v w drive s there plan ok = λ F rep. let y = ok F rep in (y.0, as_rebuild F y.0 drive s outcome (there F rep) (plan F rep) y.1, y.2)
 all_rebuilt (Err e) v w drive s there plan ok = tt
+
+-- want of memory of a move is want of memory of its plan
+pub all_wanted : {T E : Type 0} (r : Result T E) (v : WorldView) (s : Shift) (P : Flat → Option Shift → Type 0) → ((F : Flat) → Represents v F → P F (Some s))
+    → OnErr r ((F : Flat) → Represents v F → MovePasses F s.group s.member s.to)
+    → OnErr r ((F : Flat) → Represents v F → (t : Shift) × P F (Some t) × MovePasses F t.group t.member t.to)
+all_wanted (Ok x) v s P plan wants = tt
+all_wanted (Err e) v s P plan wants = λ F rep. (s, plan F rep, wants F rep)

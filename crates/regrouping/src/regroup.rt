@@ -1,11 +1,13 @@
 //! One extent after another, by a plan.
-ghost use Rattle.std.specs.Prelude.{◌≡◌, ◌+◌, ◌<◌, ◌≤◌, Bool, IfOk, IfSome, List, OnErr};
+ghost use Rattle.std.specs.Prelude.{◌≡◌, ◌+◌, ◌<◌, ◌≤◌, Bool, IfOk, IfSome, List, OnErr, Some};
 ghost use Rattle.array_model.specs.Represents.{Represents};
 ghost use Rattle.array_model.specs.Views.{SameSizes, IsWhole};
 ghost use Rattle.flat_machine.specs.Flat.{Flat};
+ghost use Rattle.flat_machine.specs.Cases.{IsWanted};
+ghost use Rattle.flat_machine.specs.Steps.{MoveExtent};
 ghost use Rattle.rebalancer.specs.Balancing.{IsBalance, Evens, sum_of_squares};
 ghost use Rattle.rebalancer.specs.Rebuilding.{IsRebuild};
-ghost use Rattle.regrouping.specs.Regrouping.{AreLostOf, BalanceCase, RebuildCase, ShiftCase, IfMoved, outcome_of};
+ghost use Rattle.regrouping.specs.Regrouping.{AreLostOf, BalanceCase, IsBalanceOf, IsRebuildOf, RebuildCase, ShiftCase, IfMoved, outcome_of};
 
 use crate::Regrouped;
 use rebalancer::{Shift, balance_plan, rebuild_plan};
@@ -18,6 +20,7 @@ pub fn balance(world: &mut World, alloc: Global) -> Result<Regrouped, AllocError
     ensures ok { IfOk result (λ outcome. (F : Flat) → Represents world.old F → (G : Flat) × BalanceCase F outcome G × Represents world.new G) }
     ensures evens { IfOk result (λ outcome. IfMoved outcome (sum_of_squares world.new.array.parts.owners + 2 ≤ sum_of_squares world.old.array.parts.owners)) }
     ensures err { OnErr result (world.new ≡ world.old) }
+    ensures wants { OnErr result ((F : Flat) → Represents world.old F → (s : Shift) × IsBalanceOf F (Some s) × IsWanted F (MoveExtent s.group s.member s.to)) }
     ensures room { SameSizes world.old.array world.new.array }
 {
     match plan_balance(world) {
@@ -32,6 +35,7 @@ pub fn balance(world: &mut World, alloc: Global) -> Result<Regrouped, AllocError
 pub fn rebuild(world: &mut World, alloc: Global, drive: u8) -> Result<Regrouped, AllocError>
     ensures ok { IfOk result (λ outcome. (F : Flat) → Represents world.old F → (G : Flat) × RebuildCase F drive outcome G × Represents world.new G) }
     ensures err { OnErr result (world.new ≡ world.old) }
+    ensures wants { OnErr result ((F : Flat) → Represents world.old F → (s : Shift) × IsRebuildOf F drive (Some s) × IsWanted F (MoveExtent s.group s.member s.to)) }
     ensures room { SameSizes world.old.array world.new.array }
 {
     if drive >= world.array().drive_count() {
@@ -69,6 +73,7 @@ fn carry_out(world: &mut World, alloc: Global, shift: Shift) -> Result<Regrouped
     ensures evens { Evens world.old.array.parts.groups world.old.array.parts.owners shift
         → IfOk result (λ outcome. IfMoved outcome (sum_of_squares world.new.array.parts.owners + 2 ≤ sum_of_squares world.old.array.parts.owners)) }
     ensures err { OnErr result (world.new ≡ world.old) }
+    ensures wants { OnErr result ((F : Flat) → Represents world.old F → IsWanted F (MoveExtent shift.group shift.member shift.to)) }
     ensures room { SameSizes world.old.array world.new.array }
 {
     match world.move_extent(alloc, shift.group, shift.member, shift.to) {

@@ -15,6 +15,7 @@ use Rattle.flat_machine.specs.declared.refusal.Refusal.TheVariants.{NoGroup, Wro
 use Rattle.flat_machine.specs.Moves.{moved_to}
 use Rattle.flat_machine.specs.Steps.{FlatStep, FlatAnswer, Filled, Copied, Committed, Discarded, MadeGroup, MovedExtent, LostDrive, Refused, Fill, Copy, Commit, Discard, Make, Unmake, MoveExtent, AddDrive, Read, ReadAt, Lose}
 use Rattle.flat_machine.specs.Cases.{FillCase, CopyCase, ticketed, CommitCase, CommitWith, committed, DiscardCase, discarded, MakeCase, made, MoveCase, LoseCase, Case, Leaves}
+use Rattle.flat_machine.proofs.Keeps as flat
 use Rattle.flat_machine.proofs.Newest.{newest_unique, place_small}
 use Rattle.flat_machine.proofs.Pairs.{turned_else, turned_just, just_one, Any}
 use Rattle.flat_machine.proofs.Passing.{Passes, passed, passed_on}
@@ -243,9 +244,9 @@ refused_leaves F G (MoveExtent g k to) NoGroup y = y.1
 refused_leaves F G (MoveExtent g k to) BadMember y = y.1
 refused_leaves F G (MoveExtent g k to) SameDrive y = y.1
 refused_leaves F G (MoveExtent g k to) ExtentTaken y = y.1
-refused_leaves F G (MoveExtent g k to) (DriveLost d) y = y.3
+refused_leaves F G (MoveExtent g k to) (DriveLost d) y = flat.lost_leaves F G d y.2
 refused_leaves F G (MoveExtent g k to) (Gone s) y = y.3
-refused_leaves F G AddDrive Full y = y.1
+refused_leaves F G AddDrive Full y = flat.same_leaves F G y.1
 refused_leaves F G (Lose d) BadMember y = y.1
 refused_leaves F G _ _ y = absurd y
 

@@ -184,7 +184,7 @@ calm_alike F G (step.Discard w s) (step.Discarded t) calm case = alike_discarded
 calm_alike F G (step.Read b) (step.Found found) calm case = alike_left F G case.2
 calm_alike F G (step.ReadAt r) (step.FoundAt seen) calm case = alike_left F G case.3
 calm_alike F G (step.Lose d) (step.LostDrive e) calm case = record { groups = ap (λ (x : Flat). x.groups) case.2.same; emitted = ap (λ (x : Flat). x.emitted) case.2.same }
-calm_alike F G step.AddDrive (step.AddedDrive d) calm case = record { groups = ap (λ (x : Flat). x.groups) case.2.same; emitted = ap (λ (x : Flat). x.emitted) case.2.same }
+calm_alike F G step.AddDrive (step.AddedDrive d) calm case = record { groups = ap (λ (x : Flat). x.groups) case.2; emitted = ap (λ (x : Flat). x.emitted) case.2 }
 calm_alike F G (step.Commit w s b) answer calm case = absurd calm
 calm_alike F G (step.Release w s) answer calm case = absurd calm
 calm_alike F G (step.Make class members) answer calm case = absurd calm
