@@ -1,13 +1,11 @@
 -- Plans of an array, told of the flat state that it stands for.
-use Rattle.std.proofs.Common.{◌≡◌, ℕ, ◌<◌, ◌≤◌, Bool, true, List, length, refl, sym, ap, ◌∙◌, subst, Option, Some, None, inl, inr, Result, Ok, Err, IfOk, OnErr}
-use Rattle.extents.specs.Owners.{Owners}
+use Rattle.std.proofs.Common.{ℕ, ◌<◌, Bool, List, refl, sym, ap, ◌∙◌, subst, Option, Some, inr, Result, Ok, Err, IfOk, OnErr}
 use Rattle.extent_groups.specs.Groups.{Groups, Agree}
 use Rattle.array_model.specs.Represents.{Represents}
 use Rattle.array_model.specs.Views.{WorldView, IsWhole}
 use Rattle.flat_machine.specs.Flat.{Flat}
 use Rattle.flat_machine.specs.Cases.{MoveCase}
 use Rattle.flat_machine.specs.Moves.{MovePasses}
-use Rattle.flat_machine.specs.Steps.{FlatAnswer}
 use Rattle.rebalancer.specs.declared.shift.Shift.{Shift}
 use Rattle.rebalancer.specs.Balancing.{IsBalance}
 use Rattle.rebalancer.specs.Rebuilding.{IsRebuild}

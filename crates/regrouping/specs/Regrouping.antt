@@ -3,7 +3,6 @@ use Rattle.std.specs.Prelude.{◌≡◌, ◌⊎◌, ℕ, ◌<◌, ◌≤◌, Boo
 use Rattle.extents.specs.Owners.{Owners}
 use Rattle.extent_groups.specs.Groups.{Agree}
 use Rattle.array_parts.specs.Views.{PartsView, lost_of}
-use Rattle.flat_machine.specs.declared.refusal.Refusal.{Refusal}
 use Rattle.flat_machine.specs.declared.refusal.Refusal.TheVariants.{BadMember}
 use Rattle.flat_machine.specs.Flat.{Flat}
 use Rattle.flat_machine.specs.Steps.{MoveExtent, MovedExtent}

@@ -1,5 +1,5 @@
 -- A shift by a plan that was told is the answer to its command.
-use Rattle.std.proofs.Common.{◌≡◌, ℕ, List, ◌++◌, Result, Ok, Err, Option, Some, refl, sym, subst, ◌⊎◌, inl, inr}
+use Rattle.std.proofs.Common.{◌≡◌, ℕ, List, ◌++◌, Result, Ok, Err, Some, refl, sym, subst, inl, inr}
 use Rattle.std.specs.Prelude.{OnOk}
 use Rattle.flat_machine.specs.Flat.{Flat}
 use Rattle.flat_machine.specs.Steps.{MovedExtent}
@@ -21,7 +21,7 @@ use Rattle.script_words.specs.Order.{Order}
 use Rattle.script_bench.specs.State.{Position, State}
 use Rattle.script_bench.specs.Answers.{Answers, Regroups, with_flat}
 use Rattle.script_bench.specs.Text.{regrouped_text}
-use Rattle.script_bench.specs.Carrying.{Carries, StandsAt}
+use Rattle.script_bench.specs.Carrying.{Carries}
 use Rattle.script_bench.specs.declared.bench.Bench.{Bench}
 use Rattle.script_bench.proofs.Carried.{with_world}
 

@@ -17,8 +17,6 @@ use Rattle.array_parts.proofs.Shows.{shown_header}
 use Rattle.flat_machine.specs.Flat.{Flat, Write, Stored, content_in, last_write}
 use Rattle.flat_machine.specs.Groups.{class_below, class_at}
 use Rattle.flat_machine.specs.Scanned.{HasHeader, IsScanned}
-use Rattle.flat_machine.specs.Steps.{FlatStep, FlatAnswer}
-use Rattle.flat_machine.specs.Cases.{Runs}
 use Rattle.flat_machine.proofs.Newest.{map_unique}
 use Rattle.array_model.specs.Represents.{ShowsArray, Represents}
 use Rattle.array_model.specs.Views.{ArrayView, WorldView, IsWhole, Nothing, Newest, key_at}

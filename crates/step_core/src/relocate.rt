@@ -27,7 +27,8 @@ impl<D: Drive, C: Hold> Array<D, C> {
     /// where its drive is lost, also in the midst; then that extent is the member, and the old one is free.
     /// Refused where there is no such member, or the other extent isn't there, is on a drive of one of the
     /// members, is owned, or its drive is lost then; and as gone, with the lowest slot of the group that is
-    /// gone, where a unit can't be rebuilt. A refused move leaves all as it was but drives that were lost.
+    /// gone, where a unit can't be rebuilt. A refused move leaves tables and slots as they were, but for
+    /// drives that were lost; the other extent may have been written.
     pub fn move_extent(
         &mut self,
         _alloc: Global,

@@ -1,20 +1,19 @@
 -- What is kept beside a world stands where a group's member goes onto another extent: no slot changes its class, no record and
 -- no holder changes.
-use Rattle.std.proofs.Common.{◌≡◌, ◌≢◌, ◌⊎◌, inl, inr, ℕ, ◌/◌, ◌%◌, ◌<◌, Bool, List, cond, nat_lt, length, refl, sym, ap, ◌∙◌, subst, Option, Some, None}
+use Rattle.std.proofs.Common.{◌≡◌, ◌≢◌, ◌⊎◌, inl, inr, ℕ, ◌/◌, ◌%◌, ◌<◌, Bool, List, refl, sym, ap, ◌∙◌, subst, Option, Some, None}
 use Rattle.std.specs.Prelude.{slice_get}
 use Rattle.std.proofs.lemmas.Bool.{cases_eq}
 use Rattle.std.proofs.lemmas.List.{length-set}
 use Rattle.map_join.specs.declared.records.Record.{Record}
 use Rattle.map_join.specs.Record.{record_at}
 use Rattle.map_join.specs.Maps.{IsMapOf}
-use Rattle.extent_groups.specs.declared.class.Class.{Class}
 use Rattle.extent_groups.specs.declared.class.Class.TheVariants.{Mirrored}
 use Rattle.extent_groups.specs.declared.class.Member.{Member}
 use Rattle.extent_groups.specs.Geometry.{slot_count}
 use Rattle.extent_groups.specs.Groups.{Group, Groups, group_at, members_of, class_in, slots_in, with_group, with_member, swapped_in}
 use Rattle.extent_groups.specs.Stores.{IsSlotOf}
 use Rattle.extent_groups.proofs.GroupsLemmas.{group_same, group_other}
-use Rattle.flat_machine.specs.Flat.{Flat, Holder, IsFree}
+use Rattle.flat_machine.specs.Flat.{Flat}
 use Rattle.flat_machine.specs.Moves.{moved_to}
 use Rattle.flat_machine.specs.Steps as step
 use Rattle.flat_machine.specs.Steps.{FlatAnswer}
@@ -24,12 +23,9 @@ use Rattle.flat_machine.proofs.Regroups.{element, group_of_member}
 use Rattle.flat_machine.proofs.Unmakes.{number_within}
 use Rattle.array_model.specs.Represents.{Represents}
 use Rattle.array_model.specs.Views.{WorldView, key_at}
-use Rattle.migrator.specs.Ages.{IsMarked}
-use Rattle.migrator.specs.Slots.{class_at, IsMirrored}
+use Rattle.migrator.specs.Slots.{class_at}
 use Rattle.step_core.proofs.Worlds.{refused_leaves}
 use Rattle.tiering.specs.Marking.{AreMarked}
-use Rattle.tiering.specs.Steps.{IsFreeMirror}
-use Rattle.tiering.specs.Hints.{IsHinted}
 use Rattle.tiering.specs.Stands.{StandsFor}
 use Rattle.tiering.specs.Tiered.{Tiered}
 use Rattle.tiering.specs.declared.tiers.Tiers.{Tiers}

@@ -1,5 +1,4 @@
-use Rattle.std.proofs.Common.{◌≡◌, Bool, List, Option, Some, subst}
-use Rattle.flat_machine.specs.Flat.{Flat}
+use Rattle.std.proofs.Common.{Bool, List, Option, Some, subst}
 use Rattle.rebalancer.specs.declared.shift.Shift.{Shift}
 use Rattle.rebalancer.specs.Balancing.{IsBalance}
 use Rattle.regrouping.specs.Regrouping.{AreLostOf, IsBalanceOf}

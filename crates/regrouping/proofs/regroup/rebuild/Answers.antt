@@ -1,6 +1,4 @@
-use Rattle.std.proofs.Common.{◌≡◌, ◌<◌, ℕ, Bool, List, Option, Some, subst, arith, length, rules}
-use Rattle.flat_machine.specs.Flat.{Flat}
-use Rattle.array_model.specs.Represents.{Represents}
+use Rattle.std.proofs.Common.{◌<◌, Bool, List, Option, Some, subst, arith, length, rules}
 use Rattle.rebalancer.specs.declared.shift.Shift.{Shift}
 use Rattle.rebalancer.specs.Rebuilding.{IsRebuild}
 use Rattle.regrouping.specs.Regrouping.{AreLostOf, IsRebuildOf}

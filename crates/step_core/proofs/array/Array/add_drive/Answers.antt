@@ -1,4 +1,4 @@
-use Rattle.std.proofs.Common.{◌≡◌, ◌<◌, length, ap, sym, ◌∙◌, subst, arith}
+use Rattle.std.proofs.Common.{◌<◌, length, sym, ◌∙◌, subst, arith}
 use Rattle.array_model.specs.Represents.{ShowsArray}
 use Rattle.array_model.specs.Views.{ArrayView}
 use Rattle.array_model.proofs.Regroups.{added_shows, add_case}

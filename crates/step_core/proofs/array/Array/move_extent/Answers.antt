@@ -1,4 +1,4 @@
-use Rattle.std.proofs.Common.{◌≡◌, false, length, sym, subst, rules, None}
+use Rattle.std.proofs.Common.{◌≡◌, false, length, subst, rules}
 use Rattle.array_parts.specs.Views.{lost_of}
 use Rattle.flat_machine.specs.Moves.{IsMoveReason}
 use Rattle.array_model.proofs.Regroups.{move_refused}

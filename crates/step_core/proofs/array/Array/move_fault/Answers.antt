@@ -1,9 +1,8 @@
-use Rattle.std.proofs.Common.{rules, ◌≡◌, ◌<◌, length, refl, sym, ap, ◌∙◌, subst, Option, List}
+use Rattle.std.proofs.Common.{rules, ◌≡◌, ◌<◌, length, sym, ap, ◌∙◌, subst, List}
 use Rattle.extents.specs.Owners.{Owners, IsExtent}
 use Rattle.extent_groups.specs.declared.class.Member.{Member}
 use Rattle.extent_groups.specs.Faults.{swap_check_of}
 use Rattle.extent_groups.specs.Groups.{members_of}
-use Rattle.flat_machine.specs.declared.refusal.Refusal.{Refusal}
 use Rattle.flat_machine.specs.Moves.{IsMoveReason}
 use Rattle.array_model.specs.Making.{told_of}
 use Rattle.array_model.specs.Views.{ArrayView, IsWhole}
