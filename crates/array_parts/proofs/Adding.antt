@@ -51,7 +51,7 @@ pub record IsOneMore {D : Type 0} (p q : Parts D) (y : D) : Type 0 where
   pub drives : q.drives.items ≡ p.drives.items ++ y ∷ []
 
 module _ {D : Type 0} (units : D → List (List ℕ)) (lost : D → Bool) (failures : D → ℕ) (p q : Parts D) (y : D) (fit : IsFit units p) (more : IsOneMore p q y)
-  (many : length (units y) ≡ p.groups.extents * extent_units p.groups.segments) (sized : IsSized (unit_bytes p.groups) (units y)) where
+    (many : length (units y) ≡ p.groups.extents * extent_units p.groups.segments) (sized : IsSized (unit_bytes p.groups) (units y)) where
   abbrev all : AreDrives units p.groups (p.drives.items ++ y ∷ [])
       × ((slot : ℕ) → unit_of p.groups (cells units lost (p.drives.items ++ y ∷ [])) slot ≡ unit_of p.groups (cells units lost p.drives.items) slot)
       × (AreSound p.groups (cells units lost p.drives.items) → AreSound p.groups (cells units lost (p.drives.items ++ y ∷ [])))

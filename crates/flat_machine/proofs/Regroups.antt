@@ -84,8 +84,11 @@ module _ (groups : Groups) (drives g k : ℕ) (to : Member) (stand : GroupsStand
       new same = sym (ap (λ i. slice_get (members_of now i) j) same ∙ ap (λ ms. slice_get ms j) members_now) ∙ at
 
       go : (h ≡ g) ⊎ (h ≡ g → ⊥) → (j ≡ k) ⊎ (j ≡ k → ⊥) → ((h ≡ g) × (m ≡ to)) ⊎ (slice_get (members_of groups h) j ≡ Some m)
-      go (inl same) (inl e) = inl (same, sym (same_Some to m
-          (sym (get-set_same found.0.members k to (slice_get_within found.0.members k (element (members_of groups g) k some).0 found.2)) ∙ ap (slice_get (slice_set found.0.members k to)) (sym e) ∙ new same)))
+      go (inl same) (inl e) = inl (
+        same,
+        sym (same_Some to m
+            (sym (get-set_same found.0.members k to (slice_get_within found.0.members k (element (members_of groups g) k some).0 found.2)) ∙ ap (slice_get (slice_set found.0.members k to)) (sym e) ∙ new same)),
+      )
       go (inl same) (inr ne) = inr (old same (sym (get-set_other found.0.members k j to ne) ∙ new same))
       go (inr ne) e = inr (ap (λ ms. slice_get ms j) (sym (members_other groups g h (swapped_in (group_at groups g) k to) ne)) ∙ at)
 
