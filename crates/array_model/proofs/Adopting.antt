@@ -11,8 +11,8 @@ use Rattle.flat_machine.specs.Groups.{AreSizes, GroupsStand, class_at}
 use Rattle.flat_machine.specs.History.{IsHistory}
 use Rattle.flat_machine.specs.Restarted.{HasPlaces, TellMap, newest_places, restarted}
 use Rattle.flat_machine.proofs.Restarts.{restarted_history}
-use Rattle.array_model.specs.Views.{Kept, Nothing, Pending, Moving, Newest, ArrayView, IsRoomy, IsWhole, kept_at, key_at}
-use Rattle.array_model.specs.Represents.{ArraySlot, IsTicketOf, is_newest, ShowsArray}
+use Rattle.array_model.specs.Views.{Kept, Nothing, Pending, Moving, Newest, Unmade, ArrayView, IsRoomy, IsWhole, kept_at, key_at}
+use Rattle.array_model.specs.Represents.{ArraySlot, IsTicketOf, is_newest, is_shut, ShowsArray}
 use Rattle.array_model.specs.Adopted.{IsPlaced, IsAdopted, HasParts}
 
 -- the map's keys are keys of records
@@ -33,6 +33,7 @@ pub record ArePartsOf (v : PartsView) : Type 0 where
 kept_newest : (groups : Groups) (keys : ℕ → ℕ) (b s : ℕ) (kept : Kept) → HasPlaces groups keys → 0 < keys b → (record_of b (keys b)).place ≡ s → IsPlaced keys s kept → kept ≡ Newest b
 kept_newest groups keys b s Nothing places some at placed = absurd (placed b some at)
 kept_newest groups keys b s Pending places some at placed = absurd placed
+kept_newest groups keys b s Unmade places some at placed = absurd placed
 kept_newest groups keys b s (Moving r) places some at placed = absurd placed
 kept_newest groups keys b s (Newest c) places some at placed = ap Newest (places.apart c b placed.0 some (placed.1 ∙ sym at))
 
@@ -47,7 +48,8 @@ adopted_whole v keys a is of places parts room = record {
       kept_newest v.groups keys b (record_of b (keys b)).place (kept_at a (record_of b (keys b)).place) places has refl (is.kept (record_of b (keys b)).place));
   only = λ s b kept. rw (is.keys_are b) (subst (IsPlaced keys s) kept (is.kept s));
   moving = λ s r kept. absurd (subst (IsPlaced keys s) kept (is.kept s));
-  there = λ s some. rw (is.parts_are) (there s (kept_at a s) (is.kept s) some);
+  there = λ s some made. rw (is.parts_are) (there s (kept_at a s) (is.kept s) some);
+  unmade = λ s kept. absurd (subst (IsPlaced keys s) kept (is.kept s));
   groups = subst (λ (w : PartsView). GroupsStand w.groups (length w.drives)) (sym is.parts_are) parts.groups;
   agree = subst (λ (w : PartsView). Agree w.groups w.owners) (sym is.parts_are) parts.agree;
   rows = subst (λ (w : PartsView). length w.owners.rows ≡ length w.drives) (sym is.parts_are) parts.rows;
@@ -58,14 +60,23 @@ adopted_whole v keys a is of places parts room = record {
     there : (s : ℕ) (kept : Kept) → IsPlaced keys s kept → kept ≢ Nothing → class_at v.groups s ≢ None
     there s Nothing placed some = absurd (some refl)
     there s Pending placed some = absurd placed
+    there s Unmade placed some = absurd placed
     there s (Moving r) placed some = absurd placed
     there s (Newest b) placed some = subst (λ n. class_at v.groups n ≢ None) placed.1 (places.slots b placed.0)
 
 -- what the tables say of a slot
-slot_says : (groups : Groups) (keys : ℕ → ℕ) (s : ℕ) (kept : Kept) → HasPlaces groups keys → IsPlaced keys s kept → ArraySlot kept (newest_places keys s) None
-slot_says groups keys s kept places placed = record { blocks = λ b. blocks b kept placed; shut = λ g. refl; waits = waits kept placed }
+slot_says : (groups : Groups) (keys : ℕ → ℕ) (s : ℕ) (kept : Kept) → HasPlaces groups keys → IsPlaced keys s kept → ArraySlot s kept (newest_places keys s) None
+slot_says groups keys s kept places placed = record { blocks = λ b. blocks b kept placed; shut = λ g. not_shut kept placed g; waits = waits kept placed }
   where
+    not_shut : (k : Kept) → IsPlaced keys s k → (g : ℕ) → false ≡ is_shut k s g
+    not_shut Nothing p g = refl
+    not_shut Pending p g = refl
+    not_shut (Moving r) p g = refl
+    not_shut (Newest b) p g = refl
+    not_shut Unmade p g = absurd p
+
     waits : (k : Kept) → IsPlaced keys s k → IsTicketOf k None
+    waits Unmade p = absurd p
     waits Nothing p = refl
     waits Pending p = absurd p
     waits (Moving r) p = absurd p
@@ -94,6 +105,7 @@ slot_says groups keys s kept places placed = record { blocks = λ b. blocks b ke
     blocks : (b : ℕ) (k : Kept) → IsPlaced keys s k → newest_places keys s (Block b) ≡ is_newest k b
     blocks b Nothing p = both (keys b) (record_of b (keys b)).place s (p b)
     blocks b Pending p = absurd p
+    blocks b Unmade p = absurd p
     blocks b (Moving r) p = absurd p
     blocks b (Newest c) p = go (cases_eq c b)
       where

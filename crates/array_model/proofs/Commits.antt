@@ -19,11 +19,11 @@ use Rattle.flat_machine.proofs.Commits.{emitted_by}
 use Rattle.flat_machine.proofs.Passing.{Passes, passed_on}
 use Rattle.flat_machine.proofs.Slots.{block_waits}
 use Rattle.array_model.specs.Changes.{commit_view, passed}
-use Rattle.array_model.specs.Views.{Kept, Nothing, Moving, Newest, is_waiting, ArrayView, with_parts, kept_at, key_at, IsWhole}
+use Rattle.array_model.specs.Views.{Kept, Nothing, Moving, Newest, Unmade, is_waiting, ArrayView, with_parts, kept_at, key_at, IsWhole}
 use Rattle.array_model.specs.Represents.{ArraySlot, InTables, ShowsArray}
 use Rattle.array_model.proofs.Fares.{fared}
 use Rattle.array_model.proofs.Slots.{block_slot, worker_slot, slot_same, one_slot}
-use Rattle.array_model.proofs.Kepts.{waiting_kept, waiting_newest}
+use Rattle.array_model.proofs.Kepts.{waiting_made, waiting_kept, waiting_newest}
 
 -- where a block's old place lies: not at the slot that waits, and kept for the block
 pub record IsOld (a : ArrayView) (s b : ℕ) (found : Option Record) : Type 0 where
@@ -87,7 +87,8 @@ commit_whole a s b v h whole inside block waits ok = record {
   newest = λ c. newest c (cases_eq c b);
   only = λ t c is. only t c is (cases_eq t s);
   moving = λ t q is. whole.moving t q (kept_same t (Moving q) is (λ e. cc) (λ e. cc) (cases_eq t s));
-  there = λ t kept. there t kept (cases_eq t s);
+  there = λ t kept made. there t kept made (cases_eq t s);
+  unmade = λ t is. whole.unmade t (kept_same t Unmade is (λ e. cc) (λ e. cc) (cases_eq t s));
   groups = whole.groups;
   agree = whole.agree;
   rows = whole.rows;
@@ -202,15 +203,16 @@ commit_whole a s b v h whole inside block waits ok = record {
             in
             let bad : Newest c ≡ Nothing = sym is ∙ gone in absurd (cc)
 
-    there : (t : ℕ) → kept_at view t ≢ Nothing → (t ≡ s) ⊎ (t ≡ s → ⊥) → class_at a.parts.groups t ≢ None
-    there t kept (inl e) = subst (λ n. class_at a.parts.groups n ≢ None) (sym e) (whole.there s (waiting_kept (kept_at a s) waits))
-    there t kept (inr ne) = whole.there t before
+    there : (t : ℕ) → kept_at view t ≢ Nothing → kept_at view t ≢ Unmade → (t ≡ s) ⊎ (t ≡ s → ⊥) → class_at a.parts.groups t ≢ None
+    there t kept made (inl e) =
+        subst (λ n. class_at a.parts.groups n ≢ None) (sym e) (whole.there s (waiting_kept (kept_at a s) waits) (waiting_made (kept_at a s) waits))
+    there t kept made (inr ne) = whole.there t (before Nothing (λ e. cc) kept) (before Unmade (λ e. cc) made)
       where
-        before : kept_at a t ≡ Nothing → ⊥
-        before is = kept (kept_else a s b (record_at b (key_at a b)) r t ne off ∙ is)
+        before : (k : Kept) → (Newest b ≡ k → ⊥) → kept_at view t ≢ k → kept_at a t ≡ k → ⊥
+        before k other kept is = kept (kept_else a s b (record_at b (key_at a b)) r t ne off ∙ is)
           where
             off : (q : Record) → record_at b (key_at a b) ≡ Some q → t ≡ q.place → ⊥
-            off q place e = let bad : Newest b ≡ Nothing = sym (old.kept q place) ∙ ap (kept_at a) (sym e) ∙ is in cc
+            off q place e = other (sym (old.kept q place) ∙ ap (kept_at a) (sym e) ∙ is)
 
 -- the table with the key of a record at its block is the join with that record
 pub key_set : (keys : List ℕ) (r : Record) → r.block < length keys → get_or keys r.block 0 < key_of r
@@ -261,16 +263,16 @@ commit_tables a p F w s b writes x r inside waits same fares whole shows passes 
     kept_room = let e = whole.room.kept in omega arith
 
     P : ℕ → Type 0
-    P t = ArraySlot (kept_at (commit_view a s b (record_at b (key_at a b)) r) t) (passed_on F w s b (record_at b (key_at a b)) t) (put F.tickets s None t)
+    P t = ArraySlot t (kept_at (commit_view a s b (record_at b (key_at a b)) r) t) (passed_on F w s b (record_at b (key_at a b)) t) (put F.tickets s None t)
 
     here : P s
-    here = slot_same (Newest b) (kept_at (commit_view a s b (record_at b (key_at a b)) r) s)
+    here = slot_same s (Newest b) (kept_at (commit_view a s b (record_at b (key_at a b)) r) s)
         (passed_on F w s b (record_at b (key_at a b)) s) (passed_on F w s b (record_at b (key_at a b)) s) None (put F.tickets s None s)
         (kept_here a s b (record_at b (key_at a b)) r kept_room) refl (put_here F.tickets s None)
-        (block_slot (passed_on F w s b (record_at b (key_at a b)) s) b None passes.here refl)
+        (block_slot s (passed_on F w s b (record_at b (key_at a b)) s) b None passes.here refl)
 
     other : (t : ℕ) → (t ≡ s → ⊥) → ((q : Record) → record_at b (key_at a b) ≡ Some q → t ≡ q.place → ⊥) → P t
-    other t ne off = slot_same (kept_at a t) (kept_at (commit_view a s b (record_at b (key_at a b)) r) t)
+    other t ne off = slot_same t (kept_at a t) (kept_at (commit_view a s b (record_at b (key_at a b)) r) t)
         (F.held t) (passed_on F w s b (record_at b (key_at a b)) t) (F.tickets t) (put F.tickets s None t)
         (kept_else a s b (record_at b (key_at a b)) r t ne off) (passes.rest t ne off) (put_else F.tickets s None t ne) (shows.tables.slots t)
 
@@ -278,12 +280,12 @@ commit_tables a p F w s b writes x r inside waits same fares whole shows passes 
     at_old q is =
         let room = whole.room.kept in
         let small = place_small b (key_at a b) q is in
-        slot_same Nothing (kept_at (commit_view a s b (record_at b (key_at a b)) r) q.place)
+        slot_same q.place Nothing (kept_at (commit_view a s b (record_at b (key_at a b)) r) q.place)
         (passed_on F w s b (record_at b (key_at a b)) q.place) (passed_on F w s b (record_at b (key_at a b)) q.place) None (put F.tickets s None q.place)
         (ap (λ o. kept_at (commit_view a s b o r) q.place) is ∙ kept_old a s b q r (passes.apart q is) (omega arith)) refl
         (put_else F.tickets s None q.place (passes.apart q is)
         ∙ block_waits F.groups (key_at a) q.place (F.held q.place) (F.tickets q.place) b (shows.history.holders q.place) (passes.held q is))
-        (worker_slot (passed_on F w s b (record_at b (key_at a b)) q.place) w None (passes.old q is) refl)
+        (worker_slot q.place (passed_on F w s b (record_at b (key_at a b)) q.place) w None (passes.old q is) refl)
 
     by_found : (t : ℕ) → (o : Option Record) → record_at b (key_at a b) ≡ o → (t ≡ s → ⊥) → P t
     by_found t None none ne = other t ne (λ q is. let bad : None ≡ Some q = sym none ∙ is in cc)

@@ -18,12 +18,12 @@ use Rattle.flat_machine.proofs.Commits.{emitted_by, IsReady}
 use Rattle.flat_machine.proofs.Keeps.{fresh_ready, moved_ready}
 use Rattle.flat_machine.proofs.Passing.{passed}
 use Rattle.array_model.specs.Changes.{commit_view, commit_record, commit_reason, commit_reason_of, version_reason, stamp_reason, full_reason, version_given, hop_given, MayRefuse}
-use Rattle.array_model.specs.Views.{Kept, Nothing, Pending, Moving, Newest, is_waiting, ArrayView, with_parts, kept_at, key_at, IsWhole}
+use Rattle.array_model.specs.Views.{Kept, Nothing, Pending, Moving, Newest, Unmade, is_waiting, ArrayView, with_parts, kept_at, key_at, IsWhole}
 use Rattle.array_model.specs.Represents.{ShowsArray, IsTicketOf}
 use Rattle.array_model.proofs.Newest.{newest_told}
 use Rattle.array_model.proofs.Fares.{fared, itself, leaves, gone_as, gone_back, lost_shows, lost_leaves}
 use Rattle.array_model.proofs.Slots.{shows_after}
-use Rattle.array_model.proofs.Kepts.{ticket_held, unticketed, waiting_kept}
+use Rattle.array_model.proofs.Kepts.{waiting_made, ticket_held, unticketed, waiting_kept}
 use Rattle.array_model.proofs.Wholes.{slot_of_class}
 use Rattle.array_parts.specs.Slots.{IsSlot}
 use Rattle.array_model.proofs.Commits.{commit_map, commit_tables, commit_units}
@@ -77,6 +77,7 @@ reason_waits : (a : ArrayView) (k : Kept) (b : ℕ) (found : Option Record) → 
 reason_waits a Pending b found e = refl
 reason_waits a (Moving q) b found e = refl
 reason_waits a Nothing b found e = absurd (cc)
+reason_waits a Unmade b found e = absurd (cc)
 reason_waits a (Newest c) b found e = absurd (cc)
 
 -- the slot waits where nothing speaks against its commit
@@ -85,7 +86,7 @@ commit_waits a s b found none = reason_waits a (kept_at a s) b found none
 
 -- and it is one of a group
 pub commit_slot : (a : ArrayView) (s b : ℕ) (found : Option Record) → IsWhole a → commit_reason a s b found ≡ None → IsSlot a.parts.groups s
-commit_slot a s b found whole none = slot_of_class a.parts.groups s (whole.there s (waiting_kept (kept_at a s) (commit_waits a s b found none)))
+commit_slot a s b found whole none = slot_of_class a.parts.groups s (whole.there s (waiting_kept (kept_at a s) (commit_waits a s b found none)) (waiting_made (kept_at a s) (commit_waits a s b found none)))
 
 -- versions are at most one past the last
 version_bound : (b key : ℕ) → key < 2 ^ 64 → next_version (record_at b key) ≤ last_version + 1
@@ -136,6 +137,7 @@ commit_ok a s b whole inside block none = go (kept_at a s) refl none
     go Pending is e = fresh_ok a s b whole inside block (or_none _ _ e).0
     go (Moving q) is e = moved_ok a s b q whole inside block is (stamp_left q b (record_at b (key_at a b)) (or_none _ _ e).0)
     go Nothing is e = absurd (cc)
+    go Unmade is e = absurd (cc)
     go (Newest c) is e = absurd (cc)
 
 -- what is kept of a slot is its ticket
@@ -268,6 +270,7 @@ commit_case a p F w s b whole inside block none was shows mine = go (kept_at a s
         commit_moved a p F w s b q t.0 whole inside block is t.1 (ticket_held a F w s (ap is_waiting is) shows mine)
         (stamp_left q b (record_at b (key_at a b)) reasons.0) reasons.1 stamp shows
     go Nothing is e stamp = absurd (cc)
+    go Unmade is e stamp = absurd (cc)
     go (Newest c) is e stamp = absurd (cc)
 
 -- the slot is gone
@@ -308,6 +311,7 @@ commit_gone a p F w s b q whole none found shows mine =
         told (Moved m.block m.version m.hop t.0) t.1 (ticket_held a F w s (ap is_waiting is) shows mine) now.block
         (subst (λ o. HasStamp o m.version m.hop) (sym now.found_is) (now.version, now.hop), short a F shows reasons.1, refl, gone, left)
     go Nothing is e = absurd (cc)
+    go Unmade is e = absurd (cc)
     go (Newest c) is e = absurd (cc)
 
 -- where nothing speaks against it, memory may be wanted
@@ -334,6 +338,7 @@ commit_wants a F w s b whole none shows mine = go (kept_at a s) refl none
         told (Moved q.block q.version q.hop t.0) t.1 (ticket_held a F w s (ap is_waiting is) shows mine) now.block
         (subst (λ o. HasStamp o q.version q.hop) (sym now.found_is) (now.version, now.hop), short a F shows reasons.1)
     go Nothing is e = absurd (cc)
+    go Unmade is e = absurd (cc)
     go (Newest c) is e = absurd (cc)
 
 -- and where something does, it is the flat machine's refusal
@@ -410,6 +415,7 @@ commit_refused a F w s b q whole some shows mine = go (kept_at a s) refl some
 
     go : (k : Kept) → kept_at a s ≡ k → commit_reason_of a k b (record_at b (key_at a b)) ≡ Some q → P q
     go Nothing is e = no_ticket (ap is_waiting is) e
+    go Unmade is e = no_ticket (ap is_waiting is) e
     go (Newest c) is e = no_ticket (ap is_waiting is) e
     go Pending is e =
         let t = kept_ticket a F s Pending shows is in

@@ -16,7 +16,7 @@ use Rattle.flat_machine.specs.Flat.{Flat, Write, Worker, Moved, Stored, content_
 use Rattle.flat_machine.specs.Steps.{Copy, Copied, Refused}
 use Rattle.flat_machine.specs.Cases.{CopyCase, CopyPasses, ticketed, last_hop}
 use Rattle.array_model.specs.Changes.{copy_view, copy_reason, copy_reason_of, MayRefuse}
-use Rattle.array_model.specs.Views.{Kept, Nothing, Pending, Moving, Newest, ArrayView, with_parts, kept_at, key_at, is_kept, IsWhole}
+use Rattle.array_model.specs.Views.{Kept, Nothing, Pending, Moving, Newest, Unmade, ArrayView, with_parts, kept_at, key_at, is_kept, IsWhole}
 use Rattle.array_model.specs.Represents.{ShowsArray}
 use Rattle.array_model.proofs.Newest.{newest_is}
 use Rattle.array_model.proofs.Kepts.{kept_iff, unkept}
@@ -45,6 +45,7 @@ can_copy a s r none = go (class_at a.parts.groups s) refl (kept_at a s) refl non
     go (Some c) is_c Pending is_k e = absurd (cc)
     go (Some c) is_c (Moving m) is_k e = absurd (cc)
     go (Some c) is_c (Newest b) is_k e = absurd (cc)
+    go (Some c) is_c Unmade is_k e = absurd (cc)
     go None is_c k is_k e = absurd (cc)
 
 -- an array is whole after a copy
@@ -168,3 +169,4 @@ copy_refused a F w s b q some shows held = go (class_at a.parts.groups s) refl (
     go (Some c) is_c Pending is_k o is_o e = in_use c is_c (ap is_kept is_k) e
     go (Some c) is_c (Moving m) is_k o is_o e = in_use c is_c (ap is_kept is_k) e
     go (Some c) is_c (Newest d) is_k o is_o e = in_use c is_c (ap is_kept is_k) e
+    go (Some c) is_c Unmade is_k o is_o e = in_use c is_c (ap is_kept is_k) e

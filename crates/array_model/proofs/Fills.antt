@@ -1,5 +1,5 @@
 -- A slot is made to wait, and a fill of what is seen of an array is the flat machine's case.
-use Rattle.std.proofs.Common.{◌≡◌, ◌≢◌, ℕ, ◌<◌, true, List, length, refl, sym, ap, ◌∙◌, subst, arith, ◌⊎◌, inl, inr, Option, Some, None}
+use Rattle.std.proofs.Common.{◌≡◌, ◌≢◌, ℕ, ◌/◌, ◌<◌, true, List, length, refl, sym, ap, ◌∙◌, subst, arith, ◌⊎◌, inl, inr, Option, Some, None}
 use Rattle.std.proofs.lemmas.List.{length-set, get_or-set_same, get_or-set_other}
 use Rattle.std.proofs.lemmas.Bool.{cases_eq}
 use Rattle.std.proofs.lemmas.Option.{same_Some}
@@ -12,18 +12,19 @@ use Rattle.array_parts.specs.Slots.{IsSlot}
 use Rattle.extent_groups.specs.Stores.{AreDrives}
 use Rattle.array_parts.specs.Views.{PartsView, Shows, SameTables, WasPut, FoundGone, DrivesFare, drive_units}
 use Rattle.flat_machine.specs.declared.refusal.Refusal.{Refusal}
+use Rattle.extent_groups.specs.Groups.{group_at}
 use Rattle.flat_machine.specs.Groups.{class_at}
 use Rattle.flat_machine.specs.Flat.{Flat, Content, Payload, Worker, Ticket, Waiting, Fresh, content_of, Stored, waiting_unit, put, turned, class_of, IsArrays, IsKept}
 use Rattle.flat_machine.specs.Steps.{Fill, Filled, Refused}
 use Rattle.flat_machine.specs.Cases.{FillCase, FillPasses, ticketed}
 use Rattle.flat_machine.proofs.Pairs.{put_here, put_else, turned_else, IsJust, turned_free}
 use Rattle.array_model.specs.Changes.{wait_view, fill_view, fill_reason, fill_reason_of, MayRefuse}
-use Rattle.array_model.specs.Views.{Kept, Nothing, Pending, Moving, Newest, ArrayView, with_parts, kept_at, key_at, is_kept, is_waiting, IsWhole}
+use Rattle.array_model.specs.Views.{Kept, Nothing, Pending, Moving, Newest, Unmade, ArrayView, with_parts, kept_at, key_at, is_kept, is_waiting, IsWhole}
 use Rattle.array_model.specs.Represents.{ArraySlot, IsTicketOf, InTables, ShowsArray}
 use Rattle.array_model.proofs.Wholes.{whole_parts, slot_of_class}
 use Rattle.array_model.proofs.Fares.{fared, itself, leaves, gone_as, gone_back, lost_shows, lost_leaves}
 use Rattle.array_model.proofs.Slots.{ticket_slot, slot_same, one_slot, shows_after}
-use Rattle.array_model.proofs.Kepts.{kept_iff, unkept, waiting_newest}
+use Rattle.array_model.proofs.Kepts.{waiting_made, kept_iff, unkept, waiting_newest}
 use Rattle.flat_machine.proofs.Tickets.{unheld}
 
 -- the class of a slot is what is seen of it
@@ -41,7 +42,8 @@ wait_whole a s kept inside free waits moves class whole = record {
   newest = newest;
   only = λ t b is. only t b is (cases_eq t s);
   moving = λ t r is. moving t r is (cases_eq t s);
-  there = λ t kept. there t kept (cases_eq t s);
+  there = λ t kept made. there t kept made (cases_eq t s);
+  unmade = λ t is. unmade t is (cases_eq t s);
   groups = whole.groups;
   agree = whole.agree;
   rows = whole.rows;
@@ -68,9 +70,13 @@ wait_whole a s kept inside free waits moves class whole = record {
     moving t r is (inl e) = moves r (sym (ap (kept_at (wait_view a s kept)) e ∙ kept_here) ∙ is)
     moving t r is (inr ne) = whole.moving t r (sym (get_or-set_other a.kept s t kept Nothing ne) ∙ is)
 
-    there : (t : ℕ) → kept_at (wait_view a s kept) t ≢ Nothing → (t ≡ s) ⊎ (t ≡ s → ⊥) → class_at a.parts.groups t ≢ None
-    there t some (inl e) = subst (λ n. class_at a.parts.groups n ≢ None) (sym e) class
-    there t some (inr ne) = whole.there t (λ e. some (get_or-set_other a.kept s t kept Nothing ne ∙ e))
+    there : (t : ℕ) → kept_at (wait_view a s kept) t ≢ Nothing → kept_at (wait_view a s kept) t ≢ Unmade → (t ≡ s) ⊎ (t ≡ s → ⊥) → class_at a.parts.groups t ≢ None
+    there t some made (inl e) = subst (λ n. class_at a.parts.groups n ≢ None) (sym e) class
+    there t some made (inr ne) = whole.there t (λ e. some (get_or-set_other a.kept s t kept Nothing ne ∙ e)) (λ e. made (get_or-set_other a.kept s t kept Nothing ne ∙ e))
+
+    unmade : (t : ℕ) → kept_at (wait_view a s kept) t ≡ Unmade → (t ≡ s) ⊎ (t ≡ s → ⊥) → group_at a.parts.groups (t / 128) ≡ None
+    unmade t is (inl e) = absurd (waiting_made kept waits (sym (ap (kept_at (wait_view a s kept)) e ∙ kept_here) ∙ is))
+    unmade t is (inr ne) = whole.unmade t (sym (get_or-set_other a.kept s t kept Nothing ne) ∙ is)
 
 -- the tables after a slot was made to wait are the state's in which it does, with the drives of the parts then
 pub wait_tables : (a : ArrayView) (v : PartsView) (F : Flat) (w s : ℕ) (kept : Kept) (c : Waiting) → s < 65536 → is_waiting kept ≡ true → IsTicketOf kept (Some c)
@@ -89,7 +95,7 @@ wait_tables a v F w s kept c inside waits ticket same fares whole shows free = r
     many = fares.many
 
     P : ℕ → Type 0
-    P t = ArraySlot (kept_at (wait_view a s kept) t) ((ticketed F w s c).held t) ((ticketed F w s c).tickets t)
+    P t = ArraySlot t (kept_at (wait_view a s kept) t) ((ticketed F w s c).held t) ((ticketed F w s c).tickets t)
 
     kept_room : s < length a.kept
     kept_room = let e = whole.room.kept in omega arith
@@ -98,12 +104,12 @@ wait_tables a v F w s kept c inside waits ticket same fares whole shows free = r
     just = turned_free IsArrays F.held s (Worker w) (Ticket w) (λ k of. unheld (F.held s k) (λ e. free (k, of, e)))
 
     here : P s
-    here = slot_same kept (kept_at (wait_view a s kept) s) (turned F.held s (Worker w) (Ticket w) s) (turned F.held s (Worker w) (Ticket w) s) (Some c) (put F.tickets s (Some c) s)
+    here = slot_same s kept (kept_at (wait_view a s kept) s) (turned F.held s (Worker w) (Ticket w) s) (turned F.held s (Worker w) (Ticket w) s) (Some c) (put F.tickets s (Some c) s)
         (get_or-set_same a.kept s kept Nothing kept_room) refl (put_here F.tickets s (Some c))
-        (ticket_slot kept (turned F.held s (Worker w) (Ticket w) s) w (Some c) waits just ticket)
+        (ticket_slot s kept (turned F.held s (Worker w) (Ticket w) s) w (Some c) waits just ticket)
 
     rest : (t : ℕ) → (t ≡ s → ⊥) → P t
-    rest t ne = slot_same (kept_at a t) (kept_at (wait_view a s kept) t) (F.held t) (turned F.held s (Worker w) (Ticket w) t) (F.tickets t) (put F.tickets s (Some c) t)
+    rest t ne = slot_same t (kept_at a t) (kept_at (wait_view a s kept) t) (F.held t) (turned F.held s (Worker w) (Ticket w) t) (F.tickets t) (put F.tickets s (Some c) t)
         (get_or-set_other a.kept s t kept Nothing ne) (turned_else F.held s (Worker w) (Ticket w) t ne) (put_else F.tickets s (Some c) t ne) (shows.tables.slots t)
 
 -- the units of the state in which a slot waits
@@ -124,6 +130,7 @@ can_fill a s none = go (class_at a.parts.groups s) refl (kept_at a s) refl none
     go (Some Mirrored) is_c Pending is_k e = absurd (cc)
     go (Some Mirrored) is_c (Moving r) is_k e = absurd (cc)
     go (Some Mirrored) is_c (Newest b) is_k e = absurd (cc)
+    go (Some Mirrored) is_c Unmade is_k e = absurd (cc)
     go (Some Parity) is_c k is_k e = absurd (cc)
     go None is_c k is_k e = absurd (cc)
 
@@ -189,6 +196,7 @@ fill_refused a F w s x r some shows held = go (class_at a.parts.groups s) refl (
     by_cases (Some Mirrored) is_c Nothing is_k e = absurd (cc)
     by_cases (Some Mirrored) is_c Pending is_k e = subst P (same_Some _ _ e) (F, (held, is_c, (kept_iff a F s shows).0 (ap is_kept is_k), itself F), shows)
     by_cases (Some Mirrored) is_c (Moving m) is_k e = subst P (same_Some _ _ e) (F, (held, is_c, (kept_iff a F s shows).0 (ap is_kept is_k), itself F), shows)
+    by_cases (Some Mirrored) is_c Unmade is_k e = subst P (same_Some _ _ e) (F, (held, is_c, (kept_iff a F s shows).0 (ap is_kept is_k), itself F), shows)
     by_cases (Some Mirrored) is_c (Newest b) is_k e = subst P (same_Some _ _ e) (F, (held, is_c, (kept_iff a F s shows).0 (ap is_kept is_k), itself F), shows)
 
     go : (c : Option Class) → class_at a.parts.groups s ≡ c → (k : Kept) → kept_at a s ≡ k → P r

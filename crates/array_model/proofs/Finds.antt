@@ -9,7 +9,7 @@ use Rattle.flat_machine.proofs.Newest.{told_at, untold_at, told_key}
 use Rattle.array_parts.specs.Slots.{IsSlot}
 use Rattle.flat_machine.specs.Groups.{class_at}
 use Rattle.array_model.proofs.Wholes.{slot_of_class}
-use Rattle.array_model.specs.Views.{Nothing, Newest, ArrayView, kept_at, key_at, IsWhole}
+use Rattle.array_model.specs.Views.{Nothing, Newest, Unmade, ArrayView, kept_at, key_at, IsWhole}
 use Rattle.array_model.specs.Represents.{ShowsArray}
 
 sizes : (k : ℕ) → (k < 2 ^ 32) ⊎ (2 ^ 32 ≤ k)
@@ -59,7 +59,7 @@ read_there a b r whole is = go (sizes (key_at a b))
     go (inr big) =
         let same : record_of b (key_at a b) ≡ r = same_Some _ _ (sym (told_at b (key_at a b) big) ∙ is) in
         let kept : kept_at a r.place ≡ Newest b = ap (λ (q : Record). kept_at a q.place) (sym same) ∙ whole.newest b (omega arith) in
-        whole.there r.place (λ e. let bad : Newest b ≡ Nothing = sym kept ∙ e in cc)
+        whole.there r.place (λ e. let bad : Newest b ≡ Nothing = sym kept ∙ e in cc) (λ e. let bad : Newest b ≡ Unmade = sym kept ∙ e in cc)
 
 pub read_slot : (a : ArrayView) (b : ℕ) (r : Record) → IsWhole a → record_at b (key_at a b) ≡ Some r → IsSlot a.parts.groups r.place
 read_slot a b r whole is = slot_of_class a.parts.groups r.place (read_there a b r whole is)

@@ -8,8 +8,8 @@ use Rattle.flat_machine.specs.Cases.{ClaimCase, ReleaseCase}
 use Rattle.flat_machine.proofs.Pairs.{equal, with_else, with_just, without_else, without_nobody, just_one, IsNobodys, Any}
 use Rattle.array_model.specs.declared.hand.Hand.{Hand}
 use Rattle.array_model.specs.declared.hand.Hand.TheVariants.{Empty, Holds, Waits}
-use Rattle.array_model.specs.Views.{Kept, Nothing, Pending, Moving, Newest, ArrayView, WorldView, kept_at, key_at, hand_at, is_kept, has_no_holder}
-use Rattle.array_model.specs.Represents.{HandSlot, ArraySlot, InTables, Represents, is_claim, is_ticket}
+use Rattle.array_model.specs.Views.{Kept, Nothing, Pending, Moving, Newest, Unmade, ArrayView, WorldView, kept_at, key_at, hand_at, is_kept, has_no_holder}
+use Rattle.array_model.specs.Represents.{HandSlot, ArraySlot, InTables, Represents, is_claim, is_ticket, is_shut}
 use Rattle.array_model.proofs.Kepts.{kept_iff, nothing_kept}
 use Rattle.array_model.proofs.Fares.{itself}
 use Rattle.array_model.proofs.Slots.{worker_hand, one_slot, shows_after}
@@ -53,6 +53,7 @@ nothing_of Nothing e = refl
 nothing_of Pending e = absurd (cc)
 nothing_of (Moving r) e = absurd (cc)
 nothing_of (Newest b) e = absurd (cc)
+nothing_of Unmade e = absurd (cc)
 
 no_hand : (k : Kept) (h : Hand) → has_no_holder k h ≡ true → (k ≡ Nothing) × (h ≡ Empty)
 no_hand k Empty e = (nothing_of k e, refl)
@@ -64,8 +65,8 @@ free_holder : (v : WorldView) (F : Flat) (s : ℕ) → Represents v F → kept_a
 free_holder v F s rep none empty (Worker w) = (rep.hands s).claims w ∙ ap (λ h. is_claim h w) empty
 free_holder v F s rep none empty (Ticket w) = (rep.hands s).tickets w ∙ ap (λ h. is_ticket h w) empty
 free_holder v F s rep none empty (Block b) = nothing_kept F.groups (key_at v.array) s (F.held s) (F.tickets s) (rep.array.history.holders s)
-    (subst (λ j. ArraySlot j (F.held s) (F.tickets s)) none (rep.array.tables.slots s)) (Block b) (for_block b)
-free_holder v F s rep none empty (Shut g) = (rep.array.tables.slots s).shut g
+    (subst (λ j. ArraySlot s j (F.held s) (F.tickets s)) none (rep.array.tables.slots s)) (Block b) (for_block b)
+free_holder v F s rep none empty (Shut g) = (rep.array.tables.slots s).shut g ∙ ap (λ j. is_shut j s g) none
 
 pub claim_case : (v : WorldView) (F : Flat) (w s : ℕ) → s < 65536 → s < length v.hands → has_no_holder (kept_at v.array s) (hand_at v.hands s) ≡ true → Represents v F
     → (G : Flat) × (ClaimCase F w s (Claimed s) G) × (Represents (with_hand v s (Holds w)) G)
@@ -107,6 +108,7 @@ taken_case v F w s held rep = (refl, holder (hand_at v.hands s) refl, itself F)
     kept_of_not Pending e = refl
     kept_of_not (Moving r) e = refl
     kept_of_not (Newest b) e = refl
+    kept_of_not Unmade e = refl
 
     holder : (h : Hand) → hand_at v.hands s ≡ h → (k : Holder) × (F.held s k ≡ true)
     holder Empty e =

@@ -1,10 +1,10 @@
 -- What the array keeps of a slot is what the flat state's holders say.
-use Rattle.std.proofs.Common.{◌≡◌, ◌≢◌, ◌↔◌, ℕ, Bool, true, false, IsTrue, refl, sym, ap, ◌∙◌, Option, Some, None}
-use Rattle.flat_machine.specs.Flat.{Flat, Holder, Ticket, Block, IsArrays, for_ticket, for_block, for_shut, IsKept, Waiting, Fresh, Moved}
+use Rattle.std.proofs.Common.{◌≡◌, ◌≢◌, ◌↔◌, ℕ, ◌/◌, Bool, true, false, IsTrue, refl, sym, ap, ◌∙◌, Option, Some, None}
+use Rattle.flat_machine.specs.Flat.{Flat, Holder, Ticket, Block, Shut, IsArrays, for_ticket, for_block, for_shut, IsKept, Waiting, Fresh, Moved}
 use Rattle.extent_groups.specs.Groups.{Groups}
 use Rattle.flat_machine.specs.History.{HoldersStand}
 use Rattle.flat_machine.proofs.Pairs.{equal}
-use Rattle.array_model.specs.Views.{Kept, Nothing, Pending, Moving, Newest, ArrayView, kept_at, key_at, is_kept, is_waiting}
+use Rattle.array_model.specs.Views.{Kept, Nothing, Pending, Moving, Newest, Unmade, ArrayView, kept_at, key_at, is_kept, is_waiting}
 use Rattle.array_model.specs.Represents.{ArraySlot, ShowsArray, IsTicketOf}
 
 -- a Boolean that can't be true
@@ -15,6 +15,7 @@ never false no_way = refl
 -- nothing waits where no ticket is kept
 pub not_waiting : (k : Kept) (t : Option Waiting) → is_waiting k ≡ false → IsTicketOf k t → t ≡ None
 not_waiting Nothing t e is = is
+not_waiting Unmade t e is = is
 not_waiting (Newest b) t e is = is
 not_waiting Pending t e is = absurd (cc)
 not_waiting (Moving r) t e is = absurd (cc)
@@ -24,28 +25,31 @@ pub ticket_there : (k : Kept) (t : Option Waiting) → is_waiting k ≡ true →
 ticket_there Pending t e is = (Fresh is.0, is.1)
 ticket_there (Moving r) t e is = (Moved r.block r.version r.hop is.0, is.1)
 ticket_there Nothing t e is = absurd (cc)
+ticket_there Unmade t e is = absurd (cc)
 ticket_there (Newest b) t e is = absurd (cc)
 
 -- what is kept is held by a ticket or a block, and what isn't by neither
 kept_holder : (groups : Groups) (keys : ℕ → ℕ) (s : ℕ) (kept : Kept) (held : Holder → Bool) (t : Option Waiting)
-    → HoldersStand groups keys s held t → ArraySlot kept held t → IsTrue (is_kept kept) → (k : Holder) × (IsArrays k) × (held k ≡ true)
+    → HoldersStand groups keys s held t → ArraySlot s kept held t → IsTrue (is_kept kept) → (k : Holder) × (IsArrays k) × (held k ≡ true)
 kept_holder groups keys s Nothing held t is slot e = absurd (cc)
 kept_holder groups keys s Pending held t is slot e = let w = is.waits (Fresh slot.waits.0) slot.waits.1 in (Ticket w.0, for_ticket w.0, w.1)
 kept_holder groups keys s (Moving r) held t is slot e = let w = is.waits (Moved r.block r.version r.hop slot.waits.0) slot.waits.1 in (Ticket w.0, for_ticket w.0, w.1)
 kept_holder groups keys s (Newest b) held t is slot e = (Block b, for_block b, slot.blocks b ∙ equal b b refl)
+kept_holder groups keys s Unmade held t is slot e = (Shut (s / 128), for_shut (s / 128), slot.shut (s / 128) ∙ equal (s / 128) (s / 128) refl)
 
 pub nothing_kept : (groups : Groups) (keys : ℕ → ℕ) (s : ℕ) (held : Holder → Bool) (t : Option Waiting)
-    → HoldersStand groups keys s held t → ArraySlot Nothing held t → (k : Holder) → IsArrays k → held k ≡ false
+    → HoldersStand groups keys s held t → ArraySlot s Nothing held t → (k : Holder) → IsArrays k → held k ≡ false
 nothing_kept groups keys s held t is slot _ (for_ticket w) = never (held (Ticket w)) (λ e. is.waiting w e slot.waits)
 nothing_kept groups keys s held t is slot _ (for_block b) = slot.blocks b
 nothing_kept groups keys s held t is slot _ (for_shut g) = slot.shut g
 
 holder_kept : (groups : Groups) (keys : ℕ → ℕ) (s : ℕ) (kept : Kept) (held : Holder → Bool) (t : Option Waiting)
-    → HoldersStand groups keys s held t → ArraySlot kept held t → (k : Holder) → IsArrays k → held k ≡ true → IsTrue (is_kept kept)
+    → HoldersStand groups keys s held t → ArraySlot s kept held t → (k : Holder) → IsArrays k → held k ≡ true → IsTrue (is_kept kept)
 holder_kept groups keys s Nothing held t is slot k of e = let bad : true ≡ false = sym e ∙ nothing_kept groups keys s held t is slot k of in absurd (cc)
 holder_kept groups keys s Pending held t is slot k of e = refl
 holder_kept groups keys s (Moving r) held t is slot k of e = refl
 holder_kept groups keys s (Newest b) held t is slot k of e = refl
+holder_kept groups keys s Unmade held t is slot k of e = refl
 
 -- the array keeps a slot exactly where a holder of its own holds it
 pub kept_iff : (a : ArrayView) (F : Flat) (s : ℕ) → ShowsArray a F → IsTrue (is_kept (kept_at a s)) ↔ IsKept F s
@@ -60,6 +64,9 @@ waiting_kept k w e = let bad : true ≡ false = sym w ∙ ap is_waiting e in cc
 
 pub waiting_newest : (k : Kept) (b : ℕ) → is_waiting k ≡ true → k ≡ Newest b → ⊥
 waiting_newest k b w e = let bad : true ≡ false = sym w ∙ ap is_waiting e in cc
+
+pub waiting_made : (k : Kept) → is_waiting k ≡ true → k ≡ Unmade → ⊥
+waiting_made k w e = let bad : true ≡ false = sym w ∙ ap is_waiting e in cc
 
 -- of which nothing is kept, the array doesn't hold
 pub unkept : (a : ArrayView) (F : Flat) (s : ℕ) → kept_at a s ≡ Nothing → ShowsArray a F → IsKept F s → ⊥

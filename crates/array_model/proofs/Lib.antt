@@ -17,3 +17,4 @@ pub mod Adopting
 pub mod Hands
 pub mod Regroups
 pub mod MoveReasons
+pub mod Unmaking

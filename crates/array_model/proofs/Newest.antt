@@ -6,7 +6,7 @@ use Rattle.map_join.specs.Live.{IsLive, IsBlockAt}
 use Rattle.map_join.specs.Maps.{IsSame}
 use Rattle.flat_machine.specs.Flat.{Flat, IsNewest}
 use Rattle.flat_machine.proofs.Newest as flat
-use Rattle.array_model.specs.Views.{Kept, Nothing, Pending, Moving, Newest, ArrayView, block_in, kept_at, key_at, IsRoomy, IsWhole}
+use Rattle.array_model.specs.Views.{Kept, Nothing, Pending, Moving, Newest, Unmade, ArrayView, block_in, kept_at, key_at, IsRoomy, IsWhole}
 use Rattle.array_model.specs.Represents.{ShowsArray}
 
 -- the block's key tells its newest record
@@ -49,6 +49,7 @@ lies_at a s whole = go (kept_at a s) refl
     go : (k : Kept) → kept_at a s ≡ k → IsBlockAt (key_at a) s (block_in k)
     go Nothing e = other Nothing e (λ b is. cc)
     go Pending e = other Pending e (λ b is. cc)
+    go Unmade e = other Unmade e (λ b is. cc)
     go (Moving r) e = other (Moving r) e (λ b is. cc)
     go (Newest b) e =
         let only = whole.only s b e in

@@ -11,7 +11,7 @@ use Rattle.flat_machine.specs.Groups.{AreSizes}
 use Rattle.flat_machine.specs.Flat.{new_flat}
 use Rattle.flat_machine.specs.History.{IsHistory}
 use Rattle.flat_machine.proofs.Keeps.{new_history}
-use Rattle.array_model.specs.Views.{Nothing, Moving, Newest, ArrayView, key_at, IsWhole, IsNew}
+use Rattle.array_model.specs.Views.{Nothing, Moving, Newest, Unmade, ArrayView, key_at, IsWhole, IsNew}
 use Rattle.array_model.specs.Represents.{ShowsArray}
 
 pub new_whole : (a : ArrayView) → IsNew a → AreSizes a.parts.groups → IsWhole a
@@ -23,7 +23,8 @@ new_whole a new sizes = record {
   newest = λ b some. let e = new.keys b in absurd (omega arith);
   only = λ s b is. let bad : Nothing ≡ Newest b = sym (new.kept s) ∙ is in absurd (cc);
   moving = λ s r is. let bad : Nothing ≡ Moving r = sym (new.kept s) ∙ is in absurd (cc);
-  there = λ s kept. absurd (kept (new.kept s));
+  there = λ s kept made. absurd (kept (new.kept s));
+  unmade = λ s is. let bad : Nothing ≡ Unmade = sym (new.kept s) ∙ is in absurd (cc);
   groups = record {
     table = free_groups a.parts.groups new.empty.free new.empty.numbers sizes.some_segments.0 sizes.some_segments.1;
     there = λ g k m at. absurd (no_members a.parts.groups g k m (new.empty.free g) at);

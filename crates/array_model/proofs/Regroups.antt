@@ -1,5 +1,5 @@
 -- An array with a drive more, or with a member on another extent, is whole, and stands for the state with the same.
-use Rattle.std.proofs.Common.{◌≡◌, ◌≢◌, ℕ, ◌+◌, ◌<◌, ◌≤◌, Bool, true, false, [], ◌∷◌, length, refl, sym, ap, ◌∙◌, subst, arith, inl, inr, Option, Some, None}
+use Rattle.std.proofs.Common.{◌≡◌, ◌≢◌, ℕ, ◌+◌, ◌/◌, ◌<◌, ◌≤◌, Bool, true, false, [], ◌∷◌, length, refl, sym, ap, ◌∙◌, subst, arith, inl, inr, Option, Some, None}
 use Rattle.std.specs.Prelude.{slice_get}
 use Rattle.std.proofs.lemmas.List.{length-append}
 use Rattle.extents.specs.Owners.{Owners, with_owner}
@@ -16,7 +16,7 @@ use Rattle.flat_machine.specs.Flat.{Flat, put}
 use Rattle.flat_machine.specs.Moves.{IsMoveReason, MovePasses, IsBeyondOf, IsFirstGone, moved_to, with_new_drive}
 use Rattle.flat_machine.specs.Steps.{MoveExtent, MovedExtent, AddedDrive, Refused}
 use Rattle.flat_machine.specs.Cases.{Leaves, MoveCase, AddCase, IsWanted}
-use Rattle.flat_machine.proofs.Regroups.{element, class_same, swapped_stand, add_keeps}
+use Rattle.flat_machine.proofs.Regroups.{element, class_same, none_still, swapped_stand, add_keeps}
 use Rattle.array_model.specs.Changes.{MayRefuse}
 use Rattle.array_model.specs.Views.{ArrayView, with_parts, IsWhole, key_at}
 use Rattle.array_model.specs.Represents.{InTables, ShowsArray}
@@ -33,7 +33,8 @@ added_whole a v lost failures whole e drives = record {
   newest = whole.newest;
   only = whole.only;
   moving = whole.moving;
-  there = λ s kept. subst (λ (z : Groups). class_at z s ≢ None) (sym e.groups) (whole.there s kept);
+  there = λ s kept made. subst (λ (z : Groups). class_at z s ≢ None) (sym e.groups) (whole.there s kept made);
+  unmade = λ s kept. subst (λ (z : Groups). group_at z (s / 128) ≡ None) (sym e.groups) (whole.unmade s kept);
   groups = subst (λ (z : Groups). GroupsStand z (length v.drives)) (sym e.groups) (record {
     table = whole.groups.table;
     there = λ g k m at. let y = whole.groups.there g k m at in let low = y.0 in let many = e.many in (omega arith, y.1);
@@ -146,8 +147,9 @@ module _ (a : ArrayView) (v : PartsView) (g k : ℕ) (to : Member) (reason : IsM
     newest = whole.newest;
     only = whole.only;
     moving = whole.moving;
-    there = λ s kept none.
-        whole.there s kept (sym (class_same a.parts.groups (length a.parts.drives) g k to whole.groups reason.0 reason.1 s) ∙ subst (λ (z : Groups). class_at z s ≡ None) e.groups none);
+    there = λ s kept made none.
+        whole.there s kept made (sym (class_same a.parts.groups (length a.parts.drives) g k to whole.groups reason.0 reason.1 s) ∙ subst (λ (z : Groups). class_at z s ≡ None) e.groups none);
+    unmade = λ s kept. subst (λ (z : Groups). group_at z (s / 128) ≡ None) (sym e.groups) (none_still a.parts.groups (length a.parts.drives) g k to whole.groups reason.0 reason.1 (s / 128) (whole.unmade s kept));
     groups = subst (λ (z : Groups). GroupsStand z (length v.drives)) (sym e.groups)
         (subst (GroupsStand now) (sym many) (swapped_stand a.parts.groups (length a.parts.drives) g k to whole.groups reason.0 reason.1));
     agree = e.agree;

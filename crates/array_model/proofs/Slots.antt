@@ -10,25 +10,34 @@ use Rattle.flat_machine.specs.History.{IsStep}
 use Rattle.flat_machine.proofs.Keeps.{step_keeps}
 use Rattle.flat_machine.proofs.Pairs.{flip, IsJust, Any}
 use Rattle.array_model.specs.declared.hand.Hand.TheVariants.{Empty, Holds, Waits}
-use Rattle.array_model.specs.Views.{Kept, Nothing, Pending, Moving, Newest, ArrayView, key_at, is_waiting}
-use Rattle.array_model.specs.Represents.{ArraySlot, InTables, ShowsArray, HandSlot, IsTicketOf, is_newest}
+use Rattle.array_model.specs.Views.{Kept, Nothing, Pending, Moving, Newest, Unmade, ArrayView, key_at, is_waiting}
+use Rattle.array_model.specs.Represents.{ArraySlot, InTables, ShowsArray, HandSlot, IsTicketOf, is_newest, is_shut}
 
 -- a slot that waits is no block's newest place
 waiting_none : (k : Kept) → is_waiting k ≡ true → (b : ℕ) → is_newest k b ≡ false
 waiting_none Pending e b = refl
 waiting_none (Moving r) e b = refl
 waiting_none Nothing e b = absurd (cc)
+waiting_none Unmade e b = absurd (cc)
 waiting_none (Newest c) e b = absurd (cc)
 
+-- nor of an unmade group
+waiting_open : (k : Kept) → is_waiting k ≡ true → (s g : ℕ) → is_shut k s g ≡ false
+waiting_open Pending e s g = refl
+waiting_open (Moving r) e s g = refl
+waiting_open Nothing e s g = absurd (cc)
+waiting_open (Newest c) e s g = absurd (cc)
+waiting_open Unmade e s g = absurd (cc)
+
 -- a slot that a worker holds, one that a ticket holds, and one that a block holds
-pub worker_slot : (h : Holder → Bool) (w : ℕ) (t : Option Waiting) → IsJust IsArrays h (Worker w) → t ≡ None → ArraySlot Nothing h t
-worker_slot h w t is none = record { blocks = λ b. is (Block b) (for_block b); shut = λ g. is (Shut g) (for_shut g); waits = none }
+pub worker_slot : (s : ℕ) (h : Holder → Bool) (w : ℕ) (t : Option Waiting) → IsJust IsArrays h (Worker w) → t ≡ None → ArraySlot s Nothing h t
+worker_slot s h w t is none = record { blocks = λ b. is (Block b) (for_block b); shut = λ g. is (Shut g) (for_shut g); waits = none }
 
-pub ticket_slot : (k : Kept) (h : Holder → Bool) (w : ℕ) (t : Option Waiting) → is_waiting k ≡ true → IsJust IsArrays h (Ticket w) → IsTicketOf k t → ArraySlot k h t
-ticket_slot k h w t waits is ticket = record { blocks = λ b. is (Block b) (for_block b) ∙ sym (waiting_none k waits b); shut = λ g. is (Shut g) (for_shut g); waits = ticket }
+pub ticket_slot : (s : ℕ) (k : Kept) (h : Holder → Bool) (w : ℕ) (t : Option Waiting) → is_waiting k ≡ true → IsJust IsArrays h (Ticket w) → IsTicketOf k t → ArraySlot s k h t
+ticket_slot s k h w t waits is ticket = record { blocks = λ b. is (Block b) (for_block b) ∙ sym (waiting_none k waits b); shut = λ g. is (Shut g) (for_shut g) ∙ sym (waiting_open k waits s g); waits = ticket }
 
-pub block_slot : (h : Holder → Bool) (b : ℕ) (t : Option Waiting) → IsJust IsArrays h (Block b) → t ≡ None → ArraySlot (Newest b) h t
-block_slot h b t is none = record { blocks = λ c. is (Block c) (for_block c) ∙ flip c b; shut = λ g. is (Shut g) (for_shut g); waits = none }
+pub block_slot : (s : ℕ) (h : Holder → Bool) (b : ℕ) (t : Option Waiting) → IsJust IsArrays h (Block b) → t ≡ None → ArraySlot s (Newest b) h t
+block_slot s h b t is none = record { blocks = λ c. is (Block c) (for_block c) ∙ flip c b; shut = λ g. is (Shut g) (for_shut g); waits = none }
 
 -- whose hand a slot is in
 pub worker_hand : (h : Holder → Bool) (w : ℕ) → IsJust Any h (Worker w) → HandSlot (Holds w) h
@@ -41,10 +50,10 @@ pub block_hand : (h : Holder → Bool) (b : ℕ) → IsJust Any h (Block b) → 
 block_hand h b is = record { claims = λ v. is (Worker v) tt; tickets = λ v. is (Ticket v) tt }
 
 -- what is told of a slot stays where nothing of it changed
-pub slot_same : (k l : Kept) (g h : Holder → Bool) (t r : Option Waiting) → l ≡ k → h ≡ g → r ≡ t → ArraySlot k g t → ArraySlot l h r
-slot_same k l g h t r kept held ticket is = record {
+pub slot_same : (s : ℕ) (k l : Kept) (g h : Holder → Bool) (t r : Option Waiting) → l ≡ k → h ≡ g → r ≡ t → ArraySlot s k g t → ArraySlot s l h r
+slot_same s k l g h t r kept held ticket is = record {
   blocks = λ b. ap (λ (x : Holder → Bool). x (Block b)) held ∙ is.blocks b ∙ ap (λ x. is_newest x b) (sym kept);
-  shut = λ n. ap (λ (x : Holder → Bool). x (Shut n)) held ∙ is.shut n;
+  shut = λ n. ap (λ (x : Holder → Bool). x (Shut n)) held ∙ is.shut n ∙ ap (λ x. is_shut x s n) (sym kept);
   waits = subst (λ x. IsTicketOf x r) (sym kept) (subst (IsTicketOf k) (sym ticket) is.waits);
 }
 

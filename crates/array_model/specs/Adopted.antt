@@ -4,10 +4,11 @@ use Rattle.map_join.specs.Record.{record_of}
 use Rattle.map_join.specs.Maps.{IsSame, IsListOf}
 use Rattle.array_parts.specs.Views.{PartsView, Shows, lost_of, failed_of}
 use Rattle.flat_machine.specs.Flat.{Flat}
-use Rattle.array_model.specs.Views.{Kept, Nothing, Pending, Moving, Newest, ArrayView, kept_at, key_at}
+use Rattle.array_model.specs.Views.{Kept, Nothing, Pending, Moving, Newest, Unmade, ArrayView, kept_at, key_at}
 
 -- what is kept of a slot by a map: the block whose place it is, if it is one's
 abbrev pub IsPlaced : (ℕ → ℕ) → ℕ → Kept → Type 0
+IsPlaced keys slot Unmade = ⊥
 IsPlaced keys slot Nothing = (b : ℕ) → 0 < keys b → (record_of b (keys b)).place ≡ slot → ⊥
 IsPlaced keys slot (Newest b) = (0 < keys b) × ((record_of b (keys b)).place ≡ slot)
 IsPlaced keys slot Pending = ⊥

@@ -1,5 +1,5 @@
 -- What a call changes in what is seen of an array, and why it is refused.
-use Rattle.std.specs.Prelude.{◌≡◌, ℕ, ◌+◌, ◌==◌, ◌&&◌, Bool, nat_le, List, [], ◌∷◌, ◌++◌, length, slice_set, if◌then◌else◌, Option, Some, None}
+use Rattle.std.specs.Prelude.{◌≡◌, ℕ, ◌+◌, ◌/◌, ◌%◌, ◌<◌, ◌==◌, ◌&&◌, Bool, nat_le, List, [], ◌∷◌, ◌++◌, length, slice_index_or, slice_set, if◌then◌else◌, Option, Some, None}
 use Rattle.map_join.specs.declared.records.Record.{Record}
 use Rattle.map_join.specs.Record.{key_of}
 use Rattle.extent_groups.specs.declared.class.Class.{Class}
@@ -11,7 +11,8 @@ use Rattle.array_model.specs.declared.hand.Hand.TheVariants.{Empty, Holds}
 use Rattle.flat_machine.specs.Groups.{class_at}
 use Rattle.flat_machine.specs.Flat.{or_else}
 use Rattle.flat_machine.specs.Cases.{next_version, last_version, last_hop, longest_log}
-use Rattle.array_model.specs.Views.{Kept, Nothing, Pending, Moving, Newest, ArrayView, kept_at}
+use Rattle.array_parts.specs.Views.{PartsView}
+use Rattle.array_model.specs.Views.{Kept, Nothing, Pending, Moving, Newest, Unmade, ArrayView, kept_at}
 
 -- memory is wanted only where all that is tested before it is passed, and any other refusal is the case p
 abbrev pub MayRefuse : Refusal → Type 0 → Type 0 → Type 0
@@ -48,6 +49,27 @@ copy_reason_of (Some class) _ _ = Some InUse
 
 abbrev pub copy_reason : ArrayView → ℕ → Option Record → Option Refusal
 copy_reason a slot found = copy_reason_of (class_at a.parts.groups slot) (kept_at a slot) found
+
+-- what is kept of a slot, without the claim of an unmade group's
+abbrev pub opened_of : Kept → Kept
+opened_of Unmade = Nothing
+opened_of kept = kept
+
+-- the claims that were kept of a group's number went out, and nothing else did
+pub record IsOpened (g : ℕ) (old new : List Kept) : Type 0 where
+  pub many : length new ≡ length old
+  pub here : (s : ℕ) → s / 128 ≡ g → slice_index_or new s Nothing ≡ opened_of (slice_index_or old s Nothing)
+  pub rest : (s : ℕ) → (s / 128 ≡ g → ⊥) → slice_index_or new s Nothing ≡ slice_index_or old s Nothing
+
+-- the claims of a group's first slots, so many, were taken in as those of an unmade one, and nothing else changed
+pub record IsClosed (g count : ℕ) (old new : List Kept) : Type 0 where
+  pub many : length new ≡ length old
+  pub here : (s : ℕ) → s / 128 ≡ g → s % 128 < count → slice_index_or new s Nothing ≡ Unmade
+  pub rest : (s : ℕ) → (s / 128 ≡ g → s % 128 < count → ⊥) → slice_index_or new s Nothing ≡ slice_index_or old s Nothing
+
+-- the array with other parts, and with other claims of an unmade group's slots
+abbrev pub opened_view : ArrayView → PartsView → List Kept → ArrayView
+opened_view a parts kept = record a { parts = parts; kept = kept }
 
 -- the array after a ticket was given up
 abbrev pub discard_view : ArrayView → ℕ → ArrayView

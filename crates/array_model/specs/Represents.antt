@@ -1,17 +1,22 @@
 -- When an array or a world stands for a flat state: what is true of that state by itself, and what their tables have to do
 -- with it.
-use Rattle.std.specs.Prelude.{◌≡◌, ℕ, length, ◌==◌, Bool, false, Option, Some, None}
+use Rattle.std.specs.Prelude.{◌≡◌, ℕ, length, ◌==◌, ◌/◌, Bool, false, Option, Some, None}
 use Rattle.flat_machine.specs.Flat.{Flat, Content, Holder, Worker, Ticket, Block, Shut, Waiting, Fresh, Moved}
 use Rattle.array_parts.specs.Views.{Shows, lost_of, failed_of}
 use Rattle.flat_machine.specs.History.{IsHistory, AreHeld}
 use Rattle.array_model.specs.declared.hand.Hand.{Hand}
 use Rattle.array_model.specs.declared.hand.Hand.TheVariants.{Holds, Waits}
-use Rattle.array_model.specs.Views.{Kept, Pending, Moving, Newest, ArrayView, WorldView, kept_at, hand_at, key_at}
+use Rattle.array_model.specs.Views.{Kept, Unmade, Pending, Moving, Newest, ArrayView, WorldView, kept_at, hand_at, key_at}
 
 -- the slot is the newest place of the block
 abbrev pub is_newest : Kept → ℕ → Bool
 is_newest (Newest a) b = a == b
 is_newest _ b = false
+
+-- the slot's claim is kept of this unmade group
+abbrev pub is_shut : Kept → ℕ → ℕ → Bool
+is_shut Unmade s g = g == s / 128
+is_shut _ s g = false
 
 -- what waits at a slot, told from what is kept of it; its content is told by its unit
 abbrev pub IsTicketOf : Kept → Option Waiting → Type 0
@@ -19,10 +24,11 @@ IsTicketOf Pending ticket = (x : Content) × (ticket ≡ Some (Fresh x))
 IsTicketOf (Moving r) ticket = (x : Content) × (ticket ≡ Some (Moved r.block r.version r.hop x))
 IsTicketOf _ ticket = ticket ≡ None
 
--- what the array's tables say of one slot: the block whose newest place it is, and what waits there
-pub record ArraySlot (kept : Kept) (held : Holder → Bool) (ticket : Option Waiting) : Type 0 where
+-- what the array's tables say of one slot: the block whose newest place it is, the unmade group of which its claim is kept, and
+-- what waits there
+pub record ArraySlot (s : ℕ) (kept : Kept) (held : Holder → Bool) (ticket : Option Waiting) : Type 0 where
   pub blocks : (b : ℕ) → held (Block b) ≡ is_newest kept b
-  pub shut : (g : ℕ) → held (Shut g) ≡ false
+  pub shut : (g : ℕ) → held (Shut g) ≡ is_shut kept s g
   pub waits : IsTicketOf kept ticket
 
 -- the array's tables are the flat state's
@@ -32,7 +38,7 @@ pub record InTables (a : ArrayView) (F : Flat) : Type 0 where
   pub lost : F.lost ≡ lost_of a.parts
   pub failures : F.failures ≡ failed_of a.parts
   pub log : F.emitted ≡ a.log
-  pub slots : (s : ℕ) → ArraySlot (kept_at a s) (F.held s) (F.tickets s)
+  pub slots : (s : ℕ) → ArraySlot s (kept_at a s) (F.held s) (F.tickets s)
 
 -- an array stands for a flat state: all is true of it that is after any steps, with the array's keys as the map of its log;
 -- the drives show its units; and the array's tables are its. Which slots workers hold is left free

@@ -1,8 +1,8 @@
 -- What contracts see of an array and of a world: plain data, without claims.
-use Rattle.std.specs.Prelude.{◌≡◌, ◌≢◌, ℕ, ◌<◌, ◌≤◌, ◌^◌, Bool, true, false, not, List, [], slice_index, slice_index_or, length, Option, Some, None}
+use Rattle.std.specs.Prelude.{◌≡◌, ◌≢◌, ℕ, ◌<◌, ◌≤◌, ◌/◌, ◌^◌, Bool, true, false, not, List, [], slice_index, slice_index_or, length, Option, Some, None}
 use Rattle.map_join.specs.declared.records.Record.{Record}
 use Rattle.map_join.specs.Record.{record_of}
-use Rattle.extent_groups.specs.Groups.{Agree}
+use Rattle.extent_groups.specs.Groups.{Agree, group_at}
 use Rattle.extent_groups.specs.Stores.{AreDrives}
 use Rattle.array_parts.specs.Views.{PartsView, drive_units}
 use Rattle.flat_machine.specs.Groups.{IsEmpty, GroupsStand, class_at}
@@ -10,12 +10,13 @@ use Rattle.array_model.specs.declared.hand.Hand.{Hand}
 use Rattle.array_model.specs.declared.hand.Hand.TheVariants.{Empty, Holds, Waits}
 
 -- what the array itself keeps of a slot: nothing, the claim of a ticket with a fresh payload or with a copy of a record's,
--- or the claim of a block's newest place
+-- the claim of a block's newest place, or that of a slot of an unmade group
 pub data Kept : Type 0 where
   Nothing : Kept
   Pending : Kept
   Moving : Record → Kept
   Newest : ℕ → Kept
+  Unmade : Kept
 
 -- the array keeps the slot
 abbrev pub is_kept : Kept → Bool
@@ -23,6 +24,7 @@ is_kept Nothing = false
 is_kept Pending = true
 is_kept (Moving r) = true
 is_kept (Newest block) = true
+is_kept Unmade = true
 
 -- the block whose newest place the slot is, if any
 abbrev pub block_in : Kept → Option ℕ
@@ -30,6 +32,7 @@ block_in Nothing = None
 block_in Pending = None
 block_in (Moving r) = None
 block_in (Newest block) = Some block
+block_in Unmade = None
 
 -- a ticket waits at the slot
 abbrev pub is_waiting : Kept → Bool
@@ -37,6 +40,7 @@ is_waiting Nothing = false
 is_waiting Pending = true
 is_waiting (Moving r) = true
 is_waiting (Newest block) = false
+is_waiting Unmade = false
 
 -- an array: its parts (the groups with its sizes, the owners of the extents, and the drives), its log, the key of each block
 -- (0 for none), and what is kept of each slot
@@ -73,7 +77,7 @@ pub record IsRoomy (a : ArrayView) : Type 0 where
   pub keys : length a.keys ≡ a.parts.groups.blocks
 
 -- what every array keeps: each key is a record's, whose place and no other is kept for that block; what is copied can move
--- on; what is kept is a slot of a group; groups stand, and agree with the owners of the extents; and the drives have the units
+-- on; what is kept is a slot of a group, or of one that was unmade and isn't made again; groups stand, and agree with the owners of the extents; and the drives have the units
 -- that the sizes ask
 pub record IsWhole (a : ArrayView) : Type 0 where
   pub room : IsRoomy a
@@ -83,7 +87,8 @@ pub record IsWhole (a : ArrayView) : Type 0 where
   pub newest : (b : ℕ) → 0 < key_at a b → kept_at a (record_of b (key_at a b)).place ≡ Newest b
   pub only : (s b : ℕ) → kept_at a s ≡ Newest b → (0 < key_at a b) × ((record_of b (key_at a b)).place ≡ s)
   pub moving : (s : ℕ) (r : Record) → kept_at a s ≡ Moving r → r.hop < 65535
-  pub there : (s : ℕ) → kept_at a s ≢ Nothing → class_at a.parts.groups s ≢ None
+  pub there : (s : ℕ) → kept_at a s ≢ Nothing → kept_at a s ≢ Unmade → class_at a.parts.groups s ≢ None
+  pub unmade : (s : ℕ) → kept_at a s ≡ Unmade → group_at a.parts.groups (s / 128) ≡ None
   pub groups : GroupsStand a.parts.groups (length a.parts.drives)
   pub agree : Agree a.parts.groups a.parts.owners
   pub rows : length a.parts.owners.rows ≡ length a.parts.drives

@@ -14,3 +14,4 @@ pub mod Outcomes
 pub mod Shifting
 pub mod GoneSlots
 pub mod Shifts
+pub mod Taking

@@ -1,18 +1,18 @@
 -- An array's parts as plain data, and what calls of its drives leave of its slots, told of any units that the drives show.
-use Rattle.std.specs.Prelude.{◌≡◌, ◌⊎◌, ℕ, ◌+◌, Bool, true, false, List, length, map, Option, Some}
+use Rattle.std.specs.Prelude.{◌≡◌, ◌⊎◌, ℕ, ◌+◌, Bool, true, false, List, length, map, Option, Some, None}
 use Rattle.map_join.specs.declared.records.Record.{Record}
 use Rattle.extents.specs.declared.header.Header.{Header}
 use Rattle.extents.specs.Owners.{Owners, with_drive}
 use Rattle.extent_groups.specs.declared.class.Class.{Class}
 use Rattle.extent_groups.specs.declared.class.Member.{Member}
 use Rattle.extent_groups.specs.Geometry.{slot_count}
-use Rattle.extent_groups.specs.Groups.{Groups, with_group, with_owners, Agree, IsSwap, IsMove}
+use Rattle.extent_groups.specs.Groups.{Groups, members_of, with_group, with_owners, Agree, IsSwap, IsMove}
 use Rattle.extent_groups.specs.Cells.{Cells, cells}
 use Rattle.extent_groups.specs.Missing.{missing_of, IsGone}
 use Rattle.flat_machine.specs.declared.refusal.Refusal.{Refusal}
 use Rattle.flat_machine.specs.declared.refusal.Refusal.TheVariants.{Gone}
 use Rattle.flat_machine.specs.Groups.{ArePresent}
-use Rattle.flat_machine.specs.Moves.{IsBeyondOf}
+use Rattle.flat_machine.specs.Moves.{without_group, IsBeyondOf}
 use Rattle.flat_machine.specs.Flat.{Stored, Payload, put}
 use Rattle.flat_machine.specs.Steps.{Seen, Data, Stale}
 use Rattle.flat_machine.specs.Cases.{IsSeen, wiped}
@@ -175,3 +175,11 @@ TellsUnmoved b g k to refusal = IsWhyUnmoved b.groups (lost_of b) g k to refusal
 pub record NotShifted (a : PartsView) (g k : ℕ) (to : Member) (b : PartsView) (refusal : Refusal) : Type 0 where
   pub loses : Loses a b
   pub told : TellsUnmoved b g k to refusal
+
+-- a group was unmade: its extents are free, its slots have no unit, and drives are as they were
+pub record WasTaken (a : PartsView) (g : ℕ) (b : PartsView) : Type 0 where
+  pub groups : b.groups ≡ with_group a.groups g None
+  pub owners : b.owners ≡ with_owners a.owners (members_of a.groups g) None
+  pub drives : b.drives ≡ a.drives
+  pub agree : Agree b.groups b.owners
+  pub shows : (units : ℕ → Option Stored) → Shows a units → Shows b (without_group units g)

@@ -12,6 +12,7 @@ mod relocate;
 mod see;
 mod shift;
 mod slots;
+mod take;
 mod unit;
 mod units;
 

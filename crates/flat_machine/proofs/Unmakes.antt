@@ -43,7 +43,7 @@ number_within groups g some = go (cases_lt g (length groups.table))
     go (inr past) = absurd (some (ap (λ x. unwrap_or x None) (slice_get_past groups.table g past)))
 
 -- a group fewer
-groups_fewer : (groups : Groups) (drives g : ℕ) → GroupsStand groups drives → g < length groups.table → GroupsStand (with_group groups g None) drives
+pub groups_fewer : (groups : Groups) (drives g : ℕ) → GroupsStand groups drives → g < length groups.table → GroupsStand (with_group groups g None) drives
 groups_fewer groups drives g all within = record {
   table = record {
     segments = all.table.segments;
@@ -70,7 +70,7 @@ groups_fewer groups drives g all within = record {
         go (inr ne) = members_other groups g h None ne
 
 -- no number becomes one of a group
-none_still : (groups : Groups) (g h : ℕ) → g < length groups.table → group_at groups h ≡ None → group_at (with_group groups g None) h ≡ None
+pub none_still : (groups : Groups) (g h : ℕ) → g < length groups.table → group_at groups h ≡ None → group_at (with_group groups g None) h ≡ None
 none_still groups g h within none = go (cases_eq h g)
   where
     go : (h ≡ g) ⊎ (h ≡ g → ⊥) → group_at (with_group groups g None) h ≡ None
@@ -126,17 +126,17 @@ module _ (F : Flat) (keys : ℕ → ℕ) (w g : ℕ) (is : IsHistory F keys) (ma
   is_in : ℕ → Bool
   is_in s = (s / 128 == g) && nat_lt (s % 128) count
 
-  in_group : (s : ℕ) → s / 128 ≡ g → nat_lt (s % 128) count ≡ true → IsIn F g s
+  pub in_group : (s : ℕ) → s / 128 ≡ g → nat_lt (s % 128) count ≡ true → IsIn F g s
   in_group s same low = record {
     group = same;
     made = class_below_some F.groups.segments (group_at F.groups (s / 128)) (s % 128) (ap (λ h. nat_lt (s % 128) (slots_in F.groups.segments (group_at F.groups h))) same ∙ low);
   }
 
-  held_in : (s : ℕ) → s / 128 ≡ g → nat_lt (s % 128) count ≡ true → G.held s ≡ turned F.held s (Worker w) (Shut g) s
+  pub held_in : (s : ℕ) → s / 128 ≡ g → nat_lt (s % 128) count ≡ true → G.held s ≡ turned F.held s (Worker w) (Shut g) s
   held_in s same low = ap (λ q. cond (q && nat_lt (s % 128) count) (turned F.held s (Worker w) (Shut g) s) (F.held s)) (equal (s / 128) g same)
       ∙ ap (λ q. cond q (turned F.held s (Worker w) (Shut g) s) (F.held s)) low
 
-  held_past : (s : ℕ) → s / 128 ≡ g → nat_lt (s % 128) count ≡ false → G.held s ≡ F.held s
+  pub held_past : (s : ℕ) → s / 128 ≡ g → nat_lt (s % 128) count ≡ false → G.held s ≡ F.held s
   held_past s same high = ap (λ q. cond (q && nat_lt (s % 128) count) (turned F.held s (Worker w) (Shut g) s) (F.held s)) (equal (s / 128) g same)
       ∙ ap (λ q. cond q (turned F.held s (Worker w) (Shut g) s) (F.held s)) high
 
@@ -149,10 +149,10 @@ module _ (F : Flat) (keys : ℕ → ℕ) (w g : ℕ) (is : IsHistory F keys) (ma
   unit_else : (s : ℕ) → (s / 128 ≡ g → ⊥) → G.units s ≡ F.units s
   unit_else s ne = ap (λ q. cond q None (F.units s)) (unequal (s / 128) g ne)
 
-  class_here : (s : ℕ) → s / 128 ≡ g → class_of G s ≡ None
+  pub class_here : (s : ℕ) → s / 128 ≡ g → class_of G s ≡ None
   class_here s same = ap (λ o. class_below F.groups.segments o (s % 128)) (ap (group_at G.groups) same ∙ group_same F.groups g None within)
 
-  class_else : (s : ℕ) → (s / 128 ≡ g → ⊥) → class_of G s ≡ class_of F s
+  pub class_else : (s : ℕ) → (s / 128 ≡ g → ⊥) → class_of G s ≡ class_of F s
   class_else s ne = ap (λ o. class_below F.groups.segments o (s % 128)) (group_other F.groups g (s / 128) None ne)
 
   -- the array holds a slot of the group for nobody

@@ -8,7 +8,7 @@ use Rattle.map_join.specs.Record.{record_of, record_at}
 use Rattle.map_join.specs.Maps.{IsListOf}
 use Rattle.extent_groups.specs.Groups.{Groups}
 use Rattle.flat_machine.specs.Restarted.{HasPlaces}
-use Rattle.array_model.specs.Views.{Kept, Nothing, Pending, Moving, Newest, ArrayView, kept_at}
+use Rattle.array_model.specs.Views.{Kept, Nothing, Pending, Moving, Newest, Unmade, ArrayView, kept_at}
 use Rattle.array_model.specs.Adopted.{IsPlaced}
 use Rattle.step_core.proofs.Seated.{some_here}
 use Rattle.step_core.specs.Adopted.{how_many, claims_in, AreKeys, AreShared, AreOfPlaces, IsKey, IsWanted, AreWanted, wanted_at, kept_for, IsLowestUnclaimed, IsUnclaimed}
@@ -98,3 +98,4 @@ none_left {C} names claims M a (c ∷ left) of placed shared = absurd (go (kept_
     go Pending no_place e = no_place
     go (Moving r) no_place e = no_place
     go (Newest b) at e = let one = subst (λ n. how_many names claims n ≡ 1) at.1 (of.one b at.0) in let h = here in omega (arith, h, e, one)
+    go Unmade no_place e = no_place

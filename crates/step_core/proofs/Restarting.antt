@@ -10,7 +10,7 @@ use Rattle.flat_machine.proofs.Restarts.{history_tells}
 use Rattle.array_model.specs.declared.hand.Hand.{Hand}
 use Rattle.array_model.specs.declared.hand.Hand.TheVariants.{Empty}
 use Rattle.array_parts.specs.Views.{PartsView}
-use Rattle.array_model.specs.Views.{Kept, Nothing, Pending, Moving, Newest, ArrayView, WorldView, SameSizes, kept_at, key_at, hand_at}
+use Rattle.array_model.specs.Views.{Kept, Nothing, Pending, Moving, Newest, Unmade, ArrayView, WorldView, SameSizes, kept_at, key_at, hand_at}
 use Rattle.array_model.specs.Represents.{ShowsArray, HandSlot, Represents, is_newest}
 use Rattle.array_model.specs.Adopted.{HasParts}
 use Rattle.step_core.specs.Adopted.{how_many, claims_in, AreClaimsOf, IsIdle, IsNotAdopted, WasRestarted}
@@ -76,6 +76,7 @@ none_unclaimed {C} names claims a F M (NoClaim slot) shows map are is = absurd (
     go Pending e n = absurd (cc)
     go (Moving r) e n = absurd (cc)
     go (Newest b) e n = let z = is.none in omega (arith, e, z)
+    go Unmade e n = absurd (cc)
 
 -- made anew of its own map a world stands for the state made anew
 pub world_restarted : (v : WorldView) (F : Flat) (M : ℕ → ℕ) (a : ArrayView) (w : WorldView) → w.array ≡ a → IsListOf M a.log → ShowsArray a (restarted F M a.log)

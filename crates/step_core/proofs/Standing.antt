@@ -19,7 +19,7 @@ use Rattle.flat_machine.specs.Groups.{class_below, class_at}
 use Rattle.flat_machine.specs.Scanned.{HasHeader, IsScanned}
 use Rattle.flat_machine.proofs.Newest.{map_unique}
 use Rattle.array_model.specs.Represents.{ShowsArray, Represents}
-use Rattle.array_model.specs.Views.{ArrayView, WorldView, IsWhole, Nothing, Newest, key_at}
+use Rattle.array_model.specs.Views.{ArrayView, WorldView, IsWhole, Nothing, Newest, Unmade, key_at}
 use Rattle.step_core.specs.Headline.{bytes_of, LiesAt, IsOneMissed, Stands}
 
 -- a slot of a group lies somewhere
@@ -55,7 +55,7 @@ lies_at a F b whole shows some =
       y.0,
       y.1,
       λ here.
-          let bytes = unit_here a place whole (whole.there place (λ e. let bad : Newest b ≡ Nothing = sym (whole.newest b some) ∙ e in cc)) here in
+          let bytes = unit_here a place whole (whole.there place (λ e. let bad : Newest b ≡ Nothing = sym (whole.newest b some) ∙ e in cc) (λ e. let bad : Newest b ≡ Unmade = sym (whole.newest b some) ∙ e in cc)) here in
           let u = shows.units.shown place bytes.0 bytes.1 in
           let same = same_Some u.0 y.2.unit.stored (sym u.1 ∙ y.2.unit.there) in record {
             bytes = bytes.0;

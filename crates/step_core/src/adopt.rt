@@ -1,10 +1,10 @@
 // An array taken apart into its parts and claims, and put together from parts, a map and claims.
-ghost use Rattle.std.specs.Prelude.{◌≡◌, ℕ, ◌*◌, ◌+◌, ◌<◌, ◌≤◌, length, slice_index, slice_index_or, vec_len, vec_capacity, IfOk, IfErr, None};
+ghost use Rattle.std.specs.Prelude.{◌≡◌, ℕ, ◌*◌, ◌+◌, ◌<◌, ◌≤◌, length, slice_index, slice_index_or, vec_len, vec_capacity, false, IfOk, IfErr, None};
 ghost use Rattle.map_join.specs.Maps.{at};
 ghost use Rattle.extents.specs.declared.shape.TheConstants.{HEADER_BYTES};
 ghost use Rattle.array_parts.specs.Fit.{IsFit};
 ghost use Rattle.array_parts.specs.Views.{view_of};
-ghost use Rattle.flat_machine.specs.Flat.{Flat};
+ghost use Rattle.flat_machine.specs.Flat.{Flat, Shut};
 ghost use Rattle.flat_machine.specs.Restarted.{HasPlaces, TellMap, restarted};
 ghost use Rattle.array_model.specs.Represents.{ShowsArray};
 ghost use Rattle.array_model.specs.Views.{key_at};
@@ -127,7 +127,7 @@ impl<D: Drive, C: Hold> Array<D, C> {
         ensures parts { IfOk result (λ r. view_of D.units D.lost D.failures r.0 ≡ self.parts) }
         ensures fit { IfOk result (λ r. IsFit D.units r.0) }
         ensures claims { IfOk result (λ r. AreClaimsOf C.names self r.1.items) }
-        ensures rests { IfOk result (λ r. (F : Flat) → ShowsArray self F → ((s : ℕ) → F.tickets s ≡ None) → AreOfPlaces C.names (key_at self) r.1.items) }
+        ensures rests { IfOk result (λ r. (F : Flat) → ShowsArray self F → ((s : ℕ) → F.tickets s ≡ None) → ((s g : ℕ) → F.held s (Shut g) ≡ false) → AreOfPlaces C.names (key_at self) r.1.items) }
         ensures err { IfErr result (λ array. array ≡ self) }
     {
         let Ok(mut claims) = Vec::with_capacity(alloc, SLOTS) else {

@@ -156,6 +156,7 @@ impl<D: Drive, C: Hold> Array<D, C> {
             Place::Pending(_) => true,
             Place::Moving(_, _) => true,
             Place::Newest(_, _) => true,
+            Place::Unmade(_) => true,
         }
     }
 
@@ -168,6 +169,7 @@ impl<D: Drive, C: Hold> Array<D, C> {
             Place::Pending(_) => true,
             Place::Moving(_, _) => true,
             Place::Newest(_, _) => false,
+            Place::Unmade(_) => false,
         }
     }
 
@@ -196,6 +198,7 @@ impl<D: Drive, C: Hold> Array<D, C> {
             Place::Pending(_) => None,
             Place::Moving(_, _) => None,
             Place::Newest(block, _) => Some(*block),
+            Place::Unmade(_) => None,
         }
     }
 

@@ -123,6 +123,7 @@ impl<D: Drive, C: Hold> Array<D, C> {
             Place::Moving(source, _) => moved(*source, block, slot, found),
             Place::Free => Err(Refusal::NoTicket),
             Place::Newest(_, _) => Err(Refusal::NoTicket),
+            Place::Unmade(_) => Err(Refusal::NoTicket),
         };
         if next.is_ok() && self.log.len() >= LONGEST_LOG {
             return Err(Refusal::LogFull);
@@ -149,6 +150,7 @@ fn let_go<C: Hold>(places: &mut Vec<Place<C>>, block: u32, found: Option<Record>
         Place::Free => unreachable!(),
         Place::Pending(_claim) => unreachable!(),
         Place::Moving(_, _claim) => unreachable!(),
+        Place::Unmade(_claim) => unreachable!(),
     }
 }
 

@@ -8,14 +8,15 @@ use crate::hold::Hold;
 use map_join::Record;
 use std::mem;
 
-/// Nothing, the claim of a slot that waits with a fresh payload or with a copy of a record's, or the
-/// claim of a block's newest place.
+/// Nothing, the claim of a slot that waits with a fresh payload or with a copy of a record's, the claim of
+/// a block's newest place, or that of a slot of an unmade group.
 #[derive(Drop)]
 pub(crate) enum Place<C: Hold> {
     Free,
     Pending(C),
     Moving(Record, C),
     Newest(u32, C),
+    Unmade(C),
 }
 
 // What is kept of a slot, which is free then.
@@ -48,6 +49,7 @@ pub(crate) fn put_in<C: Hold>(places: &mut Vec<Place<C>>, slot: u16, place: Plac
         Place::Pending(_claim) => unreachable!(),
         Place::Moving(_, _claim) => unreachable!(),
         Place::Newest(_, _claim) => unreachable!(),
+        Place::Unmade(_claim) => unreachable!(),
     }
 }
 
@@ -66,5 +68,6 @@ pub(crate) fn take_waiting<C: Hold>(places: &mut Vec<Place<C>>, slot: u16) -> C
         Place::Moving(_, claim) => claim,
         Place::Free => unreachable!(),
         Place::Newest(_, _claim) => unreachable!(),
+        Place::Unmade(_claim) => unreachable!(),
     }
 }

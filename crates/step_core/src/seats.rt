@@ -128,6 +128,7 @@ fn unseated<C: Hold>(place: Place<C>) -> Option<C>
         Place::Pending(claim) => Some(claim),
         Place::Moving(_, claim) => Some(claim),
         Place::Newest(_, claim) => Some(claim),
+        Place::Unmade(claim) => Some(claim),
     }
 }
 

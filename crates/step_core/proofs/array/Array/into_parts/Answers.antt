@@ -8,4 +8,4 @@ pub returns-clause-claims : goal.returns-clause-claims
 returns-clause-claims g c = subst (λ (a : ArrayView). AreClaimsOf g.C.Hold.names a c.unseat_all.new.claims.items) c.self.view_is c.unseat_all.ensures
 
 pub returns-clause-rests : goal.returns-clause-rests
-returns-clause-rests g c F shows rests = claims_rest g.C.Hold.names c.unseat_all.new.claims.items _ F shows rests (returns-clause-claims g c)
+returns-clause-rests g c F shows rests closed = claims_rest g.C.Hold.names c.unseat_all.new.claims.items _ F shows rests closed (returns-clause-claims g c)
