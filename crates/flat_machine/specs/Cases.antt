@@ -330,6 +330,7 @@ IsWanted F (Commit w s b) = (F.held s (Ticket w) ≡ true) × (IsFor (F.tickets 
 IsWanted F (Read b) = (r : Record) × IsNewest F.emitted b (Some r)
 IsWanted F (ReadAt r) = IsBehind F r
 IsWanted F (Make class members) = (g : ℕ) × MakePasses F members g
+IsWanted F (Unmake w g) = (group_at F.groups g ≢ None) × ((s : ℕ) → IsIn F g s → HasClaim F w s)
 IsWanted F (MoveExtent g k to) = MovePasses F g k to
 IsWanted F AddDrive = F.drives < most_drives
 IsWanted F _ = ⊥

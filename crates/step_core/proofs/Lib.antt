@@ -14,4 +14,6 @@ pub mod Beginnings
 pub mod Worlds
 pub mod Refusals
 pub mod Runnings
+pub mod Shutting
+pub mod Closing
 mod Regrouping

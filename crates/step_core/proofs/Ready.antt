@@ -16,7 +16,7 @@ use Rattle.step_core.specs.declared.array.Array.TheInside.{Inside}
 use Rattle.step_core.specs.declared.place.Place.{Place}
 use Rattle.step_core.specs.Inside.{seen, IsReady}
 use Rattle.array_parts.proofs.Views.{view_drives}
-use Rattle.array_parts.specs.Views.{view_of, PartsView, SameTables, DrivesFare, Loses, FoundGone, WasNotCarried}
+use Rattle.array_parts.specs.Views.{view_of, PartsView, SameTables, DrivesFare, Loses, FoundGone, WasNotCarried, WasTaken}
 use Rattle.flat_machine.specs.declared.refusal.Refusal.{Refusal}
 
 -- a vector has as many elements after they were written over
@@ -82,4 +82,10 @@ carried_gone a b slot q (inr gone) = gone.1
 pub parts_ready : {D C : Type 0} (units : D → List (List ℕ)) (a : Inside D C) (p : Parts D) → p.groups ≡ a.parts.groups → IsFit units p → IsReady units a
     → IsReady units (record a { parts = p })
 parts_ready units a p same fit ready = let groups = ap (λ (z : Groups). unit_bytes z) (sym same) in
+    record { fit = fit; unit = ready.unit ∙ groups; scratch = ready.scratch ∙ ap (λ n. 2 * n) groups }
+
+-- with a group fewer, and other places
+pub taken_ready : {D C : Type 0} (units : D → List (List ℕ)) (lost : D → Bool) (failures : D → ℕ) (a : Inside D C) (p : Parts D) (places : Vec (Place C) Global) (g : ℕ)
+    → WasTaken (view_of units lost failures a.parts) g (view_of units lost failures p) → IsFit units p → IsReady units a → IsReady units (record a { parts = p; places = places })
+taken_ready units lost failures a p places g taken fit ready = let groups = ap (λ (z : Groups). unit_bytes z) (sym taken.groups) in
     record { fit = fit; unit = ready.unit ∙ groups; scratch = ready.scratch ∙ ap (λ n. 2 * n) groups }

@@ -42,7 +42,7 @@ wanted_more records wanted r inside before = record {
     go slot (inr ne) = rw (get_or-set_other wanted r.place slot (Some r.block) None ne) (still slot ne (wanted_at wanted slot) (before.each slot))
 
 -- one claim more
-abbrev one_at : ℕ → ℕ → ℕ
+abbrev pub one_at : ℕ → ℕ → ℕ
 one_at here slot = cond (here == slot) 1 0
 
 pub counted_more : {C : Type 0} (names : C → ℕ) (claims : List C) (claim : C) (slot : ℕ)
@@ -366,7 +366,7 @@ none_wanted wanted count is same = record {
     replicated (suc n) (suc slot) = replicated n slot
 
 -- one element more of a list, and a list that has none
-take_next : {X : Type 0} (xs : List X) (index : ℕ) (d : X) → index < length xs → take (index + 1) xs ≡ take index xs ++ get_or xs index d ∷ []
+pub take_next : {X : Type 0} (xs : List X) (index : ℕ) (d : X) → index < length xs → take (index + 1) xs ≡ take index xs ++ get_or xs index d ∷ []
 take_next xs index d inside = ap (λ n. take n xs) (next index) ∙ take-suc xs index d inside
   where
     next : (n : ℕ) → n + 1 ≡ suc n

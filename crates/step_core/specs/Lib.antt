@@ -22,3 +22,4 @@ pub use Rattle.extent_groups.specs.declared.class.Class
 pub use Rattle.extent_groups.specs.declared.class.Member
 pub use Rattle.flat_machine.specs.declared.refusal.Refusal
 pub mod Shifting
+pub mod Shut

@@ -10,7 +10,7 @@ use Rattle.extent_groups.specs.Groups.{Groups}
 use Rattle.flat_machine.specs.Flat.{Payload}
 use Rattle.step_core.specs.declared.read.At.{At}
 use Rattle.step_core.specs.declared.read.At.TheVariants as at
-use Rattle.flat_machine.specs.Steps.{Version, Seen, Data, Stale, FlatStep, Claim, Release, Fill, Copy, Commit, Discard, Read, ReadAt, Make, MoveExtent, AddDrive, FlatAnswer, Claimed, Taken, Released, NotHeld, Filled, Copied, Committed, Discarded, Found, FoundAt, MadeGroup, MovedExtent, AddedDrive, Lose, LostDrive, Refused}
+use Rattle.flat_machine.specs.Steps.{Version, Seen, Data, Stale, FlatStep, Claim, Release, Fill, Copy, Commit, Discard, Read, ReadAt, Make, Unmake, MoveExtent, AddDrive, FlatAnswer, Claimed, Taken, Released, NotHeld, Filled, Copied, Committed, Discarded, Found, FoundAt, MadeGroup, UnmadeGroup, MovedExtent, AddedDrive, Lose, LostDrive, Refused}
 
 -- a version and payload that were read, as plain data
 abbrev pub version_of : Option (ℕ × Vec ℕ Global) → Option Version
@@ -34,6 +34,7 @@ flat_answer (answer.Discarded s) = Discarded s
 flat_answer (answer.Read found) = Found (version_of found)
 flat_answer (answer.Found seen) = FoundAt (seen_of seen)
 flat_answer (answer.Made g) = MadeGroup g
+flat_answer (answer.Unmade g) = UnmadeGroup g
 flat_answer answer.Shifted = MovedExtent
 flat_answer (answer.Added d) = AddedDrive d
 flat_answer (answer.Lost d) = LostDrive d
@@ -55,6 +56,7 @@ flat_step (step.Discard w s) = Discard w s
 flat_step (step.Read b) = Read b
 flat_step (step.ReadAt r) = ReadAt r
 flat_step (step.Make class members) = Make class members.items
+flat_step (step.Unmake w g) = Unmake w g
 flat_step (step.MoveExtent g k to) = MoveExtent g k to
 flat_step step.AddDrive = AddDrive
 flat_step (step.Lose d) = Lose d
@@ -70,6 +72,7 @@ FitsStep z (step.Discard w s) = w < 8
 FitsStep z (step.Read b) = b < z.blocks
 FitsStep z (step.ReadAt r) = r.block < z.blocks
 FitsStep z (step.Make class members) = (Unit {0})
+FitsStep z (step.Unmake w g) = w < 8
 FitsStep z (step.MoveExtent g k to) = (Unit {0})
 FitsStep z step.AddDrive = (Unit {0})
 FitsStep z (step.Lose d) = (Unit {0})

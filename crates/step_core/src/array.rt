@@ -148,7 +148,7 @@ impl<D: Drive, C: Hold> Array<D, C> {
         self.keeps(slot)
     }
 
-    fn keeps(&self, slot: u16) -> bool
+    pub(crate) fn keeps(&self, slot: u16) -> bool
         ensures { result ≡ is_kept (kept_at self.now slot) }
     {
         match &self.places[usize::from(slot)] {

@@ -1,5 +1,5 @@
 // What an array has its drives do for a slot. All but its parts stay as they were.
-ghost use Rattle.std.specs.Prelude.{◌≡◌, ◌*◌, length, OnOk, IfOk, IfErr, Some, None};
+ghost use Rattle.std.specs.Prelude.{◌≡◌, ◌*◌, ◌≤◌, length, vec_len, vec_capacity, OnOk, OnErr, IfOk, IfErr, Some, None};
 ghost use Rattle.extents.specs.Header.{IsHeader};
 ghost use Rattle.extent_groups.specs.Faults.{put_fault};
 ghost use Rattle.extent_groups.specs.Groups.{AreThere};
@@ -11,9 +11,12 @@ ghost use Rattle.step_core.specs.Refused.{OnlyLoses};
 ghost use Rattle.array_parts.specs.Views.{cells_of, seen_of, FoundGone, WasPut, WasCarried, WasNotCarried, WasRead, SawUnit, Entered, FoundLost};
 ghost use Rattle.array_model.specs.Views.{with_parts, IsWhole};
 ghost use Rattle.array_model.specs.Making.{IsMakeReason};
+ghost use Rattle.array_model.specs.Changes.{opened_view, IsOpened};
+ghost use Rattle.step_core.specs.Shut.{AreShutOf};
 
 use crate::array::Array;
 use crate::hold::Hold;
+use crate::shut::open_number;
 use array_parts::Sight;
 use extent_groups::{Class, Member};
 use extents::{Drive, Header};
@@ -78,23 +81,34 @@ impl<D: Drive, C: Hold> Array<D, C> {
         self.parts.see(asked, payload, unit, scratch)
     }
 
-    // Makes a group under a free number, of members that pass every check.
+    // Makes a group under a free number, of members that pass every check, and takes out the claims that were
+    // kept of that number.
     pub(crate) fn enter(
         &mut self,
         number: u16,
         class: Class,
         members: Vec<Member>,
+        claims: &mut Vec<C>,
     ) -> Result<(), Refusal>
         requires free { IsLowestFree self.old.parts.groups number }
         requires there { AreThere self.old.parts.owners members.items }
         requires fine { put_fault self.old.parts.owners members.items ≡ None }
         requires reason { IsMakeReason self.old members.items None }
+        requires none { vec_len claims.old ≡ 0 }
+        requires room { 128 ≤ vec_capacity claims.old }
         ensures ok { OnOk result (Entered self.old.parts number class members.items self.new.parts) }
+        ensures opened { OnOk result ((self.new ≡ opened_view self.old self.new.parts self.new.kept) × IsOpened number self.old.kept self.new.kept × AreShutOf C.names self.old number claims.new.items) }
         ensures err { IfErr result (FoundLost self.old.parts members.items self.new.parts) }
-        ensures rest { self.new ≡ with_parts self.old self.new.parts }
+        ensures rest { OnErr result ((self.new ≡ with_parts self.old self.new.parts) × (claims.new ≡ claims.old)) }
         ensures whole { IsWhole self.old }
     {
-        self.parts.enter(number, class, members, &mut self.unit)
+        match self.parts.enter(number, class, members, &mut self.unit) {
+            Ok(()) => {
+                open_number(&mut self.places, number, claims);
+                Ok(())
+            }
+            Err(refusal) => Err(refusal),
+        }
     }
 
     // Reads the effective unit of a slot, with two buffers of a unit's length.

@@ -19,9 +19,11 @@ mod relocate;
 mod restart;
 mod run;
 mod seats;
+mod shut;
 mod step;
 mod tables;
 mod units;
+mod unmake;
 mod world;
 
 pub use adopt::NotAdopted;

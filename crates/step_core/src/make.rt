@@ -1,5 +1,5 @@
 // A group is made.
-ghost use Rattle.std.specs.Prelude.{◌≡◌, ◌↔◌, ◌≤◌, [], length, IsTrue, IsNone, IfSome, MatchResult, IfOk, IfErr, None};
+ghost use Rattle.std.specs.Prelude.{◌≡◌, ◌↔◌, ◌≤◌, length, IsTrue, IsNone, IfSome, MatchResult, IfOk, IfErr, None};
 ghost use Rattle.extent_groups.specs.Faults.{put_fault};
 ghost use Rattle.extent_groups.specs.Groups.{AreThere};
 ghost use Rattle.array_parts.specs.Views.{Entered};
@@ -7,33 +7,35 @@ ghost use Rattle.flat_machine.specs.Groups.{IsLowestFree, IsFull};
 ghost use Rattle.flat_machine.specs.Steps as say;
 ghost use Rattle.flat_machine.specs.Flat.{Flat};
 ghost use Rattle.flat_machine.specs.Cases.{IsWanted, MakeCase};
-ghost use Rattle.array_model.specs.Changes.{MayRefuse};
+ghost use Rattle.array_model.specs.Changes.{opened_view, IsOpened, MayRefuse};
 ghost use Rattle.array_model.specs.Making.{told_of, IsMakeReason};
 ghost use Rattle.array_model.specs.Represents.{ShowsArray};
-ghost use Rattle.array_model.specs.Views.{with_parts};
 ghost use Rattle.step_core.specs.Refused.{IsRefused};
+ghost use Rattle.step_core.specs.Shut.{AreShutOf};
 
 use crate::array::Array;
 use crate::hold::Hold;
-use extent_groups::{GROUPS, GroupRefusal, GroupTable, are_there, put_check};
+use extent_groups::{GROUPS, GroupRefusal, GroupTable, SLOTS, are_there, put_check};
 use extents::{Drive, ExtentTable};
 use flat_machine::{Class, Member, Refusal};
 use std::alloc::Global;
 
 impl<D: Drive, C: Hold> Array<D, C> {
-    /// Makes a group under the lowest number that isn't made, and wipes its extents first. The list is of
-    /// claims kept for that number, none so far. Refused with a member's drive that is lost, before or
-    /// while extents are wiped, the tables are as they were, and so is every slot of a group.
+    /// Makes a group under the lowest number that isn't made, and wipes its extents first. It hands back the
+    /// claims that are kept since that number was unmade, by rising slots, of which there are at most 128. Refused
+    /// with a member's drive that is lost, before or while extents are wiped, the tables are as they were, and so is
+    /// every slot of a group.
     pub fn make_group(
         &mut self,
         alloc: Global,
         class: Class,
         members: &[Member],
     ) -> Result<(u16, Vec<C>), Refusal>
-        ensures none { IfOk result (λ made. made.1.items ≡ []) }
+        ensures claims { IfOk result (λ made. AreShutOf C.names self.old made.0 made.1.items) }
+        ensures opened { IfOk result (λ made. IsOpened made.0 self.old.kept self.new.kept) }
         ensures ok { IfOk result (λ made. Entered self.old.parts made.0 class members.now self.new.parts) }
         ensures err { IfErr result (IsRefused self.old self.new) }
-        ensures rest { self.new ≡ with_parts self.old self.new.parts }
+        ensures rest { IfOk result (λ made. self.new ≡ opened_view self.old self.new.parts self.new.kept) }
         ensures flat { (F : Flat) → ShowsArray self.old F
             → MatchResult result
             (λ made. (G : Flat) × MakeCase F class members.now (say.MadeGroup made.0) G × ShowsArray self.new G)
@@ -51,9 +53,16 @@ impl<D: Drive, C: Hold> Array<D, C> {
             Ok(members) => members,
             Err(_) => return Err(Refusal::Memory),
         };
-        match self.enter(number, class, members) {
-            Ok(()) => Ok((number, Vec::new(alloc))),
-            Err(refusal) => Err(refusal),
+        let mut claims = match Vec::with_capacity(alloc, usize::from(SLOTS)) {
+            Ok(claims) => claims,
+            Err(_) => return Err(Refusal::Memory),
+        };
+        match self.enter(number, class, members, &mut claims) {
+            Ok(()) => Ok((number, claims)),
+            Err(refusal) => {
+                claims.destroy_empty();
+                Err(refusal)
+            }
         }
     }
 

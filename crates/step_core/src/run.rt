@@ -72,6 +72,7 @@ impl World {
                 class: _,
                 members: _,
             } => true,
+            Step::Unmake { worker, group: _ } => *worker < WORKERS,
             Step::MoveExtent {
                 group: _,
                 member: _,
@@ -113,6 +114,7 @@ impl World {
             Step::Read { block } => self.read(alloc, *block),
             Step::ReadAt { record } => self.read_at(alloc, *record),
             Step::Make { class, members } => self.make(alloc, *class, members),
+            Step::Unmake { worker, group } => self.unmake(alloc, *worker, *group),
             Step::MoveExtent { group, member, to } => self.move_extent(alloc, *group, *member, *to),
             Step::AddDrive => self.add_drive(alloc),
             Step::Lose { drive } => Ok(self.lose(*drive)),

@@ -43,6 +43,11 @@ pub enum Step {
         class: Class,
         members: Vec<Member>,
     },
+    /// The group whose slots the worker holds, all of them, is unmade.
+    Unmake {
+        worker: u8,
+        group: u16,
+    },
     /// What lies on the group's member of this number goes onto another extent, which is the member then.
     MoveExtent {
         group: u16,
@@ -76,6 +81,8 @@ pub enum Answer {
     Found(At),
     /// The number of the group that was made.
     Made(u16),
+    /// The number of the group that was unmade.
+    Unmade(u16),
     /// The member is the other extent now.
     Shifted,
     /// The number of the drive that was added.

@@ -105,7 +105,7 @@ impl World {
     }
 
     // The worker has a claim of the slot.
-    fn holds(&self, worker: u8, slot: u16) -> bool
+    pub(crate) fn holds(&self, worker: u8, slot: u16) -> bool
         ensures { result ≡ is_claim (hand_at self.now.hands slot) worker }
     {
         match self.hands[usize::from(slot)] {

@@ -1,0 +1,10 @@
+use Rattle.std.proofs.Common.{◌≡◌, ℕ, length}
+use Rattle.array_model.specs.Views.{hand_at}
+use Rattle.step_core.specs.Shut.{emptied}
+use Rattle.step_core.proofs.unmake.empty_first.Given as goal
+
+abbrev pub invariant-loop-index : goal.invariant-loop-index
+invariant-loop-index l = record {
+  value : (slot : ℕ) → hand_at l.hands.items slot ≡ emptied l.fn.group l.index slot (hand_at l.fn.hands.items slot);
+  many : length l.hands.items ≡ 65536;
+}

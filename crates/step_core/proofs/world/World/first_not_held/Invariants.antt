@@ -1,0 +1,8 @@
+use Rattle.std.proofs.Common.{◌≡◌, ℕ, true}
+use Rattle.array_model.specs.Represents.{is_claim}
+use Rattle.array_model.specs.Views.{hand_at}
+use Rattle.step_core.proofs.Shutting.{is_first}
+use Rattle.step_core.proofs.world.World.first_not_held.Given as goal
+
+abbrev pub invariant-loop-index : goal.invariant-loop-index
+invariant-loop-index l = (slot : ℕ) → is_first l.fn.group l.index slot ≡ true → is_claim (hand_at l.self.hands slot) l.fn.worker ≡ true
