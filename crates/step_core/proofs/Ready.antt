@@ -89,3 +89,9 @@ pub taken_ready : {D C : Type 0} (units : D → List (List ℕ)) (lost : D → B
     → WasTaken (view_of units lost failures a.parts) g (view_of units lost failures p) → IsFit units p → IsReady units a → IsReady units (record a { parts = p; places = places })
 taken_ready units lost failures a p places g taken fit ready = let groups = ap (λ (z : Groups). unit_bytes z) (sym taken.groups) in
     record { fit = fit; unit = ready.unit ∙ groups; scratch = ready.scratch ∙ ap (λ n. 2 * n) groups }
+
+-- with groups of the same sizes, other places, and the buffer of a unit written over
+pub grown_ready : {D C : Type 0} (units : D → List (List ℕ)) (a : Inside D C) (p : Parts D) (places : Vec (Place C) Global) (unit : List ℕ)
+    → unit_bytes a.parts.groups ≡ unit_bytes p.groups → IsFit units p → IsReady units a → IsReady units (record a { parts = p; places = places; unit = with_items a.unit unit })
+grown_ready units a p places unit same fit ready =
+    record { fit = fit; unit = length_again a.unit unit ∙ ready.unit ∙ same; scratch = ready.scratch ∙ ap (λ n. 2 * n) same }

@@ -1,0 +1,49 @@
+use Rattle.std.proofs.Common.{◌≡◌, ◌≢◌, ◌<◌, ◌∙◌, ℕ, true, ap, subst, sym, rules, None}
+use Rattle.extent_groups.specs.Groups.{group_at}
+use Rattle.flat_machine.specs.Flat.{Flat}
+use Rattle.flat_machine.specs.Steps.{UnmadeGroup}
+use Rattle.flat_machine.specs.Cases.{UnmakeCase}
+use Rattle.array_model.specs.Represents.{ShowsArray, Represents, is_claim}
+use Rattle.array_model.specs.Views.{ArrayView, WorldView, hand_at}
+use Rattle.array_model.proofs.Fares.{itself}
+use Rattle.array_model.proofs.Hands.{as_world}
+use Rattle.step_core.specs.Adopted.{how_many}
+use Rattle.step_core.specs.Shut.{one_of, count_in, IsFirstNotHeld, emptied}
+use Rattle.step_core.specs.declared.hold.Plain.{Plain}
+use Rattle.step_core.proofs.Closing.{on_err, unmake_wants, first_stray, workers_of, unmake_world}
+use Rattle.step_core.proofs.world.World.unmake.Goals as goal
+
+pub returns-in-Some-first_not_held-clause-ok : goal.returns-in-Some-first_not_held-clause-ok
+returns-in-Some-first_not_held-clause-ok c F rep =
+    let v = c.args.self.now in
+    let first : IsFirstNotHeld v.hands c.args.worker c.args.group (count_in v.array c.args.group) c.in-Some-first_not_held.slot = search rules in
+    (F, (first_stray v F c.args.worker c.args.group rep c.in-Some-first_not_held.slot first, itself F), rep)
+
+pub returns-in_err-claims-clause-wants : goal.returns-in_err-claims-clause-wants
+returns-in_err-claims-clause-wants c = on_err c.from_residual.result (λ F rep.
+    let v = c.args.self.now in
+    let g = c.args.group in
+    let w = c.args.worker in
+    let count : c.in-Some.count ≡ count_in v.array g = c.in-Some.ensures.count.0 ∙ ap (λ (u : WorldView). count_in u.array g) c.self.view_is in
+    let made : group_at v.array.parts.groups g ≢ None = subst (λ (u : WorldView). group_at u.array.parts.groups g ≢ None) c.self.view_is c.in-Some.ensures.made in
+    unmake_wants v F w g rep made (subst (λ n. (slot : ℕ) → 0 < one_of g n slot → is_claim (hand_at v.hands slot) w ≡ true) count c.in_default-first_not_held.ensures))
+
+pub returns-in-Ok-clause-ok : goal.returns-in-Ok-clause-ok
+returns-in-Ok-clause-ok c F rep =
+    let v = c.args.self.now in
+    let g = c.args.group in
+    let w = c.args.worker in
+    let names : Plain → ℕ = λ (p : Plain). p.slot in
+    let claims = c.in_ok-claims.claims.items in
+    let hands = c.empty_first.new.hands.items in
+    let count : c.in-Some.count ≡ count_in v.array g = c.in-Some.ensures.count.0 ∙ ap (λ (u : WorldView). count_in u.array g) c.self.view_is in
+    let all = subst (λ n. (slot : ℕ) → 0 < one_of g n slot → is_claim (hand_at v.hands slot) w ≡ true) count c.in_default-first_not_held.ensures in
+    let are : (slot : ℕ) → how_many names claims slot ≡ one_of g (count_in v.array g) slot =
+    subst (λ n. (slot : ℕ) → how_many names claims slot ≡ one_of g n slot) count c.in_ok-claims.ensures
+    in
+    let empty : (slot : ℕ) → hand_at hands slot ≡ emptied g (count_in v.array g) slot (hand_at v.hands slot) =
+    subst (λ n. (slot : ℕ) → hand_at hands slot ≡ emptied g n slot (hand_at v.hands slot)) count
+    (subst (λ (u : WorldView). (slot : ℕ) → hand_at hands slot ≡ emptied g c.in-Some.count slot (hand_at u.hands slot)) c.self.view_is c.empty_first.ensures.value)
+    in
+    let shows : ShowsArray c.self.inside.array F = subst (λ (u : WorldView). ShowsArray u.array F) (sym c.self.view_is) rep.array in
+    unmake_world v F w g rep c.unmake_group.new.self hands all empty (c.in-Ok.ensures.flat F w shows (workers_of v F w g rep names claims all are))
