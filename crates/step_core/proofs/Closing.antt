@@ -1,5 +1,5 @@
 -- What unmaking a group with a worker's claims is of a flat state.
-use Rattle.std.proofs.Common.{◌≡◌, ◌≢◌, ℕ, suc, ◌<◌, ◌≤◌, ◌/◌, ◌%◌, Bool, true, false, cond, nat_lt, List, length, refl, sym, ap, ◌∙◌, subst, arith, ◌⊎◌, inl, inr, Option, Some, None, Result, Ok, Err, OnErr}
+use Rattle.std.proofs.Common.{◌≡◌, ◌≢◌, ℕ, ◌<◌, ◌/◌, ◌%◌, Bool, true, false, cond, nat_lt, List, length, refl, sym, ap, ◌∙◌, subst, arith, ◌⊎◌, inl, inr, Option, Some, None, Result, Ok, Err, OnErr}
 use Rattle.std.proofs.lemmas.Bool.{cases_eq}
 use Rattle.std.proofs.lemmas.Bool.Decides.{nat_tests}
 use Rattle.extent_groups.specs.Geometry.{slot_count}
@@ -26,7 +26,7 @@ use Rattle.array_model.proofs.Kepts.{kept_iff, unkept}
 use Rattle.array_model.proofs.Unmaking.{unmade_case}
 use Rattle.array_model.proofs.Wholes.{slot_of_class}
 use Rattle.step_core.specs.Adopted.{how_many}
-use Rattle.step_core.specs.Shut.{one_of, count_in, CanUnmake, HasStranger, IsGiven, IsFirstUngiven, IsUnmakeReason, AreWorkers, IsFirstNotHeld, emptied}
+use Rattle.step_core.specs.Shut.{one_of, count_in, CanUnmake, HasStranger, IsGiven, IsUnmakeReason, AreWorkers, IsFirstNotHeld, emptied}
 use Rattle.step_core.proofs.Shutting.{is_first, first_of, of_first, first_one, one_first, free_kept}
 
 -- a slot below a group's count has a class

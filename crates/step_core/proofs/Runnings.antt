@@ -44,6 +44,7 @@ fits_same a b (step.Discard w s) same fits = fits
 fits_same a b (step.Read c) same fits = subst (λ n. c < n) (sym same.blocks) fits
 fits_same a b (step.ReadAt r) same fits = subst (λ n. r.block < n) (sym same.blocks) fits
 fits_same a b (step.Make class members) same fits = fits
+fits_same a b (step.Unmake w g) same fits = fits
 fits_same a b (step.MoveExtent g k to) same fits = fits
 fits_same a b step.AddDrive same fits = fits
 fits_same a b (step.Lose d) same fits = fits

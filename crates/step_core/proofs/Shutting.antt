@@ -4,7 +4,7 @@ use Rattle.std.proofs.Math.ListN.{set}
 use Rattle.std.proofs.Math.Seq.{take-length}
 use Rattle.std.proofs.lemmas.List.{get_or-set_same, get_or-set_other, length-set, length-map, take-append-drop, get_or-replicate}
 use Rattle.std.proofs.lemmas.List.Sums.{sum_by-append}
-use Rattle.std.proofs.lemmas.Bool.{cases_eq, cases_lt}
+use Rattle.std.proofs.lemmas.Bool.{cases_eq}
 use Rattle.std.proofs.lemmas.Bool.Decides.{nat_tests}
 use Rattle.extent_groups.specs.Groups.{Groups, Group, AreGroups, group_at, slots_in}
 use Rattle.extent_groups.proofs.Bounds.{slot_count_small}
@@ -12,7 +12,7 @@ use Rattle.flat_machine.proofs.Unmakes.{number_within}
 use Rattle.array_model.specs.declared.hand.Hand.{Hand}
 use Rattle.array_model.specs.declared.hand.Hand.TheVariants.{Empty}
 use Rattle.array_model.specs.Changes.{opened_of, IsOpened, IsClosed}
-use Rattle.array_model.specs.Represents.{is_shut, is_claim}
+use Rattle.array_model.specs.Represents.{is_claim}
 use Rattle.array_model.specs.Views.{Kept, Nothing, Pending, Moving, Newest, Unmade, ArrayView, hand_at, is_kept, kept_at}
 use Rattle.std.specs.Global.{Global}
 use Rattle.step_core.specs.Adopted.{how_many}

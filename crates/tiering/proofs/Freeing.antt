@@ -1,5 +1,5 @@
 -- Which slots get free by a step, and by a placing: a release frees its slot, and nothing else frees any.
-use Rattle.std.proofs.Common.{◌≡◌, ◌⊎◌, inl, inr, ℕ, Bool, true, false, ◌||◌, ◌&&◌, not, ◌/◌, List, [], ◌∷◌, refl, sym, ap, ◌∙◌, subst, Option, Some, None}
+use Rattle.std.proofs.Common.{◌≡◌, ◌≢◌, ◌⊎◌, inl, inr, ℕ, Bool, true, false, ◌||◌, ◌&&◌, not, ◌/◌, List, [], ◌∷◌, refl, sym, ap, ◌∙◌, subst, Option, Some, None}
 use Rattle.std.proofs.lemmas.Bool.{cases_eq}
 use Rattle.map_join.specs.declared.records.Record.{Record}
 use Rattle.extent_groups.specs.declared.class.Class.{Class}
@@ -11,6 +11,9 @@ use Rattle.flat_machine.specs.Steps.{FlatStep, FlatAnswer, Refused, Released}
 use Rattle.flat_machine.specs.Steps as step
 use Rattle.flat_machine.specs.Cases.{Case, Leaves, Runs, CommitWith, made, place_passed}
 use Rattle.flat_machine.specs.History.{IsHistory}
+use Rattle.flat_machine.specs.Moves.{IsIn, HasClaim, unmade}
+use Rattle.flat_machine.proofs.Unmakes.{held_else}
+use Rattle.extent_groups.specs.Groups.{group_at}
 use Rattle.flat_machine.proofs.Pairs.{one_holder, with_here, with_else, without_else, turned_else}
 use Rattle.step_core.proofs.Worlds.{refused_leaves}
 use Rattle.tiering.specs.Placing.{Put, Fresh, Again, PlaceCase, PlaceStops, put_step, put_answer, back_steps, back_answers}
@@ -193,3 +196,9 @@ made_frees F G keys class members g history leaves t other free k = go (F.held t
     go : (b : Bool) → F.held t k ≡ b → F.held t k ≡ false
     go true has = absurd (shut (same_holder k (Shut g)) refl has (ap (λ b. b && not (same_holder k (Shut g))) (sym has) ∙ kept))
     go false has = has
+
+-- and where one is unmade
+pub unmade_frees : (F G : Flat) (keys : ℕ → ℕ) (w g : ℕ) → IsHistory F keys → group_at F.groups g ≢ None → ((s : ℕ) → IsIn F g s → HasClaim F w s) → Leaves (unmade F w g) G
+    → (t : ℕ) → (t / 128 ≡ g → ⊥) → IsFree G t → IsFree F t
+unmade_frees F G keys w g history made claimed leaves t other free k =
+    ap (λ (h : Holder → Bool). h k) (sym (held_else F keys w g history made claimed t other)) ∙ held_as (unmade F w g) G t leaves free k

@@ -10,7 +10,7 @@ use Rattle.map_join.proofs.Joins.{took, only_else}
 use Rattle.extent_groups.specs.declared.class.Class.{Class}
 use Rattle.extent_groups.specs.declared.class.Class.TheVariants.{Mirrored, Parity}
 use Rattle.extent_groups.specs.Groups.{Group, Groups, group_at, class_in, with_group}
-use Rattle.extent_groups.proofs.GroupsLemmas.{group_other}
+use Rattle.extent_groups.proofs.GroupsLemmas.{group_same, group_other}
 use Rattle.extent_groups.proofs.Places.{get-set_same, get-set_other}
 use Rattle.flat_machine.specs.Groups.{class_below}
 use Rattle.flat_machine.specs.Flat.{Flat, class_of}
@@ -163,6 +163,24 @@ marked_made F G M N marks g new history behind emitted groups free marked =
     all b =
         let e = class_still F M b g new (record_at b (M b)) history free refl in
         through _ _ _ (marked b) ((λ h. e ∙ h), (λ h. sym e ∙ h))
+
+-- and where a group is unmade that was nobody's place
+class_left : (F G : Flat) (N : ℕ → ℕ) (b g : ℕ) (o : Option Record) → IsHistory G N → G.groups ≡ with_group F.groups g None → g < length F.groups.table → record_at b (N b) ≡ o
+    → class_at (with_group F.groups g None) o ≡ class_at F.groups o
+class_left F G N b g None history groups inside told = refl
+class_left F G N b g (Some r) history groups inside told =
+    ap class_in (group_other F.groups g (r.place / 128) None (λ same. place_made G N b r history told (ap (λ z. group_at z (r.place / 128)) groups ∙ ap (group_at (with_group F.groups g None)) same ∙ group_same F.groups g None inside)))
+
+pub marked_unmade : (F G : Flat) (M N : ℕ → ℕ) (marks : List Bool) (g : ℕ) → IsMapOf F.emitted M → IsHistory G N → G.emitted ≡ F.emitted
+    → G.groups ≡ with_group F.groups g None → g < length F.groups.table → AreMarked marks F.groups M → AreMarked marks G.groups N
+marked_unmade F G M N marks g before history emitted groups inside marked =
+    let same : M ≡ N = same_map F.emitted M N before (subst (λ rs. IsMapOf rs N) emitted history.map) in
+    subst (λ z. AreMarked marks z N) (sym groups) (all (subst (AreMarked marks F.groups) same marked))
+  where
+    all : AreMarked marks F.groups N → AreMarked marks (with_group F.groups g None) N
+    all here b =
+        let e = class_left F G N b g (record_at b (N b)) history groups inside refl in
+        through _ _ _ (here b) ((λ h. e ∙ h), (λ h. sym e ∙ h))
 
 -- no block is marked in a new order
 pub none_marked : (marks : List Bool) (count b : ℕ) → marks ≡ replicate count false → IsMarked marks b → ⊥

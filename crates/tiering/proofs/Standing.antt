@@ -1,12 +1,12 @@
 -- What stands for a flat state with what is kept beside it, behind each part of a step.
-use Rattle.std.proofs.Common.{◌≡◌, ◌⊎◌, Bool, ℕ, ◌+◌, ◌/◌, ◌%◌, ◌<◌, if◌then◌else◌, arith, ◌↔◌, inl, inr, List, length, refl, sym, ap, ◌∙◌, subst, Option, Some, None, Result, Ok, Err}
+use Rattle.std.proofs.Common.{◌≡◌, ◌≢◌, ◌⊎◌, Bool, ℕ, ◌+◌, ◌/◌, ◌%◌, ◌<◌, if◌then◌else◌, arith, ◌↔◌, inl, inr, List, length, refl, sym, ap, ◌∙◌, subst, Option, Some, None, Result, Ok, Err}
 use Rattle.std.specs.Prelude.{IfOk, OnErr, MatchOption, Contains}
 use Rattle.std.proofs.lemmas.List.FromFn.{length-range_with_len}
 use Rattle.map_join.specs.declared.records.Record.{Record}
 use Rattle.map_join.specs.Maps.{IsMapOf}
 use Rattle.map_join.specs.Record.{IsRecord, record_at}
 use Rattle.extent_groups.specs.Groups.{Group, Groups, group_at, class_in, slots_in, with_group}
-use Rattle.extent_groups.proofs.GroupsLemmas.{group_other}
+use Rattle.extent_groups.proofs.GroupsLemmas.{group_same, group_other}
 use Rattle.migrator.proofs.Picks.{made_low}
 use Rattle.flat_machine.proofs.Newest.{newest_unique}
 use Rattle.std.proofs.lemmas.Bool.{cases_eq}
@@ -17,6 +17,8 @@ use Rattle.extent_groups.specs.declared.class.Class.TheVariants.{Mirrored}
 use Rattle.extent_groups.specs.Stores.{IsSlotOf}
 use Rattle.flat_machine.specs.Flat.{Flat, Content, Waiting, IsFree, IsNewest}
 use Rattle.flat_machine.specs.Flat as waiting
+use Rattle.flat_machine.specs.Moves.{IsIn, HasClaim, unmade}
+use Rattle.flat_machine.proofs.Unmakes.{number_within}
 use Rattle.flat_machine.specs.Steps as step
 use Rattle.flat_machine.specs.Cases.{Case, CommitWith, Leaves, made}
 use Rattle.flat_machine.specs.Steps.{FlatStep, FlatAnswer}
@@ -44,9 +46,9 @@ use Rattle.tiering.specs.declared.outcome.Outcome.TheVariants.{NoRoom, Nothing}
 use Rattle.tiering.specs.declared.outcome.Outcome.TheVariants as outcome
 use Rattle.tiering.proofs.Placings.{commit_is}
 use Rattle.tiering.proofs.Emitting.{IsAlike, Emits, IsCalm, alike_left, alike_released, calm_alike, commit_emits, place_emits, stops_alike}
-use Rattle.tiering.proofs.Freeing.{Frees, FreesNone, IsPlaceIn, LeavesOld, left_frees, refused_frees, release_frees, commit_frees, stops_free, place_frees, step_frees, made_frees}
+use Rattle.tiering.proofs.Freeing.{unmade_frees, Frees, FreesNone, IsPlaceIn, LeavesOld, left_frees, refused_frees, release_frees, commit_frees, stops_free, place_frees, step_frees, made_frees}
 use Rattle.tiering.specs.Hints.{IsHinted}
-use Rattle.tiering.proofs.Marks.{marked_alike, marked_made, marks_keep, long_keep, mirrored_record}
+use Rattle.tiering.proofs.Marks.{marked_alike, marked_made, marked_unmade, marks_keep, long_keep, mirrored_record}
 use Rattle.step_core.proofs.Worlds.{refused_leaves}
 use Rattle.tiering.specs.declared.tiers.Tiers.{Tiers}
 
@@ -601,6 +603,55 @@ makes t v hints class members a takes new others T stands =
     go (answer.Refused k) G rep case new =
         more_hints t v hints T G others (stands_left t v T G stands rep (refused_leaves T.flat G (step.Make class members) k case))
     go _ G rep case new = absurd case
+
+-- with a group fewer, whose slots the worker had
+stands_unmade : (t : Tiers) (v : WorldView) (T : Tiered) (G : Flat) (w g : ℕ) → StandsFor t T → Represents v G → group_at T.flat.groups g ≢ None
+    → ((s : ℕ) → IsIn T.flat g s → HasClaim T.flat w s) → Leaves (unmade T.flat w g) G → StandsFor (record t { world = v }) (record T { flat = G })
+stands_unmade t v T G w g stands rep made claimed leaves = record {
+  world = rep;
+  order = stands.order;
+  long = stands.long ∙ sym blocks;
+  end = stands.end;
+  marked = stands.marked ∙ sym blocks;
+  marks = marked_unmade T.flat G (key_at t.world.array) (key_at v.array) t.recency.marks g stands.world.array.history.map rep.array.history
+      (ap (λ (x : Flat). x.emitted) leaves.same) groups inside stands.marks;
+  hints = λ s is. hinted s is (cases_eq (s / 128) g);
+}
+  where
+    groups : G.groups ≡ with_group T.flat.groups g None
+    groups = ap (λ (x : Flat). x.groups) leaves.same
+
+    blocks : G.groups.blocks ≡ T.flat.groups.blocks
+    blocks = ap (λ (z : Groups). z.blocks) groups
+
+    inside : g < length T.flat.groups.table
+    inside = number_within T.flat.groups g made
+
+    hinted : (s : ℕ) → IsFreeMirror G s → (s / 128 ≡ g) ⊎ (s / 128 ≡ g → ⊥) → IsHinted t.hints s
+    hinted s is (inl own) =
+        let there : IsSlotOf Mirrored (with_group T.flat.groups g None) s = subst (λ z. IsSlotOf Mirrored z s) groups is.0 in
+        let none : class_in (group_at (with_group T.flat.groups g None) (s / 128)) ≡ None = ap class_in (ap (group_at (with_group T.flat.groups g None)) own ∙ group_same T.flat.groups g None inside) in
+        let bad : None ≡ Some Mirrored = sym none ∙ there.made in absurd (cc)
+    hinted s is (inr other) =
+        let there : IsSlotOf Mirrored (with_group T.flat.groups g None) s = subst (λ z. IsSlotOf Mirrored z s) groups is.0 in
+        let at = group_other T.flat.groups g (s / 128) None other in
+        let was : IsSlotOf Mirrored T.flat.groups s = record {
+          made = ap class_in (sym at) ∙ there.made;
+          below = subst (λ o. s % 128 < slots_in T.flat.groups.segments o) at there.below;
+        } in
+        stands.hints s (was, unmade_frees T.flat G (key_at t.world.array) w g stands.world.array.history made claimed leaves s other is.1)
+
+pub unmakes : (t : Tiers) (v : WorldView) (w g : ℕ) (a : Answer)
+    → ((F : Flat) → Represents t.world F → (G : Flat) × Case F (step.Unmake w g) (flat_answer a) G × Represents v G)
+    → (T : Tiered) → StandsFor t T → (U : Tiered) × StepNoted T (step.Unmake w g) (flat_answer a) U × StandsFor (record t { world = v }) U
+unmakes t v w g a takes T stands =
+    let done = takes T.flat stands.world in
+    (record T { flat = done.0 }, (done.0, done.1, refl), go a done.0 done.2 done.1)
+  where
+    go : (b : Answer) (G : Flat) → Represents v G → Case T.flat (step.Unmake w g) (flat_answer b) G → StandsFor (record t { world = v }) (record T { flat = G })
+    go (answer.Unmade h) G rep case = stands_unmade t v T G w g stands rep case.1 case.2 case.3
+    go (answer.Refused k) G rep case = stands_left t v T G stands rep (refused_leaves T.flat G (step.Unmake w g) k case)
+    go _ G rep case = absurd case
 
 pub stands_with : (t : Tiers) (v : WorldView) (T : Tiered) (G : Flat) (taken : FlatStep) (answer : FlatAnswer) → IsCalm taken → StandsFor t T → Represents v G
     → Case T.flat taken answer G → StandsFor (record t { world = v }) (record T { flat = G })

@@ -17,7 +17,7 @@ use std::alloc::{AllocError, Global};
 use step_core::{Answer, Class, Member, World};
 
 /// A world; the order in which its blocks were last written since the array was made or restarted, those in mirrored groups
-/// marked; the end of its write log; and which slots may be free. Commits, releases and groups to be made go by the calls here:
+/// marked; the end of its write log; and which slots may be free. Commits, releases, and groups to be made or unmade go by the calls here:
 /// by the world itself they leave the order, the marks and the free slots behind. Its other steps may go by the world.
 #[derive(Drop)]
 pub struct Tiers {
@@ -97,5 +97,15 @@ impl Tiers {
         let answer = self.world.make(alloc, class, members)?;
         hint_made(&mut self.hints, &answer);
         Ok(answer)
+    }
+
+    /// Unmakes a group of which the worker holds all slots.
+    pub fn unmake(&mut self, alloc: Global, worker: u8, group: u16) -> Result<Answer, AllocError>
+        ensures ok { IfOk result (λ answer. (T : Tiered) → StandsFor self.old T
+            → (U : Tiered) × StepNoted T (f.Unmake worker group) (flat_answer answer) U × StandsFor self.new U) }
+        ensures err { OnErr result (self.new ≡ self.old) }
+        ensures room { SameSizes self.old.world.array self.new.world.array }
+    {
+        self.world.unmake(alloc, worker, group)
     }
 }

@@ -1,7 +1,7 @@
-use Rattle.std.proofs.Common.{◌<◌, ◌++◌, ◌∷◌, [], length, sym, ◌∙◌, arith, subst, ap, List, ℕ}
+use Rattle.std.proofs.Common.{◌<◌, ◌++◌, ◌∷◌, [], length, sym, ◌∙◌, arith, subst, ap}
 use Rattle.std.proofs.Math.ListN.{set}
 use Rattle.std.proofs.lemmas.List.{length-map}
-use Rattle.array_model.specs.Views.{Kept, Unmade}
+use Rattle.array_model.specs.Views.{Unmade}
 use Rattle.step_core.specs.Kept.{kept_of, kepts_of}
 use Rattle.step_core.proofs.Shutting.{AreClosing, one_closed}
 use Rattle.step_core.proofs.shut.close_all.Goals as goal

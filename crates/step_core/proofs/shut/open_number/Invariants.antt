@@ -1,4 +1,4 @@
-use Rattle.std.proofs.Common.{◌≡◌, ◌≤◌, ℕ, vec_len, vec_capacity}
+use Rattle.std.proofs.Common.{◌≡◌, ◌≤◌, vec_len, vec_capacity}
 use Rattle.step_core.specs.Kept.{kepts_of, AreOf}
 use Rattle.step_core.proofs.Shutting.{IsOpening}
 use Rattle.step_core.proofs.shut.open_number.Given as goal

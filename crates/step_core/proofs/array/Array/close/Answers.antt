@@ -1,13 +1,12 @@
-use Rattle.std.proofs.Common.{◌≡◌, ◌<◌, ◌≤◌, ℕ, List, length, get_or, subst, sym, ap, ◌∙◌, arith}
-use Rattle.array_model.specs.Changes.{IsClosed, opened_view}
-use Rattle.array_model.specs.Views.{ArrayView, Kept, Nothing, IsWhole}
+use Rattle.std.proofs.Common.{subst, sym, ◌∙◌}
+use Rattle.array_model.specs.Changes.{IsClosed}
+use Rattle.array_model.specs.Views.{ArrayView}
 use Rattle.array_model.proofs.Unmaking.{unmade_whole}
 use Rattle.array_parts.proofs.Views.{view_drives}
 use Rattle.array_parts.specs.Views.{view_of}
-use Rattle.step_core.specs.Adopted.{how_many}
 use Rattle.step_core.specs.Inside.{seen}
 use Rattle.step_core.specs.Kept.{kepts_of}
-use Rattle.step_core.specs.Shut.{CanUnmake, count_in, closed_of}
+use Rattle.step_core.specs.Shut.{CanUnmake, count_in}
 use Rattle.step_core.proofs.Shutting.{at_most_one, free_kept, closed_number, places_many}
 use Rattle.step_core.proofs.Ready.{taken_ready}
 use Rattle.step_core.proofs.array.Array.close.Goals as goal

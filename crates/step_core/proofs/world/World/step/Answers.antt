@@ -54,6 +54,14 @@ returns-in-Make c =
     in
     record { ok = told.ok; err = told.err; wants = told.wants; room = e.room }
 
+pub returns-in-Unmake : goal.returns-in-Unmake
+returns-in-Unmake c =
+    let e = c.unmake.ensures in
+    let told = subst (λ (f : FlatStep). WasStep c.args.self.now c.unmake.new.self f c.unmake.result) (ap flat_step (sym c.in-Unmake.is))
+    (record { ok = e.ok; err = e.err; wants = e.wants })
+    in
+    record { ok = told.ok; err = told.err; wants = told.wants; room = e.room }
+
 pub returns-in-MoveExtent-clause-ok : goal.returns-in-MoveExtent-clause-ok
 returns-in-MoveExtent-clause-ok c =
     let e = c.move_extent.ensures in

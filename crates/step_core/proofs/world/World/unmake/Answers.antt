@@ -1,12 +1,8 @@
 use Rattle.std.proofs.Common.{◌≡◌, ◌≢◌, ◌<◌, ◌∙◌, ℕ, true, ap, subst, sym, rules, None}
 use Rattle.extent_groups.specs.Groups.{group_at}
-use Rattle.flat_machine.specs.Flat.{Flat}
-use Rattle.flat_machine.specs.Steps.{UnmadeGroup}
-use Rattle.flat_machine.specs.Cases.{UnmakeCase}
-use Rattle.array_model.specs.Represents.{ShowsArray, Represents, is_claim}
-use Rattle.array_model.specs.Views.{ArrayView, WorldView, hand_at}
+use Rattle.array_model.specs.Represents.{ShowsArray, is_claim}
+use Rattle.array_model.specs.Views.{WorldView, hand_at}
 use Rattle.array_model.proofs.Fares.{itself}
-use Rattle.array_model.proofs.Hands.{as_world}
 use Rattle.step_core.specs.Adopted.{how_many}
 use Rattle.step_core.specs.Shut.{one_of, count_in, IsFirstNotHeld, emptied}
 use Rattle.step_core.specs.declared.hold.Plain.{Plain}
