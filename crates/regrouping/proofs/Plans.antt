@@ -71,6 +71,7 @@ as_shift F G s (answer.Discarded t) case = absurd case
 as_shift F G s (answer.Read found) case = absurd case
 as_shift F G s (answer.Found seen) case = absurd case
 as_shift F G s (answer.Made g) case = absurd case
+as_shift F G s (answer.Unmade g) case = absurd case
 as_shift F G s (answer.Added d) case = absurd case
 as_shift F G s (answer.Lost d) case = absurd case
 

@@ -157,6 +157,7 @@ Answers None (o.Array drives extents segments payload blocks) text t = Begins dr
 Answers None _ text t = ⊥
 Answers (Some P) (o.Array drives extents segments payload blocks) text t = ⊥
 Answers (Some P) (o.Make class members) text t = Steps P (s.Make class (members_named members)) text t
+Answers (Some P) (o.Unmake worker group) text t = Steps P (s.Unmake worker group) text t
 Answers (Some P) (o.Claim worker slot) text t = Steps P (s.Claim worker slot) text t
 Answers (Some P) (o.Release worker slot) text t = Steps P (s.Release worker slot) text t
 Answers (Some P) (o.Fill worker slot payload) text t = Steps P (s.Fill worker slot (Payload payload)) text t

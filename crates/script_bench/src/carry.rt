@@ -37,6 +37,7 @@ pub fn carry_out(
     match command.verb {
         Verb::Array | Verb::Restart => unreachable!(),
         Verb::Make => make(alloc, bench, command.class, &command.members, out),
+        Verb::Unmake => unmake(alloc, bench, first as u8, second as u16, out),
         Verb::Claim => claim(bench, first as u8, second as u16, out),
         Verb::Release => release(bench, first as u8, second as u16, out),
         Verb::Fill => fill(alloc, bench, first as u8, second as u16, payload, out),
@@ -169,6 +170,19 @@ fn make(
 {
     let members = members_of(alloc, named)?;
     let answer = bench.tiers.make(alloc, class, &members)?;
+    put_answer(out, &answer, 0)
+}
+
+fn unmake(
+    alloc: Global,
+    bench: &mut Bench,
+    worker: u8,
+    group: u16,
+    out: &mut Vec<u8>,
+) -> Result<(), AllocError>
+    ensures { OnOk result (Carries bench.old bench.new (o.Unmake worker group) out.old.items out.new.items) }
+{
+    let answer = bench.tiers.unmake(alloc, worker, group)?;
     put_answer(out, &answer, 0)
 }
 

@@ -16,6 +16,7 @@ use Rattle.script_words.specs.declared.verb.Tail.TheVariants as tail
 pub data Order : Type 0 where
   Array : ℕ → ℕ → ℕ → ℕ → ℕ → Order
   Make : Class → List Named → Order
+  Unmake : ℕ → ℕ → Order
   Claim : ℕ → ℕ → Order
   Release : ℕ → ℕ → Order
   Fill : ℕ → ℕ → List ℕ → Order
@@ -75,6 +76,9 @@ block n = record { kind = kind.Block; value = n }
 abbrev pub drive : ℕ → Number
 drive n = record { kind = kind.Drive; value = n }
 
+abbrev pub group : ℕ → Number
+group n = record { kind = kind.Group; value = n }
+
 abbrev pub table : ℕ → Number
 table n = record { kind = kind.Map; value = n }
 
@@ -85,6 +89,7 @@ size n = record { kind = kind.Size; value = n }
 abbrev pub word_of : Verb → List ℕ
 word_of verb.Array = codes "array"
 word_of verb.Make = codes "make"
+word_of verb.Unmake = codes "unmake"
 word_of verb.Claim = codes "claim"
 word_of verb.Release = codes "release"
 word_of verb.Fill = codes "fill"
@@ -112,13 +117,14 @@ word_of verb.Lose = codes "lose"
 
 -- every verb
 abbrev pub all_verbs : List Verb
-all_verbs = verb.Array ∷ verb.Make ∷ verb.Claim ∷ verb.Release ∷ verb.Fill ∷ verb.Copy ∷ verb.Commit ∷ verb.Discard ∷ verb.Read ∷ verb.At ∷ verb.Write ∷ verb.Demote ∷ verb.Plug ∷ verb.Clean ∷ verb.Take ∷ verb.Merge ∷ verb.Same ∷ verb.Show ∷ verb.Map ∷ verb.Log ∷ verb.Scan ∷ verb.Restart ∷ verb.Add ∷ verb.Balance ∷ verb.Rebuild ∷ verb.Lose ∷ []
+all_verbs = verb.Array ∷ verb.Make ∷ verb.Unmake ∷ verb.Claim ∷ verb.Release ∷ verb.Fill ∷ verb.Copy ∷ verb.Commit ∷ verb.Discard ∷ verb.Read ∷ verb.At ∷ verb.Write ∷ verb.Demote ∷ verb.Plug ∷ verb.Clean ∷ verb.Take ∷ verb.Merge ∷ verb.Same ∷ verb.Show ∷ verb.Map ∷ verb.Log ∷ verb.Scan ∷ verb.Restart ∷ verb.Add ∷ verb.Balance ∷ verb.Rebuild ∷ verb.Lose ∷ []
 
 -- how each command is written: a row of the table
 abbrev pub shape : Order → Shape
 shape (Array drives extents segments payload blocks) =
     form verb.Array (size drives ∷ size extents ∷ size segments ∷ size payload ∷ size blocks ∷ []) Nothing
 shape (Make level members) = form verb.Make [] (Members level members)
+shape (Unmake w g) = form verb.Unmake (worker w ∷ group g ∷ []) Nothing
 shape (Claim w s) = form verb.Claim (worker w ∷ slot s ∷ []) Nothing
 shape (Release w s) = form verb.Release (worker w ∷ slot s ∷ []) Nothing
 shape (Fill w s payload) = form verb.Fill (worker w ∷ slot s ∷ []) (Content payload)
@@ -161,6 +167,7 @@ values_of order = map (λ n. n.value) (numbers_of order)
 abbrev pub ordered : Verb → (ℕ → ℕ) → Record → List ℕ → Class → List Named → Order
 ordered verb.Array n r payload level members = Array (n 0) (n 1) (n 2) (n 3) (n 4)
 ordered verb.Make n r payload level members = Make level members
+ordered verb.Unmake n r payload level members = Unmake (n 0) (n 1)
 ordered verb.Claim n r payload level members = Claim (n 0) (n 1)
 ordered verb.Release n r payload level members = Release (n 0) (n 1)
 ordered verb.Fill n r payload level members = Fill (n 0) (n 1) payload

@@ -7,6 +7,7 @@ ghost use Rattle.script_words.specs.Order.{word_of, kinds_of, tail_of};
 pub enum Verb {
     Array,
     Make,
+    Unmake,
     Claim,
     Release,
     Fill,
@@ -86,6 +87,7 @@ impl Verb {
                 Tail::Nothing,
             ),
             Verb::Make => Row::new(&[], Tail::Members),
+            Verb::Unmake => Row::new(&[Kind::Worker, Kind::Group], Tail::Nothing),
             Verb::Claim => Row::new(&[Kind::Worker, Kind::Slot], Tail::Nothing),
             Verb::Release => Row::new(&[Kind::Worker, Kind::Slot], Tail::Nothing),
             Verb::Fill => Row::new(&[Kind::Worker, Kind::Slot], Tail::Payload),
@@ -122,6 +124,7 @@ pub fn verb_of(word: &[u8]) -> Option<Verb>
     match word {
         b"array" => Some(Verb::Array),
         b"make" => Some(Verb::Make),
+        b"unmake" => Some(Verb::Unmake),
         b"claim" => Some(Verb::Claim),
         b"release" => Some(Verb::Release),
         b"fill" => Some(Verb::Fill),

@@ -486,6 +486,7 @@ order_is F G w s b order (answer.Discarded t) case = refl
 order_is F G w s b order (answer.Read read) case = refl
 order_is F G w s b order (answer.Found seen) case = refl
 order_is F G w s b order (answer.Made g) case = refl
+order_is F G w s b order (answer.Unmade g) case = refl
 order_is F G w s b order answer.Shifted case = refl
 order_is F G w s b order (answer.Added d) case = refl
 order_is F G w s b order (answer.Lost d) case = refl
@@ -641,7 +642,7 @@ stands_unmade t v T G w g stands rep made claimed leaves = record {
         } in
         stands.hints s (was, unmade_frees T.flat G (key_at t.world.array) w g stands.world.array.history made claimed leaves s other is.1)
 
-pub unmakes : (t : Tiers) (v : WorldView) (w g : ℕ) (a : Answer)
+unmakes : (t : Tiers) (v : WorldView) (w g : ℕ) (a : Answer)
     → ((F : Flat) → Represents t.world F → (G : Flat) × Case F (step.Unmake w g) (flat_answer a) G × Represents v G)
     → (T : Tiered) → StandsFor t T → (U : Tiered) × StepNoted T (step.Unmake w g) (flat_answer a) U × StandsFor (record t { world = v }) U
 unmakes t v w g a takes T stands =
@@ -652,6 +653,12 @@ unmakes t v w g a takes T stands =
     go (answer.Unmade h) G rep case = stands_unmade t v T G w g stands rep case.1 case.2 case.3
     go (answer.Refused k) G rep case = stands_left t v T G stands rep (refused_leaves T.flat G (step.Unmake w g) k case)
     go _ G rep case = absurd case
+
+pub unmade_if : {E : Type 0} (t : Tiers) (v : WorldView) (w g : ℕ) (r : Result Answer E)
+    → IfOk r (λ a. (F : Flat) → Represents t.world F → (G : Flat) × Case F (step.Unmake w g) (flat_answer a) G × Represents v G)
+    → IfOk r (λ a. (T : Tiered) → StandsFor t T → (U : Tiered) × StepNoted T (step.Unmake w g) (flat_answer a) U × StandsFor (record t { world = v }) U)
+unmade_if t v w g (Ok a) takes = unmakes t v w g a takes
+unmade_if t v w g (Err e) takes = tt
 
 pub stands_with : (t : Tiers) (v : WorldView) (T : Tiered) (G : Flat) (taken : FlatStep) (answer : FlatAnswer) → IsCalm taken → StandsFor t T → Represents v G
     → Case T.flat taken answer G → StandsFor (record t { world = v }) (record T { flat = G })
