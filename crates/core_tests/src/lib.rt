@@ -23,3 +23,7 @@ mod scans;
 mod script;
 #[cfg(test)]
 mod sizes;
+#[cfg(test)]
+mod unmakes;
+#[cfg(test)]
+mod walk;

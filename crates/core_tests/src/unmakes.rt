@@ -1,0 +1,75 @@
+// Groups that are unmade and made again: whose claims are wanted, in which order a refusal is told, and what comes back.
+use crate::rig::Rig;
+use std::alloc::{AllocError, Global};
+use std::process::Abort;
+use step_core::{Class, Plain, Refusal};
+
+// Claims of these slots.
+fn claims_of(alloc: Global, slots: &[u16]) -> Result<Vec<Plain>, AllocError> {
+    let mut claims = Vec::new(alloc);
+    for slot in slots {
+        claims.push(Plain { slot: *slot })?;
+    }
+    Ok(claims)
+}
+
+fn are_of(claims: &[Plain], slots: &[u16]) -> bool {
+    claims.len() == slots.len()
+        && claims
+            .iter()
+            .zip(slots)
+            .all(|(claim, slot)| claim.slot == *slot)
+}
+
+// Whether unmaking a group with claims of these slots is refused so, with the claims back in their order.
+fn is_refused(rt: &impl Abort, rig: &mut Rig, group: u16, slots: &[u16], wanted: Refusal) -> bool {
+    let Ok(claims) = claims_of(rig.alloc, slots) else {
+        panic!(rt; "no memory")
+    };
+    match rig.array.unmake_group(group, claims) {
+        Ok(()) => false,
+        Err((refusal, claims)) => refusal == wanted && are_of(&claims, slots),
+    }
+}
+
+// Unmakes group 0 with its claims, the last slot's first.
+fn unmake(rt: &impl Abort, rig: &mut Rig) {
+    let Ok(claims) = claims_of(rig.alloc, &[5, 0, 4, 1, 3, 2]) else {
+        panic!(rt; "no memory")
+    };
+    assert!(rt; rig.array.unmake_group(0, claims).is_ok());
+}
+
+// Makes group 0 again on other extents, and tells whether the claims of these slots come back.
+fn gives_back(rt: &impl Abort, rig: &mut Rig, extent: u16, slots: &[u16]) -> bool {
+    let members = crate::rig::members_on([0, 1, 2], extent);
+    match rig.array.make_group(rig.alloc, Class::Parity, &members) {
+        Ok((group, claims)) => group == 0 && are_of(&claims, slots),
+        Err(_) => false,
+    }
+}
+
+#[test]
+fn a_group_is_unmade_with_just_its_claims(rt: HostRuntime) {
+    let mut rig = Rig::new(&rt, rt.alloc(), 4);
+    assert!(rt; is_refused(&rt, &mut rig, 1, &[], Refusal::NoGroup));
+    assert!(rt; is_refused(&rt, &mut rig, 512, &[0], Refusal::NoGroup));
+    assert!(rt; is_refused(&rt, &mut rig, 0, &[0, 6], Refusal::NoGroup));
+    assert!(rt; is_refused(&rt, &mut rig, 0, &[0, 128], Refusal::NoGroup));
+    assert!(rt; is_refused(&rt, &mut rig, 0, &[1, 0, 1], Refusal::NoGroup));
+    assert!(rt; is_refused(&rt, &mut rig, 0, &[5, 4, 2, 1, 0], Refusal::SlotsHeld(3)));
+    assert!(rt; is_refused(&rt, &mut rig, 0, &[], Refusal::SlotsHeld(0)));
+    let _record = rig.write(&rt, 1, 3, 0x11);
+    assert!(rt; is_refused(&rt, &mut rig, 0, &[0, 1, 2, 3, 4, 5], Refusal::SlotsHeld(1)));
+}
+
+#[test]
+fn its_claims_come_back_once(rt: HostRuntime) {
+    let mut rig = Rig::new(&rt, rt.alloc(), 4);
+    unmake(&rt, &mut rig);
+    assert!(rt; rig.array.is_held(0) && rig.array.is_held(5) && !rig.array.is_held(6));
+    assert!(rt; is_refused(&rt, &mut rig, 0, &[0, 1, 2, 3, 4, 5], Refusal::NoGroup));
+    assert!(rt; gives_back(&rt, &mut rig, 0, &[0, 1, 2, 3, 4, 5]));
+    assert!(rt; !rig.array.is_held(0));
+    assert!(rt; is_refused(&rt, &mut rig, 0, &[0, 1, 2, 3, 4, 5], Refusal::SlotsHeld(6)));
+}

@@ -1,0 +1,312 @@
+// A walk of all kinds of steps, drawn by a fixed rule, with one drive missing at a time, rebuilt, and another lost: behind
+// each step three maps are compared, and every block is read.
+ghost use Rattle.std.specs.Prelude.{◌<◌};
+
+use crate::rig::members_on;
+use crate::script::grouped;
+use header_scan::scan_world;
+use map_join::{BlockMap, Record};
+use std::alloc::Global;
+use std::process::Abort;
+use step_core::{Answer, Class, Member, Step, World};
+
+/// How many times a step, or a few that go together, are drawn.
+const TURNS: u32 = 1_500;
+
+/// Blocks are numbered below this.
+const BLOCKS: u32 = 16;
+
+/// Slots of a group that are drawn, past its last one too.
+const SLOTS: u32 = 9;
+
+/// A world, and what is known of it without it.
+#[derive(Drop)]
+struct Walk {
+    world: World,
+    alloc: Global,
+    seed: u32,
+    /// The records that were emitted, joined.
+    emitted: BlockMap,
+    listed: usize,
+    /// The byte that was last filled into each slot, by group and place, and the one last written to each block.
+    filled: [[u8; 9]; 4],
+    written: [Option<u8>; 16],
+    lost: Option<u8>,
+    steps: u32,
+    unmade: u32,
+}
+
+impl Walk {
+    fn new(rt: &impl Abort, alloc: Global) -> Walk {
+        Walk {
+            world: grouped(rt, alloc),
+            alloc,
+            seed: 1,
+            emitted: BlockMap::new(alloc),
+            listed: 0,
+            filled: [[0; 9]; 4],
+            written: [None; 16],
+            lost: None,
+            steps: 0,
+            unmade: 0,
+        }
+    }
+
+    // A number below another, which isn't 0.
+    fn draw(&mut self, below: u32) -> u32
+        ensures { 0 < below → result < below }
+    {
+        self.seed = self
+            .seed
+            .wrapping_mul(1_664_525)
+            .wrapping_add(1_013_904_223);
+        if below == 0 {
+            return 0;
+        }
+        (self.seed >> 16) % below
+    }
+
+    fn worker(&mut self) -> u8 {
+        self.draw(2) as u8
+    }
+
+    fn slot(&mut self) -> u16 {
+        let group = self.draw(4);
+        let place = self.draw(SLOTS);
+        (128 * group + place) as u16
+    }
+
+    fn block(&mut self) -> u32 {
+        self.draw(BLOCKS)
+    }
+
+    // Takes the records that were emitted since, which the log lists.
+    fn follow_log(&mut self, rt: &impl Abort) {
+        let Ok(records) = self.world.array().records_from(self.alloc, self.listed) else {
+            panic!(rt; "no memory")
+        };
+        for record in &records {
+            assert!(rt; record.version > 0);
+            assert!(rt; self.emitted.take(self.alloc, *record).is_ok());
+            self.note_record(record);
+        }
+        self.listed = self.world.array().record_count();
+    }
+
+    // A write is of the byte that its slot was filled with.
+    fn note_record(&mut self, record: &Record) {
+        if record.hop == 0 {
+            let group = usize::from(record.place / 128) % 4;
+            let place = usize::from(record.place % 128) % 9;
+            self.written[record.block as usize % 16] = Some(self.filled[group][place]);
+        }
+    }
+
+    // The running map, that of the headers and that of the log are one.
+    fn maps_agree(&mut self, rt: &impl Abort) -> bool {
+        let Ok(running) = self.world.array().map(self.alloc) else {
+            panic!(rt; "no memory")
+        };
+        match scan_world(self.alloc, &mut self.world) {
+            Ok(scanned) => running.agrees(&scanned) && running.agrees(&self.emitted),
+            Err(_) => false,
+        }
+    }
+
+    // A block reads as it was last written.
+    fn reads(&mut self, rt: &impl Abort, block: u32) -> bool {
+        assert!(rt; block < self.world.array().shape().blocks);
+        let wanted = self.written[block as usize % 16];
+        match self.world.read(self.alloc, block) {
+            Ok(Answer::Read(None)) => wanted == None,
+            Ok(Answer::Read(Some((_, payload)))) => wanted == payload.first().copied(),
+            _ => false,
+        }
+    }
+
+    // Takes a step, and sees that all is as it should be.
+    fn take(&mut self, rt: &impl Abort, step: &Step) -> Answer {
+        assert!(rt; self.world.fits(step));
+        let Ok(answer) = self.world.step(self.alloc, step) else {
+            panic!(rt; "no memory")
+        };
+        self.follow_log(rt);
+        assert!(rt; self.maps_agree(rt));
+        for block in 0..BLOCKS {
+            assert!(rt; self.reads(rt, block));
+        }
+        self.steps = self.steps.wrapping_add(1);
+        answer
+    }
+
+    // A byte goes into a slot.
+    fn fill(&mut self, rt: &impl Abort) {
+        let worker = self.worker();
+        let slot = self.slot();
+        let byte = self.draw(256) as u8;
+        let Ok(payload) = [byte; 8].to_vec(self.alloc) else {
+            panic!(rt; "no memory")
+        };
+        let step = Step::Fill {
+            worker,
+            slot,
+            payload,
+        };
+        if let Answer::Filled(_) = self.take(rt, &step) {
+            self.filled[usize::from(slot / 128) % 4][usize::from(slot % 128) % 9] = byte;
+        }
+    }
+
+    // A group of extents on three drives that follow one another.
+    fn make(&mut self, rt: &impl Abort) {
+        let first = self.draw(2) as u8;
+        let extent = self.draw(8) as u16;
+        let members = members_on([first, first + 1, first + 2], extent);
+        let Ok(members) = members.to_vec(self.alloc) else {
+            panic!(rt; "no memory")
+        };
+        let class = if self.draw(2) == 0 {
+            Class::Mirrored
+        } else {
+            Class::Parity
+        };
+        let _made = self.take(rt, &Step::Make { class, members });
+    }
+
+    // A worker claims what it can of a group's slots, and unmakes the group if it has all; else it gives back what it claimed.
+    fn unmake(&mut self, rt: &impl Abort) {
+        let worker = self.worker();
+        let group = self.draw(4) as u16;
+        for place in 0..SLOTS as u16 {
+            let slot = 128 * (group % 4) + place;
+            let _claimed = self.take(rt, &Step::Claim { worker, slot });
+        }
+        match self.take(rt, &Step::Unmake { worker, group }) {
+            Answer::Unmade(_) => self.unmade = self.unmade.wrapping_add(1),
+            _ => self.release(rt, worker, group),
+        }
+    }
+
+    fn release(&mut self, rt: &impl Abort, worker: u8, group: u16) {
+        for place in 0..SLOTS as u16 {
+            let slot = 128 * (group % 4) + place;
+            let _released = self.take(rt, &Step::Release { worker, slot });
+        }
+    }
+
+    // A drive is lost where none is missing and one may be added.
+    fn lose(&mut self, rt: &impl Abort) {
+        let count = self.world.array().drive_count();
+        assert!(rt; count > 0);
+        if self.lost == None && count < 16 {
+            let drive = self.draw(u32::from(count)) as u8;
+            self.lost = Some(drive);
+            let _lost = self.take(rt, &Step::Lose { drive });
+        }
+    }
+
+    // The members on the drive that is missing go onto a new one.
+    fn rebuild(&mut self, rt: &impl Abort) {
+        let Some(lost) = self.lost else { return };
+        let Answer::Added(drive) = self.take(rt, &Step::AddDrive) else {
+            panic!(rt; "no drive was added")
+        };
+        for group in 0..4u16 {
+            self.replace(rt, group, lost, drive);
+        }
+        self.lost = None;
+    }
+
+    // The group's member on the drive that is missing goes onto the other.
+    fn replace(&mut self, rt: &impl Abort, group: u16, lost: u8, drive: u8) {
+        for member in 0..8u8 {
+            let to = Member {
+                drive,
+                extent: group,
+            };
+            if self.is_on(group, member, lost) {
+                let step = Step::MoveExtent { group, member, to };
+                assert!(rt; matches!(self.take(rt, &step), Answer::Shifted));
+            }
+        }
+    }
+
+    fn is_on(&self, group: u16, member: u8, drive: u8) -> bool {
+        let members = self.world.array().groups().members(group);
+        match members.get(usize::from(member)) {
+            Some(member) => member.drive == drive,
+            None => false,
+        }
+    }
+
+    fn move_extent(&mut self, rt: &impl Abort) {
+        let count = self.world.array().drive_count();
+        assert!(rt; count > 0);
+        let to = Member {
+            drive: self.draw(u32::from(count)) as u8,
+            extent: self.draw(8) as u16,
+        };
+        let group = self.draw(4) as u16;
+        let member = self.draw(3) as u8;
+        let _moved = self.take(rt, &Step::MoveExtent { group, member, to });
+    }
+
+    // A step of the flow of payloads.
+    fn flow(&mut self, rt: &impl Abort) {
+        let kind = self.draw(7);
+        let worker = self.worker();
+        let slot = self.slot();
+        let block = self.block();
+        let step = match kind {
+            0 => Step::Claim { worker, slot },
+            1 => Step::Release { worker, slot },
+            2 => Step::Copy {
+                worker,
+                slot,
+                block,
+            },
+            3 => Step::Discard { worker, slot },
+            4 => Step::Read { block },
+            _ => Step::Commit {
+                worker,
+                slot,
+                block,
+            },
+        };
+        let _answer = self.take(rt, &step);
+    }
+
+    // A record's place is asked for that may be or have been one of its block's.
+    fn read_at(&mut self, rt: &impl Abort) {
+        let record = Record {
+            block: self.block(),
+            version: 1 + self.draw(3),
+            hop: self.draw(2) as u16,
+            place: self.slot(),
+        };
+        let _found = self.take(rt, &Step::ReadAt { record });
+    }
+
+    fn turn(&mut self, rt: &impl Abort) {
+        match self.draw(64) {
+            0 => self.make(rt),
+            1 => self.unmake(rt),
+            2 => self.lose(rt),
+            3 | 4 => self.rebuild(rt),
+            5 | 6 => self.move_extent(rt),
+            7 | 8 => self.read_at(rt),
+            9..=24 => self.fill(rt),
+            _ => self.flow(rt),
+        }
+    }
+}
+
+#[test]
+fn after_each_step_of_a_long_walk_three_maps_are_one(rt: HostRuntime) {
+    let mut walk = Walk::new(&rt, rt.alloc());
+    for _turn in 0..TURNS {
+        walk.turn(&rt);
+    }
+    assert!(rt; walk.steps > TURNS && walk.unmade > 5);
+    assert!(rt; walk.world.array().drive_count() > 8);
+}
