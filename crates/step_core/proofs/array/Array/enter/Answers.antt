@@ -28,5 +28,5 @@ invariant_of-self g c =
           (λ q e. still_whole d.units d.lost d.failures c.self.inside c.enter.new.self (loses_keeps a b e.loses) c.enter.ensures.fit c.self.invariant.0)
           c.enter.ensures.ok c.enter.ensures.err,
       c.self.invariant.1,
-      record { fit = c.enter.ensures.fit; unit = length_again c.self.inside.unit c.enter.new.unit ∙ ready.unit ∙ bytes; scratch = ready.scratch ∙ ap (λ n. 2 * n) bytes },
+      record { fit = c.enter.ensures.fit; unit = length_again c.self.inside.unit c.enter.new.unit ∙ ready.unit ∙ bytes; scratch = ready.scratch ∙ ap (λ n. 2 * n) bytes; live = ready.live },
     )
