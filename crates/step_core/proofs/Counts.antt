@@ -4,6 +4,7 @@ use Rattle.std.proofs.Math.ListN.{set}
 use Rattle.std.proofs.lemmas.List.{length-set, get_or-set_same, get_or-set_other}
 use Rattle.std.proofs.lemmas.Bool.{cases_eq, cases_lt}
 use Rattle.array_model.specs.Views.{Kept, Nothing, Pending, Moving, Newest, Unmade, is_waiting}
+use Rattle.array_model.specs.Changes.{opened_of, IsOpened}
 use Rattle.step_core.specs.Counted.{is_newest, newest_in, newest_below, AreCounts}
 
 -- of one slot there is at most one newest place
@@ -195,3 +196,18 @@ counts_alike kept after live alike are = record { many = are.many; each = λ gro
         let now = below_next after group index in
         let was = below_next kept group index in
         omega (arith, rest, one, now, was)
+
+-- so where a group's number is opened again
+pub counts_opened : (group : ℕ) (kept after : List Kept) (live : List ℕ) → IsOpened group kept after → AreCounts kept live → AreCounts after live
+counts_opened group kept after live opened = counts_alike kept after live (λ slot. go slot (cases_eq (slot / 128) group))
+  where
+    alike : (k : Kept) → is_newest (opened_of k) ≡ is_newest k
+    alike Nothing = refl
+    alike Pending = refl
+    alike (Moving r) = refl
+    alike (Newest b) = refl
+    alike Unmade = refl
+
+    go : (slot : ℕ) → (slot / 128 ≡ group) ⊎ (slot / 128 ≡ group → ⊥) → is_newest (get_or after slot Nothing) ≡ is_newest (get_or kept slot Nothing)
+    go slot (inl e) = ap is_newest (opened.here slot e) ∙ alike (get_or kept slot Nothing)
+    go slot (inr ne) = ap is_newest (opened.rest slot ne)

@@ -1,12 +1,12 @@
 use Rattle.std.proofs.Common.{◌+◌, subst, sym, arith}
 use Rattle.array_model.specs.Views.{key_at}
 use Rattle.tiering.proofs.Counts.{IsCounted, counted_more, counted_skip, counted_all}
-use Rattle.tiering.proofs.asks.RunningLive.count_live.Goals as goal
-use Rattle.tiering.proofs.asks.RunningLive.count_live.Goals.{then-is_live, else-is_live}
+use Rattle.tiering.proofs.asks.count_among.Goals as goal
+use Rattle.tiering.proofs.asks.count_among.Goals.{then-is_live, else-is_live}
 
 pub loop-index-preserved : goal.loop-index-preserved
 loop-index-preserved c =
-    let keys = key_at c.args.self.now.world.now.array in
+    let keys = key_at c.args.world.now.array in
     let group = c.args.group in
     let at = c.loop-index in
     elim c.if-is_live.branch [
@@ -20,4 +20,4 @@ loop-index-preserved c =
 
 pub returns : goal.returns
 returns c =
-    counted_all (key_at c.args.self.now.world.now.array) c.args.group c.args.slots c.loop-index.index c.loop-index.count (omega arith) (omega arith) c.loop-index.invariant
+    counted_all (key_at c.args.world.now.array) c.args.group c.args.slots c.loop-index.index c.loop-index.count (omega arith) (omega arith) c.loop-index.invariant
