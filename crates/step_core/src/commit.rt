@@ -167,12 +167,7 @@ fn let_go<C: Hold>(
 
 // The claim that waited is kept for the block.
 #[tactic(auto, using(crate::proofs::Places::set_twice))]
-fn keep_newest<C: Hold>(
-    places: &mut Vec<Place<C>>,
-    live: &mut [u16; GROUPS],
-    slot: u16,
-    block: u32,
-)
+fn keep_newest<C: Hold>(places: &mut Vec<Place<C>>, live: &mut [u16; GROUPS], slot: u16, block: u32)
     requires inside { slot < vec_len places.old }
     requires waits { is_waiting (slice_index_or (kepts_of places.old.items) slot Nothing) ≡ true }
     requires claims { AreOf C.names places.old.items }
