@@ -1,10 +1,9 @@
 -- The slots that are newest places, listed group by group, are as many as the array counts.
-use Rattle.std.proofs.Common.{◌≡◌, ◌≢◌, ℕ, zero, suc, ◌+◌, ◌*◌, ◌/◌, ◌%◌, ◌<◌, ◌≤◌, true, false, Some, None, List, [], ◌∷◌, ◌++◌, length, get_or, refl, sym, ap, ◌∙◌, subst, arith}
+use Rattle.std.proofs.Common.{◌≡◌, ℕ, zero, suc, ◌+◌, ◌*◌, ◌/◌, ◌%◌, ◌<◌, ◌≤◌, false, None, List, [], ◌∷◌, ◌++◌, length, get_or, refl, sym, ap, ◌∙◌, subst, arith}
 use Rattle.std.proofs.lemmas.List.{length_push}
-use Rattle.map_join.specs.Lists.{ListsBelow, IsCount}
+use Rattle.map_join.specs.Lists.{ListsBelow}
 use Rattle.map_join.specs.Live.{IsLive, IsBlockAt, IsLiveIn, IsLiveCount}
 use Rattle.map_join.proofs.Rising.{below_none, below_more, below_skip, below_all, count_same}
-use Rattle.array_parts.specs.Slots.{IsSlot}
 use Rattle.extent_groups.specs.Groups.{group_at, slots_in}
 use Rattle.array_model.specs.Views.{Kept, Nothing, Pending, Moving, Newest, Unmade, ArrayView, IsWhole, block_in, kept_at, key_at}
 use Rattle.array_model.proofs.Newest.{lies_at}

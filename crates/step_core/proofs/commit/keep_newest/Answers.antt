@@ -1,8 +1,7 @@
-use Rattle.std.proofs.Common.{◌≡◌, ◌∙◌, ◌/◌, ◌<◌, true, false, length, get_or, ap, sym, subst, arith, rules}
+use Rattle.std.proofs.Common.{◌/◌, ◌<◌, length, get_or, arith}
 use Rattle.std.proofs.lemmas.List.{length-map}
 use Rattle.array_model.specs.Views.{Nothing, Newest}
 use Rattle.step_core.specs.Kept.{kept_of, kepts_of}
-use Rattle.step_core.specs.Counted.{is_newest, AreCounts}
 use Rattle.step_core.proofs.Counts.{counted_few, counts_more, waiting_other}
 use Rattle.step_core.proofs.Places.{set_twice}
 use Rattle.step_core.proofs.commit.keep_newest.Goals as goal

@@ -1,8 +1,8 @@
-use Rattle.std.proofs.Common.{◌≡◌, ◌∙◌, ◌<◌, true, length, get_or, ap, sym, subst, arith, rules}
+use Rattle.std.proofs.Common.{◌≡◌, ◌<◌, length, get_or, ap, arith, rules}
 use Rattle.std.proofs.lemmas.List.{length-map}
 use Rattle.array_model.specs.Views.{Nothing, Newest}
 use Rattle.step_core.specs.Kept.{kept_of, kepts_of}
-use Rattle.step_core.specs.Counted.{is_newest, AreCounts}
+use Rattle.step_core.specs.Counted.{is_newest}
 use Rattle.step_core.proofs.Counts.{counted_there, counts_fewer}
 use Rattle.step_core.proofs.commit.let_go.Goals as goal
 

@@ -1,7 +1,7 @@
-use Rattle.std.proofs.Common.{◌≡◌, ◌∙◌, ℕ, ◌+◌, ◌*◌, ◌<◌, ◌≤◌, true, false, length, get_or, sym, ap, subst, arith, rules}
-use Rattle.array_model.specs.Views.{Kept, Nothing}
+use Rattle.std.proofs.Common.{◌≡◌, ◌∙◌, ◌+◌, ◌*◌, ◌<◌, length, get_or, sym, ap, arith}
+use Rattle.array_model.specs.Views.{Nothing}
 use Rattle.step_core.specs.Kept.{kept_of, kepts_of}
-use Rattle.step_core.specs.Counted.{is_newest, newest_in, newest_below}
+use Rattle.step_core.specs.Counted.{newest_in}
 use Rattle.step_core.proofs.Counts.{below_none, more_below, newest_none, newest_one, no_more}
 use Rattle.step_core.proofs.Places.{kept_there}
 use Rattle.step_core.proofs.live.count_newest.Goals as goal

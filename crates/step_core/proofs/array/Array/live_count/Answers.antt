@@ -1,4 +1,4 @@
-use Rattle.std.proofs.Common.{◌≡◌, ◌≤◌, ap, sym, subst, get_or}
+use Rattle.std.proofs.Common.{◌≤◌, sym, subst, get_or}
 use Rattle.map_join.specs.Live.{IsLiveCount}
 use Rattle.extent_groups.specs.Groups.{group_at, slots_in}
 use Rattle.array_model.specs.Views.{ArrayView, key_at}
