@@ -2,7 +2,8 @@
 use Rattle.std.proofs.Common.{◌≡◌, ◌∙◌, ◌⊎◌, inl, inr, ℕ, ◌+◌, ◌*◌, ◌/◌, ◌%◌, ◌<◌, ◌≤◌, length, sym, ap, subst, arith, Some, None, slice_get, unwrap_or, ◌↔◌}
 use Rattle.std.proofs.lemmas.Bool.{cases_lt}
 use Rattle.std.proofs.lemmas.Option.{slice_get_past}
-use Rattle.map_join.specs.Live.{IsLive}
+use Rattle.map_join.specs.Live.{IsLive, IsLiveIn, IsLiveCount}
+use Rattle.map_join.proofs.Rising.{count_none, count_zero}
 use Rattle.extent_groups.specs.declared.class.Class.{Class}
 use Rattle.extent_groups.specs.declared.class.Class.TheVariants.{Parity}
 use Rattle.extent_groups.specs.Groups.{Groups, class_in, group_at}
@@ -21,19 +22,16 @@ made_low groups g class long made = by (cases_lt g 512)
         let both : None ≡ Some class = sym none ∙ made in
         cc
 
--- a group with a live slot isn't idle, and one of which no slot is live is
-pub live_busy : (groups : Groups) (keys : ℕ → ℕ) (group slots index : ℕ)
-    → ((slot : ℕ) → slot / 128 ≡ group → IsSlotOf Parity groups slot ↔ (slot % 128 < slots)) → slots ≤ 128 → index < slots
-    → IsLive keys (128 * group + index) → IsIdle groups keys group → ⊥
-live_busy groups keys group slots index just few inside live idle =
-    let slot : ℕ = 128 * group + index in
-    let own : slot / 128 ≡ group = omega arith in
-    let at : slot % 128 ≡ index = omega arith in
-    idle slot ((just slot own).1 (omega (arith, at))) own live
+-- a parity group is idle where none of its slots is counted as live, and none is counted where it is idle
+module _ (groups : Groups) (keys : ℕ → ℕ) (group slots count : ℕ) (just : (slot : ℕ) → slot / 128 ≡ group → IsSlotOf Parity groups slot ↔ (slot % 128 < slots)) where
+  pub none_counted : IsLiveCount keys group slots count → count ≡ 0 → IsIdle groups keys group
+  none_counted counted zero slot is own live =
+      count_zero (IsLiveIn keys group slots) (subst (IsLiveCount keys group slots) zero counted) slot (record { own = own; among = (just slot own).0 is; live = live })
 
-pub all_dead : (groups : Groups) (keys : ℕ → ℕ) (group slots : ℕ)
-    → ((slot : ℕ) → slot / 128 ≡ group → IsSlotOf Parity groups slot ↔ (slot % 128 < slots))
-    → ((k : ℕ) → k < slots → IsLive keys (128 * group + k) → ⊥) → IsIdle groups keys group
-all_dead groups keys group slots just dead slot is own live =
-    let same : slot ≡ 128 * group + slot % 128 = omega arith in
-    dead (slot % 128) ((just slot own).0 is) (subst (IsLive keys) same live)
+  pub idle_counts : IsLiveCount keys group slots count → IsIdle groups keys group → count ≡ 0
+  idle_counts counted idle = count_none (IsLiveIn keys group slots) count counted (λ slot so. idle slot ((just slot so.own).1 so.among) so.own so.live)
+
+-- a group without slots of the class is idle
+pub no_slots : (groups : Groups) (keys : ℕ → ℕ) (group slots : ℕ) → ((slot : ℕ) → slot / 128 ≡ group → IsSlotOf Parity groups slot ↔ (slot % 128 < slots)) → slots ≡ 0
+    → IsIdle groups keys group
+no_slots groups keys group slots just none slot is own live = let low = (just slot own).0 is in absurd (omega (arith, low, none))

@@ -54,18 +54,13 @@ impl<'a, L: Live> Picks for Fresh<'a, L> {
     }
 }
 
-// Whether no slot of a parity group is live. The first that is ends the walk.
+// Whether no slot of a parity group is live; other groups have none to look at.
 fn is_idle<L: Live>(groups: &GroupTable, live: &L, group: u16) -> bool
     requires { group < 512 }
     ensures { IsTrue result ↔ IsIdle groups.now (L.keys live.now) group }
 {
-    for index in 0..count_of(groups, Class::Parity, group) {
-        match live.block_at(SLOTS * group + index) {
-            Some(_) => return false,
-            None => {}
-        }
-    }
-    true
+    let slots = count_of(groups, Class::Parity, group);
+    slots == 0 || live.count_live(group, slots) == 0
 }
 
 /// The slots where the log goes on: those of the write group from the next index on that aren't live, then all of each

@@ -18,6 +18,7 @@ use Rattle.step_core.specs.declared.place.Place.{Place}
 use Rattle.step_core.specs.declared.place.Place.TheVariants as place
 use Rattle.step_core.specs.Inside.{seen, IsReady}
 use Rattle.step_core.specs.Kept.{kept_of, kepts_of, IsOf, AreOf}
+use Rattle.step_core.specs.Counted.{AreCounts}
 use Rattle.step_core.specs.Adopted.{AreReady, AreKeys, kept_for, wanted_at}
 use Rattle.step_core.proofs.Adoptions.{all_keys, wants_placed}
 use Rattle.step_core.proofs.Places.{get_or_past}
@@ -40,13 +41,14 @@ fit_parts {D} units lost failures p fit = record {
 pub free_of : {C : Type 0} (names : C → ℕ) (places : List (Place C)) → ((s : ℕ) → get_or places s place.Free ≡ place.Free) → AreOf names places
 free_of names places free s inside = subst (IsOf names s) (sym (free s)) tt
 
--- the array of these parts, of what is ready and of places
-abbrev pub adopted : {D C : Type 0} → Parts D → Ready C → Vec (Place C) Global → Inside D C
-adopted parts ready places = record {
+-- the array of these parts, of what is ready, of places and of their counts
+abbrev pub adopted : {D C : Type 0} → Parts D → Ready C → Vec (Place C) Global → List ℕ → Inside D C
+adopted parts ready places live = record {
   parts = parts;
   log = ready.log;
   keys = ready.keys;
   places = places;
+  live = live;
   unit = ready.room.unit;
   scratch = ready.room.scratch;
 }
@@ -65,11 +67,11 @@ keys_told blocks M keys inside are b = go (either b)
     go (inl h) = are.same b h
     go (inr h) = get_or_past keys b 0 (let m = are.many in omega (arith, m, h)) ∙ none (M b) (inside b) h
 
-pub is_adopted : {D C : Type 0} (units : D → List (List ℕ)) (lost : D → Bool) (failures : D → ℕ) (names : C → ℕ) (parts : Parts D) (M : ℕ → ℕ) (claims : List C) (ready : Ready C) (places : Vec (Place C) Global)
+pub is_adopted : {D C : Type 0} (units : D → List (List ℕ)) (lost : D → Bool) (failures : D → ℕ) (names : C → ℕ) (parts : Parts D) (M : ℕ → ℕ) (claims : List C) (ready : Ready C) (places : Vec (Place C) Global) (live : List ℕ)
     → HasPlaces parts.groups M → AreReady names parts.groups M claims ready
     → ((s : ℕ) → get_or (kepts_of places.items) s Nothing ≡ kept_for (wanted_at ready.wanted.items s))
-    → IsAdopted (view_of units lost failures parts) M (seen units lost failures (adopted parts ready places))
-is_adopted units lost failures names parts M claims ready places has is kept = record {
+    → IsAdopted (view_of units lost failures parts) M (seen units lost failures (adopted parts ready places live))
+is_adopted units lost failures names parts M claims ready places live has is kept = record {
   parts_are = refl;
   log = is.log;
   keys_are = keys_told parts.groups.blocks M ready.keys.items has.blocks is.keys;
@@ -77,16 +79,16 @@ is_adopted units lost failures names parts M claims ready places has is kept = r
 }
 
 -- it keeps what every array keeps
-pub is_whole : {D C : Type 0} (units : D → List (List ℕ)) (lost : D → Bool) (failures : D → ℕ) (names : C → ℕ) (parts : Parts D) (M : ℕ → ℕ) (claims : List C) (ready : Ready C) (places : Vec (Place C) Global)
+pub is_whole : {D C : Type 0} (units : D → List (List ℕ)) (lost : D → Bool) (failures : D → ℕ) (names : C → ℕ) (parts : Parts D) (M : ℕ → ℕ) (claims : List C) (ready : Ready C) (places : Vec (Place C) Global) (live : List ℕ)
     → HasPlaces parts.groups M → AreReady names parts.groups M claims ready → IsFit units parts → length places.items ≡ 65536
-    → IsAdopted (view_of units lost failures parts) M (seen units lost failures (adopted parts ready places))
-    → IsWhole (seen units lost failures (adopted parts ready places))
-is_whole units lost failures names parts M claims ready places has is fit many adopts =
-    adopted_whole (view_of units lost failures parts) M (seen units lost failures (adopted parts ready places)) adopts
+    → IsAdopted (view_of units lost failures parts) M (seen units lost failures (adopted parts ready places live))
+    → IsWhole (seen units lost failures (adopted parts ready places live))
+is_whole units lost failures names parts M claims ready places live has is fit many adopts =
+    adopted_whole (view_of units lost failures parts) M (seen units lost failures (adopted parts ready places live)) adopts
     (let keys = all_keys parts.groups M ready.keys.items has is.keys in record { least = λ b. (keys b).least; most = λ b. (keys b).most })
     has (fit_parts units lost failures parts fit) (record { kept = length-map places.items kept_of ∙ many; keys = is.keys.many })
 
 -- and is ready for the calls of its drives
-pub is_ready_too : {D C : Type 0} (units : D → List (List ℕ)) (names : C → ℕ) (parts : Parts D) (M : ℕ → ℕ) (claims : List C) (ready : Ready C) (places : Vec (Place C) Global)
-    → AreReady names parts.groups M claims ready → IsFit units parts → IsReady units (adopted parts ready places)
-is_ready_too units names parts M claims ready places is fit = record { fit = fit; unit = is.room.unit; scratch = is.room.scratch }
+pub is_ready_too : {D C : Type 0} (units : D → List (List ℕ)) (names : C → ℕ) (parts : Parts D) (M : ℕ → ℕ) (claims : List C) (ready : Ready C) (places : Vec (Place C) Global) (live : List ℕ)
+    → AreReady names parts.groups M claims ready → IsFit units parts → AreCounts (kepts_of places.items) live → IsReady units (adopted parts ready places live)
+is_ready_too units names parts M claims ready places live is fit counts = record { fit = fit; unit = is.room.unit; scratch = is.room.scratch; live = counts }

@@ -5,6 +5,8 @@ pub mod Adopters
 pub mod Restarting
 pub mod Resting
 pub mod Ready
+pub mod Counts
+pub mod Living
 pub mod News
 pub mod BlockReads
 pub mod Learnings

@@ -135,5 +135,5 @@ still_stands names a p same fit stands =
     let groups = ap (λ (z : Groups). unit_bytes z) (sym same.tables.groups) in (
       still_whole held_units held_lost held_failures a p same fit stands.0,
       stands.1,
-      record { fit = fit; unit = stands.2.unit ∙ groups; scratch = stands.2.scratch ∙ ap (λ n. 2 * n) groups },
+      record { fit = fit; unit = stands.2.unit ∙ groups; scratch = stands.2.scratch ∙ ap (λ n. 2 * n) groups; live = stands.2.live },
     )

@@ -3,6 +3,7 @@ use Rattle.std.proofs.Common.{◌≡◌, ℕ, ◌*◌, ◌+◌, ◌≤◌, Bool,
 use Rattle.std.proofs.Math.ListN.{get_or-map}
 use Rattle.std.proofs.lemmas.List.{length-map, length-replicate}
 use Rattle.std.specs.Global.{Global}
+use Rattle.std.specs.Prelude.{slice_index}
 use Rattle.map_join.specs.declared.records.Record.{Record}
 use Rattle.extents.specs.Owners.{Owners}
 use Rattle.extents.specs.Sizes.{extent_units}
@@ -21,24 +22,26 @@ use Rattle.step_core.specs.declared.tables.Tables.{Tables}
 use Rattle.step_core.specs.Inside.{seen, IsReady}
 use Rattle.step_core.specs.Kept.{kept_of, kepts_of, AreOf}
 use Rattle.step_core.specs.New.{AreNew}
+use Rattle.step_core.proofs.Counts.{none_below}
 
 pub none_kept : {C : Type 0} (places : List (Place C)) → ((s : ℕ) → get_or places s place.Free ≡ place.Free) → (s : ℕ) → get_or (kepts_of places) s Nothing ≡ Nothing
 none_kept places all s = get_or-map kept_of places s place.Free ∙ ap kept_of (all s)
 
 -- an array of these tables and drives
-abbrev pub of_tables : {D C : Type 0} → Shape → Tables C → Vec D Global → Vec Record Global → Inside D C
-of_tables shape t drives log = record {
+abbrev pub of_tables : {D C : Type 0} → Shape → Tables C → Vec D Global → Vec Record Global → List ℕ → Inside D C
+of_tables shape t drives log live = record {
   parts = record { shape = shape; groups = t.groups; extents = t.extents; drives = drives };
   log = log;
   keys = t.keys;
   places = t.places;
+  live = live;
   unit = t.unit;
   scratch = t.scratch;
 }
 
-pub is_new : {D C : Type 0} (units : D → List (List ℕ)) (lost : D → Bool) (failures : D → ℕ) (shape : Shape) (t : Tables C) (drives : Vec D Global) (log : Vec Record Global) (n : ℕ)
-    → n ≡ length drives.items → log.items ≡ [] → AreDrives drive_units t.groups (map (drive_view units lost failures) drives.items) → AreNew shape n t → IsNew (seen units lost failures (of_tables shape t drives log))
-is_new units lost failures shape t drives log n count none are new = record {
+pub is_new : {D C : Type 0} (units : D → List (List ℕ)) (lost : D → Bool) (failures : D → ℕ) (shape : Shape) (t : Tables C) (drives : Vec D Global) (log : Vec Record Global) (live : List ℕ) (n : ℕ)
+    → n ≡ length drives.items → log.items ≡ [] → AreDrives drive_units t.groups (map (drive_view units lost failures) drives.items) → AreNew shape n t → IsNew (seen units lost failures (of_tables shape t drives log live))
+is_new units lost failures shape t drives log live n count none are new = record {
   empty = new.empty;
   agree = new.agree;
   rows = ap (λ (o : Owners). length o.rows) new.owners ∙ length-replicate n _ ∙ count ∙ sym (length-map drives.items (drive_view units lost failures));
@@ -50,10 +53,10 @@ is_new units lost failures shape t drives log n count none are new = record {
   room = record { kept = length-map t.places.items kept_of ∙ new.places; keys = new.keys ∙ new.sizes.of_blocks };
 }
 
-pub is_ready : {D C : Type 0} (units : D → List (List ℕ)) (shape : Shape) (t : Tables C) (drives : Vec D Global) (log : Vec Record Global) (n : ℕ)
+pub is_ready : {D C : Type 0} (units : D → List (List ℕ)) (shape : Shape) (t : Tables C) (drives : Vec D Global) (log : Vec Record Global) (live : List ℕ) (n : ℕ)
     → n ≡ length drives.items → 3 ≤ length drives.items → length drives.items ≤ 16 → HaveUnits units drives.items (shape.extents * extent_units shape.segments)
-    → AreSized units (HEADER_BYTES + shape.payload) drives.items → AreNew shape n t → IsReady units (of_tables shape t drives log)
-is_ready units shape t drives log n count least most many sized new =
+    → AreSized units (HEADER_BYTES + shape.payload) drives.items → AreNew shape n t → length live ≡ 512 → ((group : ℕ) → slice_index live group ≡ 0) → IsReady units (of_tables shape t drives log live)
+is_ready units shape t drives log live n count least most many sized new numbers zero =
     let bytes = ap (λ p. HEADER_BYTES + p) new.sizes.of_payload in record {
       fit = record {
         shape = new.sizes;
@@ -71,6 +74,7 @@ is_ready units shape t drives log n count least most many sized new =
       };
       unit = new.unit ∙ bytes;
       scratch = new.scratch ∙ ap (λ b. 2 * b) bytes;
+      live = record { many = numbers; each = λ group low. zero group ∙ sym (none_below (kepts_of t.places.items) group 128 (none_kept t.places.items new.free)) };
     }
 
 pub are_of : {C : Type 0} (names : C → ℕ) (shape : Shape) (n : ℕ) (t : Tables C) → AreNew shape n t → AreOf names t.places.items

@@ -17,8 +17,10 @@ use Rattle.array_model.specs.Views.{Kept, Nothing, Pending, Moving, Newest, Unma
 use Rattle.std.specs.Global.{Global}
 use Rattle.step_core.specs.Adopted.{how_many}
 use Rattle.step_core.specs.declared.place.Place.{Place}
+use Rattle.step_core.specs.Counted.{is_newest, AreCounts}
 use Rattle.step_core.specs.Kept.{kept_of, kepts_of}
 use Rattle.step_core.specs.Shut.{one_of, count_in, shut_of, closed_of, emptied, CanUnmake, IsGiven, IsFirstUngiven, IsFirstNotHeld}
+use Rattle.step_core.proofs.Counts.{counts_alike}
 use Rattle.step_core.proofs.Seated.{one_at, counted_more, one_here, one_else, take_next}
 
 -- a slot is one of a group's first
@@ -571,3 +573,12 @@ free_kept names a g claims can slot e low = can.free slot (let one = one_first g
 -- as many places
 pub places_many : {C : Type 0} (places : Vec (Place C) Global) → vec_len places ≡ 65536 → length (kepts_of places.items) ≡ 65536
 places_many {C} places many = length-map places.items kept_of ∙ sym places.ok.0 ∙ many
+
+-- no newest place is among the slots of which claims were taken in
+pub counts_closed : {C : Type 0} (names : C → ℕ) (a : ArrayView) (g : ℕ) (claims : List C) (new : List Kept) (live : List ℕ) → CanUnmake names a g claims
+    → ((slot : ℕ) → get_or new slot Nothing ≡ closed_of (how_many names claims slot) (kept_at a slot)) → AreCounts a.kept live → AreCounts new live
+counts_closed {C} names a g claims new live can closed are = counts_alike a.kept new live (λ slot. ap is_newest (closed slot) ∙ go slot (how_many names claims slot) (can.all slot)) are
+  where
+    go : (slot n : ℕ) → n ≡ one_of g (count_in a g) slot → is_newest (closed_of n (kept_at a slot)) ≡ is_newest (kept_at a slot)
+    go slot zero e = refl
+    go slot (suc n) e = sym (ap is_newest (can.free slot (omega (arith, e))))

@@ -1,6 +1,7 @@
 pub mod Kept
 pub mod Told
 pub mod Inside
+pub mod Counted
 pub mod New
 pub mod Adopted
 pub mod Refused

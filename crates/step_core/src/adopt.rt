@@ -14,6 +14,7 @@ ghost use Rattle.step_core.specs.Adopted.{AreClaimsOf, AreShared, AreOfPlaces, A
 
 use crate::array::Array;
 use crate::hold::Hold;
+use crate::live::counted;
 use crate::place::Place;
 use crate::seats::{blocks_by_slot, first_unclaimed, seat_all, unseat_all};
 use crate::tables::{SLOTS, free_places};
@@ -170,11 +171,13 @@ impl<D: Drive, C: Hold> Array<D, C> {
                     mut places,
                 } = room;
                 seat_all(wanted, claims, &mut places, &mut others);
+                let live = counted(&places);
                 let array = Array {
                     parts,
                     log,
                     keys,
                     places,
+                    live,
                     unit,
                     scratch,
                 };

@@ -15,10 +15,11 @@ ghost use Rattle.array_model.specs.Views.{kept_at, key_at, block_in, is_kept, is
 ghost use Rattle.array_model.specs.Represents.{ShowsArray};
 
 use crate::hold::Hold;
+use crate::live::none_live;
 use crate::place::Place;
 use crate::tables::new_tables;
 use array_parts::Parts;
-use extent_groups::{GroupTable, SLOTS as SLOTS_OF_A_GROUP};
+use extent_groups::{GROUPS, GroupTable, SLOTS as SLOTS_OF_A_GROUP};
 use extents::{Drive, ExtentTable, Shape};
 use flat_machine::{Class, Refusal};
 use map_join::{BlockMap, MapRefusal, Record};
@@ -33,6 +34,8 @@ pub struct Array<D: Drive, C: Hold> {
     /// The key of each block, 0 where it was never written.
     pub(crate) keys: Vec<u64>,
     pub(crate) places: Vec<Place<C>>,
+    /// Of each group, how many of its slots are newest places.
+    pub(crate) live: [u16; GROUPS],
     /// A buffer of a unit's length, and one of two units', for the calls of the drives.
     pub(crate) unit: Vec<u8>,
     pub(crate) scratch: Vec<u8>,
@@ -80,6 +83,7 @@ impl<D: Drive, C: Hold> Array<D, C> {
             log: Vec::new(alloc),
             keys: tables.keys,
             places: tables.places,
+            live: none_live(),
             unit: tables.unit,
             scratch: tables.scratch,
         })

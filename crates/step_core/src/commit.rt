@@ -10,13 +10,16 @@ ghost use Rattle.flat_machine.specs.Cases.{CommitCase, IsWanted, next_version};
 ghost use Rattle.array_model.specs.Views.{Nothing, Newest, is_waiting, key_at, with_parts};
 ghost use Rattle.array_parts.specs.Views.{WasCarried};
 ghost use Rattle.step_core.specs.Kept.{kepts_of, AreOf};
+ghost use Rattle.step_core.specs.Counted.{AreCounts};
 ghost use Rattle.step_core.specs.Refused.{IsRefused};
 ghost use Rattle.array_model.specs.Changes.{commit_view, commit_reason, commit_record, version_reason, stamp_reason, passed, IsPlaceOf, MayRefuse};
 ghost use Rattle.array_model.specs.Represents.{ShowsArray};
 
 use crate::array::Array;
 use crate::hold::{Hold, Ticket};
+use crate::live::{one_fewer, one_more};
 use crate::place::{Place, put_in, take_out, take_waiting};
+use extent_groups::GROUPS;
 use extents::{Drive, Header};
 use flat_machine::Refusal;
 use map_join::Record;
@@ -105,8 +108,8 @@ impl<D: Drive, C: Hold> Array<D, C> {
         }
         self.log.push_reserved(record);
         self.keys[block as usize] = record.key();
-        let old = let_go(&mut self.places, block, found);
-        keep_newest(&mut self.places, slot, block);
+        let old = let_go(&mut self.places, &mut self.live, block, found);
+        keep_newest(&mut self.places, &mut self.live, slot, block);
         Ok(Done {
             emitted: Emitted::of(record),
             old,
@@ -133,18 +136,26 @@ impl<D: Drive, C: Hold> Array<D, C> {
 }
 
 // The claim of a block's last place, which is kept no longer.
-fn let_go<C: Hold>(places: &mut Vec<Place<C>>, block: u32, found: Option<Record>) -> Option<C>
+fn let_go<C: Hold>(
+    places: &mut Vec<Place<C>>,
+    live: &mut [u16; GROUPS],
+    block: u32,
+    found: Option<Record>,
+) -> Option<C>
     requires inside { 65536 ≤ vec_len places.old }
     requires newest { ForSome found (λ r. slice_index_or (kepts_of places.old.items) r.place Nothing ≡ Newest block) }
     requires claims { AreOf C.names places.old.items }
+    requires counts { AreCounts (kepts_of places.old.items) live.old }
     ensures kept { kepts_of places.new.items ≡ passed (kepts_of places.old.items) found }
     ensures room { vec_len places.new ≡ vec_len places.old }
     ensures old { IsPlaceOf C.names result found }
     ensures claims { AreOf C.names places.new.items }
+    ensures counts { AreCounts (kepts_of places.new.items) live.new }
 {
     let Some(record) = found else {
         return None;
     };
+    one_fewer(live, record.place);
     match take_out(places, record.place) {
         Place::Newest(_, claim) => Some(claim),
         Place::Free => unreachable!(),
@@ -156,13 +167,16 @@ fn let_go<C: Hold>(places: &mut Vec<Place<C>>, block: u32, found: Option<Record>
 
 // The claim that waited is kept for the block.
 #[tactic(auto, using(crate::proofs::Places::set_twice))]
-fn keep_newest<C: Hold>(places: &mut Vec<Place<C>>, slot: u16, block: u32)
+fn keep_newest<C: Hold>(places: &mut Vec<Place<C>>, live: &mut [u16; GROUPS], slot: u16, block: u32)
     requires inside { slot < vec_len places.old }
     requires waits { is_waiting (slice_index_or (kepts_of places.old.items) slot Nothing) ≡ true }
     requires claims { AreOf C.names places.old.items }
+    requires counts { AreCounts (kepts_of places.old.items) live.old }
     ensures kept { kepts_of places.new.items ≡ slice_set (kepts_of places.old.items) slot (Newest block) }
     ensures claims { AreOf C.names places.new.items }
+    ensures counts { AreCounts (kepts_of places.new.items) live.new }
 {
+    one_more(live, slot);
     let claim = take_waiting(places, slot);
     put_in(places, slot, Place::Newest(block, claim));
 }

@@ -10,6 +10,7 @@ mod drives;
 mod fill;
 mod grow;
 mod hold;
+mod live;
 mod make;
 mod memory;
 mod place;

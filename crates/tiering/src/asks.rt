@@ -1,10 +1,10 @@
 // What the plans ask of a running array, answered by its tables.
 ghost use Rattle.std.specs.Prelude.{◌≡◌, true};
-ghost use Rattle.std.specs.Prelude.{◌↔◌, IsTrue};
+ghost use Rattle.std.specs.Prelude.{◌↔◌, ◌<◌, ◌≤◌, IsTrue};
 ghost use Rattle.array_model.specs.Views.{key_at};
 ghost use Rattle.extent_groups.specs.declared.class.Class.TheVariants.{Mirrored};
 ghost use Rattle.extent_groups.specs.Stores.{IsSlotOf};
-ghost use Rattle.map_join.specs.Live.{IsLive};
+ghost use Rattle.map_join.specs.Live.{IsLive, IsLiveCount};
 ghost use Rattle.tiering.specs.Inside.{IsFreeHere};
 
 use extent_groups::{Class, GroupTable, SLOTS};
@@ -39,14 +39,27 @@ impl<'a> Live for Running<'a> {
     }
 
     fn count_live(&self, group: u16, slots: u16) -> u16 {
-        let mut count = 0;
-        for index in 0..slots {
-            if is_live(self.world, SLOTS * group + index) {
-                count += 1;
-            }
+        let array = self.world.array();
+        if slots >= array.groups().slots_of(group) {
+            return array.live_count(group);
         }
-        count
+        count_among(self.world, group, slots)
     }
+}
+
+// How many of the group's first so many slots are newest places, looked at one after another.
+fn count_among(world: &World, group: u16, slots: u16) -> u16
+    requires group { group < 512 }
+    requires slots { slots ≤ 128 }
+    ensures { IsLiveCount (key_at world.now.array) group slots result }
+{
+    let mut count = 0;
+    for index in 0..slots {
+        if is_live(world, SLOTS * group + index) {
+            count += 1;
+        }
+    }
+    count
 }
 
 // Whether the slot is the newest place of a block.

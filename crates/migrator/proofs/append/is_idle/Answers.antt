@@ -1,19 +1,14 @@
-use Rattle.std.proofs.Common.{refl, arith, below_more}
-use Rattle.migrator.proofs.Picks.{live_busy, all_dead}
+use Rattle.std.proofs.Common.{◌≡◌, refl, arith}
+use Rattle.std.specs.Bool.{Decides}
+use Rattle.std.proofs.lemmas.Bool.Decides.{nat_tests}
+use Rattle.migrator.proofs.Picks.{none_counted, idle_counts, no_slots}
 use Rattle.migrator.proofs.append.is_idle.Goals as goal
 
-pub returns-in-Some : goal.returns-in-Some
-returns-in-Some g c =
+pub returns-else-slots-eq0 : goal.returns-else-slots-eq0
+returns-else-slots-eq0 g c =
     let keys = g.L.Live.keys c.args.live.now in
-    let count = c.count_of-index-end in
-    ((λ t. absurd (cc)), (λ idle. absurd (live_busy c.args.groups.now keys c.args.group count.result c.loop-index.index count.ensures.just count.ensures.few c.loop-index-test.true (c.in-Some.field-0, c.in-Some.ensures) idle)))
-
-pub loop-index-preserved : goal.loop-index-preserved
-loop-index-preserved g c = below_more _ _ c.loop-index.invariant c.in-None.ensures
-
-pub returns : goal.returns
-returns g c =
-    let keys = g.L.Live.keys c.args.live.now in
-    let count = c.count_of-index-end in
-    let test = c.loop-index-test.false in
-    ((λ t. all_dead c.args.groups.now keys c.args.group count.result count.ensures.just (λ k l live. c.loop-index.invariant k (omega (arith, l, test)) live)), (λ idle. refl))
+    let slots = c.count_of-slots in
+    let count = c.count_live in (
+      (λ is. none_counted c.args.groups.now keys c.args.group slots.result count.result slots.ensures.just count.ensures (grind (arith, nat_tests, is))),
+      (λ idle. let none = idle_counts c.args.groups.now keys c.args.group slots.result count.result slots.ensures.just count.ensures idle in rw (none) refl),
+    )

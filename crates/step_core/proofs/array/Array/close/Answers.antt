@@ -7,7 +7,7 @@ use Rattle.array_parts.specs.Views.{view_of}
 use Rattle.step_core.specs.Inside.{seen}
 use Rattle.step_core.specs.Kept.{kepts_of}
 use Rattle.step_core.specs.Shut.{CanUnmake, count_in}
-use Rattle.step_core.proofs.Shutting.{at_most_one, free_kept, closed_number, places_many}
+use Rattle.step_core.proofs.Shutting.{at_most_one, free_kept, closed_number, counts_closed, places_many}
 use Rattle.step_core.proofs.Ready.{taken_ready}
 use Rattle.step_core.proofs.array.Array.close.Goals as goal
 
@@ -33,5 +33,6 @@ invariant_of-self g c =
       unmade_whole now (view_of d.units d.lost d.failures c.take.new.self) (kepts_of c.close_all.new.places.items) c.args.group c.self.invariant.0 can.made c.take.ensures.taken closed (free_kept g.C.Hold.names now c.args.group c.args.claims.items can)
           (view_drives d.units d.lost d.failures c.take.new.self c.take.ensures.fit.drives),
       c.close_all.ensures.of,
-      taken_ready d.units d.lost d.failures c.self.inside c.take.new.self c.close_all.new.places c.args.group c.take.ensures.taken c.take.ensures.fit c.self.invariant.2,
+      taken_ready d.units d.lost d.failures c.self.inside c.take.new.self c.close_all.new.places c.args.group c.take.ensures.taken c.take.ensures.fit
+          (counts_closed g.C.Hold.names now c.args.group c.args.claims.items (kepts_of c.close_all.new.places.items) c.self.inside.live can c.close_all.ensures.closed c.self.invariant.2.live) c.self.invariant.2,
     )

@@ -50,7 +50,7 @@ invariant_of-self-in-Err-carry g c =
       as_whole _ _ (ap (λ l. record now { parts = b; log = l }) c.reserve.ensures.items) (still_whole d.units d.lost d.failures c.self.inside c.carry.new.self same c.carry.ensures.fit c.self.invariant.0),
       c.self.invariant.1,
       (let ready = still_ready d.units d.lost d.failures c.self.inside c.carry.new.self c.carry.new.unit c.carry.new.scratch same c.carry.ensures.fit c.self.invariant.2 in
-          record { fit = ready.fit; unit = ready.unit; scratch = ready.scratch }),
+          record { fit = ready.fit; unit = ready.unit; scratch = ready.scratch; live = ready.live }),
     )
 
 pub returns-in-Err-carry-clause-flat : goal.returns-in-Err-carry-clause-flat
@@ -111,7 +111,7 @@ invariant_of-self-2 g c =
           (commit_ok old c.slot-slot.result c.args.block whole (search rules) (search rules) none))),
       c.keep_newest.ensures.claims,
       (let ready = still_ready d.units d.lost d.failures c.self.inside c.carry.new.self c.carry.new.unit c.carry.new.scratch same c.carry.ensures.fit c.self.invariant.2 in
-          record { fit = ready.fit; unit = ready.unit; scratch = ready.scratch }),
+          record { fit = ready.fit; unit = ready.unit; scratch = ready.scratch; live = c.keep_newest.ensures.counts }),
     )
 
 pub returns-clause-flat : goal.returns-clause-flat

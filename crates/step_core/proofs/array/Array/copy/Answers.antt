@@ -1,4 +1,4 @@
-use Rattle.std.proofs.Common.{◌≡◌, ◌∙◌, ap, sym, subst, rules}
+use Rattle.std.proofs.Common.{◌≡◌, ◌∙◌, ap, refl, sym, subst, rules}
 use Rattle.map_join.specs.declared.records.Record.{Record}
 use Rattle.flat_machine.specs.Flat.{Worker}
 use Rattle.flat_machine.specs.Steps.{Copied, Refused}
@@ -6,12 +6,13 @@ use Rattle.flat_machine.specs.Cases.{CopyCase, CopyPasses}
 use Rattle.extent_groups.specs.Stores.{AreDrives}
 use Rattle.array_parts.specs.Views.{drive_units}
 use Rattle.array_model.specs.Changes.{copy_view}
-use Rattle.array_model.specs.Views.{ArrayView, with_parts}
+use Rattle.array_model.specs.Views.{ArrayView, Moving, Nothing, kept_at, with_parts}
 use Rattle.array_model.proofs.Fills.{as_whole, as_shown}
 use Rattle.array_model.proofs.Finds.{read_slot}
-use Rattle.array_model.proofs.Copies.{copy_slot, copy_case, copy_gone, copy_refused, copy_whole}
+use Rattle.array_model.proofs.Copies.{CanCopy, can_copy, copy_slot, copy_case, copy_gone, copy_refused, copy_whole}
 use Rattle.step_core.specs.Inside.{seen}
-use Rattle.step_core.proofs.Ready.{places_ready, as_refused}
+use Rattle.step_core.specs.Counted.{is_newest}
+use Rattle.step_core.proofs.Ready.{slot_ready, as_refused}
 use Rattle.step_core.proofs.array.Array.copy.Goals as goal
 
 pub returns-in-Err-clause-flat : goal.returns-in-Err-clause-flat
@@ -36,11 +37,13 @@ returns-in-Err-carry-clause-flat g c F w shows held =
 pub invariant_of-self : goal.invariant_of-self
 invariant_of-self g c =
     let now = seen g.D.Drive.units g.D.Drive.lost g.D.Drive.failures c.self.inside in
-    let s = c.slot-slot.result in (
+    let s = c.slot-slot.result in
+    let can : CanCopy c.args.self.now s c.in-Ok.source = can_copy c.args.self.now s c.in-Ok.source (search rules) in
+    let free : kept_at now s ≡ Nothing = ap (λ (v : ArrayView). kept_at v s) (c.self.view_is ∙ c.carry.ensures.rest) ∙ can.free in (
       as_whole _ _ (ap (λ k. record now { kept = k }) c.put_in.ensures.kept ∙ ap (λ (z : ArrayView). copy_view z s c.in-Ok.source) (c.self.view_is ∙ c.carry.ensures.rest))
           (copy_whole c.args.self.now c.carry.new.self.parts s c.in-Ok.source (search rules) (search rules) (search rules) (subst (λ (v : ArrayView). AreDrives drive_units v.parts.groups v.parts.drives) c.self.view_is c.self.invariant.0.drives) c.told.ensures.whole),
       c.put_in.ensures.claims,
-      places_ready g.D.Drive.units c.self.inside c.put_in.new.places c.self.invariant.2,
+      slot_ready g.D.Drive.units c.self.inside c.put_in.new.places s (Moving c.in-Ok.source) c.put_in.ensures.kept c.self.invariant.0.room.kept (search rules) (ap is_newest free) refl c.self.invariant.2,
     )
 
 pub returns-clause-flat : goal.returns-clause-flat

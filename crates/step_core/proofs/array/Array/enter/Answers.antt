@@ -11,6 +11,7 @@ use Rattle.array_model.proofs.Makings.{entered_whole}
 use Rattle.step_core.specs.Inside.{seen}
 use Rattle.step_core.specs.Kept.{kepts_of}
 use Rattle.step_core.specs.Shut.{AreShutOf}
+use Rattle.step_core.proofs.Counts.{counts_opened}
 use Rattle.step_core.proofs.Ready.{loses_keeps, still_whole, grown_ready}
 use Rattle.step_core.proofs.array.Array.enter.Goals as goal
 
@@ -24,7 +25,8 @@ invariant_of-self g c =
       entered_whole now b (kepts_of c.open_number.new.places.items) c.args.number c.args.class c.args.members.items c.self.invariant.0 lowest reason c.in-Ok.ensures.ok c.open_number.ensures.opened
           (view_drives d.units d.lost d.failures c.enter.new.self c.enter.ensures.fit.drives),
       c.open_number.ensures.of,
-      grown_ready d.units c.self.inside c.enter.new.self c.open_number.new.places c.enter.new.unit (ap (λ (z : Groups). unit_bytes z) (sym c.in-Ok.ensures.ok.groups)) c.enter.ensures.fit c.self.invariant.2,
+      grown_ready d.units c.self.inside c.enter.new.self c.open_number.new.places c.enter.new.unit (ap (λ (z : Groups). unit_bytes z) (sym c.in-Ok.ensures.ok.groups)) c.enter.ensures.fit
+          (counts_opened c.args.number now.kept (kepts_of c.open_number.new.places.items) c.self.inside.live c.open_number.ensures.opened c.self.invariant.2.live) c.self.invariant.2,
     )
 
 pub invariant_of-self-in-Err : goal.invariant_of-self-in-Err
@@ -34,7 +36,7 @@ invariant_of-self-in-Err g c =
     let same = loses_keeps now.parts (view_of d.units d.lost d.failures c.enter.new.self) c.in-Err.ensures.err.loses in (
       still_whole d.units d.lost d.failures c.self.inside c.enter.new.self same c.enter.ensures.fit c.self.invariant.0,
       c.self.invariant.1,
-      grown_ready d.units c.self.inside c.enter.new.self c.self.inside.places c.enter.new.unit (ap (λ (z : Groups). unit_bytes z) (sym same.tables.groups)) c.enter.ensures.fit c.self.invariant.2,
+      grown_ready d.units c.self.inside c.enter.new.self c.self.inside.places c.enter.new.unit (ap (λ (z : Groups). unit_bytes z) (sym same.tables.groups)) c.enter.ensures.fit c.self.invariant.2.live c.self.invariant.2,
     )
 
 pub returns-in-Ok-clause-opened : goal.returns-in-Ok-clause-opened

@@ -1,14 +1,14 @@
-use Rattle.std.proofs.Common.{◌≡◌, ◌∙◌, ap, subst, rules}
+use Rattle.std.proofs.Common.{◌≡◌, ◌∙◌, ap, refl, subst, rules}
 use Rattle.flat_machine.specs.Flat.{Worker, Payload, waiting_unit}
 use Rattle.flat_machine.specs.Steps.{Filled, Refused}
 use Rattle.flat_machine.specs.Cases.{FillCase, FillPasses}
 use Rattle.extent_groups.specs.Stores.{AreDrives}
 use Rattle.array_parts.specs.Views.{drive_units}
 use Rattle.array_model.specs.Changes.{fill_view}
-use Rattle.array_model.specs.Views.{ArrayView, with_parts}
+use Rattle.array_model.specs.Views.{ArrayView, Pending, with_parts}
 use Rattle.array_model.proofs.Fills.{fill_slot, fill_case, fill_gone, fill_refused, fill_whole, as_whole, as_shown}
 use Rattle.step_core.specs.Inside.{seen}
-use Rattle.step_core.proofs.Ready.{places_ready, as_refused}
+use Rattle.step_core.proofs.Ready.{slot_ready, as_refused}
 use Rattle.step_core.proofs.array.Array.fill.Goals as goal
 
 pub returns-in-Some-clause-flat : goal.returns-in-Some-clause-flat
@@ -32,7 +32,7 @@ invariant_of-self g c =
       as_whole _ _ (ap (λ k. record now { kept = k }) c.put_in.ensures.kept ∙ ap (λ (z : ArrayView). fill_view z s) (c.self.view_is ∙ c.put.ensures.rest))
           (fill_whole c.args.self.now c.put.new.self.parts s (waiting_unit c.args.self.now.parts.groups.payload (Payload c.args.payload.now)) (search rules) (search rules) (search rules) (subst (λ (v : ArrayView). AreDrives drive_units v.parts.groups v.parts.drives) c.self.view_is c.self.invariant.0.drives) c.put.ensures.whole),
       c.put_in.ensures.claims,
-      places_ready g.D.Drive.units c.self.inside c.put_in.new.places c.self.invariant.2,
+      slot_ready g.D.Drive.units c.self.inside c.put_in.new.places c.slot-slot.result Pending (search rules) c.self.invariant.0.room.kept (search rules) (search rules) refl c.self.invariant.2,
     )
 
 pub returns-clause-flat : goal.returns-clause-flat

@@ -33,5 +33,6 @@ invariant_of-self g c =
         fit = fit;
         unit = length_again c.self.inside.unit c.shift.new.unit ∙ ready.unit ∙ bytes;
         scratch = length_again c.self.inside.scratch c.shift.new.scratch ∙ ready.scratch ∙ ap (λ n. 2 * n) bytes;
+        live = ready.live;
       },
     )
