@@ -7,13 +7,13 @@ use step_core::{Answer, At, Refusal};
 const MIXED: u32 = 256;
 
 /// Whether an answer is the one that a line spells.
-pub fn is_answer(wanted: &Words<'_>, answer: &Answer) -> bool {
+pub(crate) fn is_answer(wanted: &Words<'_>, answer: &Answer) -> bool {
     let (verb, numbers) = told(answer);
     wanted.verb == verb && wanted.numbers == numbers
 }
 
 /// Whether there is one answer for each line, and each is the one that it spells.
-pub fn are_answers(wanted: &[Words<'_>], answers: &[Answer]) -> bool {
+pub(crate) fn are_answers(wanted: &[Words<'_>], answers: &[Answer]) -> bool {
     for (line, answer) in wanted.iter().zip(answers) {
         if !is_answer(line, answer) {
             return false;

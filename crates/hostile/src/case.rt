@@ -7,18 +7,18 @@ use step_core::{Shape, Step, World};
 
 /// Steps, each with the answer that is wanted of it.
 #[derive(Drop)]
-pub struct Case<'a> {
+pub(crate) struct Case<'a> {
     /// Drives, extents of each, segments, bytes of a payload, and blocks.
     sizes: Words<'a>,
-    pub steps: Vec<Step>,
-    pub wanted: Vec<Words<'a>>,
+    pub(crate) steps: Vec<Step>,
+    pub(crate) wanted: Vec<Words<'a>>,
     /// How many steps stand before the line at which the trial begins.
-    pub before: usize,
+    pub(crate) before: usize,
 }
 
 /// Reads a file: `array` and its sizes, then lines of a step and its answer with ` > ` between them, and somewhere a
 /// line `--`.
-pub fn read_case(alloc: Global, text: &str) -> Result<Case<'_>, Trouble> {
+pub(crate) fn read_case(alloc: Global, text: &str) -> Result<Case<'_>, Trouble> {
     let mut lines = text.lines();
     let sizes = words_of(lines.next().ok_or(Trouble::Input)?)?;
     let mut case = Case {
@@ -46,7 +46,7 @@ fn push<'a>(alloc: Global, case: &mut Case<'a>, line: &'a str) -> Result<(), Tro
 
 impl Case<'_> {
     /// A new world of the case's sizes.
-    pub fn world(&self, alloc: Global) -> Result<World, Trouble> {
+    pub(crate) fn world(&self, alloc: Global) -> Result<World, Trouble> {
         let [drives, extents, segments, payload, blocks, _, _, _] = self.sizes.numbers;
         let drives = byte(drives)?;
         if drives < 3 || drives > 16 {

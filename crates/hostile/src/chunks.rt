@@ -4,7 +4,7 @@ use std::io::{ErrorKind, Read, Write};
 
 /// What a reader does where its front ends.
 #[derive(Drop)]
-pub enum Then {
+pub(crate) enum Then {
     /// There is no more.
     End,
     /// Each read fails from then on.
@@ -15,11 +15,11 @@ pub enum Then {
 
 /// Gives at most so many bytes a read.
 #[derive(Drop)]
-pub struct Feed<'a> {
-    pub front: &'a [u8],
-    pub then: Then,
-    pub behind: &'a [u8],
-    pub piece: usize,
+pub(crate) struct Feed<'a> {
+    pub(crate) front: &'a [u8],
+    pub(crate) then: Then,
+    pub(crate) behind: &'a [u8],
+    pub(crate) piece: usize,
 }
 
 impl Read for Feed<'_> {
@@ -44,14 +44,14 @@ impl Read for Feed<'_> {
 
 /// Takes at most so many bytes a write, and only as many as there is room for: then it takes none or fails.
 #[derive(Drop)]
-pub struct Sink {
-    pub taken: Vec<u8>,
-    pub room: usize,
-    pub piece: usize,
+pub(crate) struct Sink {
+    pub(crate) taken: Vec<u8>,
+    pub(crate) room: usize,
+    pub(crate) piece: usize,
     /// It answers an error where there is no room, in place of 0 bytes.
-    pub fails: bool,
+    pub(crate) fails: bool,
     /// Behind the first write that took nothing there is room for all.
-    pub goes_on: bool,
+    pub(crate) goes_on: bool,
 }
 
 impl Write for Sink {

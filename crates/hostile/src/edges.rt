@@ -6,14 +6,14 @@ use std::alloc::Global;
 
 /// How many runs a reader broke off, and how many a writer.
 #[derive(Drop)]
-pub struct Edges {
-    pub readers: u64,
-    pub writers: u64,
+pub(crate) struct Edges {
+    pub(crate) readers: u64,
+    pub(crate) writers: u64,
 }
 
 /// Runs a script, each line of which has a line of the answers, with a reader that fails behind each of its bytes and a
 /// writer that fails or takes nothing behind each byte of the answers.
-pub fn break_off(alloc: Global, script: &[u8], answers: &[u8]) -> Result<Edges, Trouble> {
+pub(crate) fn break_off(alloc: Global, script: &[u8], answers: &[u8]) -> Result<Edges, Trouble> {
     let mut counts = Edges {
         readers: 0,
         writers: 0,

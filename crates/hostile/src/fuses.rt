@@ -13,14 +13,14 @@ const MOST_CALLS: u64 = 10_000;
 
 /// Runs of a case, how many of them lost a drive, and how many moves were refused for it.
 #[derive(Drop)]
-pub struct Fuses {
-    pub runs: u64,
-    pub losses: u64,
-    pub refused: u64,
+pub(crate) struct Fuses {
+    pub(crate) runs: u64,
+    pub(crate) losses: u64,
+    pub(crate) refused: u64,
 }
 
 /// Runs a case with each drive fused at each call from its line `--` on.
-pub fn fuse_all(alloc: Global, case: &Case<'_>) -> Result<Fuses, Trouble> {
+pub(crate) fn fuse_all(alloc: Global, case: &Case<'_>) -> Result<Fuses, Trouble> {
     let mut counts = Fuses {
         runs: 0,
         losses: 0,

@@ -11,17 +11,17 @@ use std::alloc::Global;
 use step_core::{Array, MemDrive, Plain, Run, Step, Stopped, World, run_steps};
 
 /// An array of drives in memory, with plain claims.
-pub type Memory = Array<MemDrive, Plain>;
+pub(crate) type Memory = Array<MemDrive, Plain>;
 
 /// How many answers a case had, and how often memory was wanted in it.
 #[derive(Drop)]
-pub struct Growths {
-    pub answers: usize,
-    pub wanted: u32,
+pub(crate) struct Growths {
+    pub(crate) answers: usize,
+    pub(crate) wanted: u32,
 }
 
 /// Runs a case; at its line `--` the array is restarted from its drives, groups and claims.
-pub fn run_case(alloc: Global, case: &Case<'_>) -> Result<Growths, Trouble> {
+pub(crate) fn run_case(alloc: Global, case: &Case<'_>) -> Result<Growths, Trouble> {
     let world = case.world(alloc)?;
     let (steps, later) = case
         .steps
@@ -118,7 +118,7 @@ fn scan_fit(alloc: Global, parts: &mut Parts<MemDrive>) -> Result<BlockMap, Scan
 }
 
 /// The running map of an array.
-pub fn map_of(alloc: Global, array: &Memory) -> Result<BlockMap, Trouble> {
+pub(crate) fn map_of(alloc: Global, array: &Memory) -> Result<BlockMap, Trouble> {
     match array.map(alloc) {
         Ok(map) => Ok(map),
         Err(_) => Err(Trouble::Memory),

@@ -16,12 +16,12 @@ const BITS: usize = 256;
 
 /// How many scans there were, and how many of them told a map and each fault.
 #[derive(Drop)]
-pub struct Headers {
-    pub scans: u64,
-    pub maps: u64,
-    pub bad: u64,
-    pub wrong_slots: u64,
-    pub twice: u64,
+pub(crate) struct Headers {
+    pub(crate) scans: u64,
+    pub(crate) maps: u64,
+    pub(crate) bad: u64,
+    pub(crate) wrong_slots: u64,
+    pub(crate) twice: u64,
 }
 
 fn no_scans() -> Headers {
@@ -36,7 +36,7 @@ fn no_scans() -> Headers {
 
 /// So often a slot is written with forty bytes by chance, of which no scan tells a map, and then with a header that is
 /// mostly one.
-pub fn scan_noise(alloc: Global, seed: u32, rounds: u32) -> Result<Headers, Trouble> {
+pub(crate) fn scan_noise(alloc: Global, seed: u32, rounds: u32) -> Result<Headers, Trouble> {
     let mut slots = Slots::new(alloc)?;
     let mut noise = Noise::new(u64::from(seed));
     let mut counts = no_scans();
@@ -56,7 +56,7 @@ pub fn scan_noise(alloc: Global, seed: u32, rounds: u32) -> Result<Headers, Trou
 }
 
 /// Each bit of a header in each slot is the other way once.
-pub fn flips(alloc: Global) -> Result<Headers, Trouble> {
+pub(crate) fn flips(alloc: Global) -> Result<Headers, Trouble> {
     let mut slots = Slots::new(alloc)?;
     let mut counts = no_scans();
     for at in 0..PLACES as usize {

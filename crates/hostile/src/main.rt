@@ -1,4 +1,4 @@
-//! Hostile use of the array and of its script. Each line of standard input names a trial, and is answered by what it counted.
+//! Hostile use of the array and of its script: each line of standard input names a trial, and is answered by its counts.
 #![tactic(auto)]
 
 mod answers;

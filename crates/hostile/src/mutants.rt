@@ -12,10 +12,10 @@ const ANSWERS: &str =
 
 /// How many scripts were run, and how many of them to their end and to a fault.
 #[derive(Drop)]
-pub struct Mutants {
-    pub scripts: u32,
-    pub whole: u32,
-    pub faults: u32,
+pub(crate) struct Mutants {
+    pub(crate) scripts: u32,
+    pub(crate) whole: u32,
+    pub(crate) faults: u32,
 }
 
 /// What a run wrote, and how it ended.
@@ -26,7 +26,7 @@ struct Said {
 }
 
 /// So often a script is changed and run: what it answers is the same whatever the pieces it is read in.
-pub fn run_mutants(
+pub(crate) fn run_mutants(
     alloc: Global,
     seed: u32,
     count: u32,
@@ -51,7 +51,12 @@ pub fn run_mutants(
 }
 
 /// The script as it is changed for the last of so many runs.
-pub fn mutant(alloc: Global, seed: u32, count: u32, script: &[u8]) -> Result<Vec<u8>, Trouble> {
+pub(crate) fn mutant(
+    alloc: Global,
+    seed: u32,
+    count: u32,
+    script: &[u8],
+) -> Result<Vec<u8>, Trouble> {
     let mut noise = Noise::new(u64::from(seed));
     let mut changed = Vec::new(alloc);
     for _ in 0..count {

@@ -3,17 +3,17 @@
 /// A row of numbers that look like chance, the same for the same seed: a multiplication and an addition modulo 2^64, of which
 /// the upper half is told.
 #[derive(Drop)]
-pub struct Noise {
+pub(crate) struct Noise {
     state: u64,
 }
 
 impl Noise {
-    pub fn new(seed: u64) -> Noise {
+    pub(crate) fn new(seed: u64) -> Noise {
         Noise { state: seed }
     }
 
     /// The next number.
-    pub fn next(&mut self) -> u32 {
+    pub(crate) fn next(&mut self) -> u32 {
         self.state = self
             .state
             .wrapping_mul(6_364_136_223_846_793_005)
@@ -22,12 +22,12 @@ impl Noise {
     }
 
     /// The next number, below a bound above 0.
-    pub fn below(&mut self, bound: u32) -> u32 {
+    pub(crate) fn below(&mut self, bound: u32) -> u32 {
         self.next().checked_rem(bound).unwrap_or(0)
     }
 
     /// The next byte.
-    pub fn byte(&mut self) -> u8 {
+    pub(crate) fn byte(&mut self) -> u8 {
         self.next().to_be_bytes()[0]
     }
 }

@@ -27,11 +27,11 @@ const TWO_UNITS: usize = 80;
 
 /// Drives with two groups, and the header of each of their slots, by number.
 #[derive(Drop)]
-pub struct Slots {
+pub(crate) struct Slots {
     parts: Parts<MemDrive>,
     unit: Vec<u8>,
     scratch: Vec<u8>,
-    pub placed: Vec<Placed>,
+    pub(crate) placed: Vec<Placed>,
 }
 
 // Whether each unit of the drives has so many bytes.
@@ -42,7 +42,7 @@ fn are_sized(drives: &[MemDrive], size: usize) -> bool
 }
 
 /// Whether the parts fit one another.
-pub fn are_fit(parts: &Parts<MemDrive>) -> bool
+pub(crate) fn are_fit(parts: &Parts<MemDrive>) -> bool
     ensures { IsTrue result → IsFit held_units parts.now }
 {
     if !are_sized(&parts.drives, parts.groups.shape().unit_bytes()) {
@@ -72,7 +72,7 @@ fn grouped(alloc: Global) -> Result<World, Trouble> {
 
 impl Slots {
     /// Blank slots.
-    pub fn new(alloc: Global) -> Result<Slots, Trouble> {
+    pub(crate) fn new(alloc: Global) -> Result<Slots, Trouble> {
         let Ok((parts, _claims)) = grouped(alloc)?.into_array().into_parts(alloc) else {
             return Err(Trouble::Memory);
         };
@@ -102,7 +102,12 @@ impl Slots {
     }
 
     /// Writes a header and a payload to one of the slots, counted from 0.
-    pub fn put(&mut self, at: usize, header: [u8; 32], payload: [u8; 8]) -> Result<(), Trouble> {
+    pub(crate) fn put(
+        &mut self,
+        at: usize,
+        header: [u8; 32],
+        payload: [u8; 8],
+    ) -> Result<(), Trouble> {
         let place = self.placed.get_mut(at).ok_or(Trouble::Input)?;
         let slot = place.0;
         place.1 = header;
@@ -119,7 +124,7 @@ impl Slots {
     }
 
     /// The map of the headers of all slots, or the first fault.
-    pub fn scan(&mut self, alloc: Global) -> Result<Result<BlockMap, ScanFault>, Trouble> {
+    pub(crate) fn scan(&mut self, alloc: Global) -> Result<Result<BlockMap, ScanFault>, Trouble> {
         if !self.is_ready() {
             return Err(Trouble::Input);
         }

@@ -6,7 +6,7 @@ use std::alloc::{AllocError, Global};
 use step_core::{Class, Member, Step};
 
 /// The step that a line spells.
-pub fn step(alloc: Global, line: &Words<'_>) -> Result<Step, Trouble> {
+pub(crate) fn step(alloc: Global, line: &Words<'_>) -> Result<Step, Trouble> {
     let [first, second, third, _, _, _, _, _] = line.numbers;
     match line.verb {
         "claim" | "release" | "fill" | "copy" | "commit" | "discard" => {

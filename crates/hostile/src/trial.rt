@@ -10,7 +10,7 @@ use std::fs;
 use std::io::Write;
 
 /// Carries out the trial that a line names, and prints what it counted. Numbers stand before files.
-pub fn answer(rt: &HostRuntime, line: &str) -> Result<(), Trouble> {
+pub(crate) fn answer(rt: &HostRuntime, line: &str) -> Result<(), Trouble> {
     let mut words = line.split(' ');
     match words.next().unwrap_or("") {
         "growths" => answer_growths(rt, words.next()),

@@ -6,7 +6,7 @@ use std::io::ErrorKind;
 
 /// Why a trial ends before its end.
 #[derive(Drop)]
-pub enum Trouble {
+pub(crate) enum Trouble {
     /// An answer isn't the one that is wanted.
     Wrong,
     /// A line that says no trial, step or answer, or a file that can't be read.
@@ -17,7 +17,7 @@ pub enum Trouble {
 
 impl Trouble {
     /// The status that the program ends with.
-    pub fn status(self) -> u8 {
+    pub(crate) fn status(self) -> u8 {
         match self {
             Trouble::Wrong => 1,
             Trouble::Input => 2,

@@ -4,10 +4,10 @@ use map_join::Record;
 use std::alloc::{AllocError, Global};
 
 /// A slot and the header that lies there.
-pub type Placed = (u16, [u8; 32]);
+pub(crate) type Placed = (u16, [u8; 32]);
 
 /// What the headers of some slots tell, which are listed by number.
-pub fn walk(
+pub(crate) fn walk(
     alloc: Global,
     placed: &[Placed],
     blocks: u32,

@@ -2,17 +2,17 @@
 use crate::trouble::Trouble;
 
 /// As many numbers as any line has.
-pub const NUMBERS: usize = 8;
+pub(crate) const NUMBERS: usize = 8;
 
 /// A verb, and numbers; those that the line doesn't have are 0.
 #[derive(Drop)]
-pub struct Words<'a> {
-    pub verb: &'a str,
-    pub numbers: [u32; NUMBERS],
+pub(crate) struct Words<'a> {
+    pub(crate) verb: &'a str,
+    pub(crate) numbers: [u32; NUMBERS],
 }
 
 /// The words of a line, between each two of which stands one space.
-pub fn words_of(line: &str) -> Result<Words<'_>, Trouble> {
+pub(crate) fn words_of(line: &str) -> Result<Words<'_>, Trouble> {
     read(line).ok_or(Trouble::Input)
 }
 
@@ -27,7 +27,7 @@ fn read(line: &str) -> Option<Words<'_>> {
 }
 
 /// The number as a drive, a worker or a payload's byte.
-pub fn byte(number: u32) -> Result<u8, Trouble> {
+pub(crate) fn byte(number: u32) -> Result<u8, Trouble> {
     match u8::try_from(number) {
         Ok(byte) => Ok(byte),
         Err(_) => Err(Trouble::Input),
@@ -35,7 +35,7 @@ pub fn byte(number: u32) -> Result<u8, Trouble> {
 }
 
 /// The number as a slot, a group, an extent, a hop or a place.
-pub fn short(number: u32) -> Result<u16, Trouble> {
+pub(crate) fn short(number: u32) -> Result<u16, Trouble> {
     match u16::try_from(number) {
         Ok(short) => Ok(short),
         Err(_) => Err(Trouble::Input),
