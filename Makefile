@@ -1,5 +1,5 @@
-# `make` proves and builds the program and answers the examples; `make test` is the gate.
-.PHONY: all run test bench
+# `make` proves and builds the program and answers the examples; `make test` is the gate; `make hostile` is its long run of hostile use.
+.PHONY: all run test hostile bench
 
 all: run
 
@@ -14,6 +14,9 @@ run:
 
 test:
 	bash .ci/run
+
+hostile:
+	bash .ci/hostile_long
 
 bench:
 	python3 bench/words/run.py

@@ -1,8 +1,12 @@
 // Loaded before a program: refuses the N-th growth (REFUSE=N), so that want of memory can be tested on the program as it is built.
+// Where a growth was refused the file that REFUSED names is made: some growths can be done without, and then the program
+// goes on, so its status doesn't tell it.
 #define _GNU_SOURCE
 #include <dlfcn.h>
+#include <fcntl.h>
 #include <stddef.h>
 #include <stdlib.h>
+#include <unistd.h>
 
 static long count, refuse = -1;
 
@@ -11,7 +15,10 @@ static int is_refused(void) {
         const char *text = getenv("REFUSE");
         refuse = text ? atol(text) : 0;
     }
-    return ++count == refuse;
+    if (++count != refuse) return 0;
+    const char *path = getenv("REFUSED");
+    if (path) close(open(path, O_CREAT | O_WRONLY, 0600));
+    return 1;
 }
 
 void *malloc(size_t size) {

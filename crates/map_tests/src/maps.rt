@@ -27,7 +27,10 @@ fn twelve_bytes_spell_a_record_and_no_others_do(rt: HostRuntime) {
     let bytes = [0u8, 0, 0, 3, 0, 0, 0, 2, 0, 0, 0, 5];
     assert!(rt; record(2, 0, 5).to_bytes() == bytes);
     assert!(rt; Record::of_bytes(&bytes) == Ok(record(2, 0, 5)));
-    assert!(rt; Record::of_bytes(&bytes[..11]) == Err(RecordFault::Length));
+    for length in 0..12usize {
+        assert!(rt; Record::of_bytes(&bytes[..length]) == Err(RecordFault::Length));
+    }
+    assert!(rt; Record::of_bytes(&[1u8; 13]) == Err(RecordFault::Length));
     let unwritten = [0u8, 0, 0, 3, 0, 0, 0, 0, 0, 0, 0, 0];
     assert!(rt; Record::of_bytes(&unwritten) == Err(RecordFault::ZeroVersion));
 }

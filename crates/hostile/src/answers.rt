@@ -1,0 +1,84 @@
+// Answers of a world as lines.
+use crate::words::{NUMBERS, Words};
+use map_join::Record;
+use step_core::{Answer, At, Refusal};
+
+/// More than any byte: what a payload is told by whose bytes aren't all one.
+const MIXED: u32 = 256;
+
+/// Whether an answer is the one that a line spells.
+pub(crate) fn is_answer(wanted: &Words<'_>, answer: &Answer) -> bool {
+    let (verb, numbers) = told(answer);
+    wanted.verb == verb && wanted.numbers == numbers
+}
+
+/// Whether there is one answer for each line, and each is the one that it spells.
+pub(crate) fn are_answers(wanted: &[Words<'_>], answers: &[Answer]) -> bool {
+    for (line, answer) in wanted.iter().zip(answers) {
+        if !is_answer(line, answer) {
+            return false;
+        }
+    }
+    wanted.len() == answers.len()
+}
+
+fn told(answer: &Answer) -> (&'static str, [u32; NUMBERS]) {
+    match answer {
+        Answer::Claimed(slot) => ("claimed", one(*slot)),
+        Answer::Taken(slot) => ("taken", one(*slot)),
+        Answer::Released(slot) => ("released", one(*slot)),
+        Answer::NotHeld(slot) => ("notheld", one(*slot)),
+        Answer::Filled(slot) => ("filled", one(*slot)),
+        Answer::Copied(slot) => ("copied", one(*slot)),
+        Answer::Discarded(slot) => ("discarded", one(*slot)),
+        Answer::Committed(record) => ("record", numbers_of(*record)),
+        Answer::Read(None) => ("none", [0; NUMBERS]),
+        Answer::Read(Some((version, payload))) => {
+            ("data", [*version, byte_of(payload), 0, 0, 0, 0, 0, 0])
+        }
+        Answer::Found(At::Data(payload)) => ("data", [byte_of(payload), 0, 0, 0, 0, 0, 0, 0]),
+        Answer::Found(At::Stale(None)) => ("stale", [0; NUMBERS]),
+        Answer::Found(At::Stale(Some(record))) => ("stale", numbers_of(*record)),
+        Answer::Made(group) => ("made", one(*group)),
+        Answer::Shifted => ("moved", [0; NUMBERS]),
+        Answer::Added(drive) => ("added", one(u16::from(*drive))),
+        Answer::Lost(drive) => ("lost", one(u16::from(*drive))),
+        Answer::Refused(refusal) => ("refused", refused(refusal)),
+    }
+}
+
+fn one(number: u16) -> [u32; NUMBERS] {
+    [u32::from(number), 0, 0, 0, 0, 0, 0, 0]
+}
+
+fn numbers_of(record: Record) -> [u32; NUMBERS] {
+    let Record {
+        block,
+        version,
+        hop,
+        place,
+    } = record;
+    [block, version, u32::from(hop), u32::from(place), 0, 0, 0, 0]
+}
+
+// The refusal's number, and what it names.
+fn refused(refusal: &Refusal) -> [u32; NUMBERS] {
+    let number = u32::from(refusal.number());
+    let [block, version, hop, place, _, _, _, _] = match refusal {
+        Refusal::Outrun(record) => numbers_of(*record),
+        Refusal::Gone(slot) => one(*slot),
+        Refusal::SlotsHeld(slot) => one(*slot),
+        Refusal::DriveLost(drive) => one(u16::from(*drive)),
+        Refusal::Ahead(Some(record)) => numbers_of(*record),
+        _ => [0; NUMBERS],
+    };
+    [number, block, version, hop, place, 0, 0, 0]
+}
+
+// The byte that all eight are.
+fn byte_of(payload: &[u8]) -> u32 {
+    match payload.first() {
+        Some(first) if payload == [*first; 8].as_slice() => u32::from(*first),
+        _ => MIXED,
+    }
+}

@@ -1,0 +1,77 @@
+// Readers that give their bytes in pieces and may fail, and writers that take them so.
+use std::io;
+use std::io::{ErrorKind, Read, Write};
+
+/// What a reader does where its front ends.
+#[derive(Drop)]
+pub(crate) enum Then {
+    /// There is no more.
+    End,
+    /// Each read fails from then on.
+    Fail,
+    /// One read fails, and what is behind the front follows.
+    FailOnce,
+}
+
+/// Gives at most so many bytes a read.
+#[derive(Drop)]
+pub(crate) struct Feed<'a> {
+    pub(crate) front: &'a [u8],
+    pub(crate) then: Then,
+    pub(crate) behind: &'a [u8],
+    pub(crate) piece: usize,
+}
+
+impl Read for Feed<'_> {
+    fn read(&mut self, buf: &mut [u8]) -> io::Result<usize> {
+        if self.front.is_empty() {
+            match self.then {
+                Then::End => return Ok(0),
+                Then::Fail => return Err(io::Error::from(ErrorKind::BrokenPipe)),
+                Then::FailOnce => {
+                    self.then = Then::End;
+                    self.front = self.behind;
+                    return Err(io::Error::from(ErrorKind::Interrupted));
+                }
+            }
+        }
+        let count = self.front.len().min(buf.len()).min(self.piece);
+        buf[..count].copy_from_slice(&self.front[..count]);
+        self.front = &self.front[count..];
+        Ok(count)
+    }
+}
+
+/// Takes at most so many bytes a write, and only as many as there is room for: then it takes none or fails.
+#[derive(Drop)]
+pub(crate) struct Sink {
+    pub(crate) taken: Vec<u8>,
+    pub(crate) room: usize,
+    pub(crate) piece: usize,
+    /// It answers an error where there is no room, in place of 0 bytes.
+    pub(crate) fails: bool,
+    /// Behind the first write that took nothing there is room for all.
+    pub(crate) goes_on: bool,
+}
+
+impl Write for Sink {
+    fn write(&mut self, buf: &[u8]) -> io::Result<usize> {
+        let count = buf.len().min(self.room).min(self.piece);
+        if count == 0 {
+            if self.goes_on {
+                self.room = usize::MAX;
+            }
+            if self.fails {
+                return Err(io::Error::from(ErrorKind::BrokenPipe));
+            }
+            return Ok(0);
+        }
+        self.taken.extend_from_slice(&buf[..count])?;
+        self.room = self.room.saturating_sub(count);
+        Ok(count)
+    }
+
+    fn flush(&mut self) -> io::Result<()> {
+        Ok(())
+    }
+}

@@ -1,0 +1,164 @@
+// Units of bytes by chance, and of a header with a bit that is wrong, as a scan tells them and as a plain walk does.
+use crate::noise::Noise;
+use crate::slots::Slots;
+use crate::trouble::Trouble;
+use crate::walk::walk;
+use header_scan::ScanFault;
+use map_join::{BlockMap, Record};
+use std::alloc::Global;
+
+/// Slots of the two groups, blocks, and bits of a header.
+const PLACES: u32 = 14;
+
+const BLOCKS: u32 = 16;
+
+const BITS: usize = 256;
+
+/// How many scans there were, and how many of them told a map and each fault.
+#[derive(Drop)]
+pub(crate) struct Headers {
+    pub(crate) scans: u64,
+    pub(crate) maps: u64,
+    pub(crate) bad: u64,
+    pub(crate) wrong_slots: u64,
+    pub(crate) twice: u64,
+}
+
+fn no_scans() -> Headers {
+    Headers {
+        scans: 0,
+        maps: 0,
+        bad: 0,
+        wrong_slots: 0,
+        twice: 0,
+    }
+}
+
+/// So often a slot is written with forty bytes by chance, of which no scan tells a map, and then with a header that is
+/// mostly one.
+pub(crate) fn scan_noise(alloc: Global, seed: u32, rounds: u32) -> Result<Headers, Trouble> {
+    let mut slots = Slots::new(alloc)?;
+    let mut noise = Noise::new(u64::from(seed));
+    let mut counts = no_scans();
+    for _ in 0..rounds {
+        let at = noise.below(PLACES) as usize;
+        slots.put(at, bytes(&mut noise), payload(&mut noise))?;
+        let before = counts.maps;
+        check(alloc, &mut slots, &mut counts)?;
+        if counts.maps != before {
+            return Err(Trouble::Wrong);
+        }
+        let header = header(&mut noise, slot_at(&slots, at));
+        slots.put(at, header, payload(&mut noise))?;
+        check(alloc, &mut slots, &mut counts)?;
+    }
+    Ok(counts)
+}
+
+/// Each bit of a header in each slot is the other way once.
+pub(crate) fn flips(alloc: Global) -> Result<Headers, Trouble> {
+    let mut slots = Slots::new(alloc)?;
+    let mut counts = no_scans();
+    for at in 0..PLACES as usize {
+        let sound = spell(3, 1, 0, slot_at(&slots, at));
+        for bit in 0..BITS {
+            slots.put(at, flipped(sound, bit), [7; 8])?;
+            check(alloc, &mut slots, &mut counts)?;
+        }
+        slots.put(at, [0; 32], [0; 8])?;
+    }
+    Ok(counts)
+}
+
+// Scans, and compares with the walk.
+fn check(alloc: Global, slots: &mut Slots, counts: &mut Headers) -> Result<(), Trouble> {
+    counts.scans = counts.scans.saturating_add(1);
+    let scanned = slots.scan(alloc)?;
+    match walk(alloc, &slots.placed, BLOCKS)? {
+        Ok(newest) => {
+            if !is_list(alloc, &scanned, &newest)? {
+                return Err(Trouble::Wrong);
+            }
+            counts.maps = counts.maps.saturating_add(1);
+        }
+        Err(wanted) => {
+            if scanned.err() != Some(wanted) {
+                return Err(Trouble::Wrong);
+            }
+            note(counts, wanted);
+        }
+    }
+    Ok(())
+}
+
+fn is_list(
+    alloc: Global,
+    scanned: &Result<BlockMap, ScanFault>,
+    newest: &[Record],
+) -> Result<bool, Trouble> {
+    match scanned {
+        Ok(map) => Ok(map.to_list(alloc)?.as_slice() == newest),
+        Err(_) => Ok(false),
+    }
+}
+
+fn note(counts: &mut Headers, fault: ScanFault) {
+    let count = match fault {
+        ScanFault::BadHeader(_) => &mut counts.bad,
+        ScanFault::WrongSlot(_, _) => &mut counts.wrong_slots,
+        _ => &mut counts.twice,
+    };
+    *count = count.saturating_add(1);
+}
+
+fn slot_at(slots: &Slots, at: usize) -> u16 {
+    match slots.placed.get(at) {
+        Some(placed) => placed.0,
+        None => 0,
+    }
+}
+
+fn bytes(noise: &mut Noise) -> [u8; 32] {
+    let mut bytes = [0; 32];
+    for byte in bytes.iter_mut() {
+        *byte = noise.byte();
+    }
+    bytes
+}
+
+fn payload(noise: &mut Noise) -> [u8; 8] {
+    [noise.byte(); 8]
+}
+
+// A header of a record of the slot; one of three is blank, and one of some twenty of another slot or of a block too many.
+fn header(noise: &mut Noise, slot: u16) -> [u8; 32] {
+    if noise.below(3) == 0 {
+        return [0; 32];
+    }
+    let version = noise.below(6).saturating_add(1);
+    let hop = u16::from(noise.byte() % 2);
+    match noise.below(40) {
+        0 => spell(BLOCKS, version, hop, slot),
+        1 => spell(3, version, hop, slot ^ 1),
+        _ => spell(noise.below(BLOCKS), version, hop, slot),
+    }
+}
+
+// A record's header: four fixed bytes, the record's numbers with the highest byte first, and sixteen zeros.
+fn spell(block: u32, version: u32, hop: u16, slot: u16) -> [u8; 32] {
+    let mut header = [0; 32];
+    header[..4].copy_from_slice(&[0x52, 0x42, 0x48, 0x31]);
+    header[4..8].copy_from_slice(&block.to_be_bytes());
+    header[8..12].copy_from_slice(&version.to_be_bytes());
+    header[12..14].copy_from_slice(&hop.to_be_bytes());
+    header[14..16].copy_from_slice(&slot.to_be_bytes());
+    header
+}
+
+fn flipped(header: [u8; 32], bit: usize) -> [u8; 32] {
+    let mut header = header;
+    if let Some(byte) = header.get_mut(bit / 8) {
+        *byte ^= 1u8.checked_shl((bit % 8) as u32).unwrap_or(0);
+    }
+    header
+}

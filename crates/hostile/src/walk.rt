@@ -1,0 +1,91 @@
+// A plain walk over headers as bytes: the fault that a scan of them tells, or the newest record of each block.
+use header_scan::ScanFault;
+use map_join::Record;
+use std::alloc::{AllocError, Global};
+
+/// A slot and the header that lies there.
+pub(crate) type Placed = (u16, [u8; 32]);
+
+/// What the headers of some slots tell, which are listed by number.
+pub(crate) fn walk(
+    alloc: Global,
+    placed: &[Placed],
+    blocks: u32,
+) -> Result<Result<Vec<Record>, ScanFault>, AllocError> {
+    let mut records = Vec::new(alloc);
+    for (slot, header) in placed {
+        match told(*slot, header, blocks) {
+            Ok(Some(record)) => records.push(record)?,
+            Ok(None) => {}
+            Err(fault) => return Ok(Err(fault)),
+        }
+    }
+    let mut newest = Vec::new(alloc);
+    for block in 0..blocks {
+        match newest_of(block, &records) {
+            Ok(Some(record)) => newest.push(record)?,
+            Ok(None) => {}
+            Err(fault) => return Ok(Err(fault)),
+        }
+    }
+    Ok(Ok(newest))
+}
+
+// The record in a slot's header, none in a blank one, or what is wrong with it.
+fn told(slot: u16, header: &[u8; 32], blocks: u32) -> Result<Option<Record>, ScanFault> {
+    if *header == [0; 32] {
+        return Ok(None);
+    }
+    let record = spelled(header).ok_or(ScanFault::BadHeader(slot))?;
+    if record.block >= blocks {
+        return Err(ScanFault::BadHeader(slot));
+    }
+    if record.place != slot {
+        return Err(ScanFault::WrongSlot(slot, record.place));
+    }
+    Ok(Some(record))
+}
+
+// The record that a header spells: four fixed bytes, the record's numbers, and sixteen zeros.
+fn spelled(header: &[u8; 32]) -> Option<Record> {
+    let is_ours = header[..4] == [0x52, 0x42, 0x48, 0x31] && header[16..] == [0; 16];
+    let version = u32::from_be_bytes([header[8], header[9], header[10], header[11]]);
+    if !is_ours || version == 0 {
+        return None;
+    }
+    Some(Record {
+        block: u32::from_be_bytes([header[4], header[5], header[6], header[7]]),
+        version,
+        hop: u16::from_be_bytes([header[12], header[13]]),
+        place: u16::from_be_bytes([header[14], header[15]]),
+    })
+}
+
+// The block's record of the greatest version and hop, or the two lowest slots where such a one stands.
+fn newest_of(block: u32, records: &[Record]) -> Result<Option<Record>, ScanFault> {
+    let mut newest: Option<Record> = None;
+    let mut twin: Option<u16> = None;
+    for record in records {
+        if record.block != block {
+            continue;
+        }
+        match newest {
+            Some(other) if stamp(record) < stamp(&other) => {}
+            Some(other) if stamp(record) == stamp(&other) => {
+                twin = twin.or(Some(record.place));
+            }
+            _ => {
+                newest = Some(*record);
+                twin = None;
+            }
+        }
+    }
+    match (newest, twin) {
+        (Some(first), Some(second)) => Err(ScanFault::Twice(block, first.place, second)),
+        _ => Ok(newest),
+    }
+}
+
+fn stamp(record: &Record) -> (u32, u16) {
+    (record.version, record.hop)
+}
