@@ -15,5 +15,6 @@ pub mod Seeing
 pub mod News
 pub mod Adopting
 pub mod Hands
+pub mod OneMore
 pub mod Regroups
 pub mod MoveReasons

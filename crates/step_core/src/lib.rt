@@ -2,12 +2,14 @@
 #![tactic(auto)]
 
 mod adopt;
+mod apart;
 mod array;
 mod commit;
 mod copy;
 mod discard;
 mod drives;
 mod fill;
+mod fresh;
 mod grow;
 mod hold;
 mod make;
@@ -25,6 +27,7 @@ mod units;
 mod world;
 
 pub use adopt::NotAdopted;
+pub use apart::{Apart, claims_are_free};
 pub use array::Array;
 pub use array_parts::Units;
 pub use commit::{Done, Emitted};
