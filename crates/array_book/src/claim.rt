@@ -32,7 +32,7 @@ impl<N: Naming> Claim<N> {
 
     /// The claim, to be released.
     pub fn into_inner(self) -> slot_words::Claim<N>
-        ensures { result ≡ self.entry.0 }
+        ensures { result ≡ self.0 }
     {
         let Claim(claim) = self;
         claim

@@ -2,15 +2,12 @@
 #![tactic(auto)]
 
 mod asks;
-mod book;
 mod claim;
 mod controller;
 mod fault;
 mod gate;
 mod kept;
-mod plan;
 
-pub use book::Book;
 pub use claim::{Claim, Sizes};
 pub use controller::Controller;
 pub use fault::{SettleFault, WorkFault};
