@@ -17,12 +17,22 @@ abbrev pub shares_of : List View → ℕ
 shares_of [] = 0
 shares_of (v ∷ vs) = v.share + shares_of vs
 
--- Why a Book isn't settled, given the Takers of both controllers and the array's keys. NotWhole: the share of the first
--- controller isn't the whole, or else that of the second. Differs: both are, and this is the lowest block of which the map of
--- all that they took isn't the array's.
-abbrev pub IsUnsettled : List View → List View → (ℕ → ℕ) → SettleFault → Type 0
-IsUnsettled even odd keys (NotWhole told) =
-    ((shares_of even ≢ whole) × (told ≡ shares_of even)) ⊎ ((shares_of even ≡ whole) × (shares_of odd ≢ whole) × (told ≡ shares_of odd))
-IsUnsettled even odd keys (Differs block) =
-    (shares_of even ≡ whole) × (shares_of odd ≡ whole) × ((M : ℕ → ℕ) → IsMapOf (taken_by even ++ taken_by odd) M → IsLowestDifference M keys block)
-IsUnsettled even odd keys Memory = (shares_of even ≡ whole) × (shares_of odd ≡ whole)
+-- Why a Book isn't settled, given the shares of both controllers that came, all that was taken, and the array's keys. NotWhole:
+-- the share of the even controller isn't the whole, or else that of the odd one. Differs: both are, and this is the lowest block of
+-- which the map of all that was taken isn't the array's. Memory: both are.
+abbrev pub IsUnsettled : ℕ → ℕ → List Record → (ℕ → ℕ) → SettleFault → Type 0
+IsUnsettled even odd taken keys (NotWhole told) = ((even ≢ whole) × (told ≡ even)) ⊎ ((even ≡ whole) × (odd ≢ whole) × (told ≡ odd))
+IsUnsettled even odd taken keys (Differs block) = (even ≡ whole) × (odd ≡ whole) × ((M : ℕ → ℕ) → IsMapOf taken M → IsLowestDifference M keys block)
+IsUnsettled even odd taken keys Memory = (even ≡ whole) × (odd ≡ whole)
+
+-- why the words of one controller aren't closed
+abbrev pub IsUnclosed : ℕ → SettleFault → Type 0
+IsUnclosed share (NotWhole told) = (share ≢ whole) × (told ≡ share)
+IsUnclosed share (Differs block) = ⊥
+IsUnclosed share Memory = share ≡ whole
+
+-- why a map isn't found to be the array's: this is the lowest block of which they differ, or memory is wanted
+abbrev pub IsDiffering : (ℕ → ℕ) → (ℕ → ℕ) → SettleFault → Type 0
+IsDiffering M keys (NotWhole told) = ⊥
+IsDiffering M keys (Differs block) = IsLowestDifference M keys block
+IsDiffering M keys Memory = Unit {0}

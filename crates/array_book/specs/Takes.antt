@@ -34,3 +34,7 @@ Knows taker r = Contains taker.taken r ⊎ ((f : Found) × Contains taker.found 
 abbrev pub IsTold : View → ℕ → View → Option Record → Type 0
 IsTold before block after None = IsNewest before block 0
 IsTold before block after (Some r) = (r.block ≡ block) × Knows after r × IsNewest before block (key_of r)
+
+-- what was told is what was found, and nothing was taken; or it was taken
+abbrev pub Learnt : Record → Record → View → View → Type 0
+Learnt told found before after = ((told ≡ found) × (after ≡ before)) ⊎ Took told before after

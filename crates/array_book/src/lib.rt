@@ -2,14 +2,21 @@
 #![tactic(auto)]
 
 mod asks;
+mod book;
 mod claim;
 mod controller;
 mod fault;
 mod gate;
 mod kept;
+mod plan;
+mod settling;
+mod worker;
 
+pub use book::Book;
 pub use claim::{Claim, Sizes};
 pub use controller::Controller;
 pub use fault::{SettleFault, WorkFault};
 pub use gate::{Gate, NoGate, Point};
 pub use kept::{Kept, appended_in, commit_in, copy_in, discard_in, fill_in, read_in};
+pub use settling::{Ended, Settled, compare, settle};
+pub use worker::{Migration, Worker};
