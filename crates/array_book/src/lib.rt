@@ -9,7 +9,9 @@ mod fault;
 mod gate;
 mod kept;
 mod plan;
+mod run;
 mod settling;
+mod storm;
 mod worker;
 
 pub use book::Book;
@@ -18,5 +20,7 @@ pub use controller::Controller;
 pub use fault::{SettleFault, WorkFault};
 pub use gate::{Gate, NoGate, Point};
 pub use kept::{Kept, appended_in, commit_in, copy_in, discard_in, fill_in, read_in};
+pub use run::{Job, RunFault, run_workers};
 pub use settling::{Ended, Settled, compare, settle};
+pub use storm::{Storm, StormFault, run_storm};
 pub use worker::{Migration, Worker};

@@ -1,0 +1,78 @@
+// Workers in threads of their own.
+use crate::claim::Sizes;
+use crate::fault::WorkFault;
+use crate::worker::Worker;
+use extents::Drive;
+use std::alloc::{AllocFailed, Global};
+use std::sync::Wait;
+use std::thread;
+use std::thread::{JoinHandle, Threads};
+
+/// What each worker does.
+pub trait Job<D: Drive, N: slot_words::Naming + Sizes, A: map_words::Naming, B: map_words::Naming> {
+    fn work<R: Wait>(
+        &self,
+        rt: &R,
+        alloc: Global,
+        worker: &mut Worker<'_, D, N, A, B>,
+    ) -> Result<(), WorkFault>;
+}
+
+/// Why not all work was done.
+#[derive(Clone, Copy, Debug, PartialEq, Eq)]
+pub enum RunFault {
+    /// Also where a thread could not be started.
+    Memory,
+    /// The lowest worker of the list whose job failed, and its fault.
+    Job(u8, WorkFault),
+}
+
+/// Starts one thread for each worker, and joins all.
+pub fn run_workers<
+    D: Drive + Send,
+    N: slot_words::Naming + Sizes + Send + Sync,
+    A: map_words::Naming + Send + Sync,
+    B: map_words::Naming + Send + Sync,
+    J: Job<D, N, A, B> + Sync,
+    R: Threads + Wait + Sync,
+>(
+    rt: &R,
+    alloc: Global,
+    workers: &mut [Worker<'_, D, N, A, B>],
+    job: &J,
+) -> Result<(), RunFault> {
+    let each = workers.iter_mut();
+    thread::scope(thread::scope_env(), rt, move |scope| {
+        let mut handles = Vec::new(alloc);
+        let mut started = Ok(());
+        for worker in each {
+            let Ok(handle) = scope.spawn(move || job.work(rt, alloc, worker)) else {
+                started = Err(RunFault::Memory);
+                break;
+            };
+            if let Err(AllocFailed { value }) = handles.push(handle) {
+                let _ = value.join(rt);
+                started = Err(RunFault::Memory);
+                break;
+            }
+        }
+        join_all(rt, handles, started)
+    })
+}
+
+// Joins all threads, and tells the first fault.
+fn join_all<R: Threads>(
+    rt: &R,
+    handles: Vec<JoinHandle<Result<(), WorkFault>>>,
+    started: Result<(), RunFault>,
+) -> Result<(), RunFault> {
+    let mut result = started;
+    let mut number = 0u8;
+    for handle in handles {
+        if let (Err(fault), Ok(())) = (handle.join(rt), result) {
+            result = Err(RunFault::Job(number, fault));
+        }
+        number = number.saturating_add(1);
+    }
+    result
+}
