@@ -6,7 +6,7 @@ use extents::Drive;
 use std::alloc::{AllocFailed, Global};
 use std::sync::Wait;
 use std::thread;
-use std::thread::{JoinHandle, Threads};
+use std::thread::{JoinHandle, Scope, Threads};
 
 /// What each worker does.
 pub trait Job<D: Drive, N: slot_words::Naming + Sizes, A: map_words::Naming, B: map_words::Naming> {
@@ -46,7 +46,7 @@ pub fn run_workers<
         let mut handles = Vec::new(alloc);
         let mut started = Ok(());
         for worker in each {
-            let Ok(handle) = scope.spawn(move || job.work(rt, alloc, worker)) else {
+            let Some(handle) = start(scope, rt, alloc, worker, job) else {
                 started = Err(RunFault::Memory);
                 break;
             };
@@ -58,6 +58,30 @@ pub fn run_workers<
         }
         join_all(rt, handles, started)
     })
+}
+
+// Starts a worker in a thread of its own.
+fn start<
+    's,
+    'b: 's,
+    E,
+    D: Drive + Send + 's,
+    N: slot_words::Naming + Sizes + Send + Sync + 's,
+    A: map_words::Naming + Send + Sync + 's,
+    B: map_words::Naming + Send + Sync + 's,
+    J: Job<D, N, A, B> + Sync + 's,
+    R: Wait + Sync + 's,
+>(
+    scope: &Scope<'s, E>,
+    rt: &'s R,
+    alloc: Global,
+    worker: &'s mut Worker<'b, D, N, A, B>,
+    job: &'s J,
+) -> Option<JoinHandle<Result<(), WorkFault>>> {
+    match scope.spawn(move || job.work(rt, alloc, worker)) {
+        Ok(handle) => Some(handle),
+        Err(_) => None,
+    }
 }
 
 // Joins all threads, and tells the first fault.
