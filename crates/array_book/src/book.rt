@@ -16,7 +16,12 @@ use std::sync::Mutex;
 use step_core::Array;
 
 /// An array behind a lock, its slot words, and the maps of two controllers. While it is in a Book no group of it is made.
-pub struct Book<D: Drive, N: slot_words::Naming + Sizes, A: map_words::Naming, B: map_words::Naming> {
+pub struct Book<
+    D: Drive,
+    N: slot_words::Naming + Sizes,
+    A: map_words::Naming,
+    B: map_words::Naming,
+> {
     pub(crate) words: SlotWords<N>,
     pub(crate) even: MapWords<A>,
     pub(crate) odd: MapWords<B>,
@@ -32,7 +37,12 @@ pub struct Book<D: Drive, N: slot_words::Naming + Sizes, A: map_words::Naming, B
     pub(crate) ghost there: { blocks_of B.table ≡ blocks },
 }
 
-impl<D: Drive, N: slot_words::Naming + Sizes, A: map_words::Naming, B: map_words::Naming> Book<D, N, A, B> {
+impl<D: Drive, N: slot_words::Naming + Sizes, A: map_words::Naming, B: map_words::Naming> Book<
+    D,
+    N,
+    A,
+    B,
+> {
     /// A Book round an array, with a word for each slot and two for each block. For want of memory all comes back.
     pub fn new(
         alloc: Global,

@@ -1,4 +1,6 @@
 // Workers in threads of their own.
+ghost use Rattle.std.specs.Thread.{IsSend};
+
 use crate::claim::Sizes;
 use crate::fault::WorkFault;
 use crate::worker::Worker;
@@ -35,29 +37,31 @@ pub fn run_workers<
     B: map_words::Naming + Send + Sync,
     J: Job<D, N, A, B> + Sync,
     R: Threads + Wait + Sync,
->(
-    rt: &R,
-    alloc: Global,
-    workers: &mut [Worker<'_, D, N, A, B>],
-    job: &J,
-) -> Result<(), RunFault> {
+>(rt: &R, alloc: Global, workers: &mut [Worker<'_, D, N, A, B>], job: &J) -> Result<(), RunFault> {
     let each = workers.iter_mut();
-    thread::scope(thread::scope_env(), rt, move |scope| {
-        let mut handles = Vec::new(alloc);
-        let mut started = Ok(());
-        for worker in each {
-            let Some(handle) = start(scope, rt, alloc, worker, job) else {
-                started = Err(RunFault::Memory);
-                break;
-            };
-            if let Err(AllocFailed { value }) = handles.push(handle) {
-                let _ = value.join(rt);
-                started = Err(RunFault::Memory);
-                break;
+    thread::scope(
+        thread::scope_env(),
+        rt,
+        move |scope| -> Result<(), RunFault>
+            requires { IsSend D.row × IsSend N.row × IsSend A.row × IsSend B.row }
+        {
+            let mut handles = Vec::new(alloc);
+            let mut started = Ok(());
+            let task = (rt, alloc, job);
+            for worker in each {
+                let Some(handle) = start(scope, task, worker) else {
+                    started = Err(RunFault::Memory);
+                    break;
+                };
+                if let Err(AllocFailed { value }) = handles.push(handle) {
+                    let _ = value.join(rt);
+                    started = Err(RunFault::Memory);
+                    break;
+                }
             }
-        }
-        join_all(rt, handles, started)
-    })
+            join_all(rt, handles, started)
+        },
+    )
 }
 
 // Starts a worker in a thread of its own.
@@ -73,11 +77,10 @@ fn start<
     R: Wait + Sync + 's,
 >(
     scope: &Scope<'s, E>,
-    rt: &'s R,
-    alloc: Global,
+    task: (&'s R, Global, &'s J),
     worker: &'s mut Worker<'b, D, N, A, B>,
-    job: &'s J,
 ) -> Option<JoinHandle<Result<(), WorkFault>>> {
+    let (rt, alloc, job) = task;
     match scope.spawn(move || job.work(rt, alloc, worker)) {
         Ok(handle) => Some(handle),
         Err(_) => None,

@@ -66,7 +66,12 @@ struct Rounds {
     writes: u32,
 }
 
-impl<D: Drive, N: slot_words::Naming + Sizes, A: map_words::Naming, B: map_words::Naming> Job<D, N, A, B> for Rounds {
+impl<D: Drive, N: slot_words::Naming + Sizes, A: map_words::Naming, B: map_words::Naming> Job<
+    D,
+    N,
+    A,
+    B,
+> for Rounds {
     fn work<R: Wait>(
         &self,
         rt: &R,
@@ -81,12 +86,13 @@ impl<D: Drive, N: slot_words::Naming + Sizes, A: map_words::Naming, B: map_words
 }
 
 // One round: a write, a migration and a read at the other controller.
-fn play<R: Wait, D: Drive, N: slot_words::Naming + Sizes, A: map_words::Naming, B: map_words::Naming>(
-    rt: &R,
-    alloc: Global,
-    worker: &mut Worker<'_, D, N, A, B>,
-    round: u32,
-) -> Result<(), WorkFault> {
+fn play<
+    R: Wait,
+    D: Drive,
+    N: slot_words::Naming + Sizes,
+    A: map_words::Naming,
+    B: map_words::Naming,
+>(rt: &R, alloc: Global, worker: &mut Worker<'_, D, N, A, B>, round: u32) -> Result<(), WorkFault> {
     let number = worker.number();
     if worker.blocks() != BLOCKS || worker.payload() != PAYLOAD {
         return Err(WorkFault::NoRoom);

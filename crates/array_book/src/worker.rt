@@ -13,7 +13,9 @@ use crate::claim::{Claim, Sizes};
 use crate::controller::Controller;
 use crate::fault::WorkFault;
 use crate::gate::{Gate, Point};
-use crate::kept::{Kept, appended_in, commit_fresh_in, commit_in, copy_in, discard_in, fill_in, read_in};
+use crate::kept::{
+    Kept, appended_in, commit_fresh_in, commit_in, copy_in, discard_in, fill_in, read_in,
+};
 use crate::plan::{Plan, plan_in};
 use crate::settling::Ended;
 use extents::Drive;
@@ -27,7 +29,13 @@ use step_core::{Done, Emitted, Reading, Ticket};
 
 /// One thread's hands on a Book: a Pass, and a Taker of each controller.
 #[derive(Drop)]
-pub struct Worker<'a, D: Drive, N: slot_words::Naming + Sizes, A: map_words::Naming, B: map_words::Naming> {
+pub struct Worker<
+    'a,
+    D: Drive,
+    N: slot_words::Naming + Sizes,
+    A: map_words::Naming,
+    B: map_words::Naming,
+> {
     pub(crate) book: &'a Book<D, N, A, B>,
     pub(crate) number: u8,
     pub(crate) pass: Pass<N>,
@@ -47,7 +55,13 @@ pub enum Migration {
     NoRoom,
 }
 
-impl<'a, D: Drive, N: slot_words::Naming + Sizes, A: map_words::Naming, B: map_words::Naming> Worker<'a, D, N, A, B> {
+impl<
+    'a,
+    D: Drive,
+    N: slot_words::Naming + Sizes,
+    A: map_words::Naming,
+    B: map_words::Naming,
+> Worker<'a, D, N, A, B> {
     /// A worker of the Book.
     pub fn new(
         book: &'a Book<D, N, A, B>,
@@ -146,7 +160,13 @@ impl<'a, D: Drive, N: slot_words::Naming + Sizes, A: map_words::Naming, B: map_w
         ensures rest { (self.new.number ≡ self.old.number) × (self.new.book ≡ self.old.book) × (self.new.even ≡ self.old.even) × (self.new.odd ≡ self.old.odd) }
     {
         let book = self.book;
-        let filled = fill_in(&mut *book.kept.lock(rt), &book.words, alloc, Claim(claim), payload);
+        let filled = fill_in(
+            &mut *book.kept.lock(rt),
+            &book.words,
+            alloc,
+            Claim(claim),
+            payload,
+        );
         match filled {
             Ok(ticket) => Ok(ticket),
             Err((refusal, Claim(claim))) => {
@@ -227,7 +247,13 @@ impl<'a, D: Drive, N: slot_words::Naming + Sizes, A: map_words::Naming, B: map_w
     }
 }
 
-impl<'a, D: Drive, N: slot_words::Naming + Sizes, A: map_words::Naming, B: map_words::Naming> Worker<'a, D, N, A, B> {
+impl<
+    'a,
+    D: Drive,
+    N: slot_words::Naming + Sizes,
+    A: map_words::Naming,
+    B: map_words::Naming,
+> Worker<'a, D, N, A, B> {
     /// Moves one block: where fewer mirrored slots than `low` are free, the one of those in mirrored groups that was written
     /// longest ago to where the write log goes on; else one by a plug, or where there is none by a clean. Its record is taken as
     /// a write's. A plan that has grown old meanwhile is carried out all the same.
@@ -270,7 +296,12 @@ impl<'a, D: Drive, N: slot_words::Naming + Sizes, A: map_words::Naming, B: map_w
         ensures block { IfOk result (λ found. MatchOption found (Unit {0}) (λ plan. plan.block < self.now.book.now.blocks)) }
         ensures fault { result ≢ Err (Core refusal.Memory) }
     {
-        match plan_in(&mut *self.book.kept.lock(rt), alloc, &self.book.mirrors, low) {
+        match plan_in(
+            &mut *self.book.kept.lock(rt),
+            alloc,
+            &self.book.mirrors,
+            low,
+        ) {
             Ok(found) => Ok(found),
             Err(_) => Err(WorkFault::Memory),
         }
@@ -289,7 +320,13 @@ impl<'a, D: Drive, N: slot_words::Naming + Sizes, A: map_words::Naming, B: map_w
         ensures rest { (self.new.number ≡ self.old.number) × (self.new.book ≡ self.old.book) × (self.new.even ≡ self.old.even) × (self.new.odd ≡ self.old.odd) }
     {
         let book = self.book;
-        let copied = copy_in(&mut *book.kept.lock(rt), &book.words, alloc, Claim(claim), block);
+        let copied = copy_in(
+            &mut *book.kept.lock(rt),
+            &book.words,
+            alloc,
+            Claim(claim),
+            block,
+        );
         match copied {
             Ok(ticket) => Ok(ticket),
             Err((refusal, Claim(claim))) => {
