@@ -1,12 +1,11 @@
 -- What a Taker knows behind a read.
-use Rattle.std.proofs.Common.{◌≡◌, ℕ, ◌≤◌, ◌⊎◌, inl, inr, List, ◌++◌, ◌∷◌, [], refl, sym, ap, ◌∙◌, subst, arith, Contains, Some}
+use Rattle.std.proofs.Common.{◌≡◌, ℕ, ◌≤◌, inl, inr, refl, sym, ◌∙◌, subst, arith, Contains, Some}
 use Rattle.std.proofs.lemmas.List.Elements.{Contains-push}
 use Rattle.map_join.specs.declared.records.Record.{Record}
 use Rattle.map_join.specs.Record.{key_of}
-use Rattle.map_words.specs.declared.view.Found.{Found}
 use Rattle.map_words.specs.declared.view.View.{View}
 use Rattle.map_words.specs.TakeRule.{found_at}
-use Rattle.map_words.specs.Answers.{HasFound, HasTaken, IsNewest}
+use Rattle.map_words.specs.Answers.{HasFound, IsNewest}
 use Rattle.array_book.specs.Takes.{Took, Knows, Learnt, IsTold}
 
 -- what was found is known

@@ -1,5 +1,4 @@
-use Rattle.std.proofs.Common.{◌≡◌, ℕ, sym, ap, ◌∙◌, subst, List, ◌++◌, ◌∷◌, [], refl}
-use Rattle.flat_machine.specs.Flat.{Flat}
+use Rattle.std.proofs.Common.{sym, ap, subst, refl}
 use Rattle.flat_machine.specs.Steps as say
 use Rattle.flat_machine.specs.Cases.{CommitCase, IsWanted}
 use Rattle.array_model.specs.Represents.{ShowsArray}

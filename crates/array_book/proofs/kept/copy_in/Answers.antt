@@ -1,5 +1,5 @@
-use Rattle.std.proofs.Common.{◌≡◌, ℕ, true, refl, sym, ap, ◌∙◌, subst}
-use Rattle.flat_machine.specs.Flat.{Flat, Worker, IsKept}
+use Rattle.std.proofs.Common.{◌≡◌, ℕ, refl, sym, ap, ◌∙◌, subst}
+use Rattle.flat_machine.specs.Flat.{Worker, IsKept}
 use Rattle.array_model.specs.Represents.{ShowsArray}
 use Rattle.array_model.specs.Views.{ArrayView}
 use Rattle.array_model.proofs.OneMore.{shows_one_more, holds_one_more}

@@ -1,6 +1,5 @@
 use Rattle.std.proofs.Common.{refl}
 use Rattle.array_book.proofs.Shown.{kept_with, ticket_of_some, discard_shown, discard_groups}
-use Rattle.array_model.specs.Views.{key_at}
 use Rattle.array_book.proofs.kept.discard_in.Goals as goal
 
 pub invariant_of-kept : goal.invariant_of-kept

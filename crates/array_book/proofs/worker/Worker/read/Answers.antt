@@ -1,5 +1,4 @@
 use Rattle.std.proofs.Common.{◌≡◌, rules, subst, Some}
-use Rattle.map_words.specs.declared.view.View.{View}
 use Rattle.step_core.specs.Told.{Lesson}
 use Rattle.array_book.specs.Takes.{taker_of, IsTold}
 use Rattle.array_book.proofs.Telling.{told_is}
