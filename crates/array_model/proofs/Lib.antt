@@ -15,6 +15,7 @@ pub mod Seeing
 pub mod News
 pub mod Adopting
 pub mod Hands
+pub mod OneMore
 pub mod Regroups
 pub mod MoveReasons
 pub mod Unmaking

@@ -90,14 +90,19 @@ at_most a F slot r shows told =
     go place (inl e) = omega arith
     go place (inr less) = key_below r (key_at a r.block) place less
 
-headers : (a : ArrayView) (F : Flat) → IsWhole a → ShowsArray a F → IsOneMissed a.parts → IsScanned (bytes_of a.parts) (key_at a)
-headers a F whole shows most = record {
+-- where no newest place is gone the headers tell the keys
+pub headers_tell : (a : ArrayView) (F : Flat) → IsWhole a → ShowsArray a F → ((b : ℕ) → 0 < key_at a b → IsLost a.parts (record_of b (key_at a b)).place → ⊥)
+    → IsScanned (bytes_of a.parts) (key_at a)
+headers_tell a F whole shows here = record {
   found = λ b some.
       let r = record_of b (key_at a b) in
-      let lies = (lies_at a F b whole shows some).2 (all_here a whole most r.place) in
+      let lies = (lies_at a F b whole shows some).2 (here b some) in
       (r.place, r, (lies.bytes, lies.there, subst (Spells _) (header_is lies.unit.header r lies.header) lies.is.0), refl, key_again b (key_at a b));
   most = λ slot r told. at_most a F slot r shows told;
 }
+
+headers : (a : ArrayView) (F : Flat) → IsWhole a → ShowsArray a F → IsOneMissed a.parts → IsScanned (bytes_of a.parts) (key_at a)
+headers a F whole shows most = headers_tell a F whole shows (λ b some. all_here a whole most (record_of b (key_at a b)).place)
 
 -- the map that headers tell is one
 scan_below : (bytes : ℕ → Option (List ℕ)) (M N : ℕ → ℕ) → IsScanned bytes M → IsScanned bytes N → (b : ℕ) → M b ≤ N b
@@ -115,7 +120,7 @@ scan_below bytes M N is also b = go (sizes (M b))
         let key = x.4 in
         omega arith
 
-one_scan : (bytes : ℕ → Option (List ℕ)) (M N : ℕ → ℕ) → IsScanned bytes M → IsScanned bytes N → IsSame M N
+pub one_scan : (bytes : ℕ → Option (List ℕ)) (M N : ℕ → ℕ) → IsScanned bytes M → IsScanned bytes N → IsSame M N
 one_scan bytes M N is also b = let one = scan_below bytes M N is also b in let other = scan_below bytes N M also is b in omega arith
 
 -- every state that a world stands for

@@ -9,6 +9,7 @@ pub mod Laws
 pub mod Reads
 pub mod Losing
 pub mod Headline
+pub mod Claimed
 pub use Rattle.array_model.specs.Views
 pub use Rattle.array_model.specs.Represents
 pub use Rattle.array_model.specs.Changes

@@ -2,12 +2,15 @@
 #![tactic(auto)]
 
 mod adopt;
+mod apart;
 mod array;
 mod commit;
 mod copy;
 mod discard;
 mod drives;
+mod end;
 mod fill;
+mod fresh;
 mod grow;
 mod hold;
 mod live;
@@ -28,9 +31,11 @@ mod unmake;
 mod world;
 
 pub use adopt::NotAdopted;
+pub use apart::{Apart, claims_are_free};
 pub use array::Array;
 pub use array_parts::Units;
 pub use commit::{Done, Emitted};
+pub use end::TakeBack;
 pub use extent_groups::GroupTable;
 pub use extents::{Drive, DriveLost, ExtentTable, MemDrive, Shape, ShapeRefusal};
 pub use flat_machine::{Class, Member, Refusal};

@@ -1,0 +1,176 @@
+-- What a call under the lock leaves shows a flat state again.
+use Rattle.std.proofs.Common.{◌≡◌, ◌≢◌, ◌<◌, ◌≤◌, ℕ, true, List, ◌∷◌, [], ◌++◌, length, refl, sym, ap, ◌∙◌, subst, arith, Option, Some, None, Result, Ok, Err, IfOk, IfErr, Contains}
+use Rattle.std.specs.Prelude.{MatchResult}
+use Rattle.std.proofs.lemmas.List.Elements.{Contains-push}
+use Rattle.map_join.specs.declared.records.Record.{Record}
+use Rattle.map_join.specs.Record.{key_of}
+use Rattle.extent_groups.specs.Groups.{Groups}
+use Rattle.flat_machine.specs.declared.refusal.Refusal.{Refusal}
+use Rattle.flat_machine.specs.declared.refusal.Refusal.TheVariants.{Memory, InUse, Gone, DriveLost}
+use Rattle.flat_machine.specs.Flat.{Flat, Content, Payload, Stored, Ticket, Waiting, IsKept}
+use Rattle.flat_machine.specs.Steps.{Seen, Data, Stale}
+use Rattle.flat_machine.specs.Steps as say
+use Rattle.flat_machine.specs.Learning.{LearnedCase}
+use Rattle.flat_machine.specs.Cases.{IsLearned, FillCase, FillPasses, CopyCase, CopyPasses, DiscardCase}
+use Rattle.extents.specs.declared.header.Header.TheVariants.{Blank}
+use Rattle.array_parts.specs.Views.{WasPut, WasCarried}
+use Rattle.array_model.specs.Changes.{MayRefuse, discard_view}
+use Rattle.array_model.specs.Represents.{ShowsArray}
+use Rattle.array_model.specs.Views.{ArrayView, IsWhole, key_at}
+use Rattle.map_join.specs.Maps.{IsMapOf}
+use Rattle.step_core.specs.Headline.{bytes_of}
+use Rattle.step_core.proofs.Standing.{headers_tell, one_scan}
+use Rattle.step_core.specs.Refused.{IsRefused}
+use Rattle.step_core.specs.Told.{Lesson}
+use Rattle.array_book.specs.Kept as book
+use Rattle.array_book.specs.Kept.{KeptView}
+
+-- a state of an array that refused
+pub refused_shown : (q : Refusal) (W : Type 0) (P : Flat → Type 0) (a b : ArrayView) (F : Flat) → ShowsArray a F → IsRefused a b q
+    → MayRefuse q W ((G : Flat) × P G × ShowsArray b G) → (G : Flat) × ShowsArray b G
+refused_shown Memory W P a b F shows same may = (F, subst (λ (x : ArrayView). ShowsArray x F) (sym same) shows)
+refused_shown _ W P a b F shows same may = (may.0, may.2)
+
+-- and its groups
+pub refused_groups : (a b : ArrayView) (q : Refusal) → IsRefused a b q → b.parts.groups ≡ a.parts.groups
+refused_groups a b (Gone slot) is = is.1.rest.groups
+refused_groups a b (DriveLost drive) is = is.1.rest.groups
+refused_groups a b _ is = ap (λ (x : ArrayView). x.parts.groups) is
+
+-- with another array that shows a state, of the same groups, what is kept stands
+pub kept_with : (blocks payload : ℕ) (k l : KeptView) → book.IsKept blocks payload k → l.array.parts.groups ≡ k.array.parts.groups
+    → length l.ages.order ≡ length k.ages.order → (G : Flat) × ShowsArray l.array G → book.IsKept blocks payload l
+kept_with blocks payload k l is same long shown = record {
+  flat = shown.0;
+  shows = shown.1;
+  blocks = ap (λ (z : Groups). z.blocks) same ∙ is.blocks;
+  payload = ap (λ (z : Groups). z.payload) same ∙ is.payload;
+  order = long ∙ is.order;
+}
+
+-- a worker whose ticket it is, where there is one
+pub ticket_of_some : (F : Flat) (a : ArrayView) (s : ℕ) → ShowsArray a F → (w : ℕ) × (F.tickets s ≢ None → F.held s (Ticket w) ≡ true)
+ticket_of_some F a s shows = go (F.tickets s) refl
+  where
+    go : (t : Option Waiting) → F.tickets s ≡ t → (w : ℕ) × (F.tickets s ≢ None → F.held s (Ticket w) ≡ true)
+    go None e = (0, λ some. absurd (some e))
+    go (Some c) e = let t = (shows.history.holders s).waits c e in (t.0, λ some. t.1)
+
+-- the record of a commit has a version
+pub emitted_written : (b : ArrayView) (G : Flat) (log : List Record) (r : Record) → ShowsArray b G → b.log ≡ log ++ r ∷ [] → 0 < r.version
+emitted_written b G log r shows is = (shows.history.records r (subst (λ (l : List Record). Contains l r) (sym (shows.tables.log ∙ is)) (Contains-push log r))).written
+
+-- what is learned is of the block that was asked for, and isn't below what was asked
+pub learned_above : (F G : Flat) (asked told : Record) (content : Content) → LearnedCase F asked told content G
+    → (told.block ≡ asked.block) × (key_of asked ≤ key_of told)
+learned_above F G asked told content case = go case.2.0 case.2.2
+  where
+    go : (seen : Seen) → IsLearned F asked seen told content → (told.block ≡ asked.block) × (key_of asked ≤ key_of told)
+    go (Data x) learned = (ap (λ (r : Record). r.block) learned.0, let same = ap key_of learned.0 in omega arith)
+    go (Stale found) learned =
+        let behind = case.0 in
+        let most = learned.0.2 behind.0 behind.1.0 behind.1.1 in
+        let below = behind.2 in (learned.0.1, omega arith)
+
+-- and has a version, if that has one
+pub learned_written : (a : ArrayView) (F G : Flat) (asked told : Record) (content : Content) → ShowsArray a F → LearnedCase F asked told content G
+    → 0 < asked.version → 0 < told.version
+learned_written a F G asked told content shows case written = go case.2.0 case.2.2
+  where
+    go : (seen : Seen) → IsLearned F asked seen told content → 0 < told.version
+    go (Data x) learned = subst (λ (r : Record). 0 < r.version) (sym learned.0) written
+    go (Stale found) learned = (shows.history.records told learned.0.0).written
+
+-- what a fill, a copy, a discard and a read tell of a state, and what they leave shows
+abbrev pub FillTells : {C : Type 0} → Result ℕ (Refusal × C) → Flat → ℕ → Content → ArrayView → ℕ → Type 0
+FillTells r F w x b s = MatchResult r
+    (λ t. (G : Flat) × FillCase F w t x (say.Filled t) G × ShowsArray b G)
+    (λ e. MayRefuse e.0 (FillPasses F w s) ((G : Flat) × FillCase F w s x (say.Refused e.0) G × ShowsArray b G))
+
+pub fill_shown : {C : Type 0} (r : Result ℕ (Refusal × C)) (claim : C) (a b : ArrayView) (F : Flat) (w s : ℕ) (x : Content) → ShowsArray a F
+    → IfErr r (λ e. (e.1 ≡ claim) × IsRefused a b e.0) → FillTells r F w x b s → (G : Flat) × ShowsArray b G
+fill_shown (Ok t) claim a b F w s x shows err tells = (tells.0, tells.2)
+fill_shown (Err e) claim a b F w s x shows err tells = refused_shown e.0 (FillPasses F w s) (λ G. FillCase F w s x (say.Refused e.0) G) a b F shows err.1 tells
+
+pub fill_groups : {C : Type 0} (A B : ℕ → Type 0) (u : Stored) (r : Result ℕ (Refusal × C)) (claim : C) (a b : ArrayView)
+    → IfOk r (λ t. A t × B t × WasPut a.parts b.parts t u) → IfErr r (λ e. (e.1 ≡ claim) × IsRefused a b e.0) → b.parts.groups ≡ a.parts.groups
+fill_groups A B u (Ok t) claim a b ok err = ok.2.rest.groups
+fill_groups A B u (Err e) claim a b ok err = refused_groups a b e.0 err.1
+
+-- a slot of which the array keeps nothing isn't in use
+pub fill_not_used : {C : Type 0} (r : Result ℕ (Refusal × C)) (claim : C) (a b : ArrayView) (F : Flat) (w s : ℕ) (x : Content) → (IsKept F s → ⊥)
+    → IfErr r (λ e. (e.1 ≡ claim) × IsRefused a b e.0) → FillTells r F w x b s → IfErr r (λ e. (e.1 ≡ claim) × (e.0 ≢ InUse) × IsRefused a b e.0)
+fill_not_used (Ok t) claim a b F w s x none err tells = tt
+fill_not_used (Err e) claim a b F w s x none err tells = (
+  err.0,
+  λ is. none (subst (λ (q : Refusal). MayRefuse q (FillPasses F w s) ((G : Flat) × FillCase F w s x (say.Refused q) G × ShowsArray b G)) is tells).1.2,
+  err.1,
+)
+
+abbrev pub CopyTells : {C : Type 0} → Result ℕ (Refusal × C) → Flat → ℕ → ℕ → ArrayView → ℕ → Type 0
+CopyTells r F w block b s = MatchResult r
+    (λ t. (G : Flat) × CopyCase F w t block (say.Copied t) G × ShowsArray b G)
+    (λ e. MayRefuse e.0 ((q : Record) × CopyPasses F w s block q) ((G : Flat) × CopyCase F w s block (say.Refused e.0) G × ShowsArray b G))
+
+pub copy_shown : {C : Type 0} (r : Result ℕ (Refusal × C)) (claim : C) (a b : ArrayView) (F : Flat) (w s block : ℕ) → ShowsArray a F
+    → IfErr r (λ e. (e.1 ≡ claim) × IsRefused a b e.0) → CopyTells r F w block b s → (G : Flat) × ShowsArray b G
+copy_shown (Ok t) claim a b F w s block shows err tells = (tells.0, tells.2)
+copy_shown (Err e) claim a b F w s block shows err tells =
+    refused_shown e.0 ((q : Record) × CopyPasses F w s block q) (λ G. CopyCase F w s block (say.Refused e.0) G) a b F shows err.1 tells
+
+pub copy_groups : {C : Type 0} (A : ℕ → Type 0) (B : Record → Type 0) (D : ℕ → Record → Type 0) (r : Result ℕ (Refusal × C)) (claim : C) (a b : ArrayView)
+    → IfOk r (λ t. A t × ((q : Record) × B q × D t q × WasCarried a.parts b.parts q.place t Blank)) → IfErr r (λ e. (e.1 ≡ claim) × IsRefused a b e.0)
+    → b.parts.groups ≡ a.parts.groups
+copy_groups A B D (Ok t) claim a b ok err = ok.1.3.rest.groups
+copy_groups A B D (Err e) claim a b ok err = refused_groups a b e.0 err.1
+
+pub copy_not_used : {C : Type 0} (r : Result ℕ (Refusal × C)) (claim : C) (a b : ArrayView) (F : Flat) (w s block : ℕ) → (IsKept F s → ⊥)
+    → IfErr r (λ e. (e.1 ≡ claim) × IsRefused a b e.0) → CopyTells r F w block b s → IfErr r (λ e. (e.1 ≡ claim) × (e.0 ≢ InUse) × IsRefused a b e.0)
+copy_not_used (Ok t) claim a b F w s block none err tells = tt
+copy_not_used (Err e) claim a b F w s block none err tells = (
+  err.0,
+  λ is. none (subst (λ (q : Refusal). MayRefuse q ((n : Record) × CopyPasses F w s block n) ((G : Flat) × CopyCase F w s block (say.Refused q) G × ShowsArray b G)) is tells).1.2,
+  err.1,
+)
+
+abbrev pub DiscardTells : {C : Type 0} → Result C (Refusal × ℕ) → Flat → ℕ → ArrayView → ℕ → Type 0
+DiscardTells r F w b s = MatchResult r
+    (λ t. (G : Flat) × DiscardCase F w s (say.Discarded s) G × ShowsArray b G)
+    (λ e. DiscardCase F w s (say.Refused e.0) F)
+
+pub discard_shown : {C : Type 0} (E D : Refusal × ℕ → Type 0) (r : Result C (Refusal × ℕ)) (a b : ArrayView) (F : Flat) (w s : ℕ) → ShowsArray a F
+    → IfErr r (λ e. E e × D e × (b ≡ a)) → DiscardTells r F w b s → (G : Flat) × ShowsArray b G
+discard_shown E D (Ok t) a b F w s shows err tells = (tells.0, tells.2)
+discard_shown E D (Err e) a b F w s shows err tells = (F, subst (λ (x : ArrayView). ShowsArray x F) (sym err.2) shows)
+
+pub discard_groups : {C : Type 0} (A : C → Type 0) (E D : Refusal × ℕ → Type 0) (r : Result C (Refusal × ℕ)) (a b : ArrayView) (s : ℕ)
+    → IfOk r (λ t. A t × (b ≡ discard_view a s)) → IfErr r (λ e. E e × D e × (b ≡ a)) → b.parts.groups ≡ a.parts.groups
+discard_groups A E D (Ok t) a b s ok err = ap (λ (x : ArrayView). x.parts.groups) ok.1
+discard_groups A E D (Err e) a b s ok err = ap (λ (x : ArrayView). x.parts.groups) err.2
+
+-- what was learned of a record
+pub learned_told : (r : Result Lesson Refusal) (a b : ArrayView) (F : Flat) (asked : Record) (E : Refusal → Type 0) → ShowsArray a F
+    → MatchResult r (λ l. (G : Flat) × LearnedCase F asked l.told (Payload l.payload) G × ShowsArray b G) E
+    → IfOk r (λ l. (l.told.block ≡ asked.block) × (key_of asked ≤ key_of l.told))
+learned_told (Ok l) a b F asked E shows tells = learned_above F tells.0 asked l.told (Payload l.payload) tells.1
+learned_told (Err e) a b F asked E shows tells = tt
+
+pub learned_version : (r : Result Lesson Refusal) (a b : ArrayView) (F : Flat) (asked : Record) (E : Refusal → Type 0) → ShowsArray a F
+    → MatchResult r (λ l. (G : Flat) × LearnedCase F asked l.told (Payload l.payload) G × ShowsArray b G) E
+    → IfOk r (λ l. 0 < asked.version → 0 < l.told.version)
+learned_version (Ok l) a b F asked E shows tells = learned_written a F tells.0 asked l.told (Payload l.payload) shows tells.1
+learned_version (Err e) a b F asked E shows tells = tt
+
+-- the map of an array that shows a state
+pub agrees_with : (a : ArrayView) (F : Flat) → IsWhole a → ShowsArray a F → book.Agrees a
+agrees_with a F whole shows = record {
+  map = subst (λ (l : List Record). IsMapOf l (key_at a)) shows.tables.log shows.history.map;
+  headers = λ here. headers_tell a F whole shows here;
+  scanned = λ here M is. one_scan (bytes_of a.parts) M (key_at a) is (headers_tell a F whole shows here);
+}
+
+-- what is told of the claim and the array that a call was given is told of equal ones
+pub err_as : {T C : Type 0} (r : Result T (Refusal × C)) (one other : C) (a o b : ArrayView) → one ≡ other → a ≡ o
+    → IfErr r (λ e. (e.1 ≡ one) × (e.0 ≢ InUse) × IsRefused a b e.0) → IfErr r (λ e. (e.1 ≡ other) × (e.0 ≢ InUse) × IsRefused o b e.0)
+err_as (Ok t) one other a o b same is told = tt
+err_as (Err e) one other a o b same is told = (told.0 ∙ same, told.1, subst (λ (v : ArrayView). IsRefused v b e.0) is told.2)

@@ -1,0 +1,14 @@
+use Rattle.array_book.proofs.storm.run_storm.Given as goal
+
+-- each table that was made has its name
+abbrev pub ghosts-play_out-N-Naming : goal.ghosts-play_out-N-Naming
+ghosts-play_out-N-Naming g a = record { table = a.slots }
+
+abbrev pub ghosts-play_out-N-Sizes : goal.ghosts-play_out-N-Sizes
+ghosts-play_out-N-Sizes g a = record { blocks = 16; payload = 8 }
+
+abbrev pub ghosts-play_out-A-Naming : goal.ghosts-play_out-A-Naming
+ghosts-play_out-A-Naming g a = record { table = a.even }
+
+abbrev pub ghosts-play_out-B-Naming : goal.ghosts-play_out-B-Naming
+ghosts-play_out-B-Naming g a = record { table = a.odd }

@@ -1,0 +1,45 @@
+-- What is seen of an array under a lock, with its order of last writes and the end of its write log; and what is always true of it.
+use Rattle.std.specs.Prelude.{◌≡◌, ℕ, ◌<◌, ◌==◌, if◌then◌else◌, List, length}
+use Rattle.map_join.specs.declared.records.Record.{Record}
+use Rattle.map_join.specs.Maps.{IsMapOf, IsSame}
+use Rattle.map_join.specs.Record.{record_of}
+use Rattle.array_parts.specs.Views.{IsLost}
+use Rattle.flat_machine.specs.Flat.{Flat}
+use Rattle.flat_machine.specs.Scanned.{IsScanned}
+use Rattle.array_model.specs.Views.{ArrayView, key_at}
+use Rattle.array_model.specs.Represents.{ShowsArray}
+use Rattle.migrator.specs.Ages.{Marked, written}
+use Rattle.migrator.specs.Slots.{End}
+use Rattle.step_core.specs.Headline.{bytes_of}
+
+-- the array, the order of last writes with marks on the blocks in mirrored groups, and the end of the write log
+pub record KeptView : Type 0 where
+  pub array : ArrayView
+  pub ages : Marked
+  pub end : End
+
+-- what is true whenever the lock is free: the array shows some flat state, and has these sizes; and the order is of its blocks
+pub record IsKept (many size : ℕ) (k : KeptView) : Type 0 where
+  pub flat : Flat
+  pub shows : ShowsArray k.array flat
+  pub blocks : k.array.parts.groups.blocks ≡ many
+  pub payload : k.array.parts.groups.payload ≡ size
+  pub order : length k.ages.order ≡ many
+
+-- no block's newest place is gone
+abbrev pub AreHere : ArrayView → Type 0
+AreHere a = (b : ℕ) → 0 < key_at a b → IsLost a.parts (record_of b (key_at a b)).place → ⊥
+
+-- what follows of the array: its map is that of its log, and where no newest place is gone it is the one that the headers tell
+pub record Agrees (a : ArrayView) : Type 0 where
+  pub map : IsMapOf a.log (key_at a)
+  pub headers : AreHere a → IsScanned (bytes_of a.parts) (key_at a)
+  pub scanned : AreHere a → (M : ℕ → ℕ) → IsScanned (bytes_of a.parts) M → IsSame M (key_at a)
+
+-- the array is another, and nothing else changed
+abbrev pub OnlyArray : KeptView → KeptView → Type 0
+OnlyArray before after = (after.ages ≡ before.ages) × (after.end ≡ before.end)
+
+-- the order of last writes after a commit: a fresh payload, whose record has no hop, is noted
+abbrev pub order_after : List ℕ → Record → List ℕ
+order_after order r = if r.hop == 0 then written order r.block else order

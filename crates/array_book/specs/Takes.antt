@@ -1,0 +1,40 @@
+-- Which of a worker's two Takers a call is about, and what it has taken and found.
+use Rattle.std.specs.Prelude.{◌≡◌, ◌⊎◌, ℕ, ◌%◌, ◌==◌, if◌then◌else◌, Contains, Option, Some, None}
+use Rattle.map_join.specs.declared.records.Record.{Record}
+use Rattle.map_join.specs.Record.{key_of}
+use Rattle.map_words.specs.declared.view.Found.{Found}
+use Rattle.map_words.specs.declared.view.View.{View}
+use Rattle.map_words.specs.Answers.{HasTaken, IsNewest}
+use Rattle.array_book.specs.declared.controller.Controller.{Controller}
+use Rattle.array_book.specs.declared.controller.Controller.TheVariants.{Even, Odd}
+
+-- the controller into whose words a worker takes its records
+abbrev pub controller_of : ℕ → Controller
+controller_of number = if (number % 2) == 0 then Even else Odd
+
+-- of the views of the Takers of both controllers the one of this, and the other
+abbrev pub taker_of : Controller → View → View → View
+taker_of Even even odd = even
+taker_of Odd even odd = odd
+
+abbrev pub other_of : Controller → View → View → View
+other_of Even even odd = odd
+other_of Odd even odd = even
+
+-- one step more, which took the record
+abbrev pub Took : Record → View → View → Type 0
+Took r before after = (found : ℕ) × HasTaken before r found after
+
+-- the Taker has taken the record, or found its key
+abbrev pub Knows : View → Record → Type 0
+Knows taker r = Contains taker.taken r ⊎ ((f : Found) × Contains taker.found f × (f.block ≡ r.block) × (f.key ≡ key_of r))
+
+-- what a read of a block tells, given the view of the Taker before and after: a record of that block that the Taker knows by
+-- then, and that isn't below any that it knew; and none only where it knew none
+abbrev pub IsTold : View → ℕ → View → Option Record → Type 0
+IsTold before block after None = IsNewest before block 0
+IsTold before block after (Some r) = (r.block ≡ block) × Knows after r × IsNewest before block (key_of r)
+
+-- what was told is what was found, and nothing was taken; or it was taken
+abbrev pub Learnt : Record → Record → View → View → Type 0
+Learnt told found before after = ((told ≡ found) × (after ≡ before)) ⊎ Took told before after

@@ -1,0 +1,117 @@
+// The array behind its lock, beside the words that need none.
+ghost use Rattle.std.specs.Prelude.{◌≡◌, ℕ, ◌≤◌, length, IfOk, IfErr};
+ghost use Rattle.array_model.specs.Represents.{ShowsArray};
+ghost use Rattle.flat_machine.specs.Flat.{Flat};
+ghost use Rattle.map_words.specs.Places.{blocks_of};
+ghost use Rattle.slot_words.specs.Places.{slots_of};
+
+use crate::claim::{Claim, Sizes};
+use crate::kept::{Kept, is_mirrored};
+use extents::Drive;
+use map_words::MapWords;
+use migrator::{LogEnd, MarkedAges, mirror_slots};
+use slot_words::SlotWords;
+use std::alloc::{AllocError, Global};
+use std::sync::Mutex;
+use step_core::Array;
+
+/// An array behind a lock, its slot words, and the maps of two controllers. While it is in a Book no group of it is made.
+pub struct Book<
+    D: Drive,
+    N: slot_words::Naming + Sizes,
+    A: map_words::Naming,
+    B: map_words::Naming,
+> {
+    pub(crate) words: SlotWords<N>,
+    pub(crate) even: MapWords<A>,
+    pub(crate) odd: MapWords<B>,
+    pub(crate) kept: Mutex<Kept<D, N>>,
+    // The slots of mirrored groups, ascending.
+    pub(crate) mirrors: Vec<u16>,
+    pub(crate) blocks: u32,
+    pub(crate) payload: u32,
+    pub(crate) ghost slots: { slots_of N.table ≡ 65536 },
+    pub(crate) ghost many: { blocks ≡ N.blocks },
+    pub(crate) ghost size: { payload ≡ N.payload },
+    pub(crate) ghost here: { blocks_of A.table ≡ blocks },
+    pub(crate) ghost there: { blocks_of B.table ≡ blocks },
+}
+
+impl<D: Drive, N: slot_words::Naming + Sizes, A: map_words::Naming, B: map_words::Naming> Book<
+    D,
+    N,
+    A,
+    B,
+> {
+    /// A Book round an array, with a word for each slot and two for each block. For want of memory all comes back.
+    pub fn new(
+        alloc: Global,
+        array: Array<D, Claim<N>>,
+        words: SlotWords<N>,
+        maps: (MapWords<A>, MapWords<B>),
+    ) -> Result<Book<D, N, A, B>, (Array<D, Claim<N>>, SlotWords<N>, (MapWords<A>, MapWords<B>))>
+        requires shows { (F : Flat) × ShowsArray array F }
+        requires slots { slots_of N.table ≡ 65536 }
+        requires blocks { array.parts.groups.blocks ≡ N.blocks }
+        requires payload { array.parts.groups.payload ≡ N.payload }
+        requires even { blocks_of A.table ≡ N.blocks }
+        requires odd { blocks_of B.table ≡ N.blocks }
+        ensures err { IfErr result (λ e. e.0 ≡ array) }
+    {
+        array.whole();
+        let shape = array.shape();
+        let Ok(mirrors) = mirror_slots(alloc, array.groups()) else {
+            return Err((array, words, maps));
+        };
+        let Ok(ages) = ages_of(alloc, &array) else {
+            return Err((array, words, maps));
+        };
+        let (even, odd) = maps;
+        let kept = Kept {
+            array,
+            ages,
+            end: LogEnd::new(),
+        };
+        Ok(Book {
+            words,
+            even,
+            odd,
+            kept: Mutex::new(kept),
+            mirrors,
+            blocks: shape.blocks,
+            payload: shape.payload,
+        })
+    }
+
+    /// How many blocks the array has.
+    pub fn blocks(&self) -> u32
+        ensures { result ≡ self.now.blocks }
+    {
+        self.blocks
+    }
+
+    /// How many bytes a payload has.
+    pub fn payload(&self) -> u32
+        ensures { result ≡ self.now.payload }
+    {
+        self.payload
+    }
+}
+
+// All blocks by number, with marks on those that lie in mirrored groups.
+fn ages_of<D: Drive, N: slot_words::Naming>(
+    alloc: Global,
+    array: &Array<D, Claim<N>>,
+) -> Result<MarkedAges, AllocError>
+    requires { array.now.parts.groups.blocks ≤ 65536 }
+    ensures { IfOk result (λ ages. length ages.order ≡ array.now.parts.groups.blocks) }
+{
+    let blocks = array.shape().blocks;
+    let mut ages = MarkedAges::new(alloc, blocks)?;
+    for block in 0..blocks {
+        if let Some(record) = array.newest(block) {
+            ages.mark(block, is_mirrored(array.groups(), record.place));
+        }
+    }
+    Ok(ages)
+}

@@ -1,0 +1,38 @@
+// Why a worker's call did nothing, and why a Book isn't settled.
+ghost use Rattle.std.specs.Prelude.{◌≡◌, ◌≢◌};
+ghost use Rattle.flat_machine.specs.declared.refusal.Refusal.TheVariants as refusal;
+ghost use Rattle.array_book.specs.declared.fault.WorkFault.TheVariants.{Core};
+
+use flat_machine::Refusal;
+
+/// Why a call of a worker did nothing.
+#[derive(Clone, Copy, Debug, PartialEq, Eq)]
+pub enum WorkFault {
+    /// No listed slot could be claimed.
+    NoRoom,
+    /// The array refused, and not for want of memory.
+    Core(Refusal),
+    Memory,
+}
+
+impl WorkFault {
+    /// The fault that a refusal of the array is.
+    pub(crate) fn of(told: Refusal) -> WorkFault
+        ensures { result ≢ Core refusal.Memory }
+    {
+        match told {
+            Refusal::Memory => WorkFault::Memory,
+            other => WorkFault::Core(other),
+        }
+    }
+}
+
+/// Why a Book isn't settled.
+#[derive(Clone, Copy, Debug, PartialEq, Eq)]
+pub enum SettleFault {
+    /// The lowest block of which the workers' map isn't the array's.
+    Differs(u32),
+    Memory,
+    /// The Takers of a controller that came have this share, and not the whole.
+    NotWhole(u32),
+}

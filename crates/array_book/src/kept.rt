@@ -1,0 +1,217 @@
+// What lies under a Book's lock, and the calls that are lent it.
+ghost use Rattle.std.specs.Prelude.{◌≡◌, ◌≢◌, ℕ, ◌<◌, ◌≤◌, length, IfOk, IfErr, MatchResult, true, None};
+ghost use Rattle.map_join.specs.Record.{key_of, record_at};
+ghost use Rattle.flat_machine.specs.Steps as say;
+ghost use Rattle.flat_machine.specs.Flat.{Flat, Payload, Worker, Ticket as ticket_of};
+ghost use Rattle.flat_machine.specs.Cases.{FillCase, FillPasses, CopyCase, CopyPasses, CommitCase, DiscardCase, IsWanted, IsBehind};
+ghost use Rattle.flat_machine.specs.Learning.{LearnedCase, UnlearnedCase};
+ghost use Rattle.flat_machine.specs.declared.refusal.Refusal.TheVariants as refusal;
+ghost use Rattle.map_join.specs.declared.records.Record.{Record};
+ghost use Rattle.array_model.specs.Changes.{MayRefuse, commit_record};
+ghost use Rattle.array_model.specs.Views.{key_at};
+ghost use Rattle.array_model.specs.Represents.{ShowsArray};
+ghost use Rattle.migrator.specs.Slots.{end_at};
+ghost use Rattle.step_core.specs.Refused.{IsRefused};
+ghost use Rattle.array_book.specs.Kept.{Agrees, OnlyArray, order_after};
+
+use crate::claim::{Claim, Sizes};
+use extent_groups::{Class, GroupTable, SLOTS};
+use extents::Drive;
+use flat_machine::Refusal;
+use map_join::Record;
+use migrator::{LogEnd, MarkedAges};
+use slot_words::{Naming, SlotWords};
+use std::alloc::Global;
+use std::marker::Model;
+use step_core::{Array, Done, Reading, Ticket};
+
+/// An array, the order of last writes with marks on the blocks in mirrored groups, and the end of the write log.
+pub struct Kept<D: Drive, N: Naming + Sizes> {
+    pub(crate) array: Array<D, Claim<N>>,
+    pub(crate) ages: MarkedAges,
+    pub(crate) end: LogEnd,
+}
+
+impl<D: Drive, N: Naming + Sizes> Model for Kept<D, N> {
+    ghost use Rattle.array_book.specs.Kept.{KeptView, IsKept};
+
+    ghost Value = { KeptView };
+
+    ghost view = { λ k. record { array = k.array; ages = k.ages; end = k.end } };
+
+    ghost invariant = { λ k. IsKept N.blocks N.payload (record { array = k.array; ages = k.ages; end = k.end }) };
+}
+
+impl<D: Drive, N: Naming + Sizes> Kept<D, N> {
+    /// The array.
+    pub fn array(&self) -> &Array<D, Claim<N>>
+        ensures { result.now ≡ self.now.array }
+    {
+        &self.array
+    }
+
+    /// What is true whenever the lock is free, as a law: nothing is done. The array shows some flat state; its map is that of
+    /// its log; and where no newest place is gone it is the map that the headers tell.
+    pub fn stands(&self)
+        ensures shows { (F : Flat) × ShowsArray self.now.array F }
+        ensures sizes { (self.now.array.parts.groups.blocks ≡ N.blocks) × (self.now.array.parts.groups.payload ≡ N.payload) }
+        ensures agrees { Agrees self.now.array }
+    {
+        self.array.whole();
+    }
+}
+
+/// Fills a mirrored slot with a fresh payload, as the array does; that its slot is in use it never answers.
+pub fn fill_in<D: Drive, N: Naming + Sizes>(
+    kept: &mut Kept<D, N>,
+    words: &SlotWords<N>,
+    alloc: Global,
+    claim: Claim<N>,
+    payload: &[u8],
+) -> Result<Ticket, (Refusal, Claim<N>)>
+    requires { length payload.now ≡ N.payload }
+    ensures ticket { IfOk result (λ ticket. ticket ≡ claim.0.slot) }
+    ensures err { IfErr result (λ e. (e.1 ≡ claim) × (e.0 ≢ refusal.InUse) × IsRefused kept.old.array kept.new.array e.0) }
+    ensures rest { OnlyArray kept.old kept.new }
+    ensures flat { (F : Flat) (w : ℕ) → ShowsArray kept.old.array F → F.held claim.0.slot (Worker w) ≡ true
+        → MatchResult result
+        (λ ticket. (G : Flat) × FillCase F w ticket (Payload payload.now) (say.Filled ticket) G × ShowsArray kept.new.array G)
+        (λ e. MayRefuse e.0
+        (FillPasses F w claim.0.slot)
+        ((G : Flat) × FillCase F w claim.0.slot (Payload payload.now) (say.Refused e.0) G × ShowsArray kept.new.array G)) }
+{
+    let mut claim = claim;
+    kept.array.apart_from(words, &mut claim);
+    kept.array.fill(alloc, claim, payload)
+}
+
+/// Copies a block's newest payload into a slot, as the array does; that its slot is in use it never answers.
+pub fn copy_in<D: Drive, N: Naming + Sizes>(
+    kept: &mut Kept<D, N>,
+    words: &SlotWords<N>,
+    alloc: Global,
+    claim: Claim<N>,
+    block: u32,
+) -> Result<Ticket, (Refusal, Claim<N>)>
+    requires { block < N.blocks }
+    ensures ticket { IfOk result (λ ticket. ticket ≡ claim.0.slot) }
+    ensures err { IfErr result (λ e. (e.1 ≡ claim) × (e.0 ≢ refusal.InUse) × IsRefused kept.old.array kept.new.array e.0) }
+    ensures rest { OnlyArray kept.old kept.new }
+    ensures flat { (F : Flat) (w : ℕ) → ShowsArray kept.old.array F → F.held claim.0.slot (Worker w) ≡ true
+        → MatchResult result
+        (λ ticket. (G : Flat) × CopyCase F w ticket block (say.Copied ticket) G × ShowsArray kept.new.array G)
+        (λ e. MayRefuse e.0
+        ((r : Record) × CopyPasses F w claim.0.slot block r)
+        ((G : Flat) × CopyCase F w claim.0.slot block (say.Refused e.0) G × ShowsArray kept.new.array G)) }
+{
+    let mut claim = claim;
+    kept.array.apart_from(words, &mut claim);
+    kept.array.copy(alloc, claim, block)
+}
+
+/// Commits a ticket, as the array does, and notes the write where the record has no hop.
+pub fn commit_in<D: Drive, N: Naming + Sizes>(
+    kept: &mut Kept<D, N>,
+    alloc: Global,
+    ticket: Ticket,
+    block: u32,
+) -> Result<Done<Claim<N>>, (Refusal, Ticket)>
+    requires { block < N.blocks }
+    ensures record { IfOk result (λ done. done.emitted ≡ commit_record kept.old.array ticket block (record_at block (key_at kept.old.array block))) }
+    ensures written { IfOk result (λ done. 0 < done.emitted.version) }
+    ensures noted { IfOk result (λ done. kept.new.ages.order ≡ order_after kept.old.ages.order done.emitted) }
+    ensures err { IfErr result (λ e. (e.1 ≡ ticket) × IsRefused kept.old.array kept.new.array e.0 × (kept.new.ages ≡ kept.old.ages)) }
+    ensures end { kept.new.end ≡ kept.old.end }
+    ensures flat { (F : Flat) (w : ℕ) → ShowsArray kept.old.array F → (F.tickets ticket ≢ None → F.held ticket (ticket_of w) ≡ true)
+        → MatchResult result
+        (λ done. (G : Flat) × CommitCase F w ticket block (say.Committed done.emitted) G × ShowsArray kept.new.array G)
+        (λ e. MayRefuse e.0
+        (IsWanted F (say.Commit w ticket block))
+        ((G : Flat) × CommitCase F w ticket block (say.Refused e.0) G × ShowsArray kept.new.array G)) }
+{
+    match kept.array.commit(alloc, ticket, block) {
+        Ok(done) => {
+            let record = done.emitted.record();
+            note(&mut kept.ages, kept.array.groups(), record);
+            Ok(done)
+        }
+        Err(refused) => Err(refused),
+    }
+}
+
+// Notes a write, and marks its block by the group where it lies now.
+fn note(ages: &mut MarkedAges, groups: &GroupTable, told: Record)
+    requires { «told».block < length ages.old.order }
+    ensures order { ages.new.order ≡ order_after ages.old.order «told» }
+    ensures length { length ages.new.order ≡ length ages.old.order }
+{
+    if told.hop == 0 {
+        ages.wrote(told.block);
+    }
+    ages.mark(told.block, is_mirrored(groups, told.place));
+}
+
+// Whether the slot is one of a mirrored group.
+pub(crate) fn is_mirrored(groups: &GroupTable, slot: u16) -> bool {
+    groups.class_of(slot / SLOTS) == Some(Class::Mirrored)
+}
+
+/// Commits a ticket under which a fresh payload waits. Where none does it is refused, as there is no such ticket.
+pub(crate) fn commit_fresh_in<D: Drive, N: Naming + Sizes>(
+    kept: &mut Kept<D, N>,
+    alloc: Global,
+    ticket: Ticket,
+    block: u32,
+) -> Result<Done<Claim<N>>, (Refusal, Ticket)>
+    requires { block < N.blocks }
+    ensures ok { IfOk result (λ done. (done.emitted.block ≡ block) × (0 < done.emitted.version) × (done.emitted.hop ≡ 0)) }
+{
+    if !kept.array.is_fresh(&ticket) {
+        return Err((Refusal::NoTicket, ticket));
+    }
+    commit_in(kept, alloc, ticket, block)
+}
+
+/// Gives up a ticket, as the array does: the claim of its slot comes back.
+pub fn discard_in<D: Drive, N: Naming + Sizes>(
+    kept: &mut Kept<D, N>,
+    ticket: Ticket,
+) -> Result<Claim<N>, (Refusal, Ticket)>
+    ensures claim { IfOk result (λ claim. claim.0.slot ≡ ticket) }
+    ensures err { IfErr result (λ e. (e.1 ≡ ticket) × (kept.new ≡ kept.old)) }
+    ensures rest { OnlyArray kept.old kept.new }
+    ensures flat { (F : Flat) (w : ℕ) → ShowsArray kept.old.array F → (F.tickets ticket ≢ None → F.held ticket (ticket_of w) ≡ true)
+        → MatchResult result
+        (λ claim. (G : Flat) × DiscardCase F w ticket (say.Discarded ticket) G × ShowsArray kept.new.array G)
+        (λ e. DiscardCase F w ticket (say.Refused e.0) F) }
+{
+    kept.array.discard(ticket)
+}
+
+/// Tells a record with its payload, or where it is stale the newest of its block, as the array does.
+pub fn read_in<D: Drive, N: Naming + Sizes>(
+    kept: &mut Kept<D, N>,
+    alloc: Global,
+    asked: Record,
+) -> Result<Reading, Refusal>
+    requires { «asked».block < N.blocks }
+    ensures told { IfOk result (λ reading. (reading.told.block ≡ «asked».block) × (key_of «asked» ≤ key_of reading.told)) }
+    ensures written { IfOk result (λ reading. 0 < «asked».version → 0 < reading.told.version) }
+    ensures err { IfErr result (IsRefused kept.old.array kept.new.array) }
+    ensures rest { OnlyArray kept.old kept.new }
+    ensures flat { (F : Flat) → ShowsArray kept.old.array F → MatchResult result
+        (λ reading. (G : Flat) × LearnedCase F «asked» reading.told (Payload reading.payload) G × ShowsArray kept.new.array G)
+        (λ refusal. MayRefuse refusal
+        (IsBehind F «asked»)
+        ((G : Flat) × UnlearnedCase F «asked» refusal G × ShowsArray kept.new.array G)) }
+{
+    kept.array.read_or_learn(alloc, asked)
+}
+
+/// A slot was appended: the write log goes on behind it.
+pub fn appended_in<D: Drive, N: Naming + Sizes>(kept: &mut Kept<D, N>, slot: u16)
+    ensures end { kept.new.end ≡ end_at slot }
+    ensures rest { (kept.new.array ≡ kept.old.array) × (kept.new.ages ≡ kept.old.ages) }
+{
+    kept.end.appended(slot);
+}

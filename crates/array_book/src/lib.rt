@@ -1,0 +1,26 @@
+//! An array behind a lock, and words beside it that need none: workers in threads, and two controllers' maps that settle.
+#![tactic(auto)]
+
+mod asks;
+mod book;
+mod claim;
+mod controller;
+mod fault;
+mod gate;
+mod kept;
+mod plan;
+mod run;
+mod settling;
+mod storm;
+mod worker;
+
+pub use book::Book;
+pub use claim::{Claim, Sizes};
+pub use controller::Controller;
+pub use fault::{SettleFault, WorkFault};
+pub use gate::{Gate, NoGate, Point};
+pub use kept::{Kept, appended_in, commit_in, copy_in, discard_in, fill_in, read_in};
+pub use run::{Job, RunFault, run_workers};
+pub use settling::{Ended, Settled, compare, settle};
+pub use storm::{Storm, StormFault, run_storm};
+pub use worker::{Migration, Worker};

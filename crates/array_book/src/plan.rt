@@ -1,0 +1,134 @@
+// What a worker moves next.
+ghost use Rattle.std.specs.Prelude.{◌≡◌, ◌<◌, MatchOption, IfOk};
+
+use crate::asks::Running;
+use crate::claim::Sizes;
+use crate::kept::Kept;
+use cleaner::{Move, clean_plan, plug_plan};
+use extents::Drive;
+use migrator::{Free, append_slots, first_append, wants_demotion};
+use slot_words::Naming;
+use std::alloc::{AllocError, Global};
+
+// A block that goes into the first slot of a list that can be claimed.
+#[derive(Drop)]
+pub(crate) struct Plan {
+    pub(crate) block: u32,
+    pub(crate) slots: Vec<u16>,
+    // Whether the write log goes on behind the slot.
+    pub(crate) appends: bool,
+}
+
+// What is moved next: a demotion where fewer mirrored slots are free than `low`, else a plug, else a clean. The block's number
+// is below `blocks`.
+pub(crate) fn plan_in<D: Drive, N: Naming + Sizes>(
+    kept: &mut Kept<D, N>,
+    alloc: Global,
+    mirrors: &[u16],
+    low: u32,
+) -> Result<Option<Plan>, AllocError>
+    ensures block { IfOk result (λ found. MatchOption found (Unit {0}) (λ plan. plan.block < N.blocks)) }
+    ensures same { kept.new ≡ kept.old }
+{
+    if wants_demotion(free_among(kept, mirrors), low) {
+        if let Some(block) = oldest_mirrored(kept) {
+            let slots = slots_behind(kept, alloc)?;
+            return Ok(Some(Plan {
+                block,
+                slots,
+                appends: true,
+            }));
+        }
+    }
+    let found = match plug_of(kept) {
+        Some(plan) => Some((plan, false)),
+        None => match clean_of(kept) {
+            Some(plan) => Some((plan, true)),
+            None => None,
+        },
+    };
+    match found {
+        Some((plan, appends)) => moved(kept, alloc, plan, appends),
+        None => Ok(None),
+    }
+}
+
+// The plan of a move, where its block is one of the array.
+fn moved<D: Drive, N: Naming + Sizes>(
+    kept: &Kept<D, N>,
+    alloc: Global,
+    plan: Move,
+    appends: bool,
+) -> Result<Option<Plan>, AllocError>
+    ensures { IfOk result (λ found. MatchOption found (Unit {0}) (λ plan. plan.block < N.blocks)) }
+{
+    kept.stands();
+    if plan.block >= kept.array().shape().blocks {
+        return Ok(None);
+    }
+    let mut slots = Vec::new(alloc);
+    slots.push(plan.to)?;
+    Ok(Some(Plan {
+        block: plan.block,
+        slots,
+        appends,
+    }))
+}
+
+// How many of the slots the array keeps nothing of.
+fn free_among<D: Drive, N: Naming + Sizes>(kept: &Kept<D, N>, mirrors: &[u16]) -> u32 {
+    let mut free = 0u32;
+    for slot in mirrors {
+        if !kept.array.is_held(*slot) {
+            free = free.saturating_add(1);
+        }
+    }
+    free
+}
+
+// The block in a mirrored group that was written longest ago.
+fn oldest_mirrored<D: Drive, N: Naming + Sizes>(kept: &mut Kept<D, N>) -> Option<u32>
+    ensures block { MatchOption result (Unit {0}) (λ block. block < N.blocks) }
+    ensures same { kept.new ≡ kept.old }
+{
+    kept.stands();
+    let blocks = kept.array.shape().blocks;
+    match kept.ages.oldest_marked() {
+        Some(block) if block < blocks => Some(block),
+        _ => None,
+    }
+}
+
+// The slots where the write log goes on.
+fn slots_behind<D: Drive, N: Naming + Sizes>(
+    kept: &Kept<D, N>,
+    alloc: Global,
+) -> Result<Vec<u16>, AllocError> {
+    let running = Running { array: &kept.array };
+    append_slots(alloc, &kept.end, kept.array.groups(), &running)
+}
+
+// A hole that can be plugged.
+fn plug_of<D: Drive, N: Naming + Sizes>(kept: &Kept<D, N>) -> Option<Move> {
+    let running = Running { array: &kept.array };
+    plug_plan(kept.array.groups(), &running, kept.end.group())
+}
+
+// A group that can be cleaned.
+fn clean_of<D: Drive, N: Naming + Sizes>(kept: &Kept<D, N>) -> Option<Move> {
+    let running = Running { array: &kept.array };
+    let groups = kept.array.groups();
+    let append = first_append(&kept.end, groups, &running, &Any);
+    clean_plan(groups, &running, kept.end.group(), append)
+}
+
+// Every slot, held or not.
+struct Any;
+
+impl Free for Any {
+    ghost free = { λ any slot. Unit {0} };
+
+    fn is_free(&self, _slot: u16) -> bool {
+        true
+    }
+}

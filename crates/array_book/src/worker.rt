@@ -1,0 +1,453 @@
+// One thread's hands on a Book.
+ghost use Rattle.std.specs.Prelude.{◌≡◌, ◌≢◌, ℕ, ◌<◌, length, IfOk, OnErr, MatchOption, Ok, Err, Some, None};
+ghost use Rattle.map_join.specs.declared.records.Record.{Record};
+ghost use Rattle.step_core.specs.Told.{Lesson};
+ghost use Rattle.map_words.specs.Answers.{HasFound, IsNewest, key_in};
+ghost use Rattle.flat_machine.specs.declared.refusal.Refusal.TheVariants as refusal;
+ghost use Rattle.array_book.specs.Takes.{controller_of, taker_of, other_of, Took, Learnt, IsTold};
+ghost use Rattle.array_book.specs.declared.fault.WorkFault.TheVariants.{Core};
+ghost use Rattle.array_book.specs.declared.worker.Migration.TheVariants as migration;
+
+use crate::book::Book;
+use crate::claim::{Claim, Sizes};
+use crate::controller::Controller;
+use crate::fault::WorkFault;
+use crate::gate::{Gate, Point};
+use crate::kept::{
+    Kept, appended_in, commit_fresh_in, commit_in, copy_in, discard_in, fill_in, read_in,
+};
+use crate::plan::{Plan, plan_in};
+use crate::settling::Ended;
+use extents::Drive;
+use flat_machine::Refusal;
+use map_join::Record;
+use map_words::Taker;
+use slot_words::Pass;
+use std::alloc::Global;
+use std::sync::Wait;
+use step_core::{Done, Emitted, Reading, Ticket};
+
+/// One thread's hands on a Book: a Pass, and a Taker of each controller.
+#[derive(Drop)]
+pub struct Worker<
+    'a,
+    D: Drive,
+    N: slot_words::Naming + Sizes,
+    A: map_words::Naming,
+    B: map_words::Naming,
+> {
+    pub(crate) book: &'a Book<D, N, A, B>,
+    pub(crate) number: u8,
+    pub(crate) pass: Pass<N>,
+    pub(crate) even: Taker<A>,
+    pub(crate) odd: Taker<B>,
+}
+
+/// What came of a migration.
+#[derive(Debug, Drop)]
+pub enum Migration {
+    Moved(Emitted),
+    /// A newer record was emitted since the copy.
+    Outrun(Record),
+    /// There is nothing to move.
+    Idle,
+    /// None of the slots of the plan could be claimed.
+    NoRoom,
+}
+
+impl<
+    'a,
+    D: Drive,
+    N: slot_words::Naming + Sizes,
+    A: map_words::Naming,
+    B: map_words::Naming,
+> Worker<'a, D, N, A, B> {
+    /// A worker of the Book.
+    pub fn new(
+        book: &'a Book<D, N, A, B>,
+        number: u8,
+        pass: Pass<N>,
+        takers: (Taker<A>, Taker<B>),
+    ) -> Worker<'a, D, N, A, B>
+        ensures book { (result.book.now.blocks ≡ book.now.blocks) × (result.book.now.payload ≡ book.now.payload) }
+        ensures number { result.number ≡ number }
+        ensures hands { (result.pass ≡ pass) × (result.even ≡ takers.0) × (result.odd ≡ takers.1) }
+    {
+        let (even, odd) = takers;
+        Worker {
+            book,
+            number,
+            pass,
+            even,
+            odd,
+        }
+    }
+
+    /// The worker's number.
+    pub fn number(&self) -> u8
+        ensures { result ≡ self.now.number }
+    {
+        self.number
+    }
+
+    /// How many blocks there are.
+    pub fn blocks(&self) -> u32
+        ensures { result ≡ self.now.book.now.blocks }
+    {
+        self.book.blocks
+    }
+
+    /// How many bytes a payload has.
+    pub fn payload(&self) -> u32
+        ensures { result ≡ self.now.book.now.payload }
+    {
+        self.book.payload
+    }
+
+    /// Claims a mirrored slot, fills and commits it, releases the block's old place, and takes the record into the words of the
+    /// controller of the worker's number. Where nothing is committed the slot is released again.
+    pub fn write<R: Wait, G: Gate>(
+        &mut self,
+        rt: &R,
+        alloc: Global,
+        block: u32,
+        payload: &[u8],
+        gate: &G,
+    ) -> Result<Emitted, WorkFault>
+        requires block { block < self.old.book.now.blocks }
+        requires payload { length payload.now ≡ self.old.book.now.payload }
+        ensures record { IfOk result (λ emitted. (emitted.block ≡ block) × (emitted.hop ≡ 0)) }
+        ensures taken { IfOk result (λ emitted. Took emitted (taker_of (controller_of self.old.number) self.old.even self.old.odd) (taker_of (controller_of self.old.number) self.new.even self.new.odd)) }
+        ensures other { other_of (controller_of self.old.number) self.new.even self.new.odd ≡ other_of (controller_of self.old.number) self.old.even self.old.odd }
+        ensures err { OnErr result ((self.new.even ≡ self.old.even) × (self.new.odd ≡ self.old.odd)) }
+        ensures fault { result ≢ Err (Core refusal.Memory) }
+        ensures rest { (self.new.number ≡ self.old.number) × (self.new.book ≡ self.old.book) }
+    {
+        let book = self.book;
+        let Some(claim) = self.claim(&book.mirrors) else {
+            return Err(WorkFault::NoRoom);
+        };
+        gate.reach(Point::Claimed, rt);
+        let ticket = self.fill(rt, alloc, claim, payload)?;
+        gate.reach(Point::Put, rt);
+        let done = self.commit_fresh(rt, alloc, ticket, block)?;
+        gate.reach(Point::Committed, rt);
+        let emitted = self.acknowledge(done);
+        gate.reach(Point::Taken, rt);
+        Ok(emitted)
+    }
+
+    // A claim of the first of these slots that can be claimed.
+    fn claim(&mut self, slots: &[u16]) -> Option<slot_words::Claim<N>>
+        ensures rest { (self.new.number ≡ self.old.number) × (self.new.book ≡ self.old.book) × (self.new.even ≡ self.old.even) × (self.new.odd ≡ self.old.odd) }
+    {
+        match self.book.words.claim_first(&mut self.pass, slots) {
+            Ok(claim) => Some(claim),
+            Err(_) => None,
+        }
+    }
+
+    // Fills the claimed slot; refused it is released.
+    fn fill<R: Wait>(
+        &mut self,
+        rt: &R,
+        alloc: Global,
+        claim: slot_words::Claim<N>,
+        payload: &[u8],
+    ) -> Result<Ticket, WorkFault>
+        requires { length payload.now ≡ self.old.book.now.payload }
+        ensures fault { result ≢ Err (Core refusal.Memory) }
+        ensures rest { (self.new.number ≡ self.old.number) × (self.new.book ≡ self.old.book) × (self.new.even ≡ self.old.even) × (self.new.odd ≡ self.old.odd) }
+    {
+        let book = self.book;
+        let filled = fill_in(
+            &mut *book.kept.lock(rt),
+            &book.words,
+            alloc,
+            Claim(claim),
+            payload,
+        );
+        match filled {
+            Ok(ticket) => Ok(ticket),
+            Err((refusal, Claim(claim))) => {
+                book.words.release(&mut self.pass, claim);
+                Err(WorkFault::of(refusal))
+            }
+        }
+    }
+
+    // Commits what was filled; refused the ticket is given up, and its slot released.
+    fn commit_fresh<R: Wait>(
+        &mut self,
+        rt: &R,
+        alloc: Global,
+        ticket: Ticket,
+        block: u32,
+    ) -> Result<Done<Claim<N>>, WorkFault>
+        requires { block < self.old.book.now.blocks }
+        ensures ok { IfOk result (λ done. (done.emitted.block ≡ block) × (0 < done.emitted.version) × (done.emitted.hop ≡ 0)) }
+        ensures fault { result ≢ Err (Core refusal.Memory) }
+        ensures rest { (self.new.number ≡ self.old.number) × (self.new.book ≡ self.old.book) × (self.new.even ≡ self.old.even) × (self.new.odd ≡ self.old.odd) }
+    {
+        let book = self.book;
+        let committed = commit_fresh_in(&mut *book.kept.lock(rt), alloc, ticket, block);
+        match committed {
+            Ok(done) => Ok(done),
+            Err((refusal, ticket)) => {
+                self.give_up(rt, ticket);
+                Err(WorkFault::of(refusal))
+            }
+        }
+    }
+
+    // Ends a ticket, and releases its slot.
+    fn give_up<R: Wait>(&mut self, rt: &R, ticket: Ticket)
+        ensures rest { (self.new.number ≡ self.old.number) × (self.new.book ≡ self.old.book) × (self.new.even ≡ self.old.even) × (self.new.odd ≡ self.old.odd) }
+    {
+        let book = self.book;
+        let given = discard_in(&mut *book.kept.lock(rt), ticket);
+        if let Ok(Claim(claim)) = given {
+            book.words.release(&mut self.pass, claim);
+        }
+    }
+
+    // Releases the old place of what was committed, and takes its record.
+    fn acknowledge(&mut self, done: Done<Claim<N>>) -> Emitted
+        requires block { done.emitted.block < self.old.book.now.blocks }
+        requires written { 0 < done.emitted.version }
+        ensures same { result ≡ done.emitted }
+        ensures taken { Took result (taker_of (controller_of self.old.number) self.old.even self.old.odd) (taker_of (controller_of self.old.number) self.new.even self.new.odd) }
+        ensures other { other_of (controller_of self.old.number) self.new.even self.new.odd ≡ other_of (controller_of self.old.number) self.old.even self.old.odd }
+        ensures rest { (self.new.number ≡ self.old.number) × (self.new.book ≡ self.old.book) }
+    {
+        let Done { emitted, old } = done;
+        if let Some(Claim(claim)) = old {
+            self.book.words.release(&mut self.pass, claim);
+        }
+        self.take(Controller::of(self.number), emitted.record());
+        emitted
+    }
+
+    // Takes a record into a controller's words.
+    fn take(&mut self, controller: Controller, told: Record)
+        requires block { «told».block < self.old.book.now.blocks }
+        requires written { 0 < «told».version }
+        ensures taken { Took «told» (taker_of controller self.old.even self.old.odd) (taker_of controller self.new.even self.new.odd) }
+        ensures other { other_of controller self.new.even self.new.odd ≡ other_of controller self.old.even self.old.odd }
+        ensures rest { (self.new.number ≡ self.old.number) × (self.new.book ≡ self.old.book) }
+    {
+        match controller {
+            Controller::Even => {
+                self.book.even.take(&mut self.even, told);
+            }
+            Controller::Odd => {
+                self.book.odd.take(&mut self.odd, told);
+            }
+        }
+    }
+}
+
+impl<
+    'a,
+    D: Drive,
+    N: slot_words::Naming + Sizes,
+    A: map_words::Naming,
+    B: map_words::Naming,
+> Worker<'a, D, N, A, B> {
+    /// Moves one block: where fewer mirrored slots than `low` are free, the one of those in mirrored groups that was written
+    /// longest ago to where the write log goes on; else one by a plug, or where there is none by a clean. Its record is taken as
+    /// a write's. A plan that has grown old meanwhile is carried out all the same.
+    pub fn migrate<R: Wait, G: Gate>(
+        &mut self,
+        rt: &R,
+        alloc: Global,
+        low: u32,
+        gate: &G,
+    ) -> Result<Migration, WorkFault>
+        ensures taken { (emitted : Record) → result ≡ Ok (migration.Moved emitted)
+            → Took emitted (taker_of (controller_of self.old.number) self.old.even self.old.odd) (taker_of (controller_of self.old.number) self.new.even self.new.odd) }
+        ensures other { other_of (controller_of self.old.number) self.new.even self.new.odd ≡ other_of (controller_of self.old.number) self.old.even self.old.odd }
+        ensures fault { result ≢ Err (Core refusal.Memory) }
+        ensures rest { (self.new.number ≡ self.old.number) × (self.new.book ≡ self.old.book) }
+    {
+        let Some(plan) = self.plan(rt, alloc, low)? else {
+            return Ok(Migration::Idle);
+        };
+        let Some(claim) = self.claim(&plan.slots) else {
+            return Ok(Migration::NoRoom);
+        };
+        gate.reach(Point::Claimed, rt);
+        let ticket = self.copy(rt, alloc, claim, plan.block)?;
+        gate.reach(Point::Put, rt);
+        match self.commit_moved(rt, alloc, ticket, &plan) {
+            Ok(done) => {
+                gate.reach(Point::Committed, rt);
+                let emitted = self.acknowledge(done);
+                gate.reach(Point::Taken, rt);
+                Ok(Migration::Moved(emitted))
+            }
+            Err(WorkFault::Core(Refusal::Outrun(newer))) => Ok(Migration::Outrun(newer)),
+            Err(fault) => Err(fault),
+        }
+    }
+
+    // What is moved next.
+    fn plan<R: Wait>(&self, rt: &R, alloc: Global, low: u32) -> Result<Option<Plan>, WorkFault>
+        ensures block { IfOk result (λ found. MatchOption found (Unit {0}) (λ plan. plan.block < self.now.book.now.blocks)) }
+        ensures fault { result ≢ Err (Core refusal.Memory) }
+    {
+        match plan_in(
+            &mut *self.book.kept.lock(rt),
+            alloc,
+            &self.book.mirrors,
+            low,
+        ) {
+            Ok(found) => Ok(found),
+            Err(_) => Err(WorkFault::Memory),
+        }
+    }
+
+    // Copies the block into the claimed slot; refused it is released.
+    fn copy<R: Wait>(
+        &mut self,
+        rt: &R,
+        alloc: Global,
+        claim: slot_words::Claim<N>,
+        block: u32,
+    ) -> Result<Ticket, WorkFault>
+        requires { block < self.old.book.now.blocks }
+        ensures fault { result ≢ Err (Core refusal.Memory) }
+        ensures rest { (self.new.number ≡ self.old.number) × (self.new.book ≡ self.old.book) × (self.new.even ≡ self.old.even) × (self.new.odd ≡ self.old.odd) }
+    {
+        let book = self.book;
+        let copied = copy_in(
+            &mut *book.kept.lock(rt),
+            &book.words,
+            alloc,
+            Claim(claim),
+            block,
+        );
+        match copied {
+            Ok(ticket) => Ok(ticket),
+            Err((refusal, Claim(claim))) => {
+                book.words.release(&mut self.pass, claim);
+                Err(WorkFault::of(refusal))
+            }
+        }
+    }
+
+    // Commits a copy, and notes under the same hold of the lock where the write log goes on; refused the ticket is given up,
+    // and its slot released.
+    fn commit_moved<R: Wait>(
+        &mut self,
+        rt: &R,
+        alloc: Global,
+        ticket: Ticket,
+        plan: &Plan,
+    ) -> Result<Done<Claim<N>>, WorkFault>
+        requires { plan.now.block < self.old.book.now.blocks }
+        ensures ok { IfOk result (λ done. (done.emitted.block ≡ plan.now.block) × (0 < done.emitted.version)) }
+        ensures fault { result ≢ Err (Core refusal.Memory) }
+        ensures rest { (self.new.number ≡ self.old.number) × (self.new.book ≡ self.old.book) × (self.new.even ≡ self.old.even) × (self.new.odd ≡ self.old.odd) }
+    {
+        let book = self.book;
+        let committed = commit_and_append(&mut *book.kept.lock(rt), alloc, ticket, plan);
+        match committed {
+            Ok(done) => Ok(done),
+            Err((refusal, ticket)) => {
+                self.give_up(rt, ticket);
+                Err(WorkFault::of(refusal))
+            }
+        }
+    }
+
+    /// Tells a block by the newest record of it that the controller's words tell, or where that is stale by the array's newest,
+    /// which is taken into those words. None where they tell none.
+    pub fn read<R: Wait>(
+        &mut self,
+        rt: &R,
+        alloc: Global,
+        controller: Controller,
+        block: u32,
+    ) -> Result<Option<Reading>, WorkFault>
+        requires { block < self.old.book.now.blocks }
+        ensures some { (reading : Lesson) → result ≡ Ok (Some reading)
+            → IsTold (taker_of controller self.old.even self.old.odd) block (taker_of controller self.new.even self.new.odd) (Some reading.told) }
+        ensures none { result ≡ Ok None
+            → IsTold (taker_of controller self.old.even self.old.odd) block (taker_of controller self.new.even self.new.odd) None }
+        ensures other { other_of controller self.new.even self.new.odd ≡ other_of controller self.old.even self.old.odd }
+        ensures fault { result ≢ Err (Core refusal.Memory) }
+        ensures rest { (self.new.number ≡ self.old.number) × (self.new.book ≡ self.old.book) }
+    {
+        let Some(found) = self.find(controller, block) else {
+            return Ok(None);
+        };
+        let read = read_in(&mut *self.book.kept.lock(rt), alloc, found);
+        match read {
+            Ok(reading) => {
+                self.learn(controller, found, reading.record());
+                Ok(Some(reading))
+            }
+            Err(refusal) => Err(WorkFault::of(refusal)),
+        }
+    }
+
+    // The newest record of the block that the controller's words tell.
+    fn find(&mut self, controller: Controller, block: u32) -> Option<Record>
+        requires { block < self.old.book.now.blocks }
+        ensures newest { IsNewest (taker_of controller self.old.even self.old.odd) block (key_in result) }
+        ensures block { MatchOption result (Unit {0}) (λ r. (r.block ≡ block) × (0 < r.version)) }
+        ensures found { HasFound (taker_of controller self.old.even self.old.odd) block (key_in result) (taker_of controller self.new.even self.new.odd) }
+        ensures other { other_of controller self.new.even self.new.odd ≡ other_of controller self.old.even self.old.odd }
+        ensures rest { (self.new.number ≡ self.old.number) × (self.new.book ≡ self.old.book) }
+    {
+        match controller {
+            Controller::Even => self.book.even.find(&mut self.even, block),
+            Controller::Odd => self.book.odd.find(&mut self.odd, block),
+        }
+    }
+
+    // Takes what was learnt, where it isn't what was found.
+    fn learn(&mut self, controller: Controller, found: Record, told: Record)
+        requires block { «told».block < self.old.book.now.blocks }
+        requires written { 0 < «told».version }
+        ensures learnt { Learnt «told» «found» (taker_of controller self.old.even self.old.odd) (taker_of controller self.new.even self.new.odd) }
+        ensures other { other_of controller self.new.even self.new.odd ≡ other_of controller self.old.even self.old.odd }
+        ensures rest { (self.new.number ≡ self.old.number) × (self.new.book ≡ self.old.book) }
+    {
+        if told != found {
+            self.take(controller, told);
+        }
+    }
+
+    /// Lets go of the Book.
+    pub fn end(self) -> Ended<N, A, B>
+        ensures { (result.pass ≡ self.entry.pass) × (result.even ≡ self.entry.even) × (result.odd ≡ self.entry.odd) }
+    {
+        let Worker {
+            book: _,
+            number: _,
+            pass,
+            even,
+            odd,
+        } = self;
+        Ended { pass, even, odd }
+    }
+}
+
+// Commits what a plan placed.
+fn commit_and_append<D: Drive, N: slot_words::Naming + Sizes>(
+    kept: &mut Kept<D, N>,
+    alloc: Global,
+    ticket: Ticket,
+    plan: &Plan,
+) -> Result<Done<Claim<N>>, (Refusal, Ticket)>
+    requires { plan.now.block < N.blocks }
+    ensures ok { IfOk result (λ done. (done.emitted.block ≡ plan.now.block) × (0 < done.emitted.version)) }
+{
+    let done = commit_in(kept, alloc, ticket, plan.block)?;
+    if plan.appends {
+        appended_in(kept, done.emitted.record().place);
+    }
+    Ok(done)
+}
