@@ -54,6 +54,10 @@ fn apart_at<C: Hold, W: Apart<C>>(places: &mut Vec<Place<C>>, words: &W, slot: u
             words.apart(kept, claim);
             unreachable!()
         }
+        Place::Unmade(kept) => {
+            words.apart(kept, claim);
+            unreachable!()
+        }
     }
 }
 

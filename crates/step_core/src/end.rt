@@ -32,6 +32,7 @@ fn hand_over<C: Hold, T: TakeBack<C>>(mut places: Vec<Place<C>>, to: &mut T) {
             Place::Pending(claim) => to.take_back(claim),
             Place::Moving(_, claim) => to.take_back(claim),
             Place::Newest(_, claim) => to.take_back(claim),
+            Place::Unmade(claim) => to.take_back(claim),
         }
     }
     places.destroy_empty();

@@ -17,6 +17,7 @@ impl<D: Drive, C: Hold> Array<D, C> {
             Place::Free => false,
             Place::Moving(_, _) => false,
             Place::Newest(_, _) => false,
+            Place::Unmade(_) => false,
         }
     }
 }
