@@ -1,7 +1,7 @@
 -- The claims of an array that was put together by a map.
 use Rattle.std.proofs.Common.{◌≡◌, ℕ, ◌<◌, List, refl, ◌∙◌, arith}
 use Rattle.map_join.specs.Record.{record_of}
-use Rattle.array_model.specs.Views.{Kept, Nothing, Pending, Moving, Newest, ArrayView, kept_at}
+use Rattle.array_model.specs.Views.{Kept, Nothing, Pending, Moving, Newest, Unmade, ArrayView, kept_at}
 use Rattle.array_model.specs.Adopted.{IsPlaced}
 use Rattle.step_core.specs.Adopted.{how_many, claims_in, AreClaimsOf, AreOfPlaces}
 
@@ -19,6 +19,7 @@ claims_of_places {C} names claims a M placed are = record {
     single : (b : ℕ) → 0 < M b → (kept : Kept) → IsPlaced M (place b) kept → claims_in kept ≡ 1
     single b some Nothing none = absurd (none b some refl)
     single b some Pending e = absurd e
+    single b some Unmade e = absurd e
     single b some (Moving r) e = absurd e
     single b some (Newest c) e = refl
 
@@ -26,5 +27,6 @@ claims_of_places {C} names claims a M placed are = record {
         → (b : ℕ) × (0 < M b) × ((record_of b (M b)).place ≡ slot)
     found slot some Nothing none e = absurd (omega (arith, some, e))
     found slot some Pending tells e = absurd tells
+    found slot some Unmade tells e = absurd tells
     found slot some (Moving r) tells e = absurd tells
     found slot some (Newest b) tells e = (b, tells.0, tells.1)

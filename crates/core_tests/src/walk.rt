@@ -157,8 +157,12 @@ impl Walk {
         }
     }
 
-    // A group of extents on three drives that follow one another.
+    // A group of extents on three drives that follow one another, while there are fewer than four; half of them are unmade
+    // again at once.
     fn make(&mut self, rt: &impl Abort) {
+        if !self.world.array().groups().is_free(3) {
+            return;
+        }
         let first = self.draw(2) as u8;
         let extent = self.draw(8) as u16;
         let members = members_on([first, first + 1, first + 2], extent);
@@ -170,13 +174,16 @@ impl Walk {
         } else {
             Class::Parity
         };
-        let _made = self.take(rt, &Step::Make { class, members });
+        if let Answer::Made(group) = self.take(rt, &Step::Make { class, members })
+            && self.draw(2) == 0
+        {
+            self.unmake(rt, group);
+        }
     }
 
     // A worker claims what it can of a group's slots, and unmakes the group if it has all; else it gives back what it claimed.
-    fn unmake(&mut self, rt: &impl Abort) {
+    fn unmake(&mut self, rt: &impl Abort, group: u16) {
         let worker = self.worker();
-        let group = self.draw(4) as u16;
         for place in 0..SLOTS as u16 {
             let slot = 128 * (group % 4) + place;
             let _claimed = self.take(rt, &Step::Claim { worker, slot });
@@ -289,12 +296,15 @@ impl Walk {
 
     fn turn(&mut self, rt: &impl Abort) {
         match self.draw(64) {
-            0 => self.make(rt),
-            1 => self.unmake(rt),
+            0 | 1 => self.make(rt),
             2 => self.lose(rt),
             3 | 4 => self.rebuild(rt),
             5 | 6 => self.move_extent(rt),
-            7 | 8 => self.read_at(rt),
+            7 => {
+                let group = self.draw(4) as u16;
+                self.unmake(rt, group);
+            }
+            8 => self.read_at(rt),
             9..=24 => self.fill(rt),
             _ => self.flow(rt),
         }
