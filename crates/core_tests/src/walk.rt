@@ -70,8 +70,14 @@ impl Walk {
         self.draw(2) as u8
     }
 
+    // Slots of the last group are drawn seldom, so that it is often empty.
     fn slot(&mut self) -> u16 {
-        let group = self.draw(4);
+        let group = match self.draw(32) {
+            0 => 3,
+            1..=6 => 2,
+            7..=18 => 1,
+            _ => 0,
+        };
         let place = self.draw(SLOTS);
         (128 * group + place) as u16
     }
@@ -157,15 +163,34 @@ impl Walk {
         }
     }
 
-    // A group of extents on three drives that follow one another, while there are fewer than four; half of them are unmade
-    // again at once.
+    // The next drive that isn't lost.
+    fn present_behind(&self, drive: u8) -> u8 {
+        let count = self.world.array().drive_count();
+        let mut at = drive;
+        for _turn in 0..16u8 {
+            at = at.wrapping_add(1);
+            if at >= count {
+                at = 0;
+            }
+            if !self.world.array().is_lost(at) {
+                return at;
+            }
+        }
+        at
+    }
+
+    // A group of extents on three drives that aren't lost, while there are fewer than four; half of them are unmade again at
+    // once.
     fn make(&mut self, rt: &impl Abort) {
         if !self.world.array().groups().is_free(3) {
             return;
         }
-        let first = self.draw(2) as u8;
+        let drawn = self.draw(16) as u8;
+        let first = self.present_behind(drawn);
+        let second = self.present_behind(first);
+        let third = self.present_behind(second);
         let extent = self.draw(8) as u16;
-        let members = members_on([first, first + 1, first + 2], extent);
+        let members = members_on([first, second, third], extent);
         let Ok(members) = members.to_vec(self.alloc) else {
             panic!(rt; "no memory")
         };
@@ -181,8 +206,11 @@ impl Walk {
         }
     }
 
-    // A worker claims what it can of a group's slots, and unmakes the group if it has all; else it gives back what it claimed.
+    // Both workers give back what they have of a group's slots; then one claims what it can of them, and unmakes the group
+    // if it has all.
     fn unmake(&mut self, rt: &impl Abort, group: u16) {
+        self.give_back(rt, 0, group);
+        self.give_back(rt, 1, group);
         let worker = self.worker();
         for place in 0..SLOTS as u16 {
             let slot = 128 * (group % 4) + place;
@@ -190,13 +218,14 @@ impl Walk {
         }
         match self.take(rt, &Step::Unmake { worker, group }) {
             Answer::Unmade(_) => self.unmade = self.unmade.wrapping_add(1),
-            _ => self.release(rt, worker, group),
+            _ => self.give_back(rt, worker, group),
         }
     }
 
-    fn release(&mut self, rt: &impl Abort, worker: u8, group: u16) {
+    fn give_back(&mut self, rt: &impl Abort, worker: u8, group: u16) {
         for place in 0..SLOTS as u16 {
             let slot = 128 * (group % 4) + place;
+            let _discarded = self.take(rt, &Step::Discard { worker, slot });
             let _released = self.take(rt, &Step::Release { worker, slot });
         }
     }
@@ -317,6 +346,7 @@ fn after_each_step_of_a_long_walk_three_maps_are_one(rt: HostRuntime) {
     for _turn in 0..TURNS {
         walk.turn(&rt);
     }
-    assert!(rt; walk.steps > TURNS && walk.unmade > 5);
+    assert!(rt; walk.steps > TURNS);
+    assert!(rt; walk.unmade > 5);
     assert!(rt; walk.world.array().drive_count() > 8);
 }
