@@ -144,7 +144,7 @@ impl<D: Drive, C: Hold> Array<D, C> {
         let _ = &self.parts;
     }
 
-    /// Whether the array itself holds the slot: for a ticket or as a block's newest place.
+    /// Whether the array itself holds the slot: for a ticket, as a block's newest place, or for an unmade group.
     pub fn is_held(&self, slot: u16) -> bool
         ensures value { result ≡ is_kept (kept_at self.now slot) }
         ensures flat { (F : Flat) → ShowsArray self.now F → IsTrue result ↔ IsKept F slot }
