@@ -40,6 +40,7 @@ fn told(answer: &Answer) -> (&'static str, [u32; NUMBERS]) {
         Answer::Found(At::Stale(None)) => ("stale", [0; NUMBERS]),
         Answer::Found(At::Stale(Some(record))) => ("stale", numbers_of(*record)),
         Answer::Made(group) => ("made", one(*group)),
+        Answer::Unmade(group) => ("unmade", one(*group)),
         Answer::Shifted => ("moved", [0; NUMBERS]),
         Answer::Added(drive) => ("added", one(u16::from(*drive))),
         Answer::Lost(drive) => ("lost", one(u16::from(*drive))),
