@@ -3,6 +3,7 @@
 // goes on, so its status doesn't tell it.
 #define _GNU_SOURCE
 #include <dlfcn.h>
+#include <errno.h>
 #include <fcntl.h>
 #include <stddef.h>
 #include <stdlib.h>
@@ -15,9 +16,10 @@ static int is_refused(void) {
         const char *text = getenv("REFUSE");
         refuse = text ? atol(text) : 0;
     }
-    if (++count != refuse) return 0;
+    if (__atomic_add_fetch(&count, 1, __ATOMIC_SEQ_CST) != refuse) return 0;
     const char *path = getenv("REFUSED");
     if (path) close(open(path, O_CREAT | O_WRONLY, 0600));
+    errno = ENOMEM;
     return 1;
 }
 

@@ -10,10 +10,10 @@ use Rattle.array_book.specs.declared.fault.SettleFault.TheVariants.{Differs, Mem
 use Rattle.array_book.specs.Settling.{IsUnsettled, IsDiffering}
 
 -- where the join is the array's map, that is the map of all that was taken
-pub settled_ok : (r : Result (Unit {0}) SettleFault) (xs ys : List Record) (M N K : ℕ → ℕ) → OnOk r (IsSame (join M N) K) → IsMapOf xs M → IsMapOf ys N
-    → OnOk r (IsMapOf (xs ++ ys) K)
-settled_ok (Ok u) xs ys M N K same m n = together xs ys M N K (λ b. sym (same b)) m n
-settled_ok (Err e) xs ys M N K same m n = tt
+pub settled_ok : (r : Result (Unit {0}) SettleFault) (even odd : ℕ) (xs ys : List Record) (M N K : ℕ → ℕ) → OnOk r (IsSame (join M N) K) → IsMapOf xs M → IsMapOf ys N
+    → even ≡ whole → odd ≡ whole → OnOk r ((even ≡ whole) × (odd ≡ whole) × IsMapOf (xs ++ ys) K)
+settled_ok (Ok u) even odd xs ys M N K same m n one other = (one, other, together xs ys M N K (λ b. sym (same b)) m n)
+settled_ok (Err e) even odd xs ys M N K same m n one other = tt
 
 -- and where it isn't, each map of all that was taken differs from it at that block first
 pub settled_err : (r : Result (Unit {0}) SettleFault) (even odd : ℕ) (xs ys : List Record) (M N K : ℕ → ℕ) → IfErr r (IsDiffering (join M N) K) → IsMapOf xs M → IsMapOf ys N

@@ -7,6 +7,8 @@ use Rattle.map_words.specs.declared.view.View.{View}
 use Rattle.map_words.specs.Answers.{HasTaken, IsNewest}
 use Rattle.array_book.specs.declared.controller.Controller.{Controller}
 use Rattle.array_book.specs.declared.controller.Controller.TheVariants.{Even, Odd}
+use Rattle.array_book.specs.declared.worker.Migration.{Migration}
+use Rattle.array_book.specs.declared.worker.Migration.TheVariants.{Moved, Outrun, Idle, NoRoom}
 
 -- the controller into whose words a worker takes its records
 abbrev pub controller_of : ℕ → Controller
@@ -24,6 +26,19 @@ other_of Odd even odd = even
 -- one step more, which took the record
 abbrev pub Took : Record → View → View → Type 0
 Took r before after = (found : ℕ) × HasTaken before r found after
+
+-- neither Taker has made a step
+abbrev pub AreSame : View → View → View → View → Type 0
+AreSame even odd even_after odd_after = (even_after ≡ even) × (odd_after ≡ odd)
+
+-- what a migration by the worker of this number leaves of the Takers of both controllers: where a block was moved its record was
+-- taken, and else nothing was
+abbrev pub HasMigrated : ℕ → View → View → View → View → Migration → Type 0
+HasMigrated number even odd even_after odd_after (Moved r) =
+    Took r (taker_of (controller_of number) even odd) (taker_of (controller_of number) even_after odd_after)
+HasMigrated number even odd even_after odd_after (Outrun r) = AreSame even odd even_after odd_after
+HasMigrated number even odd even_after odd_after Idle = AreSame even odd even_after odd_after
+HasMigrated number even odd even_after odd_after NoRoom = AreSame even odd even_after odd_after
 
 -- the Taker has taken the record, or found its key
 abbrev pub Knows : View → Record → Type 0

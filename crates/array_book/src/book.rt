@@ -1,12 +1,15 @@
 // The array behind its lock, beside the words that need none.
-ghost use Rattle.std.specs.Prelude.{◌≡◌, ℕ, ◌≤◌, length, IfOk, IfErr};
+ghost use Rattle.std.specs.Prelude.{◌≡◌, ◌⊎◌, ℕ, ◌≤◌, length, IfOk, IfErr, IfSome, IfNone};
 ghost use Rattle.array_model.specs.Represents.{ShowsArray};
 ghost use Rattle.flat_machine.specs.Flat.{Flat};
 ghost use Rattle.map_words.specs.Places.{blocks_of};
+ghost use Rattle.map_words.specs.Steps.{given_half as share_given, kept_half as share_kept};
 ghost use Rattle.slot_words.specs.Places.{slots_of};
+ghost use Rattle.slot_words.specs.Steps.{given_half as right_given, kept_half as right_kept};
 
 use crate::claim::{Claim, Sizes};
 use crate::kept::{Kept, is_mirrored};
+use crate::settling::Ended;
 use extents::Drive;
 use map_words::MapWords;
 use migrator::{LogEnd, MarkedAges, mirror_slots};
@@ -81,6 +84,24 @@ impl<D: Drive, N: slot_words::Naming + Sizes, A: map_words::Naming, B: map_words
             blocks: shape.blocks,
             payload: shape.payload,
         })
+    }
+
+    /// Parts what these hands have, for one worker more: half of each share goes to the new hands. There are none where a
+    /// Taker has no share left to give, and these hands have theirs again.
+    pub fn split(&self, hands: &mut Ended<N, A, B>) -> Option<Ended<N, A, B>>
+        ensures given { IfSome result (λ new. (new.pass ≡ right_given hands.old.pass) × (new.even ≡ share_given hands.old.even) × (new.odd ≡ share_given hands.old.odd)) }
+        ensures kept { IfSome result (λ new. (hands.new.pass ≡ right_kept hands.old.pass) × (hands.new.even ≡ share_kept hands.old.even) × (hands.new.odd ≡ share_kept hands.old.odd)) }
+        ensures none { IfNone result ((hands.old.even.share ≡ 1) ⊎ (hands.old.odd.share ≡ 1)) }
+    {
+        let Ok(even) = self.even.split(&mut hands.even) else {
+            return None;
+        };
+        let Ok(odd) = self.odd.split(&mut hands.odd) else {
+            self.even.join(&mut hands.even, even);
+            return None;
+        };
+        let pass = self.words.split(&mut hands.pass);
+        Some(Ended { pass, even, odd })
     }
 
     /// How many blocks the array has.

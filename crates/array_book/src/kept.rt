@@ -104,9 +104,9 @@ pub fn copy_in<D: Drive, N: Naming + Sizes>(
         ((r : Record) × CopyPasses F w claim.0.slot block r)
         ((G : Flat) × CopyCase F w claim.0.slot block (say.Refused e.0) G × ShowsArray kept.new.array G)) }
 {
-    let mut claim = claim;
-    kept.array.apart_from(words, &mut claim);
-    kept.array.copy(alloc, claim, block)
+    let mut target = claim;
+    kept.array.apart_from(words, &mut target);
+    kept.array.copy(alloc, target, block)
 }
 
 /// Commits a ticket, as the array does, and notes the write where the record has no hop.

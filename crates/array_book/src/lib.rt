@@ -11,7 +11,6 @@ mod kept;
 mod plan;
 mod run;
 mod settling;
-mod storm;
 mod worker;
 
 pub use book::Book;
@@ -22,5 +21,4 @@ pub use gate::{Gate, NoGate, Point};
 pub use kept::{Kept, appended_in, commit_in, copy_in, discard_in, fill_in, read_in};
 pub use run::{Job, RunFault, run_workers};
 pub use settling::{Ended, Settled, compare, settle};
-pub use storm::{Storm, StormFault, run_storm};
 pub use worker::{Migration, Worker};

@@ -25,7 +25,7 @@ pub trait Job<D: Drive, N: slot_words::Naming + Sizes, A: map_words::Naming, B: 
 pub enum RunFault {
     /// Also where a thread could not be started.
     Memory,
-    /// The lowest worker of the list whose job failed, and its fault.
+    /// The lowest number of a worker whose job failed, and the fault.
     Job(u8, WorkFault),
 }
 
@@ -49,12 +49,13 @@ pub fn run_workers<
             let mut started = Ok(());
             let task = (rt, alloc, job);
             for worker in each {
+                let number = worker.number();
                 let Some(handle) = start(scope, task, worker) else {
                     started = Err(RunFault::Memory);
                     break;
                 };
-                if let Err(AllocFailed { value }) = handles.push(handle) {
-                    let _ = value.join(rt);
+                if let Err(AllocFailed { value }) = handles.push((number, handle)) {
+                    let _ = value.1.join(rt);
                     started = Err(RunFault::Memory);
                     break;
                 }
@@ -87,19 +88,26 @@ fn start<
     }
 }
 
-// Joins all threads, and tells the first fault.
+// Joins all threads, and tells the fault of the worker of the lowest number.
 fn join_all<R: Threads>(
     rt: &R,
-    handles: Vec<JoinHandle<Result<(), WorkFault>>>,
+    handles: Vec<(u8, JoinHandle<Result<(), WorkFault>>)>,
     started: Result<(), RunFault>,
 ) -> Result<(), RunFault> {
     let mut result = started;
-    let mut number = 0u8;
-    for handle in handles {
-        if let (Err(fault), Ok(())) = (handle.join(rt), result) {
-            result = Err(RunFault::Job(number, fault));
+    for (number, handle) in handles {
+        if let Err(fault) = handle.join(rt) {
+            result = lowest(result, number, fault);
         }
-        number = number.saturating_add(1);
     }
     result
+}
+
+// What is told of a run in which one job more failed.
+fn lowest(told: Result<(), RunFault>, number: u8, fault: WorkFault) -> Result<(), RunFault> {
+    match told {
+        Err(RunFault::Memory) => told,
+        Err(RunFault::Job(other, _)) if other <= number => told,
+        Err(RunFault::Job(_, _)) | Ok(()) => Err(RunFault::Job(number, fault)),
+    }
 }

@@ -41,7 +41,8 @@ pub fn settle<D: Drive, N: slot_words::Naming + Sizes, A: map_words::Naming, B: 
     book: Book<D, N, A, B>,
     ended: Vec<Ended<N, A, B>>,
 ) -> Result<Settled<D, N>, (SettleFault, Settled<D, N>)>
-    ensures ok { IfOk result (λ settled. IsMapOf (taken_by (map (λ e. e.even) ended.items) ++ taken_by (map (λ e. e.odd) ended.items)) (key_at settled.array)) }
+    ensures ok { IfOk result (λ settled. (shares_of (map (λ e. e.even) ended.items) ≡ whole) × (shares_of (map (λ e. e.odd) ended.items) ≡ whole)
+        × IsMapOf (taken_by (map (λ e. e.even) ended.items) ++ taken_by (map (λ e. e.odd) ended.items)) (key_at settled.array)) }
     ensures err { IfErr result (λ e. IsUnsettled (shares_of (map (λ e. e.even) ended.items)) (shares_of (map (λ e. e.odd) ended.items))
         (taken_by (map (λ e. e.even) ended.items) ++ taken_by (map (λ e. e.odd) ended.items)) (key_at e.1.array) e.0) }
     ensures shows { MatchResult result (λ settled. (F : Flat) × ShowsArray settled.array F) (λ e. (F : Flat) × ShowsArray e.1.array F) }
@@ -135,7 +136,7 @@ fn close_and_compare<D: Drive, N: slot_words::Naming, A: map_words::Naming, B: m
     odd: (MapWords<B>, Taker<B>),
     array: &Array<D, Claim<N>>,
 ) -> Result<(), SettleFault>
-    ensures ok { OnOk result (IsMapOf (even.1.taken ++ odd.1.taken) (key_at array.now)) }
+    ensures ok { OnOk result ((even.1.share ≡ whole) × (odd.1.share ≡ whole) × IsMapOf (even.1.taken ++ odd.1.taken) (key_at array.now)) }
     ensures err { IfErr result (IsUnsettled even.1.share odd.1.share (even.1.taken ++ odd.1.taken) (key_at array.now)) }
 {
     let one = closed(alloc, even.0, even.1);

@@ -4,9 +4,8 @@ ghost use Rattle.map_join.specs.declared.records.Record.{Record};
 ghost use Rattle.step_core.specs.Told.{Lesson};
 ghost use Rattle.map_words.specs.Answers.{HasFound, IsNewest, key_in};
 ghost use Rattle.flat_machine.specs.declared.refusal.Refusal.TheVariants as refusal;
-ghost use Rattle.array_book.specs.Takes.{controller_of, taker_of, other_of, Took, Learnt, IsTold};
+ghost use Rattle.array_book.specs.Takes.{controller_of, taker_of, other_of, AreSame, HasMigrated, Took, Learnt, IsTold};
 ghost use Rattle.array_book.specs.declared.fault.WorkFault.TheVariants.{Core};
-ghost use Rattle.array_book.specs.declared.worker.Migration.TheVariants as migration;
 
 use crate::book::Book;
 use crate::claim::{Claim, Sizes};
@@ -119,7 +118,7 @@ impl<
         ensures record { IfOk result (λ emitted. (emitted.block ≡ block) × (emitted.hop ≡ 0)) }
         ensures taken { IfOk result (λ emitted. Took emitted (taker_of (controller_of self.old.number) self.old.even self.old.odd) (taker_of (controller_of self.old.number) self.new.even self.new.odd)) }
         ensures other { other_of (controller_of self.old.number) self.new.even self.new.odd ≡ other_of (controller_of self.old.number) self.old.even self.old.odd }
-        ensures err { OnErr result ((self.new.even ≡ self.old.even) × (self.new.odd ≡ self.old.odd)) }
+        ensures err { OnErr result (AreSame self.old.even self.old.odd self.new.even self.new.odd) }
         ensures fault { result ≢ Err (Core refusal.Memory) }
         ensures rest { (self.new.number ≡ self.old.number) × (self.new.book ≡ self.old.book) }
     {
@@ -264,8 +263,8 @@ impl<
         low: u32,
         gate: &G,
     ) -> Result<Migration, WorkFault>
-        ensures taken { (emitted : Record) → result ≡ Ok (migration.Moved emitted)
-            → Took emitted (taker_of (controller_of self.old.number) self.old.even self.old.odd) (taker_of (controller_of self.old.number) self.new.even self.new.odd) }
+        ensures taken { IfOk result (HasMigrated self.old.number self.old.even self.old.odd self.new.even self.new.odd) }
+        ensures err { OnErr result (AreSame self.old.even self.old.odd self.new.even self.new.odd) }
         ensures other { other_of (controller_of self.old.number) self.new.even self.new.odd ≡ other_of (controller_of self.old.number) self.old.even self.old.odd }
         ensures fault { result ≢ Err (Core refusal.Memory) }
         ensures rest { (self.new.number ≡ self.old.number) × (self.new.book ≡ self.old.book) }

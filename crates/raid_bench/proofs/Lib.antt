@@ -1,1 +1,1 @@
-pub mod Sole
+pub mod Words

@@ -1,12 +1,15 @@
-//! Answers a script of array commands, a line for each.
+//! Answers a script of array commands, a line for each; or runs a storm of workers, and tells whether they agree.
 #![tactic(auto)]
 
 mod task;
+mod told;
 
 use script_run::{End, run_script};
 use std::process::ExitCode;
 use std::{env, io};
+use storm::run_storm;
 use task::{Task, task_of};
+use told::tell_storm;
 
 /// The status for a command line that asks for nothing that the program does.
 const NO_TASK: u8 = 2;
@@ -24,6 +27,9 @@ fn main(rt: HostRuntime) -> ExitCode {
     ExitCode::from(match task_of(rt.alloc(), &words) {
         Ok(Some(Task::Script)) => {
             run_script(rt.alloc(), &mut rt.stdin(), &mut rt.stdout()).status()
+        }
+        Ok(Some(Task::Storm { workers, writes })) => {
+            tell_storm(&rt, run_storm(&rt, rt.alloc(), workers, writes))
         }
         Ok(None) => NO_TASK,
         Err(_) => End::Memory.status(),

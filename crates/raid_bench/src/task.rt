@@ -1,8 +1,9 @@
 //! What the command line asks for.
-ghost use Rattle.std.specs.Prelude.{◌≡◌, ◌↔◌, IfOk, IsTrue, None, Some, codes, map, string_bytes};
-ghost use Rattle.raid_bench.specs.Asked.{AreScript};
+ghost use Rattle.std.specs.Prelude.{◌≡◌, ◌∷◌, [], ℕ, IfOk, IfSome, IfNone, None, Ok, decimal, map, string_bytes};
+ghost use Rattle.raid_bench.specs.Asked.{IsAsked, AreStorm, IsStorm};
 
-use clap::Command;
+use clap::{Arg, Command, Error};
+use script_words::number_of;
 use std::alloc::{AllocError, Global};
 
 /// What the program is asked to do.
@@ -10,42 +11,93 @@ use std::alloc::{AllocError, Global};
 pub enum Task {
     /// Answer the script on standard input.
     Script,
+    /// Run so many workers, 1 to 8, with so many rounds each, 1 to 1,000, and tell what they agree on.
+    Storm { workers: u8, writes: u32 },
 }
 
-/// The task that the words ask for, if they ask for one.
+/// The task that the words ask for, if they ask for one. Words that ask for none never want memory.
 pub fn task_of(alloc: Global, words: &[String]) -> Result<Option<Task>, AllocError>
-    ensures script { AreScript (map string_bytes words.now) → IfOk result (λ task. task ≡ Some Task.Script) }
-    ensures other { (AreScript (map string_bytes words.now) → ⊥) → result ≡ Ok None }
+    ensures ok { IfOk result (IsAsked (map string_bytes words.now)) }
+    ensures other { IsAsked (map string_bytes words.now) None → result ≡ Ok None }
 {
-    if !are_script(words) {
+    let Some(task) = asked(words) else {
         return Ok(None);
+    };
+    // These words are refused for want of memory alone.
+    match read_words(alloc, words) {
+        Ok(()) => Ok(Some(task)),
+        Err(_) => Err(AllocError),
     }
+}
+
+// Reads the words as a command line.
+fn read_words(alloc: Global, words: &[String]) -> Result<(), Error> {
+    let storm = Command::new(alloc, "storm")
+        .disable_help_flag(true)
+        .arg(Arg::new(alloc, "workers").required(true))?
+        .arg(Arg::new(alloc, "writes").required(true))?;
     let command = Command::new(alloc, "raid_bench")
         .no_binary_name(true)
         .disable_help_flag(true)
         .disable_help_subcommand(true)
         .subcommand_required(true)
-        .subcommand(Command::new(alloc, "script").disable_help_flag(true))?;
-    // These words are refused for want of memory alone.
-    match command.try_get_matches_from(words) {
-        Ok(_) => Ok(Some(Task::Script)),
-        Err(_) => Err(AllocError),
-    }
+        .subcommand(Command::new(alloc, "script").disable_help_flag(true))?
+        .subcommand(storm)?;
+    command.try_get_matches_from(words)?;
+    Ok(())
 }
 
-// Whether the words are the one for a script, alone.
-fn are_script(words: &[String]) -> bool
-    ensures { IsTrue result ↔ AreScript (map string_bytes words.now) }
+// What the words ask for, if anything.
+fn asked(words: &[String]) -> Option<Task>
+    ensures { IsAsked (map string_bytes words.now) result }
 {
     match words {
-        [word] => is_script(word.as_bytes()),
-        _ => false,
+        [verb] => script_of(verb.as_bytes()),
+        [verb, workers, writes] => {
+            storm_of(verb.as_bytes(), workers.as_bytes(), writes.as_bytes())
+        }
+        _ => None,
     }
 }
 
-// Whether the word is the one for a script.
-fn is_script(word: &[u8]) -> bool
-    ensures { IsTrue result ↔ (word.now ≡ codes "script") }
+// What one word asks for.
+fn script_of(verb: &[u8]) -> Option<Task>
+    ensures { IsAsked (verb.now ∷ []) result }
 {
-    word == b"script".as_slice()
+    if verb == b"script".as_slice() {
+        Some(Task::Script)
+    } else {
+        None
+    }
+}
+
+// What three words ask for.
+fn storm_of(verb: &[u8], workers: &[u8], writes: &[u8]) -> Option<Task>
+    ensures { IsAsked (verb.now ∷ workers.now ∷ writes.now ∷ []) result }
+{
+    if verb == b"storm".as_slice() {
+        numbers_of(workers, writes)
+    } else {
+        None
+    }
+}
+
+// The storm of so many workers and rounds, if both words are numbers within their limits.
+fn numbers_of(workers: &[u8], writes: &[u8]) -> Option<Task>
+    ensures some { IfSome result (AreStorm workers.now writes.now) }
+    ensures none { IfNone result ((n m : ℕ) → IsStorm n m → workers.now ≡ decimal n → writes.now ≡ decimal m → ⊥) }
+{
+    let Some(workers) = number_of(workers) else {
+        return None;
+    };
+    let Some(writes) = number_of(writes) else {
+        return None;
+    };
+    if workers == 0 || workers > 8 || writes == 0 || writes > 1000 {
+        return None;
+    }
+    Some(Task::Storm {
+        workers: workers as u8,
+        writes: writes as u32,
+    })
 }

@@ -12,5 +12,6 @@ mod verb;
 mod words;
 
 pub use command::{Command, Named};
+pub use number::number_of;
 pub use parse::command_of;
 pub use verb::{Kind, Row, Tail, Verb};

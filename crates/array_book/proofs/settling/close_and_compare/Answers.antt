@@ -6,8 +6,8 @@ use Rattle.array_book.proofs.settling.close_and_compare.Goals as goal
 
 pub returns-in-Ok-Ok-clause-ok : goal.returns-in-Ok-Ok-clause-ok
 returns-in-Ok-Ok-clause-ok g c =
-    settled_ok c.compare.result c.args.even.1.taken c.args.odd.1.taken (at c.in-Ok-Ok.one) (at c.in-Ok-Ok.other) (key_at c.args.array.now)
-    c.compare.ensures.ok (search rules) (search rules)
+    settled_ok c.compare.result c.args.even.1.share c.args.odd.1.share c.args.even.1.taken c.args.odd.1.taken (at c.in-Ok-Ok.one) (at c.in-Ok-Ok.other) (key_at c.args.array.now)
+    c.compare.ensures.ok (search rules) (search rules) (search rules) (search rules)
 
 pub returns-in-Ok-Ok-clause-err : goal.returns-in-Ok-Ok-clause-err
 returns-in-Ok-Ok-clause-err g c =

@@ -1,4 +1,4 @@
-use Rattle.array_book.proofs.storm.run_storm.Given as goal
+use Rattle.storm.proofs.life.run_orders.Given as goal
 
 -- each table that was made has its name
 abbrev pub ghosts-play_out-N-Naming : goal.ghosts-play_out-N-Naming

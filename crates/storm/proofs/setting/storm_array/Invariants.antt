@@ -1,7 +1,7 @@
 use Rattle.std.proofs.Common.{◌≡◌}
 use Rattle.array_model.specs.Represents.{ShowsArray}
 use Rattle.flat_machine.specs.Flat.{Flat}
-use Rattle.array_book.proofs.storm.storm_array.Given as goal
+use Rattle.storm.proofs.setting.storm_array.Given as goal
 
 -- the array shows a state, and has its sizes
 abbrev pub invariant-loop-class : goal.invariant-loop-class

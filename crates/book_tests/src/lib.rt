@@ -1,0 +1,19 @@
+//! A Book and its workers, in one thread and in several, against values from outside.
+#![tactic(auto)]
+
+#[cfg(test)]
+mod calls;
+#[cfg(test)]
+mod controllers;
+#[cfg(test)]
+mod moves;
+#[cfg(test)]
+mod points;
+#[cfg(test)]
+mod rig;
+#[cfg(test)]
+mod room;
+#[cfg(test)]
+mod spent;
+#[cfg(test)]
+mod turns;

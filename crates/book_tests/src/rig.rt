@@ -1,0 +1,383 @@
+// The life of a Book over an array of sixteen blocks and payloads of eight bytes: its tables, the workers of whom a story is
+// told, and how it is settled.
+ghost use Rattle.std.specs.Prelude.{◌≡◌};
+ghost use Rattle.array_model.specs.Represents.{ShowsArray};
+ghost use Rattle.flat_machine.specs.Flat.{Flat};
+ghost use Rattle.map_words.specs.Places.{blocks_of};
+ghost use Rattle.slot_words.specs.Places.{slots_of};
+
+use array_book::{
+    Book, Claim, Ended, Job, SettleFault, Settled, Sizes, WorkFault, Worker, run_workers, settle,
+};
+use map_join::Record;
+use map_words::MapWords;
+use slot_words::{Pass, SlotWords};
+use std::alloc::Global;
+use std::marker::Brand;
+use std::process::Abort;
+use std::sync::Wait;
+use std::thread::Threads;
+use step_core::{Array, Class, Hold, MemDrive, Member, Shape, TakeBack};
+
+/// The tables of a Book of sixteen blocks, without names.
+#[derive(Drop)]
+pub(crate) struct Tables {
+    pub(crate) slots: slot_words::Unnamed,
+    pub(crate) even: map_words::Unnamed,
+    pub(crate) odd: map_words::Unnamed,
+    pub(crate) ghost many: { slots_of slots ≡ 65536 },
+    pub(crate) ghost here: { blocks_of even ≡ 16 },
+    pub(crate) ghost there: { blocks_of odd ≡ 16 },
+}
+
+/// The words of a Book, and hands with all that steps on them.
+#[derive(Drop)]
+pub(crate) struct Bench<N: slot_words::Naming, A: map_words::Naming, B: map_words::Naming> {
+    pub(crate) words: SlotWords<N>,
+    pub(crate) even: MapWords<A>,
+    pub(crate) odd: MapWords<B>,
+    pub(crate) hands: Ended<N, A, B>,
+}
+
+/// What workers do while a Book lives.
+pub(crate) trait Story {
+    /// What each does in a thread of its own.
+    fn work<N: slot_words::Naming + Sizes, A: map_words::Naming, B: map_words::Naming, R: Wait>(
+        &self,
+        _rt: &R,
+        _alloc: Global,
+        _worker: &mut Worker<'_, MemDrive, N, A, B>,
+    ) -> Result<(), WorkFault> {
+        Ok(())
+    }
+
+    /// What the first does when all threads have ended.
+    fn tell<
+        N: slot_words::Naming + Sizes,
+        A: map_words::Naming,
+        B: map_words::Naming,
+        R: Abort + Wait,
+    >(&self, rt: &R, alloc: Global, worker: &mut Worker<'_, MemDrive, N, A, B>);
+}
+
+// What a story has of work in threads.
+#[derive(Drop)]
+struct Works<'a, S> {
+    story: &'a S,
+}
+
+impl<'a, S: Story, N: slot_words::Naming + Sizes, A: map_words::Naming, B: map_words::Naming> Job<
+    MemDrive,
+    N,
+    A,
+    B,
+> for Works<'a, S> {
+    fn work<R: Wait>(
+        &self,
+        rt: &R,
+        alloc: Global,
+        worker: &mut Worker<'_, MemDrive, N, A, B>,
+    ) -> Result<(), WorkFault> {
+        self.story.work(rt, alloc, worker)
+    }
+}
+
+// Releases the claims that an array hands over, and counts them.
+#[derive(Drop)]
+struct Releases<'a, N: slot_words::Naming> {
+    words: &'a SlotWords<N>,
+    pass: &'a mut Pass<N>,
+    count: u32,
+}
+
+impl<'a, N: slot_words::Naming> TakeBack<Claim<N>> for Releases<'a, N> {
+    fn take_back(&mut self, claim: Claim<N>) {
+        self.words.release(self.pass, claim.into_inner());
+        self.count = self.count.saturating_add(1);
+    }
+}
+
+/// The words of one controller, all at nothing.
+pub(crate) fn new_map(rt: &impl Abort, alloc: Global) -> map_words::Unnamed
+    ensures { blocks_of result ≡ 16 }
+{
+    let Ok(map) = MapWords::new(alloc, 16) else {
+        panic!(rt; "no map words")
+    };
+    map
+}
+
+/// New tables.
+pub(crate) fn new_tables(rt: &impl Abort, alloc: Global) -> Tables {
+    let Ok(slots) = SlotWords::new(alloc, 65_536) else {
+        panic!(rt; "no slot words")
+    };
+    Tables {
+        slots,
+        even: new_map(rt, alloc),
+        odd: new_map(rt, alloc),
+    }
+}
+
+/// The tables under their names.
+pub(crate) fn named<N: slot_words::Naming, A: map_words::Naming, B: map_words::Naming>(
+    tables: Tables,
+) -> Bench<N, A, B>
+    requires names { (tables.slots ≡ N.table) × (tables.even ≡ A.table) × (tables.odd ≡ B.table) }
+    ensures many { slots_of N.table ≡ 65536 }
+    ensures blocks { (blocks_of A.table ≡ 16) × (blocks_of B.table ≡ 16) }
+{
+    let Tables { slots, even, odd } = tables;
+    let (words, pass) = slots.named::<N>();
+    let (even, one) = even.named::<A>();
+    let (odd, other) = odd.named::<B>();
+    Bench {
+        words,
+        even,
+        odd,
+        hands: Ended {
+            pass,
+            even: one,
+            odd: other,
+        },
+    }
+}
+
+/// Four drives in memory of eight extents of so many segments, with these groups: each of an extent of its number on each of
+/// its drives.
+pub(crate) fn grouped<C: Hold, R: Abort>(
+    rt: &R,
+    alloc: Global,
+    segments: u32,
+    groups: &[(Class, u16, [u8; 3])],
+) -> Array<MemDrive, C>
+    ensures shows { (F : Flat) × ShowsArray result F }
+    ensures sizes { (result.parts.groups.blocks ≡ 16) × (result.parts.groups.payload ≡ 8) }
+{
+    let Ok(shape) = Shape::new(8, segments, 8, 16) else {
+        panic!(rt; "no shape")
+    };
+    let Ok(mut array) = Array::in_memory(alloc, shape, 4) else {
+        panic!(rt; "no array")
+    };
+    for (class, extent, drives) in groups {
+        make_group(rt, alloc, &mut array, *class, *extent, *drives);
+    }
+    array
+}
+
+// Makes a group of an extent of this number on each of these drives.
+fn make_group<C: Hold, R: Abort>(
+    rt: &R,
+    alloc: Global,
+    array: &mut Array<MemDrive, C>,
+    class: Class,
+    extent: u16,
+    drives: [u8; 3],
+)
+    ensures shows { (F : Flat) → ShowsArray array.old F → (G : Flat) × ShowsArray array.new G }
+    ensures sizes { (array.new.parts.groups.blocks ≡ array.old.parts.groups.blocks) × (array.new.parts.groups.payload ≡ array.old.parts.groups.payload) }
+{
+    let members = drives.map(|drive| Member { drive, extent });
+    let Ok((_group, claims)) = array.make_group(alloc, class, &members) else {
+        panic!(rt; "no group")
+    };
+    assert!(rt; claims.is_empty());
+    claims.destroy_empty();
+}
+
+/// An array with two mirrored groups, of slots 0 to 23 and 128 to 151, and two with parity, of slots 256 and on.
+pub(crate) fn two_of_each<C: Hold, R: Abort>(rt: &R, alloc: Global) -> Array<MemDrive, C>
+    ensures shows { (F : Flat) × ShowsArray result F }
+    ensures sizes { (result.parts.groups.blocks ≡ 16) × (result.parts.groups.payload ≡ 8) }
+{
+    let groups = [
+        (Class::Mirrored, 0, [0, 1, 2]),
+        (Class::Mirrored, 1, [1, 2, 3]),
+        (Class::Parity, 2, [0, 1, 3]),
+        (Class::Parity, 3, [0, 2, 3]),
+    ];
+    grouped(rt, alloc, 8, &groups)
+}
+
+// Hands for so many workers, or for one where there is none.
+fn parted<N: slot_words::Naming, A: map_words::Naming, B: map_words::Naming, R: Abort>(
+    rt: &R,
+    alloc: Global,
+    bench: (&SlotWords<N>, &MapWords<A>, &MapWords<B>),
+    hands: Ended<N, A, B>,
+    count: usize,
+) -> Vec<Ended<N, A, B>> {
+    let (words, even, odd) = bench;
+    let mut hands = hands;
+    let mut all = Vec::new(alloc);
+    for _ in 1..count {
+        let (Ok(one), Ok(other)) = (even.split(&mut hands.even), odd.split(&mut hands.odd)) else {
+            panic!(rt; "no share is left")
+        };
+        let part = Ended {
+            pass: words.split(&mut hands.pass),
+            even: one,
+            odd: other,
+        };
+        assert!(rt; all.push(part).is_ok());
+    }
+    assert!(rt; all.push(hands).is_ok());
+    all
+}
+
+// Has workers of these numbers work in threads, tells their story, and takes back what they had.
+fn told<
+    N: slot_words::Naming + Sizes + Send + Sync,
+    A: map_words::Naming + Send + Sync,
+    B: map_words::Naming + Send + Sync,
+    S: Story + Sync,
+    R: Abort + Threads + Wait + Sync,
+>(
+    rt: &R,
+    alloc: Global,
+    book: &Book<MemDrive, N, A, B>,
+    hands: Vec<Ended<N, A, B>>,
+    numbers: &[u8],
+    story: &S,
+) -> Vec<Ended<N, A, B>> {
+    let mut hands = hands;
+    let mut workers = Vec::new(alloc);
+    for number in numbers {
+        let Some(Ended { pass, even, odd }) = hands.pop() else {
+            panic!(rt; "too few hands")
+        };
+        let worker = Worker::new(book, *number, pass, (even, odd));
+        assert!(rt; workers.push(worker).is_ok());
+    }
+    let works = Works { story };
+    assert!(rt; run_workers(rt, alloc, &mut workers, &works) == Ok(()));
+    if let Some(first) = workers.first_mut() {
+        story.tell(rt, alloc, first);
+    }
+    let mut ended = Vec::new(alloc);
+    for worker in workers {
+        assert!(rt; ended.push(worker.end()).is_ok());
+    }
+    ended
+}
+
+/// A Book round an array, with workers of these numbers, of whom a story is told; and what is left of it.
+pub(crate) fn play<
+    N: slot_words::Naming + Sizes + Send + Sync,
+    A: map_words::Naming + Send + Sync,
+    B: map_words::Naming + Send + Sync,
+    S: Story + Sync,
+    R: Abort + Threads + Wait + Sync,
+>(
+    rt: &R,
+    alloc: Global,
+    array: Array<MemDrive, Claim<N>>,
+    bench: Bench<N, A, B>,
+    numbers: &[u8],
+    story: &S,
+) -> (Result<(), SettleFault>, Settled<MemDrive, N>)
+    requires shows { (F : Flat) × ShowsArray array F }
+    requires sizes { (array.parts.groups.blocks ≡ 16) × (array.parts.groups.payload ≡ 8) }
+    requires named { (N.blocks ≡ 16) × (N.payload ≡ 8) }
+    requires many { slots_of N.table ≡ 65536 }
+    requires blocks { (blocks_of A.table ≡ 16) × (blocks_of B.table ≡ 16) }
+    ensures shows { (F : Flat) × ShowsArray result.1.array F }
+{
+    let Bench {
+        words,
+        even,
+        odd,
+        hands,
+    } = bench;
+    let hands = parted(rt, alloc, (&words, &even, &odd), hands, numbers.len());
+    let book = match Book::new(alloc, array, words, (even, odd)) {
+        Ok(book) => book,
+        Err(_back) => panic!(rt; "no book"),
+    };
+    let ended = told(rt, alloc, &book, hands, numbers, story);
+    match settle(alloc, book, ended) {
+        Ok(settled) => (Ok(()), settled),
+        Err((fault, settled)) => (Err(fault), settled),
+    }
+}
+
+/// Ends an array, releases the claims that it kept, and tells how many there were. Then every slot is free.
+pub(crate) fn released<N: slot_words::Naming, R: Abort>(
+    rt: &R,
+    words: &SlotWords<N>,
+    pass: &mut Pass<N>,
+    array: Array<MemDrive, Claim<N>>,
+) -> u32
+    requires { slots_of N.table ≡ 65536 }
+{
+    let mut to = Releases {
+        words,
+        pass,
+        count: 0,
+    };
+    let _parts = array.end(&mut to);
+    let Releases { words, pass, count } = to;
+    for slot in 0..512u16 {
+        let Ok(claim) = words.claim(pass, slot) else {
+            panic!(rt; "slot {slot} was not given back")
+        };
+        words.release(pass, claim);
+    }
+    count
+}
+
+/// How a Book over two groups of each class is settled, whose workers have these numbers, and how many claims its array kept.
+pub(crate) fn lived<S: Story + Sync, R: Abort + Threads + Wait + Sync>(
+    rt: &R,
+    alloc: Global,
+    numbers: &[u8],
+    story: &S,
+) -> (Result<(), SettleFault>, u32) {
+    lived_after(rt, alloc, None, numbers, story)
+}
+
+/// The same, where the even controller has taken a record before.
+pub(crate) fn lived_after<S: Story + Sync, R: Abort + Threads + Wait + Sync>(
+    rt: &R,
+    alloc: Global,
+    taken: Option<Record>,
+    numbers: &[u8],
+    story: &S,
+) -> (Result<(), SettleFault>, u32) {
+    let tables = new_tables(rt, alloc);
+    live::<Brand, Brand, Brand, S, R>(rt, alloc, tables, taken, numbers, story)
+}
+
+fn live<
+    N: slot_words::Naming + Sizes + Send + Sync,
+    A: map_words::Naming + Send + Sync,
+    B: map_words::Naming + Send + Sync,
+    S: Story + Sync,
+    R: Abort + Threads + Wait + Sync,
+>(
+    rt: &R,
+    alloc: Global,
+    tables: Tables,
+    taken: Option<Record>,
+    numbers: &[u8],
+    story: &S,
+) -> (Result<(), SettleFault>, u32)
+    requires names { (tables.slots ≡ N.table) × (tables.even ≡ A.table) × (tables.odd ≡ B.table) }
+    requires sizes { (N.blocks ≡ 16) × (N.payload ≡ 8) }
+{
+    let mut bench = named::<N, A, B>(tables);
+    let mut spare = bench.words.split(&mut bench.hands.pass);
+    if let Some(record) = taken {
+        assert!(rt; record.block < 16 && record.version > 0);
+        bench.even.take(&mut bench.hands.even, record);
+    }
+    let array = two_of_each(rt, alloc);
+    let (settled, left) = play(rt, alloc, array, bench, numbers, story);
+    let Settled {
+        array,
+        words,
+        pass: _,
+    } = left;
+    (settled, released(rt, &words, &mut spare, array))
+}

@@ -1,0 +1,112 @@
+// Two workers in threads that write one block: each has claimed before either commits, and worker 2's write is acknowledged
+// before worker 1's goes on.
+use crate::calls::{comes_to, reads, record, write, write_by};
+use crate::rig::{Story, lived};
+use array_book::{Controller, Gate, Point, Sizes, WorkFault, Worker};
+use map_join::Record;
+use std::alloc::Global;
+use std::process::Abort;
+use std::sync::Wait;
+use std::sync::atomic::AtomicU64;
+use std::sync::atomic::Ordering::SeqCst;
+use step_core::MemDrive;
+
+// Worker 1 has claimed; then worker 2's write is acknowledged, with this key; then worker 1's. And how many waited in vain.
+#[derive(Drop)]
+struct Turns {
+    claimed: AtomicU64,
+    second: AtomicU64,
+    first: AtomicU64,
+    late: AtomicU64,
+}
+
+impl Turns {
+    fn new() -> Turns {
+        Turns {
+            claimed: AtomicU64::new(0),
+            second: AtomicU64::new(0),
+            first: AtomicU64::new(0),
+            late: AtomicU64::new(0),
+        }
+    }
+}
+
+// A worker's place among the two.
+#[derive(Drop)]
+struct Turn<'a> {
+    number: u8,
+    turns: &'a Turns,
+}
+
+impl<'a> Gate for Turn<'a> {
+    fn reach<R: Wait>(&self, point: Point, _rt: &R) {
+        if point != Point::Claimed {
+            return;
+        }
+        let turns = self.turns;
+        let awaited = if self.number == 1 {
+            turns.claimed.store(1, SeqCst);
+            &turns.second
+        } else {
+            &turns.claimed
+        };
+        if !comes_to(awaited, 1) {
+            turns.late.fetch_add(1, SeqCst);
+        }
+    }
+}
+
+// The record of block 3 that this key tells.
+fn told<R: Abort>(rt: &R, key: &AtomicU64) -> Record {
+    let Some(told) = Record::of_key(3, key.load(SeqCst)) else {
+        panic!(rt; "not written")
+    };
+    told
+}
+
+impl Story for Turns {
+    fn work<N: slot_words::Naming + Sizes, A: map_words::Naming, B: map_words::Naming, R: Wait>(
+        &self,
+        rt: &R,
+        alloc: Global,
+        worker: &mut Worker<'_, MemDrive, N, A, B>,
+    ) -> Result<(), WorkFault> {
+        let number = worker.number();
+        let turn = Turn {
+            number,
+            turns: self,
+        };
+        let told = write_by(rt, alloc, worker, 3, number, &turn)?;
+        let key = if number == 1 {
+            &self.first
+        } else {
+            &self.second
+        };
+        key.store(told.key(), SeqCst);
+        Ok(())
+    }
+
+    fn tell<
+        N: slot_words::Naming + Sizes,
+        A: map_words::Naming,
+        B: map_words::Naming,
+        R: Abort + Wait,
+    >(&self, rt: &R, alloc: Global, worker: &mut Worker<'_, MemDrive, N, A, B>) {
+        assert!(rt; self.late.load(SeqCst) == 0);
+        let older = told(rt, &self.second);
+        let last = told(rt, &self.first);
+        assert!(rt; older.place < 2 && last.place < 2 && older.place != last.place);
+        assert!(rt; older == record(3, 1, 0, older.place));
+        assert!(rt; last == record(3, 2, 0, last.place));
+        assert!(rt; reads(rt, alloc, worker, Controller::Odd, last, 1));
+        assert!(rt; reads(rt, alloc, worker, Controller::Even, older, 2));
+        assert!(rt; write(rt, alloc, worker, 7, 3) == Ok(record(7, 1, 0, older.place)));
+        assert!(rt; reads(rt, alloc, worker, Controller::Even, last, 1));
+    }
+}
+
+#[test]
+fn the_last_commit_of_two_is_read_once_the_older_place_is_written_over(rt: HostRuntime) {
+    let told = lived(&rt, rt.alloc(), &[1, 2], &Turns::new());
+    assert!(rt; told == (Ok(()), 2));
+}

@@ -1,0 +1,5 @@
+use Rattle.std.proofs.Common.{vec_len}
+use Rattle.storm.proofs.setting.release_each.Given as goal
+
+abbrev pub decreases-loop-claim : goal.decreases-loop-claim
+decreases-loop-claim g l = vec_len l.claims

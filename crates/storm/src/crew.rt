@@ -1,0 +1,81 @@
+// The workers of a storm.
+use crate::outcome::StormFault;
+use crate::rounds::Rounds;
+use array_book::{Book, Ended, RunFault, Sizes, Worker, run_workers};
+use extents::MemDrive;
+use flat_machine::Refusal;
+use std::alloc::Global;
+use std::sync::Wait;
+use std::thread::Threads;
+
+// How many workers play how many rounds.
+#[derive(Clone, Copy)]
+pub(crate) struct Crew {
+    pub(crate) workers: u8,
+    pub(crate) writes: u32,
+}
+
+// Runs the workers in threads, each with a part of what these hands have, and tells what all had; the hands come first.
+pub(crate) fn run_all<
+    N: slot_words::Naming + Sizes + Send + Sync,
+    A: map_words::Naming + Send + Sync,
+    B: map_words::Naming + Send + Sync,
+    R: Threads + Wait + Sync,
+>(
+    rt: &R,
+    alloc: Global,
+    book: &Book<MemDrive, N, A, B>,
+    hands: Ended<N, A, B>,
+    crew: Crew,
+) -> Result<Vec<Ended<N, A, B>>, StormFault> {
+    let mut hands = hands;
+    let mut hired = hire(alloc, book, &mut hands, crew.workers)?;
+    let rounds = Rounds {
+        writes: crew.writes,
+    };
+    if let Err(fault) = run_workers(rt, alloc, &mut hired, &rounds) {
+        return Err(StormFault::Run(fault));
+    }
+    match dismiss(alloc, hands, hired) {
+        Some(ended) => Ok(ended),
+        None => Err(StormFault::Run(RunFault::Memory)),
+    }
+}
+
+// So many workers of the Book, from number 0 on.
+fn hire<'a, N: slot_words::Naming + Sizes, A: map_words::Naming, B: map_words::Naming>(
+    alloc: Global,
+    book: &'a Book<MemDrive, N, A, B>,
+    hands: &mut Ended<N, A, B>,
+    count: u8,
+) -> Result<Vec<Worker<'a, MemDrive, N, A, B>>, StormFault> {
+    let mut hired = Vec::new(alloc);
+    for number in 0..count {
+        let Some(Ended { pass, even, odd }) = book.split(hands) else {
+            return Err(StormFault::Setup(Refusal::Full));
+        };
+        let worker = Worker::new(book, number, pass, (even, odd));
+        if hired.push(worker).is_err() {
+            return Err(StormFault::Run(RunFault::Memory));
+        }
+    }
+    Ok(hired)
+}
+
+// What the hands and the workers had.
+fn dismiss<N: slot_words::Naming + Sizes, A: map_words::Naming, B: map_words::Naming>(
+    alloc: Global,
+    hands: Ended<N, A, B>,
+    hired: Vec<Worker<'_, MemDrive, N, A, B>>,
+) -> Option<Vec<Ended<N, A, B>>> {
+    let mut ended = Vec::new(alloc);
+    if ended.push(hands).is_err() {
+        return None;
+    }
+    for worker in hired {
+        if ended.push(worker.end()).is_err() {
+            return None;
+        }
+    }
+    Some(ended)
+}

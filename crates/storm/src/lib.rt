@@ -1,0 +1,11 @@
+//! A storm: workers in threads of their own that write, move and read the same blocks at once, and what they agree on.
+#![tactic(auto)]
+
+mod crew;
+mod life;
+mod outcome;
+mod rounds;
+mod setting;
+
+pub use life::{Fuse, Orders, run_orders, run_storm};
+pub use outcome::{Storm, StormFault};

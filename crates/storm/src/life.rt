@@ -1,0 +1,178 @@
+// The whole life of a storm's tables.
+ghost use Rattle.std.specs.Prelude.{◌≡◌};
+ghost use Rattle.map_words.specs.Places.{blocks_of};
+ghost use Rattle.slot_words.specs.Places.{slots_of};
+
+use crate::crew::{Crew, run_all};
+use crate::outcome::{Storm, StormFault};
+use crate::setting::{BLOCKS, release_all, storm_array};
+use array_book::{Book, Claim, Ended, SettleFault, Settled, Sizes, settle};
+use extents::MemDrive;
+use flat_machine::Refusal;
+use map_words::MapWords;
+use slot_words::{Pass, SlotWords};
+use std::alloc::Global;
+use std::marker::Brand;
+use std::sync::Wait;
+use std::thread::Threads;
+use step_core::Array;
+
+/// A drive that is lost in mid-run, at the given read or write of it, counted from 1 once the groups are made.
+#[derive(Clone, Copy, Debug, PartialEq, Eq)]
+pub struct Fuse {
+    pub drive: u8,
+    pub calls: u64,
+}
+
+/// How many workers play how many rounds, and which drive is lost meanwhile. At most 16 workers can be had.
+#[derive(Clone, Copy, Debug, PartialEq, Eq)]
+pub struct Orders {
+    pub workers: u8,
+    pub writes: u32,
+    pub fuse: Option<Fuse>,
+}
+
+/// Runs so many workers, each with so many rounds, over an array of 16 blocks, and settles. It may wait.
+pub fn run_storm<R: Threads + Wait + Sync>(
+    rt: &R,
+    alloc: Global,
+    workers: u8,
+    writes: u32,
+) -> Result<Storm, StormFault> {
+    run_orders(
+        rt,
+        alloc,
+        Orders {
+            workers,
+            writes,
+            fuse: None,
+        },
+    )
+}
+
+/// The same, where a drive may be lost meanwhile.
+pub fn run_orders<R: Threads + Wait + Sync>(
+    rt: &R,
+    alloc: Global,
+    orders: Orders,
+) -> Result<Storm, StormFault> {
+    let wanted = StormFault::Setup(Refusal::Memory);
+    let Ok(slots) = SlotWords::new(alloc, 65_536) else {
+        return Err(wanted);
+    };
+    let Ok(even) = MapWords::new(alloc, BLOCKS) else {
+        return Err(wanted);
+    };
+    let Ok(odd) = MapWords::new(alloc, BLOCKS) else {
+        return Err(wanted);
+    };
+    play_out::<Brand, Brand, Brand, R>(rt, alloc, slots, even, odd, orders)
+}
+
+fn play_out<
+    N: slot_words::Naming + Sizes + Send + Sync,
+    A: map_words::Naming + Send + Sync,
+    B: map_words::Naming + Send + Sync,
+    R: Threads + Wait + Sync,
+>(
+    rt: &R,
+    alloc: Global,
+    slots: slot_words::Unnamed,
+    even: map_words::Unnamed,
+    odd: map_words::Unnamed,
+    orders: Orders,
+) -> Result<Storm, StormFault>
+    requires names { (slots ≡ N.table) × (even ≡ A.table) × (odd ≡ B.table) }
+    requires sizes { (N.blocks ≡ 16) × (N.payload ≡ 8) }
+    requires slots { slots_of slots ≡ 65536 }
+    requires blocks { (blocks_of even ≡ 16) × (blocks_of odd ≡ 16) }
+{
+    let (words, mut pass) = slots.named::<N>();
+    let (even, one) = even.named::<A>();
+    let (odd, other) = odd.named::<B>();
+    let mut spare = words.split(&mut pass);
+    let book = open(alloc, words, (even, odd), &mut spare, orders.fuse)?;
+    let hands = Ended {
+        pass,
+        even: one,
+        odd: other,
+    };
+    let crew = Crew {
+        workers: orders.workers,
+        writes: orders.writes,
+    };
+    match run_all(rt, alloc, &book, hands, crew) {
+        Ok(ended) => close(alloc, book, ended, &mut spare),
+        Err(fault) => {
+            let _ = close(alloc, book, Vec::new(alloc), &mut spare);
+            Err(fault)
+        }
+    }
+}
+
+// A Book round a storm's array, of which a drive may be lost later.
+fn open<N: slot_words::Naming + Sizes, A: map_words::Naming, B: map_words::Naming>(
+    alloc: Global,
+    words: SlotWords<N>,
+    maps: (MapWords<A>, MapWords<B>),
+    spare: &mut Pass<N>,
+    fuse: Option<Fuse>,
+) -> Result<Book<MemDrive, N, A, B>, StormFault>
+    requires sizes { (N.blocks ≡ 16) × (N.payload ≡ 8) }
+    requires slots { slots_of N.table ≡ 65536 }
+    requires blocks { (blocks_of A.table ≡ 16) × (blocks_of B.table ≡ 16) }
+{
+    let mut array = match storm_array(alloc, &words, spare) {
+        Ok(array) => array,
+        Err(refusal) => return Err(StormFault::Setup(refusal)),
+    };
+    if !is_fused(&mut array, fuse) {
+        release_all(&words, spare, array);
+        return Err(StormFault::Setup(Refusal::BadMember));
+    }
+    match Book::new(alloc, array, words, maps) {
+        Ok(book) => Ok(book),
+        Err((array, words, _maps)) => {
+            release_all(&words, spare, array);
+            Err(StormFault::Setup(Refusal::Memory))
+        }
+    }
+}
+
+// Settles a Book, and releases the claims that its array kept.
+fn close<N: slot_words::Naming + Sizes, A: map_words::Naming, B: map_words::Naming>(
+    alloc: Global,
+    book: Book<MemDrive, N, A, B>,
+    ended: Vec<Ended<N, A, B>>,
+    spare: &mut Pass<N>,
+) -> Result<Storm, StormFault> {
+    let (settled, told) = match settle(alloc, book, ended) {
+        Ok(settled) => (settled, Ok(Storm::Agreed)),
+        Err((SettleFault::Differs(block), settled)) => (settled, Ok(Storm::Differs(block))),
+        Err((fault, settled)) => (settled, Err(StormFault::Settle(fault))),
+    };
+    let Settled {
+        array,
+        words,
+        pass: _,
+    } = settled;
+    release_all(&words, spare, array);
+    told
+}
+
+// Whether the drive that is to be lost is there, if there is one; it is lost later then.
+fn is_fused<N: slot_words::Naming>(
+    array: &mut Array<MemDrive, Claim<N>>,
+    fuse: Option<Fuse>,
+) -> bool
+    ensures { array.new ≡ array.old }
+{
+    let Some(Fuse { drive, calls }) = fuse else {
+        return true;
+    };
+    if drive >= array.drive_count() || calls == 0 {
+        return false;
+    }
+    array.fuse(drive, calls);
+    true
+}
