@@ -16,4 +16,6 @@ mod room;
 #[cfg(test)]
 mod spent;
 #[cfg(test)]
+mod storms;
+#[cfg(test)]
 mod turns;
