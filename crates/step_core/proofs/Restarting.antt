@@ -13,9 +13,9 @@ use Rattle.array_parts.specs.Views.{PartsView}
 use Rattle.array_model.specs.Views.{Kept, Nothing, Pending, Moving, Newest, Unmade, ArrayView, WorldView, SameSizes, kept_at, key_at, hand_at}
 use Rattle.array_model.specs.Represents.{ShowsArray, HandSlot, Represents, is_newest}
 use Rattle.array_model.specs.Adopted.{HasParts}
-use Rattle.step_core.specs.Adopted.{how_many, claims_in, AreClaimsOf, IsIdle, IsNotAdopted, WasRestarted}
-use Rattle.step_core.specs.declared.adopt.NotAdopted.{NotAdopted}
-use Rattle.step_core.specs.declared.adopt.NotAdopted.TheVariants.{Memory, NoClaim}
+use Rattle.slot_tables.specs.Adopted.{how_many, claims_in, AreClaimsOf, IsIdle, IsNotAdopted, WasRestarted}
+use Rattle.slot_tables.specs.declared.ready.NotAdopted.{NotAdopted}
+use Rattle.slot_tables.specs.declared.ready.NotAdopted.TheVariants.{Memory, NoClaim}
 
 -- where no worker has anything, each holder is the array's own, so no slot has two
 idle_held : (F : Flat) (keys : ℕ → ℕ) → IsHistory F keys → IsIdle F → AreHeld F

@@ -31,7 +31,7 @@ use Rattle.array_model.proofs.Hands.{one_hand}
 use Rattle.array_model.proofs.Slots.{worker_hand, ticket_hand, block_hand, one_slot, shows_after}
 use Rattle.flat_machine.proofs.Holding.{step_holds, once_any}
 use Rattle.flat_machine.specs.History.{IsStep}
-use Rattle.step_core.specs.Losing.{WasLost}
+use Rattle.array_core.specs.Losing.{WasLost}
 
 -- a block of the array is one of the state's
 pub block_there : (v : WorldView) (F : Flat) (b : ℕ) → Represents v F → b < v.array.parts.groups.blocks → b < F.groups.blocks

@@ -1,27 +1,15 @@
 -- The answers of a world as those of the flat machine.
-use Rattle.std.specs.Prelude.{◌≡◌, ◌<◌, ℕ, List, length, Option, Some, None, Vec}
-use Rattle.std.specs.Global.{Global}
-use Rattle.map_join.specs.declared.records.Record.{Record}
+use Rattle.std.specs.Prelude.{◌≡◌, ◌<◌, length}
 use Rattle.step_core.specs.declared.step.Answer.{Answer}
 use Rattle.step_core.specs.declared.step.Answer.TheVariants as answer
 use Rattle.step_core.specs.declared.step.Step.{Step}
 use Rattle.step_core.specs.declared.step.Step.TheVariants as step
 use Rattle.extent_groups.specs.Groups.{Groups}
 use Rattle.flat_machine.specs.Flat.{Payload}
-use Rattle.step_core.specs.declared.read.At.{At}
-use Rattle.step_core.specs.declared.read.At.TheVariants as at
-use Rattle.flat_machine.specs.Steps.{Version, Seen, Data, Stale, FlatStep, Claim, Release, Fill, Copy, Commit, Discard, Read, ReadAt, Make, Unmake, MoveExtent, AddDrive, FlatAnswer, Claimed, Taken, Released, NotHeld, Filled, Copied, Committed, Discarded, Found, FoundAt, MadeGroup, UnmadeGroup, MovedExtent, AddedDrive, Lose, LostDrive, Refused}
+pub use Rattle.array_core.specs.Reads.{version_of, seen_of, Lesson}
+use Rattle.flat_machine.specs.Steps.{FlatStep, Claim, Release, Fill, Copy, Commit, Discard, Read, ReadAt, Make, Unmake, MoveExtent, AddDrive, FlatAnswer, Claimed, Taken, Released, NotHeld, Filled, Copied, Committed, Discarded, Found, FoundAt, MadeGroup, UnmadeGroup, MovedExtent, AddedDrive, Lose, LostDrive, Refused}
 
--- a version and payload that were read, as plain data
-abbrev pub version_of : Option (ℕ × Vec ℕ Global) → Option Version
-version_of None = None
-version_of (Some found) = Some (record { version = found.0; content = Payload found.1.items })
-
--- what was seen at a place, as plain data
-abbrev pub seen_of : At → Seen
-seen_of (at.Data payload) = Data (Payload payload.items)
-seen_of (at.Stale header) = Stale header
-
+-- each answer, as plain data
 abbrev pub flat_answer : Answer → FlatAnswer
 flat_answer (answer.Claimed s) = Claimed s
 flat_answer (answer.Taken s) = Taken s
@@ -39,11 +27,6 @@ flat_answer answer.Shifted = MovedExtent
 flat_answer (answer.Added d) = AddedDrive d
 flat_answer (answer.Lost d) = LostDrive d
 flat_answer (answer.Refused r) = Refused r
-
--- what is learned of a record: the record that is told, and its payload
-pub record Lesson : Type 0 where
-  pub told : Record
-  pub payload : List ℕ
 
 -- a step as plain data
 abbrev pub flat_step : Step → FlatStep

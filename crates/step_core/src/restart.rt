@@ -6,16 +6,14 @@ ghost use Rattle.flat_machine.specs.Flat.{Flat};
 ghost use Rattle.flat_machine.specs.Restarted.{HasPlaces, restarted};
 ghost use Rattle.array_model.specs.Views.{hand_at, SameSizes};
 ghost use Rattle.array_model.specs.Represents.{ShowsArray, Represents};
-ghost use Rattle.step_core.specs.Adopted.{IsIdle, WasRestarted};
+ghost use Rattle.slot_tables.specs.Adopted.{IsIdle, WasRestarted};
 
-use crate::adopt::NotAdopted;
-use crate::array::Array;
-use crate::hold::Plain;
-use crate::tables::SLOTS;
-use crate::world::{World, empty_hands};
+use crate::world::World;
+use array_core::{Array, Hands};
 use array_model::Hand;
 use extents::MemDrive;
 use map_join::BlockMap;
+use slot_tables::{NotAdopted, Plain};
 use std::alloc::Global;
 
 impl World {
@@ -34,7 +32,7 @@ impl World {
         ensures flat { IfOk result (λ world. (F : Flat) → ShowsArray array F → IsIdle F → Represents world F) }
         ensures err { IfErr result (λ refused. refused ≡ array) }
     {
-        match empty_hands(alloc, SLOTS) {
+        match Hands::new(alloc) {
             Ok(hands) => Ok(World { array, hands }),
             Err(_) => Err(array),
         }

@@ -7,22 +7,17 @@ ghost use Rattle.flat_machine.specs.Steps as say;
 ghost use Rattle.flat_machine.specs.Flat.{Flat, Payload, new_flat};
 ghost use Rattle.flat_machine.specs.Cases.{Case, IsWanted};
 ghost use Rattle.array_model.specs.Views.{kept_at, hand_at, has_no_holder, IsWhole, SameSizes};
-ghost use Rattle.array_model.specs.Changes.{passed_hands};
-ghost use Rattle.array_model.specs.Represents.{Represents, is_claim, is_ticket};
-ghost use Rattle.extent_groups.specs.Stores.{unit_bytes, unit_of, AreSound, KeepsUnits};
-ghost use Rattle.array_parts.specs.Slots.{IsSlot};
-ghost use Rattle.array_parts.specs.Views.{cells_of};
-ghost use Rattle.step_core.specs.Refused.{OnlyLosesOf};
+ghost use Rattle.array_model.specs.Represents.{Represents, is_claim};
+ghost use Rattle.step_core.specs.Passed.{given_old};
 ghost use Rattle.step_core.specs.Told.{flat_answer};
 
-use crate::array::Array;
-use crate::hold::{Plain, Ticket};
 use crate::step::Answer;
-use crate::tables::SLOTS;
+use array_core::{Array, Hands};
 use array_model::Hand;
 use extents::{MemDrive, Shape};
 use flat_machine::{Class, Member, Refusal};
 use map_join::Record;
+use slot_tables::Plain;
 use std::alloc::{AllocError, Global};
 use std::marker::Model;
 
@@ -30,7 +25,7 @@ use std::marker::Model;
 #[derive(Drop)]
 pub struct World {
     pub(crate) array: Array<MemDrive, Plain>,
-    pub(crate) hands: Vec<Hand>,
+    pub(crate) hands: Hands,
 }
 
 impl Model for World {
@@ -39,9 +34,9 @@ impl Model for World {
 
     ghost Value = { WorldView };
 
-    ghost view = { λ w. record { array = w.array; hands = w.hands.items } };
+    ghost view = { λ w. record { array = w.array; hands = w.hands } };
 
-    ghost invariant = { λ w. length w.hands.items ≡ 65536 };
+    ghost invariant = { λ w. length w.hands ≡ 65536 };
 }
 
 impl World {
@@ -54,7 +49,7 @@ impl World {
         ensures err { IfErr result (λ refusal. refusal ≡ Refusal.Memory) }
     {
         let array = Array::in_memory(alloc, shape, drives)?;
-        match empty_hands(alloc, SLOTS) {
+        match Hands::new(alloc) {
             Ok(hands) => Ok(World { array, hands }),
             Err(_) => Err(Refusal::Memory),
         }
@@ -74,30 +69,11 @@ impl World {
         self.array.whole();
     }
 
-    // Reads the effective unit of a slot, with two buffers of a unit's length.
-    pub(crate) fn effective(
-        &mut self,
-        slot: u16,
-        unit: &mut [u8],
-        scratch: &mut [u8],
-    ) -> Result<(), Refusal>
-        requires slot { IsSlot self.old.array.parts.groups slot }
-        requires unit { length unit.old ≡ unit_bytes self.old.array.parts.groups }
-        requires scratch { length scratch.old ≡ 2 * unit_bytes self.old.array.parts.groups }
-        ensures ok { OnOk result (unit_of self.new.array.parts.groups (cells_of self.new.array.parts) slot ≡ Some unit.new) }
-        ensures gone { IfErr result (λ e. (e ≡ Refusal.Gone slot) × (unit_of self.new.array.parts.groups (cells_of self.new.array.parts) slot ≡ None)) }
-        ensures units { AreSound self.old.array.parts.groups (cells_of self.old.array.parts) → KeepsUnits self.old.array.parts.groups (cells_of self.old.array.parts) (cells_of self.new.array.parts) }
-        ensures sound { AreSound self.old.array.parts.groups (cells_of self.old.array.parts) → AreSound self.new.array.parts.groups (cells_of self.new.array.parts) }
-        ensures loses { OnlyLosesOf self.old self.new }
-    {
-        self.array.effective(slot, unit, scratch)
-    }
-
     /// Whether nobody holds the slot, neither a worker nor the array.
     pub fn is_free(&self, slot: u16) -> bool
         ensures { result ≡ has_no_holder (kept_at self.now.array slot) (hand_at self.now.hands slot) }
     {
-        match self.hands[usize::from(slot)] {
+        match self.hands.of(slot) {
             Hand::Empty => !self.array.is_held(slot),
             Hand::Holds(_) => false,
             Hand::Waits(_) => false,
@@ -108,21 +84,10 @@ impl World {
     pub(crate) fn holds(&self, worker: u8, slot: u16) -> bool
         ensures { result ≡ is_claim (hand_at self.now.hands slot) worker }
     {
-        match self.hands[usize::from(slot)] {
+        match self.hands.of(slot) {
             Hand::Holds(other) => other == worker,
             Hand::Empty => false,
             Hand::Waits(_) => false,
-        }
-    }
-
-    // The worker has a ticket of the slot.
-    fn waits(&self, worker: u8, slot: u16) -> bool
-        ensures { result ≡ is_ticket (hand_at self.now.hands slot) worker }
-    {
-        match self.hands[usize::from(slot)] {
-            Hand::Waits(other) => other == worker,
-            Hand::Empty => false,
-            Hand::Holds(_) => false,
         }
     }
 
@@ -133,7 +98,7 @@ impl World {
         ensures room { SameSizes self.old.array self.new.array }
     {
         if self.is_free(slot) {
-            self.hands[usize::from(slot)] = Hand::Holds(worker);
+            self.hands.hold(slot, worker);
             Answer::Claimed(slot)
         } else {
             Answer::Taken(slot)
@@ -147,7 +112,7 @@ impl World {
         ensures room { SameSizes self.old.array self.new.array }
     {
         if self.holds(worker, slot) {
-            self.hands[usize::from(slot)] = Hand::Empty;
+            self.hands.clear(slot);
             Answer::Released(slot)
         } else {
             Answer::NotHeld(slot)
@@ -173,8 +138,8 @@ impl World {
             return Ok(Answer::NotHeld(slot));
         }
         match self.array.fill(alloc, Plain { slot }, payload) {
-            Ok(_ticket) => {
-                self.hands[usize::from(slot)] = Hand::Waits(worker);
+            Ok(ticket) => {
+                self.hands.keep(worker, ticket);
                 Ok(Answer::Filled(slot))
             }
             Err((refusal, _claim)) => refused(refusal),
@@ -200,8 +165,8 @@ impl World {
             return Ok(Answer::NotHeld(slot));
         }
         match self.array.copy(alloc, Plain { slot }, block) {
-            Ok(_ticket) => {
-                self.hands[usize::from(slot)] = Hand::Waits(worker);
+            Ok(ticket) => {
+                self.hands.keep(worker, ticket);
                 Ok(Answer::Copied(slot))
             }
             Err((refusal, _claim)) => refused(refusal),
@@ -223,16 +188,19 @@ impl World {
         ensures wants { OnErr result ((F : Flat) → Represents self.old F → IsWanted F (say.Commit worker slot block)) }
         ensures room { SameSizes self.old.array self.new.array }
     {
-        if !self.waits(worker, slot) {
+        let Some(ticket) = self.hands.take(worker, slot) else {
             return Ok(Answer::Refused(Refusal::NoTicket));
-        }
-        let found = self.array.told(block);
-        match self.array.commit(alloc, Ticket::of(slot), block) {
+        };
+        let found = self.array.newest(block);
+        match self.array.commit(alloc, ticket, block) {
             Ok(done) => {
-                pass_hands(&mut self.hands, slot, worker, found);
+                give_old(&mut self.hands, worker, found);
                 Ok(Answer::Committed(done.emitted.record()))
             }
-            Err((refusal, _ticket)) => refused(refusal),
+            Err((refusal, ticket)) => {
+                self.hands.keep(worker, ticket);
+                refused(refusal)
+            }
         }
     }
 
@@ -242,15 +210,18 @@ impl World {
             → (G : Flat) × Case F (say.Discard worker slot) (flat_answer result) G × Represents self.new G }
         ensures room { SameSizes self.old.array self.new.array }
     {
-        if !self.waits(worker, slot) {
+        let Some(ticket) = self.hands.take(worker, slot) else {
             return Answer::Refused(Refusal::NoTicket);
-        }
-        match self.array.discard(Ticket::of(slot)) {
+        };
+        match self.array.discard(ticket) {
             Ok(_claim) => {
-                self.hands[usize::from(slot)] = Hand::Holds(worker);
+                self.hands.hold(slot, worker);
                 Answer::Discarded(slot)
             }
-            Err((refusal, _ticket)) => Answer::Refused(refusal),
+            Err((refusal, ticket)) => {
+                self.hands.keep(worker, ticket);
+                Answer::Refused(refusal)
+            }
         }
     }
 
@@ -338,21 +309,11 @@ pub(crate) fn refused(refusal: Refusal) -> Result<Answer, AllocError>
     }
 }
 
-pub(crate) fn empty_hands(alloc: Global, count: usize) -> Result<Vec<Hand>, AllocError>
-    ensures len { IfOk result (λ hands. length hands.items ≡ count) }
-    ensures empty { IfOk result (λ hands. (s : ℕ) → hand_at hands.items s ≡ Hand.Empty) }
+// After a commit the worker holds the old place.
+fn give_old(hands: &mut Hands, worker: u8, found: Option<Record>)
+    ensures { hands.new ≡ given_old hands.old worker found }
 {
-    vec![in alloc; Hand::Empty; count]
-}
-
-// After a commit nobody has the slot in hand, and the worker holds the old place.
-fn pass_hands(hands: &mut Vec<Hand>, slot: u16, worker: u8, found: Option<Record>)
-    requires { length hands.old.items ≡ 65536 }
-    ensures value { hands.new.items ≡ passed_hands hands.old.items slot worker found }
-    ensures room { length hands.new.items ≡ 65536 }
-{
-    hands[usize::from(slot)] = Hand::Empty;
     if let Some(record) = found {
-        hands[usize::from(record.place)] = Hand::Holds(worker);
+        hands.hold(record.place, worker);
     }
 }

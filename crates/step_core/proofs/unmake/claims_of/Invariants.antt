@@ -1,7 +1,7 @@
 use Rattle.std.proofs.Common.{◌≡◌, ℕ, ◌≤◌, vec_len, vec_capacity}
-use Rattle.step_core.specs.Adopted.{how_many}
-use Rattle.step_core.specs.declared.hold.Plain.{Plain}
-use Rattle.step_core.specs.Shut.{one_of}
+use Rattle.slot_tables.specs.Adopted.{how_many}
+use Rattle.slot_tables.specs.declared.hold.Plain.{Plain}
+use Rattle.slot_tables.specs.Shut.{one_of}
 use Rattle.step_core.proofs.unmake.claims_of.Given as goal
 
 abbrev pub invariant-loop-index : goal.invariant-loop-index

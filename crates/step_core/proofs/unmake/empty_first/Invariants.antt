@@ -1,6 +1,6 @@
 use Rattle.std.proofs.Common.{◌≡◌, ℕ, length}
 use Rattle.array_model.specs.Views.{hand_at}
-use Rattle.step_core.specs.Shut.{emptied}
+use Rattle.slot_tables.specs.Shut.{emptied}
 use Rattle.step_core.proofs.unmake.empty_first.Given as goal
 
 abbrev pub invariant-loop-index : goal.invariant-loop-index

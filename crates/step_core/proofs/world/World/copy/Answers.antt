@@ -6,7 +6,7 @@ use Rattle.flat_machine.specs.Cases.{CopyCase}
 use Rattle.array_model.specs.Views.{ArrayView, WorldView, hand_at}
 use Rattle.array_model.specs.Represents.{ShowsArray, is_claim}
 use Rattle.array_model.proofs.Hands.{as_world}
-use Rattle.step_core.specs.Refused.{IsRefused}
+use Rattle.array_core.specs.Refused.{IsRefused}
 use Rattle.step_core.proofs.Worlds.{block_there, copy_world}
 use Rattle.step_core.proofs.Refusals.{was_refused, refused_same, refused_sizes}
 use Rattle.step_core.proofs.world.World.copy.Goals as goal

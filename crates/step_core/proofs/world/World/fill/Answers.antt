@@ -7,7 +7,7 @@ use Rattle.flat_machine.specs.Cases.{FillCase}
 use Rattle.array_model.specs.Views.{ArrayView, WorldView, hand_at}
 use Rattle.array_model.specs.Represents.{ShowsArray, is_claim}
 use Rattle.array_model.proofs.Hands.{as_world}
-use Rattle.step_core.specs.Refused.{IsRefused}
+use Rattle.array_core.specs.Refused.{IsRefused}
 use Rattle.step_core.proofs.Worlds.{fill_world}
 use Rattle.step_core.proofs.Refusals.{was_refused, refused_same, refused_sizes}
 use Rattle.step_core.proofs.world.World.fill.Goals as goal

@@ -1,7 +1,7 @@
 use Rattle.std.proofs.Common.{◌≡◌, ℕ, true}
 use Rattle.array_model.specs.Represents.{is_claim}
 use Rattle.array_model.specs.Views.{hand_at}
-use Rattle.step_core.proofs.Shutting.{is_first}
+use Rattle.slot_tables.proofs.Shutting.{is_first}
 use Rattle.step_core.proofs.world.World.first_not_held.Given as goal
 
 abbrev pub invariant-loop-index : goal.invariant-loop-index

@@ -5,7 +5,7 @@ use Rattle.array_model.specs.Views.{ArrayView, WorldView}
 use Rattle.array_model.specs.Represents.{ShowsArray, Represents}
 use Rattle.array_parts.specs.Views.{Entered}
 use Rattle.step_core.specs.declared.step.Answer.TheVariants.{Made}
-use Rattle.step_core.specs.Refused.{IsRefused}
+use Rattle.array_core.specs.Refused.{IsRefused}
 use Rattle.step_core.proofs.Worlds.{make_world}
 use Rattle.step_core.proofs.Refusals.{WasStep, was_done, was_refused, refused_same, refused_sizes, made_sizes}
 use Rattle.step_core.proofs.world.World.make.Goals as goal

@@ -4,7 +4,7 @@ use Rattle.flat_machine.specs.Steps.{MoveExtent}
 use Rattle.array_model.specs.Views.{ArrayView, WorldView}
 use Rattle.array_model.specs.Represents.{ShowsArray, Represents}
 use Rattle.step_core.specs.declared.step.Answer.TheVariants.{Shifted}
-use Rattle.step_core.specs.Refused.{IsRefused}
+use Rattle.array_core.specs.Refused.{IsRefused}
 use Rattle.step_core.proofs.Worlds.{move_world}
 use Rattle.step_core.proofs.Refusals.{WasStep, was_done, was_refused, refused_same}
 use Rattle.step_core.proofs.world.World.move_extent.Goals as goal

@@ -4,7 +4,7 @@ use Rattle.flat_machine.specs.Steps.{Read, Found}
 use Rattle.array_model.specs.Views.{ArrayView, WorldView}
 use Rattle.array_model.specs.Represents.{ShowsArray, Represents}
 use Rattle.step_core.specs.declared.step.Answer.TheVariants as answer
-use Rattle.step_core.specs.Reads.{WasFound, WasNotFound}
+use Rattle.array_core.specs.Reads.{WasFound, WasNotFound}
 use Rattle.step_core.specs.Told.{version_of}
 use Rattle.step_core.proofs.Worlds.{stays_world}
 use Rattle.step_core.proofs.Refusals.{WasStep, was_done, was_refused, found_sizes, not_found_sizes, not_found_same}

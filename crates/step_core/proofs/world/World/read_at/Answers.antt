@@ -5,7 +5,7 @@ use Rattle.array_model.specs.Reads.{WasSeen}
 use Rattle.array_model.specs.Views.{ArrayView, WorldView}
 use Rattle.array_model.specs.Represents.{ShowsArray, Represents}
 use Rattle.step_core.specs.declared.step.Answer.TheVariants as answer
-use Rattle.step_core.specs.Refused.{IsRefused}
+use Rattle.array_core.specs.Refused.{IsRefused}
 use Rattle.step_core.specs.Told.{seen_of}
 use Rattle.step_core.proofs.Worlds.{stays_world}
 use Rattle.step_core.proofs.Refusals.{WasStep, was_done, was_refused, seen_sizes, refused_sizes, refused_same}

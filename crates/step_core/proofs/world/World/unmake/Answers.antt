@@ -3,10 +3,10 @@ use Rattle.extent_groups.specs.Groups.{group_at}
 use Rattle.array_model.specs.Represents.{ShowsArray, is_claim}
 use Rattle.array_model.specs.Views.{WorldView, hand_at}
 use Rattle.array_model.proofs.Fares.{itself}
-use Rattle.step_core.specs.Adopted.{how_many}
-use Rattle.step_core.specs.Shut.{one_of, count_in, IsFirstNotHeld, emptied}
-use Rattle.step_core.specs.declared.hold.Plain.{Plain}
-use Rattle.step_core.proofs.Closing.{on_err, unmake_wants, first_stray, workers_of, unmake_world}
+use Rattle.slot_tables.specs.Adopted.{how_many}
+use Rattle.slot_tables.specs.Shut.{one_of, count_in, IsFirstNotHeld, emptied}
+use Rattle.slot_tables.specs.declared.hold.Plain.{Plain}
+use Rattle.array_core.proofs.Closing.{on_err, unmake_wants, first_stray, workers_of, unmake_world}
 use Rattle.step_core.proofs.world.World.unmake.Goals as goal
 
 pub returns-in-Some-first_not_held-clause-ok : goal.returns-in-Some-first_not_held-clause-ok

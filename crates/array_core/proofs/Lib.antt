@@ -1,0 +1,11 @@
+pub mod Adopters
+pub mod Resting
+pub mod Ready
+pub mod Living
+pub mod News
+pub mod BlockReads
+pub mod Learnings
+pub mod Losings
+pub mod Beginnings
+pub mod Closing
+pub mod Regrouping

@@ -1,0 +1,63 @@
+use Rattle.std.proofs.Common.{◌≡◌, List, ℕ, subst, sym, rules}
+use Rattle.std.specs.Vec.{with_items}
+use Rattle.std.proofs.lemmas.List.{with_items_is}
+use Rattle.flat_machine.specs.Flat.{Flat, Payload}
+use Rattle.flat_machine.specs.Steps.{Data, Stale}
+use Rattle.flat_machine.specs.Cases.{IsBehind}
+use Rattle.flat_machine.specs.Learning.{LearnedCase}
+use Rattle.array_parts.specs.Views.{WasRead}
+use Rattle.array_model.specs.Reads.{WasSeen}
+use Rattle.array_model.specs.Represents.{ShowsArray}
+use Rattle.array_model.proofs.Newest.{newest_is}
+use Rattle.array_core.specs.Reads.{Lesson}
+use Rattle.array_core.proofs.Learnings.{learned_here, learned_there, unlearned_ahead, unlearned_here, unlearned_there, unlearned_refused}
+use Rattle.array_core.proofs.array.Array.read_or_learn.Goals as goal
+
+pub returns-in-Err-clause-flat : goal.returns-in-Err-clause-flat
+returns-in-Err-clause-flat g c F shows =
+    let e = c.in-Err.ensures.err in unlearned_ahead (IsBehind F c.args.asked) c.args.self.now F c.args.asked c.in-Err.refusal shows e.0 e.1
+
+pub returns-in-Err-no_payload-clause-flat : goal.returns-in-Err-no_payload-clause-flat
+returns-in-Err-no_payload-clause-flat g c F shows =
+    let newest = c.in-Ok.ensures.ok in (c.in-Ok.newest, newest_is c.args.self.now F c.args.asked.block _ shows newest.0, newest.1)
+
+pub returns-in-Ok-Data-clause-flat : goal.returns-in-Ok-Data-clause-flat
+returns-in-Ok-Data-clause-flat g c F shows =
+    let newest = c.in-Ok.ensures.ok in
+    let payload = (with_items c.in-Ok-no_payload.payload c.look.new.payload).items in
+    let items : payload ≡ c.look.new.payload = with_items_is c.in-Ok-no_payload.payload c.look.new.payload (search rules) in
+    let here : WasSeen c.args.self.now c.look.new.self c.args.asked (Data (Payload c.look.new.payload)) = search rules in
+    let was : WasSeen c.args.self.now c.look.new.self c.args.asked (Data (Payload payload)) = subst (λ (l : List ℕ). WasSeen c.args.self.now c.look.new.self c.args.asked (Data (Payload l))) (sym items) here in
+    subst (λ (l : Lesson). (G : Flat) × LearnedCase F c.args.asked l.told (Payload l.payload) G × ShowsArray c.look.new.self G) (sym c.of.ensures)
+    (learned_here c.args.self.now c.look.new.self F c.args.asked c.in-Ok.newest payload shows (record { told = newest.0; most = newest.1 }) c.look.ensures.rest was)
+
+pub returns-in-Ok-payload_at-clause-flat : goal.returns-in-Ok-payload_at-clause-flat
+returns-in-Ok-payload_at-clause-flat g c F shows =
+    let newest = c.in-Ok.ensures.ok in
+    let was : WasSeen c.args.self.now c.look.new.self c.args.asked (Stale c.in-Ok-Stale._found) = search rules in
+    let buffer = with_items c.in-Ok-no_payload.payload c.look.new.payload in
+    let items : (with_items buffer c.payload_at.new.payload).items ≡ c.payload_at.new.payload = with_items_is buffer c.payload_at.new.payload (search rules) in
+    let read : WasRead c.look.new.self.parts c.payload_at.new.self.parts c.in-Ok.newest.place (with_items buffer c.payload_at.new.payload).items =
+    subst (WasRead c.look.new.self.parts c.payload_at.new.self.parts c.in-Ok.newest.place) (sym items) c.in-Ok-payload_at.ensures.ok
+    in
+    subst (λ (l : Lesson). (G : Flat) × LearnedCase F c.args.asked l.told (Payload l.payload) G × ShowsArray c.payload_at.new.self G) (sym c.of-in-Ok-payload_at.ensures)
+    (learned_there c.args.self.now c.look.new.self c.payload_at.new.self F c.args.asked c.in-Ok.newest c.in-Ok-Stale._found _ shows (record { told = newest.0; most = newest.1 })
+    c.look.ensures.rest was c.payload_at.ensures.rest read)
+
+pub returns-in-Err-payload_at-clause-flat : goal.returns-in-Err-payload_at-clause-flat
+returns-in-Err-payload_at-clause-flat g c F shows =
+    let newest = c.in-Ok.ensures.ok in
+    let was : WasSeen c.args.self.now c.look.new.self c.args.asked (Stale c.in-Ok-Stale._found) = search rules in
+    unlearned_there c.args.self.now c.look.new.self c.payload_at.new.self F c.args.asked c.in-Ok.newest c.in-Ok-Stale._found c.in-Err-payload_at.refusal shows
+    (record { told = newest.0; most = newest.1 }) c.look.ensures.rest was c.payload_at.ensures.rest c.in-Err-payload_at.ensures.err
+
+pub returns-in-Err-payload_at-clause-err : goal.returns-in-Err-payload_at-clause-err
+returns-in-Err-payload_at-clause-err g c =
+    let was : WasSeen c.args.self.now c.look.new.self c.args.asked (Stale c.in-Ok-Stale._found) = search rules in
+    unlearned_refused c.args.self.now c.look.new.self c.payload_at.new.self c.args.asked (Stale c.in-Ok-Stale._found) c.in-Ok.newest.place c.in-Err-payload_at.refusal
+    c.look.ensures.rest was c.payload_at.ensures.rest c.in-Err-payload_at.ensures.err
+
+pub returns-in-Err-look-clause-flat : goal.returns-in-Err-look-clause-flat
+returns-in-Err-look-clause-flat g c F shows =
+    let newest = c.in-Ok.ensures.ok in
+    unlearned_here c.args.self.now c.look.new.self F c.args.asked c.in-Ok.newest c.in-Err-look.refusal shows (record { told = newest.0; most = newest.1 }) c.look.ensures.rest c.in-Err-look.ensures.err

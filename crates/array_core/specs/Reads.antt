@@ -1,0 +1,39 @@
+-- What a call that reads answers of an array's drives.
+use Rattle.std.specs.Prelude.{◌≡◌, ℕ, List, Option, Some, None, Vec}
+use Rattle.std.specs.Global.{Global}
+use Rattle.map_join.specs.declared.records.Record.{Record}
+use Rattle.map_join.specs.Record.{record_at}
+use Rattle.array_parts.specs.Views.{WasRead}
+use Rattle.flat_machine.specs.declared.refusal.Refusal.{Refusal}
+use Rattle.flat_machine.specs.Flat.{Payload}
+use Rattle.flat_machine.specs.Steps.{Version, Seen, Data, Stale}
+use Rattle.array_model.specs.Reads.{WasNotRead}
+use Rattle.array_model.specs.Views.{ArrayView, key_at}
+use Rattle.array_core.specs.declared.read.At.{At}
+use Rattle.array_core.specs.declared.read.At.TheVariants as at
+
+-- the version and the payload of a block that was read: those of its newest record and of the slot that this names, or none,
+-- and then nothing was read
+abbrev pub WasFound : ArrayView → ArrayView → ℕ → Option (ℕ × Vec ℕ Global) → Type 0
+WasFound a b block None = (record_at block (key_at a block) ≡ None) × (b ≡ a)
+WasFound a b block (Some found) =
+    (r : Record) × (record_at block (key_at a block) ≡ Some r) × (found.0 ≡ r.version) × WasRead a.parts b.parts r.place found.1.items
+
+-- a block wasn't read: for want of memory, or as the slot of its newest record is gone
+abbrev pub WasNotFound : ArrayView → ArrayView → ℕ → Refusal → Type 0
+WasNotFound a b block refusal = (r : Record) × (record_at block (key_at a block) ≡ Some r) × WasNotRead a b r.place refusal
+
+-- a version and payload that were read, as plain data
+abbrev pub version_of : Option (ℕ × Vec ℕ Global) → Option Version
+version_of None = None
+version_of (Some found) = Some (record { version = found.0; content = Payload found.1.items })
+
+-- what was seen at a place, as plain data
+abbrev pub seen_of : At → Seen
+seen_of (at.Data payload) = Data (Payload payload.items)
+seen_of (at.Stale header) = Stale header
+
+-- what is learned of a record: the record that is told, and its payload
+pub record Lesson : Type 0 where
+  pub told : Record
+  pub payload : List ℕ

@@ -1,0 +1,114 @@
+// An array taken apart into its parts and claims, and put together from parts, a map and claims.
+ghost use Rattle.std.specs.Prelude.{◌≡◌, ℕ, ◌<◌, ◌≤◌, slice_index_or, vec_len, vec_capacity, false, IfOk, IfErr, None};
+ghost use Rattle.map_join.specs.Maps.{at};
+ghost use Rattle.array_parts.specs.Fit.{IsFit};
+ghost use Rattle.array_parts.specs.Views.{view_of};
+ghost use Rattle.flat_machine.specs.Flat.{Flat, Shut};
+ghost use Rattle.flat_machine.specs.Restarted.{HasPlaces, TellMap, restarted};
+ghost use Rattle.array_model.specs.Represents.{ShowsArray};
+ghost use Rattle.array_model.specs.Views.{key_at};
+ghost use Rattle.array_model.specs.Adopted.{IsAdopted, HasParts};
+ghost use Rattle.slot_tables.specs.Adopted.{AreClaimsOf, AreShared, AreOfPlaces, IsNotAdopted};
+
+use crate::array::Array;
+use crate::live::counted;
+use array_parts::Parts;
+use extents::Drive;
+use flat_machine::Refusal;
+use map_join::BlockMap;
+use slot_tables::{Hold, NotAdopted, Ready, Room, SLOTS, prepare, seat_all, unseat_all};
+use std::alloc::Global;
+
+impl<D: Drive, C: Hold> Array<D, C> {
+    /// Takes the array apart: into its parts, and the claims of all slots that it kept, those of tickets
+    /// too, from the last slot to the first. Refused for want of memory it hands the array back.
+    pub fn into_parts(self, alloc: Global) -> Result<(Parts<D>, Vec<C>), Array<D, C>>
+        ensures parts { IfOk result (λ r. view_of D.units D.lost D.failures r.0 ≡ self.parts) }
+        ensures fit { IfOk result (λ r. IsFit D.units r.0) }
+        ensures claims { IfOk result (λ r. AreClaimsOf C.names self r.1.items) }
+        ensures rests { IfOk result (λ r. (F : Flat) → ShowsArray self F → ((s : ℕ) → F.tickets s ≡ None) → ((s g : ℕ) → F.held s (Shut g) ≡ false) → AreOfPlaces C.names (key_at self) r.1.items) }
+        ensures err { IfErr result (λ array. array ≡ self) }
+    {
+        let Ok(mut claims) = Vec::with_capacity(alloc, SLOTS) else {
+            return Err(self);
+        };
+        unseat_all(self.places, &mut claims);
+        Ok((self.parts, claims))
+    }
+
+    /// Puts an array together from its parts and the map that their headers tell, as `header_scan` does
+    /// in a restart: it takes the claims of the newest places among those given, one of each, and hands the
+    /// others back. Refused for want of memory or of a claim it hands all back, and no claim has moved.
+    pub fn adopt_among(
+        alloc: Global,
+        parts: Parts<D>,
+        map: BlockMap,
+        claims: Vec<C>,
+    ) -> Result<(Array<D, C>, Vec<C>), (NotAdopted, Parts<D>, BlockMap, Vec<C>)>
+        requires fit { IsFit D.units parts }
+        requires places { HasPlaces parts.groups (at map) }
+        ensures ok { IfOk result (λ r. IsAdopted (view_of D.units D.lost D.failures parts) (at map) r.0) }
+        ensures claims { IfOk result (λ r. AreShared C.names claims.items r.0 r.1.items) }
+        ensures flat { IfOk result (λ r. (F : Flat) → HasParts (view_of D.units D.lost D.failures parts) F → TellMap F.groups F.units (at map)
+            → ShowsArray r.0 (restarted F (at map) r.0.log)) }
+        ensures err { IfErr result (λ e. IsNotAdopted C.names claims.items (at map) e.0 × (e.1 ≡ parts) × (e.2 ≡ map) × (e.3 ≡ claims)) }
+    {
+        match prepare(alloc, &parts, &map, &claims) {
+            Err(why) => Err((why, parts, map, claims)),
+            Ok(ready) => {
+                let Ready {
+                    log,
+                    wanted,
+                    keys,
+                    room,
+                } = ready;
+                let Room {
+                    unit,
+                    scratch,
+                    mut others,
+                    mut places,
+                } = room;
+                seat_all(wanted, claims, &mut places, &mut others);
+                let live = counted(&places);
+                let array = Array {
+                    parts,
+                    log,
+                    keys,
+                    places,
+                    live,
+                    unit,
+                    scratch,
+                };
+                Ok((array, others))
+            }
+        }
+    }
+
+    /// The other half of `into_parts`: an array of these parts with the map that their headers tell, and the
+    /// claims of its newest places, one of each. Refused for want of memory it hands all back.
+    pub fn adopt(
+        alloc: Global,
+        parts: Parts<D>,
+        map: BlockMap,
+        claims: Vec<C>,
+    ) -> Result<Array<D, C>, (Refusal, Parts<D>, BlockMap, Vec<C>)>
+        requires fit { IsFit D.units parts }
+        requires places { HasPlaces parts.groups (at map) }
+        requires claims { AreOfPlaces C.names (at map) claims.items }
+        ensures ok { IfOk result (IsAdopted (view_of D.units D.lost D.failures parts) (at map)) }
+        ensures flat { IfOk result (λ a. (F : Flat) → HasParts (view_of D.units D.lost D.failures parts) F → TellMap F.groups F.units (at map)
+            → ShowsArray a (restarted F (at map) a.log)) }
+        ensures err { IfErr result (λ e. (e.0 ≡ Refusal.Memory) × (e.1 ≡ parts) × (e.2 ≡ map) × (e.3 ≡ claims)) }
+    {
+        match Array::adopt_among(alloc, parts, map, claims) {
+            Ok((array, others)) => {
+                others.destroy_empty();
+                Ok(array)
+            }
+            Err((NotAdopted::Memory, parts, map, claims)) => {
+                Err((Refusal::Memory, parts, map, claims))
+            }
+            Err((NotAdopted::NoClaim(_), _parts, _map, _claims)) => unreachable!(),
+        }
+    }
+}

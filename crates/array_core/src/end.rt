@@ -1,0 +1,38 @@
+// An array ends, and its claims go back to where they came from.
+ghost use Rattle.std.specs.Prelude.{◌≡◌};
+ghost use Rattle.array_parts.specs.Fit.{IsFit};
+ghost use Rattle.array_parts.specs.Views.{view_of};
+
+use crate::array::Array;
+use array_parts::Parts;
+use extents::Drive;
+use slot_tables::{Hold, Place};
+
+/// Takes claims back.
+pub trait TakeBack<C> {
+    fn take_back(&mut self, claim: C);
+}
+
+impl<D: Drive, C: Hold> Array<D, C> {
+    /// Hands each claim that the array kept over, those of tickets too. It takes no memory.
+    pub fn end<T: TakeBack<C>>(self, to: &mut T) -> Parts<D>
+        ensures parts { view_of D.units D.lost D.failures result ≡ self.parts }
+        ensures fit { IsFit D.units result }
+    {
+        hand_over(self.places, to);
+        self.parts
+    }
+}
+
+fn hand_over<C: Hold, T: TakeBack<C>>(mut places: Vec<Place<C>>, to: &mut T) {
+    while let Some(place) = places.pop() {
+        match place {
+            Place::Free => {}
+            Place::Pending(claim) => to.take_back(claim),
+            Place::Moving(_, claim) => to.take_back(claim),
+            Place::Newest(_, claim) => to.take_back(claim),
+            Place::Unmade(claim) => to.take_back(claim),
+        }
+    }
+    places.destroy_empty();
+}

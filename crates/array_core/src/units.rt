@@ -1,0 +1,33 @@
+// An array has units under its slot numbers, for whoever scans them.
+ghost use Rattle.array_parts.specs.Views.{cells_of};
+ghost use Rattle.array_core.specs.Refused.{OnlyLoses};
+ghost use Rattle.array_core.specs.Laws.{only_itself, only_more};
+
+use crate::array::Array;
+use array_parts::Units;
+use extent_groups::GroupTable;
+use extents::Drive;
+use flat_machine::Refusal;
+use slot_tables::Hold;
+
+impl<D: Drive, C: Hold> Units for Array<D, C> {
+    ghost groups = { λ a. a.parts.groups };
+
+    ghost cells = { λ a. cells_of a.parts };
+
+    ghost fits = { λ a. Unit {0} };
+
+    ghost leaves = { λ a b. OnlyLoses a b };
+
+    fn groups(&self) -> &GroupTable {
+        &self.parts.groups
+    }
+
+    fn unit(&mut self, slot: u16, unit: &mut [u8], scratch: &mut [u8]) -> Result<(), Refusal> {
+        self.effective(slot, unit, scratch)
+    }
+
+    ghost none = { λ a. only_itself a };
+
+    ghost more = { λ a b c one two. only_more a b c one two };
+}

@@ -1,0 +1,101 @@
+-- What a map says of slots and claims, told of its list of records and of the table of slots that are wanted.
+use Rattle.std.proofs.Common.{◌≡◌, ℕ, ◌+◌, ◌^◌, ◌<◌, ◌≤◌, nat_lt, Bool, true, false, List, [], ◌∷◌, length, refl, sym, ap, ◌∙◌, subst, arith, ◌⊎◌, inl, inr, Option, Some, None}
+use Rattle.std.specs.Prelude.{Contains}
+use Rattle.std.proofs.lemmas.Bool.Decides.{nat_tests}
+use Rattle.std.proofs.lemmas.Option.{same_Some}
+use Rattle.map_join.specs.declared.records.Record.{Record}
+use Rattle.map_join.specs.Record.{record_of, record_at}
+use Rattle.map_join.specs.Maps.{IsListOf}
+use Rattle.extent_groups.specs.Groups.{Groups}
+use Rattle.flat_machine.specs.Restarted.{HasPlaces}
+use Rattle.array_model.specs.Views.{Kept, Nothing, Pending, Moving, Newest, Unmade, ArrayView, kept_at}
+use Rattle.array_model.specs.Adopted.{IsPlaced}
+use Rattle.slot_tables.proofs.Seated.{some_here}
+use Rattle.slot_tables.specs.Adopted.{how_many, claims_in, AreKeys, AreShared, AreOfPlaces, IsKey, IsWanted, AreWanted, wanted_at, kept_for, IsLowestUnclaimed, IsUnclaimed}
+
+-- a map of an array's blocks has keys of records everywhere
+pub all_keys : (groups : Groups) (M : ℕ → ℕ) (keys : List ℕ) → HasPlaces groups M → AreKeys groups.blocks M keys → (b : ℕ) → IsKey (M b)
+all_keys groups M keys places are b = go (either b)
+  where
+    either : (n : ℕ) → (n < groups.blocks) ⊎ (groups.blocks ≤ n)
+    either n = grind (arith)
+
+    no_key : (k : ℕ) → (0 < k → ⊥) → IsKey k
+    no_key k never = record { least = λ some. absurd (never some); most = below (none k never) }
+      where
+        none : (n : ℕ) → (0 < n → ⊥) → n ≡ 0
+        none n no_more = grind (arith)
+
+        below : k ≡ 0 → k < 2 ^ 64
+        below e = omega (arith, e)
+
+    go : (b < groups.blocks) ⊎ (groups.blocks ≤ b) → IsKey (M b)
+    go (inl h) = are.told b h
+    go (inr h) = no_key (M b) (λ some. let i = places.blocks b some in omega (arith, i, h))
+
+-- the record of a block that has a key is in the map's list, and a record of the list is that of its block
+at_told : (block key : ℕ) → 2 ^ 32 ≤ key → record_at block key ≡ Some (record_of block key)
+at_told block key h = grind (arith, nat_tests)
+
+pub in_list : (M : ℕ → ℕ) (records : List Record) → IsListOf M records → (b : ℕ) → IsKey (M b) → 0 < M b → Contains records (record_of b (M b))
+in_list M records list b key some = (list.each (record_of b (M b))).1 (at_told b (M b) (key.least some))
+
+pub of_list : (M : ℕ → ℕ) (records : List Record) → IsListOf M records → (r : Record) → Contains records r → (0 < M r.block) × (record_of r.block (M r.block) ≡ r)
+of_list M records list r has = go (nat_lt (M r.block) (2 ^ 32)) refl ((list.each r).0 has)
+  where
+    go : (q : Bool) → nat_lt (M r.block) (2 ^ 32) ≡ q → record_at r.block (M r.block) ≡ Some r → (0 < M r.block) × (record_of r.block (M r.block) ≡ r)
+    go true is at = absurd (let n : record_at r.block (M r.block) ≡ None = grind (arith, nat_tests) in cc)
+    go false is at =
+        let many : 2 ^ 32 ≤ M r.block = grind (arith, nat_tests) in
+        (omega (arith, many), same_Some _ _ (sym (at_told r.block (M r.block) many) ∙ at))
+
+-- what is wanted of a slot is what the map has there
+pub wants_placed : (M : ℕ → ℕ) (records : List Record) (wanted : List (Option ℕ)) → IsListOf M records → ((b : ℕ) → IsKey (M b)) → AreWanted records wanted
+    → (s : ℕ) → IsPlaced M s (kept_for (wanted_at wanted s))
+wants_placed M records wanted list keys are s = go (wanted_at wanted s) (are.each s)
+  where
+    go : (o : Option ℕ) → IsWanted records s o → IsPlaced M s (kept_for o)
+    go None none = λ b some at. none (record_of b (M b)) (in_list M records list b (keys b) some) at
+    go (Some b) some =
+        let told = of_list M records list some.0 some.1 in
+        subst (λ n. (0 < M n) × ((record_of n (M n)).place ≡ s)) some.2 (told.0, ap (λ (r : Record). r.place) told.1 ∙ some.3)
+
+-- the place of a block that has a key is wanted
+pub place_wanted : (M : ℕ → ℕ) (records : List Record) (wanted : List (Option ℕ)) → IsListOf M records → ((b : ℕ) → IsKey (M b)) → AreWanted records wanted
+    → (b : ℕ) → 0 < M b → (c : ℕ) × (wanted_at wanted (record_of b (M b)).place ≡ Some c)
+place_wanted M records wanted list keys are b some = go (wanted_at wanted (record_of b (M b)).place) refl (are.each (record_of b (M b)).place)
+  where
+    go : (o : Option ℕ) → wanted_at wanted (record_of b (M b)).place ≡ o → IsWanted records (record_of b (M b)).place o → (c : ℕ) × (wanted_at wanted (record_of b (M b)).place ≡ Some c)
+    go None at none = absurd (none (record_of b (M b)) (in_list M records list b (keys b) some) refl)
+    go (Some c) at here = (c, at)
+
+-- so the lowest slot that is wanted and not claimed is the lowest place without a claim
+pub unclaimed : {C : Type 0} (names : C → ℕ) (claims : List C) (M : ℕ → ℕ) (records : List Record) (wanted : List (Option ℕ)) (slot : ℕ)
+    → IsListOf M records → ((b : ℕ) → IsKey (M b)) → AreWanted records wanted → IsLowestUnclaimed names claims wanted slot → IsUnclaimed names claims M slot
+unclaimed {C} names claims M records wanted slot list keys are low =
+    let placed = subst (λ o. IsPlaced M slot (kept_for o)) low.wants (wants_placed M records wanted list keys are slot) in
+    record {
+      block = low.block;
+      there = placed.0;
+      place = placed.1;
+      none = low.none;
+      lowest = λ b some below.
+          let c = place_wanted M records wanted list keys are b some in
+          low.lowest (record_of b (M b)).place below c.0 c.1;
+    }
+
+-- where the claims are those of the map's places, one of each, none is left over
+pub none_left : {C : Type 0} (names : C → ℕ) (claims : List C) (M : ℕ → ℕ) (a : ArrayView) (left : List C) → AreOfPlaces names M claims → ((s : ℕ) → IsPlaced M s (kept_at a s))
+    → AreShared names claims a left → length left ≡ 0
+none_left names claims M a [] of placed shared = refl
+none_left {C} names claims M a (c ∷ left) of placed shared = absurd (go (kept_at a (names c)) (placed (names c)) (shared (names c)))
+  where
+    here : 0 < how_many names (c ∷ left) (names c)
+    here = some_here names c left
+
+    go : (kept : Kept) → IsPlaced M (names c) kept → how_many names claims (names c) ≡ claims_in kept + how_many names (c ∷ left) (names c) → ⊥
+    go Nothing none e = let o = of.only (names c) (let h = here in omega (arith, h, e)) in none o.0 o.1 o.2
+    go Pending no_place e = no_place
+    go (Moving r) no_place e = no_place
+    go (Newest b) at e = let one = subst (λ n. how_many names claims n ≡ 1) at.1 (of.one b at.0) in let h = here in omega (arith, h, e, one)
+    go Unmade no_place e = no_place

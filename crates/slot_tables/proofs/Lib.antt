@@ -1,0 +1,5 @@
+pub mod Places
+pub mod Seated
+pub mod Adoptions
+pub mod Counts
+pub mod Shutting

@@ -1,0 +1,12 @@
+use Rattle.std.proofs.Common.{◌≡◌, ℕ, ◌<◌, ◌≤◌, length, slice_index}
+use Rattle.map_join.specs.Maps.{at}
+use Rattle.slot_tables.specs.Adopted.{IsKey}
+use Rattle.slot_tables.proofs.ready.keys_of.Given as goal
+
+abbrev pub invariant-loop-block : goal.invariant-loop-block
+invariant-loop-block l = record {
+  many : length l.keys.items ≡ l.blocks;
+  before : (b : ℕ) → b < l.block → slice_index l.keys.items b ≡ at l.map b;
+  rest : (b : ℕ) → l.block ≤ b → slice_index l.keys.items b ≡ 0;
+  told : (b : ℕ) → b < l.block → IsKey (at l.map b);
+}

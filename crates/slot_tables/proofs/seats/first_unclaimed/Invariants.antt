@@ -1,0 +1,6 @@
+use Rattle.std.proofs.Common.{ℕ, ◌<◌}
+use Rattle.slot_tables.specs.Adopted.{IsClaimed}
+use Rattle.slot_tables.proofs.seats.first_unclaimed.Given as goal
+
+abbrev pub invariant-loop-slot : goal.invariant-loop-slot
+invariant-loop-slot g l = (s : ℕ) → s < l.slot → IsClaimed g.C.Hold.names l.claims l.wanted s

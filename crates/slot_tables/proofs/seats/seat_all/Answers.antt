@@ -1,0 +1,43 @@
+use Rattle.std.proofs.Common.{sym, ◌∙◌, arith}
+use Rattle.std.proofs.lemmas.List.{length-map}
+use Rattle.slot_tables.specs.Kept.{kept_of, kepts_of}
+use Rattle.slot_tables.proofs.Seated.{none_seated, seated_one, left_one, all_seated, seats_end}
+use Rattle.slot_tables.proofs.seats.seat_all.Goals as goal
+
+pub loop-claim-init : goal.loop-claim-init
+loop-claim-init g c = record {
+  seated = none_seated g.C.Hold.names c.args.claims.items c.args.wanted.items (kepts_of c.args.places.now.items) c.args.others.now.items
+      (sym c.args.wanted.ok.0 ∙ c.requires.many) (length-map c.args.places.now.items kept_of ∙ sym c.args.places.now.ok.0 ∙ c.requires.places) c.requires.free c.requires.all (sym c.args.others.now.ok.0 ∙ c.requires.none);
+  of = c.requires.claims;
+  places = c.requires.places;
+  room = let n = c.requires.none in let r = c.requires.room in omega (arith, n, r);
+}
+
+pub loop-claim-preserved-in-None : goal.loop-claim-preserved-in-None
+loop-claim-preserved-in-None g c = record {
+  seated = seated_one g.C.Hold.names c.args.claims.items c.args.wanted.items c.pop.new.self.items c.in-Some.claim c.loop-claim.wanted.items c.seat.new.wanted.items (kepts_of c.loop-claim.places.items) (kepts_of c.seat.new.places.items) c.loop-claim.others.items
+      c.in-None.ensures.slot (record { seated = c.in-None.ensures.seated; left = c.in-None.ensures.left })
+      (rw (sym c.in-Some.ensures.items) c.loop-claim.invariant.seated);
+  of = c.in-None.ensures.claims;
+  places = c.in-None.ensures.room;
+  room = let l = c.in-Some.ensures.len in let r = c.loop-claim.invariant.room in omega (arith, l, r);
+}
+
+pub loop-claim-preserved : goal.loop-claim-preserved
+loop-claim-preserved g c = record {
+  seated = rw (c.push_reserved.ensures.items) (left_one g.C.Hold.names c.args.claims.items c.args.wanted.items c.pop.new.self.items c.in-Some.claim c.in-Some-seat.other c.loop-claim.wanted.items c.seat.new.wanted.items (kepts_of c.loop-claim.places.items) (kepts_of c.seat.new.places.items) c.loop-claim.others.items
+      (record { seated = c.in-Some-seat.ensures.seated; left = c.in-Some-seat.ensures.left })
+      (rw (sym c.in-Some.ensures.items) c.loop-claim.invariant.seated));
+  of = c.in-Some-seat.ensures.claims;
+  places = c.in-Some-seat.ensures.room;
+  room = let l = c.in-Some.ensures.len in let r = c.loop-claim.invariant.room in let p = c.push_reserved.ensures.len in let q = c.push_reserved.ensures.capacity in omega (arith, l, r, p, q);
+}
+
+pub returns-clause-kept : goal.returns-clause-kept
+returns-clause-kept g c slot =
+    all_seated g.C.Hold.names c.args.claims.items c.args.wanted.items c.loop-claim.wanted.items (kepts_of c.loop-claim.places.items) c.loop-claim.others.items (seats_end g.C.Hold.names c.args.claims.items c.args.wanted.items c.loop-claim.claims.items c.loop-claim.wanted.items (kepts_of c.loop-claim.places.items) c.loop-claim.others.items (sym c.loop-claim.claims.ok.0 ∙ c.in_default.ensures.cases.0) c.loop-claim.invariant.seated) slot
+
+pub returns-clause-shared : goal.returns-clause-shared
+returns-clause-shared g c slot =
+    let h = (seats_end g.C.Hold.names c.args.claims.items c.args.wanted.items c.loop-claim.claims.items c.loop-claim.wanted.items (kepts_of c.loop-claim.places.items) c.loop-claim.others.items (sym c.loop-claim.claims.ok.0 ∙ c.in_default.ensures.cases.0) c.loop-claim.invariant.seated).shared slot in
+    omega (arith, h)

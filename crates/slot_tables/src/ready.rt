@@ -1,0 +1,114 @@
+// All that an array takes and tests before it is put together from parts, a map and claims.
+ghost use Rattle.std.specs.Prelude.{◌≡◌, ℕ, ◌*◌, ◌+◌, ◌<◌, ◌≤◌, length, slice_index, slice_index_or, vec_len, vec_capacity, IfOk, IfErr};
+ghost use Rattle.map_join.specs.Maps.{at};
+ghost use Rattle.extents.specs.declared.shape.TheConstants.{HEADER_BYTES};
+ghost use Rattle.array_parts.specs.Fit.{IsFit};
+ghost use Rattle.flat_machine.specs.Restarted.{HasPlaces};
+ghost use Rattle.slot_tables.specs.declared.place.Place.TheVariants as place;
+ghost use Rattle.slot_tables.specs.Adopted.{AreReady, AreKeys, HasRoom, IsNotAdopted};
+
+use crate::hold::Hold;
+use crate::place::Place;
+use crate::seats::{blocks_by_slot, first_unclaimed};
+use crate::tables::{SLOTS, free_places};
+use array_parts::Parts;
+use extents::{Drive, Shape};
+use map_join::{BlockMap, Record};
+use std::alloc::{AllocError, Global};
+
+/// Why no array is put together.
+#[derive(Clone, Copy, Debug, PartialEq, Eq)]
+pub enum NotAdopted {
+    Memory,
+    /// The lowest slot that is a block's newest place and of which there is no claim.
+    NoClaim(u16),
+}
+
+// Places and buffers of an array that is put together, and room for the claims that it doesn't take.
+#[derive(Drop)]
+pub struct Room<C: Hold> {
+    pub unit: Vec<u8>,
+    pub scratch: Vec<u8>,
+    pub others: Vec<C>,
+    pub places: Vec<Place<C>>,
+}
+
+// All the memory that it takes, and which block wants which slot.
+#[derive(Drop)]
+pub struct Ready<C: Hold> {
+    pub log: Vec<Record>,
+    pub wanted: Vec<Option<u32>>,
+    pub keys: Vec<u64>,
+    pub room: Room<C>,
+}
+
+// The key of each of so many blocks.
+fn keys_of(alloc: Global, blocks: u32, map: &BlockMap) -> Result<Vec<u64>, AllocError>
+    ensures { IfOk result (λ keys. AreKeys blocks (at map.now) keys.items) }
+{
+    let mut keys = vec![in alloc; 0u64; blocks as usize]?;
+    for block in 0..blocks {
+        if let Some(record) = map.get(block) {
+            keys[block as usize] = record.key();
+        }
+    }
+    Ok(keys)
+}
+
+fn new_room<C: Hold>(alloc: Global, shape: &Shape, count: usize) -> Result<Room<C>, AllocError>
+    ensures { IfOk result (HasRoom (HEADER_BYTES + shape.now.payload) count) }
+{
+    let size = shape.unit_bytes();
+    let unit = vec![in alloc; 0; size]?;
+    let scratch = vec![in alloc; 0; 2 * size]?;
+    let others = Vec::with_capacity(alloc, count)?;
+    match free_places(alloc, SLOTS) {
+        Ok(places) => Ok(Room {
+            unit,
+            scratch,
+            others,
+            places,
+        }),
+        Err(refused) => {
+            others.destroy_empty();
+            Err(refused)
+        }
+    }
+}
+
+// All that is taken and tested before a claim moves.
+pub fn prepare<D: Drive, C: Hold>(
+    alloc: Global,
+    parts: &Parts<D>,
+    map: &BlockMap,
+    claims: &[C],
+) -> Result<Ready<C>, NotAdopted>
+    requires fit { IsFit D.units parts.now }
+    requires places { HasPlaces parts.now.groups (at map.now) }
+    ensures ok { IfOk result (AreReady C.names parts.now.groups (at map.now) claims.now) }
+    ensures err { IfErr result (IsNotAdopted C.names claims.now (at map.now)) }
+{
+    let Ok(log) = map.to_list(alloc) else {
+        return Err(NotAdopted::Memory);
+    };
+    let Ok(keys) = keys_of(alloc, parts.shape.blocks, map) else {
+        return Err(NotAdopted::Memory);
+    };
+    let Ok(wanted) = blocks_by_slot(alloc, &log) else {
+        return Err(NotAdopted::Memory);
+    };
+    match first_unclaimed(alloc, &wanted, claims) {
+        Ok(None) => {}
+        Ok(Some(slot)) => return Err(NotAdopted::NoClaim(slot)),
+        Err(_) => return Err(NotAdopted::Memory),
+    }
+    match new_room(alloc, &parts.shape, claims.len()) {
+        Ok(room) => Ok(Ready {
+            log,
+            wanted,
+            keys,
+            room,
+        }),
+        Err(_) => Err(NotAdopted::Memory),
+    }
+}

@@ -1,0 +1,149 @@
+// Claims on their way into an array, and out of it. None is lost: their type has no `Drop`.
+ghost use Rattle.std.specs.Prelude.{◌≡◌, ℕ, ◌+◌, ◌<◌, ◌≤◌, List, length, map, replicate, slice_index_or, slice_set, vec_len, vec_capacity, IfOk, OnOk, MatchOption, IsTrue, ◌↔◌, true, false, Some, None};
+ghost use Rattle.array_model.specs.Views.{Nothing, Newest, is_kept};
+ghost use Rattle.slot_tables.specs.Kept.{kept_of, kepts_of, IsOf, AreOf};
+ghost use Rattle.slot_tables.specs.Adopted.{how_many, claims_in, AreWanted, IsClaimed, IsLowestUnclaimed, kept_for, wanted_at};
+
+use crate::hold::Hold;
+use crate::place::{Place, put_in};
+use crate::tables::SLOTS;
+use map_join::Record;
+use std::alloc::{AllocError, Global};
+
+fn no_blocks(alloc: Global, count: usize) -> Result<Vec<Option<u32>>, AllocError>
+    ensures { IfOk result (λ wanted. wanted.items ≡ replicate count None) }
+{
+    vec![in alloc; None; count]
+}
+
+fn no_marks(alloc: Global, count: usize) -> Result<Vec<bool>, AllocError>
+    ensures { IfOk result (λ marks. marks.items ≡ replicate count false) }
+{
+    vec![in alloc; false; count]
+}
+
+// The block that each slot is the newest place of.
+pub(crate) fn blocks_by_slot(
+    alloc: Global,
+    records: &[Record],
+) -> Result<Vec<Option<u32>>, AllocError>
+    ensures { IfOk result (λ wanted. AreWanted records.now wanted.items) }
+{
+    let mut wanted = no_blocks(alloc, SLOTS)?;
+    for index in 0..records.len() {
+        let record = &records[index];
+        wanted[usize::from(record.place)] = Some(record.block);
+    }
+    Ok(wanted)
+}
+
+// Which slots have a claim.
+fn claimed<C: Hold>(alloc: Global, claims: &[C]) -> Result<Vec<bool>, AllocError>
+    ensures many { IfOk result (λ marks. length marks.items ≡ 65536) }
+    ensures each { IfOk result (λ marks. (slot : ℕ) → slot < 65536 → (IsTrue (slice_index_or marks.items slot true) ↔ (0 < how_many C.names claims.now slot))) }
+{
+    let mut marks = no_marks(alloc, SLOTS)?;
+    for index in 0..claims.len() {
+        marks[usize::from(claims[index].slot())] = true;
+    }
+    Ok(marks)
+}
+
+// The lowest slot that is wanted and of which there is no claim.
+pub(crate) fn first_unclaimed<C: Hold>(
+    alloc: Global,
+    wanted: &[Option<u32>],
+    claims: &[C],
+) -> Result<Option<u16>, AllocError>
+    requires { length wanted.now ≡ 65536 }
+    ensures { IfOk result (λ found. MatchOption found ((slot : ℕ) → IsClaimed C.names claims.now wanted.now slot) (IsLowestUnclaimed C.names claims.now wanted.now)) }
+{
+    let marks = claimed(alloc, claims)?;
+    for slot in 0..SLOTS {
+        if wanted[slot].is_some() && !marks[slot] {
+            return Ok(Some(slot as u16));
+        }
+    }
+    Ok(None)
+}
+
+// Takes a claim into the place that wants it, or gives it back.
+fn seat<C: Hold>(wanted: &mut Vec<Option<u32>>, places: &mut Vec<Place<C>>, claim: C) -> Option<C>
+    requires many { vec_len wanted.old ≡ 65536 }
+    requires room { vec_len places.old ≡ 65536 }
+    requires claims { AreOf C.names places.old.items }
+    requires free { (b : ℕ) → wanted_at wanted.old.items (C.names claim) ≡ Some b → slice_index_or (kepts_of places.old.items) (C.names claim) Nothing ≡ Nothing }
+    ensures seated { (b : ℕ) → wanted_at wanted.old.items (C.names claim) ≡ Some b
+        → (result ≡ None) × (wanted.new.items ≡ slice_set wanted.old.items (C.names claim) None) × (kepts_of places.new.items ≡ slice_set (kepts_of places.old.items) (C.names claim) (Newest b)) }
+    ensures left { wanted_at wanted.old.items (C.names claim) ≡ None → (result ≡ Some claim) × (wanted.new.items ≡ wanted.old.items) × (kepts_of places.new.items ≡ kepts_of places.old.items) }
+    ensures claims { AreOf C.names places.new.items }
+    ensures room { vec_len places.new ≡ 65536 }
+    ensures slot { C.names claim < 65536 }
+{
+    let slot = claim.slot();
+    match wanted[usize::from(slot)] {
+        None => Some(claim),
+        Some(block) => {
+            wanted[usize::from(slot)] = None;
+            put_in(places, slot, Place::Newest(block, claim));
+            None
+        }
+    }
+}
+
+// Takes a claim into each place that wants one, and leaves the others over.
+pub fn seat_all<C: Hold>(
+    mut wanted: Vec<Option<u32>>,
+    mut claims: Vec<C>,
+    places: &mut Vec<Place<C>>,
+    others: &mut Vec<C>,
+)
+    requires many { vec_len wanted ≡ 65536 }
+    requires all { (slot : ℕ) → IsClaimed C.names claims.items wanted.items slot }
+    requires free { (slot : ℕ) → slice_index_or (kepts_of places.old.items) slot Nothing ≡ Nothing }
+    requires places { vec_len places.old ≡ 65536 }
+    requires claims { AreOf C.names places.old.items }
+    requires none { vec_len others.old ≡ 0 }
+    requires room { vec_len claims ≤ vec_capacity others.old }
+    ensures kept { (slot : ℕ) → slice_index_or (kepts_of places.new.items) slot Nothing ≡ kept_for (wanted_at wanted.items slot) }
+    ensures shared { (slot : ℕ) → how_many C.names claims.items slot ≡ claims_in (slice_index_or (kepts_of places.new.items) slot Nothing) + how_many C.names others.new.items slot }
+    ensures claims { AreOf C.names places.new.items }
+    ensures places { vec_len places.new ≡ 65536 }
+{
+    while let Some(claim) = claims.pop() {
+        match seat(&mut wanted, places, claim) {
+            None => {}
+            Some(other) => others.push_reserved(other),
+        }
+    }
+    claims.destroy_empty();
+}
+
+// The claim of a place, if it has one.
+fn unseated<C: Hold>(place: Place<C>) -> Option<C>
+    ensures { (slot : ℕ) → IsOf C.names slot place → MatchOption result (claims_in (kept_of place) ≡ 0) (λ claim. (C.names claim ≡ slot) × (claims_in (kept_of place) ≡ 1)) }
+{
+    match place {
+        Place::Free => None,
+        Place::Pending(claim) => Some(claim),
+        Place::Moving(_, claim) => Some(claim),
+        Place::Newest(_, claim) => Some(claim),
+        Place::Unmade(claim) => Some(claim),
+    }
+}
+
+// Takes the claims out of all places, from the last slot to the first.
+pub fn unseat_all<C: Hold>(mut places: Vec<Place<C>>, claims: &mut Vec<C>)
+    requires many { vec_len places ≡ 65536 }
+    requires of { AreOf C.names places.items }
+    requires none { vec_len claims.old ≡ 0 }
+    requires room { 65536 ≤ vec_capacity claims.old }
+    ensures { (slot : ℕ) → how_many C.names claims.new.items slot ≡ claims_in (slice_index_or (kepts_of places.items) slot Nothing) }
+{
+    while let Some(place) = places.pop() {
+        if let Some(claim) = unseated(place) {
+            claims.push_reserved(claim);
+        }
+    }
+    places.destroy_empty();
+}

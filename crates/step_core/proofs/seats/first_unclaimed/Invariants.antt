@@ -1,6 +1,0 @@
-use Rattle.std.proofs.Common.{ℕ, ◌<◌}
-use Rattle.step_core.specs.Adopted.{IsClaimed}
-use Rattle.step_core.proofs.seats.first_unclaimed.Given as goal
-
-abbrev pub invariant-loop-slot : goal.invariant-loop-slot
-invariant-loop-slot g l = (s : ℕ) → s < l.slot → IsClaimed g.C.Hold.names l.claims l.wanted s
