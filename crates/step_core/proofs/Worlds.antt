@@ -1,8 +1,9 @@
 -- A world's steps on its array, with the hands that go with them.
 use Rattle.std.proofs.Common.{◌≡◌, ℕ, ◌<◌, Bool, true, false, ◌&&◌, List, length, refl, sym, ap, ◌∙◌, subst, arith, ◌⊎◌, inl, inr, Option, Some, None, Contains}
 use Rattle.std.proofs.Math.ListN.{set}
-use Rattle.std.proofs.lemmas.List.{length-set, get_or-set_same, get_or-set_other}
+use Rattle.std.proofs.lemmas.List.{length-set, get_or-set_same, get_or-set_other, set-get_or}
 use Rattle.std.proofs.lemmas.Bool.{cases_eq}
+use Rattle.std.proofs.lemmas.Bool.Decides.{nat_tests}
 use Rattle.std.proofs.lemmas.Option.{same_Some}
 use Rattle.map_join.specs.declared.records.Record.{Record}
 use Rattle.map_join.specs.Record.{record_at, IsRecord}
@@ -31,7 +32,37 @@ use Rattle.array_model.proofs.Hands.{one_hand}
 use Rattle.array_model.proofs.Slots.{worker_hand, ticket_hand, block_hand, one_slot, shows_after}
 use Rattle.flat_machine.proofs.Holding.{step_holds, once_any}
 use Rattle.flat_machine.specs.History.{IsStep}
+use Rattle.slot_tables.proofs.Places.{set_twice}
 use Rattle.array_core.specs.Losing.{WasLost}
+use Rattle.step_core.specs.Passed.{given_old}
+
+-- a ticket that goes in at its slot, and the one that comes out of it put back; and a claim in a ticket's stead
+pub hands_kept : (old hands now : List Hand) (t s w : ℕ) → old ≡ hands → t ≡ s → now ≡ set old t (Waits w) → now ≡ set hands s (Waits w)
+hands_kept old hands now t s w same slot is = is ∙ ap (λ n. set old n (Waits w)) slot ∙ ap (λ (h : List Hand). set h s (Waits w)) same
+
+pub hands_back : (old hands gone now : List Hand) (t s w : ℕ) → old ≡ hands → gone ≡ set old s Empty → t ≡ s → is_ticket (hand_at hands s) w ≡ true → now ≡ set gone t (Waits w) → now ≡ hands
+hands_back old hands gone now t s w same out slot held is =
+    hands_kept gone (set hands s Empty) now t s w (out ∙ ap (λ (h : List Hand). set h s Empty) same) slot is
+    ∙ set_twice hands s Empty (Waits w) ∙ ap (λ (h : Hand). set hands s h) (waits_of (hand_at hands s) w held) ∙ set-get_or hands s Empty
+  where
+    waits_of : (h : Hand) (w : ℕ) → is_ticket h w ≡ true → Waits w ≡ h
+    waits_of Empty w e = absurd (cc)
+    waits_of (Holds u) w e = absurd (cc)
+    waits_of (Waits u) w e = let same : u ≡ w = grind (arith, nat_tests) in ap (λ n. Waits n) (sym same)
+
+pub hands_held : (old hands gone now : List Hand) (s w : ℕ) → old ≡ hands → gone ≡ set old s Empty → now ≡ set gone s (Holds w) → now ≡ set hands s (Holds w)
+hands_held old hands gone now s w same out is =
+    is ∙ ap (λ (h : List Hand). set h s (Holds w)) (out ∙ ap (λ (h : List Hand). set h s Empty) same) ∙ set_twice hands s Empty (Holds w)
+
+-- and the hands after a commit
+pub hands_passed : (old hands gone now : List Hand) (s w : ℕ) (found told : Option Record) → old ≡ hands → gone ≡ set old s Empty → found ≡ told → now ≡ given_old gone w found
+    → now ≡ passed_hands hands s w told
+hands_passed old hands gone now s w found told same out news is =
+    is ∙ ap (λ o. given_old gone w o) news ∙ ap (λ (h : List Hand). given_old h w told) (out ∙ ap (λ (h : List Hand). set h s Empty) same) ∙ by told
+  where
+    by : (o : Option Record) → given_old (set hands s Empty) w o ≡ passed_hands hands s w o
+    by None = refl
+    by (Some q) = refl
 
 -- a block of the array is one of the state's
 pub block_there : (v : WorldView) (F : Flat) (b : ℕ) → Represents v F → b < v.array.parts.groups.blocks → b < F.groups.blocks

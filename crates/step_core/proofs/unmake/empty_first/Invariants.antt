@@ -5,6 +5,6 @@ use Rattle.step_core.proofs.unmake.empty_first.Given as goal
 
 abbrev pub invariant-loop-index : goal.invariant-loop-index
 invariant-loop-index l = record {
-  value : (slot : ℕ) → hand_at l.hands.items slot ≡ emptied l.fn.group l.index slot (hand_at l.fn.hands.items slot);
-  many : length l.hands.items ≡ 65536;
+  value : (slot : ℕ) → hand_at l.hands slot ≡ emptied l.fn.group l.index slot (hand_at l.fn.hands slot);
+  many : length l.hands ≡ 65536;
 }

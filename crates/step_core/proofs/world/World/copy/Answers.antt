@@ -1,5 +1,6 @@
-use Rattle.std.proofs.Common.{rules, subst, sym, ap, ◌≡◌, ◌∙◌, true}
+use Rattle.std.proofs.Common.{List, rules, subst, sym, ap, ◌≡◌, ◌∙◌, true}
 use Rattle.std.proofs.Math.ListN.{set}
+use Rattle.array_model.specs.declared.hand.Hand.{Hand}
 use Rattle.array_model.specs.declared.hand.Hand.TheVariants.{Waits}
 use Rattle.flat_machine.specs.Steps.{Copy, Copied}
 use Rattle.flat_machine.specs.Cases.{CopyCase}
@@ -7,7 +8,7 @@ use Rattle.array_model.specs.Views.{ArrayView, WorldView, hand_at}
 use Rattle.array_model.specs.Represents.{ShowsArray, is_claim}
 use Rattle.array_model.proofs.Hands.{as_world}
 use Rattle.array_core.specs.Refused.{IsRefused}
-use Rattle.step_core.proofs.Worlds.{block_there, copy_world}
+use Rattle.step_core.proofs.Worlds.{block_there, hands_kept, copy_world}
 use Rattle.step_core.proofs.Refusals.{was_refused, refused_same, refused_sizes}
 use Rattle.step_core.proofs.world.World.copy.Goals as goal
 
@@ -19,8 +20,9 @@ returns-in-Ok-clause-ok c F rep =
     let array : c.self.inside.array ≡ v.array = ap (λ (u : WorldView). u.array) c.self.view_is in
     let held : is_claim (hand_at v.hands s) w ≡ true = search rules in
     let t = c.in-Ok.ensures.ticket in
-    as_world (λ G. CopyCase F w s c.args.block (Copied s) G) _ (record { array = c.copy.new.self; hands = set v.hands s (Waits w) }) (search rules)
-    (copy_world v F w s c.args.block c.copy.new.self (search rules) (search rules, block_there v F c.args.block rep c.requires) rep held c.in-Ok._ticket t.0
+    let kept = hands_kept c.self.inside.hands v.hands c.keep.new.self c.in-Ok.ticket s w (ap (λ (u : WorldView). u.hands) c.self.view_is) t.0 c.keep.ensures in
+    as_world (λ G. CopyCase F w s c.args.block (Copied s) G) _ (record { array = c.copy.new.self; hands = set v.hands s (Waits w) }) (ap (λ (h : List Hand). record { array = c.copy.new.self; hands = h }) kept)
+    (copy_world v F w s c.args.block c.copy.new.self (search rules) (search rules, block_there v F c.args.block rep c.requires) rep held c.in-Ok.ticket t.0
     (c.in-Ok.ensures.flat F w (subst (λ (a : ArrayView). ShowsArray a F) (sym array) rep.array)
     ((rep.hands s).claims w ∙ held)))
 

@@ -1,6 +1,7 @@
 use Rattle.flat_machine.specs.Flat.{Payload}
-use Rattle.std.proofs.Common.{rules, subst, sym, ap, ◌≡◌, ◌∙◌, true}
+use Rattle.std.proofs.Common.{List, rules, subst, sym, ap, ◌≡◌, ◌∙◌, true}
 use Rattle.std.proofs.Math.ListN.{set}
+use Rattle.array_model.specs.declared.hand.Hand.{Hand}
 use Rattle.array_model.specs.declared.hand.Hand.TheVariants.{Waits}
 use Rattle.flat_machine.specs.Steps.{Fill, Filled}
 use Rattle.flat_machine.specs.Cases.{FillCase}
@@ -8,7 +9,7 @@ use Rattle.array_model.specs.Views.{ArrayView, WorldView, hand_at}
 use Rattle.array_model.specs.Represents.{ShowsArray, is_claim}
 use Rattle.array_model.proofs.Hands.{as_world}
 use Rattle.array_core.specs.Refused.{IsRefused}
-use Rattle.step_core.proofs.Worlds.{fill_world}
+use Rattle.step_core.proofs.Worlds.{hands_kept, fill_world}
 use Rattle.step_core.proofs.Refusals.{was_refused, refused_same, refused_sizes}
 use Rattle.step_core.proofs.world.World.fill.Goals as goal
 use Rattle.extent_groups.specs.Groups.{Groups}
@@ -19,8 +20,9 @@ returns-in-Ok-clause-ok c F rep =
     let s = c.args.slot in
     let x = Payload c.args.payload.now in
     let held : is_claim (hand_at c.args.self.now.hands s) w ≡ true = search rules in
-    as_world (λ G. FillCase F w s x (Filled s) G) _ (record { array = c.fill.new.self; hands = set c.args.self.now.hands s (Waits w) }) (search rules)
-    (fill_world c.args.self.now F w s x c.fill.new.self (search rules) (search rules, c.requires ∙ ap (λ (z : Groups). z.payload) (sym rep.array.tables.groups)) rep held c.in-Ok._ticket (search rules)
+    let kept = hands_kept c.self.inside.hands c.args.self.now.hands c.keep.new.self c.in-Ok.ticket s w (ap (λ (u : WorldView). u.hands) c.self.view_is) c.in-Ok.ensures.ticket.0 c.keep.ensures in
+    as_world (λ G. FillCase F w s x (Filled s) G) _ (record { array = c.fill.new.self; hands = set c.args.self.now.hands s (Waits w) }) (ap (λ (h : List Hand). record { array = c.fill.new.self; hands = h }) kept)
+    (fill_world c.args.self.now F w s x c.fill.new.self (search rules) (search rules, c.requires ∙ ap (λ (z : Groups). z.payload) (sym rep.array.tables.groups)) rep held c.in-Ok.ticket (search rules)
     (c.in-Ok.ensures.flat F w (subst (λ (a : ArrayView). ShowsArray a F) (sym (ap (λ (v : WorldView). v.array) c.self.view_is)) rep.array)
     ((rep.hands s).claims w ∙ held)))
 

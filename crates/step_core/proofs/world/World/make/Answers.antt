@@ -18,7 +18,7 @@ returns c =
     let class = c.args.class in
     let members = c.args.members.now in
     let array : c.self.inside.array ≡ v.array = ap (λ (u : WorldView). u.array) c.self.view_is in
-    let new : WorldView = record { array = a; hands = c.self.inside.hands.items } in
+    let new : WorldView = record { array = a; hands = c.self.inside.hands } in
     let is : new ≡ record { array = a; hands = v.hands } = ap (λ (u : WorldView). record { array = a; hands = u.hands }) c.self.view_is in
     let shows : (F : Flat) → Represents v F → ShowsArray c.self.inside.array F = λ F rep. subst (λ (x : ArrayView). ShowsArray x F) (sym array) rep.array in
     elim c.match-make_group.branch [
