@@ -14,8 +14,8 @@ use Rattle.array_model.specs.Adopted.{HasParts, IsAdopted}
 use Rattle.array_model.specs.Represents.{ShowsArray}
 use Rattle.array_model.specs.Views.{ArrayView}
 use Rattle.step_core.specs.Adopted.{IsUnclaimed, IsIdle}
-use Rattle.step_core.specs.declared.adopt.NotAdopted.{NotAdopted}
-use Rattle.step_core.specs.declared.adopt.NotAdopted.TheVariants as adopted
+use Rattle.step_core.specs.NotAdopted.{NotAdopted}
+use Rattle.step_core.specs.NotAdopted.TheVariants as adopted
 use Rattle.header_scan.specs.Faults.{between, AreFine, IsFirstFault, IsTwice}
 use Rattle.header_scan.specs.declared.fault.ScanFault.{ScanFault}
 use Rattle.header_scan.specs.declared.fault.ScanFault.TheVariants.{Memory, NoClaim}
