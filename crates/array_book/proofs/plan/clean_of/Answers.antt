@@ -10,4 +10,4 @@ clean_plan_counted-requires g c =
     let array = c.kept.inside.array in
     let counts = c.live_counts.result.now in
     let kept = kept_counts array.parts.groups (key_at array) counts c.live_counts.ensures.many c.live_counts.ensures.each in
-    subst (λ (t : Groups). AreLiveCounts t (key_at array) counts) (sym c.groups.ensures) kept
+    subst (λ (t : Groups). AreLiveCounts t (key_at array) counts) (sym c.groups-groups.ensures) kept
