@@ -4,7 +4,7 @@ ghost use Rattle.std.specs.Prelude.{◌≡◌, ◌<◌, MatchOption, IfOk};
 use crate::asks::Running;
 use crate::claim::Sizes;
 use crate::kept::Kept;
-use cleaner::{Move, clean_plan, plug_plan};
+use cleaner::{Move, clean_plan_counted, plug_plan_counted};
 use extents::Drive;
 use migrator::{Free, append_slots, first_append, wants_demotion};
 use slot_words::Naming;
@@ -110,16 +110,29 @@ fn slots_behind<D: Drive, N: Naming + Sizes>(
 
 // A hole that can be plugged.
 fn plug_of<D: Drive, N: Naming + Sizes>(kept: &Kept<D, N>) -> Option<Move> {
-    let running = Running { array: &kept.array };
-    plug_plan(kept.array.groups(), &running, kept.end.group())
+    let array = &kept.array;
+    let running = Running { array };
+    plug_plan_counted(
+        array.groups(),
+        &running,
+        array.live_counts(),
+        kept.end.group(),
+    )
 }
 
 // A group that can be cleaned.
 fn clean_of<D: Drive, N: Naming + Sizes>(kept: &Kept<D, N>) -> Option<Move> {
-    let running = Running { array: &kept.array };
-    let groups = kept.array.groups();
+    let array = &kept.array;
+    let running = Running { array };
+    let groups = array.groups();
     let append = first_append(&kept.end, groups, &running, &Any);
-    clean_plan(groups, &running, kept.end.group(), append)
+    clean_plan_counted(
+        groups,
+        &running,
+        array.live_counts(),
+        kept.end.group(),
+        append,
+    )
 }
 
 // Every slot, held or not.

@@ -19,6 +19,15 @@ impl<D: Drive, C: Hold> Array<D, C> {
     {
         self.live[usize::from(group)]
     }
+
+    /// How many of each group's slots are newest places of blocks; none is looked at or copied.
+    pub fn live_counts(&self) -> &[u16; GROUPS]
+        ensures many { length result.now ≡ 512 }
+        ensures each { (group : ℕ) → group < 512 → (slots : ℕ) → slots_in self.now.parts.groups.segments (group_at self.now.parts.groups group) ≤ slots
+            → IsLiveCount (key_at self.now) group slots (slice_index result.now group) }
+    {
+        &self.live
+    }
 }
 
 // One more newest place in the slot's group.

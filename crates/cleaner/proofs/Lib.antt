@@ -1,3 +1,4 @@
 pub mod Best
 pub mod Counting
 pub mod Planning
+pub mod Tabled

@@ -12,10 +12,13 @@ pub record IsMost (offers : ℕ → ℕ → Type 0) (group live : ℕ) : Type 0 
   pub offered : offers group live
   pub best : (other count : ℕ) → offers other count → (count < live) ⊎ ((live ≡ count) × (group ≤ other))
 
--- how many live slots a group is offered with, or none where it isn't offered
-abbrev pub IsOffered : (ℕ → Type 0) → Option ℕ → Type 0
-IsOffered offers None = (count : ℕ) → offers count → ⊥
-IsOffered offers (Some live) = (offers live) × ((count : ℕ) → offers count → count ≡ live)
+-- these are some live slots, and a group is offered with no other number of them
+abbrev pub IsAlone : (ℕ → Type 0) → ℕ → Type 0
+IsAlone offers live = (count : ℕ) → offers count → (count ≡ live) × (0 < count)
+
+-- a group is offered
+abbrev pub IsOffered : (ℕ → Type 0) → Type 0
+IsOffered offers = (count : ℕ) × offers count
 
 -- the best of the groups below a bound, for loops
 pub record IsFewestTo (offers : ℕ → ℕ → Type 0) (bound group live : ℕ) : Type 0 where
@@ -36,11 +39,11 @@ abbrev pub IsMostBelow : (ℕ → ℕ → Type 0) → ℕ → Option Counted →
 IsMostBelow offers bound None = (other count : ℕ) → other < bound → offers other count → ⊥
 IsMostBelow offers bound (Some c) = IsMostTo offers bound c.group c.live
 
--- these are fewer, or more, than those of the best so far, if there is one
+-- these are some, and fewer, or more, than those of the best so far, if there is one
 abbrev pub IsFewer : ℕ → Option Counted → Type 0
-IsFewer live None = Unit {0}
-IsFewer live (Some best) = live < best.live
+IsFewer live None = 0 < live
+IsFewer live (Some best) = (0 < live) × (live < best.live)
 
 abbrev pub IsMore : ℕ → Option Counted → Type 0
-IsMore live None = Unit {0}
+IsMore live None = 0 < live
 IsMore live (Some best) = best.live < live

@@ -1,5 +1,5 @@
 -- Live slots and holes of parity groups.
-use Rattle.std.specs.Prelude.{◌≡◌, ℕ, ◌/◌, ◌≤◌, Some}
+use Rattle.std.specs.Prelude.{◌≡◌, ℕ, ◌/◌, ◌<◌, ◌≤◌, Some, List, length, slice_index}
 use Rattle.map_join.specs.Lists.{IsCount}
 use Rattle.map_join.specs.Live.{IsLive}
 use Rattle.extent_groups.specs.declared.class.Class.TheVariants.{Parity}
@@ -22,6 +22,16 @@ pub record IsHoleOf (groups : Groups) (keys : ℕ → ℕ) (group slot : ℕ) : 
 pub record HasLive (groups : Groups) (keys : ℕ → ℕ) (group live : ℕ) : Type 0 where
   pub made : class_in (group_at groups group) ≡ Some Parity
   pub count : IsCount (IsLiveOf groups keys group) live
+
+-- a table of the 512 groups that tells how many slots of each made parity group are live
+pub record AreLiveCounts (groups : Groups) (keys : ℕ → ℕ) (counts : List ℕ) : Type 0 where
+  pub many : length counts ≡ 512
+  pub each : (group : ℕ) → group < 512 → class_in (group_at groups group) ≡ Some Parity → HasLive groups keys group (slice_index counts group)
+
+-- a made parity group, and how many of its slots are live by the table
+pub record HasCount (groups : Groups) (counts : List ℕ) (group live : ℕ) : Type 0 where
+  pub made : class_in (group_at groups group) ≡ Some Parity
+  pub count : slice_index counts group ≡ live
 
 -- the lowest number that is so
 pub record IsLowest (P : ℕ → Type 0) (n : ℕ) : Type 0 where

@@ -1,3 +1,4 @@
 pub mod Counts
 pub mod Choosing
 pub mod Plans
+pub mod Offered

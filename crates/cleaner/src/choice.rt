@@ -1,6 +1,6 @@
 // The group of fewest or of most live slots, of those that are offered.
 ghost use Rattle.std.specs.Prelude.{◌≡◌, ◌↔◌, ℕ, ◌+◌, ◌<◌, IsTrue};
-ghost use Rattle.cleaner.specs.Choosing.{IsOffered, IsFewestBelow, IsMostBelow, IsFewer, IsMore};
+ghost use Rattle.cleaner.specs.Choosing.{IsAlone, IsOffered, IsFewestBelow, IsMostBelow, IsFewer, IsMore};
 
 use extent_groups::GROUPS;
 
@@ -16,10 +16,15 @@ pub(crate) trait Offers {
     /// A group may be chosen, and has so many live slots.
     ghost offers: { Self → ℕ → ℕ → Type 0 };
 
-    /// The group's live slots, where it may be chosen.
-    fn offered(&self, group: u16) -> Option<u16>
+    /// The group's live slots, at least one, if it may be chosen.
+    fn live(&self, group: u16) -> u16
         requires { group < 512 }
-        ensures { IsOffered (offers self.now group) result };
+        ensures { IsAlone (offers self.now group) result };
+
+    /// Whether the group may be chosen.
+    fn is_offered(&self, group: u16) -> bool
+        requires { group < 512 }
+        ensures { IsTrue result ↔ IsOffered (offers self.now group) };
 }
 
 // The group of fewest live slots, the lowest of those alike.
@@ -39,10 +44,11 @@ fn or_fewer<O: Offers>(offers: &O, group: u16, best: Option<Counted>) -> Option<
     requires best { IsFewestBelow (O.offers offers.now) group best }
     ensures { IsFewestBelow (O.offers offers.now) (group + 1) result }
 {
-    let Some(live) = offers.offered(group) else {
+    let live = offers.live(group);
+    if !is_fewer(live, best) {
         return best;
-    };
-    if is_fewer(live, best) {
+    }
+    if offers.is_offered(group) {
         return Some(Counted { group, live });
     }
     best
@@ -65,31 +71,32 @@ fn or_more<O: Offers>(offers: &O, group: u16, best: Option<Counted>) -> Option<C
     requires best { IsMostBelow (O.offers offers.now) group best }
     ensures { IsMostBelow (O.offers offers.now) (group + 1) result }
 {
-    let Some(live) = offers.offered(group) else {
+    let live = offers.live(group);
+    if !is_more(live, best) {
         return best;
-    };
-    if is_more(live, best) {
+    }
+    if offers.is_offered(group) {
         return Some(Counted { group, live });
     }
     best
 }
 
-// Whether these are fewer than those of the best so far, if there is one.
+// Whether these are some, and fewer than those of the best so far, if there is one.
 fn is_fewer(live: u16, best: Option<Counted>) -> bool
     ensures { IsTrue result ↔ IsFewer live best }
 {
     match best {
-        Some(best) => live < best.live,
-        None => true,
+        Some(best) => live != 0 && live < best.live,
+        None => live != 0,
     }
 }
 
-// Whether these are more than those of the best so far, if there is one.
+// Whether these are some, and more than those of the best so far, if there is one.
 fn is_more(live: u16, best: Option<Counted>) -> bool
     ensures { IsTrue result ↔ IsMore live best }
 {
     match best {
         Some(best) => live > best.live,
-        None => true,
+        None => live != 0,
     }
 }

@@ -1,11 +1,12 @@
 // Where nothing can be plugged, the emptiest group is cleaned; a group without live slots is empty.
 ghost use Rattle.std.specs.Prelude.{◌↔◌, ◌<◌, IsTrue};
+ghost use Rattle.cleaner.specs.Counts.{AreLiveCounts};
 ghost use Rattle.cleaner.specs.Plans.{IsCleanPlan, IsEmpty, IsEmptyGroup};
 
 use crate::choice::fewest;
-use crate::counts::{Holed, live_of};
+use crate::counts::{Holed, counts_of, live_of};
 use crate::slots::lowest_live;
-use crate::{Move, plug_plan};
+use crate::{Move, plug_plan_counted};
 use extent_groups::{GROUPS, GroupTable, SLOTS};
 use map_join::Live;
 
@@ -19,14 +20,29 @@ pub fn clean_plan<L: Live>(
 ) -> Option<Move>
     ensures { IsCleanPlan groups.now (L.keys live.now) write append result }
 {
+    clean_plan_counted(groups, live, &counts_of(groups, live), write, append)
+}
+
+/// The same plan, by counts of each group's live slots that were kept as blocks moved: of the slots, only those of the
+/// groups that are chosen are looked at.
+pub fn clean_plan_counted<L: Live>(
+    groups: &GroupTable,
+    live: &L,
+    counts: &[u16; GROUPS],
+    write: Option<u16>,
+    append: Option<u16>,
+) -> Option<Move>
+    requires { AreLiveCounts groups.now (L.keys live.now) counts.now }
+    ensures { IsCleanPlan groups.now (L.keys live.now) write append result }
+{
     let _members = groups.members(0);
-    match plug_plan(groups, live, write) {
+    match plug_plan_counted(groups, live, counts, write) {
         Some(_) => return None,
         None => {}
     }
     let Some(cleaned) = fewest(&Holed {
         groups,
-        live,
+        counts,
         write,
     }) else {
         return None;

@@ -1,12 +1,12 @@
-// How many slots of a parity group are live.
+// How many slots of each parity group are live, and the groups that are chosen from by these counts.
 ghost use Rattle.std.specs.Prelude.{◌≡◌, ℕ, ◌<◌, ◌≤◌, MatchOption, Some, length};
 ghost use Rattle.extent_groups.specs.declared.class.Class.TheVariants.{Parity};
-ghost use Rattle.extent_groups.specs.Groups.{group_at, class_in, slots_in};
-ghost use Rattle.cleaner.specs.Counts.{HasLive};
-ghost use Rattle.cleaner.specs.Plans.{IsHoled, IsSource};
+ghost use Rattle.extent_groups.specs.Groups.{group_at, class_in};
+ghost use Rattle.cleaner.specs.Counts.{HasLive, AreLiveCounts};
+ghost use Rattle.cleaner.specs.Offered.{IsHoledBy, IsSourceBy};
 
 use crate::choice::{Counted, Offers};
-use extent_groups::{Class, GroupTable};
+use extent_groups::{Class, GROUPS, GroupTable};
 use map_join::Live;
 
 // The live slots of a group, none where it isn't a made parity group.
@@ -22,48 +22,69 @@ pub(crate) fn live_of<L: Live>(groups: &GroupTable, live: &L, group: u16) -> Opt
     Some(live.count_live(group, groups.slots_of(group)))
 }
 
+// The live slots of each parity group.
+pub(crate) fn counts_of<L: Live>(groups: &GroupTable, live: &L) -> [u16; GROUPS]
+    ensures { AreLiveCounts groups.now (L.keys live.now) result }
+{
+    let mut counts = [0; GROUPS];
+    for group in 0..GROUPS as u16 {
+        if let Some(count) = live_of(groups, live, group) {
+            counts[usize::from(group)] = count;
+        }
+    }
+    counts
+}
+
 /// The parity groups, but not the write group, with a live slot and a hole.
 #[derive(Drop)]
-pub(crate) struct Holed<'a, L> {
+pub(crate) struct Holed<'a> {
     pub(crate) groups: &'a GroupTable,
-    pub(crate) live: &'a L,
+    pub(crate) counts: &'a [u16; GROUPS],
     pub(crate) write: Option<u16>,
 }
 
-impl<'a, L: Live> Offers for Holed<'a, L> {
-    ghost offers = { λ h group count. IsHoled h.groups.now (L.keys h.live.now) h.write group count };
+impl<'a> Offers for Holed<'a> {
+    ghost offers = { λ h group count. IsHoledBy h.groups.now h.counts.now h.write group count };
 
-    fn offered(&self, group: u16) -> Option<u16> {
+    fn live(&self, group: u16) -> u16 {
+        self.counts[usize::from(group)]
+    }
+
+    fn is_offered(&self, group: u16) -> bool {
         if self.write == Some(group) {
-            return None;
+            return false;
         }
-        let live = live_of(self.groups, self.live, group)?;
-        if live == 0 || live >= self.groups.slots_of(group) {
-            return None;
+        if self.groups.class_of(group) != Some(Class::Parity) {
+            return false;
         }
-        Some(live)
+        let live = self.counts[usize::from(group)];
+        live != 0 && live < self.groups.slots_of(group)
     }
 }
 
 /// The parity groups, but not the target, with a live slot and no more than the target has.
 #[derive(Drop)]
-pub(crate) struct Sources<'a, L> {
+pub(crate) struct Sources<'a> {
     pub(crate) groups: &'a GroupTable,
-    pub(crate) live: &'a L,
+    pub(crate) counts: &'a [u16; GROUPS],
     pub(crate) target: Counted,
 }
 
-impl<'a, L: Live> Offers for Sources<'a, L> {
-    ghost offers = { λ s group count. IsSource s.groups.now (L.keys s.live.now) s.target.group s.target.live group count };
+impl<'a> Offers for Sources<'a> {
+    ghost offers = { λ s group count. IsSourceBy s.groups.now s.counts.now s.target.group s.target.live group count };
 
-    fn offered(&self, group: u16) -> Option<u16> {
+    fn live(&self, group: u16) -> u16 {
+        self.counts[usize::from(group)]
+    }
+
+    fn is_offered(&self, group: u16) -> bool {
         if group == self.target.group {
-            return None;
+            return false;
         }
-        let live = live_of(self.groups, self.live, group)?;
-        if live == 0 || live > self.target.live {
-            return None;
+        if self.groups.class_of(group) != Some(Class::Parity) {
+            return false;
         }
-        Some(live)
+        let live = self.counts[usize::from(group)];
+        live != 0 && live <= self.target.live
     }
 }

@@ -8,6 +8,6 @@ mod moves;
 mod plug;
 mod slots;
 
-pub use clean::{clean_plan, empty_group};
+pub use clean::{clean_plan, clean_plan_counted, empty_group};
 pub use moves::Move;
-pub use plug::plug_plan;
+pub use plug::{plug_plan, plug_plan_counted};

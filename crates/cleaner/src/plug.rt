@@ -1,11 +1,12 @@
 // A hole of the fullest group is plugged from the emptiest.
+ghost use Rattle.cleaner.specs.Counts.{AreLiveCounts};
 ghost use Rattle.cleaner.specs.Plans.{IsPlugPlan};
 
 use crate::Move;
 use crate::choice::{fewest, most};
-use crate::counts::{Holed, Sources};
+use crate::counts::{Holed, Sources, counts_of};
 use crate::slots::{lowest_hole, lowest_live};
-use extent_groups::GroupTable;
+use extent_groups::{GROUPS, GroupTable};
 use map_join::Live;
 
 /// The move that fills the lowest hole of the fullest parity group with one, but the write group, from the emptiest
@@ -13,17 +14,31 @@ use map_join::Live;
 pub fn plug_plan<L: Live>(groups: &GroupTable, live: &L, write: Option<u16>) -> Option<Move>
     ensures { IsPlugPlan groups.now (L.keys live.now) write result }
 {
+    plug_plan_counted(groups, live, &counts_of(groups, live), write)
+}
+
+/// The same plan, by counts of each group's live slots that were kept as blocks moved: of the slots, only those of the two
+/// groups that are chosen are looked at.
+pub fn plug_plan_counted<L: Live>(
+    groups: &GroupTable,
+    live: &L,
+    counts: &[u16; GROUPS],
+    write: Option<u16>,
+) -> Option<Move>
+    requires { AreLiveCounts groups.now (L.keys live.now) counts.now }
+    ensures { IsPlugPlan groups.now (L.keys live.now) write result }
+{
     let _members = groups.members(0);
     let Some(target) = most(&Holed {
         groups,
-        live,
+        counts,
         write,
     }) else {
         return None;
     };
     let Some(source) = fewest(&Sources {
         groups,
-        live,
+        counts,
         target,
     }) else {
         return None;

@@ -20,6 +20,10 @@ pub(crate) fn step(alloc: Global, line: &Words<'_>) -> Result<Step, Trouble> {
             drive: byte(first)?,
         }),
         "add" => Ok(Step::AddDrive),
+        "unmake" => Ok(Step::Unmake {
+            worker: byte(first)?,
+            group: short(second)?,
+        }),
         "move" => relocation(line),
         "mirrored" => make(alloc, Class::Mirrored, line),
         "parity" => make(alloc, Class::Parity, line),

@@ -1,5 +1,8 @@
 -- The live slots of a group, counted one after another.
-use Rattle.std.proofs.Common.{◌≡◌, ℕ, ◌+◌, ◌*◌, ◌%◌, ◌<◌, ◌≤◌, List, [], ◌∷◌, ◌++◌, length, refl, ap, ◌∙◌, subst, arith}
+use Rattle.std.proofs.Common.{◌≡◌, ℕ, ◌+◌, ◌*◌, ◌%◌, ◌<◌, ◌≤◌, List, [], ◌∷◌, ◌++◌, length, slice_index, refl, ap, ◌∙◌, subst, arith}
+use Rattle.cleaner.specs.Counts.{AreLiveCounts}
+use Rattle.cleaner.proofs.Counting.{live_counted}
+use Rattle.extent_groups.specs.Groups.{Groups, group_at, slots_in}
 use Rattle.std.proofs.lemmas.List.{length_push}
 use Rattle.map_join.specs.Lists.{ListsBelow}
 use Rattle.map_join.specs.Live.{IsLive, IsLiveIn, IsLiveCount}
@@ -37,3 +40,14 @@ counted_skip keys group slots index count dead h = (
 pub counted_all : (keys : ℕ → ℕ) (group slots index count : ℕ) → slots ≤ index → index ≤ 128 → IsCounted keys group slots index count → IsLiveCount keys group slots count
 counted_all keys group slots index count all few h =
     (h.0, below_all (IsLiveIn keys group slots) (128 * group + index) h.0 (λ n live. let own = live.own in let among = live.among in omega (arith, own, among, all)) h.1, h.2)
+
+-- the counts that an array keeps are those that a plan wants
+pub kept_counts : (groups : Groups) (keys : ℕ → ℕ) (counts : List ℕ) → length counts ≡ 512
+    → ((group : ℕ) → group < 512 → (slots : ℕ) → slots_in groups.segments (group_at groups group) ≤ slots → IsLiveCount keys group slots (slice_index counts group))
+    → AreLiveCounts groups keys counts
+kept_counts groups keys counts many each = record {
+  many = many;
+  each = λ group low made.
+      let slots = slots_in groups.segments (group_at groups group) in
+      live_counted groups keys group slots (slice_index counts group) made refl (each group low slots (omega arith));
+}

@@ -14,7 +14,7 @@ ghost use Rattle.tiering.specs.Tiered.{Tiered};
 
 use crate::asks::{Any, Running};
 use crate::{Outcome, Tiers};
-use cleaner::{Move, clean_plan, plug_plan};
+use cleaner::{Move, clean_plan_counted, plug_plan_counted};
 use migrator::{LogEnd, first_append};
 use std::alloc::{AllocError, Global};
 
@@ -112,7 +112,13 @@ impl Tiers {
     {
         self.world.whole();
         let running = Running { world: &self.world };
-        plug_plan(self.world.array().groups(), &running, self.end.group())
+        let array = self.world.array();
+        plug_plan_counted(
+            array.groups(),
+            &running,
+            array.live_counts(),
+            self.end.group(),
+        )
     }
 
     fn plan_clean(&self) -> Option<Move>
@@ -122,9 +128,15 @@ impl Tiers {
     {
         self.world.whole();
         let running = Running { world: &self.world };
-        let groups = self.world.array().groups();
-        let append = first_append(&self.end, groups, &running, &Any);
-        clean_plan(groups, &running, self.end.group(), append)
+        let array = self.world.array();
+        let append = first_append(&self.end, array.groups(), &running, &Any);
+        clean_plan_counted(
+            array.groups(),
+            &running,
+            array.live_counts(),
+            self.end.group(),
+            append,
+        )
     }
 }
 
