@@ -2,9 +2,9 @@ use Rattle.std.proofs.Common.{◌≤◌, sym, subst, get_or}
 use Rattle.map_join.specs.Live.{IsLiveCount}
 use Rattle.extent_groups.specs.Groups.{group_at, slots_in}
 use Rattle.array_model.specs.Views.{ArrayView, key_at}
-use Rattle.step_core.specs.Inside.{seen}
-use Rattle.step_core.proofs.Living.{live_counted}
-use Rattle.step_core.proofs.array.Array.live_counts.Goals as goal
+use Rattle.array_core.specs.Inside.{seen}
+use Rattle.array_core.proofs.Living.{live_counted}
+use Rattle.array_core.proofs.array.Array.live_counts.Goals as goal
 
 pub returns-clause-each : goal.returns-clause-each
 returns-clause-each g c group low slots enough =
