@@ -1,7 +1,8 @@
 #!/usr/bin/env python3
-"""Builds the program and one in plain Rust, times both on the same scripts, and prints the ratios of their speeds.
+"""Builds the program and one in plain Rust, runs both on the same scripts, and prints the ratios of their speeds and of their peak memory.
 
-Usage: bench/script/run.py. A ratio above 1 says that the proved program is the faster one.
+Usage: bench/script/run.py. A ratio of speeds above 1 says that the proved program is the faster one; a ratio of memory above 1, that
+it takes more.
 """
 
 import os
@@ -28,38 +29,42 @@ def build(folder):
 
 
 def run(program, script, answers):
-    """Processor seconds of one run, whose answers go to a file."""
+    """Processor seconds and peak memory in KB of one run, whose answers go to a file."""
     with open(script) as source, open(answers, "w") as target:
         child = subprocess.Popen(program, stdin=source, stdout=target)
         _, status, used = os.wait4(child.pid, 0)
     child.returncode = status
     if status != 0:
         sys.exit(f"{program}: status {status}")
-    return used.ru_utime + used.ru_stime
+    return used.ru_utime + used.ru_stime, used.ru_maxrss
 
 
 def main():
     folder = pathlib.Path(tempfile.mkdtemp(prefix="script_bench_"))
     programs = build(folder)
     script, answers = folder / "script", folder / "answers"
-    print("| Script | lines | proved, best (s) | plain Rust, best (s) | ratio of the best | ratio of the medians |")
-    print("|---|---|---|---|---|---|")
+    print("| Script | lines | proved, best (s) | plain Rust, best (s) | ratio of the best | ratio of the medians | proved (KB) | plain Rust (KB) | ratio of memory |")
+    print("|---|---|---|---|---|---|---|---|---|")
     for name, lines in WORKLOADS.items():
         text = lines()
         script.write_text("\n".join(text) + "\n")
         times = {program: [] for program in programs}
+        peaks = dict.fromkeys(programs, 0)
         said = set()
         for _ in range(ROUNDS):
             for program, words in programs.items():
-                times[program].append(run(words, script, answers))
+                spent, peak = run(words, script, answers)
+                times[program].append(spent)
+                peaks[program] = max(peaks[program], peak)
                 said.add(answers.read_bytes())
         if len(said) != 1:
             sys.exit(f"{name}: the programs differ")
         best = {program: min(spent) for program, spent in times.items()}
         middle = {program: statistics.median(spent) for program, spent in times.items()}
         told = [f"{spent:.3f}" for spent in best.values()]
-        ratios = [f"{found['plain Rust'] / found['proved']:.2f}" for found in (best, middle)]
-        print(f"| {name} | {len(text):,} | {' | '.join(told + ratios)} |")
+        told += [f"{found['plain Rust'] / found['proved']:.2f}" for found in (best, middle)]
+        told += [f"{peak:,}" for peak in peaks.values()] + [f"{peaks['proved'] / peaks['plain Rust']:.2f}"]
+        print(f"| {name} | {len(text):,} | {' | '.join(told)} |", flush=True)
 
 
 if __name__ == "__main__":
