@@ -29,14 +29,21 @@ def build(folder):
 
 
 def run(program, script, answers):
-    """Processor seconds and peak memory in KB of one run, whose answers go to a file."""
+    """Processor seconds of one run, whose answers go to a file."""
     with open(script) as source, open(answers, "w") as target:
         child = subprocess.Popen(program, stdin=source, stdout=target)
         _, status, used = os.wait4(child.pid, 0)
     child.returncode = status
     if status != 0:
         sys.exit(f"{program}: status {status}")
-    return used.ru_utime + used.ru_stime, used.ru_maxrss
+    return used.ru_utime + used.ru_stime
+
+
+def peak(program, script, told):
+    """Peak memory of one run in KB, as GNU time tells it. A child of this process would be told with this one's memory, while that is greater."""
+    with open(script) as source:
+        subprocess.run(["/usr/bin/time", "-f", "%M", "-o", told, *program], stdin=source, stdout=subprocess.DEVNULL, check=True)
+    return int(told.read_text())
 
 
 def main():
@@ -49,18 +56,16 @@ def main():
         text = lines()
         script.write_text("\n".join(text) + "\n")
         times = {program: [] for program in programs}
-        peaks = dict.fromkeys(programs, 0)
         said = set()
         for _ in range(ROUNDS):
             for program, words in programs.items():
-                spent, peak = run(words, script, answers)
-                times[program].append(spent)
-                peaks[program] = max(peaks[program], peak)
+                times[program].append(run(words, script, answers))
                 said.add(answers.read_bytes())
         if len(said) != 1:
             sys.exit(f"{name}: the programs differ")
         best = {program: min(spent) for program, spent in times.items()}
         middle = {program: statistics.median(spent) for program, spent in times.items()}
+        peaks = {program: peak(words, script, folder / "peak") for program, words in programs.items()}
         told = [f"{spent:.3f}" for spent in best.values()]
         told += [f"{found['plain Rust'] / found['proved']:.2f}" for found in (best, middle)]
         told += [f"{peak:,}" for peak in peaks.values()] + [f"{peaks['proved'] / peaks['plain Rust']:.2f}"]
