@@ -1,7 +1,8 @@
 #!/usr/bin/env python3
-"""Builds the program and one in plain Rust, times both on the same scripts, and prints the ratios of their speeds.
+"""Builds the program and one in plain Rust, runs both on the same scripts, and prints the ratios of their speeds and of their peak memory.
 
-Usage: bench/script/run.py. A ratio above 1 says that the proved program is the faster one.
+Usage: bench/script/run.py. A ratio of speeds above 1 says that the proved program is the faster one; a ratio of memory above 1, that
+it takes more.
 """
 
 import os
@@ -38,12 +39,19 @@ def run(program, script, answers):
     return used.ru_utime + used.ru_stime
 
 
+def peak(program, script, told):
+    """Peak memory of one run in KB, as GNU time tells it. A child of this process would be told with this one's memory, while that is greater."""
+    with open(script) as source:
+        subprocess.run(["/usr/bin/time", "-f", "%M", "-o", told, *program], stdin=source, stdout=subprocess.DEVNULL, check=True)
+    return int(told.read_text())
+
+
 def main():
     folder = pathlib.Path(tempfile.mkdtemp(prefix="script_bench_"))
     programs = build(folder)
     script, answers = folder / "script", folder / "answers"
-    print("| Script | lines | proved, best (s) | plain Rust, best (s) | ratio of the best | ratio of the medians |")
-    print("|---|---|---|---|---|---|")
+    print("| Script | lines | proved, best (s) | plain Rust, best (s) | ratio of the best | ratio of the medians | proved (KB) | plain Rust (KB) | ratio of memory |")
+    print("|---|---|---|---|---|---|---|---|---|")
     for name, lines in WORKLOADS.items():
         text = lines()
         script.write_text("\n".join(text) + "\n")
@@ -57,9 +65,11 @@ def main():
             sys.exit(f"{name}: the programs differ")
         best = {program: min(spent) for program, spent in times.items()}
         middle = {program: statistics.median(spent) for program, spent in times.items()}
+        peaks = {program: peak(words, script, folder / "peak") for program, words in programs.items()}
         told = [f"{spent:.3f}" for spent in best.values()]
-        ratios = [f"{found['plain Rust'] / found['proved']:.2f}" for found in (best, middle)]
-        print(f"| {name} | {len(text):,} | {' | '.join(told + ratios)} |")
+        told += [f"{found['plain Rust'] / found['proved']:.2f}" for found in (best, middle)]
+        told += [f"{peak:,}" for peak in peaks.values()] + [f"{peaks['proved'] / peaks['plain Rust']:.2f}"]
+        print(f"| {name} | {len(text):,} | {' | '.join(told)} |", flush=True)
 
 
 if __name__ == "__main__":

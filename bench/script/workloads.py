@@ -28,11 +28,11 @@ def parity(first, groups, drives, segments, loads):
     return lines, slots
 
 
-def writes(count, payload, blocks):
+def writes(count, payload, blocks, drives=16, extents=512, groups=256):
     """Fresh writes of blocks at random, each read once and its old place released."""
     chance = random.Random(1)
-    lines, slots, _ = mirrored(256, 16, 8)
-    lines.insert(0, f"array 16 512 8 {payload} {blocks}")
+    lines, slots, _ = mirrored(groups, drives, 8)
+    lines.insert(0, f"array {drives} {extents} 8 {payload} {blocks}")
     free, place = slots[:], {}
     chance.shuffle(free)
     for _ in range(count):
@@ -85,7 +85,10 @@ def maps(count):
 
 WORKLOADS = {
     "writes of 8 bytes": lambda: writes(180_000, 8, 4096),
+    "writes of 64 bytes": lambda: writes(90_000, 64, 4096),
+    "writes of 1,024 bytes": lambda: writes(30_000, 1024, 4096),
     "writes of 4,096 bytes": lambda: writes(8_000, 4096, 4096),
+    "writes of 65,536 bytes": lambda: writes(1_000, 65536, 600, 8, 64, 30),
     "copies": lambda: copies(180_000),
     "maps": lambda: maps(400_000),
 }

@@ -1,4 +1,5 @@
 pub mod UnitsIn
+pub mod Placed
 pub mod Setting
 pub mod Stamps
 pub mod Headers

@@ -6,6 +6,7 @@ mod header;
 mod mem_drive;
 mod shape;
 mod table;
+mod thin;
 
 pub use drive::{Drive, DriveLost};
 pub use header::{Header, HeaderFault};

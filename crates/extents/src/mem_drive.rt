@@ -4,6 +4,7 @@ ghost use Rattle.extents.specs.Units.{IsSized, loss, zero_units};
 ghost use Rattle.extents.specs.Condition.{is_gone, failures_of, after_call};
 ghost use Rattle.extents.specs.declared.shape.TheConstants.{HEADER_BYTES};
 
+use crate::thin::ThinUnits;
 use crate::{Drive, DriveLost, Shape};
 use std::alloc::{AllocError, Global};
 use std::marker::Model;
@@ -21,25 +22,19 @@ enum Condition {
     Burnt,
 }
 
-/// A drive in memory, with its units side by side in one allocation.
+/// A drive in memory. Its units have one allocation, of which those that were never written touch nothing.
 #[derive(Drop)]
 pub struct MemDrive {
-    size: usize,
-    count: u32,
-    bytes: Vec<u8>,
+    units: ThinUnits,
     condition: Condition,
 }
 
 impl Model for MemDrive {
-    ghost use Rattle.std.specs.Prelude.{◌≡◌, ◌*◌, ◌≤◌, ℕ, length};
-    ghost use Rattle.extents.specs.Units.{units_in};
     ghost use Rattle.extents.specs.Condition.{Held};
 
     ghost Value = { Held };
 
-    ghost view = { λ m. record { units = units_in m.size m.count m.bytes.items; condition = m.condition } };
-
-    ghost invariant = { λ m. (length m.bytes.items ≡ m.count * m.size) × (m.size ≤ 131072) };
+    ghost view = { λ m. record { units = m.units; condition = m.condition } };
 }
 
 impl MemDrive {
@@ -52,13 +47,9 @@ impl MemDrive {
         ensures units { IfOk result (λ m. m.units ≡ zero_units (HEADER_BYTES + shape.now.payload) (shape.now.extents * extent_units shape.now.segments)) }
         ensures present { IfOk result (λ m. m.condition ≡ Present) }
     {
-        let size = shape.unit_bytes();
-        let count = shape.drive_units();
-        let bytes = vec![in alloc; 0; count as usize * size]?;
+        let units = ThinUnits::new(alloc, shape.unit_bytes(), shape.drive_units())?;
         Ok(MemDrive {
-            size,
-            count,
-            bytes,
+            units,
             condition: Condition::Present,
         })
     }
@@ -67,7 +58,7 @@ impl MemDrive {
     pub fn unit_bytes(&self) -> usize
         ensures { IsSized result self.now.units }
     {
-        self.size
+        self.units.size()
     }
 
     /// Loses the drive, its units unread from then on.
@@ -113,22 +104,6 @@ fn spend(condition: &mut Condition) -> bool
     }
 }
 
-/// Puts a unit over the bytes from a place on.
-fn store(bytes: &mut [u8], start: usize, unit: &[u8])
-    requires { start + length unit.now ≤ length bytes.old }
-    ensures { bytes.new ≡ take start bytes.old ++ (unit.now ++ drop (start + length unit.now) bytes.old) }
-{
-    bytes[start..start + unit.len()].copy_from_slice(unit);
-}
-
-/// Reads the bytes from a place on into a unit.
-fn load(bytes: &[u8], start: usize, unit: &mut [u8])
-    requires { start + length unit.old ≤ length bytes.now }
-    ensures { unit.new ≡ take (length unit.old) (drop start bytes.now) }
-{
-    unit.copy_from_slice(&bytes[start..start + unit.len()]);
-}
-
 impl Drive for MemDrive {
     ghost units = { λ m. m.units };
 
@@ -137,7 +112,7 @@ impl Drive for MemDrive {
     ghost failures = { λ m. failures_of m.condition };
 
     fn units(&self) -> u32 {
-        self.count
+        self.units.count()
     }
 
     fn is_lost(&self) -> bool {
@@ -157,7 +132,7 @@ impl Drive for MemDrive {
         if !spend(&mut self.condition) {
             return Err(DriveLost);
         }
-        load(&self.bytes, at as usize * self.size, unit);
+        self.units.read(at, unit);
         Ok(())
     }
 
@@ -172,7 +147,7 @@ impl Drive for MemDrive {
         ensures condition { self.new.condition ≡ after_call self.old.condition }
     {
         if spend(&mut self.condition) {
-            store(&mut self.bytes, at as usize * self.size, unit);
+            self.units.write(at, unit);
             return Ok(());
         }
         Err(DriveLost)

@@ -1,6 +1,6 @@
 use Rattle.std.proofs.Common.{arith}
 use Rattle.std.proofs.lemmas.Grind.{common_steps}
-use Rattle.extents.proofs.mem_drive.store.Goals as goal
+use Rattle.extents.proofs.thin.store.Goals as goal
 
 pub returns : goal.returns
 returns c = grind (arith, common_steps)

@@ -1,0 +1,124 @@
+// The units of a drive in memory, of which those take memory that were written.
+ghost use Rattle.std.specs.Prelude.{◌≡◌, ◌+◌, ◌<◌, ◌≤◌, ◌++◌, ℕ, true, List, length, replicate, slice_get, slice_set, Some, take, drop, IfOk};
+ghost use Rattle.extents.specs.Units.{IsSized, zero_units};
+
+use std::alloc::{AllocError, Global};
+use std::marker::Model;
+
+/// So many units of one size. The memory for all of them is asked for at once, and a unit that was never written
+/// other than as zeros touches none of it: the units that were lie side by side, in the order of their first writes.
+#[derive(Drop)]
+pub struct ThinUnits {
+    size: usize,
+    count: u32,
+    stored: u32,
+    bytes: Vec<u8>,
+    /// Which of the stored units each one is, counted from 1; 0 for a unit of zeros.
+    places: Vec<u32>,
+}
+
+impl Model for ThinUnits {
+    ghost use Rattle.std.specs.Prelude.{List, ℕ, vec_capacity};
+    ghost use Rattle.extents.specs.Thin.{units_of, IsThin};
+
+    ghost Value = { List (List ℕ) };
+
+    ghost view = { λ u. units_of u.size u.stored u.bytes.items u.places.items };
+
+    ghost invariant = { λ u. IsThin u.size u.count u.stored (vec_capacity u.bytes) u.bytes.items u.places.items };
+}
+
+impl ThinUnits {
+    /// So many units of zeros; refused where memory is out.
+    pub fn new(alloc: Global, size: usize, count: u32) -> Result<ThinUnits, AllocError>
+        requires { size ≤ 131072 }
+        ensures { IfOk result (λ units. units ≡ zero_units size count) }
+    {
+        let places = vec![in alloc; 0; count as usize]?;
+        let bytes = Vec::with_capacity(alloc, count as usize * size)?;
+        Ok(ThinUnits {
+            size,
+            count,
+            stored: 0,
+            bytes,
+            places,
+        })
+    }
+
+    /// Bytes of each unit.
+    pub fn size(&self) -> usize
+        ensures { IsSized result self.now }
+    {
+        self.size
+    }
+
+    /// How many units there are.
+    pub fn count(&self) -> u32
+        ensures { result ≡ length self.now }
+    {
+        self.count
+    }
+
+    /// Reads a unit.
+    pub fn read(&self, at: u32, unit: &mut [u8])
+        requires at { at < length self.now }
+        requires size { IsSized (length unit.old) self.now }
+        ensures { slice_get self.now at ≡ Some unit.new }
+    {
+        let place = self.places[at as usize];
+        if place > 0 {
+            load(&self.bytes, (place - 1) as usize * self.size, unit);
+        } else {
+            unit.fill(0);
+        }
+    }
+
+    /// Writes a unit.
+    pub fn write(&mut self, at: u32, unit: &[u8])
+        requires at { at < length self.old }
+        requires size { IsSized (length unit.now) self.old }
+        ensures { self.new ≡ slice_set self.old at unit.now }
+    {
+        let place = self.places[at as usize];
+        if place > 0 {
+            store(&mut self.bytes, (place - 1) as usize * self.size, unit);
+            return;
+        }
+        if are_zeros(unit) {
+            return;
+        }
+        // There is room for it, since not all units are stored.
+        if let Ok(()) = self.bytes.extend_from_slice(unit) {
+            self.stored += 1;
+            self.places[at as usize] = self.stored;
+        }
+    }
+}
+
+/// Puts a unit over the bytes from a place on.
+fn store(bytes: &mut [u8], start: usize, unit: &[u8])
+    requires { start + length unit.now ≤ length bytes.old }
+    ensures { bytes.new ≡ take start bytes.old ++ (unit.now ++ drop (start + length unit.now) bytes.old) }
+{
+    bytes[start..start + unit.len()].copy_from_slice(unit);
+}
+
+/// Reads the bytes from a place on into a unit.
+fn load(bytes: &[u8], start: usize, unit: &mut [u8])
+    requires { start + length unit.old ≤ length bytes.now }
+    ensures { unit.new ≡ take (length unit.old) (drop start bytes.now) }
+{
+    unit.copy_from_slice(&bytes[start..start + unit.len()]);
+}
+
+/// Whether all bytes are zero.
+fn are_zeros(bytes: &[u8]) -> bool
+    ensures { result ≡ true → bytes.now ≡ replicate (length bytes.now) 0 }
+{
+    for at in 0..bytes.len() {
+        if bytes[at] != 0 {
+            return false;
+        }
+    }
+    true
+}
