@@ -12,10 +12,11 @@ import time
 TOP = pathlib.Path(__file__).resolve().parent.parent
 
 
-def lay_out(folder, here, program, stands_on, crates):
-    """Copies the crates and the program into a repository of their own."""
+def lay_out(folder, here, program, stands_on, crates, kept=False):
+    """Copies the crates and the program into a repository of their own, and, if told so, what is kept of the crates' proofs."""
+    passed_over = shutil.ignore_patterns() if kept else shutil.ignore_patterns("out")
     for name in crates:
-        shutil.copytree(TOP / "crates" / name, folder / "crates" / name, ignore=shutil.ignore_patterns("out"), dirs_exist_ok=True)
+        shutil.copytree(TOP / "crates" / name, folder / "crates" / name, ignore=passed_over, dirs_exist_ok=True)
     # The program's files end in .txt here, since the gate wants every file of code to be of a crate that it proves.
     for file in (here / program).rglob("*.txt"):
         to = folder / "crates" / program / file.relative_to(here / program).with_suffix("")
@@ -43,10 +44,11 @@ def seconds(program, line):
     return time.perf_counter() - start, said
 
 
-def compare(here, program, crates, works, rounds):
-    """Lays out and builds a program and the one in plain Rust, runs both on each line of work in turn, and prints a table of their times."""
+def compare(here, program, crates, works, rounds, stands_on=None, kept=False):
+    """Lays out and builds a program and the one in plain Rust, runs both on each line of work in turn, and prints a table of their
+    times. What the program stands on is all the crates, where nothing else is said."""
     folder = pathlib.Path(sys.argv[1] if len(sys.argv) > 1 else tempfile.mkdtemp(prefix=f"{program}_"))
-    lay_out(folder, here, program, " ".join(crates), crates)
+    lay_out(folder, here, program, stands_on or " ".join(crates), crates, kept)
     proved, plain = build(folder, here, program)
     print(f"{time.strftime('%Y-%m-%d')}, {os.cpu_count()} processors, {rounds} runs each, in turn")
     print("| Work | proved, best (s) | plain Rust, best (s) | ratio of the best | ratio of the medians |")

@@ -25,6 +25,7 @@ fn storms_agree_whichever_drive_is_lost_at_whichever_call(rt: HostRuntime) {
             let orders = Orders {
                 workers: 4,
                 writes: 20,
+                payload: 8,
                 fuse: Some(Fuse { drive, calls }),
             };
             let told = run_orders(&rt, rt.alloc(), orders);
@@ -38,4 +39,23 @@ fn sixteen_workers_can_be_had_and_no_more(rt: HostRuntime) {
     assert!(rt; run_storm(&rt, rt.alloc(), 16, 4) == Ok(Storm::Agreed));
     let full = StormFault::Setup(Refusal::Full);
     assert!(rt; run_storm(&rt, rt.alloc(), 17, 4) == Err(full));
+}
+
+#[test]
+fn storms_of_long_payloads_agree_and_of_odd_ones_there_are_none(rt: HostRuntime) {
+    for payload in [4_096, 65_536, 12, 0] {
+        let orders = Orders {
+            workers: 3,
+            writes: 20,
+            payload,
+            fuse: None,
+        };
+        let wanted = if payload < 4_096 {
+            Err(StormFault::Setup(Refusal::BadMember))
+        } else {
+            Ok(Storm::Agreed)
+        };
+        let told = run_orders(&rt, rt.alloc(), orders);
+        assert!(rt; told == wanted, "{payload} bytes");
+    }
 }

@@ -8,11 +8,12 @@ use std::alloc::Global;
 use std::sync::Wait;
 use std::thread::Threads;
 
-// How many workers play how many rounds.
+// How many workers play how many rounds, with payloads of how many bytes.
 #[derive(Clone, Copy)]
 pub(crate) struct Crew {
     pub(crate) workers: u8,
     pub(crate) writes: u32,
+    pub(crate) payload: u32,
 }
 
 // Runs the workers in threads, each with a part of what these hands have, and tells what all had; the hands come first.
@@ -32,6 +33,7 @@ pub(crate) fn run_all<
     let mut hired = hire(alloc, book, &mut hands, crew.workers)?;
     let rounds = Rounds {
         writes: crew.writes,
+        payload: crew.payload,
     };
     if let Err(fault) = run_workers(rt, alloc, &mut hired, &rounds) {
         return Err(StormFault::Run(fault));

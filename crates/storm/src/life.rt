@@ -5,7 +5,7 @@ ghost use Rattle.slot_words.specs.Places.{slots_of};
 
 use crate::crew::{Crew, run_all};
 use crate::outcome::{Storm, StormFault};
-use crate::setting::{BLOCKS, release_all, storm_array};
+use crate::setting::{BLOCKS, PAYLOAD, release_all, storm_array};
 use array_book::{Book, Claim, Ended, SettleFault, Settled, Sizes, settle};
 use extents::MemDrive;
 use flat_machine::Refusal;
@@ -29,10 +29,12 @@ pub struct Fuse {
 pub struct Orders {
     pub workers: u8,
     pub writes: u32,
+    /// Bytes of a payload: a multiple of 8, 8 to 65,536.
+    pub payload: u32,
     pub fuse: Option<Fuse>,
 }
 
-/// Runs so many workers, each with so many rounds, over an array of 16 blocks, and settles. It may wait.
+/// Runs so many workers, each with so many rounds, over an array of 16 blocks with payloads of 8 bytes, and settles. It may wait.
 pub fn run_storm<R: Threads + Wait + Sync>(
     rt: &R,
     alloc: Global,
@@ -45,12 +47,13 @@ pub fn run_storm<R: Threads + Wait + Sync>(
         Orders {
             workers,
             writes,
+            payload: PAYLOAD,
             fuse: None,
         },
     )
 }
 
-/// The same, where a drive may be lost meanwhile.
+/// The same, with payloads of so many bytes, where a drive may be lost meanwhile.
 pub fn run_orders<R: Threads + Wait + Sync>(
     rt: &R,
     alloc: Global,
@@ -83,7 +86,7 @@ fn play_out<
     orders: Orders,
 ) -> Result<Storm, StormFault>
     requires names { (slots ≡ N.table) × (even ≡ A.table) × (odd ≡ B.table) }
-    requires sizes { (N.blocks ≡ 16) × (N.payload ≡ 8) }
+    requires sizes { (N.blocks ≡ 16) × (N.payload ≡ orders.payload) }
     requires slots { slots_of slots ≡ 65536 }
     requires blocks { (blocks_of even ≡ 16) × (blocks_of odd ≡ 16) }
 {
@@ -91,7 +94,7 @@ fn play_out<
     let (even, one) = even.named::<A>();
     let (odd, other) = odd.named::<B>();
     let mut spare = words.split(&mut pass);
-    let book = open(alloc, words, (even, odd), &mut spare, orders.fuse)?;
+    let book = open(alloc, words, (even, odd), &mut spare, orders)?;
     let hands = Ended {
         pass,
         even: one,
@@ -100,6 +103,7 @@ fn play_out<
     let crew = Crew {
         workers: orders.workers,
         writes: orders.writes,
+        payload: orders.payload,
     };
     match run_all(rt, alloc, &book, hands, crew) {
         Ok(ended) => close(alloc, book, ended, &mut spare),
@@ -116,17 +120,17 @@ fn open<N: slot_words::Naming + Sizes, A: map_words::Naming, B: map_words::Namin
     words: SlotWords<N>,
     maps: (MapWords<A>, MapWords<B>),
     spare: &mut Pass<N>,
-    fuse: Option<Fuse>,
+    orders: Orders,
 ) -> Result<Book<MemDrive, N, A, B>, StormFault>
-    requires sizes { (N.blocks ≡ 16) × (N.payload ≡ 8) }
+    requires sizes { (N.blocks ≡ 16) × (N.payload ≡ orders.payload) }
     requires slots { slots_of N.table ≡ 65536 }
     requires blocks { (blocks_of A.table ≡ 16) × (blocks_of B.table ≡ 16) }
 {
-    let mut array = match storm_array(alloc, &words, spare) {
+    let mut array = match storm_array(alloc, &words, spare, orders.payload) {
         Ok(array) => array,
         Err(refusal) => return Err(StormFault::Setup(refusal)),
     };
-    if !is_fused(&mut array, fuse) {
+    if !is_fused(&mut array, orders.fuse) {
         release_all(&words, spare, array);
         return Err(StormFault::Setup(Refusal::BadMember));
     }

@@ -14,7 +14,7 @@ pub enum Storm {
 #[derive(Clone, Copy, Debug, PartialEq, Eq)]
 pub enum StormFault {
     /// There is no array, or there are no workers for it: `Full` where more are wanted than hands can be split for, `BadMember`
-    /// where the drive to be lost isn't one of the four.
+    /// where the drive to be lost isn't one of the four, or no payload has so many bytes.
     Setup(Refusal),
     Run(RunFault),
     /// Never `Differs`.

@@ -13,7 +13,7 @@ use step_core::{Array, TakeBack};
 /// How many blocks it has.
 pub(crate) const BLOCKS: u32 = 16;
 
-/// Bytes of a payload.
+/// Bytes of a payload, where nothing else is said.
 pub(crate) const PAYLOAD: u32 = 8;
 
 // How many drives it has.
@@ -42,16 +42,17 @@ pub(crate) fn release_all<N: Naming>(
     let _parts = array.end(&mut to);
 }
 
-// An array of four drives with two groups of each class.
+// An array of four drives with two groups of each class, and payloads of so many bytes.
 pub(crate) fn storm_array<N: Naming>(
     alloc: Global,
     words: &SlotWords<N>,
     pass: &mut Pass<N>,
+    payload: u32,
 ) -> Result<Array<MemDrive, Claim<N>>, Refusal>
     ensures shows { IfOk result (λ array. (F : Flat) × ShowsArray array F) }
-    ensures sizes { IfOk result (λ array. (array.parts.groups.blocks ≡ 16) × (array.parts.groups.payload ≡ 8)) }
+    ensures sizes { IfOk result (λ array. (array.parts.groups.blocks ≡ 16) × (array.parts.groups.payload ≡ payload)) }
 {
-    let Ok(shape) = Shape::new(8, 8, PAYLOAD, BLOCKS) else {
+    let Ok(shape) = Shape::new(8, 8, payload, BLOCKS) else {
         return Err(Refusal::BadMember);
     };
     let mut array = Array::in_memory(alloc, shape, DRIVES)?;

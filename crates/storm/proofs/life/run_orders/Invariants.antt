@@ -5,7 +5,7 @@ abbrev pub ghosts-play_out-N-Naming : goal.ghosts-play_out-N-Naming
 ghosts-play_out-N-Naming g a = record { table = a.slots }
 
 abbrev pub ghosts-play_out-N-Sizes : goal.ghosts-play_out-N-Sizes
-ghosts-play_out-N-Sizes g a = record { blocks = 16; payload = 8 }
+ghosts-play_out-N-Sizes g a = record { blocks = 16; payload = a.orders.payload }
 
 abbrev pub ghosts-play_out-A-Naming : goal.ghosts-play_out-A-Naming
 ghosts-play_out-A-Naming g a = record { table = a.even }
