@@ -1,6 +1,6 @@
 -- Units that are kept by their places: one of them, a write over a kept one, and a first write.
-use Rattle.std.proofs.Common.{◌≡◌, ◌≢◌, ℕ, zero, suc, ◌+◌, ◌*◌, ◌≤◌, ◌<◌, Option, Some, List, [], ◌∷◌, ◌++◌, length, take, drop, set, get_or, map, replicate, refl, sym, ◌∙◌, ap, subst, arith, length-drop, ◌⊎◌, inl, inr}
-use Rattle.std.proofs.Math.Seq.{get_or-append_seam}
+use Rattle.std.proofs.Common.{◌≡◌, ◌≢◌, ℕ, zero, suc, ◌+◌, ◌-◌, ◌*◌, ◌≤◌, ◌<◌, Option, Some, List, [], ◌∷◌, ◌++◌, length, take, drop, set, get_or, map, replicate, refl, sym, ◌∙◌, ap, subst, arith, length-drop, ◌⊎◌, inl, inr}
+use Rattle.std.proofs.Math.Seq.{get_or-append_seam, take-length}
 use Rattle.std.specs.Prelude.{slice_get, slice_set, slice_index_or, option_map}
 use Rattle.std.proofs.lemmas.List.{take-append-le, drop-append-le, length-take-le, length-map, map-set, length-replicate, get_or_append_left, get_or-set_same, get_or-set_other, get_or-replicate, length-set, set-get_or, length-append}
 use Rattle.std.proofs.lemmas.Option.{slice_get-map, slice_get-get_or, slice_get_within, same_Some}
@@ -243,3 +243,20 @@ module _ {size count stored capacity : ℕ} {bytes places : List ℕ} (thin : Is
           let lower = thin.below one number (sym (get_or-set_other places at one (suc stored) 0 a) ∙ p) in absurd (omega (arith, here, lower))
       apart_set one other number p q (inr a) (inr b) =
           thin.apart one other number (sym (get_or-set_other places at one (suc stored) 0 a) ∙ p) (sym (get_or-set_other places at other (suc stored) 0 b) ∙ q)
+
+-- a list whose first byte is zero, and whose every byte is the one before it, is all zeros
+zeros_along : (x : ℕ) (xs : List ℕ) → x ≡ 0 → take (length xs) (x ∷ xs) ≡ xs → (x ∷ xs) ≡ replicate (suc (length xs)) 0
+zeros_along x [] e h = ap (λ y. y ∷ []) e
+zeros_along x (y ∷ ys) e h =
+    let head : x ≡ y = ap (λ l. get_or l 0 0) h in
+    let tail : take (length ys) (y ∷ ys) ≡ ys = ap (drop 1) h in
+    let rest = zeros_along y ys (sym head ∙ e) tail in
+    rw (e, rest) refl
+
+pub zeros_by_shift : (bytes : List ℕ) → get_or bytes 0 0 ≡ 0 → take (length bytes - 1) bytes ≡ take (length bytes - 1) (drop 1 bytes)
+    → bytes ≡ replicate (length bytes) 0
+zeros_by_shift [] first same = refl
+zeros_by_shift (x ∷ xs) first same =
+    let one_less : suc (length xs) - 1 ≡ length xs = omega arith in
+    let shifted : take (length xs) (x ∷ xs) ≡ take (length xs) xs = subst (λ n. take n (x ∷ xs) ≡ take n xs) one_less same in
+    zeros_along x xs first (shifted ∙ take-length xs)

@@ -111,14 +111,13 @@ fn load(bytes: &[u8], start: usize, unit: &mut [u8])
     unit.copy_from_slice(&bytes[start..start + unit.len()]);
 }
 
-/// Whether all bytes are zero.
+/// Whether all bytes are zero: the first is, and each is as the one before it, which two slices tell at once.
 fn are_zeros(bytes: &[u8]) -> bool
     ensures { result ≡ true → bytes.now ≡ replicate (length bytes.now) 0 }
 {
-    for at in 0..bytes.len() {
-        if bytes[at] != 0 {
-            return false;
-        }
+    let count = bytes.len();
+    if count == 0 {
+        return true;
     }
-    true
+    bytes[0] == 0 && bytes[..count - 1] == bytes[1..]
 }
