@@ -23,3 +23,4 @@ bench:
 	python3 bench/exclusive_or/run.py
 	python3 bench/maps/run.py
 	python3 bench/script/run.py
+	python3 bench/storm/run.py

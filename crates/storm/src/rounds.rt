@@ -54,7 +54,10 @@ fn play<
     round: u32,
 ) -> Result<(), WorkFault> {
     let number = worker.number();
-    if worker.blocks() != BLOCKS || worker.payload() as usize != payload.len() || payload.len() < 8 {
+    if worker.blocks() != BLOCKS
+        || worker.payload() as usize != payload.len()
+        || payload.len() < 8
+    {
         return Err(WorkFault::NoRoom);
     }
     let block = (u32::from(number) + round % BLOCKS) % BLOCKS;
