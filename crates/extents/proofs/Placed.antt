@@ -96,13 +96,14 @@ none_kept (suc n) (suc at) number e = none_kept n at number e
 -- as they are at first
 pub thin_first : (size count capacity : ℕ) → size ≤ 131072 → count * size ≤ capacity → IsThin size count 0 capacity [] (replicate count 0)
 thin_first size count capacity small room = record {
-    small = small;
-    many = length-replicate count 0;
-    whole = omega arith;
-    room = room;
-    spare = omega (arith, all_blank count);
-    below = λ at number e. absurd (none_kept count at number e);
-    apart = λ at by number e. absurd (none_kept count at number e) }
+  small = small;
+  many = length-replicate count 0;
+  whole = omega arith;
+  room = room;
+  spare = omega (arith, all_blank count);
+  below = λ at number e. absurd (none_kept count at number e);
+  apart = λ at by number e. absurd (none_kept count at number e);
+}
 
 -- ---- the units of places
 
@@ -164,11 +165,11 @@ module _ {size count stored capacity : ℕ} {bytes places : List ℕ} (thin : Is
       let kept = units_in size stored bytes in
       let inside : number < length kept = subst (λ n. number < n) (sym (length-units_in size stored bytes)) below in
       let now : units_in size stored (take start bytes ++ (unit ++ drop (start + length unit) bytes)) ≡ set kept number unit =
-          units_in-written size stored number start bytes unit below s (omega (arith, thin.whole)) l in
+      units_in-written size stored number start bytes unit below s (omega (arith, thin.whole)) l in
       ap (λ k. map (unit_of size k) places) now
       ∙ map_but_one (unit_of size kept) (unit_of size (set kept number unit)) places at unit h
-        (ap (unit_of size (set kept number unit)) e ∙ get_or-set_same kept number unit [] inside)
-        (λ j within other. at_other j (get_or places j 0) refl other)
+      (ap (unit_of size (set kept number unit)) e ∙ get_or-set_same kept number unit [] inside)
+      (λ j within other. at_other j (get_or places j 0) refl other)
     where
       at_other : (j place : ℕ) → get_or places j 0 ≡ place → j ≢ at
           → unit_of size (set (units_in size stored bytes) number unit) place ≡ unit_of size (units_in size stored bytes) place
@@ -191,7 +192,7 @@ module _ {size count stored capacity : ℕ} {bytes places : List ℕ} (thin : Is
       let kept = units_in size stored bytes in
       let now : units_in size (suc stored) (bytes ++ unit) ≡ kept ++ unit ∷ [] = units_in-more size stored bytes unit thin.whole l in
       let last : get_or (kept ++ unit ∷ []) stored [] ≡ unit =
-          subst (λ n. get_or (kept ++ unit ∷ []) n [] ≡ unit) (length-units_in size stored bytes) (get_or-append_seam kept unit [] []) in
+      subst (λ n. get_or (kept ++ unit ∷ []) n [] ≡ unit) (length-units_in size stored bytes) (get_or-append_seam kept unit [] []) in
       ap (λ k. map (unit_of size k) (set places at (suc stored))) now
       ∙ map-set (unit_of size (kept ++ unit ∷ [])) places at (suc stored)
       ∙ ap (λ u. set (map (unit_of size (kept ++ unit ∷ [])) places) at u) last
@@ -216,22 +217,25 @@ module _ {size count stored capacity : ℕ} {bytes places : List ℕ} (thin : Is
   pub thin_more : (at capacity_now : ℕ) (unit : List ℕ) → at < length places → get_or places at 0 ≡ 0 → length unit ≡ size → capacity ≤ capacity_now
       → IsThin size count (suc stored) capacity_now (bytes ++ unit) (slice_set places at (suc stored))
   thin_more at capacity_now unit h e l more = record {
-      small = thin.small;
-      many = length-set places at (suc stored) ∙ thin.many;
-      whole = omega (arith, thin.whole, l, length-append bytes unit);
-      room = omega (arith, thin.room, more);
-      spare = omega (arith, thin.spare, blank_less places at (stored) h e);
-      below = λ by number p. below_set by number p (by_at by);
-      apart = λ one other number p q. apart_set one other number p q (by_at one) (by_at other) }
+    small = thin.small;
+    many = length-set places at (suc stored) ∙ thin.many;
+    whole = omega (arith, thin.whole, l, length-append bytes unit);
+    room = omega (arith, thin.room, more);
+    spare = omega (arith, thin.spare, blank_less places at (stored) h e);
+    below = λ by number p. below_set by number p (by_at by);
+    apart = λ one other number p q. apart_set one other number p q (by_at one) (by_at other);
+  }
     where
       by_at : (by : ℕ) → (by ≡ at) ⊎ (by ≢ at)
       by_at by = cases_eq by at
+
       below_set : (by number : ℕ) → get_or (set places at (suc stored)) by 0 ≡ suc number → ((by ≡ at) ⊎ (by ≢ at)) → number < suc stored
       below_set by number p (inl same) =
           let here : suc stored ≡ suc number = sym (ap (λ n. get_or (set places at (suc stored)) n 0) same ∙ get_or-set_same places at (suc stored) 0 h) ∙ p in
           omega (arith, here)
       below_set by number p (inr other) =
           let lower = thin.below by number (sym (get_or-set_other places at by (suc stored) 0 other) ∙ p) in omega (arith, lower)
+
       apart_set : (one other number : ℕ) → get_or (set places at (suc stored)) one 0 ≡ suc number → get_or (set places at (suc stored)) other 0 ≡ suc number
           → ((one ≡ at) ⊎ (one ≢ at)) → ((other ≡ at) ⊎ (other ≢ at)) → one ≡ other
       apart_set one other number p q (inl a) (inl b) = a ∙ sym b
