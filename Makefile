@@ -19,8 +19,4 @@ hostile:
 	bash .ci/hostile_long
 
 bench:
-	python3 bench/words/run.py
-	python3 bench/exclusive_or/run.py
-	python3 bench/maps/run.py
-	python3 bench/script/run.py
-	python3 bench/storm/run.py
+	python3 bench/all.py

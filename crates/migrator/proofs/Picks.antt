@@ -1,13 +1,15 @@
 -- Picked slots of groups.
-use Rattle.std.proofs.Common.{◌≡◌, ◌∙◌, ◌⊎◌, inl, inr, ℕ, ◌+◌, ◌*◌, ◌/◌, ◌%◌, ◌<◌, ◌≤◌, length, sym, ap, subst, arith, Some, None, slice_get, unwrap_or, ◌↔◌}
+use Rattle.std.proofs.Common.{◌≡◌, ◌∙◌, ◌⊎◌, inl, inr, ℕ, List, ◌+◌, ◌*◌, ◌/◌, ◌%◌, ◌<◌, ◌≤◌, length, sym, ap, subst, arith, Some, None, slice_get, unwrap_or, ◌↔◌}
 use Rattle.std.proofs.lemmas.Bool.{cases_lt}
 use Rattle.std.proofs.lemmas.Option.{slice_get_past}
-use Rattle.map_join.specs.Live.{IsLive, IsLiveIn, IsLiveCount}
-use Rattle.map_join.proofs.Rising.{count_none, count_zero}
+use Rattle.map_join.specs.Live.{IsLiveIn, IsLiveCount}
+use Rattle.map_join.specs.Lists.{Lists, ListsBelow}
+use Rattle.map_join.proofs.Rising.{below_all, below_skip, count_none, count_zero}
 use Rattle.extent_groups.specs.declared.class.Class.{Class}
 use Rattle.extent_groups.specs.declared.class.Class.TheVariants.{Parity}
 use Rattle.extent_groups.specs.Groups.{Groups, class_in, group_at}
 use Rattle.extent_groups.specs.Stores.{IsSlotOf}
+use Rattle.migrator.specs.Picking.{IsPicked}
 use Rattle.migrator.specs.Slots.{IsIdle}
 
 -- a made group has a number below 512
@@ -35,3 +37,16 @@ module _ (groups : Groups) (keys : ℕ → ℕ) (group slots count : ℕ) (just 
 pub no_slots : (groups : Groups) (keys : ℕ → ℕ) (group slots : ℕ) → ((slot : ℕ) → slot / 128 ≡ group → IsSlotOf Parity groups slot ↔ (slot % 128 < slots)) → slots ≡ 0
     → IsIdle groups keys group
 no_slots groups keys group slots just none slot is own live = let low = (just slot own).0 is in absurd (omega (arith, low, none))
+
+-- lists of picked slots, group by group
+module _ (class : Class) (groups : Groups) (group_is slot_is : ℕ → Type 0) where
+  abbrev pub Picked : ℕ → Type 0
+  Picked = IsPicked class groups group_is slot_is
+
+  -- a group without a picked slot adds nothing
+  pub none_here : (n : ℕ) (xs : List ℕ) → ((s : ℕ) → s / 128 ≡ n → Picked s → ⊥) → ListsBelow Picked (128 * n) xs → ListsBelow Picked (128 * (n + 1)) xs
+  none_here n xs none = below_skip Picked (128 * n) (128 * (n + 1)) xs (omega arith) (λ s low high p. none s (omega (arith, low, high)) p)
+
+  -- what is listed of all groups below 512 is all that is picked
+  pub all_low : (n : ℕ) (xs : List ℕ) → length groups.table ≡ 512 → 512 ≤ n → ListsBelow Picked (128 * n) xs → Lists Picked xs
+  all_low n xs long past = below_all Picked (128 * n) xs (λ s p. let low = made_low groups (s / 128) class long p.slot_of.made in omega (arith, low, past))

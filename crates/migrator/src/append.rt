@@ -6,7 +6,7 @@ ghost use Rattle.migrator.specs.Slots.{IsIdle, IsBehind, IsFresh, AreAppendSlots
 ghost use Rattle.migrator.specs.Picking.{IsFreeFrom, IsOtherIdle};
 
 use crate::LogEnd;
-use crate::slots::{Picks, count_of, picked_slots};
+use crate::slots::{Picks, count_of, picked_in, picked_slots};
 use extent_groups::{Class, GroupTable, SLOTS};
 use map_join::Live;
 use std::alloc::{AllocError, Global};
@@ -88,7 +88,13 @@ fn slots_behind<L: Live>(
 ) -> Result<Vec<u16>, AllocError>
     ensures { IfOk result (λ slots. Lists (IsBehind end.now groups.now (L.keys live.now)) slots.items) }
 {
-    picked_slots(alloc, groups, Class::Parity, &GoingOn { end, live })
+    picked_in(
+        alloc,
+        groups,
+        Class::Parity,
+        end.group(),
+        &GoingOn { end, live },
+    )
 }
 
 // The slots of the groups that can be begun anew.

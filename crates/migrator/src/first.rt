@@ -6,7 +6,7 @@ ghost use Rattle.migrator.specs.First.{Behind, IsFirst, IsFirstAppend, IsFreePic
 
 use crate::LogEnd;
 use crate::append::{Fresh, GoingOn};
-use crate::slots::{Every, Picks, count_of};
+use crate::slots::{Every, Picks, count_of, is_of};
 use extent_groups::{Class, GROUPS, GroupTable, SLOTS};
 use map_join::Live;
 
@@ -94,6 +94,9 @@ fn first_in<P: Picks, F: Free>(
     ensures first { (slot : ℕ) → slot / 128 ≡ group → IsFreePick class groups.now (P.group_is which.now) (P.slot_is which.now) (F.free free.now) slot
         → MatchOption result ⊥ (λ found. found ≤ slot) }
 {
+    if !is_of(groups, class, group) {
+        return None;
+    }
     if !which.picks_group(group) {
         return None;
     }

@@ -1,5 +1,6 @@
 // Slots of the made groups of a class, in the order of their numbers.
 ghost use Rattle.std.specs.Prelude.{◌≡◌, ◌↔◌, ℕ, ◌+◌, ◌*◌, ◌/◌, ◌%◌, ◌<◌, ◌≤◌, IsTrue, IfOk, OnOk, Some};
+ghost use Rattle.extent_groups.specs.Groups.{class_in, group_at};
 ghost use Rattle.extent_groups.specs.Stores.{IsSlotOf};
 ghost use Rattle.map_join.specs.Lists.{Lists, ListsBelow};
 ghost use Rattle.migrator.specs.Slots.{AreMirrorSlots};
@@ -60,14 +61,62 @@ pub(crate) fn picked_slots<P: Picks>(
     let _members = groups.members(0);
     let mut slots = Vec::new(alloc);
     for group in 0..GROUPS as u16 {
-        if which.picks_group(group) {
-            push_picked(&mut slots, groups, class, group, which)?;
-        }
+        push_group(&mut slots, groups, class, group, which)?;
     }
     Ok(slots)
 }
 
-// The same of one group, where those of all lower groups are listed.
+// The slots of a class that are picked, where they are in no other group than this one.
+pub(crate) fn picked_in<P: Picks>(
+    alloc: Global,
+    groups: &GroupTable,
+    class: Class,
+    group: Option<u16>,
+    which: &P,
+) -> Result<Vec<u16>, AllocError>
+    requires { (n : ℕ) → P.group_is which.now n → group ≡ Some n }
+    ensures { IfOk result (λ slots. Lists (IsPicked class groups.now (P.group_is which.now) (P.slot_is which.now)) slots.items) }
+{
+    let _members = groups.members(0);
+    let mut slots = Vec::new(alloc);
+    match group {
+        Some(group) if group < GROUPS as u16 => {
+            push_group(&mut slots, groups, class, group, which)?;
+        }
+        _ => {}
+    }
+    Ok(slots)
+}
+
+// Those of one group, if it is picked, where those of all lower groups are listed.
+fn push_group<P: Picks>(
+    slots: &mut Vec<u16>,
+    groups: &GroupTable,
+    class: Class,
+    group: u16,
+    which: &P,
+) -> Result<(), AllocError>
+    requires group { group < 512 }
+    requires lower { ListsBelow (IsPicked class groups.now (P.group_is which.now) (P.slot_is which.now)) (128 * group) slots.old.items }
+    ensures { OnOk result (ListsBelow (IsPicked class groups.now (P.group_is which.now) (P.slot_is which.now)) (128 * (group + 1)) slots.new.items) }
+{
+    if !is_of(groups, class, group) {
+        return Ok(());
+    }
+    if !which.picks_group(group) {
+        return Ok(());
+    }
+    push_picked(slots, groups, class, group, which)
+}
+
+// Whether the group is a made one of the class.
+pub(crate) fn is_of(groups: &GroupTable, class: Class, group: u16) -> bool
+    ensures { IsTrue result ↔ (class_in (group_at groups.now group) ≡ Some class) }
+{
+    groups.class_of(group) == Some(class)
+}
+
+// Those of a group that is picked.
 fn push_picked<P: Picks>(
     slots: &mut Vec<u16>,
     groups: &GroupTable,

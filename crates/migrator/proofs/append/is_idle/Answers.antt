@@ -1,7 +1,6 @@
-use Rattle.std.proofs.Common.{◌≡◌, refl, arith}
-use Rattle.std.specs.Bool.{Decides}
+use Rattle.std.proofs.Common.{refl, arith}
 use Rattle.std.proofs.lemmas.Bool.Decides.{nat_tests}
-use Rattle.migrator.proofs.Picks.{none_counted, idle_counts, no_slots}
+use Rattle.migrator.proofs.Picks.{none_counted, idle_counts}
 use Rattle.migrator.proofs.append.is_idle.Goals as goal
 
 pub returns-else-slots-eq0 : goal.returns-else-slots-eq0

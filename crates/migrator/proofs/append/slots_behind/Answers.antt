@@ -13,8 +13,8 @@ returns g c =
     let end = c.args.end.now in
     let keys = g.L.Live.keys c.args.live.now in
     let P = IsPicked Parity groups (λ (group : ℕ). end.group ≡ Some group) (IsFreeFrom end.next keys) in
-    IfOk-weaker c.picked_slots.result (λ v. Lists P v.items) (λ v. Lists (IsBehind end groups keys) v.items)
+    IfOk-weaker c.picked_in.result (λ v. Lists P v.items) (λ v. Lists (IsBehind end groups keys) v.items)
     (λ v h. lists_same P (IsBehind end groups keys) v.items
     (λ s p. record { slot_of = p.slot_of; own = p.group_too; from = p.slot_too.from; free = p.slot_too.free })
     (λ s q. record { slot_of = q.slot_of; group_too = q.own; slot_too = record { from = q.from; free = q.free } }) h)
-    c.picked_slots.ensures
+    c.picked_in.ensures
