@@ -25,7 +25,7 @@ pub(crate) trait Picks {
         ensures { IsTrue result ↔ slot_is self.now slot };
 }
 
-//// Every slot.
+// Every slot.
 pub(crate) struct Every;
 
 impl Picks for Every {
