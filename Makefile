@@ -1,4 +1,4 @@
-# `make` proves and builds the program and answers the examples; `make test` is the gate; `make hostile` is its long run of hostile use.
+# `make` proves and builds the program and answers the examples; `make test` is the gate; `make hostile` is its long run of hostile use; `make bench` times it beside plain Rust.
 .PHONY: all run test hostile bench
 
 all: run
