@@ -21,7 +21,7 @@ use extents::Drive;
 use parity_store::read_parity;
 
 /// Which member of a group goes onto which extent.
-#[derive(Clone, Copy, Debug)]
+#[derive(Clone, Copy)]
 pub(crate) struct Route {
     pub(crate) group: u16,
     pub(crate) member: u8,
@@ -30,7 +30,7 @@ pub(crate) struct Route {
 }
 
 /// Why no more of a member's units is put on another extent.
-#[derive(Clone, Copy, Debug, PartialEq, Eq)]
+#[derive(Clone, Copy)]
 pub(crate) enum Stop {
     /// A unit of the member can't be had: its drive is lost, and so is one that would make up for it.
     Beyond,

@@ -5,7 +5,7 @@ ghost use Rattle.cleaner.specs.Choosing.{IsAlone, IsOffered, IsFewestBelow, IsMo
 use extent_groups::GROUPS;
 
 /// A group, and how many of its slots are live.
-#[derive(Clone, Copy, Debug, PartialEq, Eq)]
+#[derive(Clone, Copy)]
 pub(crate) struct Counted {
     pub(crate) group: u16,
     pub(crate) live: u16,

@@ -13,7 +13,7 @@ use extent_groups::{GroupTable, read_place};
 use extents::Drive;
 
 /// All members of a group at an offset but two, or but one that is named twice.
-#[derive(Clone, Copy, Debug)]
+#[derive(Clone, Copy)]
 pub(crate) struct Others {
     pub(crate) group: u16,
     pub(crate) offset: u16,

@@ -12,14 +12,14 @@ use extent_groups::{GroupTable, Member};
 use extents::{DRIVES, ExtentTable};
 
 /// A drive that may give an extent to another.
-#[derive(Clone, Copy, Debug, PartialEq, Eq)]
+#[derive(Clone, Copy)]
 struct Pair {
     from: u8,
     to: u8,
 }
 
 /// A pair of drives, and the lowest group that moves from the one to the other.
-#[derive(Clone, Copy, Debug, PartialEq, Eq)]
+#[derive(Clone, Copy)]
 struct Choice {
     pair: Pair,
     carrier: Carrier,
