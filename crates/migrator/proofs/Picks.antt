@@ -33,11 +33,6 @@ module _ (groups : Groups) (keys : ℕ → ℕ) (group slots count : ℕ) (just 
   pub idle_counts : IsLiveCount keys group slots count → IsIdle groups keys group → count ≡ 0
   idle_counts counted idle = count_none (IsLiveIn keys group slots) count counted (λ slot so. idle slot ((just slot so.own).1 so.among) so.own so.live)
 
--- a group without slots of the class is idle
-pub no_slots : (groups : Groups) (keys : ℕ → ℕ) (group slots : ℕ) → ((slot : ℕ) → slot / 128 ≡ group → IsSlotOf Parity groups slot ↔ (slot % 128 < slots)) → slots ≡ 0
-    → IsIdle groups keys group
-no_slots groups keys group slots just none slot is own live = let low = (just slot own).0 is in absurd (omega (arith, low, none))
-
 -- lists of picked slots, group by group
 module _ (class : Class) (groups : Groups) (group_is slot_is : ℕ → Type 0) where
   abbrev pub Picked : ℕ → Type 0
