@@ -1,5 +1,5 @@
 -- What a Taker knows behind a read.
-use Rattle.std.proofs.Common.{◌≡◌, ℕ, ◌≤◌, inl, inr, refl, sym, ◌∙◌, subst, arith, Contains, Some}
+use Rattle.std.proofs.Common.{◌≡◌, ℕ, ◌≤◌, inl, inr, refl, sym, ◌∙◌, subst, arith, Contains}
 use Rattle.std.proofs.lemmas.List.Elements.{Contains-push}
 use Rattle.map_join.specs.declared.records.Record.{Record}
 use Rattle.map_join.specs.Record.{key_of}
@@ -29,7 +29,7 @@ newest_above taker block low high more is = record {
 }
 
 pub told_is : (before between after : View) (block : ℕ) (found told : Record) → found.block ≡ block → told.block ≡ found.block → key_of found ≤ key_of told
-    → IsNewest before block (key_of found) → HasFound before block (key_of found) between → Learnt told found between after → IsTold before block after (Some told)
+    → IsNewest before block (key_of found) → HasFound before block (key_of found) between → Learnt told found between after → IsTold before block after told
 told_is before between after block found told of same above newest has learnt = (
   same ∙ of,
   go learnt,

@@ -1,10 +1,10 @@
 -- Which of a worker's two Takers a call is about, and what it has taken and found.
-use Rattle.std.specs.Prelude.{◌≡◌, ◌⊎◌, ℕ, ◌%◌, ◌==◌, if◌then◌else◌, Contains, Option, Some, None}
+use Rattle.std.specs.Prelude.{◌≡◌, ◌⊎◌, ℕ, ◌%◌, ◌==◌, if◌then◌else◌, Contains}
 use Rattle.map_join.specs.declared.records.Record.{Record}
 use Rattle.map_join.specs.Record.{key_of}
 use Rattle.map_words.specs.declared.view.Found.{Found}
 use Rattle.map_words.specs.declared.view.View.{View}
-use Rattle.map_words.specs.Answers.{HasTaken, IsNewest}
+use Rattle.map_words.specs.Answers.{HasTaken, HasFound, IsNewest}
 use Rattle.array_book.specs.declared.controller.Controller.{Controller}
 use Rattle.array_book.specs.declared.controller.Controller.TheVariants.{Even, Odd}
 use Rattle.array_book.specs.declared.worker.Migration.{Migration}
@@ -45,11 +45,19 @@ abbrev pub Knows : View → Record → Type 0
 Knows taker r = Contains taker.taken r ⊎ ((f : Found) × Contains taker.found f × (f.block ≡ r.block) × (f.key ≡ key_of r))
 
 -- what a read of a block tells, given the view of the Taker before and after: a record of that block that the Taker knows by
--- then, and that isn't below any that it knew; and none only where it knew none
-abbrev pub IsTold : View → ℕ → View → Option Record → Type 0
-IsTold before block after None = IsNewest before block 0
-IsTold before block after (Some r) = (r.block ≡ block) × Knows after r × IsNewest before block (key_of r)
+-- then, and that isn't below any that it knew
+abbrev pub IsTold : View → ℕ → View → Record → Type 0
+IsTold before block after r = (r.block ≡ block) × Knows after r × IsNewest before block (key_of r)
+
+-- one step more, which found this key at the block; it isn't below any that the Taker knew
+abbrev pub HasAsked : View → ℕ → ℕ → View → Type 0
+HasAsked before block key after = IsNewest before block key × HasFound before block key after
 
 -- what was told is what was found, and nothing was taken; or it was taken
 abbrev pub Learnt : Record → Record → View → View → Type 0
 Learnt told found before after = ((told ≡ found) × (after ≡ before)) ⊎ Took told before after
+
+-- what a read that tells this record of the block leaves of the Taker: one step more, which found a record's key; and where that
+-- record isn't the one that is told, another, which took this
+abbrev pub HasRead : View → ℕ → Record → View → Type 0
+HasRead before block told after = (found : Record) × (between : View) × (found.block ≡ block) × HasAsked before block (key_of found) between × Learnt told found between after

@@ -1,7 +1,7 @@
 // What the plans ask of an array, answered by its tables.
-ghost use Rattle.std.specs.Prelude.{◌≡◌, ◌↔◌, ◌+◌, ◌*◌, IsTrue, false};
+ghost use Rattle.std.specs.Prelude.{◌≡◌, ◌↔◌, ◌+◌, ◌*◌, ◌<◌, ◌≤◌, IsTrue, false};
 ghost use Rattle.array_model.specs.Views.{key_at, kept_at, is_kept};
-ghost use Rattle.map_join.specs.Live.{IsLive};
+ghost use Rattle.map_join.specs.Live.{IsLive, IsLiveCount};
 
 use crate::claim::Claim;
 use extent_groups::{GroupTable, SLOTS};
@@ -36,14 +36,26 @@ impl<'a, D: Drive, N: Naming> Live for Running<'a, D, N> {
     }
 
     fn count_live(&self, group: u16, slots: u16) -> u16 {
-        let mut count = 0;
-        for index in 0..slots {
-            if is_live(self.array, SLOTS * group + index) {
-                count += 1;
-            }
+        if slots >= self.array.groups().slots_of(group) {
+            return self.array.live_count(group);
         }
-        count
+        count_among(self.array, group, slots)
     }
+}
+
+// How many of the group's first so many slots are newest places, looked at one after another.
+fn count_among<D: Drive, N: Naming>(array: &Array<D, Claim<N>>, group: u16, slots: u16) -> u16
+    requires group { group < 512 }
+    requires slots { slots ≤ 128 }
+    ensures { IsLiveCount (key_at array.now) group slots result }
+{
+    let mut count = 0;
+    for index in 0..slots {
+        if is_live(array, SLOTS * group + index) {
+            count += 1;
+        }
+    }
+    count
 }
 
 // Whether the slot is the newest place of a block.

@@ -4,7 +4,7 @@ ghost use Rattle.map_join.specs.declared.records.Record.{Record};
 ghost use Rattle.step_core.specs.Told.{Lesson};
 ghost use Rattle.map_words.specs.Answers.{HasFound, IsNewest, key_in};
 ghost use Rattle.flat_machine.specs.declared.refusal.Refusal.TheVariants as refusal;
-ghost use Rattle.array_book.specs.Takes.{controller_of, taker_of, other_of, AreSame, HasMigrated, Took, Learnt, IsTold};
+ghost use Rattle.array_book.specs.Takes.{controller_of, taker_of, other_of, AreSame, HasAsked, HasMigrated, HasRead, Took, Learnt, IsTold};
 ghost use Rattle.array_book.specs.declared.fault.WorkFault.TheVariants.{Core};
 
 use crate::book::Book;
@@ -371,9 +371,12 @@ impl<
     ) -> Result<Option<Reading>, WorkFault>
         requires { block < self.old.book.now.blocks }
         ensures some { (reading : Lesson) → result ≡ Ok (Some reading)
-            → IsTold (taker_of controller self.old.even self.old.odd) block (taker_of controller self.new.even self.new.odd) (Some reading.told) }
+            → IsTold (taker_of controller self.old.even self.old.odd) block (taker_of controller self.new.even self.new.odd) reading.told }
+        ensures read { (reading : Lesson) → result ≡ Ok (Some reading)
+            → HasRead (taker_of controller self.old.even self.old.odd) block reading.told (taker_of controller self.new.even self.new.odd) }
         ensures none { result ≡ Ok None
-            → IsTold (taker_of controller self.old.even self.old.odd) block (taker_of controller self.new.even self.new.odd) None }
+            → HasAsked (taker_of controller self.old.even self.old.odd) block 0 (taker_of controller self.new.even self.new.odd) }
+        ensures err { OnErr result ((key : ℕ) × HasAsked (taker_of controller self.old.even self.old.odd) block key (taker_of controller self.new.even self.new.odd)) }
         ensures other { other_of controller self.new.even self.new.odd ≡ other_of controller self.old.even self.old.odd }
         ensures fault { result ≢ Err (Core refusal.Memory) }
         ensures rest { (self.new.number ≡ self.old.number) × (self.new.book ≡ self.old.book) }
