@@ -80,6 +80,12 @@ route_of units p g k was to fit at there fine =
       clear = λ o slot site low at_site of. free_apart p.groups p.extents to o slot site fit.groups fit.agree is.free low at_site of;
     }
 
+-- the same of a member that is read from the list of the group's
+pub route_by : {D : Type 0} (units : D → List (List ℕ)) (p : Parts D) (g k : ℕ) (members : List Member) (to : Member) → IsFit units p → members ≡ members_of p.groups g → k < length (members_of p.groups g)
+    → IsExtent p.extents to.drive to.extent → swap_fault p.extents (group_at p.groups g) to ≡ None → IsRoute units p.groups g k (get_or members k (record { drive = 0; extent = 0 })) to p.drives.items
+route_by units p g k members to fit same inside there fine =
+    route_of units p g k _ to fit (number_of p.groups g k members (record { drive = 0; extent = 0 }) same inside) there fine
+
 -- what calls that touched the other extent alone leave of the slots, whose tables are as they were
 pub record IsUnmoved {D : Type 0} (units : D → List (List ℕ)) (lost : D → Bool) (failures : D → ℕ) (p w : Parts D) : Type 0 where
   pub keeps : AreSound p.groups (cells_in units lost p) → (slot : ℕ) (v : List ℕ) → unit_of w.groups (cells_in units lost w) slot ≡ Some v → unit_of p.groups (cells_in units lost p) slot ≡ Some v
@@ -185,6 +191,7 @@ swapped_fit {units = units} p q g k group was to fit made at there away shape gr
 -- what is left where the member was moved
 pub record IsMoved {D : Type 0} (units : D → List (List ℕ)) (lost : D → Bool) (failures : D → ℕ) (p q : Parts D) (g k : ℕ) (to : Member) : Type 0 where
   pub had : IsBeyondOf p.groups (missing_in lost p) g k → ⊥
+  pub present : missing_in lost q to.drive ≡ false
   pub copied : (was : Member) → slice_get (members_of p.groups g) k ≡ Some was → AreSound p.groups (cells_in units lost p) → IsCopied p.groups g k was to (cells_in units lost p) (cells_in units lost q)
   pub unused : (was : Member) → slice_get (members_of p.groups g) k ≡ Some was → KeepsUnused p.groups g k was to (cells_in units lost p) (cells_in units lost q) (missing_in lost q)
   pub keeps : AreSound p.groups (cells_in units lost p) → (slot : ℕ) (v : List ℕ) → unit_of q.groups (cells_in units lost q) slot ≡ Some v → unit_of p.groups (cells_in units lost p) slot ≡ Some v
@@ -210,6 +217,7 @@ moved {D = D} units lost failures p q g k was to fit there fine route all shape 
     (sized_cells units lost p.groups p.drives.items fit.drives) sound (done.copied sound) in
     record {
       had = λ beyond. done.had (subst (λ (m : Member). IsBeyond p.groups (missing_in lost p) g m.drive) (sym (one beyond.0 beyond.1)) beyond.2);
+      present = done.present;
       copied = λ m at. subst (λ z. AreSound p.groups (cells_in units lost p) → IsCopied p.groups g k z to (cells_in units lost p) (cells_in units lost q)) (one m at) done.copied;
       unused = λ m at. subst (λ z. KeepsUnused p.groups g k z to (cells_in units lost p) (cells_in units lost q) (missing_in lost q)) (one m at) done.unused;
       keeps = λ sound slot v e. (kept sound).1 slot v (subst (λ t. unit_of t (cells_in units lost q) slot ≡ Some v) groups e);

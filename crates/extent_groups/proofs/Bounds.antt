@@ -13,7 +13,25 @@ pub slot_count_small : (class : Class) (n s : ℕ) → n ≤ 8 → s ≤ 8 → s
 slot_count_small Mirrored n s h k = omega (arith, mul-le-mul h k)
 slot_count_small Parity n s h k = let less : n - 1 ≤ 7 = omega arith in omega (arith, mul-le-mul k less)
 
--- what is known of a slot of a mirrored group
+-- what is known of a slot of a group of this class
+record IsSlotIn (class : Class) (s i : ℕ) (o : Option Group) : Type 0 where
+  pub some : 3 ≤ length (members_in o)
+  pub few : length (members_in o) ≤ 8
+  pub low : i < 128
+  pub here : i < slot_count class (length (members_in o)) s
+
+slot_in : (class : Class) (s i : ℕ) (o : Option Group) → ((x : Group) → o ≡ Some x → IsFormed x.members) → s ≤ 8 → class_in o ≡ Some class → i < slots_in s o → IsSlotIn class s i o
+slot_in class s i None formed short is h = absurd (none-some class is)
+slot_in class s i (Some x) formed short is h =
+    let form = formed x refl in
+    record {
+      some = form.enough;
+      few = form.few;
+      low = omega (arith, slot_count_small x.class (length x.members) s form.few short);
+      here = subst (λ c. i < slot_count c (length x.members) s) (same_Some _ _ is) h;
+    }
+
+-- and of one of a mirrored group
 pub record IsMirroredSlot (s i : ℕ) (o : Option Group) : Type 0 where
   pub some : 3 ≤ length (members_in o)
   pub few : length (members_in o) ≤ 8
@@ -21,20 +39,12 @@ pub record IsMirroredSlot (s i : ℕ) (o : Option Group) : Type 0 where
   pub law : AreCopies (length (members_in o)) s i (copies_of (length (members_in o)) i)
 
 pub mirrored_slot : (s i : ℕ) (o : Option Group) → ((x : Group) → o ≡ Some x → IsFormed x.members) → s ≤ 8 → class_in o ≡ Some Mirrored → i < slots_in s o → IsMirroredSlot s i o
-mirrored_slot s i None formed short class h = absurd (omega arith)
-mirrored_slot s i (Some x) formed short class h =
-    let is : x.class ≡ Mirrored = same_Some _ _ class in
-    let form = formed x refl in
-    let here : i < slot_count Mirrored (length x.members) s = subst (λ c. i < slot_count c (length x.members) s) is h in
-    let two : 2 ≤ length x.members = omega (arith, form.enough) in
-    record {
-      some = form.enough;
-      few = form.few;
-      low = omega (arith, slot_count_small x.class (length x.members) s form.few short);
-      law = copies_law (length x.members) s i two here;
-    }
+mirrored_slot s i o formed short is h =
+    let slot = slot_in Mirrored s i o formed short is h in
+    let two : 2 ≤ length (members_in o) = omega (arith, slot.some) in
+    record { some = slot.some; few = slot.few; low = slot.low; law = copies_law (length (members_in o)) s i two slot.here }
 
--- what is known of a slot of a parity group
+-- and of one of a parity group
 pub record IsParitySlot (s i : ℕ) (o : Option Group) : Type 0 where
   pub some : 3 ≤ length (members_in o)
   pub few : length (members_in o) ≤ 8
@@ -42,18 +52,10 @@ pub record IsParitySlot (s i : ℕ) (o : Option Group) : Type 0 where
   pub law : IsStripe (length (members_in o)) s i (stripe_of (length (members_in o)) i)
 
 pub parity_slot : (s i : ℕ) (o : Option Group) → ((x : Group) → o ≡ Some x → IsFormed x.members) → s ≤ 8 → class_in o ≡ Some Parity → i < slots_in s o → IsParitySlot s i o
-parity_slot s i None formed short class h = absurd (omega arith)
-parity_slot s i (Some x) formed short class h =
-    let is : x.class ≡ Parity = same_Some _ _ class in
-    let form = formed x refl in
-    let here : i < slot_count Parity (length x.members) s = subst (λ c. i < slot_count c (length x.members) s) is h in
-    let two : 2 ≤ length x.members = omega (arith, form.enough) in
-    record {
-      some = form.enough;
-      few = form.few;
-      low = omega (arith, slot_count_small x.class (length x.members) s form.few short);
-      law = stripe_law (length x.members) s i two here;
-    }
+parity_slot s i o formed short is h =
+    let slot = slot_in Parity s i o formed short is h in
+    let two : 2 ≤ length (members_in o) = omega (arith, slot.some) in
+    record { some = slot.some; few = slot.few; low = slot.low; law = stripe_law (length (members_in o)) s i two slot.here }
 
 -- what may be a group that has a class has 3 to 8 members
 pub group_size : (class : Class) (o : Option Group) → ((x : Group) → o ≡ Some x → IsFormed x.members) → class_in o ≡ Some class → (3 ≤ length (members_in o)) × (length (members_in o) ≤ 8)
