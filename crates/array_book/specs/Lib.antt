@@ -1,3 +1,4 @@
 pub mod Kept
 pub mod Takes
 pub mod Settling
+pub mod Planned

@@ -1,14 +1,19 @@
 // What a worker moves next.
-ghost use Rattle.std.specs.Prelude.{◌≡◌, ◌<◌, MatchOption, IfOk};
+ghost use Rattle.std.specs.Prelude.{◌≡◌, ◌<◌, MatchOption, IfOk, Some};
+ghost use Rattle.array_model.specs.Views.{key_at};
+ghost use Rattle.migrator.specs.Ages.{IsOldest, IsMarked};
+ghost use Rattle.migrator.specs.Slots.{AreAppendSlots};
+ghost use Rattle.array_book.specs.Planned.{IsPlanned, IsPlugOf, IsCleanOf, IsMoveBy};
 
 use crate::asks::Running;
 use crate::claim::Sizes;
 use crate::kept::Kept;
 use cleaner::{Move, clean_plan_counted, plug_plan_counted};
 use extents::Drive;
-use migrator::{Free, append_slots, first_append, wants_demotion};
+use migrator::{append_slots, first_append, wants_demotion};
 use slot_words::Naming;
 use std::alloc::{AllocError, Global};
+use tiering::Any;
 
 // A block that goes into the first slot of a list that can be claimed.
 #[derive(Drop)]
@@ -28,6 +33,7 @@ pub(crate) fn plan_in<D: Drive, N: Naming + Sizes>(
     low: u32,
 ) -> Result<Option<Plan>, AllocError>
     ensures block { IfOk result (λ found. MatchOption found (Unit {0}) (λ plan. plan.block < N.blocks)) }
+    ensures planned { IfOk result (λ found. MatchOption found (Unit {0}) (IsPlanned kept.old)) }
     ensures same { kept.new ≡ kept.old }
 {
     if wants_demotion(free_among(kept, mirrors), low) {
@@ -40,15 +46,11 @@ pub(crate) fn plan_in<D: Drive, N: Naming + Sizes>(
             }));
         }
     }
-    let found = match plug_of(kept) {
-        Some(plan) => Some((plan, false)),
-        None => match clean_of(kept) {
-            Some(plan) => Some((plan, true)),
-            None => None,
-        },
-    };
-    match found {
-        Some((plan, appends)) => moved(kept, alloc, plan, appends),
+    if let Some(plan) = plug_of(kept) {
+        return moved(kept, alloc, plan, false);
+    }
+    match clean_of(kept) {
+        Some(plan) => moved(kept, alloc, plan, true),
         None => Ok(None),
     }
 }
@@ -60,7 +62,8 @@ fn moved<D: Drive, N: Naming + Sizes>(
     plan: Move,
     appends: bool,
 ) -> Result<Option<Plan>, AllocError>
-    ensures { IfOk result (λ found. MatchOption found (Unit {0}) (λ plan. plan.block < N.blocks)) }
+    ensures block { IfOk result (λ found. MatchOption found (Unit {0}) (λ plan. plan.block < N.blocks)) }
+    ensures moves { IfOk result (λ found. MatchOption found (Unit {0}) (IsMoveBy plan appends)) }
 {
     kept.stands();
     if plan.block >= kept.array().shape().blocks {
@@ -89,6 +92,7 @@ fn free_among<D: Drive, N: Naming + Sizes>(kept: &Kept<D, N>, mirrors: &[u16]) -
 // The block in a mirrored group that was written longest ago.
 fn oldest_mirrored<D: Drive, N: Naming + Sizes>(kept: &mut Kept<D, N>) -> Option<u32>
     ensures block { MatchOption result (Unit {0}) (λ block. block < N.blocks) }
+    ensures oldest { MatchOption result (Unit {0}) (λ block. IsOldest kept.old.ages.order (IsMarked kept.old.ages.marks) (Some block)) }
     ensures same { kept.new ≡ kept.old }
 {
     kept.stands();
@@ -103,13 +107,17 @@ fn oldest_mirrored<D: Drive, N: Naming + Sizes>(kept: &mut Kept<D, N>) -> Option
 fn slots_behind<D: Drive, N: Naming + Sizes>(
     kept: &Kept<D, N>,
     alloc: Global,
-) -> Result<Vec<u16>, AllocError> {
+) -> Result<Vec<u16>, AllocError>
+    ensures { IfOk result (λ slots. AreAppendSlots kept.now.end kept.now.array.parts.groups (key_at kept.now.array) slots.items) }
+{
     let running = Running { array: &kept.array };
     append_slots(alloc, &kept.end, kept.array.groups(), &running)
 }
 
 // A hole that can be plugged.
-fn plug_of<D: Drive, N: Naming + Sizes>(kept: &Kept<D, N>) -> Option<Move> {
+fn plug_of<D: Drive, N: Naming + Sizes>(kept: &Kept<D, N>) -> Option<Move>
+    ensures { IsPlugOf kept.now result }
+{
     let array = &kept.array;
     let running = Running { array };
     plug_plan_counted(
@@ -121,7 +129,9 @@ fn plug_of<D: Drive, N: Naming + Sizes>(kept: &Kept<D, N>) -> Option<Move> {
 }
 
 // A group that can be cleaned.
-fn clean_of<D: Drive, N: Naming + Sizes>(kept: &Kept<D, N>) -> Option<Move> {
+fn clean_of<D: Drive, N: Naming + Sizes>(kept: &Kept<D, N>) -> Option<Move>
+    ensures { IsCleanOf kept.now result }
+{
     let array = &kept.array;
     let running = Running { array };
     let groups = array.groups();
@@ -133,15 +143,4 @@ fn clean_of<D: Drive, N: Naming + Sizes>(kept: &Kept<D, N>) -> Option<Move> {
         kept.end.group(),
         append,
     )
-}
-
-// Every slot, held or not.
-struct Any;
-
-impl Free for Any {
-    ghost free = { λ any slot. Unit {0} };
-
-    fn is_free(&self, _slot: u16) -> bool {
-        true
-    }
 }

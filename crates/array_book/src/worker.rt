@@ -1,9 +1,10 @@
 // One thread's hands on a Book.
-ghost use Rattle.std.specs.Prelude.{◌≡◌, ◌≢◌, ℕ, ◌<◌, length, IfOk, OnErr, MatchOption, Ok, Err, Some, None};
+ghost use Rattle.std.specs.Prelude.{◌≡◌, ◌≢◌, ℕ, ◌<◌, length, IfOk, OnErr, MatchOption, Ok, Err, Some, None, true, false};
 ghost use Rattle.map_join.specs.declared.records.Record.{Record};
 ghost use Rattle.step_core.specs.Told.{Lesson};
 ghost use Rattle.map_words.specs.Answers.{HasFound, IsNewest, key_in};
 ghost use Rattle.flat_machine.specs.declared.refusal.Refusal.TheVariants as refusal;
+ghost use Rattle.migrator.specs.Slots.{end_at};
 ghost use Rattle.array_book.specs.Takes.{controller_of, taker_of, other_of, AreSame, HasAsked, HasMigrated, HasRead, Took, Learnt, IsTold};
 ghost use Rattle.array_book.specs.declared.fault.WorkFault.TheVariants.{Core};
 
@@ -166,10 +167,21 @@ impl<
             Claim(claim),
             payload,
         );
-        match filled {
+        self.or_released(filled)
+    }
+
+    // The ticket; or why there is none, and then the slot is released.
+    fn or_released(
+        &mut self,
+        placed: Result<Ticket, (Refusal, Claim<N>)>,
+    ) -> Result<Ticket, WorkFault>
+        ensures fault { result ≢ Err (Core refusal.Memory) }
+        ensures rest { (self.new.number ≡ self.old.number) × (self.new.book ≡ self.old.book) × (self.new.even ≡ self.old.even) × (self.new.odd ≡ self.old.odd) }
+    {
+        match placed {
             Ok(ticket) => Ok(ticket),
             Err((refusal, Claim(claim))) => {
-                book.words.release(&mut self.pass, claim);
+                self.book.words.release(&mut self.pass, claim);
                 Err(WorkFault::of(refusal))
             }
         }
@@ -326,13 +338,7 @@ impl<
             Claim(claim),
             block,
         );
-        match copied {
-            Ok(ticket) => Ok(ticket),
-            Err((refusal, Claim(claim))) => {
-                book.words.release(&mut self.pass, claim);
-                Err(WorkFault::of(refusal))
-            }
-        }
+        self.or_released(copied)
     }
 
     // Commits a copy, and notes under the same hold of the lock where the write log goes on; refused the ticket is given up,
@@ -437,7 +443,7 @@ impl<
     }
 }
 
-// Commits what a plan placed.
+// Commits what a plan placed, and notes where the write log goes on, if the plan appends.
 fn commit_and_append<D: Drive, N: slot_words::Naming + Sizes>(
     kept: &mut Kept<D, N>,
     alloc: Global,
@@ -446,6 +452,8 @@ fn commit_and_append<D: Drive, N: slot_words::Naming + Sizes>(
 ) -> Result<Done<Claim<N>>, (Refusal, Ticket)>
     requires { plan.now.block < N.blocks }
     ensures ok { IfOk result (λ done. (done.emitted.block ≡ plan.now.block) × (0 < done.emitted.version)) }
+    ensures appended { IfOk result (λ done. plan.now.appends ≡ true → kept.new.end ≡ end_at done.emitted.place) }
+    ensures stays { plan.now.appends ≡ false → kept.new.end ≡ kept.old.end }
 {
     let done = commit_in(kept, alloc, ticket, plan.block)?;
     if plan.appends {

@@ -10,7 +10,7 @@ ghost use Rattle.tiering.specs.Inside.{IsFreeHere};
 use extent_groups::{Class, GroupTable, SLOTS};
 use map_join::{Live, Newest, Record};
 use migrator::Free;
-use step_core::World;
+use step_core::{Array, Drive, Hold, World};
 
 // The tables of a world.
 #[derive(Drop)]
@@ -39,23 +39,32 @@ impl<'a> Live for Running<'a> {
     }
 
     fn count_live(&self, group: u16, slots: u16) -> u16 {
-        let array = self.world.array();
-        if slots >= array.groups().slots_of(group) {
-            return array.live_count(group);
-        }
-        count_among(self.world, group, slots)
+        count_live(self.world.array(), group, slots)
     }
 }
 
-// How many of the group's first so many slots are newest places, looked at one after another.
-fn count_among(world: &World, group: u16, slots: u16) -> u16
+/// How many of a group's first so many slots are newest places of an array's blocks. Of all its slots a table tells it; fewer are
+/// looked at one after another.
+pub fn count_live<D: Drive, C: Hold>(array: &Array<D, C>, group: u16, slots: u16) -> u16
     requires group { group < 512 }
     requires slots { slots ≤ 128 }
-    ensures { IsLiveCount (key_at world.now.array) group slots result }
+    ensures { IsLiveCount (key_at array.now) group slots result }
+{
+    if slots >= array.groups().slots_of(group) {
+        return array.live_count(group);
+    }
+    count_among(array, group, slots)
+}
+
+// The same, where each slot is looked at.
+fn count_among<D: Drive, C: Hold>(array: &Array<D, C>, group: u16, slots: u16) -> u16
+    requires group { group < 512 }
+    requires slots { slots ≤ 128 }
+    ensures { IsLiveCount (key_at array.now) group slots result }
 {
     let mut count = 0;
     for index in 0..slots {
-        if is_live(world, SLOTS * group + index) {
+        if is_live(array, SLOTS * group + index) {
             count += 1;
         }
     }
@@ -63,10 +72,10 @@ fn count_among(world: &World, group: u16, slots: u16) -> u16
 }
 
 // Whether the slot is the newest place of a block.
-fn is_live(world: &World, slot: u16) -> bool
-    ensures { IsTrue result ↔ IsLive (key_at world.now.array) slot }
+fn is_live<D: Drive, C: Hold>(array: &Array<D, C>, slot: u16) -> bool
+    ensures { IsTrue result ↔ IsLive (key_at array.now) slot }
 {
-    world.array().block_at(slot).is_some()
+    array.block_at(slot).is_some()
 }
 
 impl<'a> Free for Running<'a> {
@@ -100,13 +109,13 @@ fn is_mirror(groups: &GroupTable, slot: u16) -> bool
         && slot % SLOTS < groups.slots_of(slot / SLOTS)
 }
 
-// Every slot, held or not.
-pub(crate) struct Any;
+/// Every slot, held or not.
+pub struct Any;
 
 impl Free for Any {
     ghost free = { λ any slot. Unit {0} };
 
-    fn is_free(&self, slot: u16) -> bool {
+    fn is_free(&self, _slot: u16) -> bool {
         true
     }
 }

@@ -12,6 +12,7 @@ mod put;
 mod tiers;
 mod write;
 
+pub use asks::{Any, count_live};
 pub use hints::FreeHints;
 pub use outcome::Outcome;
 pub use tiers::Tiers;

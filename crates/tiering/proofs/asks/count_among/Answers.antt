@@ -5,8 +5,8 @@ use Rattle.tiering.proofs.asks.count_among.Goals as goal
 use Rattle.tiering.proofs.asks.count_among.Goals.{then-is_live, else-is_live}
 
 pub loop-index-preserved : goal.loop-index-preserved
-loop-index-preserved c =
-    let keys = key_at c.args.world.now.array in
+loop-index-preserved g c =
+    let keys = key_at c.args.array.now in
     let group = c.args.group in
     let at = c.loop-index in
     elim c.if-is_live.branch [
@@ -19,5 +19,5 @@ loop-index-preserved c =
     ]
 
 pub returns : goal.returns
-returns c =
-    counted_all (key_at c.args.world.now.array) c.args.group c.args.slots c.loop-index.index c.loop-index.count (omega arith) (omega arith) c.loop-index.invariant
+returns g c =
+    counted_all (key_at c.args.array.now) c.args.group c.args.slots c.loop-index.index c.loop-index.count (omega arith) (omega arith) c.loop-index.invariant

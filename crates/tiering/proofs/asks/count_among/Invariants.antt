@@ -3,4 +3,4 @@ use Rattle.tiering.proofs.Counts.{IsCounted}
 use Rattle.tiering.proofs.asks.count_among.Given as goal
 
 abbrev pub invariant-loop-index : goal.invariant-loop-index
-invariant-loop-index l = IsCounted (key_at l.world.array) l.group l.slots l.index l.count
+invariant-loop-index g l = IsCounted (key_at l.array) l.group l.slots l.index l.count

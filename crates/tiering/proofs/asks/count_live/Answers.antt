@@ -1,6 +1,6 @@
-use Rattle.std.proofs.Common.{◌≡◌, ◌≤◌, subst}
+use Rattle.std.proofs.Common.{◌≤◌, subst}
 use Rattle.extent_groups.specs.Groups.{Groups, group_at, slots_in}
-use Rattle.array_book.proofs.asks.RunningLive.count_live.Goals as goal
+use Rattle.tiering.proofs.asks.count_live.Goals as goal
 
 pub returns-then-slots-slots_of : goal.returns-then-slots-slots_of
 returns-then-slots-slots_of g c =

@@ -1,0 +1,38 @@
+-- What a worker moves next: what the definitions of demotions, plugs and cleans choose of what lies under the lock.
+use Rattle.std.specs.Prelude.{◌≡◌, ◌⊎◌, ℕ, [], ◌∷◌, Option, Some, Bool, true, false}
+use Rattle.array_model.specs.Views.{key_at}
+use Rattle.cleaner.specs.declared.moves.Move.{Move}
+use Rattle.cleaner.specs.Plans.{IsPlugPlan, IsCleanPlan}
+use Rattle.migrator.specs.Ages.{IsOldest, IsMarked}
+use Rattle.migrator.specs.First.{IsFirstAppend}
+use Rattle.migrator.specs.Slots.{AreAppendSlots}
+use Rattle.array_book.specs.declared.plan.Plan.{Plan}
+use Rattle.array_book.specs.Kept.{KeptView}
+
+-- the plug, or none
+abbrev pub IsPlugOf : KeptView → Option Move → Type 0
+IsPlugOf k move = IsPlugPlan k.array.parts.groups (key_at k.array) k.end.group move
+
+-- the clean, or none: into the first slot, held or not, where the log goes on
+abbrev pub IsCleanOf : KeptView → Option Move → Type 0
+IsCleanOf k move =
+    (append : Option ℕ) × IsFirstAppend k.end k.array.parts.groups (key_at k.array) (λ slot. Unit {0}) append
+    × IsCleanPlan k.array.parts.groups (key_at k.array) k.end.group append move
+
+-- the marked block that was written longest ago goes to where the log goes on
+pub record IsDemotion (k : KeptView) (plan : Plan) : Type 0 where
+  pub oldest : IsOldest k.ages.order (IsMarked k.ages.marks) (Some plan.block)
+  pub slots : AreAppendSlots k.end k.array.parts.groups (key_at k.array) plan.slots.items
+  pub appends : plan.appends ≡ true
+
+-- the move's block goes to the move's slot, behind which the log goes on or doesn't
+pub record IsMoveBy (move : Move) (behind : Bool) (plan : Plan) : Type 0 where
+  pub block : plan.block ≡ move.block
+  pub slots : plan.slots.items ≡ move.to ∷ []
+  pub appends : plan.appends ≡ behind
+
+-- a demotion, a plug or a clean; the log goes on behind the slot of all but a plug
+abbrev pub IsPlanned : KeptView → Plan → Type 0
+IsPlanned k plan =
+    IsDemotion k plan
+    ⊎ ((move : Move) × ((IsPlugOf k (Some move) × IsMoveBy move false plan) ⊎ (IsCleanOf k (Some move) × IsMoveBy move true plan)))
