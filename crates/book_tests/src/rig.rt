@@ -41,6 +41,11 @@ pub(crate) struct Bench<N: slot_words::Naming, A: map_words::Naming, B: map_word
 
 /// What workers do while a Book lives.
 pub(crate) trait Story {
+    /// How many segments an extent of the Book's drives has.
+    fn segments(&self) -> u32 {
+        8
+    }
+
     /// What each does in a thread of its own.
     fn work<N: slot_words::Naming + Sizes, A: map_words::Naming, B: map_words::Naming, R: Wait>(
         &self,
@@ -186,8 +191,13 @@ fn make_group<C: Hold, R: Abort>(
     claims.destroy_empty();
 }
 
-/// An array with two mirrored groups, of slots 0 to 23 and 128 to 151, and two with parity, of slots 256 and on.
-pub(crate) fn two_of_each<C: Hold, R: Abort>(rt: &R, alloc: Global) -> Array<MemDrive, C>
+/// An array with two mirrored groups, of slots from 0 and 128 on, and two with parity, of slots from 256 and 384 on. With eight
+/// segments a mirrored group has 24 slots and a parity group 32; with one they have two and four.
+pub(crate) fn two_of_each<C: Hold, R: Abort>(
+    rt: &R,
+    alloc: Global,
+    segments: u32,
+) -> Array<MemDrive, C>
     ensures shows { (F : Flat) × ShowsArray result F }
     ensures sizes { (result.parts.groups.blocks ≡ 16) × (result.parts.groups.payload ≡ 8) }
 {
@@ -197,7 +207,7 @@ pub(crate) fn two_of_each<C: Hold, R: Abort>(rt: &R, alloc: Global) -> Array<Mem
         (Class::Parity, 2, [0, 1, 3]),
         (Class::Parity, 3, [0, 2, 3]),
     ];
-    grouped(rt, alloc, 8, &groups)
+    grouped(rt, alloc, segments, &groups)
 }
 
 // Hands for so many workers, or for one where there is none.
@@ -372,7 +382,7 @@ fn live<
         assert!(rt; record.block < 16 && record.version > 0);
         bench.even.take(&mut bench.hands.even, record);
     }
-    let array = two_of_each(rt, alloc);
+    let array = two_of_each(rt, alloc, story.segments());
     let (settled, left) = play(rt, alloc, array, bench, numbers, story);
     let Settled {
         array,

@@ -97,7 +97,7 @@ fn fills_up<
     let mut bench = named::<N, A, B>(tables);
     let mut spare = bench.words.split(&mut bench.hands.pass);
     let mut claims = all_claimed(rt, alloc, &bench.words, &mut spare);
-    let array = two_of_each(rt, alloc);
+    let array = two_of_each(rt, alloc, 8);
     let (settled, left) = play(rt, alloc, array, bench, &[0], &FindsNone);
     assert!(rt; settled == Ok(()));
     let Settled { array, words, pass } = left;

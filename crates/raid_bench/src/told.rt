@@ -9,7 +9,7 @@ const DIFFERS: u8 = 3;
 /// Writes what a storm ends with, and tells the status to end with. Of a storm that has no end nothing is written.
 pub fn tell_storm(rt: &impl Print, told: Result<Storm, StormFault>) -> u8 {
     match told {
-        Ok(Storm::Agreed) => written(print!(rt; "agreed\n"), 0),
+        Ok(Storm::Agreed(_)) => written(print!(rt; "agreed\n"), 0),
         Ok(Storm::Differs(block)) => written(print!(rt; "differs {block}\n"), DIFFERS),
         Err(_) => End::Memory.status(),
     }

@@ -1,5 +1,5 @@
 // The workers of a storm.
-use crate::outcome::StormFault;
+use crate::outcome::{StormFault, Tally};
 use crate::rounds::Rounds;
 use array_book::{Book, Ended, RunFault, Sizes, Worker, run_workers};
 use extents::MemDrive;
@@ -16,7 +16,8 @@ pub(crate) struct Crew {
     pub(crate) payload: u32,
 }
 
-// Runs the workers in threads, each with a part of what these hands have, and tells what all had; the hands come first.
+// Runs the workers in threads, each with a part of what these hands have, and tells what all had, the hands first, and what
+// they had carried out.
 pub(crate) fn run_all<
     N: slot_words::Naming + Sizes + Send + Sync,
     A: map_words::Naming + Send + Sync,
@@ -28,18 +29,15 @@ pub(crate) fn run_all<
     book: &Book<MemDrive, N, A, B>,
     hands: Ended<N, A, B>,
     crew: Crew,
-) -> Result<Vec<Ended<N, A, B>>, StormFault> {
+) -> Result<(Vec<Ended<N, A, B>>, Tally), StormFault> {
     let mut hands = hands;
     let mut hired = hire(alloc, book, &mut hands, crew.workers)?;
-    let rounds = Rounds {
-        writes: crew.writes,
-        payload: crew.payload,
-    };
+    let rounds = Rounds::new(crew.writes, crew.payload);
     if let Err(fault) = run_workers(rt, alloc, &mut hired, &rounds) {
         return Err(StormFault::Run(fault));
     }
     match dismiss(alloc, hands, hired) {
-        Some(ended) => Ok(ended),
+        Some(ended) => Ok((ended, rounds.tally())),
         None => Err(StormFault::Run(RunFault::Memory)),
     }
 }

@@ -8,4 +8,4 @@ mod rounds;
 mod setting;
 
 pub use life::{Fuse, Orders, run_orders, run_storm};
-pub use outcome::{Storm, StormFault};
+pub use outcome::{Storm, StormFault, Tally};

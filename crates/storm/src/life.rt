@@ -1,10 +1,13 @@
 // The whole life of a storm's tables.
-ghost use Rattle.std.specs.Prelude.{◌≡◌};
+ghost use Rattle.std.specs.Prelude.{◌≡◌, ◌≢◌, ℕ, map, IfOk, IfErr};
+ghost use Rattle.array_book.specs.declared.fault.SettleFault.TheVariants as settle_fault;
+ghost use Rattle.array_model.specs.Views.{key_at};
 ghost use Rattle.map_words.specs.Places.{blocks_of};
 ghost use Rattle.slot_words.specs.Places.{slots_of};
+ghost use Rattle.storm.specs.Ending.{IsEnding};
 
 use crate::crew::{Crew, run_all};
-use crate::outcome::{Storm, StormFault};
+use crate::outcome::{Storm, StormFault, Tally};
 use crate::setting::{BLOCKS, PAYLOAD, release_all, storm_array};
 use array_book::{Book, Claim, Ended, SettleFault, Settled, Sizes, settle};
 use extents::MemDrive;
@@ -106,9 +109,9 @@ fn play_out<
         payload: orders.payload,
     };
     match run_all(rt, alloc, &book, hands, crew) {
-        Ok(ended) => close(alloc, book, ended, &mut spare),
+        Ok((ended, tally)) => close(alloc, book, ended, tally, &mut spare),
         Err(fault) => {
-            let _ = close(alloc, book, Vec::new(alloc), &mut spare);
+            let _ = close(alloc, book, Vec::new(alloc), Tally::new(), &mut spare);
             Err(fault)
         }
     }
@@ -148,13 +151,10 @@ fn close<N: slot_words::Naming + Sizes, A: map_words::Naming, B: map_words::Nami
     alloc: Global,
     book: Book<MemDrive, N, A, B>,
     ended: Vec<Ended<N, A, B>>,
+    tally: Tally,
     spare: &mut Pass<N>,
 ) -> Result<Storm, StormFault> {
-    let (settled, told) = match settle(alloc, book, ended) {
-        Ok(settled) => (settled, Ok(Storm::Agreed)),
-        Err((SettleFault::Differs(block), settled)) => (settled, Ok(Storm::Differs(block))),
-        Err((fault, settled)) => (settled, Err(StormFault::Settle(fault))),
-    };
+    let (told, settled) = conclude(alloc, book, ended, tally);
     let Settled {
         array,
         words,
@@ -162,6 +162,38 @@ fn close<N: slot_words::Naming + Sizes, A: map_words::Naming, B: map_words::Nami
     } = settled;
     release_all(&words, spare, array);
     told
+}
+
+// Settles a Book, and tells whether the map of what its workers took is that of its array.
+fn conclude<N: slot_words::Naming + Sizes, A: map_words::Naming, B: map_words::Naming>(
+    alloc: Global,
+    book: Book<MemDrive, N, A, B>,
+    ended: Vec<Ended<N, A, B>>,
+    tally: Tally,
+) -> (Result<Storm, StormFault>, Settled<MemDrive, N>)
+    ensures ok { IfOk result.0 (IsEnding (map (λ e. e.even) ended.items) (map (λ e. e.odd) ended.items) (key_at result.1.array)) }
+    ensures err { IfErr result.0 (λ fault. (block : ℕ) → fault ≢ StormFault.Settle (settle_fault.Differs block)) }
+{
+    match settle(alloc, book, ended) {
+        Ok(settled) => {
+            let mut tally = tally;
+            tally.lost = count_lost(&settled.array);
+            (Ok(Storm::Agreed(tally)), settled)
+        }
+        Err((SettleFault::Differs(block), settled)) => (Ok(Storm::Differs(block)), settled),
+        Err((fault, settled)) => (Err(StormFault::Settle(fault)), settled),
+    }
+}
+
+// How many drives are missing.
+fn count_lost<N: slot_words::Naming>(array: &Array<MemDrive, Claim<N>>) -> u8 {
+    let mut lost = 0u8;
+    for drive in 0..array.drive_count() {
+        if array.is_lost(drive) {
+            lost = lost.saturating_add(1);
+        }
+    }
+    lost
 }
 
 // Whether the drive that is to be lost is there, if there is one; it is lost later then.

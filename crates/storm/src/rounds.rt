@@ -1,19 +1,58 @@
 // What each worker of a storm does.
+use crate::outcome::Tally;
 use crate::setting::BLOCKS;
-use array_book::{Controller, Job, NoGate, Sizes, WorkFault, Worker};
+use array_book::{Controller, Job, Migration, NoGate, Sizes, WorkFault, Worker};
 use extents::Drive;
 use flat_machine::Refusal;
 use std::alloc::Global;
 use std::sync::Wait;
+use std::sync::atomic::AtomicU64;
+use std::sync::atomic::Ordering::SeqCst;
 
 /// Fewer free mirrored slots than these want a demotion.
 const LOW: u32 = 44;
 
-// As many rounds as it is told, with payloads of so many bytes.
+// As many rounds as it is told, with payloads of so many bytes; and what all workers that are done had carried out.
 #[derive(Drop)]
 pub(crate) struct Rounds {
-    pub(crate) writes: u32,
-    pub(crate) payload: u32,
+    writes: u32,
+    payload: u32,
+    written: AtomicU64,
+    moved: AtomicU64,
+    read: AtomicU64,
+    blank: AtomicU64,
+}
+
+impl Rounds {
+    pub(crate) fn new(writes: u32, payload: u32) -> Rounds {
+        Rounds {
+            writes,
+            payload,
+            written: AtomicU64::new(0),
+            moved: AtomicU64::new(0),
+            read: AtomicU64::new(0),
+            blank: AtomicU64::new(0),
+        }
+    }
+
+    // What one worker more had carried out.
+    fn add(&self, tally: &Tally) {
+        self.written.fetch_add(tally.writes, SeqCst);
+        self.moved.fetch_add(tally.moves, SeqCst);
+        self.read.fetch_add(tally.reads, SeqCst);
+        self.blank.fetch_add(tally.blanks, SeqCst);
+    }
+
+    // What all had carried out, with no drive lost.
+    pub(crate) fn tally(&self) -> Tally {
+        Tally {
+            writes: self.written.load(SeqCst),
+            moves: self.moved.load(SeqCst),
+            reads: self.read.load(SeqCst),
+            blanks: self.blank.load(SeqCst),
+            lost: 0,
+        }
+    }
 }
 
 impl<D: Drive, N: slot_words::Naming + Sizes, A: map_words::Naming, B: map_words::Naming> Job<
@@ -31,9 +70,11 @@ impl<D: Drive, N: slot_words::Naming + Sizes, A: map_words::Naming, B: map_words
         let Ok(mut payload) = vec![in alloc; 0; self.payload as usize] else {
             return Err(WorkFault::Memory);
         };
+        let mut tally = Tally::new();
         for round in 0..self.writes {
-            play(rt, alloc, worker, &mut payload, round)?;
+            play(rt, alloc, worker, &mut payload, round, &mut tally)?;
         }
+        self.add(&tally);
         Ok(())
     }
 }
@@ -52,6 +93,7 @@ fn play<
     worker: &mut Worker<'_, D, N, A, B>,
     payload: &mut [u8],
     round: u32,
+    tally: &mut Tally,
 ) -> Result<(), WorkFault> {
     let number = worker.number();
     if worker.blocks() != BLOCKS
@@ -62,9 +104,18 @@ fn play<
     }
     let block = (u32::from(number) + round % BLOCKS) % BLOCKS;
     payload[..8].copy_from_slice(&numbers_of(u32::from(number), round));
-    passed_over(worker.write(rt, alloc, block, payload, &NoGate))?;
-    passed_over(worker.migrate(rt, alloc, LOW, &NoGate))?;
-    passed_over(worker.read(rt, alloc, Controller::of(number % 2 + 1), block))
+    if let Some(_emitted) = passed_over(worker.write(rt, alloc, block, payload, &NoGate))? {
+        tally.writes = tally.writes.saturating_add(1);
+    }
+    if let Some(Migration::Moved(_)) = passed_over(worker.migrate(rt, alloc, LOW, &NoGate))? {
+        tally.moves = tally.moves.saturating_add(1);
+    }
+    match passed_over(worker.read(rt, alloc, Controller::of(number % 2 + 1), block))? {
+        Some(Some(_)) => tally.reads = tally.reads.saturating_add(1),
+        Some(None) => tally.blanks = tally.blanks.saturating_add(1),
+        None => {}
+    }
+    Ok(())
 }
 
 // Two numbers, each with its highest byte first.
@@ -79,12 +130,12 @@ fn numbers_of(number: u32, round: u32) -> [u8; 8] {
     numbers
 }
 
-// Goes on where no slot was free, or a record was ahead of the array.
-fn passed_over<T: Drop>(told: Result<T, WorkFault>) -> Result<(), WorkFault> {
+// What a call answers; none where no slot was free, or a record was ahead of the array, and a worker goes on.
+fn passed_over<T: Drop>(told: Result<T, WorkFault>) -> Result<Option<T>, WorkFault> {
     match told {
-        Ok(_) => Ok(()),
-        Err(WorkFault::NoRoom) => Ok(()),
-        Err(WorkFault::Core(Refusal::Ahead(_))) => Ok(()),
+        Ok(answer) => Ok(Some(answer)),
+        Err(WorkFault::NoRoom) => Ok(None),
+        Err(WorkFault::Core(Refusal::Ahead(_))) => Ok(None),
         Err(fault) => Err(fault),
     }
 }
