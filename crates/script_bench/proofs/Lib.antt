@@ -4,3 +4,4 @@ pub mod Ranges
 pub mod Said
 pub mod Scanned
 pub mod Regrouped
+pub mod Newest

@@ -1,5 +1,7 @@
 //! Commands behind the first one.
-ghost use Rattle.std.specs.Prelude.{◌≡◌, ◌<◌, ◌^◌, OnOk, length};
+ghost use Rattle.std.specs.Prelude.{◌≡◌, ◌<◌, ◌^◌, IfOk, OnOk, length};
+ghost use Rattle.array_model.specs.Views.{key_at};
+ghost use Rattle.map_join.specs.Maps.{IsListOf};
 ghost use Rattle.script_bench.specs.Carrying.{Carries};
 ghost use Rattle.script_bench.specs.State.{IsMemberInRange, IsWithin};
 ghost use Rattle.script_words.specs.Order as o;
@@ -15,7 +17,7 @@ use crate::texts::{put_answer, put_listing, put_outcome, put_regrouped};
 use map_join::Record;
 use script_words::{Command, Named, Verb};
 use std::alloc::{AllocError, Global};
-use step_core::Class;
+use step_core::{Array, Class, Drive, Hold};
 
 /// Carries out a command that is within the limits, and appends its answer. A restart is carried out by `restart`.
 pub fn carry_out(
@@ -189,13 +191,25 @@ fn unmake(
 fn map(alloc: Global, bench: &mut Bench, out: &mut Vec<u8>) -> Result<(), AllocError>
     ensures { OnOk result (Carries bench.old bench.new o.Map out.old.items out.new.items) }
 {
-    let Ok(map) = bench.tiers.world.array().map(alloc) else {
-        return Err(AllocError)
-    };
-    let Ok(records) = map.to_list(alloc) else {
-        return Err(AllocError)
-    };
+    let records = newest_records(alloc, bench.tiers.world.array())?;
     put_listing(out, b"map ", &records)
+}
+
+// The newest record of each block that has one, in the blocks' order.
+fn newest_records<D: Drive, C: Hold>(
+    alloc: Global,
+    array: &Array<D, C>,
+) -> Result<Vec<Record>, AllocError>
+    ensures { IfOk result (λ records. IsListOf (key_at array.now) records.items) }
+{
+    array.whole();
+    let mut records = Vec::new(alloc);
+    for block in 0..array.shape().blocks {
+        if let Some(record) = array.newest(block) {
+            records.push(record)?;
+        }
+    }
+    Ok(records)
 }
 
 fn log(alloc: Global, bench: &mut Bench, out: &mut Vec<u8>) -> Result<(), AllocError>

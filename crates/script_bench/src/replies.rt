@@ -40,7 +40,8 @@ pub fn reply(
     }
 }
 
-// The first command makes the array.
+// The first command makes the array. Kept out of line, as `restart`.
+#[inline(never)]
 fn first(alloc: Global, line: &[u8], out: &mut Vec<u8>) -> Result<Bench, Failure>
     ensures { Starts result line.now out.old.items out.new.items }
 {

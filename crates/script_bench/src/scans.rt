@@ -25,7 +25,8 @@ pub fn scan(alloc: Global, bench: &mut Bench, out: &mut Vec<u8>) -> Result<(), A
 }
 
 /// Makes the array anew from the map that the headers tell, or tells the fault that comes first. The bench is
-/// taken out for it, and is gone where memory is wanted.
+/// taken out for it, and is gone where memory is wanted. Kept out of line, since its frame has room for a second bench.
+#[inline(never)]
 pub fn restart(
     alloc: Global,
     bench: &mut Option<Bench>,
