@@ -1,6 +1,7 @@
 pub mod GeometryLaws
 pub mod Places
 pub mod OwnersLemmas
+pub mod ParitySlots
 pub mod Bounds
 pub mod Fresh
 pub mod GroupsLemmas

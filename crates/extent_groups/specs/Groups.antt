@@ -1,7 +1,8 @@
 -- The groups: which numbers are made, with which class and members, and what is true of every table of them.
-use Rattle.std.specs.Prelude.{Bool, ◌==◌, ◌&&◌, ◌≡◌, ℕ, ◌<◌, ◌≤◌, Option, Some, None, List, [], ◌∷◌, length, slice_get, slice_set, unwrap_or}
+use Rattle.std.specs.Prelude.{Bool, ◌==◌, ◌&&◌, ◌≡◌, ℕ, ◌<◌, ◌≤◌, Option, Some, None, List, [], ◌∷◌, length, map, slice_get, slice_set, unwrap_or}
 use Rattle.extents.specs.Owners.{Owners, owner_of, with_owner, row_of, IsExtent}
 use Rattle.extent_groups.specs.declared.class.Class.{Class}
+use Rattle.extent_groups.specs.declared.class.Class.TheVariants.{Mirrored, Parity}
 use Rattle.extent_groups.specs.declared.class.Member.{Member}
 use Rattle.extent_groups.specs.Geometry.{slot_count}
 
@@ -36,6 +37,19 @@ class_in (Some group) = Some group.class
 abbrev pub slots_in : ℕ → Option Group → ℕ
 slots_in segments None = 0
 slots_in segments (Some group) = slot_count group.class (length group.members) segments
+
+-- how many slots what may be a group has as a parity group: none where the number is free or the group mirrored
+abbrev pub parity_count : Class → ℕ → ℕ → ℕ
+parity_count Mirrored n s = 0
+parity_count Parity n s = slot_count Parity n s
+
+abbrev pub parity_slots_in : ℕ → Option Group → ℕ
+parity_slots_in segments None = 0
+parity_slots_in segments (Some group) = parity_count group.class (length group.members) segments
+
+-- the same of each number in turn
+abbrev pub parity_slots_of : Groups → List ℕ
+parity_slots_of groups = map (parity_slots_in groups.segments) groups.table
 
 -- the members of a group, none where the number is free
 abbrev pub members_of : Groups → ℕ → List Member

@@ -7,7 +7,7 @@ ghost use Rattle.extent_groups.specs.Groups.{Group, AreThere, with_owners, group
 ghost use Rattle.extent_groups.specs.Kept.{group_of};
 ghost use Rattle.extent_groups.specs.declared.refusal.GroupRefusal.TheVariants.{NoGroup, Memory};
 
-use crate::table::Kept;
+use crate::table::{Kept, count_parity};
 use crate::{Class, GroupRefusal, GroupTable, Member};
 use extents::ExtentTable;
 use std::alloc::Global;
@@ -126,6 +126,8 @@ impl GroupTable {
         ensures agree { Agree self.new extents.new }
     {
         give(extents, &members, Some(group));
+        let slots = count_parity(class, members.len() as u16, self.shape.segments as u16);
+        self.parity_slots[group as usize] = slots;
         self.groups[group as usize] = Some(Kept { class, members });
     }
 
@@ -172,6 +174,7 @@ impl GroupTable {
             return Err(GroupRefusal::NoGroup);
         };
         give(extents, &kept.members, None);
+        self.parity_slots[group as usize] = 0;
         self.groups[group as usize] = None;
         Ok(())
     }

@@ -1,5 +1,6 @@
 // The groups by number.
 ghost use Rattle.std.specs.Prelude.{◌≡◌, ◌↔◌, IsTrue, ℕ, ◌+◌, ◌/◌, ◌<◌, ◌≤◌, Bool, length, Some, None, IfOk, OnOk, OnErr, IfErr, MatchOption, OnSome, slice_get, replicate};
+ghost use Rattle.extent_groups.specs.Groups.{parity_count};
 ghost use Rattle.extent_groups.specs.Geometry.{slot_count, copies_of, parity_of, stripe_of, AreCopies, IsStripe};
 
 use crate::{Class, Copies, Member, Place, Stripe, geometry};
@@ -25,6 +26,8 @@ pub(crate) struct Kept {
 pub struct GroupTable {
     pub(crate) shape: Shape,
     pub(crate) groups: Vec<Option<Kept>>,
+    // How many slots each parity group has, by number; plans walk these, and not the groups.
+    pub(crate) parity_slots: Vec<u16>,
 }
 
 impl Model for GroupTable {
@@ -32,12 +35,11 @@ impl Model for GroupTable {
 
     ghost Value = { Groups };
 
-    ghost use Rattle.extent_groups.specs.Groups.{AreGroups};
-    ghost use Rattle.extent_groups.specs.Kept.{groups_in};
+    ghost use Rattle.extent_groups.specs.Kept.{IsKept, groups_in};
 
     ghost view = { λ t. groups_in t.shape t.groups.items };
 
-    ghost invariant = { λ t. AreGroups (groups_in t.shape t.groups.items) };
+    ghost invariant = { λ t. IsKept t.shape t.groups.items t.parity_slots.items };
 }
 
 /// So many numbers that are free.
@@ -49,6 +51,19 @@ fn free_numbers(alloc: Global, count: usize) -> Result<Vec<Option<Kept>>, AllocE
         numbers.push(None)?;
     }
     Ok(numbers)
+}
+
+// How many slots a group of so many members and segments has, if it is a parity group, and else none.
+pub(crate) fn count_parity(class: Class, members: u16, segments: u16) -> u16
+    requires some { 1 ≤ members }
+    requires few { members ≤ 8 }
+    requires short { segments ≤ 8 }
+    ensures { result ≡ parity_count class members segments }
+{
+    match class {
+        Class::Mirrored => 0,
+        Class::Parity => count_slots(class, members, segments),
+    }
 }
 
 /// How many slots a group of so many members and segments has.
@@ -67,7 +82,7 @@ pub(crate) fn count_slots(class: Class, members: u16, segments: u16) -> u16
 impl GroupTable {
     ghost use Rattle.extents.specs.Shapes.{IsShapeOf};
     ghost use Rattle.extents.specs.Owners.{all_free};
-    ghost use Rattle.extent_groups.specs.Groups.{group_at, class_in, slots_in, members_of, AreGroups, Agree, IsFree};
+    ghost use Rattle.extent_groups.specs.Groups.{group_at, class_in, slots_in, parity_slots_of, members_of, AreGroups, Agree, IsFree};
     ghost use Rattle.extent_groups.specs.Kept.{group_of};
     ghost use Rattle.extents.specs.Sizes.{extent_units};
     ghost use Rattle.extent_groups.specs.Layout.{IsLayout};
@@ -85,6 +100,7 @@ impl GroupTable {
         Ok(GroupTable {
             shape: *shape,
             groups: free_numbers(alloc, GROUPS)?,
+            parity_slots: vec![in alloc; 0; GROUPS]?,
         })
     }
 
@@ -145,6 +161,14 @@ impl GroupTable {
             }
             None => 0,
         }
+    }
+
+    /// How many slots each parity group has, by its number; 0 where the number is free or its group mirrored.
+    pub fn parity_slots(&self) -> &[u16]
+        ensures slots { result.now ≡ parity_slots_of self.now }
+        ensures groups { AreGroups self.now }
+    {
+        &self.parity_slots
     }
 
     /// The two copies of a mirrored slot.

@@ -13,7 +13,7 @@ count_slots-requires c =
     record {
       some = omega (arith, form.enough, ap length c.deref-members.ensures.value);
       few = omega (arith, form.few, ap length c.deref-members.ensures.value);
-      short = omega (arith, c.self.invariant.segments);
+      short = omega (arith, c.self.invariant.groups.segments);
     }
 
 pub returns-in-Some-clause-layout : goal.returns-in-Some-clause-layout

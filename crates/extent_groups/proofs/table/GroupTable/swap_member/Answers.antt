@@ -7,6 +7,7 @@ use Rattle.extent_groups.specs.Faults.{swap_check_of}
 use Rattle.extent_groups.specs.Groups.{members_in, members_of, with_group, with_member, swapped_in}
 use Rattle.extent_groups.proofs.Agreement.{members_there}
 use Rattle.extent_groups.proofs.Keeping.{is_swapped, number_is, was_of, member_below}
+use Rattle.extent_groups.proofs.ParitySlots.{slots_swapped}
 use Rattle.extent_groups.proofs.table.GroupTable.swap_member.Goals as goal
 
 pub set_owner-requires : goal.set_owner-requires
@@ -24,7 +25,11 @@ invariant_of-self c =
     let fine = ap (λ l. swap_check_of c.args.extents.now l c.args.to) (sym c.deref-members.ensures.value) ∙ sym c.in_default-swap_check.ensures in
     let done = is_swapped c.self.inside.shape _ c.args.self.now c.args.extents.now c.args.group c.args.member _ _ _ c.args.to c.self.view_is c.in-Some.ensures.groups c.requires.agree
     c.in-Some.ensures.within c.in-Some.ensures.made is at c.requires.there fine in
-    done.groups
+    record {
+      groups = done.groups;
+      slots = slots_swapped c.self.inside.shape c.self.inside.groups.items c.self.inside.parity_slots.items c.args.self.now c.args.group c.args.member _ _ c.args.to
+          c.self.invariant.slots c.self.view_is c.in-Some.ensures.made is;
+    }
 
 pub returns-clause-swapped : goal.returns-clause-swapped
 returns-clause-swapped c =
