@@ -1,9 +1,7 @@
 -- The first free slot, group by group.
-use Rattle.std.proofs.Common.{◌≡◌, ◌⊎◌, inl, inr, ℕ, ◌+◌, ◌*◌, ◌/◌, ◌%◌, ◌<◌, ◌≤◌, arith, length, sym, ◌∙◌, Option, Some, None}
-use Rattle.std.specs.Prelude.{MatchOption}
+use Rattle.std.proofs.Common.{◌≡◌, ◌⊎◌, inl, inr, ℕ, ◌+◌, ◌*◌, ◌/◌, ◌%◌, ◌<◌, arith, length, sym, ◌∙◌, Option, Some, None}
 use Rattle.std.proofs.lemmas.Option.{same_Some}
 use Rattle.migrator.proofs.Picks.{made_low}
-use Rattle.std.proofs.lemmas.Bool.{cases_lt}
 use Rattle.extent_groups.specs.declared.class.Class.TheVariants.{Parity}
 use Rattle.extent_groups.specs.Groups.{Groups}
 use Rattle.migrator.specs.Slots.{End, IsBehind, IsFresh}
@@ -13,25 +11,6 @@ use Rattle.migrator.specs.First.{Behind, IsLowest, IsFirst, IsFreeBehind, IsFree
 -- a number is its group's first and its index
 pub slot_is : (group slot : ℕ) → slot / 128 ≡ group → 128 * group + slot % 128 ≡ slot
 slot_is group slot own = omega arith
-
-module _ (P : ℕ → Type 0) where
-  -- one group more without any
-  pub none_more : (group : ℕ) → ((s : ℕ) → s / 128 < group → P s → ⊥) → ((s : ℕ) → s / 128 ≡ group → P s → ⊥) → (s : ℕ) → s / 128 < group + 1 → P s → ⊥
-  none_more group below here s l p = by (cases_lt (s / 128) group)
-    where
-      by : (s / 128 < group) ⊎ (group ≤ s / 128) → ⊥
-      by (inl m) = below s m p
-      by (inr m) = here s (omega (arith, l, m)) p
-
-  -- a group's first is the first where no lower group has any
-  pub first_here : (group slot : ℕ) → ((s : ℕ) → s / 128 < group → P s → ⊥) → slot / 128 ≡ group → P slot
-      → ((s : ℕ) → s / 128 ≡ group → P s → slot ≤ s) → IsLowest P slot
-  first_here group slot below own is least = record { holds = is; least = λ s p. by s p (cases_lt (s / 128) group) (cases_lt group (s / 128)) }
-    where
-      by : (s : ℕ) → P s → (s / 128 < group) ⊎ (group ≤ s / 128) → (group < s / 128) ⊎ (s / 128 ≤ group) → slot ≤ s
-      by s p (inl m) _ = absurd (below s m p)
-      by s p (inr m) (inl n) = omega (arith, own, n)
-      by s p (inr m) (inr n) = least s (omega (arith, m, n)) p
 
 -- picked and free is what each kind says
 module _ (end : End) (groups : Groups) (keys : ℕ → ℕ) (free : ℕ → Type 0) where
@@ -77,12 +56,10 @@ module _ (end : End) (groups : Groups) (keys : ℕ → ℕ) (free : ℕ → Type
 
 -- the first of the write group is the first where the log goes on behind it
 pub behind_first : (end : End) (groups : Groups) (keys : ℕ → ℕ) (free : ℕ → Type 0) (group : ℕ) (result : Option ℕ) → end.group ≡ Some group
-    → MatchOption result (Unit {0}) (λ slot. Behind end groups keys free slot)
-    → ((slot : ℕ) → slot / 128 ≡ group → Behind end groups keys free slot → MatchOption result ⊥ (λ found. found ≤ slot))
-    → IsFirst (Behind end groups keys free) result
-behind_first end groups keys free group None is some first = λ n p. first n (same_Some (n / 128) group (sym p.picked.group_too ∙ is)) p
-behind_first end groups keys free group (Some slot) is some first =
-    record { holds = some; least = λ n p. first n (same_Some (n / 128) group (sym p.picked.group_too ∙ is)) p }
+    → IsFirst (λ slot. (slot / 128 ≡ group) × Behind end groups keys free slot) result → IsFirst (Behind end groups keys free) result
+behind_first end groups keys free group None is first = λ n p. first n (same_Some (n / 128) group (sym p.picked.group_too ∙ is), p)
+behind_first end groups keys free group (Some slot) is first =
+    record { holds = first.holds.1; least = λ n p. first.least n (same_Some (n / 128) group (sym p.picked.group_too ∙ is), p) }
 
 -- there is none where there is no write group of a number that groups have
 pub behind_none : (end : End) (groups : Groups) (keys : ℕ → ℕ) (free : ℕ → Type 0) → length groups.table ≡ 512

@@ -4,3 +4,4 @@ pub mod Law
 pub mod Passed
 pub mod Picks
 pub mod Firsts
+pub mod Blanks

@@ -6,6 +6,7 @@ ghost use Rattle.migrator.specs.First.{Behind, IsFirst, IsFirstAppend, IsFreePic
 
 use crate::LogEnd;
 use crate::append::{Fresh, GoingOn};
+use crate::rows::{ROW, ROWS, may_have};
 use crate::slots::{Every, Picks, count_of, is_of};
 use extent_groups::{Class, GROUPS, GroupTable, SLOTS};
 use map_join::Live;
@@ -71,7 +72,29 @@ fn first_picked<P: Picks, F: Free>(
     ensures { IsFirst (IsFreePick class groups.now (P.group_is which.now) (P.slot_is which.now) (F.free free.now)) result }
 {
     let _members = groups.members(0);
-    for group in 0..GROUPS as u16 {
+    for row in 0..ROWS {
+        if may_have(groups, class, row) {
+            match first_in_row(groups, class, row, which, free) {
+                Some(slot) => return Some(slot),
+                None => {}
+            }
+        }
+    }
+    None
+}
+
+// The lowest of these in a row of groups.
+fn first_in_row<P: Picks, F: Free>(
+    groups: &GroupTable,
+    class: Class,
+    row: u16,
+    which: &P,
+    free: &F,
+) -> Option<u16>
+    requires { row < 64 }
+    ensures { IsFirst (λ slot. (slot / 1024 ≡ row) × IsFreePick class groups.now (P.group_is which.now) (P.slot_is which.now) (F.free free.now) slot) result }
+{
+    for group in ROW * row..ROW * row + ROW {
         match first_in(groups, class, group, which, free) {
             Some(slot) => return Some(slot),
             None => {}
@@ -89,10 +112,7 @@ fn first_in<P: Picks, F: Free>(
     free: &F,
 ) -> Option<u16>
     requires { group < 512 }
-    ensures own { MatchOption result (Unit {0}) (λ slot. slot / 128 ≡ group) }
-    ensures some { MatchOption result (Unit {0}) (λ slot. IsFreePick class groups.now (P.group_is which.now) (P.slot_is which.now) (F.free free.now) slot) }
-    ensures first { (slot : ℕ) → slot / 128 ≡ group → IsFreePick class groups.now (P.group_is which.now) (P.slot_is which.now) (F.free free.now) slot
-        → MatchOption result ⊥ (λ found. found ≤ slot) }
+    ensures { IsFirst (λ slot. (slot / 128 ≡ group) × IsFreePick class groups.now (P.group_is which.now) (P.slot_is which.now) (F.free free.now) slot) result }
 {
     if !is_of(groups, class, group) {
         return None;

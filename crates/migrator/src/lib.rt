@@ -7,6 +7,7 @@ mod laws;
 mod log_end;
 mod marked_ages;
 mod recency;
+mod rows;
 mod slots;
 
 pub use append::append_slots;

@@ -6,6 +6,7 @@ ghost use Rattle.map_join.specs.Lists.{Lists, ListsBelow};
 ghost use Rattle.migrator.specs.Slots.{AreMirrorSlots};
 ghost use Rattle.migrator.specs.Picking.{IsPicked};
 
+use crate::rows::{ROW, ROWS, may_have};
 use extent_groups::{Class, GROUPS, GroupTable, SLOTS};
 use std::alloc::{AllocError, Global};
 
@@ -60,10 +61,30 @@ pub(crate) fn picked_slots<P: Picks>(
 {
     let _members = groups.members(0);
     let mut slots = Vec::new(alloc);
-    for group in 0..GROUPS as u16 {
-        push_group(&mut slots, groups, class, group, which)?;
+    for row in 0..ROWS {
+        if may_have(groups, class, row) {
+            push_row(&mut slots, groups, class, row, which)?;
+        }
     }
     Ok(slots)
+}
+
+// Those of a row of groups, where those of all lower rows are listed.
+fn push_row<P: Picks>(
+    slots: &mut Vec<u16>,
+    groups: &GroupTable,
+    class: Class,
+    row: u16,
+    which: &P,
+) -> Result<(), AllocError>
+    requires row { row < 64 }
+    requires lower { ListsBelow (IsPicked class groups.now (P.group_is which.now) (P.slot_is which.now)) (1024 * row) slots.old.items }
+    ensures { OnOk result (ListsBelow (IsPicked class groups.now (P.group_is which.now) (P.slot_is which.now)) (1024 * (row + 1)) slots.new.items) }
+{
+    for group in ROW * row..ROW * row + ROW {
+        push_group(slots, groups, class, group, which)?;
+    }
+    Ok(())
 }
 
 // The slots of a class that are picked, where they are in no other group than this one.

@@ -15,11 +15,7 @@ loop-index-preserved g c =
     ]
 
 pub returns : goal.returns
-returns g c = record {
-  own = tt;
-  some = tt;
-  first = λ slot own p.
-      let P = IsFreePick c.args.class c.args.groups.now (g.P.Picks.group_is c.args.which.now) (g.P.Picks.slot_is c.args.which.now) (g.F.Free.free c.args.free.now) in
-      let below = (c.count_of-index-end.ensures.just slot own).0 p.picked.slot_of in
-      c.loop-index.invariant (slot % 128) (omega (arith, below, c.loop-index-test.false)) (subst P (sym (slot_is c.args.group slot own)) p);
-}
+returns g c = λ slot p.
+    let P = IsFreePick c.args.class c.args.groups.now (g.P.Picks.group_is c.args.which.now) (g.P.Picks.slot_is c.args.which.now) (g.F.Free.free c.args.free.now) in
+    let below = (c.count_of-index-end.ensures.just slot p.0).0 p.1.picked.slot_of in
+    c.loop-index.invariant (slot % 128) (omega (arith, below, c.loop-index-test.false)) (subst P (sym (slot_is c.args.group slot p.0)) p.1)
