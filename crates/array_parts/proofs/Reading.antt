@@ -1,24 +1,27 @@
 -- What a read and a write of the drives tell of the parts.
-use Rattle.std.proofs.Common.{◌≡◌, ℕ, ◌/◌, ◌%◌, ◌<◌, Bool, true, Option, Some, None, List, Vec, length, refl, sym, ◌∙◌, ap, subst, arith, nat_lt, if◌then◌else◌}
-use Rattle.std.specs.Prelude.{slice_get}
+use Rattle.std.proofs.Common.{◌≡◌, ℕ, ◌/◌, ◌%◌, ◌<◌, Bool, true, Option, Some, None, Result, Ok, Err, OnOk, IfErr, List, Vec, length, refl, sym, ◌∙◌, ap, subst, arith, nat_lt, if◌then◌else◌}
+use Rattle.std.specs.Prelude.{slice_get, ok_or}
+use Rattle.std.specs.Result.{result_ok}
 use Rattle.std.specs.Vec.{with_items}
 use Rattle.std.proofs.lemmas.List.{with_items_is}
 use Rattle.std.proofs.lemmas.Bool.Decides.{nat_tests}
 use Rattle.std.proofs.lemmas.Option.{none-some, slice_get-get_or, slice_get_within}
+use Rattle.flat_machine.specs.declared.refusal.Refusal.{Refusal}
 use Rattle.flat_machine.specs.declared.refusal.Refusal.TheVariants.{Gone}
 use Rattle.flat_machine.specs.Cases.{Fares}
 use Rattle.extent_groups.specs.declared.place.Place.{Place}
+use Rattle.extent_groups.specs.declared.refusal.StoreRefusal.{StoreRefusal}
 use Rattle.extent_groups.specs.Geometry.{slot_count}
 use Rattle.extent_groups.specs.Groups.{Group, Groups, AreGroups, group_at, slots_in}
 use Rattle.extent_groups.specs.Cells.{cells}
 use Rattle.extent_groups.specs.Calls.{KeepsDrives}
 use Rattle.extent_groups.specs.Missing.{missing_of, is_missing, IsGone}
 use Rattle.extent_groups.specs.Units.{Site, site_in, site_of, site_of_index}
-use Rattle.extent_groups.specs.Stores.{unit_of, AreDrives}
+use Rattle.extent_groups.specs.Stores.{unit_of, AreDrives, NamesGone}
 use Rattle.array_parts.specs.declared.parts.Parts.{Parts}
 use Rattle.extent_groups.proofs.Missing.{gone_law}
 use Rattle.array_parts.specs.Losses.{AllFare, failures_at}
-use Rattle.array_parts.specs.Slots.{IsSlot, TellsGone}
+use Rattle.array_parts.specs.Slots.{IsSlot, missing_in, TellsGone}
 
 -- a Vec whose elements were lent and written holds what was written
 pub written_back : {X Z : Type 0} (v : Vec X Z) (lent new : List X) → lent ≡ v.items → length new ≡ length lent → (with_items v new).items ≡ new
@@ -78,6 +81,27 @@ gone_of units lost p ds slot same is groups are none = record {
   none = ap (λ xs. unit_of p.groups (cells units lost xs) slot) same ∙ none;
   gone = subst (λ xs. IsGone p.groups (missing_of lost xs) slot) (sym same) (is_gone units lost p.groups ds slot is groups are none);
 }
+
+-- what the answer to a read or a write of a slot tells of the parts
+pub record SlotTold {A D : Type 0} (units : D → List (List ℕ)) (lost : D → Bool) (p : Parts D) (slot : ℕ) (answer : Result A Refusal) : Type 0 where
+  pub there : OnOk answer (IsGone p.groups (missing_in lost p) slot → ⊥)
+  pub gone : IfErr answer (TellsGone units lost p slot)
+
+-- the parts with what was written to the drives that they lent
+abbrev pub lent_back : {D : Type 0} → Parts D → List D → Parts D
+lent_back p new = record { shape = p.shape; groups = p.groups; extents = p.extents; drives = with_items p.drives new }
+
+-- the answer of a store that was lent the drives, with its refusal as the machine's
+pub slot_told : {A D : Type 0} (units : D → List (List ℕ)) (lost : D → Bool) (p : Parts D) (lent new : List D) (slot : ℕ) (u : List ℕ) (found : Result A StoreRefusal) (answer : Result A Refusal)
+    → answer ≡ ok_or (result_ok found) (Gone slot) → lent ≡ p.drives.items → length new ≡ length lent → IsSlot p.groups slot → AreGroups p.groups → AreDrives units p.groups new
+    → OnOk found (unit_of p.groups (cells units lost new) slot ≡ Some u) → IfErr found (NamesGone p.groups (cells units lost new) slot) → SlotTold units lost (lent_back p new) slot answer
+slot_told units lost p lent new slot u (Ok done) answer told e many is groups are there names = subst (SlotTold units lost (lent_back p new) slot) (sym told) (record {
+  there = subst (λ ds. IsGone p.groups (missing_of lost ds) slot → ⊥) (sym (written_back p.drives lent new e many)) (not_gone units lost p.groups new slot u groups are there);
+  gone = tt;
+})
+slot_told units lost p lent new slot u (Err refusal) answer told e many is groups are there names =
+    subst (SlotTold units lost (lent_back p new) slot) (sym told)
+    (record { there = tt; gone = gone_of units lost (lent_back p new) new slot (written_back p.drives lent new e many) is groups are names.1 })
 
 -- what is left of the drives, told of the parts that were lent them
 pub fares_back : {D : Type 0} {units : D → List (List ℕ)} {lost : D → Bool} {failures : D → ℕ} {touched : Place → Type 0} {Z : Type 0} (v : Vec D Z) (lent new : List D) → lent ≡ v.items

@@ -1,5 +1,5 @@
 -- An array's parts as plain data, and what calls of its drives leave of its slots, told of any units that the drives show.
-use Rattle.std.specs.Prelude.{◌≡◌, ◌⊎◌, ℕ, ◌+◌, Bool, true, false, List, length, map, Option, Some, None}
+use Rattle.std.specs.Prelude.{◌≡◌, ◌⊎◌, ℕ, ◌+◌, Bool, false, List, length, map, Option, Some, None}
 use Rattle.map_join.specs.declared.records.Record.{Record}
 use Rattle.extents.specs.declared.header.Header.{Header}
 use Rattle.extents.specs.Owners.{Owners, with_drive}

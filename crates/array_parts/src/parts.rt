@@ -82,10 +82,9 @@ impl<D: Drive> Parts<D> {
         ensures fit { IsFit D.units self.new }
     {
         let drives: &mut [D] = &mut self.drives;
-        match read_slot(&self.groups, drives, slot, unit, scratch) {
-            Ok(()) => Ok(()),
-            Err(_) => Err(Refusal::Gone(slot)),
-        }
+        read_slot(&self.groups, drives, slot, unit, scratch)
+            .ok()
+            .ok_or(Refusal::Gone(slot))
     }
 
     /// Writes the unit of a slot, with two buffers of a unit's length.
@@ -104,9 +103,8 @@ impl<D: Drive> Parts<D> {
         ensures fit { IsFit D.units self.new }
     {
         let drives: &mut [D] = &mut self.drives;
-        match write_slot(&self.groups, drives, slot, unit, scratch) {
-            Ok(()) => Ok(()),
-            Err(_) => Err(Refusal::Gone(slot)),
-        }
+        write_slot(&self.groups, drives, slot, unit, scratch)
+            .ok()
+            .ok_or(Refusal::Gone(slot))
     }
 }

@@ -63,10 +63,9 @@ pub fn read<D: Drive>(
     ensures drives { AreDrives D.units groups.now drives.new }
 {
     let (first, second) = groups.pair_of(slot);
-    if read_pair(drives, first, second, unit) {
-        return Ok(());
-    }
-    Err(StoreRefusal::Gone(slot))
+    read_pair(drives, first, second, unit)
+        .then_some(())
+        .ok_or(StoreRefusal::Gone(slot))
 }
 
 /// Writes the unit of a slot to the copies whose drives are there; refused where both are lost.
@@ -88,8 +87,7 @@ pub fn write<D: Drive>(
     ensures drives { AreDrives D.units groups.now drives.new }
 {
     let (first, second) = groups.pair_of(slot);
-    if write_pair(drives, first, second, unit) {
-        return Ok(());
-    }
-    Err(StoreRefusal::Gone(slot))
+    write_pair(drives, first, second, unit)
+        .then_some(())
+        .ok_or(StoreRefusal::Gone(slot))
 }

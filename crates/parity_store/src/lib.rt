@@ -40,17 +40,10 @@ pub fn read<D: Drive>(
 {
     let at = groups.row_of(slot);
     let size = unit.len();
-    if stripe::read_stripe(
-        groups,
-        drives,
-        slot / SLOTS,
-        &at,
-        unit,
-        &mut scratch[..size],
-    ) {
-        return Ok(());
-    }
-    Err(StoreRefusal::Gone(slot))
+    let part = &mut scratch[..size];
+    stripe::read_stripe(groups, drives, slot / SLOTS, &at, unit, part)
+        .then_some(())
+        .ok_or(StoreRefusal::Gone(slot))
 }
 
 /// Writes the unit of a slot and its parity, as far as their drives are there, with two buffers of a unit's length; refused where the unit's drive and another member's are lost.
@@ -73,8 +66,7 @@ pub fn write<D: Drive>(
 {
     let at = groups.row_of(slot);
     let (old, sum) = scratch.split_at_mut(unit.len());
-    if stripe::write_stripe(groups, drives, slot / SLOTS, &at, unit, old, sum) {
-        return Ok(());
-    }
-    Err(StoreRefusal::Gone(slot))
+    stripe::write_stripe(groups, drives, slot / SLOTS, &at, unit, old, sum)
+        .then_some(())
+        .ok_or(StoreRefusal::Gone(slot))
 }

@@ -1,4 +1,4 @@
-use Rattle.std.proofs.Common.{◌≡◌, ◌/◌, ◌⊎◌, ℕ, inl, inr, refl, sym, subst}
+use Rattle.std.proofs.Common.{◌/◌, inl, inr, refl, sym, subst}
 use Rattle.extent_groups.specs.Stores.{HasMemberOn}
 use Rattle.extent_groups.proofs.Elsewhere.{same_more, site_member}
 use Rattle.extent_groups.proofs.Sites.{site_places}
@@ -11,15 +11,6 @@ read_pair-requires-clause-first g c = site_places _ _ _ c.args.slot _ c.pair_of.
 pub read_pair-requires-clause-second : goal.read_pair-requires-clause-second
 read_pair-requires-clause-second g c = site_places _ _ _ c.args.slot _ c.pair_of.ensures.groups c.requires.drives c.pair_of.ensures.site _ (inr refl)
 
-pub returns-then-read_pair-clause-units : goal.returns-then-read_pair-clause-units
-returns-then-read_pair-clause-units g c = λ s. (read_keeps _ _ _ c.pair_of.ensures.groups c.requires.drives s c.read_pair.ensures.fades c.read_pair.ensures.touched).all
-
-pub returns-then-read_pair-clause-sound : goal.returns-then-read_pair-clause-sound
-returns-then-read_pair-clause-sound g c = λ s. (read_keeps _ _ _ c.pair_of.ensures.groups c.requires.drives s c.read_pair.ensures.fades c.read_pair.ensures.touched).sound
-
-pub returns-then-read_pair-clause-drives : goal.returns-then-read_pair-clause-drives
-returns-then-read_pair-clause-drives g c = drives_kept _ c.read_pair.ensures.touched c.requires.drives
-
 pub returns-clause-units : goal.returns-clause-units
 returns-clause-units g c = λ s. (read_keeps _ _ _ c.pair_of.ensures.groups c.requires.drives s c.read_pair.ensures.fades c.read_pair.ensures.touched).all
 
@@ -28,15 +19,6 @@ returns-clause-sound g c = λ s. (read_keeps _ _ _ c.pair_of.ensures.groups c.re
 
 pub returns-clause-drives : goal.returns-clause-drives
 returns-clause-drives g c = drives_kept _ c.read_pair.ensures.touched c.requires.drives
-
-pub returns-then-read_pair-clause-elsewhere : goal.returns-then-read_pair-clause-elsewhere
-returns-then-read_pair-clause-elsewhere g c =
-    same_more c.args.drives.now c.read_pair.new.drives
-    (λ d is. elim is [
-      | inl e ↦ subst (HasMemberOn c.args.groups.now (c.args.slot / 128)) (sym e) (site_member c.args.groups.now c.args.slot _ c.pair_of.result.0 c.pair_of.ensures.groups c.pair_of.ensures.site (inl refl))
-      | inr e ↦ subst (HasMemberOn c.args.groups.now (c.args.slot / 128)) (sym e) (site_member c.args.groups.now c.args.slot _ c.pair_of.result.1 c.pair_of.ensures.groups c.pair_of.ensures.site (inr refl))
-    ])
-    c.read_pair.ensures.elsewhere
 
 pub returns-clause-elsewhere : goal.returns-clause-elsewhere
 returns-clause-elsewhere g c =

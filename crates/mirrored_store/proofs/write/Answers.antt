@@ -13,16 +13,6 @@ write_pair-requires-clause-second g c = site_places _ _ _ c.args.slot _ c.pair_o
 pub write_pair-requires-clause-apart : goal.write_pair-requires-clause-apart
 write_pair-requires-clause-apart g c = site_whole _ c.args.slot _ c.pair_of.ensures.groups c.pair_of.ensures.site
 
-pub returns-then-write_pair-clause-wrote : goal.returns-then-write_pair-clause-wrote
-returns-then-write_pair-clause-wrote g c =
-    site_wrote g.D.Drive.units g.D.Drive.lost c.args.groups.now c.args.slot _ (length c.args.unit.now) c.args.drives.now _ c.args.unit.now c.write_pair.result c.pair_of.ensures.groups c.pair_of.ensures.site c.requires.unit c.write_pair.ensures.unit (λ _. c.write_pair.ensures.leaves)
-
-pub returns-then-write_pair-clause-touched : goal.returns-then-write_pair-clause-touched
-returns-then-write_pair-clause-touched g c = keeps_more (λ x own. (_, c.pair_of.ensures.site, own)) c.write_pair.ensures.touched
-
-pub returns-then-write_pair-clause-drives : goal.returns-then-write_pair-clause-drives
-returns-then-write_pair-clause-drives g c = drives_kept _ c.write_pair.ensures.touched c.requires.drives
-
 pub returns-clause-wrote : goal.returns-clause-wrote
 returns-clause-wrote g c =
     site_wrote g.D.Drive.units g.D.Drive.lost c.args.groups.now c.args.slot _ (length c.args.unit.now) c.args.drives.now _ c.args.unit.now c.write_pair.result c.pair_of.ensures.groups c.pair_of.ensures.site c.requires.unit c.write_pair.ensures.unit (λ _. c.write_pair.ensures.leaves)

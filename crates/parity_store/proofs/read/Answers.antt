@@ -8,15 +8,6 @@ read_stripe-requires-clause-member g c = (site_whole _ c.args.slot _ c.row_of-at
 pub read_stripe-requires-clause-row : goal.read_stripe-requires-clause-row
 read_stripe-requires-clause-row g c = λ k x there. site_places _ _ _ c.args.slot _ c.row_of-at.ensures.groups c.requires.drives c.row_of-at.ensures.site x (k, there)
 
-pub returns-then-read_stripe-clause-units : goal.returns-then-read_stripe-clause-units
-returns-then-read_stripe-clause-units g c = λ s. (read_keeps _ _ _ c.row_of-at.ensures.groups c.requires.drives s c.read_stripe.ensures.fades c.read_stripe.ensures.touched).all
-
-pub returns-then-read_stripe-clause-sound : goal.returns-then-read_stripe-clause-sound
-returns-then-read_stripe-clause-sound g c = λ s. (read_keeps _ _ _ c.row_of-at.ensures.groups c.requires.drives s c.read_stripe.ensures.fades c.read_stripe.ensures.touched).sound
-
-pub returns-then-read_stripe-clause-drives : goal.returns-then-read_stripe-clause-drives
-returns-then-read_stripe-clause-drives g c = drives_kept _ c.read_stripe.ensures.touched c.requires.drives
-
 pub returns-clause-units : goal.returns-clause-units
 returns-clause-units g c = λ s. (read_keeps _ _ _ c.row_of-at.ensures.groups c.requires.drives s c.read_stripe.ensures.fades c.read_stripe.ensures.touched).all
 

@@ -10,16 +10,6 @@ write_stripe-requires-clause-whole g c = site_whole _ c.args.slot _ c.row_of-at.
 pub write_stripe-requires-clause-row : goal.write_stripe-requires-clause-row
 write_stripe-requires-clause-row g c = λ k x there. site_places _ _ _ c.args.slot _ c.row_of-at.ensures.groups c.requires.drives c.row_of-at.ensures.site x (k, there)
 
-pub returns-then-write_stripe-clause-wrote : goal.returns-then-write_stripe-clause-wrote
-returns-then-write_stripe-clause-wrote g c =
-    site_wrote g.D.Drive.units g.D.Drive.lost c.args.groups.now c.args.slot _ (length c.args.unit.now) c.args.drives.now _ c.args.unit.now c.write_stripe.result c.row_of-at.ensures.groups c.row_of-at.ensures.site c.requires.unit c.write_stripe.ensures.unit c.write_stripe.ensures.leaves
-
-pub returns-then-write_stripe-clause-touched : goal.returns-then-write_stripe-clause-touched
-returns-then-write_stripe-clause-touched g c = keeps_more (λ x own. (_, c.row_of-at.ensures.site, own)) c.write_stripe.ensures.touched
-
-pub returns-then-write_stripe-clause-drives : goal.returns-then-write_stripe-clause-drives
-returns-then-write_stripe-clause-drives g c = drives_kept _ c.write_stripe.ensures.touched c.requires.drives
-
 pub returns-clause-wrote : goal.returns-clause-wrote
 returns-clause-wrote g c =
     site_wrote g.D.Drive.units g.D.Drive.lost c.args.groups.now c.args.slot _ (length c.args.unit.now) c.args.drives.now _ c.args.unit.now c.write_stripe.result c.row_of-at.ensures.groups c.row_of-at.ensures.site c.requires.unit c.write_stripe.ensures.unit c.write_stripe.ensures.leaves

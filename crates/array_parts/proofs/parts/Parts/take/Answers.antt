@@ -1,6 +1,6 @@
-use Rattle.std.proofs.Common.{◌≡◌, refl}
+use Rattle.std.proofs.Common.{refl}
 use Rattle.array_parts.specs.declared.parts.Parts.{Parts}
-use Rattle.array_parts.proofs.Taking.{IsWithout, taken, was_taken, taken_fit, within_made}
+use Rattle.array_parts.proofs.Taking.{taken, was_taken, taken_fit, within_made}
 use Rattle.array_parts.proofs.parts.Parts.take.Goals as goal
 
 pub returns-clause-taken : goal.returns-clause-taken

@@ -1,22 +1,18 @@
-use Rattle.std.proofs.Common.{subst, sym}
-use Rattle.extent_groups.specs.Missing.{missing_of, IsGone}
-use Rattle.array_parts.proofs.Reading.{written_back, fares_back, not_gone, gone_of}
+use Rattle.std.proofs.Common.{◌∙◌, ap}
+use Rattle.std.specs.Prelude.{ok_or}
+use Rattle.flat_machine.specs.declared.refusal.Refusal.TheVariants.{Gone}
+use Rattle.array_parts.proofs.Reading.{fares_back, slot_told}
 use Rattle.array_parts.proofs.parts.Parts.write.Goals as goal
 
-pub returns-in-Ok-clause-there : goal.returns-in-Ok-clause-there
-returns-in-Ok-clause-there g c =
-    subst (λ ds. IsGone c.args.self.now.groups (missing_of g.D.Drive.lost ds) c.args.slot → ⊥)
-    (sym (written_back c.args.self.now.drives c.deref_mut-drives.result.now c.write_slot.new.drives c.deref_mut-drives.ensures.value c.write_slot.ensures.touched.many))
-    (not_gone g.D.Drive.units g.D.Drive.lost _ _ c.args.slot _ c.requires.fit.groups c.write_slot.ensures.drives c.in-Ok.ensures.ok)
+pub returns-clause-there : goal.returns-clause-there
+returns-clause-there g c =
+    (slot_told g.D.Drive.units g.D.Drive.lost c.args.self.now c.deref_mut-drives.result.now c.write_slot.new.drives c.args.slot _ c.write_slot.result c.ok_or.result
+    (c.ok_or.ensures.value ∙ ap (λ o. ok_or o (Gone c.args.slot)) c.ok.ensures.value) c.deref_mut-drives.ensures.value c.write_slot.ensures.touched.many c.requires.slot c.requires.fit.groups c.write_slot.ensures.drives c.write_slot.ensures.ok c.write_slot.ensures.gone).there
 
-pub returns-in-Ok-clause-fares : goal.returns-in-Ok-clause-fares
-returns-in-Ok-clause-fares g c = fares_back c.args.self.now.drives c.deref_mut-drives.result.now c.write_slot.new.drives c.deref_mut-drives.ensures.value c.write_slot.ensures.touched
+pub returns-clause-gone : goal.returns-clause-gone
+returns-clause-gone g c =
+    (slot_told g.D.Drive.units g.D.Drive.lost c.args.self.now c.deref_mut-drives.result.now c.write_slot.new.drives c.args.slot _ c.write_slot.result c.ok_or.result
+    (c.ok_or.ensures.value ∙ ap (λ o. ok_or o (Gone c.args.slot)) c.ok.ensures.value) c.deref_mut-drives.ensures.value c.write_slot.ensures.touched.many c.requires.slot c.requires.fit.groups c.write_slot.ensures.drives c.write_slot.ensures.ok c.write_slot.ensures.gone).gone
 
-pub returns-in-Err-clause-gone : goal.returns-in-Err-clause-gone
-returns-in-Err-clause-gone g c =
-    gone_of g.D.Drive.units g.D.Drive.lost _ c.write_slot.new.drives c.args.slot
-    (written_back c.args.self.now.drives c.deref_mut-drives.result.now c.write_slot.new.drives c.deref_mut-drives.ensures.value c.write_slot.ensures.touched.many)
-    c.requires.slot c.requires.fit.groups c.write_slot.ensures.drives c.in-Err.ensures.gone.1
-
-pub returns-in-Err-clause-fares : goal.returns-in-Err-clause-fares
-returns-in-Err-clause-fares g c = fares_back c.args.self.now.drives c.deref_mut-drives.result.now c.write_slot.new.drives c.deref_mut-drives.ensures.value c.write_slot.ensures.touched
+pub returns-clause-fares : goal.returns-clause-fares
+returns-clause-fares g c = fares_back c.args.self.now.drives c.deref_mut-drives.result.now c.write_slot.new.drives c.deref_mut-drives.ensures.value c.write_slot.ensures.touched
