@@ -1,47 +1,98 @@
--- What a table of counts offers is what the live slots offer.
-use Rattle.std.proofs.Common.{◌≡◌, ℕ, ◌<◌, List, length, slice_index, sym, subst, Option}
+-- By the tables of counts and of slots the groups with a rank are those that a plan chooses from.
+use Rattle.std.proofs.Common.{◌≡◌, ◌≢◌, ◌∙◌, ℕ, ◌<◌, ◌≤◌, ◌^◌, Bool, true, false, cond, ltb, leb, List, slice_index, refl, sym, ap, subst, arith, Option, Some, None}
+use Rattle.std.proofs.lemmas.Bool.{ltb-true, leb-true, lt-ltb, le-leb}
+use Rattle.std.proofs.lemmas.Option.{same_Some}
 use Rattle.extent_groups.specs.declared.class.Class.TheVariants.{Parity}
-use Rattle.extent_groups.specs.Groups.{Groups}
+use Rattle.extent_groups.specs.Groups.{Groups, AreGroups, group_at, class_in, slots_in, parity_slots_of}
+use Rattle.extent_groups.proofs.ParitySlots.{parity_slots, some_slots, parity_made}
+use Rattle.cleaner.specs.declared.choice.Ranked.{Ranked}
 use Rattle.cleaner.specs.Plans.{IsHoled, IsSource}
-use Rattle.cleaner.specs.Counts.{HasLive, HasCount, AreLiveCounts}
-use Rattle.cleaner.specs.Choosing.{IsMostBelow, IsFewestBelow}
-use Rattle.cleaner.specs.Offered.{IsHoledBy, IsSourceBy}
-use Rattle.cleaner.specs.declared.choice.Counted.{Counted}
-use Rattle.cleaner.proofs.Best.{fewest_by, most_by}
-use Rattle.cleaner.proofs.Counting.{made_low, live_one}
+use Rattle.cleaner.specs.Counts.{HasLive, AreLiveCounts}
+use Rattle.cleaner.specs.Choosing.{IsFewest, IsMost, IsChoice}
+use Rattle.cleaner.specs.Offered.{holed, up_to, in_parity, holed_count, source_count, turned}
+use Rattle.cleaner.proofs.Counting.{made_low, live_one, few_slots}
+use Rattle.cleaner.proofs.Ranked.{AreCounted, none_most, is_most, none_fewest, is_fewest}
 
-module _ (groups : Groups) (keys : ℕ → ℕ) (counts : List ℕ) (long : length groups.table ≡ 512) (are : AreLiveCounts groups keys counts) where
-  pub has_live : (g n : ℕ) → HasCount groups counts g n → HasLive groups keys g n
-  has_live g n h = subst (HasLive groups keys g) h.count (are.each g (made_low groups g Parity long h.made) h.made)
+holed_is : (n slots : ℕ) → n < slots → holed n slots ≡ n
+holed_is n slots l = rw (lt-ltb n slots l) refl
 
-  has_count : (g n : ℕ) → HasLive groups keys g n → HasCount groups counts g n
-  has_count g n h = record {
-    made = h.made;
-    count = live_one groups keys g (slice_index counts g) n (are.each g (made_low groups g Parity long h.made) h.made) h;
+source_is : (most n slots : ℕ) → 0 < slots → n ≤ most → up_to most (in_parity n slots) ≡ n
+source_is most n slots some few = rw (lt-ltb 0 slots some, le-leb n most few) refl
+
+module _ (groups : Groups) (keys : ℕ → ℕ) (counts slots : List ℕ) (are : AreGroups groups) (live : AreLiveCounts groups keys counts) (tabled : slots ≡ parity_slots_of groups) where
+  low_of : (g n : ℕ) → HasLive groups keys g n → g < 512
+  low_of g n h = made_low groups g Parity are.numbers h.made
+
+  count_of : (g n : ℕ) → HasLive groups keys g n → slice_index counts g ≡ n
+  count_of g n h = live_one groups keys g (slice_index counts g) n (live.each g (low_of g n h) h.made) h
+
+  slots_of : (g : ℕ) → class_in (group_at groups g) ≡ Some Parity → slice_index slots g ≡ slots_in groups.segments (group_at groups g)
+  slots_of g made = ap (λ s. slice_index s g) tabled ∙ parity_slots groups g made
+
+  some_of : (g : ℕ) → class_in (group_at groups g) ≡ Some Parity → 0 < slice_index slots g
+  some_of g made = subst (λ s. 0 < slice_index s g) (sym tabled) (some_slots groups g are made)
+
+  made_of : (g : ℕ) → 0 < slice_index slots g → class_in (group_at groups g) ≡ Some Parity
+  made_of g some = parity_made groups g (subst (λ s. 0 < slice_index s g) tabled some)
+
+  -- the groups with a hole
+  holed_counted : (write : Option ℕ) → AreCounted (IsHoled groups keys write) write (holed_count slots counts)
+  holed_counted write = record {
+    to = λ g low other some. by g low other (ltb (slice_index counts g) (slice_index slots g)) refl some;
+    from = λ g n h. record {
+      low = low_of g n h.has;
+      other = h.other;
+      is = ap (λ c. holed c (slice_index slots g)) (count_of g n h.has) ∙ holed_is n (slice_index slots g) (omega (arith, h.hole, slots_of g h.has.made));
+      some = h.some;
+      fits = omega (arith, h.hole, few_slots groups g are);
+    };
   }
+    where
+      by : (g : ℕ) → g < 512 → write ≢ Some g → (t : Bool) → ltb (slice_index counts g) (slice_index slots g) ≡ t
+          → 0 < cond t (slice_index counts g) 0 → IsHoled groups keys write g (cond t (slice_index counts g) 0)
+      by g low other false is some = absurd (omega (arith, some))
+      by g low other true is some =
+          let less : slice_index counts g < slice_index slots g = ltb-true _ _ is in
+          let made = made_of g (omega (arith, less)) in
+          record { has = live.each g low made; other = other; some = some; hole = omega (arith, less, slots_of g made) }
 
-  -- the groups with a hole, and the sources of a target
-  holed_to : (write : Option ℕ) (g n : ℕ) → IsHoledBy groups counts write g n → IsHoled groups keys write g n
-  holed_to write g n h = record { has = has_live g n h.has; other = h.other; some = h.some; hole = h.hole }
+  pub none_holed : (write : Option ℕ) → IsChoice (holed_count slots counts) write None → (g n : ℕ) → IsHoled groups keys write g n → ⊥
+  none_holed write = none_most (IsHoled groups keys write) write (holed_count slots counts) (holed_counted write)
 
-  holed_from : (write : Option ℕ) (g n : ℕ) → IsHoled groups keys write g n → IsHoledBy groups counts write g n
-  holed_from write g n h = record { has = has_count g n h.has; other = h.other; some = h.some; hole = h.hole }
+  pub fullest : (write : Option ℕ) (best : Ranked) → IsChoice (holed_count slots counts) write (Some best) → IsMost (IsHoled groups keys write) best.group best.rank
+  fullest write = is_most (IsHoled groups keys write) write (holed_count slots counts) (holed_counted write)
 
-  source_to : (target most g n : ℕ) → IsSourceBy groups counts target most g n → IsSource groups keys target most g n
-  source_to target most g n h = record { has = has_live g n h.has; other = h.other; some = h.some; few = h.few }
+  pub none_left : (write : Option ℕ) → IsChoice (λ g. turned (holed_count slots counts g)) write None → (g n : ℕ) → IsHoled groups keys write g n → ⊥
+  none_left write = none_fewest (IsHoled groups keys write) write (holed_count slots counts) (holed_counted write)
 
-  source_from : (target most g n : ℕ) → IsSource groups keys target most g n → IsSourceBy groups counts target most g n
-  source_from target most g n h = record { has = has_count g n h.has; other = h.other; some = h.some; few = h.few }
+  pub emptiest : (write : Option ℕ) (best : Ranked) → IsChoice (λ g. turned (holed_count slots counts g)) write (Some best)
+      → IsFewest (IsHoled groups keys write) best.group (holed_count slots counts best.group)
+  emptiest write = is_fewest (IsHoled groups keys write) write (holed_count slots counts) (holed_counted write)
 
-  -- the best of them
-  pub most_holed : (write : Option ℕ) (best : Option Counted) → IsMostBelow (IsHoledBy groups counts write) 512 best → IsMostBelow (IsHoled groups keys write) 512 best
-  most_holed write best h = most_by (IsHoledBy groups counts write) (IsHoled groups keys write) (holed_to write) (holed_from write) 512 best h
+  -- the sources of a target
+  source_counted : (target most : ℕ) → most < 2 ^ 16 → AreCounted (IsSource groups keys target most) (Some target) (source_count slots counts most)
+  source_counted target most fits = record {
+    to = λ g low other some. by g low (λ e. other (ap (λ n. Some n) (sym e))) (ltb 0 (slice_index slots g)) refl (leb (in_parity (slice_index counts g) (slice_index slots g)) most) refl some;
+    from = λ g n h. record {
+      low = low_of g n h.has;
+      other = λ e. h.other (sym (same_Some _ _ e));
+      is = ap (λ c. up_to most (in_parity c (slice_index slots g))) (count_of g n h.has) ∙ source_is most n (slice_index slots g) (some_of g h.has.made) h.few;
+      some = h.some;
+      fits = omega (arith, h.few, fits);
+    };
+  }
+    where
+      by : (g : ℕ) → g < 512 → g ≢ target → (t : Bool) → ltb 0 (slice_index slots g) ≡ t → (u : Bool) → leb (cond t (slice_index counts g) 0) most ≡ u
+          → 0 < cond u (cond t (slice_index counts g) 0) 0 → IsSource groups keys target most g (cond u (cond t (slice_index counts g) 0) 0)
+      by g low other t is false le some = absurd (omega (arith, some))
+      by g low other false is true le some = absurd (omega (arith, some))
+      by g low other true is true le some =
+          record { has = live.each g low (made_of g (ltb-true _ _ is)); other = other; some = some; few = leb-true _ _ le }
 
-  pub fewest_holed : (write : Option ℕ) (best : Option Counted) → IsFewestBelow (IsHoledBy groups counts write) 512 best
-      → IsFewestBelow (IsHoled groups keys write) 512 best
-  fewest_holed write best h = fewest_by (IsHoledBy groups counts write) (IsHoled groups keys write) (holed_to write) (holed_from write) 512 best h
+  pub none_source : (target most : ℕ) → most < 2 ^ 16 → IsChoice (λ g. turned (source_count slots counts most g)) (Some target) None
+      → (g n : ℕ) → IsSource groups keys target most g n → ⊥
+  none_source target most fits = none_fewest (IsSource groups keys target most) (Some target) (source_count slots counts most) (source_counted target most fits)
 
-  pub fewest_source : (target most : ℕ) (best : Option Counted) → IsFewestBelow (IsSourceBy groups counts target most) 512 best
-      → IsFewestBelow (IsSource groups keys target most) 512 best
-  fewest_source target most best h =
-      fewest_by (IsSourceBy groups counts target most) (IsSource groups keys target most) (source_to target most) (source_from target most) 512 best h
+  pub source : (target most : ℕ) → most < 2 ^ 16 → (best : Ranked) → IsChoice (λ g. turned (source_count slots counts most g)) (Some target) (Some best)
+      → IsFewest (IsSource groups keys target most) best.group (source_count slots counts most best.group)
+  source target most fits = is_fewest (IsSource groups keys target most) (Some target) (source_count slots counts most) (source_counted target most fits)

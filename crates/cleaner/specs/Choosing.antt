@@ -1,6 +1,6 @@
--- Which of some groups has the fewest or the most live slots.
-use Rattle.std.specs.Prelude.{◌≡◌, ◌⊎◌, ℕ, ◌<◌, ◌≤◌, Option, Some, None}
-use Rattle.cleaner.specs.declared.choice.Counted.{Counted}
+-- Which of some groups has the fewest or the most live slots, and which the greatest rank.
+use Rattle.std.specs.Prelude.{◌≡◌, ◌≢◌, ◌⊎◌, ℕ, ◌+◌, ◌*◌, ◌<◌, ◌≤◌, Option, Some, None, List, length, slice_index}
+use Rattle.cleaner.specs.declared.choice.Ranked.{Ranked}
 
 -- a group that is offered, of fewest live slots, the lowest of those alike
 pub record IsFewest (offers : ℕ → ℕ → Type 0) (group live : ℕ) : Type 0 where
@@ -12,38 +12,38 @@ pub record IsMost (offers : ℕ → ℕ → Type 0) (group live : ℕ) : Type 0 
   pub offered : offers group live
   pub best : (other count : ℕ) → offers other count → (count < live) ⊎ ((live ≡ count) × (group ≤ other))
 
--- these are some live slots, and a group is offered with no other number of them
-abbrev pub IsAlone : (ℕ → Type 0) → ℕ → Type 0
-IsAlone offers live = (count : ℕ) → offers count → (count ≡ live) × (0 < count)
+-- the ranks of eight groups in turn
+pub record IsRow (rank : ℕ → ℕ) (row : ℕ) (lanes : List ℕ) : Type 0 where
+  pub many : length lanes ≡ 8
+  pub each : (lane : ℕ) → lane < 8 → slice_index lanes lane ≡ rank (8 * row + lane)
 
--- a group is offered
-abbrev pub IsOffered : (ℕ → Type 0) → Type 0
-IsOffered offers = (count : ℕ) × offers count
+-- no other group has a greater rank, nor a lower one the same
+abbrev pub IsNoBetter : (ℕ → ℕ) → ℕ → ℕ → ℕ → Type 0
+IsNoBetter rank group value other = (rank other < value) ⊎ ((rank other ≡ value) × (group ≤ other))
 
--- the best of the groups below a bound, for loops
-pub record IsFewestTo (offers : ℕ → ℕ → Type 0) (bound group live : ℕ) : Type 0 where
-  pub offered : offers group live
-  pub below : group < bound
-  pub best : (other count : ℕ) → other < bound → offers other count → (live < count) ⊎ ((live ≡ count) × (group ≤ other))
+-- the group of greatest rank, at least 1, the lowest of those alike, but not the group that is left out
+pub record IsGreatest (rank : ℕ → ℕ) (left_out : Option ℕ) (group value : ℕ) : Type 0 where
+  pub low : group < 512
+  pub other : left_out ≢ Some group
+  pub is : rank group ≡ value
+  pub some : 0 < value
+  pub best : (other : ℕ) → other < 512 → left_out ≢ Some other → IsNoBetter rank group value other
 
-pub record IsMostTo (offers : ℕ → ℕ → Type 0) (bound group live : ℕ) : Type 0 where
-  pub offered : offers group live
-  pub below : group < bound
-  pub best : (other count : ℕ) → other < bound → offers other count → (count < live) ⊎ ((live ≡ count) × (group ≤ other))
+-- none exactly where every rank is 0
+abbrev pub IsChoice : (ℕ → ℕ) → Option ℕ → Option Ranked → Type 0
+IsChoice rank left_out None = (other : ℕ) → other < 512 → left_out ≢ Some other → rank other ≡ 0
+IsChoice rank left_out (Some best) = IsGreatest rank left_out best.group best.rank
 
-abbrev pub IsFewestBelow : (ℕ → ℕ → Type 0) → ℕ → Option Counted → Type 0
-IsFewestBelow offers bound None = (other count : ℕ) → other < bound → offers other count → ⊥
-IsFewestBelow offers bound (Some c) = IsFewestTo offers bound c.group c.live
+-- the best of the groups below a bound, for loops; of value 0 where there is none
+pub record IsBestTo (rank : ℕ → ℕ) (left_out : Option ℕ) (bound group value : ℕ) : Type 0 where
+  pub below : 0 < value → group < bound
+  pub other : 0 < value → left_out ≢ Some group
+  pub is : 0 < value → rank group ≡ value
+  pub first : group ≤ bound
+  pub best : (other : ℕ) → other < bound → left_out ≢ Some other → IsNoBetter rank group value other
 
-abbrev pub IsMostBelow : (ℕ → ℕ → Type 0) → ℕ → Option Counted → Type 0
-IsMostBelow offers bound None = (other count : ℕ) → other < bound → offers other count → ⊥
-IsMostBelow offers bound (Some c) = IsMostTo offers bound c.group c.live
-
--- these are some, and fewer, or more, than those of the best so far, if there is one
-abbrev pub IsFewer : ℕ → Option Counted → Type 0
-IsFewer live None = 0 < live
-IsFewer live (Some best) = (0 < live) × (live < best.live)
-
-abbrev pub IsMore : ℕ → Option Counted → Type 0
-IsMore live None = 0 < live
-IsMore live (Some best) = best.live < live
+-- the group, where its rank is greater and it isn't left out, or else the best so far
+abbrev pub IsBetter : Option ℕ → ℕ → ℕ → Ranked → Ranked → Type 0
+IsBetter left_out group rank best result =
+    ((best.rank < rank) × (left_out ≢ Some group) × (result ≡ record { group = group; rank = rank }))
+    ⊎ (((left_out ≢ Some group) → rank ≤ best.rank) × (result ≡ best))

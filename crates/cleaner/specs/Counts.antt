@@ -28,11 +28,6 @@ pub record AreLiveCounts (groups : Groups) (keys : ℕ → ℕ) (counts : List �
   pub many : length counts ≡ 512
   pub each : (group : ℕ) → group < 512 → class_in (group_at groups group) ≡ Some Parity → HasLive groups keys group (slice_index counts group)
 
--- a made parity group, and how many of its slots are live by the table
-pub record HasCount (groups : Groups) (counts : List ℕ) (group live : ℕ) : Type 0 where
-  pub made : class_in (group_at groups group) ≡ Some Parity
-  pub count : slice_index counts group ≡ live
-
 -- the lowest number that is so
 pub record IsLowest (P : ℕ → Type 0) (n : ℕ) : Type 0 where
   pub holds : P n

@@ -1,18 +1,26 @@
--- The groups that a plan chooses from, by a table of how many of each group's slots are live.
-use Rattle.std.specs.Prelude.{◌≡◌, ◌≢◌, ℕ, ◌<◌, ◌≤◌, List, Option, Some}
-use Rattle.extent_groups.specs.Groups.{Groups, group_at, slots_in}
-use Rattle.cleaner.specs.Counts.{HasCount}
+-- How many live slots a group has, where a plan may choose it: 0 where it may not.
+use Rattle.std.specs.Prelude.{ℕ, ◌+◌, ◌-◌, ◌%◌, ◌^◌, List, slice_index, if◌then◌else◌, nat_lt, nat_le}
 
--- a parity group, not the write group, with so many live slots, at least one, and at least one hole
-pub record IsHoledBy (groups : Groups) (counts : List ℕ) (write : Option ℕ) (group live : ℕ) : Type 0 where
-  pub has : HasCount groups counts group live
-  pub other : write ≢ Some group
-  pub some : 0 < live
-  pub hole : live < slots_in groups.segments (group_at groups group)
+-- a count, where the group has more slots
+abbrev pub holed : ℕ → ℕ → ℕ
+holed count slots = if nat_lt count slots then count else 0
 
--- another parity group, with so many live slots, at least one and at most the target's
-pub record IsSourceBy (groups : Groups) (counts : List ℕ) (target most group live : ℕ) : Type 0 where
-  pub has : HasCount groups counts group live
-  pub other : group ≢ target
-  pub some : 0 < live
-  pub few : live ≤ most
+-- a count, where the group has slots as a parity group
+abbrev pub in_parity : ℕ → ℕ → ℕ
+in_parity count slots = if nat_lt 0 slots then count else 0
+
+-- a count, where it is no more than this
+abbrev pub up_to : ℕ → ℕ → ℕ
+up_to most count = if nat_le count most then count else 0
+
+-- the lower a count the higher its rank, but 0 stays 0
+abbrev pub turned : ℕ → ℕ
+turned count = (0 + (2 ^ 16 - count)) % 2 ^ 16
+
+-- by tables of the slots and of the counts, the count of a group with a hole
+abbrev pub holed_count : List ℕ → List ℕ → ℕ → ℕ
+holed_count slots counts group = holed (slice_index counts group) (slice_index slots group)
+
+-- and of a parity group with no more live slots than this
+abbrev pub source_count : List ℕ → List ℕ → ℕ → ℕ → ℕ
+source_count slots counts most group = up_to most (in_parity (slice_index counts group) (slice_index slots group))

@@ -1,102 +1,72 @@
-// The group of fewest or of most live slots, of those that are offered.
-ghost use Rattle.std.specs.Prelude.{◌≡◌, ◌↔◌, ℕ, ◌+◌, ◌<◌, IsTrue};
-ghost use Rattle.cleaner.specs.Choosing.{IsAlone, IsOffered, IsFewestBelow, IsMostBelow, IsFewer, IsMore};
+// The group of greatest rank, of those that a plan may choose from.
+ghost use Rattle.std.specs.Prelude.{◌≡◌, ℕ, ◌+◌, ◌*◌, ◌<◌};
+ghost use Rattle.cleaner.specs.Choosing.{IsRow, IsBestTo, IsBetter, IsChoice};
 
+use crate::lanes::{LANES, are_within};
 use extent_groups::GROUPS;
+use std::simd::prelude::*;
 
-/// A group, and how many of its slots are live.
+/// A group, and its rank.
 #[derive(Clone, Copy)]
-pub(crate) struct Counted {
+pub(crate) struct Ranked {
     pub(crate) group: u16,
-    pub(crate) live: u16,
+    pub(crate) rank: u16,
 }
 
-/// Says which groups a plan may choose from.
-pub(crate) trait Offers {
-    /// A group may be chosen, and has so many live slots.
-    ghost offers: { Self → ℕ → ℕ → Type 0 };
+/// Says how a plan ranks the groups.
+pub(crate) trait Ranks {
+    /// The tables that are looked into have all groups.
+    ghost whole: { Self → Type 0 };
 
-    /// The group's live slots, at least one, if it may be chosen.
-    fn live(&self, group: u16) -> u16
-        requires { group < 512 }
-        ensures { IsAlone (offers self.now group) result };
+    /// The rank of each group, 0 where the plan doesn't choose from it.
+    ghost rank: { Self → ℕ → ℕ };
 
-    /// Whether the group may be chosen.
-    fn is_offered(&self, group: u16) -> bool
-        requires { group < 512 }
-        ensures { IsTrue result ↔ IsOffered (offers self.now group) };
+    /// The ranks of eight groups in turn.
+    fn row(&self, row: u16) -> u16x8
+        requires low { row < 64 }
+        requires whole { whole self.now }
+        ensures { IsRow (rank self.now) row result };
 }
 
-// The group of fewest live slots, the lowest of those alike.
-pub(crate) fn fewest<O: Offers>(offers: &O) -> Option<Counted>
-    ensures { IsFewestBelow (O.offers offers.now) 512 result }
+// The group of greatest rank, the lowest of those alike, but not the group that is left out.
+pub(crate) fn greatest<R: Ranks>(ranks: &R, left_out: Option<u16>) -> Option<Ranked>
+    requires { R.whole ranks.now }
+    ensures { IsChoice (R.rank ranks.now) left_out result }
 {
-    let mut best: Option<Counted> = None;
-    for group in 0..GROUPS as u16 {
-        best = or_fewer(offers, group, best);
+    let mut best = Ranked { group: 0, rank: 0 };
+    for row in 0..GROUPS as u16 / LANES {
+        best = after_row(ranks, left_out, row, best);
     }
-    best
+    if best.rank == 0 { None } else { Some(best) }
 }
 
-// The group, where it is offered with fewer live slots than the best of all lower groups.
-fn or_fewer<O: Offers>(offers: &O, group: u16, best: Option<Counted>) -> Option<Counted>
-    requires group { group < 512 }
-    requires best { IsFewestBelow (O.offers offers.now) group best }
-    ensures { IsFewestBelow (O.offers offers.now) (group + 1) result }
+// The best of the groups up to the end of a row, by the best of those before it.
+fn after_row<R: Ranks>(ranks: &R, left_out: Option<u16>, row: u16, best: Ranked) -> Ranked
+    requires whole { R.whole ranks.now }
+    requires low { row < 64 }
+    requires best { IsBestTo (R.rank ranks.now) left_out (8 * row) best.group best.rank }
+    ensures { IsBestTo (R.rank ranks.now) left_out (8 * (row + 1)) result.group result.rank }
 {
-    let live = offers.live(group);
-    if !is_fewer(live, best) {
+    let lanes = ranks.row(row);
+    if are_within(lanes, best.rank) {
         return best;
     }
-    if offers.is_offered(group) {
-        return Some(Counted { group, live });
+    let values = lanes.to_array();
+    let mut best = best;
+    for lane in 0..LANES {
+        let group = LANES * row + lane;
+        best = better(left_out, group, values[usize::from(lane)], best);
     }
     best
 }
 
-// The group of most live slots, the lowest of those alike.
-pub(crate) fn most<O: Offers>(offers: &O) -> Option<Counted>
-    ensures { IsMostBelow (O.offers offers.now) 512 result }
+// The group, where its rank is greater and it isn't left out, or else the best so far.
+fn better(left_out: Option<u16>, group: u16, rank: u16, best: Ranked) -> Ranked
+    ensures { IsBetter left_out group rank best result }
 {
-    let mut best: Option<Counted> = None;
-    for group in 0..GROUPS as u16 {
-        best = or_more(offers, group, best);
-    }
-    best
-}
-
-// The group, where it is offered with more live slots than the best of all lower groups.
-fn or_more<O: Offers>(offers: &O, group: u16, best: Option<Counted>) -> Option<Counted>
-    requires group { group < 512 }
-    requires best { IsMostBelow (O.offers offers.now) group best }
-    ensures { IsMostBelow (O.offers offers.now) (group + 1) result }
-{
-    let live = offers.live(group);
-    if !is_more(live, best) {
-        return best;
-    }
-    if offers.is_offered(group) {
-        return Some(Counted { group, live });
-    }
-    best
-}
-
-// Whether these are some, and fewer than those of the best so far, if there is one.
-fn is_fewer(live: u16, best: Option<Counted>) -> bool
-    ensures { IsTrue result ↔ IsFewer live best }
-{
-    match best {
-        Some(best) => live != 0 && live < best.live,
-        None => live != 0,
-    }
-}
-
-// Whether these are some, and more than those of the best so far, if there is one.
-fn is_more(live: u16, best: Option<Counted>) -> bool
-    ensures { IsTrue result ↔ IsMore live best }
-{
-    match best {
-        Some(best) => live > best.live,
-        None => live != 0,
+    if rank > best.rank && left_out != Some(group) {
+        Ranked { group, rank }
+    } else {
+        best
     }
 }

@@ -1,10 +1,11 @@
 // Where nothing can be plugged, the emptiest group is cleaned; a group without live slots is empty.
-ghost use Rattle.std.specs.Prelude.{◌↔◌, ◌<◌, IsTrue};
+ghost use Rattle.std.specs.Prelude.{◌↔◌, ◌<◌, IsTrue, None};
 ghost use Rattle.cleaner.specs.Counts.{AreLiveCounts};
-ghost use Rattle.cleaner.specs.Plans.{IsCleanPlan, IsEmpty, IsEmptyGroup};
+ghost use Rattle.cleaner.specs.Plans.{IsPlugPlan, IsCleanPlan, IsEmpty, IsEmptyGroup};
 
-use crate::choice::fewest;
-use crate::counts::{Holed, counts_of, live_of};
+use crate::choice::greatest;
+use crate::counts::{counts_of, live_of};
+use crate::ranks::Emptiest;
 use crate::slots::lowest_live;
 use crate::{Move, plug_plan_counted};
 use extent_groups::{GROUPS, GroupTable, SLOTS};
@@ -35,16 +36,26 @@ pub fn clean_plan_counted<L: Live>(
     requires { AreLiveCounts groups.now (L.keys live.now) counts.now }
     ensures { IsCleanPlan groups.now (L.keys live.now) write append result }
 {
-    let _members = groups.members(0);
     match plug_plan_counted(groups, live, counts, write) {
-        Some(_) => return None,
-        None => {}
+        Some(_) => None,
+        None => clean_plan_unplugged(groups, live, counts, write, append),
     }
-    let Some(cleaned) = fewest(&Holed {
-        groups,
-        counts,
-        write,
-    }) else {
+}
+
+/// The same plan, for a caller that has found that nothing can be plugged.
+pub fn clean_plan_unplugged<L: Live>(
+    groups: &GroupTable,
+    live: &L,
+    counts: &[u16; GROUPS],
+    write: Option<u16>,
+    append: Option<u16>,
+) -> Option<Move>
+    requires counts { AreLiveCounts groups.now (L.keys live.now) counts.now }
+    requires no_plug { IsPlugPlan groups.now (L.keys live.now) write None }
+    ensures { IsCleanPlan groups.now (L.keys live.now) write append result }
+{
+    let slots = groups.parity_slots();
+    let Some(cleaned) = greatest(&Emptiest { slots, counts }, write) else {
         return None;
     };
     let Some(to) = append else {

@@ -3,8 +3,9 @@ ghost use Rattle.cleaner.specs.Counts.{AreLiveCounts};
 ghost use Rattle.cleaner.specs.Plans.{IsPlugPlan};
 
 use crate::Move;
-use crate::choice::{fewest, most};
-use crate::counts::{Holed, Sources, counts_of};
+use crate::choice::greatest;
+use crate::counts::counts_of;
+use crate::ranks::{Fullest, Sources};
 use crate::slots::{lowest_hole, lowest_live};
 use extent_groups::{GROUPS, GroupTable};
 use map_join::Live;
@@ -28,19 +29,17 @@ pub fn plug_plan_counted<L: Live>(
     requires { AreLiveCounts groups.now (L.keys live.now) counts.now }
     ensures { IsPlugPlan groups.now (L.keys live.now) write result }
 {
-    let _members = groups.members(0);
-    let Some(target) = most(&Holed {
-        groups,
-        counts,
-        write,
-    }) else {
+    let slots = groups.parity_slots();
+    let Some(target) = greatest(&Fullest { slots, counts }, write) else {
         return None;
     };
-    let Some(source) = fewest(&Sources {
-        groups,
+    let most = target.rank;
+    let sources = Sources {
+        slots,
         counts,
-        target,
-    }) else {
+        most,
+    };
+    let Some(source) = greatest(&sources, Some(target.group)) else {
         return None;
     };
     let Some((from, block)) = lowest_live(groups, live, source.group) else {
