@@ -50,41 +50,65 @@ refused_sizes a b _ is = same_sizes a b (ap (λ (x : ArrayView). x.parts.groups)
 pub refused_same : (a b : ArrayView) (r : Refusal) → IsRefused a b r → r ≡ Memory → b ≡ a
 refused_same a b r is memory = subst (IsRefused a b) memory is
 
--- what the contract of a world's step tells: its answer is the flat machine's, and without one it wanted memory and did nothing
+-- what the contract of a world's step tells: its answer is the flat machine's, without one it wanted memory and did nothing, and the sizes stay
 pub record WasStep (v w : WorldView) (step : FlatStep) (result : Result Answer AllocError) : Type 0 where
   pub ok : IfOk result (λ answer. (F : Flat) → Represents v F → (G : Flat) × (Case F step (flat_answer answer) G) × (Represents w G))
   pub err : OnErr result (w ≡ v)
   pub wants : OnErr result ((F : Flat) → Represents v F → IsWanted F step)
+  pub room : SameSizes v.array w.array
 
--- a step that was carried out
-pub was_done : (v w u : WorldView) (step : FlatStep) (told : Answer) (result : Result Answer AllocError) → result ≡ Ok told → w ≡ u
-    → ((F : Flat) → Represents v F → (G : Flat) × (Case F step (flat_answer told) G) × (Represents u G)) → WasStep v w step result
-was_done v w u step told result answered is does = subst (WasStep v w step) (sym answered) (record {
-  ok = λ F rep. as_world (λ G. Case F step (flat_answer told) G) w u is (does F rep);
-  err = tt;
-  wants = tt;
-})
-
--- a step that the array refused
+-- a step that was refused
 pub was_refused : (v w : WorldView) (a : ArrayView) (step : FlatStep) (r : Refusal) (result : Result Answer AllocError) → w ≡ record { array = a; hands = v.hands }
     → IfOk result (λ told. (told ≡ answer.Refused r) × (r ≢ Memory)) → OnErr result (r ≡ Memory)
     → ((F : Flat) → Represents v F → IsStep F.groups step)
-    → (r ≡ Memory → a ≡ v.array)
+    → SameSizes v.array a → (r ≡ Memory → a ≡ v.array)
     → ((F : Flat) → Represents v F → MayRefuse r (IsWanted F step) ((G : Flat) × (Case F step (Refused r) G) × (ShowsArray a G)))
     → WasStep v w step result
-was_refused v w a step r (Ok told) is ok err fits same may = record {
+was_refused v w a step r (Ok told) is ok err fits sizes same may = record {
   ok = λ F rep. as_world (λ G. Case F step (flat_answer told) G) w (record { array = a; hands = v.hands }) is
       (subst (λ x. (G : Flat) × (Case F step (flat_answer x) G) × (Represents (record { array = a; hands = v.hands }) G)) (sym ok.0)
       (refused_world v F step r a (fits F rep) rep
       (refused_of r (IsWanted F step) ((G : Flat) × (Case F step (Refused r) G) × (ShowsArray a G)) (may F rep) ok.1)));
   err = tt;
   wants = tt;
+  room = subst (λ (x : WorldView). SameSizes v.array x.array) (sym is) sizes;
 }
-was_refused v w a step r (Err e) is ok err fits same may = record {
+was_refused v w a step r (Err e) is ok err fits sizes same may = record {
   ok = tt;
   err = is ∙ ap (λ x. record { array = x; hands = v.hands }) (same err);
   wants = λ F rep. wanted_of r (IsWanted F step) ((G : Flat) × (Case F step (Refused r) G) × (ShowsArray a G)) (may F rep) err;
+  room = subst (λ (x : WorldView). SameSizes v.array x.array) (sym is) sizes;
 }
+
+-- what the array tells before a step is told of the world that it belongs to
+sizes_of : (u v : WorldView) (a : ArrayView) → u ≡ v → SameSizes u.array a → SameSizes v.array a
+sizes_of u v a is sizes = subst (λ (x : WorldView). SameSizes x.array a) is sizes
+
+shows_of : (u v : WorldView) (F : Flat) → u ≡ v → Represents v F → ShowsArray u.array F
+shows_of u v F is rep = subst (λ (x : WorldView). ShowsArray x.array F) (sym is) rep.array
+
+-- a step that the array carried out, and the hands stay
+pub array_done : (u v : WorldView) (a : ArrayView) (step : FlatStep) (told : Answer) (result : Result Answer AllocError) → u ≡ v → result ≡ Ok told → SameSizes u.array a
+    → ((F : Flat) → Represents v F → ShowsArray u.array F → (G : Flat) × (Case F step (flat_answer told) G) × (Represents (record { array = a; hands = v.hands }) G))
+    → WasStep v (record { array = a; hands = u.hands }) step result
+array_done u v a step told result is answered sizes does = subst (WasStep v (record { array = a; hands = u.hands }) step) (sym answered) (record {
+  ok = λ F rep. as_world (λ G. Case F step (flat_answer told) G) (record { array = a; hands = u.hands }) (record { array = a; hands = v.hands })
+      (ap (λ (x : WorldView). record { array = a; hands = x.hands }) is) (does F rep (shows_of u v F is rep));
+  err = tt;
+  wants = tt;
+  room = sizes_of u v a is sizes;
+})
+
+-- and one that it refused
+pub array_refused : (u v : WorldView) (a : ArrayView) (step : FlatStep) (r : Refusal) (told result : Result Answer AllocError) → u ≡ v → result ≡ told
+    → IfOk told (λ x. (x ≡ answer.Refused r) × (r ≢ Memory)) → OnErr told (r ≡ Memory)
+    → ((F : Flat) → Represents v F → IsStep F.groups step)
+    → SameSizes u.array a → (r ≡ Memory → a ≡ u.array)
+    → ((F : Flat) → Represents v F → ShowsArray u.array F → MayRefuse r (IsWanted F step) ((G : Flat) × (Case F step (Refused r) G) × (ShowsArray a G)))
+    → WasStep v (record { array = a; hands = u.hands }) step result
+array_refused u v a step r told result is answered ok err fits sizes same may = subst (WasStep v (record { array = a; hands = u.hands }) step) (sym answered)
+    (was_refused v (record { array = a; hands = u.hands }) a step r told (ap (λ (x : WorldView). record { array = a; hands = x.hands }) is) ok err fits
+    (sizes_of u v a is sizes) (λ memory. same memory ∙ ap (λ (x : WorldView). x.array) is) (λ F rep. may F rep (shows_of u v F is rep)))
 
 -- the sizes stay where a group is made
 pub made_sizes : (a b : ArrayView) (g : ℕ) (class : Class) (members : List Member) → Entered a.parts g class members b.parts → SameSizes a b

@@ -58,38 +58,14 @@ put_is F G (Fresh x) w s b a held case = fill_is a case
     fill_is (answer.Filled t) case = subst (λ n. FillCase F w s x (step.Filled n) G) case.0 case
     fill_is (answer.NotHeld t) case = let both : true ≡ false = sym held ∙ case.1 in absurd (cc)
     fill_is (answer.Refused k) case = case
-    fill_is (answer.Claimed t) case = absurd case
-    fill_is (answer.Taken t) case = absurd case
-    fill_is (answer.Released t) case = absurd case
-    fill_is (answer.Copied t) case = absurd case
-    fill_is (answer.Committed r) case = absurd case
-    fill_is (answer.Discarded t) case = absurd case
-    fill_is (answer.Read found) case = absurd case
-    fill_is (answer.Found seen) case = absurd case
-    fill_is (answer.Made g) case = absurd case
-    fill_is (answer.Unmade g) case = absurd case
-    fill_is answer.Shifted case = absurd case
-    fill_is (answer.Added d) case = absurd case
-    fill_is (answer.Lost d) case = absurd case
+    fill_is _ case = absurd case
 put_is F G Again w s b a held case = copy_is a case
   where
     copy_is : (a : Answer) → CopyCase F w s b (flat_answer a) G → CopyCase F w s b (put_told Again s (refusal_of a)) G
     copy_is (answer.Copied t) case = subst (λ n. CopyCase F w s b (step.Copied n) G) case.0 case
     copy_is (answer.NotHeld t) case = let both : true ≡ false = sym held ∙ case.1 in absurd (cc)
     copy_is (answer.Refused k) case = case
-    copy_is (answer.Claimed t) case = absurd case
-    copy_is (answer.Taken t) case = absurd case
-    copy_is (answer.Released t) case = absurd case
-    copy_is (answer.Filled t) case = absurd case
-    copy_is (answer.Committed r) case = absurd case
-    copy_is (answer.Discarded t) case = absurd case
-    copy_is (answer.Read found) case = absurd case
-    copy_is (answer.Found seen) case = absurd case
-    copy_is (answer.Made g) case = absurd case
-    copy_is (answer.Unmade g) case = absurd case
-    copy_is answer.Shifted case = absurd case
-    copy_is (answer.Added d) case = absurd case
-    copy_is (answer.Lost d) case = absurd case
+    copy_is _ case = absurd case
 
 -- the place that a block had is the worker's behind a commit
 pub committed_holds : (v : WorldView) (F G : Flat) (w s b : ℕ) (r : Record) (old : Option Record) → Represents v F → IsNewest F.emitted b old
@@ -119,34 +95,8 @@ commits_else : (F G : Flat) (w s b : ℕ) (found : Option Record) (c : Option Wa
 commits_else F G w s b found None a other with = with
 commits_else F G w s b found c (answer.Committed r) other with = absurd (cc)
 commits_else F G w s b found c (answer.Refused k) other with = absurd (cc)
-commits_else F G w s b found (Some (waiting.Fresh x)) (answer.Claimed t) other with = with
-commits_else F G w s b found (Some (waiting.Moved c p h x)) (answer.Claimed t) other with = with
-commits_else F G w s b found (Some (waiting.Fresh x)) (answer.Taken t) other with = with
-commits_else F G w s b found (Some (waiting.Moved c p h x)) (answer.Taken t) other with = with
-commits_else F G w s b found (Some (waiting.Fresh x)) (answer.Released t) other with = with
-commits_else F G w s b found (Some (waiting.Moved c p h x)) (answer.Released t) other with = with
-commits_else F G w s b found (Some (waiting.Fresh x)) (answer.NotHeld t) other with = with
-commits_else F G w s b found (Some (waiting.Moved c p h x)) (answer.NotHeld t) other with = with
-commits_else F G w s b found (Some (waiting.Fresh x)) (answer.Filled t) other with = with
-commits_else F G w s b found (Some (waiting.Moved c p h x)) (answer.Filled t) other with = with
-commits_else F G w s b found (Some (waiting.Fresh x)) (answer.Copied t) other with = with
-commits_else F G w s b found (Some (waiting.Moved c p h x)) (answer.Copied t) other with = with
-commits_else F G w s b found (Some (waiting.Fresh x)) (answer.Discarded t) other with = with
-commits_else F G w s b found (Some (waiting.Moved c p h x)) (answer.Discarded t) other with = with
-commits_else F G w s b found (Some (waiting.Fresh x)) (answer.Read read) other with = with
-commits_else F G w s b found (Some (waiting.Moved c p h x)) (answer.Read read) other with = with
-commits_else F G w s b found (Some (waiting.Fresh x)) (answer.Found seen) other with = with
-commits_else F G w s b found (Some (waiting.Moved c p h x)) (answer.Found seen) other with = with
-commits_else F G w s b found (Some (waiting.Fresh x)) (answer.Made g) other with = with
-commits_else F G w s b found (Some (waiting.Fresh x)) (answer.Unmade g) other with = with
-commits_else F G w s b found (Some (waiting.Moved c p h x)) (answer.Made g) other with = with
-commits_else F G w s b found (Some (waiting.Moved c p h x)) (answer.Unmade g) other with = with
-commits_else F G w s b found (Some (waiting.Fresh x)) answer.Shifted other with = with
-commits_else F G w s b found (Some (waiting.Fresh x)) (answer.Added d) other with = with
-commits_else F G w s b found (Some (waiting.Fresh x)) (answer.Lost d) other with = with
-commits_else F G w s b found (Some (waiting.Moved c p h x)) answer.Shifted other with = with
-commits_else F G w s b found (Some (waiting.Moved c p h x)) (answer.Added d) other with = with
-commits_else F G w s b found (Some (waiting.Moved c p h x)) (answer.Lost d) other with = with
+commits_else F G w s b found (Some (waiting.Fresh x)) _ other with = with
+commits_else F G w s b found (Some (waiting.Moved c p h x)) _ other with = with
 
 pub commit_is : (F G : Flat) (w s b : ℕ) (a : Answer) → Case F (step.Commit w s b) (flat_answer a) G → CommitIs F w s b (outcome_of a) G
 commit_is F G w s b (answer.Committed r) case = case

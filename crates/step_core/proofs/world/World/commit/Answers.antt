@@ -47,9 +47,9 @@ returns-in-Err c =
     let all = was_refused v _ a (Commit w s b) r c.refused.result (ap (λ (h : List Hand). record { array = a; hands = h }) back)
     c.refused.ensures.ok c.refused.ensures.err
     (λ F rep. block_there v F b rep c.requires)
-    (refused_same v.array a r is)
+    (refused_sizes v.array a r is) (refused_same v.array a r is)
     (λ F rep. subst (λ t. MayRefuse r (IsWanted F (Commit w t b)) ((G : Flat) × (CommitCase F w t b (Refused r) G) × (ShowsArray a G))) c.in-Some.ensures.1
     (c.in-Err.ensures.flat F w (subst (λ (x : ArrayView). ShowsArray x F) (sym array) rep.array)
     (λ _. ap (λ n. F.held n (Ticket w)) c.in-Some.ensures.1 ∙ (rep.hands s).tickets w ∙ held)))
     in
-    record { ok = all.ok; err = all.err; wants = all.wants; room = refused_sizes v.array a r is }
+    record { ok = all.ok; err = all.err; wants = all.wants; room = all.room }

@@ -1,5 +1,5 @@
 use Rattle.flat_machine.specs.Flat.{Payload}
-use Rattle.std.proofs.Common.{List, rules, subst, sym, ap, ◌≡◌, ◌∙◌, true}
+use Rattle.std.proofs.Common.{refl, List, rules, subst, sym, ap, ◌≡◌, ◌∙◌, true}
 use Rattle.std.proofs.Math.ListN.{set}
 use Rattle.array_model.specs.declared.hand.Hand.{Hand}
 use Rattle.array_model.specs.declared.hand.Hand.TheVariants.{Waits}
@@ -8,9 +8,8 @@ use Rattle.flat_machine.specs.Cases.{FillCase}
 use Rattle.array_model.specs.Views.{ArrayView, WorldView, hand_at}
 use Rattle.array_model.specs.Represents.{ShowsArray, is_claim}
 use Rattle.array_model.proofs.Hands.{as_world}
-use Rattle.array_core.specs.Refused.{IsRefused}
 use Rattle.step_core.proofs.Worlds.{hands_kept, fill_world}
-use Rattle.step_core.proofs.Refusals.{was_refused, refused_same, refused_sizes}
+use Rattle.step_core.proofs.Refusals.{array_refused, refused_same, refused_sizes}
 use Rattle.step_core.proofs.world.World.fill.Goals as goal
 use Rattle.extent_groups.specs.Groups.{Groups}
 
@@ -30,16 +29,11 @@ pub returns-in-Err : goal.returns-in-Err
 returns-in-Err c =
     let w = c.args.worker in
     let s = c.args.slot in
-    let v = c.args.self.now in
     let a = c.fill.new.self in
     let r = c.in-Err.refusal in
-    let held : is_claim (hand_at v.hands s) w ≡ true = search rules in
-    let array : c.self.inside.array ≡ v.array = ap (λ (u : WorldView). u.array) c.self.view_is in
-    let is : IsRefused v.array a r = subst (λ (x : ArrayView). IsRefused x a r) array c.in-Err.ensures.err.1 in
-    let all = was_refused v _ a (Fill w s (Payload c.args.payload.now)) r c.refused.result (ap (λ (u : WorldView). record { array = a; hands = u.hands }) c.self.view_is)
-    c.refused.ensures.ok c.refused.ensures.err
+    let held : is_claim (hand_at c.args.self.now.hands s) w ≡ true = search rules in
+    let told = array_refused _ c.args.self.now a (Fill w s (Payload c.args.payload.now)) r c.refused.result c.refused.result c.self.view_is refl c.refused.ensures.ok c.refused.ensures.err
     (λ F rep. (search rules, c.requires ∙ ap (λ (z : Groups). z.payload) (sym rep.array.tables.groups)))
-    (refused_same v.array a r is)
-    (λ F rep. c.in-Err.ensures.flat F w (subst (λ (x : ArrayView). ShowsArray x F) (sym array) rep.array) ((rep.hands s).claims w ∙ held))
+    (refused_sizes _ a r c.in-Err.ensures.err.1) (refused_same _ a r c.in-Err.ensures.err.1) (λ F rep shows. c.in-Err.ensures.flat F w shows ((rep.hands s).claims w ∙ held))
     in
-    record { ok = all.ok; err = all.err; wants = all.wants; room = refused_sizes v.array a r is }
+    record { ok = told.ok; err = told.err; wants = told.wants; room = told.room }
