@@ -26,22 +26,22 @@ module _ (rank : ℕ → ℕ) (left_out : Option ℕ) where
 
   -- a row in which no group is better
   pub best_row : (row group value : ℕ) (lanes : List ℕ) → IsRow rank row lanes → Each1 (λ lane. lane ≤ value) lanes
-      → IsBestTo rank left_out (8 * row) group value → IsBestTo rank left_out (8 * (row + 1)) group value
+      → IsBestTo rank left_out (16 * row) group value → IsBestTo rank left_out (16 * (row + 1)) group value
   best_row row group value lanes are within h = record {
     below = λ l. omega (arith, h.below l);
     other = h.other;
     is = h.is;
     first = omega (arith, h.first);
-    best = λ other l o. by other o l (cases_lt other (8 * row));
+    best = λ other l o. by other o l (cases_lt other (16 * row));
   }
     where
-      by : (other : ℕ) → left_out ≢ Some other → other < 8 * (row + 1) → (other < 8 * row) ⊎ (8 * row ≤ other) → IsNoBetter rank group value other
+      by : (other : ℕ) → left_out ≢ Some other → other < 16 * (row + 1) → (other < 16 * row) ⊎ (16 * row ≤ other) → IsNoBetter rank group value other
       by other o l (inl m) = h.best other m o
       by other o l (inr m) =
-          let lane : other - 8 * row < 8 = omega (arith, l, m) in
-          let is : slice_index lanes (other - 8 * row) ≡ rank other = are.each (other - 8 * row) lane ∙ ap rank (omega (arith, m)) in
-          let le : slice_index lanes (other - 8 * row) ≤ value =
-          Each1-get_or (λ lane. lane ≤ value) lanes (other - 8 * row) 0 (omega (arith, lane, are.many)) within in
+          let lane : other - 16 * row < 16 = omega (arith, l, m) in
+          let is : slice_index lanes (other - 16 * row) ≡ rank other = are.each (other - 16 * row) lane ∙ ap rank (omega (arith, m)) in
+          let le : slice_index lanes (other - 16 * row) ≤ value =
+          Each1-get_or (λ lane. lane ≤ value) lanes (other - 16 * row) 0 (omega (arith, lane, are.many)) within in
           no_more group value other (omega (arith, is, le)) (omega (arith, h.first, m))
 
   -- the groups below a bound, and the bound's own

@@ -10,22 +10,22 @@ use Rattle.cleaner.specs.Choosing.{IsRow}
 use Rattle.cleaner.specs.Offered.{holed, in_parity, up_to}
 
 -- two tables' row, lane by lane
-pub zip_row : (f : ℕ → ℕ → ℕ) (counts slots left right lanes : List ℕ) (row : ℕ) → row < 64 → length counts ≡ 512 → length slots ≡ 512
-    → left ≡ chunk (8 * row) 8 counts → right ≡ chunk (8 * row) 8 slots → lanes ≡ zip2 f left right
+pub zip_row : (f : ℕ → ℕ → ℕ) (counts slots left right lanes : List ℕ) (row : ℕ) → row < 32 → length counts ≡ 512 → length slots ≡ 512
+    → left ≡ chunk (16 * row) 16 counts → right ≡ chunk (16 * row) 16 slots → lanes ≡ zip2 f left right
     → IsRow (λ g. f (slice_index counts g) (slice_index slots g)) row lanes
 zip_row f counts slots left right lanes row low many also from upon is = record {
   many = ap length is ∙ length-zip2 f left right (whole ∙ sym full) ∙ whole;
   each = λ lane l. ap (λ v. get_or v lane 0) is
       ∙ get_or-zip2 f left right lane 0 0 0 (omega (arith, l, whole)) (omega (arith, l, full))
-      ∙ ap (λ x. f x (get_or right lane 0)) (ap (λ v. get_or v lane 0) from ∙ get_or-chunk (8 * row) 8 counts lane 0 l)
-      ∙ ap (λ y. f (get_or counts (8 * row + lane) 0) y) (ap (λ v. get_or v lane 0) upon ∙ get_or-chunk (8 * row) 8 slots lane 0 l);
+      ∙ ap (λ x. f x (get_or right lane 0)) (ap (λ v. get_or v lane 0) from ∙ get_or-chunk (16 * row) 16 counts lane 0 l)
+      ∙ ap (λ y. f (get_or counts (16 * row + lane) 0) y) (ap (λ v. get_or v lane 0) upon ∙ get_or-chunk (16 * row) 16 slots lane 0 l);
 }
   where
-    whole : length left ≡ 8
-    whole = ap length from ∙ length-chunk (8 * row) 8 counts (omega (arith, low, many))
+    whole : length left ≡ 16
+    whole = ap length from ∙ length-chunk (16 * row) 16 counts (omega (arith, low, many))
 
-    full : length right ≡ 8
-    full = ap length upon ∙ length-chunk (8 * row) 8 slots (omega (arith, low, also))
+    full : length right ≡ 16
+    full = ap length upon ∙ length-chunk (16 * row) 16 slots (omega (arith, low, also))
 
 -- each lane changed
 pub map_row : (f rank : ℕ → ℕ) (row : ℕ) (before lanes : List ℕ) → lanes ≡ map f before → IsRow rank row before → IsRow (λ g. f (rank g)) row lanes
@@ -47,17 +47,17 @@ kept t (suc n) [] ys e f = absurd (omega (arith, e))
 kept t (suc n) (x ∷ xs) [] e f = absurd (omega (arith, f))
 kept t (suc n) (x ∷ xs) (y ∷ ys) e f = ap (λ rest. cond (t x y) x 0 ∷ rest) (kept t n xs ys (omega (arith, e)) (omega (arith, f)))
 
-pub holed_lanes : (counts slots : List ℕ) → length counts ≡ 8 → length slots ≡ 8
-    → sel_l (compared ltb counts slots) counts (replicate 8 0) ≡ zip2 holed counts slots
+pub holed_lanes : (counts slots : List ℕ) → length counts ≡ 16 → length slots ≡ 16
+    → sel_l (compared ltb counts slots) counts (replicate 16 0) ≡ zip2 holed counts slots
 holed_lanes counts slots many also =
-    ap (λ ms. sel_l ms counts (replicate 8 0)) (tops_compared w16 ltb counts slots) ∙ kept ltb 8 counts slots many also
+    ap (λ ms. sel_l ms counts (replicate 16 0)) (tops_compared w16 ltb counts slots) ∙ kept ltb 16 counts slots many also
 
-pub few_lanes : (counts : List ℕ) (most : ℕ) → length counts ≡ 8
-    → sel_l (compared leb counts (replicate 8 most)) counts (replicate 8 0) ≡ map (λ count. up_to most count) counts
+pub few_lanes : (counts : List ℕ) (most : ℕ) → length counts ≡ 16
+    → sel_l (compared leb counts (replicate 16 most)) counts (replicate 16 0) ≡ map (λ count. up_to most count) counts
 few_lanes counts most many =
-    ap (λ ms. sel_l ms counts (replicate 8 0)) (tops_compared w16 leb counts (replicate 8 most))
-    ∙ kept leb 8 counts (replicate 8 most) many (length-replicate 8 most)
-    ∙ zip2_splat (λ x y. cond (leb x y) x 0) counts 8 most many
+    ap (λ ms. sel_l ms counts (replicate 16 0)) (tops_compared w16 leb counts (replicate 16 most))
+    ∙ kept leb 16 counts (replicate 16 most) many (length-replicate 16 most)
+    ∙ zip2_splat (λ x y. cond (leb x y) x 0) counts 16 most many
 
 -- of the first, where the second isn't 0
 some_kept : (n : ℕ) (xs ys : List ℕ) → length xs ≡ n → length ys ≡ n → sel_l (zip2 ltb (replicate n 0) ys) xs ys ≡ zip2 in_parity xs ys
@@ -71,10 +71,10 @@ some_kept (suc n) (x ∷ xs) (y ∷ ys) e f = rw (one (ltb 0 y) refl, some_kept 
     one true is = rw is refl
     one false is = let none : y ≡ 0 = omega (arith, ltb-false 0 y is) in rw (is, none) refl
 
-pub parity_lanes : (counts slots : List ℕ) → length counts ≡ 8 → length slots ≡ 8
-    → sel_l (compared ltb (replicate 8 0) slots) counts slots ≡ zip2 in_parity counts slots
+pub parity_lanes : (counts slots : List ℕ) → length counts ≡ 16 → length slots ≡ 16
+    → sel_l (compared ltb (replicate 16 0) slots) counts slots ≡ zip2 in_parity counts slots
 parity_lanes counts slots many also =
-    ap (λ ms. sel_l ms counts slots) (tops_compared w16 ltb (replicate 8 0) slots) ∙ some_kept 8 counts slots many also
+    ap (λ ms. sel_l ms counts slots) (tops_compared w16 ltb (replicate 16 0) slots) ∙ some_kept 16 counts slots many also
 
 -- ---- whether a lane is above a rank
 
@@ -111,10 +111,10 @@ not_not : (t : Bool) → IsTrue (not (not t)) → t ≡ true
 not_not true h = refl
 not_not false h = cc h
 
-pub within_seen : (rank : ℕ) (lanes : List ℕ) → length lanes ≡ 8
-    → IsTrue (not (not (mask_l (above rank 8 lanes) % 2 ^ 64 == 0))) ↔ Each1 (λ lane. lane ≤ rank) lanes
+pub within_seen : (rank : ℕ) (lanes : List ℕ) → length lanes ≡ 16
+    → IsTrue (not (not (mask_l (above rank 16 lanes) % 2 ^ 64 == 0))) ↔ Each1 (λ lane. lane ≤ rank) lanes
 within_seen rank lanes many =
-    let whole : mask_l (above rank 8 lanes) % 2 ^ 64 ≡ mask_l (above rank 8 lanes) = mask_l-mod (above rank 8 lanes) 64 (omega (arith, length-above rank 8 lanes many)) in (
-      λ h. above_none rank 8 lanes many (sym whole ∙ eqb-true _ _ (not_not _ h)),
-      λ h. rw (whole, none_above rank 8 lanes many h) refl,
+    let whole : mask_l (above rank 16 lanes) % 2 ^ 64 ≡ mask_l (above rank 16 lanes) = mask_l-mod (above rank 16 lanes) 64 (omega (arith, length-above rank 16 lanes many)) in (
+      λ h. above_none rank 16 lanes many (sym whole ∙ eqb-true _ _ (not_not _ h)),
+      λ h. rw (whole, none_above rank 16 lanes many h) refl,
     )

@@ -89,10 +89,19 @@ module _ (groups : Groups) (keys : ℕ → ℕ) (counts slots : List ℕ) (are :
       by g low other true is true le some =
           record { has = live.each g low (made_of g (ltb-true _ _ is)); other = other; some = some; few = leb-true _ _ le }
 
-  pub none_source : (target most : ℕ) → most < 2 ^ 16 → IsChoice (λ g. turned (source_count slots counts most g)) (Some target) None
-      → (g n : ℕ) → IsSource groups keys target most g n → ⊥
-  none_source target most fits = none_fewest (IsSource groups keys target most) (Some target) (source_count slots counts most) (source_counted target most fits)
+  -- a target's counts are few
+  target_fits : (write : Option ℕ) (target : Ranked) → IsChoice (holed_count slots counts) write (Some target) → target.rank < 2 ^ 16
+  target_fits write target into = omega (arith, (fullest write target into).offered.hole, few_slots groups target.group are)
 
-  pub source : (target most : ℕ) → most < 2 ^ 16 → (best : Ranked) → IsChoice (λ g. turned (source_count slots counts most g)) (Some target) (Some best)
-      → IsFewest (IsSource groups keys target most) best.group (source_count slots counts most best.group)
-  source target most fits = is_fewest (IsSource groups keys target most) (Some target) (source_count slots counts most) (source_counted target most fits)
+  pub none_source : (write : Option ℕ) (target : Ranked) → IsChoice (holed_count slots counts) write (Some target)
+      → IsChoice (λ g. turned (source_count slots counts target.rank g)) (Some target.group) None → (g n : ℕ) → IsSource groups keys target.group target.rank g n → ⊥
+  none_source write target into =
+      none_fewest (IsSource groups keys target.group target.rank) (Some target.group) (source_count slots counts target.rank)
+      (source_counted target.group target.rank (target_fits write target into))
+
+  pub source : (write : Option ℕ) (target best : Ranked) → IsChoice (holed_count slots counts) write (Some target)
+      → IsChoice (λ g. turned (source_count slots counts target.rank g)) (Some target.group) (Some best)
+      → IsFewest (IsSource groups keys target.group target.rank) best.group (source_count slots counts target.rank best.group)
+  source write target best into =
+      is_fewest (IsSource groups keys target.group target.rank) (Some target.group) (source_count slots counts target.rank)
+      (source_counted target.group target.rank (target_fits write target into)) best

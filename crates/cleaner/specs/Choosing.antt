@@ -12,10 +12,10 @@ pub record IsMost (offers : ℕ → ℕ → Type 0) (group live : ℕ) : Type 0 
   pub offered : offers group live
   pub best : (other count : ℕ) → offers other count → (count < live) ⊎ ((live ≡ count) × (group ≤ other))
 
--- the ranks of eight groups in turn
+-- the ranks of sixteen groups in turn
 pub record IsRow (rank : ℕ → ℕ) (row : ℕ) (lanes : List ℕ) : Type 0 where
-  pub many : length lanes ≡ 8
-  pub each : (lane : ℕ) → lane < 8 → slice_index lanes lane ≡ rank (8 * row + lane)
+  pub many : length lanes ≡ 16
+  pub each : (lane : ℕ) → lane < 16 → slice_index lanes lane ≡ rank (16 * row + lane)
 
 -- no other group has a greater rank, nor a lower one the same
 abbrev pub IsNoBetter : (ℕ → ℕ) → ℕ → ℕ → ℕ → Type 0

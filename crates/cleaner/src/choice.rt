@@ -21,9 +21,9 @@ pub(crate) trait Ranks {
     /// The rank of each group, 0 where the plan doesn't choose from it.
     ghost rank: { Self → ℕ → ℕ };
 
-    /// The ranks of eight groups in turn.
-    fn row(&self, row: u16) -> u16x8
-        requires low { row < 64 }
+    /// The ranks of sixteen groups in turn.
+    fn row(&self, row: u16) -> u16x16
+        requires low { row < 32 }
         requires whole { whole self.now }
         ensures { IsRow (rank self.now) row result };
 }
@@ -43,9 +43,9 @@ pub(crate) fn greatest<R: Ranks>(ranks: &R, left_out: Option<u16>) -> Option<Ran
 // The best of the groups up to the end of a row, by the best of those before it.
 fn after_row<R: Ranks>(ranks: &R, left_out: Option<u16>, row: u16, best: Ranked) -> Ranked
     requires whole { R.whole ranks.now }
-    requires low { row < 64 }
-    requires best { IsBestTo (R.rank ranks.now) left_out (8 * row) best.group best.rank }
-    ensures { IsBestTo (R.rank ranks.now) left_out (8 * (row + 1)) result.group result.rank }
+    requires low { row < 32 }
+    requires best { IsBestTo (R.rank ranks.now) left_out (16 * row) best.group best.rank }
+    ensures { IsBestTo (R.rank ranks.now) left_out (16 * (row + 1)) result.group result.rank }
 {
     let lanes = ranks.row(row);
     if are_within(lanes, best.rank) {

@@ -21,7 +21,7 @@ impl<'a> Ranks for Fullest<'a> {
     ghost rank = { λ f group. holed_count f.slots.now f.counts.now group };
 
     #[inline(always)]
-    fn row(&self, row: u16) -> u16x8 {
+    fn row(&self, row: u16) -> u16x16 {
         let counts = self.counts;
         let slots = self.slots;
         keep_holed(row_of(counts, row), row_of(slots, row))
@@ -41,7 +41,7 @@ impl<'a> Ranks for Emptiest<'a> {
     ghost rank = { λ e group. turned (holed_count e.slots.now e.counts.now group) };
 
     #[inline(always)]
-    fn row(&self, row: u16) -> u16x8 {
+    fn row(&self, row: u16) -> u16x16 {
         let counts = self.counts;
         let slots = self.slots;
         turn(keep_holed(row_of(counts, row), row_of(slots, row)))
@@ -62,7 +62,7 @@ impl<'a> Ranks for Sources<'a> {
     ghost rank = { λ s group. turned (source_count s.slots.now s.counts.now s.most group) };
 
     #[inline(always)]
-    fn row(&self, row: u16) -> u16x8 {
+    fn row(&self, row: u16) -> u16x16 {
         let counts = self.counts;
         let slots = self.slots;
         let parity = keep_parity(row_of(counts, row), row_of(slots, row));

@@ -3,4 +3,4 @@ use Rattle.cleaner.specs.Choosing.{IsBestTo}
 use Rattle.cleaner.proofs.choice.greatest.Given as goal
 
 abbrev pub invariant-loop-row : goal.invariant-loop-row
-invariant-loop-row g l = IsBestTo (g.R.Ranks.rank l.ranks) l.left_out (8 * l.row) l.best.group l.best.rank
+invariant-loop-row g l = IsBestTo (g.R.Ranks.rank l.ranks) l.left_out (16 * l.row) l.best.group l.best.rank
