@@ -74,77 +74,86 @@ fn role_seen(groups: &GroupTable, group: u16, member: u8, offset: u8) -> Option<
     Some(groups.role(group, member, offset as u16))
 }
 
-/// Whether the units of a row of the table tell the row's index.
-fn is_told_back(rt: &impl Abort, alloc: Global, row: &[u8; 8]) -> Result<bool, Fail> {
-    let [
-        class,
-        members,
-        segments,
-        index,
-        member,
-        offset,
-        other,
-        other_offset,
-    ] = *row;
-    let class = if class == 0 {
-        Class::Mirrored
-    } else {
-        Class::Parity
-    };
-    let tables = group_of(rt, alloc, class, members, segments)?;
-    let slot = Some(Role::Slot(index as u16));
-    let second = if class == Class::Mirrored {
-        slot
-    } else {
-        Some(Role::ParityUnit)
-    };
-    Ok(
-        role_seen(&tables.groups, 0, member, offset) == slot
-            && role_seen(&tables.groups, 0, other, other_offset) == second,
-    )
+/// A row of the table: a slot by its index, and two units: its copies, or its own and the parity's.
+#[derive(Clone, Copy)]
+struct Row {
+    class: Class,
+    members: u8,
+    segments: u8,
+    index: u16,
+    member: u8,
+    offset: u8,
+    other: u8,
+    other_offset: u8,
 }
 
-/// Whether a row of the table is what the geometry says: class, members, segments, index, and two units.
-fn is_told(rt: &impl Abort, alloc: Global, row: &[u8; 8]) -> Result<bool, Fail> {
-    let [
-        class,
-        members,
-        segments,
-        index,
-        member,
-        offset,
-        other,
-        other_offset,
-    ] = *row;
-    let class = if class == 0 {
-        Class::Mirrored
-    } else {
-        Class::Parity
+impl Row {
+    fn of(row: &[u8; 8]) -> Row {
+        let [
+            class,
+            members,
+            segments,
+            index,
+            member,
+            offset,
+            other,
+            other_offset,
+        ] = *row;
+        Row {
+            class: if class == 0 {
+                Class::Mirrored
+            } else {
+                Class::Parity
+            },
+            members,
+            segments,
+            index: index as u16,
+            member,
+            offset,
+            other,
+            other_offset,
+        }
+    }
+}
+
+/// Whether the units of a row tell its index.
+fn is_told_back(groups: &GroupTable, row: Row) -> bool {
+    let slot = Some(Role::Slot(row.index));
+    let second = match row.class {
+        Class::Mirrored => slot,
+        Class::Parity => Some(Role::ParityUnit),
     };
-    let tables = group_of(rt, alloc, class, members, segments)?;
-    Ok(match class {
-        Class::Mirrored => copies_seen(&tables.groups, 0, index as u16)
+    role_seen(groups, 0, row.member, row.offset) == slot
+        && role_seen(groups, 0, row.other, row.other_offset) == second
+}
+
+/// Whether a row is what the geometry says.
+fn is_told(groups: &GroupTable, row: Row) -> bool {
+    match row.class {
+        Class::Mirrored => copies_seen(groups, 0, row.index)
             == Some(Copies {
-                first: spot(member, offset),
-                second: spot(other, other_offset),
+                first: spot(row.member, row.offset),
+                second: spot(row.other, row.other_offset),
             }),
         Class::Parity => {
             let told = Stripe {
-                stripe: offset / 2,
-                member,
-                offset: offset as u16,
-                parity: other,
+                stripe: row.offset / 2,
+                member: row.member,
+                offset: row.offset as u16,
+                parity: row.other,
             };
-            stripe_seen(&tables.groups, 0, index as u16) == Some(told) && offset == other_offset
+            stripe_seen(groups, 0, row.index) == Some(told) && row.offset == row.other_offset
         }
-    })
+    }
 }
 
 #[test]
 fn every_index_lies_where_the_table_says(rt: HostRuntime) -> Result<(), Fail> {
-    for row in &PLACES {
-        assert!(rt; is_told(&rt, rt.alloc(), row)?);
-        assert!(rt; is_told_back(&rt, rt.alloc(), row)?);
+    for places in &PLACES {
+        let row = Row::of(places);
+        let tables = group_of(&rt, rt.alloc(), row.class, row.members, row.segments)?;
+        assert!(rt; is_told(&tables.groups, row));
+        assert!(rt; is_told_back(&tables.groups, row));
     }
     Ok(())
 }
