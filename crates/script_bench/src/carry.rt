@@ -20,6 +20,7 @@ use std::alloc::{AllocError, Global};
 use step_core::{Array, Class, Drive, Hold};
 
 /// Carries out a command that is within the limits, and appends its answer. A restart is carried out by `restart`.
+/// Each command is kept out of line, since a line's frame, which is filled with zeros, would have room for all of them.
 pub fn carry_out(
     alloc: Global,
     bench: &mut Bench,
@@ -66,6 +67,7 @@ pub fn carry_out(
     }
 }
 
+#[inline(never)]
 fn claim(bench: &mut Bench, worker: u8, slot: u16, out: &mut Vec<u8>) -> Result<(), AllocError>
     ensures { OnOk result (Carries bench.old bench.new (o.Claim worker slot) out.old.items out.new.items) }
 {
@@ -73,6 +75,7 @@ fn claim(bench: &mut Bench, worker: u8, slot: u16, out: &mut Vec<u8>) -> Result<
     put_answer(out, &answer, 0)
 }
 
+#[inline(never)]
 fn release(bench: &mut Bench, worker: u8, slot: u16, out: &mut Vec<u8>) -> Result<(), AllocError>
     ensures { OnOk result (Carries bench.old bench.new (o.Release worker slot) out.old.items out.new.items) }
 {
@@ -80,6 +83,7 @@ fn release(bench: &mut Bench, worker: u8, slot: u16, out: &mut Vec<u8>) -> Resul
     put_answer(out, &answer, 0)
 }
 
+#[inline(never)]
 fn fill(
     alloc: Global,
     bench: &mut Bench,
@@ -95,6 +99,7 @@ fn fill(
     put_answer(out, &answer, 0)
 }
 
+#[inline(never)]
 fn copy(
     alloc: Global,
     bench: &mut Bench,
@@ -110,6 +115,7 @@ fn copy(
     put_answer(out, &answer, 0)
 }
 
+#[inline(never)]
 fn commit(
     alloc: Global,
     bench: &mut Bench,
@@ -125,6 +131,7 @@ fn commit(
     put_answer(out, &answer, 0)
 }
 
+#[inline(never)]
 fn discard(bench: &mut Bench, worker: u8, slot: u16, out: &mut Vec<u8>) -> Result<(), AllocError>
     ensures { OnOk result (Carries bench.old bench.new (o.Discard worker slot) out.old.items out.new.items) }
 {
@@ -132,6 +139,7 @@ fn discard(bench: &mut Bench, worker: u8, slot: u16, out: &mut Vec<u8>) -> Resul
     put_answer(out, &answer, 0)
 }
 
+#[inline(never)]
 fn lose(bench: &mut Bench, drive: u8, out: &mut Vec<u8>) -> Result<(), AllocError>
     ensures { OnOk result (Carries bench.old bench.new (o.Lose drive) out.old.items out.new.items) }
 {
@@ -139,6 +147,7 @@ fn lose(bench: &mut Bench, drive: u8, out: &mut Vec<u8>) -> Result<(), AllocErro
     put_answer(out, &answer, 0)
 }
 
+#[inline(never)]
 fn read_at(
     alloc: Global,
     bench: &mut Bench,
@@ -152,6 +161,7 @@ fn read_at(
     put_answer(out, &answer, record.version)
 }
 
+#[inline(never)]
 fn read(alloc: Global, bench: &mut Bench, block: u32, out: &mut Vec<u8>) -> Result<(), AllocError>
     requires { block < bench.old.tiers.world.array.parts.groups.blocks }
     ensures { OnOk result (Carries bench.old bench.new (o.Read block) out.old.items out.new.items) }
@@ -160,6 +170,7 @@ fn read(alloc: Global, bench: &mut Bench, block: u32, out: &mut Vec<u8>) -> Resu
     put_answer(out, &answer, 0)
 }
 
+#[inline(never)]
 fn make(
     alloc: Global,
     bench: &mut Bench,
@@ -175,6 +186,7 @@ fn make(
     put_answer(out, &answer, 0)
 }
 
+#[inline(never)]
 fn unmake(
     alloc: Global,
     bench: &mut Bench,
@@ -188,6 +200,7 @@ fn unmake(
     put_answer(out, &answer, 0)
 }
 
+#[inline(never)]
 fn map(alloc: Global, bench: &mut Bench, out: &mut Vec<u8>) -> Result<(), AllocError>
     ensures { OnOk result (Carries bench.old bench.new o.Map out.old.items out.new.items) }
 {
@@ -212,6 +225,7 @@ fn newest_records<D: Drive, C: Hold>(
     Ok(records)
 }
 
+#[inline(never)]
 fn log(alloc: Global, bench: &mut Bench, out: &mut Vec<u8>) -> Result<(), AllocError>
     ensures { OnOk result (Carries bench.old bench.new o.Log out.old.items out.new.items) }
 {
@@ -221,6 +235,7 @@ fn log(alloc: Global, bench: &mut Bench, out: &mut Vec<u8>) -> Result<(), AllocE
     put_listing(out, b"log ", &records)
 }
 
+#[inline(never)]
 fn write(
     alloc: Global,
     bench: &mut Bench,
@@ -237,6 +252,7 @@ fn write(
     put_outcome(out, outcome)
 }
 
+#[inline(never)]
 fn demote(alloc: Global, bench: &mut Bench, worker: u8, out: &mut Vec<u8>) -> Result<(), AllocError>
     ensures { OnOk result (Carries bench.old bench.new (o.Demote worker) out.old.items out.new.items) }
 {
@@ -244,6 +260,7 @@ fn demote(alloc: Global, bench: &mut Bench, worker: u8, out: &mut Vec<u8>) -> Re
     put_outcome(out, outcome)
 }
 
+#[inline(never)]
 fn plug(alloc: Global, bench: &mut Bench, worker: u8, out: &mut Vec<u8>) -> Result<(), AllocError>
     ensures { OnOk result (Carries bench.old bench.new (o.Plug worker) out.old.items out.new.items) }
 {
@@ -251,6 +268,7 @@ fn plug(alloc: Global, bench: &mut Bench, worker: u8, out: &mut Vec<u8>) -> Resu
     put_outcome(out, outcome)
 }
 
+#[inline(never)]
 fn clean(alloc: Global, bench: &mut Bench, worker: u8, out: &mut Vec<u8>) -> Result<(), AllocError>
     ensures { OnOk result (Carries bench.old bench.new (o.Clean worker) out.old.items out.new.items) }
 {
@@ -258,6 +276,7 @@ fn clean(alloc: Global, bench: &mut Bench, worker: u8, out: &mut Vec<u8>) -> Res
     put_outcome(out, outcome)
 }
 
+#[inline(never)]
 fn add(alloc: Global, bench: &mut Bench, out: &mut Vec<u8>) -> Result<(), AllocError>
     ensures { OnOk result (Carries bench.old bench.new o.Add out.old.items out.new.items) }
 {
@@ -265,6 +284,7 @@ fn add(alloc: Global, bench: &mut Bench, out: &mut Vec<u8>) -> Result<(), AllocE
     put_answer(out, &answer, 0)
 }
 
+#[inline(never)]
 fn balance(alloc: Global, bench: &mut Bench, out: &mut Vec<u8>) -> Result<(), AllocError>
     ensures { OnOk result (Carries bench.old bench.new o.Balance out.old.items out.new.items) }
 {
@@ -272,6 +292,7 @@ fn balance(alloc: Global, bench: &mut Bench, out: &mut Vec<u8>) -> Result<(), Al
     put_regrouped(out, outcome)
 }
 
+#[inline(never)]
 fn rebuild(alloc: Global, bench: &mut Bench, drive: u8, out: &mut Vec<u8>) -> Result<(), AllocError>
     ensures { OnOk result (Carries bench.old bench.new (o.Rebuild drive) out.old.items out.new.items) }
 {

@@ -1,5 +1,5 @@
 //! A line that is read for its words, and the reply to it.
-ghost use Rattle.std.specs.Prelude.{◌≤◌, length, Some};
+ghost use Rattle.std.specs.Prelude.{◌≡◌, ◌≤◌, length, Some, None};
 ghost use Rattle.script_bench.specs.State.{Position, State};
 ghost use Rattle.script_bench.specs.Carrying.{Stands, MakesBench};
 ghost use Rattle.script_bench.specs.Replies.{Replies, Starts};
@@ -31,6 +31,21 @@ pub fn reply(
     if bench.is_some() {
         return later(alloc, bench, payload, line, out);
     }
+    start(alloc, bench, line, out)
+}
+
+// The reply where there is no array yet. Kept out of line, since its frame has room for a bench.
+#[inline(never)]
+fn start(
+    alloc: Global,
+    bench: &mut Option<Bench>,
+    line: &[u8],
+    out: &mut Vec<u8>,
+) -> Result<(), Failure>
+    requires { bench.old ≡ None }
+    ensures { (state : State) → Stands bench.old state →
+        Replies result state bench.new line.now out.old.items out.new.items }
+{
     match first(alloc, line, out) {
         Ok(made) => {
             *bench = Some(made);
@@ -40,8 +55,7 @@ pub fn reply(
     }
 }
 
-// The first command makes the array. Kept out of line, as `restart`.
-#[inline(never)]
+// The first command makes the array.
 fn first(alloc: Global, line: &[u8], out: &mut Vec<u8>) -> Result<Bench, Failure>
     ensures { Starts result line.now out.old.items out.new.items }
 {

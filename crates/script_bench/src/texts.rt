@@ -15,6 +15,9 @@ use std::alloc::AllocError;
 use step_core::{Answer, At, Refusal};
 use tiering::Outcome;
 
+/// The digits of a record in hex.
+const RECORD_DIGITS: usize = 24;
+
 /// A text as it stands.
 pub fn put(out: &mut Vec<u8>, text: &[u8]) -> Result<(), AllocError>
     ensures { OnOk result (out.new.items ≡ out.old.items ++ text.now) }
@@ -47,7 +50,9 @@ pub fn put_hex(out: &mut Vec<u8>, bytes: &[u8]) -> Result<(), AllocError>
 pub fn put_record(out: &mut Vec<u8>, record: &Record) -> Result<(), AllocError>
     ensures { OnOk result (out.new.items ≡ out.old.items ++ record_text «record».now) }
 {
-    put_hex(out, &record.to_bytes())
+    let mut digits = [0; RECORD_DIGITS];
+    encode_hex(&record.to_bytes(), &mut digits);
+    put(out, &digits)
 }
 
 /// A word and a number.
@@ -63,7 +68,7 @@ fn put_data(out: &mut Vec<u8>, version: u32, payload: &[u8]) -> Result<(), Alloc
     ensures { OnOk result (out.new.items ≡ out.old.items ++ data_text version payload.now) }
 {
     put_numbered(out, b"data ", u64::from(version))?;
-    put(out, b" ")?;
+    out.push(b' ')?;
     put_hex(out, payload)
 }
 

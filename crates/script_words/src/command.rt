@@ -17,9 +17,10 @@ pub struct Named {
 /// buffer that was lent for it.
 #[derive(Drop)]
 pub struct Command {
-    pub verb: Verb,
     pub numbers: [u64; MOST_NUMBERS],
     pub record: Record,
+    // Two fields of a byte side by side, since padding is copied with each move of a command.
+    pub verb: Verb,
     pub class: Class,
     pub members: Vec<Named>,
 }
