@@ -80,7 +80,7 @@ was_refused v w a step r (Err e) is ok err fits sizes same may = record {
   room = subst (λ (x : WorldView). SameSizes v.array x.array) (sym is) sizes;
 }
 
--- what the array tells before a step is told of the world that it belongs to
+-- what is known of a world is known of one that is equal
 sizes_of : (u v : WorldView) (a : ArrayView) → u ≡ v → SameSizes u.array a → SameSizes v.array a
 sizes_of u v a is sizes = subst (λ (x : WorldView). SameSizes x.array a) is sizes
 
