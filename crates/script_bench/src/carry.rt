@@ -20,7 +20,6 @@ use std::alloc::{AllocError, Global};
 use step_core::{Array, Class, Drive, Hold};
 
 /// Carries out a command that is within the limits, and appends its answer. A restart is carried out by `restart`.
-/// Each command is kept out of line, since a line's frame, which is filled with zeros, would have room for all of them.
 pub fn carry_out(
     alloc: Global,
     bench: &mut Bench,
@@ -67,7 +66,6 @@ pub fn carry_out(
     }
 }
 
-#[inline(never)]
 fn claim(bench: &mut Bench, worker: u8, slot: u16, out: &mut Vec<u8>) -> Result<(), AllocError>
     ensures { OnOk result (Carries bench.old bench.new (o.Claim worker slot) out.old.items out.new.items) }
 {
@@ -75,7 +73,6 @@ fn claim(bench: &mut Bench, worker: u8, slot: u16, out: &mut Vec<u8>) -> Result<
     put_answer(out, &answer, 0)
 }
 
-#[inline(never)]
 fn release(bench: &mut Bench, worker: u8, slot: u16, out: &mut Vec<u8>) -> Result<(), AllocError>
     ensures { OnOk result (Carries bench.old bench.new (o.Release worker slot) out.old.items out.new.items) }
 {
@@ -83,7 +80,6 @@ fn release(bench: &mut Bench, worker: u8, slot: u16, out: &mut Vec<u8>) -> Resul
     put_answer(out, &answer, 0)
 }
 
-#[inline(never)]
 fn fill(
     alloc: Global,
     bench: &mut Bench,
@@ -99,7 +95,6 @@ fn fill(
     put_answer(out, &answer, 0)
 }
 
-#[inline(never)]
 fn copy(
     alloc: Global,
     bench: &mut Bench,
@@ -115,7 +110,6 @@ fn copy(
     put_answer(out, &answer, 0)
 }
 
-#[inline(never)]
 fn commit(
     alloc: Global,
     bench: &mut Bench,
@@ -131,7 +125,6 @@ fn commit(
     put_answer(out, &answer, 0)
 }
 
-#[inline(never)]
 fn discard(bench: &mut Bench, worker: u8, slot: u16, out: &mut Vec<u8>) -> Result<(), AllocError>
     ensures { OnOk result (Carries bench.old bench.new (o.Discard worker slot) out.old.items out.new.items) }
 {
@@ -139,7 +132,6 @@ fn discard(bench: &mut Bench, worker: u8, slot: u16, out: &mut Vec<u8>) -> Resul
     put_answer(out, &answer, 0)
 }
 
-#[inline(never)]
 fn lose(bench: &mut Bench, drive: u8, out: &mut Vec<u8>) -> Result<(), AllocError>
     ensures { OnOk result (Carries bench.old bench.new (o.Lose drive) out.old.items out.new.items) }
 {
@@ -147,7 +139,6 @@ fn lose(bench: &mut Bench, drive: u8, out: &mut Vec<u8>) -> Result<(), AllocErro
     put_answer(out, &answer, 0)
 }
 
-#[inline(never)]
 fn read_at(
     alloc: Global,
     bench: &mut Bench,
@@ -161,7 +152,6 @@ fn read_at(
     put_answer(out, &answer, record.version)
 }
 
-#[inline(never)]
 fn read(alloc: Global, bench: &mut Bench, block: u32, out: &mut Vec<u8>) -> Result<(), AllocError>
     requires { block < bench.old.tiers.world.array.parts.groups.blocks }
     ensures { OnOk result (Carries bench.old bench.new (o.Read block) out.old.items out.new.items) }
@@ -170,7 +160,6 @@ fn read(alloc: Global, bench: &mut Bench, block: u32, out: &mut Vec<u8>) -> Resu
     put_answer(out, &answer, 0)
 }
 
-#[inline(never)]
 fn make(
     alloc: Global,
     bench: &mut Bench,
@@ -186,7 +175,6 @@ fn make(
     put_answer(out, &answer, 0)
 }
 
-#[inline(never)]
 fn unmake(
     alloc: Global,
     bench: &mut Bench,
@@ -200,7 +188,6 @@ fn unmake(
     put_answer(out, &answer, 0)
 }
 
-#[inline(never)]
 fn map(alloc: Global, bench: &mut Bench, out: &mut Vec<u8>) -> Result<(), AllocError>
     ensures { OnOk result (Carries bench.old bench.new o.Map out.old.items out.new.items) }
 {
@@ -225,7 +212,6 @@ fn newest_records<D: Drive, C: Hold>(
     Ok(records)
 }
 
-#[inline(never)]
 fn log(alloc: Global, bench: &mut Bench, out: &mut Vec<u8>) -> Result<(), AllocError>
     ensures { OnOk result (Carries bench.old bench.new o.Log out.old.items out.new.items) }
 {
@@ -235,7 +221,6 @@ fn log(alloc: Global, bench: &mut Bench, out: &mut Vec<u8>) -> Result<(), AllocE
     put_listing(out, b"log ", &records)
 }
 
-#[inline(never)]
 fn write(
     alloc: Global,
     bench: &mut Bench,
@@ -252,7 +237,6 @@ fn write(
     put_outcome(out, outcome)
 }
 
-#[inline(never)]
 fn demote(alloc: Global, bench: &mut Bench, worker: u8, out: &mut Vec<u8>) -> Result<(), AllocError>
     ensures { OnOk result (Carries bench.old bench.new (o.Demote worker) out.old.items out.new.items) }
 {
@@ -260,7 +244,6 @@ fn demote(alloc: Global, bench: &mut Bench, worker: u8, out: &mut Vec<u8>) -> Re
     put_outcome(out, outcome)
 }
 
-#[inline(never)]
 fn plug(alloc: Global, bench: &mut Bench, worker: u8, out: &mut Vec<u8>) -> Result<(), AllocError>
     ensures { OnOk result (Carries bench.old bench.new (o.Plug worker) out.old.items out.new.items) }
 {
@@ -268,7 +251,6 @@ fn plug(alloc: Global, bench: &mut Bench, worker: u8, out: &mut Vec<u8>) -> Resu
     put_outcome(out, outcome)
 }
 
-#[inline(never)]
 fn clean(alloc: Global, bench: &mut Bench, worker: u8, out: &mut Vec<u8>) -> Result<(), AllocError>
     ensures { OnOk result (Carries bench.old bench.new (o.Clean worker) out.old.items out.new.items) }
 {
@@ -276,7 +258,6 @@ fn clean(alloc: Global, bench: &mut Bench, worker: u8, out: &mut Vec<u8>) -> Res
     put_outcome(out, outcome)
 }
 
-#[inline(never)]
 fn add(alloc: Global, bench: &mut Bench, out: &mut Vec<u8>) -> Result<(), AllocError>
     ensures { OnOk result (Carries bench.old bench.new o.Add out.old.items out.new.items) }
 {
@@ -284,7 +265,6 @@ fn add(alloc: Global, bench: &mut Bench, out: &mut Vec<u8>) -> Result<(), AllocE
     put_answer(out, &answer, 0)
 }
 
-#[inline(never)]
 fn balance(alloc: Global, bench: &mut Bench, out: &mut Vec<u8>) -> Result<(), AllocError>
     ensures { OnOk result (Carries bench.old bench.new o.Balance out.old.items out.new.items) }
 {
@@ -292,7 +272,6 @@ fn balance(alloc: Global, bench: &mut Bench, out: &mut Vec<u8>) -> Result<(), Al
     put_regrouped(out, outcome)
 }
 
-#[inline(never)]
 fn rebuild(alloc: Global, bench: &mut Bench, drive: u8, out: &mut Vec<u8>) -> Result<(), AllocError>
     ensures { OnOk result (Carries bench.old bench.new (o.Rebuild drive) out.old.items out.new.items) }
 {

@@ -15,7 +15,6 @@ use std::alloc::{AllocError, Global};
 use std::mem;
 
 /// Takes a record into a map, and tells the map's record of that block.
-#[inline(never)]
 pub fn take(
     alloc: Global,
     bench: &mut Bench,
@@ -56,7 +55,6 @@ fn take_into(
 }
 
 /// Joins a map with another one, or with itself, which leaves it as it is.
-#[inline(never)]
 pub fn merge(
     alloc: Global,
     bench: &mut Bench,
@@ -93,7 +91,6 @@ fn join(alloc: Global, maps: &mut [BlockMap], into: usize, from: usize) -> Resul
 }
 
 /// Tells the lowest block of which two maps have different keys, if there is one.
-#[inline(never)]
 pub fn same(
     bench: &mut Bench,
     left: usize,
@@ -118,7 +115,6 @@ fn difference(maps: &[BlockMap], left: usize, right: usize) -> Option<u32>
 }
 
 /// Lists a map's records.
-#[inline(never)]
 pub fn show(
     alloc: Global,
     bench: &mut Bench,

@@ -11,7 +11,6 @@ use std::alloc::{AllocError, Global};
 use tiering::Tiers;
 
 /// Lists the map that the headers tell, or tells the fault that comes first.
-#[inline(never)]
 pub fn scan(alloc: Global, bench: &mut Bench, out: &mut Vec<u8>) -> Result<(), AllocError>
     ensures { OnOk result (Carries bench.old bench.new o.Scan out.old.items out.new.items) }
 {
