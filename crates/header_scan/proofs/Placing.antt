@@ -1,5 +1,5 @@
 -- The newest records have their places: each in a slot of a group, and no two in one slot.
-use Rattle.std.proofs.Common.{◌≡◌, ◌≢◌, ℕ, ◌+◌, ◌*◌, ◌/◌, ◌%◌, ◌^◌, ◌<◌, ◌≤◌, ◌⊎◌, inl, inr, max, Bool, true, false, cond, Option, Some, None, length, refl, sym, ◌∙◌, ap, subst, arith, nat_lt, if◌then◌else◌}
+use Rattle.std.proofs.Common.{List, ◌≡◌, ◌≢◌, ℕ, ◌+◌, ◌*◌, ◌/◌, ◌%◌, ◌^◌, ◌<◌, ◌≤◌, ◌⊎◌, inl, inr, max, Bool, true, false, cond, Option, Some, None, length, refl, sym, ◌∙◌, ap, subst, arith, nat_lt, if◌then◌else◌}
 use Rattle.std.specs.Prelude.{◌==◌}
 use Rattle.std.proofs.lemmas.Bool.Decides.{nat_tests}
 use Rattle.std.proofs.lemmas.Bool.{cases_order}
@@ -12,7 +12,7 @@ use Rattle.extent_groups.specs.Groups.{Group, Groups, group_at, slots_in}
 use Rattle.flat_machine.specs.Groups.{class_below, class_at}
 use Rattle.array_parts.specs.Slots.{IsSlot}
 use Rattle.header_scan.specs.Faults.{IsFine}
-use Rattle.header_scan.specs.Found.{place_in, stamp_at, ArePlaced}
+use Rattle.header_scan.specs.Found.{key_in, place_in, stamp_at, ArePlaced}
 use Rattle.header_scan.proofs.Stepping.{IsNote}
 
 -- a slot of a group has a class
@@ -120,8 +120,8 @@ module _ (groups : Groups) (s : ℕ) (r : Record) (M N : ℕ → ℕ) (slot : Is
   placed_more = record { places = record { blocks = blocks; slots = slots; apart = apart }; below = below }
 
 -- a note of a record joins it to the newest, or leaves them
-newest_after : (M T N U : Entries) (r : Record) → IsNote M T N U r → IsSame (at N) (join (at M) (only r)) ⊎ (N ≡ M)
-newest_after M T N U r note = elim (cases_order (stamp_of r) (stamp_at (at M) r.block)) [
+newest_after : (M : List ℕ) (T : Entries) (N : List ℕ) (U : Entries) (r : Record) → IsNote M T N U r → IsSame (key_in N) (join (key_in M) (only r)) ⊎ (N ≡ M)
+newest_after M T N U r note = elim (cases_order (stamp_of r) (stamp_at (key_in M) r.block)) [
   | inl e ↦ elim (cases_order (stamp_of r) (stamp_at (at T) r.block)) [
     | inl f ↦ inr (note.third (sym e) (omega (arith, f))).0
     | inr o ↦ elim o [ inl less ↦ inr (note.third (sym e) (omega (arith, less))).0 | inr more ↦ inr (note.twin (sym e) more).0 ]
@@ -130,9 +130,9 @@ newest_after M T N U r note = elim (cases_order (stamp_of r) (stamp_at (at M) r.
 ]
 
 -- a slot more, whose record is noted
-pub noted_placed : (groups : Groups) (s : ℕ) (r : Record) (M T N U : Entries) → IsSlot groups s → s < 2 ^ 16 → IsFine groups.blocks s (Some r) → IsNote M T N U r
-    → ArePlaced groups s (at M) → ArePlaced groups (s + 1) (at N)
+pub noted_placed : (groups : Groups) (s : ℕ) (r : Record) (M : List ℕ) (T : Entries) (N : List ℕ) (U : Entries) → IsSlot groups s → s < 2 ^ 16 → IsFine groups.blocks s (Some r) → IsNote M T N U r
+    → ArePlaced groups s (key_in M) → ArePlaced groups (s + 1) (key_in N)
 noted_placed groups s r M T N U slot small fine note was = elim (newest_after M T N U r note) [
-  | inl same ↦ placed_more groups s r (at M) (at N) slot small fine same was
-  | inr e ↦ subst (λ (x : Entries). ArePlaced groups (s + 1) (at x)) (sym e) (placed_below groups s (s + 1) (at M) (omega arith) was)
+  | inl same ↦ placed_more groups s r (key_in M) (key_in N) slot small fine same was
+  | inr e ↦ subst (λ (x : List ℕ). ArePlaced groups (s + 1) (key_in x)) (sym e) (placed_below groups s (s + 1) (key_in M) (omega arith) was)
 ]

@@ -16,7 +16,7 @@ use Rattle.array_parts.specs.Slots.{IsSlot}
 use Rattle.header_scan.specs.declared.fault.ScanFault.{ScanFault}
 use Rattle.header_scan.specs.declared.fault.ScanFault.TheVariants.{Memory, BadHeader, WrongSlot, Twice, Gone, NoClaim}
 use Rattle.header_scan.specs.Faults.{Bytes, between, Tells, AreFine, IsFaultAt, IsFirstFault}
-use Rattle.header_scan.specs.Found.{stamp_at, HasStamp, IsNoted, IsUnderway}
+use Rattle.header_scan.specs.Found.{key_in, stamp_at, HasStamp, IsNoted, IsUnderway}
 use Rattle.header_scan.proofs.Noting.{IsNext, newer, twin, third, older, as_well}
 use Rattle.header_scan.proofs.Scanning.{Looked, looked, has_unit, within, ranged, told_record, told_header, newest_stamp, twin_stamp}
 
@@ -105,16 +105,16 @@ spread blocks low s bytes r M T N U tells one two noted here b = elim (same_or_n
 ]
 
 -- what a note of a record says, where it isn't refused
-pub record IsNote (M T N U : Entries) (r : Record) : Type 0 where
-  pub newer : stamp_at (at M) r.block < stamp_of r → IsSame (at N) (join (at M) (only r)) × (U ≡ T)
-  pub twin : stamp_at (at M) r.block ≡ stamp_of r → stamp_at (at T) r.block < stamp_of r → (N ≡ M) × IsSame (at U) (join (at T) (only r))
-  pub older : stamp_of r < stamp_at (at M) r.block → (N ≡ M) × (U ≡ T)
-  pub third : stamp_at (at M) r.block ≡ stamp_of r → stamp_of r ≤ stamp_at (at T) r.block → (N ≡ M) × (U ≡ T)
+pub record IsNote (M : List ℕ) (T : Entries) (N : List ℕ) (U : Entries) (r : Record) : Type 0 where
+  pub newer : stamp_at (key_in M) r.block < stamp_of r → IsSame (key_in N) (join (key_in M) (only r)) × (U ≡ T)
+  pub twin : stamp_at (key_in M) r.block ≡ stamp_of r → stamp_at (at T) r.block < stamp_of r → (N ≡ M) × IsSame (at U) (join (at T) (only r))
+  pub older : stamp_of r < stamp_at (key_in M) r.block → (N ≡ M) × (U ≡ T)
+  pub third : stamp_at (key_in M) r.block ≡ stamp_of r → stamp_of r ≤ stamp_at (at T) r.block → (N ≡ M) × (U ≡ T)
 
-pub some_noted : (blocks low s : ℕ) (bytes : Bytes) (r : Record) (M T N U : Entries) → low ≤ s → s < 2 ^ 16 → Tells blocks bytes s (Some r) → IsNote M T N U r
-    → ((b : ℕ) → IsNoted (HasStamp (between low s bytes) b) (at M b) (at T b)) → (b : ℕ) → IsNoted (HasStamp (between low (s + 1) bytes) b) (at N b) (at U b)
+pub some_noted : (blocks low s : ℕ) (bytes : Bytes) (r : Record) (M : List ℕ) (T : Entries) (N : List ℕ) (U : Entries) → low ≤ s → s < 2 ^ 16 → Tells blocks bytes s (Some r) → IsNote M T N U r
+    → ((b : ℕ) → IsNoted (HasStamp (between low s bytes) b) (key_in M b) (at T b)) → (b : ℕ) → IsNoted (HasStamp (between low (s + 1) bytes) b) (key_in N b) (at U b)
 some_noted blocks low s bytes r M T N U l small tells note noted =
-    elim (cases_order (stamp_of r) (stamp_at (at M) r.block)) [
+    elim (cases_order (stamp_of r) (stamp_at (key_in M) r.block)) [
       | inl e ↦ elim (cases_order (stamp_of r) (stamp_at (at T) r.block)) [
         | inl f ↦ kept (note.third (sym e) (omega (arith, f))) (third Old New s (stamp_of r) n t step here (omega (arith, e, top)) (omega (arith, f, again)))
         | inr o ↦ elim o [
@@ -123,8 +123,8 @@ some_noted blocks low s bytes r M T N U l small tells note noted =
               (let changed = note.twin (sym e) above in
               let less : t < key_of r = omega (arith, above, again) in
               let is : at U r.block ≡ stamp_of r * 2 ^ 16 + s = join_here (at T) (at U) r changed.1 less ∙ key in
-              spread blocks low s bytes r (at M) (at T) (at N) (at U) tells (λ b ne. ap (λ (x : Entries). at x b) (sym changed.0)) (λ b ne. join_other (at T) (at U) r b changed.1 ne) noted
-              (subst (λ (x : Entries). IsNoted New (at x r.block) (at U r.block)) (sym changed.0) (twin Old New s (stamp_of r) n t (at U r.block) step here (omega (arith, e, top)) (omega (arith, above, again)) is)))
+              spread blocks low s bytes r (key_in M) (at T) (key_in N) (at U) tells (λ b ne. ap (λ (x : List ℕ). key_in x b) (sym changed.0)) (λ b ne. join_other (at T) (at U) r b changed.1 ne) noted
+              (subst (λ (x : List ℕ). IsNoted New (key_in x r.block) (at U r.block)) (sym changed.0) (twin Old New s (stamp_of r) n t (at U r.block) step here (omega (arith, e, top)) (omega (arith, above, again)) is)))
         ]
       ]
       | inr o ↦ elim o [
@@ -132,9 +132,9 @@ some_noted blocks low s bytes r M T N U l small tells note noted =
         | inr above ↦
             (let changed = note.newer above in
             let less : n < key_of r = omega (arith, above, top) in
-            let is : at N r.block ≡ stamp_of r * 2 ^ 16 + s = join_here (at M) (at N) r changed.0 less ∙ key in
-            spread blocks low s bytes r (at M) (at T) (at N) (at U) tells (λ b ne. join_other (at M) (at N) r b changed.0 ne) (λ b ne. ap (λ (x : Entries). at x b) (sym changed.1)) noted
-            (subst (λ (x : Entries). IsNoted New (at N r.block) (at x r.block)) (sym changed.1) (newer Old New s (stamp_of r) n t (at N r.block) step here (omega (arith, above, top)) is)))
+            let is : key_in N r.block ≡ stamp_of r * 2 ^ 16 + s = join_here (key_in M) (key_in N) r changed.0 less ∙ key in
+            spread blocks low s bytes r (key_in M) (at T) (key_in N) (at U) tells (λ b ne. join_other (key_in M) (key_in N) r b changed.0 ne) (λ b ne. ap (λ (x : Entries). at x b) (sym changed.1)) noted
+            (subst (λ (x : Entries). IsNoted New (key_in N r.block) (at x r.block)) (sym changed.1) (newer Old New s (stamp_of r) n t (key_in N r.block) step here (omega (arith, above, top)) is)))
       ]
     ] where
       Old : ℕ → ℕ → Type 0
@@ -144,7 +144,7 @@ some_noted blocks low s bytes r M T N U l small tells note noted =
       New = HasStamp (between low (s + 1) bytes) r.block
 
       n : ℕ
-      n = at M r.block
+      n = key_in M r.block
 
       t : ℕ
       t = at T r.block
@@ -155,7 +155,7 @@ some_noted blocks low s bytes r M T N U l small tells note noted =
       step : IsNext Old New s (stamp_of r)
       step = next blocks low s bytes r l small tells
 
-      top : stamp_at (at M) r.block ≡ stamp_in n
+      top : stamp_at (key_in M) r.block ≡ stamp_in n
       top = newest_stamp (between low s bytes) r.block n t here
 
       again : stamp_at (at T) r.block ≡ stamp_in t
@@ -164,9 +164,9 @@ some_noted blocks low s bytes r M T N U l small tells note noted =
       key : key_of r ≡ stamp_of r * 2 ^ 16 + s
       key = let place : r.place ≡ s = tells.3.1 in omega (arith, place)
 
-      kept : (N ≡ M) × (U ≡ T) → IsNoted New n t → (b : ℕ) → IsNoted (HasStamp (between low (s + 1) bytes) b) (at N b) (at U b)
-      kept same is = spread blocks low s bytes r (at M) (at T) (at N) (at U) tells (λ b ne. ap (λ (x : Entries). at x b) (sym same.0)) (λ b ne. ap (λ (x : Entries). at x b) (sym same.1)) noted
-          (subst (λ (x : Entries). IsNoted New (at x r.block) (at U r.block)) (sym same.0) (subst (λ (x : Entries). IsNoted New n (at x r.block)) (sym same.1) is))
+      kept : (N ≡ M) × (U ≡ T) → IsNoted New n t → (b : ℕ) → IsNoted (HasStamp (between low (s + 1) bytes) b) (key_in N b) (at U b)
+      kept same is = spread blocks low s bytes r (key_in M) (at T) (key_in N) (at U) tells (λ b ne. ap (λ (x : List ℕ). key_in x b) (sym same.0)) (λ b ne. ap (λ (x : Entries). at x b) (sym same.1)) noted
+          (subst (λ (x : List ℕ). IsNoted New (key_in x r.block) (at U r.block)) (sym same.0) (subst (λ (x : Entries). IsNoted New n (at x r.block)) (sym same.1) is))
 
 -- a slot more is gone through, which tells nothing
 pub none_more : (groups : Groups) (start c new : Cells) (low s : ℕ) (M T : ℕ → ℕ) → IsUnderway groups start c low s M T → Looked groups groups c new groups.blocks s (Ok None) → IsUnderway groups start new low (s + 1) M T
@@ -180,8 +180,8 @@ none_more groups start c new low s M T was look =
     }
 
 -- or tells a record, which is noted
-pub some_more : (groups : Groups) (start c new : Cells) (low s : ℕ) (r : Record) (M T N U : Entries) → low ≤ s → s < 2 ^ 16 → IsNote M T N U r
-    → IsUnderway groups start c low s (at M) (at T) → Looked groups groups c new groups.blocks s (Ok (Some r)) → IsUnderway groups start new low (s + 1) (at N) (at U)
+pub some_more : (groups : Groups) (start c new : Cells) (low s : ℕ) (r : Record) (M : List ℕ) (T : Entries) (N : List ℕ) (U : Entries) → low ≤ s → s < 2 ^ 16 → IsNote M T N U r
+    → IsUnderway groups start c low s (key_in M) (at T) → Looked groups groups c new groups.blocks s (Ok (Some r)) → IsUnderway groups start new low (s + 1) (key_in N) (at U)
 some_more groups start c new low s r M T N U l small note was look =
     let tells : Tells groups.blocks (unit_of groups start) s (Some r) = tells_kept groups.blocks s (unit_of groups c) (unit_of groups start) (Some r) was.keeps (look.0 was.sound) in
     record {

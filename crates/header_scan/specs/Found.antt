@@ -1,5 +1,5 @@
 -- What is noted of headers while slots are gone through in ascending order.
-use Rattle.std.specs.Prelude.{◌≡◌, ◌⊎◌, ℕ, ◌==◌, if◌then◌else◌, ◌%◌, ◌^◌, ◌<◌, ◌≤◌, Option, Some, None}
+use Rattle.std.specs.Prelude.{◌≡◌, ◌⊎◌, ℕ, ◌==◌, if◌then◌else◌, ◌%◌, ◌^◌, ◌<◌, ◌≤◌, Option, Some, None, List, slice_index}
 use Rattle.map_join.specs.declared.records.Record.{Record}
 use Rattle.map_join.specs.Record.{stamp_of, stamp_in, record_of, record_at}
 use Rattle.flat_machine.specs.Scanned.{HasHeader}
@@ -8,6 +8,14 @@ use Rattle.extent_groups.specs.Groups.{Groups}
 use Rattle.extent_groups.specs.Cells.{Cells}
 use Rattle.extent_groups.specs.Stores.{unit_of, AreSound, KeepsUnits}
 use Rattle.header_scan.specs.Faults.{Bytes, between, AreFine}
+
+-- the key of a block, by a table of the blocks' keys
+abbrev pub key_in : List ℕ → ℕ → ℕ
+key_in keys block = slice_index keys block
+
+-- each is a record's key, or 0
+abbrev pub AreWritten : List ℕ → Type 0
+AreWritten keys = (block : ℕ) → 0 < key_in keys block → 2 ^ 32 ≤ key_in keys block
 
 -- the slot of the record that a key tells
 abbrev pub place_in : ℕ → ℕ

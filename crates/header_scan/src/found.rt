@@ -1,16 +1,17 @@
 // The records that headers told so far, of slots in ascending order.
-ghost use Rattle.std.specs.Prelude.{◌≡◌, ◌<◌, ◌≤◌, OnOk, IsOk, MatchOption};
+ghost use Rattle.std.specs.Prelude.{◌≡◌, ◌<◌, ◌≤◌, length, OnOk, IsOk, MatchOption};
 ghost use Rattle.map_join.specs.Record.{stamp_of};
 ghost use Rattle.map_join.specs.Maps.{at, IsSame, join, only};
-ghost use Rattle.header_scan.specs.Found.{stamp_at, twins_at, HasNoTwins, AreFirstTwins};
+ghost use Rattle.header_scan.specs.Found.{key_in, stamp_in_option, stamp_at, twins_at, HasNoTwins, AreFirstTwins};
 
+use crate::keys::Keys;
 use map_join::{BlockMap, MapRefusal, Record};
 use std::alloc::Global;
 
 /// The newest record of each block, at its lowest slot, and of blocks whose newest version and hop were found twice the second one.
 #[derive(Drop)]
 pub(crate) struct Found {
-    pub(crate) newest: BlockMap,
+    pub(crate) newest: Keys,
     pub(crate) twins: BlockMap,
 }
 
@@ -21,11 +22,11 @@ fn stamp_of(record: &Record) -> u64
     (u64::from(record.version) << 16) + u64::from(record.hop)
 }
 
-/// Version and hop of a map's record of a block as one number, 0 where there is none.
-fn stamp_at(map: &BlockMap, block: u32) -> u64
-    ensures { result ≡ stamp_at (at map.now) block }
+/// Version and hop of what may be a record as one number, 0 where there is none.
+fn stamp_in(found: Option<Record>) -> u64
+    ensures { result ≡ stamp_in_option found }
 {
-    match map.get(block) {
+    match found {
         Some(found) => stamp_of(&found),
         None => 0,
     }
@@ -34,24 +35,27 @@ fn stamp_at(map: &BlockMap, block: u32) -> u64
 impl Found {
     /// Notes the record of the next slot.
     pub(crate) fn note(&mut self, alloc: Global, told: Record) -> Result<(), MapRefusal>
-        requires { 0 < told.version }
-        ensures newer { stamp_at (at self.old.newest) told.block < stamp_of told
-            → OnOk result (IsSame (at self.new.newest) (join (at self.old.newest) (only told)) × (self.new.twins ≡ self.old.twins)) }
-        ensures twin { stamp_at (at self.old.newest) told.block ≡ stamp_of told → stamp_at (at self.old.twins) told.block < stamp_of told
+        requires written { 0 < told.version }
+        requires within { told.block < length self.old.newest }
+        ensures many { length self.new.newest ≡ length self.old.newest }
+        ensures newer { stamp_at (key_in self.old.newest) told.block < stamp_of told
+            → OnOk result (IsSame (key_in self.new.newest) (join (key_in self.old.newest) (only told)) × (self.new.twins ≡ self.old.twins)) }
+        ensures twin { stamp_at (key_in self.old.newest) told.block ≡ stamp_of told → stamp_at (at self.old.twins) told.block < stamp_of told
             → OnOk result ((self.new.newest ≡ self.old.newest) × IsSame (at self.new.twins) (join (at self.old.twins) (only told))) }
-        ensures older { stamp_of told < stamp_at (at self.old.newest) told.block → IsOk result × (self.new.newest ≡ self.old.newest) × (self.new.twins ≡ self.old.twins) }
-        ensures third { stamp_at (at self.old.newest) told.block ≡ stamp_of told → stamp_of told ≤ stamp_at (at self.old.twins) told.block
+        ensures older { stamp_of told < stamp_at (key_in self.old.newest) told.block → IsOk result × (self.new.newest ≡ self.old.newest) × (self.new.twins ≡ self.old.twins) }
+        ensures third { stamp_at (key_in self.old.newest) told.block ≡ stamp_of told → stamp_of told ≤ stamp_at (at self.old.twins) told.block
             → IsOk result × (self.new.newest ≡ self.old.newest) × (self.new.twins ≡ self.old.twins) }
     {
         let stamp = stamp_of(&told);
-        let newest = stamp_at(&self.newest, told.block);
+        let newest = stamp_in(self.newest.get(told.block));
         if stamp > newest {
-            return self.newest.take(alloc, told);
+            self.newest.raise(told);
+            return Ok(());
         }
         if stamp < newest {
             return Ok(());
         }
-        if stamp > stamp_at(&self.twins, told.block) {
+        if stamp > stamp_in(self.twins.get(told.block)) {
             return self.twins.take(alloc, told);
         }
         Ok(())
@@ -59,7 +63,8 @@ impl Found {
 
     /// The two slots where a block's newest version and hop stand, where they stand at two.
     fn twins_of(&self, block: u32) -> Option<(u16, u16)>
-        ensures { result ≡ twins_at (at self.now.newest) (at self.now.twins) block }
+        requires { block < length self.now.newest }
+        ensures { result ≡ twins_at (key_in self.now.newest) (at self.now.twins) block }
     {
         let one = self.newest.get(block)?;
         let other = self.twins.get(block)?;
@@ -71,7 +76,8 @@ impl Found {
 
     /// The lowest of so many blocks whose newest version and hop stand at two slots, and these slots. In an array that was never damaged this is none at once.
     pub(crate) fn twice(&self, alloc: Global, blocks: u32) -> Option<(u32, u16, u16)>
-        ensures { MatchOption result (HasNoTwins (at self.now.newest) (at self.now.twins) blocks) (λ t. AreFirstTwins (at self.now.newest) (at self.now.twins) t.0 t.1 t.2) }
+        requires { length self.now.newest ≡ blocks }
+        ensures { MatchOption result (HasNoTwins (key_in self.now.newest) (at self.now.twins) blocks) (λ t. AreFirstTwins (key_in self.now.newest) (at self.now.twins) t.0 t.1 t.2) }
     {
         let first = self.twins.lowest_difference(&BlockMap::new(alloc))?;
         for block in first..blocks {

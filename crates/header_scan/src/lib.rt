@@ -3,6 +3,7 @@
 
 mod fault;
 mod found;
+mod keys;
 mod laws;
 mod look;
 mod pass;

@@ -7,10 +7,11 @@ ghost use Rattle.extent_groups.specs.Stores.{unit_bytes, unit_of, AreSound};
 ghost use Rattle.flat_machine.specs.Scanned.{IsScanned};
 ghost use Rattle.flat_machine.specs.Restarted.{HasPlaces};
 ghost use Rattle.header_scan.specs.Faults.{AreFine, IsFirstFault, IsTwice, between};
-ghost use Rattle.header_scan.specs.Found.{IsUnderway, ArePlaced, Keeps};
+ghost use Rattle.header_scan.specs.Found.{key_in, IsUnderway, ArePlaced, Keeps};
 
 use crate::ScanFault;
 use crate::found::Found;
+use crate::keys::Keys;
 use crate::look::look;
 use array_parts::Units;
 use extent_groups::{GROUPS, GroupTable, SLOTS};
@@ -41,14 +42,16 @@ pub(crate) fn scan_group<U: Units>(
     requires blocks { blocks ≡ (U.groups units.old).blocks }
     requires unit { length unit.old ≡ unit_bytes (U.groups units.old) }
     requires scratch { length scratch.old ≡ 2 * unit_bytes (U.groups units.old) }
+    requires many { length found.old.newest ≡ blocks }
+    ensures many { OnOk result (length found.new.newest ≡ blocks) }
     ensures ok { (low : ℕ) (start : Cells) → low ≤ 128 * group
-        → IsUnderway (U.groups units.old) start (U.cells units.old) low (128 * group) (at found.old.newest) (at found.old.twins)
-        → OnOk result (IsUnderway (U.groups units.old) start (U.cells units.new) low (128 * group + 128) (at found.new.newest) (at found.new.twins)) }
+        → IsUnderway (U.groups units.old) start (U.cells units.old) low (128 * group) (key_in found.old.newest) (at found.old.twins)
+        → OnOk result (IsUnderway (U.groups units.old) start (U.cells units.new) low (128 * group + 128) (key_in found.new.newest) (at found.new.twins)) }
     ensures err { (low high : ℕ) (start : Cells) → low ≤ 128 * group → 128 * group + 128 ≤ high
-        → IsUnderway (U.groups units.old) start (U.cells units.old) low (128 * group) (at found.old.newest) (at found.old.twins)
+        → IsUnderway (U.groups units.old) start (U.cells units.old) low (128 * group) (key_in found.old.newest) (at found.old.twins)
         → IfErr result (IsFirstFault (U.groups units.old) low high (unit_of (U.groups units.old) start) (unit_of (U.groups units.old) (U.cells units.new))) }
-    ensures inside { ArePlaced (U.groups units.old) (128 * group) (at found.old.newest)
-        → OnOk result (ArePlaced (U.groups units.old) (128 * group + 128) (at found.new.newest)) }
+    ensures inside { ArePlaced (U.groups units.old) (128 * group) (key_in found.old.newest)
+        → OnOk result (ArePlaced (U.groups units.old) (128 * group + 128) (key_in found.new.newest)) }
     ensures keeps { Keeps (U.groups units.old) (U.cells units.old) (U.cells units.new) }
     ensures groups { U.groups units.new ≡ U.groups units.old }
     ensures fits { U.fits units.new }
@@ -83,18 +86,22 @@ fn note_groups<U: Units>(
     requires unit { length unit.old ≡ unit_bytes (U.groups units.old) }
     requires scratch { length scratch.old ≡ 2 * unit_bytes (U.groups units.old) }
     ensures ok { AreSound (U.groups units.old) (U.cells units.old)
-        → IfOk result (λ f. IsUnderway (U.groups units.old) (U.cells units.old) (U.cells units.new) (128 * first) (128 * end) (at f.newest) (at f.twins)) }
+        → IfOk result (λ f. IsUnderway (U.groups units.old) (U.cells units.old) (U.cells units.new) (128 * first) (128 * end) (key_in f.newest) (at f.twins)) }
     ensures err { AreSound (U.groups units.old) (U.cells units.old)
         → IfErr result (IsFirstFault (U.groups units.old) (128 * first) (128 * end) (unit_of (U.groups units.old) (U.cells units.old)) (unit_of (U.groups units.old) (U.cells units.new))) }
-    ensures inside { IfOk result (λ f. ArePlaced (U.groups units.old) (128 * end) (at f.newest)) }
+    ensures many { IfOk result (λ f. length f.newest ≡ (U.groups units.old).blocks) }
+    ensures inside { IfOk result (λ f. ArePlaced (U.groups units.old) (128 * end) (key_in f.newest)) }
     ensures keeps { Keeps (U.groups units.old) (U.cells units.old) (U.cells units.new) }
     ensures groups { U.groups units.new ≡ U.groups units.old }
     ensures fits { U.fits units.new }
     ensures leaves { U.leaves units.old units.new }
 {
     let blocks = units.groups().shape().blocks;
+    let Ok(newest) = Keys::new(alloc, blocks) else {
+        return Err(ScanFault::Memory);
+    };
     let mut found = Found {
-        newest: BlockMap::new(alloc),
+        newest,
         twins: BlockMap::new(alloc),
     };
     for group in first..end {
@@ -145,7 +152,10 @@ pub fn scan_groups<U: Units>(
     };
     match found.twice(alloc, shape.blocks) {
         Some((block, one, other)) => Err(ScanFault::Twice(block, one, other)),
-        None => Ok(found.newest),
+        None => match found.newest.to_map(alloc, shape.blocks) {
+            Ok(map) => Ok(map),
+            Err(_) => Err(ScanFault::Memory),
+        },
     }
 }
 

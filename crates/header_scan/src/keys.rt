@@ -1,0 +1,75 @@
+// The newest key of each block that headers told so far, in a table by block.
+ghost use Rattle.std.specs.Prelude.{◌≡◌, ◌<◌, ◌≤◌, length, IfOk};
+ghost use Rattle.map_join.specs.Maps.{at, IsSame, join, only};
+ghost use Rattle.map_join.specs.Record.{key_of, record_at};
+ghost use Rattle.header_scan.specs.Found.{AreWritten, key_in};
+
+use map_join::{BlockMap, MapRefusal, Record};
+use std::alloc::{AllocError, Global};
+use std::marker::Model;
+
+/// A key of each block, 0 where no header told one.
+#[derive(Drop)]
+pub(crate) struct Keys {
+    keys: Vec<u64>,
+}
+
+impl Model for Keys {
+    ghost use Rattle.std.specs.Prelude.{List, ℕ};
+    ghost use Rattle.header_scan.specs.Found.{AreWritten};
+
+    ghost Value = { List ℕ };
+
+    ghost view = { λ k. k.keys.items };
+
+    ghost invariant = { λ k. AreWritten k.keys.items };
+}
+
+impl Keys {
+    /// No key of any of so many blocks.
+    pub(crate) fn new(alloc: Global, blocks: u32) -> Result<Keys, AllocError>
+        ensures many { IfOk result (λ keys. length keys ≡ blocks) }
+        ensures none { IfOk result (λ keys. IsSame (key_in keys) (λ _. 0)) }
+    {
+        Ok(Keys {
+            keys: vec![in alloc; 0; blocks as usize]?,
+        })
+    }
+
+    /// The record that a block's key tells.
+    pub(crate) fn get(&self, block: u32) -> Option<Record>
+        requires { block < length self.now }
+        ensures told { result ≡ record_at block (key_in self.now block) }
+        ensures written { AreWritten self.now }
+    {
+        Record::of_key(block, self.keys[block as usize])
+    }
+
+    /// Raises a block's key to that of a record.
+    pub(crate) fn raise(&mut self, told: Record)
+        requires within { «told».block < length self.old }
+        requires newer { key_in self.old «told».block ≤ key_of «told» }
+        requires written { 0 < «told».version }
+        ensures ok { IsSame (key_in self.new) (join (key_in self.old) (only «told»)) }
+        ensures many { length self.new ≡ length self.old }
+    {
+        self.keys[told.block as usize] = told.key();
+    }
+
+    /// The map of these keys, of all blocks that there are.
+    pub(crate) fn to_map(&self, alloc: Global, blocks: u32) -> Result<BlockMap, MapRefusal>
+        requires { length self.now ≡ blocks }
+        ensures { IfOk result (λ map. IsSame (at map) (key_in self.now)) }
+    {
+        let mut map = BlockMap::new(alloc);
+        for block in 0..blocks {
+            if let Some(record) = self.get(block) {
+                match map.take(alloc, record) {
+                    Ok(()) => {}
+                    Err(refusal) => return Err(refusal),
+                }
+            }
+        }
+        Ok(map)
+    }
+}
