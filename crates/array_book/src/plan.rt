@@ -1,5 +1,5 @@
 // What a worker moves next.
-ghost use Rattle.std.specs.Prelude.{◌≡◌, ◌<◌, MatchOption, IfOk, Some};
+ghost use Rattle.std.specs.Prelude.{◌≡◌, ◌<◌, MatchOption, IfOk, Some, None};
 ghost use Rattle.array_model.specs.Views.{key_at};
 ghost use Rattle.migrator.specs.Ages.{IsOldest, IsMarked};
 ghost use Rattle.migrator.specs.Slots.{AreAppendSlots};
@@ -8,7 +8,7 @@ ghost use Rattle.array_book.specs.Planned.{IsPlanned, IsPlugOf, IsCleanOf, IsMov
 use crate::asks::Running;
 use crate::claim::Sizes;
 use crate::kept::Kept;
-use cleaner::{Move, clean_plan_counted, plug_plan_counted};
+use cleaner::{Move, clean_plan_unplugged, plug_plan_counted};
 use extents::Drive;
 use migrator::{append_slots, first_append, wants_demotion};
 use slot_words::Naming;
@@ -128,15 +128,16 @@ fn plug_of<D: Drive, N: Naming + Sizes>(kept: &Kept<D, N>) -> Option<Move>
     )
 }
 
-// A group that can be cleaned.
+// A group that can be cleaned, where there is no hole that can be plugged.
 fn clean_of<D: Drive, N: Naming + Sizes>(kept: &Kept<D, N>) -> Option<Move>
+    requires { IsPlugOf kept.now None }
     ensures { IsCleanOf kept.now result }
 {
     let array = &kept.array;
     let running = Running { array };
     let groups = array.groups();
     let append = first_append(&kept.end, groups, &running, &Any);
-    clean_plan_counted(
+    clean_plan_unplugged(
         groups,
         &running,
         array.live_counts(),

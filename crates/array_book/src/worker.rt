@@ -454,6 +454,7 @@ fn commit_and_append<D: Drive, N: slot_words::Naming + Sizes>(
     ensures ok { IfOk result (λ done. (done.emitted.block ≡ plan.now.block) × (0 < done.emitted.version)) }
     ensures appended { IfOk result (λ done. plan.now.appends ≡ true → kept.new.end ≡ end_at done.emitted.place) }
     ensures stays { plan.now.appends ≡ false → kept.new.end ≡ kept.old.end }
+    ensures err { OnErr result (kept.new.end ≡ kept.old.end) }
 {
     let done = commit_in(kept, alloc, ticket, plan.block)?;
     if plan.appends {
