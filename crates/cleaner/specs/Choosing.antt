@@ -29,7 +29,7 @@ pub record IsGreatest (rank : ℕ → ℕ) (left_out : Option ℕ) (group value 
   pub some : 0 < value
   pub best : (other : ℕ) → other < 512 → left_out ≢ Some other → IsNoBetter rank group value other
 
--- none exactly where every rank is 0
+-- none exactly where every rank is 0, but that of the group that is left out
 abbrev pub IsChoice : (ℕ → ℕ) → Option ℕ → Option Ranked → Type 0
 IsChoice rank left_out None = (other : ℕ) → other < 512 → left_out ≢ Some other → rank other ≡ 0
 IsChoice rank left_out (Some best) = IsGreatest rank left_out best.group best.rank

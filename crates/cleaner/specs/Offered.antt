@@ -1,4 +1,4 @@
--- How many live slots a group has, where a plan may choose it: 0 where it may not.
+-- How many live slots a group has, where a plan may choose it: 0 where it may not. The group that is left out isn't told apart here.
 use Rattle.std.specs.Prelude.{ℕ, ◌+◌, ◌-◌, ◌%◌, ◌^◌, List, slice_index, if◌then◌else◌, nat_lt, nat_le}
 
 -- a count, where the group has more slots

@@ -18,7 +18,7 @@ pub(crate) trait Ranks {
     /// The tables that are looked into have all groups.
     ghost whole: { Self → Type 0 };
 
-    /// The rank of each group, 0 where the plan doesn't choose from it.
+    /// The rank of each group, 0 where the plan can't choose it; the group that is left out may have any.
     ghost rank: { Self → ℕ → ℕ };
 
     /// The ranks of sixteen groups in turn.

@@ -11,7 +11,7 @@ pub(crate) const ROW: u16 = 8;
 /// How many rows there are.
 pub(crate) const ROWS: u16 = 64;
 
-// Whether there may be groups of the class in the row; of parity groups it is told exactly.
+// Whether there may be groups of the class in the row: where not, there is none. A yes is bound by no clause.
 pub(crate) fn may_have(groups: &GroupTable, class: Class, row: u16) -> bool
     requires { row < 64 }
     ensures { result ≡ false → (group : ℕ) → group / 8 ≡ row → class_in (group_at groups.now group) ≡ Some class → ⊥ }
@@ -22,7 +22,7 @@ pub(crate) fn may_have(groups: &GroupTable, class: Class, row: u16) -> bool
     }
 }
 
-// Whether one of the numbers in the row isn't 0.
+// Whether one of the numbers in the row isn't 0: where not, all are 0, which is all that the clause says.
 fn has_any(numbers: &[u16], row: u16) -> bool
     requires row { row < 64 }
     requires many { length numbers.now ≡ 512 }
