@@ -39,7 +39,7 @@ impl Found {
         requires within { told.block < length self.old.newest }
         ensures many { length self.new.newest ≡ length self.old.newest }
         ensures newer { stamp_at (key_in self.old.newest) told.block < stamp_of told
-            → OnOk result (IsSame (key_in self.new.newest) (join (key_in self.old.newest) (only told)) × (self.new.twins ≡ self.old.twins)) }
+            → IsOk result × IsSame (key_in self.new.newest) (join (key_in self.old.newest) (only told)) × (self.new.twins ≡ self.old.twins) }
         ensures twin { stamp_at (key_in self.old.newest) told.block ≡ stamp_of told → stamp_at (at self.old.twins) told.block < stamp_of told
             → OnOk result ((self.new.newest ≡ self.old.newest) × IsSame (at self.new.twins) (join (at self.old.twins) (only told))) }
         ensures older { stamp_of told < stamp_at (key_in self.old.newest) told.block → IsOk result × (self.new.newest ≡ self.old.newest) × (self.new.twins ≡ self.old.twins) }

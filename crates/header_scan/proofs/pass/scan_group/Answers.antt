@@ -56,7 +56,7 @@ loop-index-preserved g c = record {
         let small : 128 * c.args.group + c.loop-index.index < 2 ^ 16 = omega (arith, few, index, group) in
         let is : c.look.result ≡ Ok (Some w.in-Some.told) = c.in-Ok.is ∙ ap (λ o. Ok o) w.in-Some.is in
         let note : IsNote c.loop-index.found.newest c.loop-index.found.twins w.note.new.self.newest w.note.new.self.twins w.in-Some.told = record {
-          newer = w.in-Ok-note.ensures.newer;
+          newer = λ h. let x = w.in-Ok-note.ensures.newer h in (x.1, x.2);
           twin = w.in-Ok-note.ensures.twin;
           older = λ h. let x = w.in-Ok-note.ensures.older h in (x.1, x.2);
           third = λ h k. let x = w.in-Ok-note.ensures.third h k in (x.1, x.2);
@@ -92,7 +92,7 @@ loop-index-preserved g c = record {
             (subst (λ n. IsFine n (128 * c.args.group + c.loop-index.index) (Some w.in-Some.told)) c.requires.blocks
             (subst (λ x. IfOk x (IsFine c.args.blocks (128 * c.args.group + c.loop-index.index))) (c.in-Ok.is ∙ ap (λ o. Ok o) w.in-Some.is) c.look.ensures.inside))
             (record {
-              newer = w.in-Ok-note.ensures.newer;
+              newer = λ h. let x = w.in-Ok-note.ensures.newer h in (x.1, x.2);
               twin = w.in-Ok-note.ensures.twin;
               older = λ h. let x = w.in-Ok-note.ensures.older h in (x.1, x.2);
               third = λ h k. let x = w.in-Ok-note.ensures.third h k in (x.1, x.2);
