@@ -60,7 +60,8 @@ pub(crate) fn picked_slots<P: Picks>(
     ensures { IfOk result (λ slots. Lists (IsPicked class groups.now (P.group_is which.now) (P.slot_is which.now)) slots.items) }
 {
     let _members = groups.members(0);
-    let mut slots = Vec::new(alloc);
+    // Room for one group's, so that a list seldom grows.
+    let mut slots = Vec::with_capacity(alloc, usize::from(SLOTS))?;
     for row in 0..ROWS {
         if may_have(groups, class, row) {
             push_row(&mut slots, groups, class, row, which)?;
@@ -99,7 +100,8 @@ pub(crate) fn picked_in<P: Picks>(
     ensures { IfOk result (λ slots. Lists (IsPicked class groups.now (P.group_is which.now) (P.slot_is which.now)) slots.items) }
 {
     let _members = groups.members(0);
-    let mut slots = Vec::new(alloc);
+    // Room for one group's, so that a list seldom grows.
+    let mut slots = Vec::with_capacity(alloc, usize::from(SLOTS))?;
     match group {
         Some(group) if group < GROUPS as u16 => {
             push_group(&mut slots, groups, class, group, which)?;
