@@ -1,11 +1,12 @@
 -- A slot's group is formed, its number is small, and the laws of its geometry hold.
-use Rattle.std.proofs.Common.{◌≡◌, ℕ, ◌-◌, ◌<◌, ◌≤◌, Option, Some, None, length, refl, subst, arith}
+use Rattle.std.proofs.Common.{◌≡◌, ℕ, ◌-◌, ◌<◌, ◌≤◌, Option, Some, None, List, length, refl, sym, subst, arith}
 use Rattle.std.proofs.Math.Nat.{mul-le-mul}
 use Rattle.std.proofs.lemmas.Option.{same_Some, none-some}
 use Rattle.extent_groups.specs.declared.class.Class.{Class}
 use Rattle.extent_groups.specs.declared.class.Class.TheVariants.{Mirrored, Parity}
+use Rattle.extent_groups.specs.declared.class.Member.{Member}
 use Rattle.extent_groups.specs.Geometry.{slot_count, copies_of, stripe_of, AreCopies, IsStripe}
-use Rattle.extent_groups.specs.Groups.{Group, IsFormed, class_in, slots_in, members_in}
+use Rattle.extent_groups.specs.Groups.{Group, Groups, IsFormed, AreGroups, group_at, class_in, slots_in, members_in, members_of}
 use Rattle.extent_groups.proofs.GeometryLaws.{copies_law, stripe_law}
 
 -- a group has fewer than 128 slots
@@ -13,49 +14,42 @@ pub slot_count_small : (class : Class) (n s : ℕ) → n ≤ 8 → s ≤ 8 → s
 slot_count_small Mirrored n s h k = omega (arith, mul-le-mul h k)
 slot_count_small Parity n s h k = let less : n - 1 ≤ 7 = omega arith in omega (arith, mul-le-mul k less)
 
--- what is known of a slot of a group of this class
-record IsSlotIn (class : Class) (s i : ℕ) (o : Option Group) : Type 0 where
-  pub some : 3 ≤ length (members_in o)
-  pub few : length (members_in o) ≤ 8
+-- what is known of a slot of a group with these members: they are few, its index is small, and the geometry has this law there
+pub record IsSlotWith (Law : ℕ → Type 0) (i : ℕ) (members : List Member) : Type 0 where
+  pub some : 3 ≤ length members
+  pub few : length members ≤ 8
   pub low : i < 128
-  pub here : i < slot_count class (length (members_in o)) s
+  pub law : Law (length members)
 
-slot_in : (class : Class) (s i : ℕ) (o : Option Group) → ((x : Group) → o ≡ Some x → IsFormed x.members) → s ≤ 8 → class_in o ≡ Some class → i < slots_in s o → IsSlotIn class s i o
-slot_in class s i None formed short is h = absurd (none-some class is)
-slot_in class s i (Some x) formed short is h =
+slot_in : (Law : ℕ → Type 0) (class : Class) (s i : ℕ) (o : Option Group) → ((x : Group) → o ≡ Some x → IsFormed x.members) → s ≤ 8 → class_in o ≡ Some class → i < slots_in s o
+    → ((n : ℕ) → 2 ≤ n → i < slot_count class n s → Law n) → IsSlotWith Law i (members_in o)
+slot_in Law class s i None formed short is h laws = absurd (none-some class is)
+slot_in Law class s i (Some x) formed short is h laws =
     let form = formed x refl in
     record {
       some = form.enough;
       few = form.few;
       low = omega (arith, slot_count_small x.class (length x.members) s form.few short);
-      here = subst (λ c. i < slot_count c (length x.members) s) (same_Some _ _ is) h;
+      law = laws (length x.members) (omega (arith, form.enough)) (subst (λ c. i < slot_count c (length x.members) s) (same_Some _ _ is) h);
     }
 
 -- and of one of a mirrored group
-pub record IsMirroredSlot (s i : ℕ) (o : Option Group) : Type 0 where
-  pub some : 3 ≤ length (members_in o)
-  pub few : length (members_in o) ≤ 8
-  pub low : i < 128
-  pub law : AreCopies (length (members_in o)) s i (copies_of (length (members_in o)) i)
+abbrev pub IsMirroredSlot : ℕ → ℕ → List Member → Type 0
+IsMirroredSlot s i members = IsSlotWith (λ n. AreCopies n s i (copies_of n i)) i members
 
-pub mirrored_slot : (s i : ℕ) (o : Option Group) → ((x : Group) → o ≡ Some x → IsFormed x.members) → s ≤ 8 → class_in o ≡ Some Mirrored → i < slots_in s o → IsMirroredSlot s i o
-mirrored_slot s i o formed short is h =
-    let slot = slot_in Mirrored s i o formed short is h in
-    let two : 2 ≤ length (members_in o) = omega (arith, slot.some) in
-    record { some = slot.some; few = slot.few; low = slot.low; law = copies_law (length (members_in o)) s i two slot.here }
+pub mirrored_slot : (t : Groups) (g i : ℕ) (members : List Member) → AreGroups t → members ≡ members_of t g → class_in (group_at t g) ≡ Some Mirrored
+    → i < slots_in t.segments (group_at t g) → IsMirroredSlot t.segments i members
+mirrored_slot t g i members are same is h =
+    subst (IsMirroredSlot t.segments i) (sym same) (slot_in _ Mirrored t.segments i (group_at t g) (are.formed g) are.segments.1 is h (λ n. copies_law n t.segments i))
 
 -- and of one of a parity group
-pub record IsParitySlot (s i : ℕ) (o : Option Group) : Type 0 where
-  pub some : 3 ≤ length (members_in o)
-  pub few : length (members_in o) ≤ 8
-  pub low : i < 128
-  pub law : IsStripe (length (members_in o)) s i (stripe_of (length (members_in o)) i)
+abbrev pub IsParitySlot : ℕ → ℕ → List Member → Type 0
+IsParitySlot s i members = IsSlotWith (λ n. IsStripe n s i (stripe_of n i)) i members
 
-pub parity_slot : (s i : ℕ) (o : Option Group) → ((x : Group) → o ≡ Some x → IsFormed x.members) → s ≤ 8 → class_in o ≡ Some Parity → i < slots_in s o → IsParitySlot s i o
-parity_slot s i o formed short is h =
-    let slot = slot_in Parity s i o formed short is h in
-    let two : 2 ≤ length (members_in o) = omega (arith, slot.some) in
-    record { some = slot.some; few = slot.few; low = slot.low; law = stripe_law (length (members_in o)) s i two slot.here }
+pub parity_slot : (t : Groups) (g i : ℕ) (members : List Member) → AreGroups t → members ≡ members_of t g → class_in (group_at t g) ≡ Some Parity
+    → i < slots_in t.segments (group_at t g) → IsParitySlot t.segments i members
+parity_slot t g i members are same is h =
+    subst (IsParitySlot t.segments i) (sym same) (slot_in _ Parity t.segments i (group_at t g) (are.formed g) are.segments.1 is h (λ n. stripe_law n t.segments i))
 
 -- what may be a group that has a class has 3 to 8 members
 pub group_size : (class : Class) (o : Option Group) → ((x : Group) → o ≡ Some x → IsFormed x.members) → class_in o ≡ Some class → (3 ≤ length (members_in o)) × (length (members_in o) ≤ 8)
