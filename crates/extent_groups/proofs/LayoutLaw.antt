@@ -42,41 +42,42 @@ place_is s ms k o h =
     get_or_from_slice_get (map (place_of s o) ms) k (place_of s o (get_or ms k any_member)) _
     (slice_get-map (place_of s o) ms k ∙ ap (option_map (place_of s o)) (slice_get-get_or ms k any_member h))
 
+-- one of a row's places is that of the member of its number
+pub row_member : (s : ℕ) (ms : List Member) (o k : ℕ) (x : Place) → slice_get (map (place_of s o) ms) k ≡ Some x
+    → (slice_get ms k ≡ Some (get_or ms k any_member)) × (x ≡ place_of s o (get_or ms k any_member))
+row_member s ms o k x at =
+    let inside : k < length ms = omega (arith, slice_get_within (map (place_of s o) ms) k x at, length-map ms (place_of s o)) in (
+      slice_get-get_or ms k any_member inside,
+      same_Some _ _ (sym at ∙ slice_get-map (place_of s o) ms k ∙ ap (option_map (place_of s o)) (slice_get-get_or ms k any_member inside)),
+    )
+
+-- one of a mirrored slot's two copies lies at its spot
+copy_lies : (s : ℕ) (ms : List Member) (i : ℕ) (x : Place) (spot : Spot) → (spot.member < length ms) × (spot.offset < 2 * s) → copy_index (length ms) spot ≡ i
+    → x ≡ place_at s ms spot.member spot.offset → Lies s Mirrored ms i x
+unfolding Tie
+copy_lies s ms i x spot inside back e = record {
+  number = spot.member;
+  offset = spot.offset;
+  member = get_or ms spot.member any_member;
+  there = slice_get-get_or ms spot.member any_member inside.0;
+  low = inside.1;
+  is = e ∙ place_is s ms spot.member spot.offset inside.0;
+  tie = back;
+}
+
 pub lies : (s : ℕ) (class : Class) (ms : List Member) (i : ℕ) (x : Place) → 2 ≤ length ms → i < slot_count class (length ms) s → IsOf (site_in s class ms i) x → Lies s class ms i x
 unfolding Tie
-lies s Mirrored ms i x two h (inl e) =
-    let law = copies_law (length ms) s i two h in
-    record {
-      number = (copies_of (length ms) i).first.member;
-      offset = (copies_of (length ms) i).first.offset;
-      member = get_or ms (copies_of (length ms) i).first.member any_member;
-      there = slice_get-get_or ms _ any_member law.first_inside.0;
-      low = law.first_inside.1;
-      is = e ∙ place_is s ms _ _ law.first_inside.0;
-      tie = law.first_back;
-    }
-lies s Mirrored ms i x two h (inr e) =
-    let law = copies_law (length ms) s i two h in
-    record {
-      number = (copies_of (length ms) i).second.member;
-      offset = (copies_of (length ms) i).second.offset;
-      member = get_or ms (copies_of (length ms) i).second.member any_member;
-      there = slice_get-get_or ms _ any_member law.second_inside.0;
-      low = law.second_inside.1;
-      is = e ∙ place_is s ms _ _ law.second_inside.0;
-      tie = law.second_back;
-    }
+lies s Mirrored ms i x two h (inl e) = let law = copies_law (length ms) s i two h in copy_lies s ms i x (copies_of (length ms) i).first law.first_inside law.first_back e
+lies s Mirrored ms i x two h (inr e) = let law = copies_law (length ms) s i two h in copy_lies s ms i x (copies_of (length ms) i).second law.second_inside law.second_back e
 lies s Parity ms i x two h k =
-    let law = stripe_law (length ms) s i two h in
-    let o = (stripe_of (length ms) i).offset in
-    let inside : k.0 < length ms = omega (arith, slice_get_within (map (place_of s (stripe_of (length ms) i).offset) ms) k.0 x k.1, length-map ms (place_of s (stripe_of (length ms) i).offset)) in
+    let row = row_member s ms (stripe_of (length ms) i).offset k.0 x k.1 in
     record {
       number = k.0;
       offset = (stripe_of (length ms) i).offset;
       member = get_or ms k.0 any_member;
-      there = slice_get-get_or ms k.0 any_member inside;
-      low = law.inside.1;
-      is = same_Some _ _ (sym k.1 ∙ slice_get-map (place_of s (stripe_of (length ms) i).offset) ms k.0 ∙ ap (option_map (place_of s (stripe_of (length ms) i).offset)) (slice_get-get_or ms k.0 any_member inside));
+      there = row.0;
+      low = (stripe_law (length ms) s i two h).inside.1;
+      is = row.1;
       tie = refl;
     }
 
@@ -150,15 +151,6 @@ slot_of s None i a e = absurd (let both : None ≡ Some a = e in cc)
 slot_of s (Some group) i a e =
     let both = chosen (nat_lt i (slot_count group.class (length group.members) s)) (site_in s group.class group.members i) a e in
     record { group = group; made = refl; below = is_below _ _ both.0; site = both.1 }
-
--- one of a row's places is that of the member of its number
-pub row_member : (s : ℕ) (ms : List Member) (o k : ℕ) (x : Place) → slice_get (map (place_of s o) ms) k ≡ Some x
-    → (slice_get ms k ≡ Some (get_or ms k any_member)) × (x ≡ place_of s o (get_or ms k any_member))
-row_member s ms o k x at =
-    let inside : k < length ms = omega (arith, slice_get_within (map (place_of s o) ms) k x at, length-map ms (place_of s o)) in (
-      slice_get-get_or ms k any_member inside,
-      same_Some _ _ (sym at ∙ slice_get-map (place_of s o) ms k ∙ ap (option_map (place_of s o)) (slice_get-get_or ms k any_member inside)),
-    )
 
 -- the site of an index is whole
 whole_in : (s : ℕ) (class : Class) (ms : List Member) (i : ℕ) → IsFormed ms → i < slot_count class (length ms) s → IsWhole (site_in s class ms i)
