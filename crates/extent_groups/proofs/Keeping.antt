@@ -120,12 +120,8 @@ number_is shape kept t g y view within is =
     ∙ ap (λ s. group_at s g) view
 
 -- the member that is read by its number
-pub was_of : (t : Groups) (g k : ℕ) (group : Group) (ms : List Member) (d : Member) → group_at t g ≡ Some group → ms ≡ group.members → k < length (members_of t g)
-    → slice_get group.members k ≡ Some (get_or ms k d)
+pub was_of : (t : Groups) (g k : ℕ) (group : Group) (ms : List Member) (d : Member) → group_at t g ≡ Some group → ms ≡ group.members
+    → (IsSome (group_at t g) → k < length (members_of t g)) → slice_get group.members k ≡ Some (get_or ms k d)
 was_of t g k group ms d made is inside =
-    let below : k < length group.members = subst (λ o. k < length (members_in o)) made inside in
+    let below : k < length group.members = subst (λ o. k < length (members_in o)) made (inside (subst (λ o. IsSome o) (sym made) refl)) in
     slice_get-get_or group.members k d below ∙ ap (λ l. Some (get_or l k d)) (sym is)
-
--- a group that is made has a number below that of all, and a member's number is one of its members'
-pub member_below : (t : Groups) (g k : ℕ) (group : Group) → group_at t g ≡ Some group → (IsSome (group_at t g) → k < length (members_of t g)) → k < length (members_of t g)
-member_below t g k group made inside = inside (subst (λ o. IsSome o) (sym made) refl)
