@@ -1,30 +1,16 @@
 -- Counts of live slots of parity groups.
-use Rattle.std.proofs.Common.{◌≡◌, ◌≢◌, ◌∙◌, ◌⊎◌, inl, inr, ℕ, zero, suc, ◌+◌, ◌*◌, ◌/◌, ◌%◌, ◌<◌, ◌≤◌, List, [], ◌∷◌, ◌++◌, length, refl, sym, ap, subst, arith, Option, Some, None, slice_get, unwrap_or}
+use Rattle.std.proofs.Common.{◌≡◌, ◌≢◌, ◌∙◌, ◌⊎◌, inl, inr, ℕ, zero, suc, ◌+◌, ◌*◌, ◌/◌, ◌%◌, ◌<◌, ◌≤◌, List, [], ◌∷◌, ◌++◌, length, refl, sym, subst, arith, Option, Some, None}
 use Rattle.std.proofs.lemmas.Bool.{cases_lt}
 use Rattle.std.proofs.lemmas.List.{length_push}
-use Rattle.std.proofs.lemmas.Option.{slice_get_past}
 use Rattle.map_join.specs.Lists.{ListsBelow, IsCount}
 use Rattle.map_join.specs.Live.{LiesAt, IsLive, IsLiveIn, IsLiveCount}
 use Rattle.map_join.proofs.Rising.{count_same, count_once, count_some, count_zero, count_none, below_none, below_more, below_all}
-use Rattle.extent_groups.specs.declared.class.Class.{Class}
 use Rattle.extent_groups.specs.declared.class.Class.TheVariants.{Parity}
 use Rattle.extent_groups.specs.Groups.{Group, Groups, IsFormed, AreGroups, group_at, class_in, slots_in}
 use Rattle.extent_groups.proofs.Bounds.{slot_count_small}
 use Rattle.extent_groups.specs.Stores.{IsSlotOf}
 use Rattle.cleaner.specs.Counts.{IsLiveOf, IsHoleOf, HasLive, IsLowest}
 use Rattle.cleaner.specs.Plans.{IsEmpty}
-
--- a made group has a number below 512
-pub made_low : (groups : Groups) (g : ℕ) (class : Class) → length groups.table ≡ 512 → class_in (group_at groups g) ≡ Some class → g < 512
-made_low groups g class long made = by (cases_lt g 512)
-  where
-    by : (g < 512) ⊎ (512 ≤ g) → g < 512
-    by (inl l) = l
-    by (inr m) =
-        let out : slice_get groups.table g ≡ None = slice_get_past groups.table g (omega (arith, long, m)) in
-        let none : class_in (unwrap_or (slice_get groups.table g) None) ≡ None = ap (λ o. class_in (unwrap_or o None)) out in
-        let both : None ≡ Some class = sym none ∙ made in
-        cc
 
 -- a parity group's slots are those of its first indexes
 pub slot_at : (groups : Groups) (group slot : ℕ) → class_in (group_at groups group) ≡ Some Parity → slot / 128 ≡ group
@@ -36,6 +22,14 @@ slot_at groups group slot made own l = record {
 
 pub index_of : (groups : Groups) (group slot : ℕ) → IsSlotOf Parity groups slot → slot / 128 ≡ group → slot % 128 < slots_in groups.segments (group_at groups group)
 index_of groups group slot is own = subst (λ g. slot % 128 < slots_in groups.segments (group_at groups g)) own is.below
+
+-- an index below their number is that of a slot
+slot_of_index : (groups : Groups) (group index : ℕ) → class_in (group_at groups group) ≡ Some Parity → slots_in groups.segments (group_at groups group) ≤ 128
+    → index < slots_in groups.segments (group_at groups group) → IsSlotOf Parity groups (128 * group + index) × ((128 * group + index) / 128 ≡ group)
+slot_of_index groups group index made few l =
+    let own : (128 * group + index) / 128 ≡ group = omega (arith, l, few) in
+    let at : (128 * group + index) % 128 ≡ index = omega (arith, l, few) in
+    (slot_at groups group (128 * group + index) made own (omega (arith, at, l)), own)
 
 -- the live ones of these were counted
 pub live_counted : (groups : Groups) (keys : ℕ → ℕ) (group slots count : ℕ) → class_in (group_at groups group) ≡ Some Parity
@@ -75,10 +69,8 @@ full groups keys group live few h hole all =
 
     here : (k : ℕ) → k < slots_in groups.segments (group_at groups group) → IsLiveOf groups keys group (128 * group + k)
     here k l =
-        let own : (128 * group + k) / 128 ≡ group = omega (arith, l, few) in
-        let index : (128 * group + k) % 128 ≡ k = omega (arith, l, few) in
-        let slot = slot_at groups group (128 * group + k) h.made own (omega (arith, index, l)) in
-        record { slot_of = slot; own = own; live = all (128 * group + k) slot own }
+        let at = slot_of_index groups group k h.made few l in
+        record { slot_of = at.0; own = at.1; live = all (128 * group + k) at.0 at.1 }
 
     build : (k : ℕ) → k ≤ slots_in groups.segments (group_at groups group) → (numbers : List ℕ) × ListsBelow (IsLiveOf groups keys group) (128 * group + k) numbers × (length numbers ≡ k)
     build zero l = ([], below_none (IsLiveOf groups keys group) (128 * group + 0) (λ n m p. let own = p.own in absurd (omega (arith, own, m))), refl)
@@ -102,25 +94,25 @@ few_slots groups group are = slots_few groups.segments (group_at groups group) (
 slot_is : (group slot : ℕ) → slot / 128 ≡ group → 128 * group + slot % 128 ≡ slot
 slot_is group slot own = omega arith
 
+-- the first slot of a group of which something holds is the lowest
+lowest_at : (P : ℕ → Type 0) (group index : ℕ) → ((m : ℕ) → P m → m / 128 ≡ group) → ((k : ℕ) → k < index → P (128 * group + k) → ⊥) → P (128 * group + index)
+    → IsLowest P (128 * group + index)
+lowest_at P group index own before here = record { holds = here; least = λ m p. by m p (cases_lt m (128 * group + index)) }
+  where
+    by : (m : ℕ) → P m → (m < 128 * group + index) ⊎ (128 * group + index ≤ m) → 128 * group + index ≤ m
+    by m p (inr le) = le
+    by m p (inl lt) =
+        let is = slot_is group m (own m p) in
+        absurd (before (m % 128) (omega (arith, lt, is)) (subst P (sym is) p))
+
 -- the first live slot, and the first that isn't
 pub lowest_live_at : (groups : Groups) (keys : ℕ → ℕ) (group index block : ℕ) → class_in (group_at groups group) ≡ Some Parity
     → slots_in groups.segments (group_at groups group) ≤ 128 → index < slots_in groups.segments (group_at groups group)
     → ((k : ℕ) → k < index → IsLive keys (128 * group + k) → ⊥) → LiesAt keys block (128 * group + index)
     → IsLowest (IsLiveOf groups keys group) (128 * group + index)
-lowest_live_at groups keys group index block made few l before there = record {
-  holds = record { slot_of = slot_at groups group (128 * group + index) made own (omega (arith, at, l)); own = own; live = (block, there) };
-  least = λ m p. by m p (cases_lt m (128 * group + index));
-}
-  where
-    own : (128 * group + index) / 128 ≡ group
-    own = omega (arith, l, few)
-
-    at : (128 * group + index) % 128 ≡ index
-    at = omega (arith, l, few)
-
-    by : (m : ℕ) → IsLiveOf groups keys group m → (m < 128 * group + index) ⊎ (128 * group + index ≤ m) → 128 * group + index ≤ m
-    by m p (inr le) = le
-    by m p (inl lt) = absurd (before (m % 128) (omega (arith, lt, p.own, slot_is group m p.own)) (subst (IsLive keys) (sym (slot_is group m p.own)) p.live))
+lowest_live_at groups keys group index block made few l before there =
+    let at = slot_of_index groups group index made few l in
+    lowest_at (IsLiveOf groups keys group) group index (λ m p. p.own) (λ k low p. before k low p.live) (record { slot_of = at.0; own = at.1; live = (block, there) })
 
 pub none_live : (groups : Groups) (keys : ℕ → ℕ) (group slots : ℕ) → slots_in groups.segments (group_at groups group) ≤ slots
     → ((k : ℕ) → k < slots → IsLive keys (128 * group + k) → ⊥) → (slot : ℕ) → IsLiveOf groups keys group slot → ⊥
@@ -131,20 +123,9 @@ pub lowest_hole_at : (groups : Groups) (keys : ℕ → ℕ) (group index : ℕ) 
     → slots_in groups.segments (group_at groups group) ≤ 128 → index < slots_in groups.segments (group_at groups group)
     → ((k : ℕ) → k < index → IsLive keys (128 * group + k)) → (IsLive keys (128 * group + index) → ⊥)
     → IsLowest (IsHoleOf groups keys group) (128 * group + index)
-lowest_hole_at groups keys group index made few l before there = record {
-  holds = record { slot_of = slot_at groups group (128 * group + index) made own (omega (arith, at, l)); own = own; hole = there };
-  least = λ m p. by m p (cases_lt m (128 * group + index));
-}
-  where
-    own : (128 * group + index) / 128 ≡ group
-    own = omega (arith, l, few)
-
-    at : (128 * group + index) % 128 ≡ index
-    at = omega (arith, l, few)
-
-    by : (m : ℕ) → IsHoleOf groups keys group m → (m < 128 * group + index) ⊎ (128 * group + index ≤ m) → 128 * group + index ≤ m
-    by m p (inr le) = le
-    by m p (inl lt) = absurd (p.hole (subst (IsLive keys) (slot_is group m p.own) (before (m % 128) (omega (arith, lt, p.own, slot_is group m p.own)))))
+lowest_hole_at groups keys group index made few l before there =
+    let at = slot_of_index groups group index made few l in
+    lowest_at (IsHoleOf groups keys group) group index (λ m p. p.own) (λ k low p. p.hole (before k low)) (record { slot_of = at.0; own = at.1; hole = there })
 
 pub all_live : (groups : Groups) (keys : ℕ → ℕ) (group slots : ℕ) → slots_in groups.segments (group_at groups group) ≤ slots
     → ((k : ℕ) → k < slots → IsLive keys (128 * group + k)) → (slot : ℕ) → IsSlotOf Parity groups slot → slot / 128 ≡ group → IsLive keys slot

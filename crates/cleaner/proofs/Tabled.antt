@@ -4,13 +4,14 @@ use Rattle.std.proofs.lemmas.Bool.{ltb-true, leb-true, lt-ltb, le-leb}
 use Rattle.std.proofs.lemmas.Option.{same_Some}
 use Rattle.extent_groups.specs.declared.class.Class.TheVariants.{Parity}
 use Rattle.extent_groups.specs.Groups.{Groups, AreGroups, group_at, class_in, slots_in, parity_slots_of}
+use Rattle.extent_groups.proofs.Bounds.{made_low}
 use Rattle.extent_groups.proofs.ParitySlots.{parity_slots, some_slots, parity_made}
 use Rattle.cleaner.specs.declared.choice.Ranked.{Ranked}
 use Rattle.cleaner.specs.Plans.{IsHoled, IsSource}
 use Rattle.cleaner.specs.Counts.{HasLive, AreLiveCounts}
 use Rattle.cleaner.specs.Choosing.{IsFewest, IsMost, IsChoice}
 use Rattle.cleaner.specs.Offered.{holed, up_to, in_parity, holed_count, source_count, turned}
-use Rattle.cleaner.proofs.Counting.{made_low, live_one, few_slots}
+use Rattle.cleaner.proofs.Counting.{live_one, few_slots}
 use Rattle.cleaner.proofs.Ranked.{AreCounted, none_most, is_most, none_fewest, is_fewest}
 
 holed_is : (n slots : ℕ) → n < slots → holed n slots ≡ n

@@ -1,13 +1,26 @@
 -- A slot's group is formed, its number is small, and the laws of its geometry hold.
-use Rattle.std.proofs.Common.{◌≡◌, ℕ, ◌-◌, ◌<◌, ◌≤◌, Option, Some, None, List, length, refl, sym, subst, arith}
+use Rattle.std.proofs.Common.{◌≡◌, ◌∙◌, ◌⊎◌, inl, inr, ℕ, ◌-◌, ◌<◌, ◌≤◌, Option, Some, None, List, length, slice_get, unwrap_or, refl, sym, ap, subst, arith}
 use Rattle.std.proofs.Math.Nat.{mul-le-mul}
-use Rattle.std.proofs.lemmas.Option.{same_Some, none-some}
+use Rattle.std.proofs.lemmas.Bool.{cases_lt}
+use Rattle.std.proofs.lemmas.Option.{same_Some, none-some, slice_get_past}
 use Rattle.extent_groups.specs.declared.class.Class.{Class}
 use Rattle.extent_groups.specs.declared.class.Class.TheVariants.{Mirrored, Parity}
 use Rattle.extent_groups.specs.declared.class.Member.{Member}
 use Rattle.extent_groups.specs.Geometry.{slot_count, copies_of, stripe_of, AreCopies, IsStripe}
 use Rattle.extent_groups.specs.Groups.{Group, Groups, IsFormed, AreGroups, group_at, class_in, slots_in, members_in, members_of}
 use Rattle.extent_groups.proofs.GeometryLaws.{copies_law, stripe_law}
+
+-- a made group has a number below 512
+pub made_low : (groups : Groups) (g : ℕ) (class : Class) → length groups.table ≡ 512 → class_in (group_at groups g) ≡ Some class → g < 512
+made_low groups g class long made = by (cases_lt g 512)
+  where
+    by : (g < 512) ⊎ (512 ≤ g) → g < 512
+    by (inl l) = l
+    by (inr m) =
+        let out : slice_get groups.table g ≡ None = slice_get_past groups.table g (omega (arith, long, m)) in
+        let none : class_in (unwrap_or (slice_get groups.table g) None) ≡ None = ap (λ o. class_in (unwrap_or o None)) out in
+        let both : None ≡ Some class = sym none ∙ made in
+        cc
 
 -- a group has fewer than 128 slots
 pub slot_count_small : (class : Class) (n s : ℕ) → n ≤ 8 → s ≤ 8 → slot_count class n s < 128

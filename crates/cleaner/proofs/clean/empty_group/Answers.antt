@@ -1,6 +1,6 @@
 use Rattle.std.proofs.Common.{arith}
 use Rattle.extent_groups.specs.declared.class.Class.TheVariants.{Parity}
-use Rattle.cleaner.proofs.Counting.{made_low}
+use Rattle.extent_groups.proofs.Bounds.{made_low}
 use Rattle.cleaner.proofs.clean.empty_group.Goals as goal
 
 pub returns : goal.returns
