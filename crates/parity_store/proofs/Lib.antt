@@ -1,4 +1,5 @@
 pub mod Mixed
 pub mod Differences
+pub mod Laid
 pub mod Sums
 pub mod Stripes

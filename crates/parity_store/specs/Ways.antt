@@ -1,11 +1,12 @@
 -- The ways of a write: unit and parity by difference, the unit alone, the parity alone; and the exclusive or of the other members.
-use Rattle.std.specs.Prelude.{◌≡◌, ◌≢◌, ℕ, ◌/◌, ◌<◌, ◌⊎◌, Option, Some, None, List, length, slice_get, replicate}
+use Rattle.std.specs.Prelude.{◌≡◌, ◌≢◌, ℕ, ◌/◌, ◌<◌, ◌≤◌, ◌⊎◌, Option, Some, None, List, length, slice_get, replicate}
+use Rattle.extents.specs.Sizes.{extent_units}
 use Rattle.extent_groups.specs.declared.place.Place.{Place}
 use Rattle.extent_groups.specs.Groups.{Groups, members_of}
 use Rattle.extent_groups.specs.Geometry.{parity_of}
 use Rattle.extent_groups.specs.Cells.{Cells, held}
 use Rattle.extent_groups.specs.Units.{InStripe, plus, add, put, total, row_of, unit_at, places_of}
-use Rattle.extent_groups.specs.Calls.{FadesAt, IsPlace}
+use Rattle.extent_groups.specs.Calls.{AreSized, FadesAt, IsPlace}
 use Rattle.extent_groups.specs.Stores.{unit_bytes}
 
 -- the places at an offset of all members
@@ -21,6 +22,13 @@ parity_unit groups c group offset =
 -- each place of a row is one of the drives'
 abbrev pub IsRow : {D : Type 0} → (D → List (List ℕ)) → List D → List Place → Type 0
 IsRow units drives row = (k : ℕ) (x : Place) → slice_get row k ≡ Some x → IsPlace units drives x
+
+-- a stripe at an offset of a group can be read and written: the group's members are few and have that offset, and its places are those of drives whose units have this size
+pub record IsLaid {D : Type 0} (units : D → List (List ℕ)) (groups : Groups) (group offset bytes : ℕ) (drives : List D) : Type 0 where
+  pub few : length (members_of groups group) ≤ 8
+  pub low : offset < extent_units groups.segments
+  pub row : IsRow units drives (row_at groups group offset)
+  pub size : AreSized units bytes drives
 
 -- a row in which two members count as zeros
 abbrev pub bare : ℕ → (ℕ → Option (List ℕ)) → ℕ → ℕ → ℕ → Option (List ℕ)

@@ -1,12 +1,11 @@
 // The exclusive or of the other members of a row.
-ghost use Rattle.std.specs.Prelude.{◌≡◌, ◌<◌, ◌≤◌, length};
+ghost use Rattle.std.specs.Prelude.{◌≡◌, ◌<◌, length};
 ghost use Rattle.std.specs.Bool.{MatchBool};
-ghost use Rattle.extents.specs.Sizes.{extent_units};
 ghost use Rattle.extent_groups.specs.Groups.{members_of};
 ghost use Rattle.extent_groups.specs.Cells.{cells};
-ghost use Rattle.extent_groups.specs.Calls.{AreSized, NoPlace, SameBut, KeepsDrives};
+ghost use Rattle.extent_groups.specs.Calls.{NoPlace, SameBut, KeepsDrives};
 ghost use Rattle.extent_groups.specs.Stores.{HasMemberOn};
-ghost use Rattle.parity_store.specs.Ways.{row_at, IsRow, Added, AddedOne, Missed};
+ghost use Rattle.parity_store.specs.Ways.{row_at, IsLaid, Added, AddedOne, Missed};
 
 use crate::xor_into;
 use extent_groups::{GroupTable, read_place};
@@ -31,9 +30,7 @@ fn add_member<D: Drive>(
     part: &mut [u8],
 ) -> bool
     requires number { number < length (members_of groups.now others.group) }
-    requires offset { others.offset < extent_units groups.now.segments }
-    requires row { IsRow D.units drives.old (row_at groups.now others.group others.offset) }
-    requires size { AreSized D.units (length sum.old) drives.old }
+    requires laid { IsLaid D.units groups.now others.group others.offset (length sum.old) drives.old }
     requires part { length part.old ≡ length sum.old }
     ensures outcome { MatchBool result (AddedOne (length sum.old) (cells D.units D.lost drives.old) (cells D.units D.lost drives.new) (row_at groups.now others.group others.offset) others.first others.second number sum.old sum.new) (Missed (cells D.units D.lost drives.old) (cells D.units D.lost drives.new) (row_at groups.now others.group others.offset) others.first others.second) }
     ensures touched { KeepsDrives D.units D.lost D.failures NoPlace drives.old drives.new }
@@ -61,10 +58,7 @@ pub(crate) fn add_others<D: Drive>(
     sum: &mut [u8],
     part: &mut [u8],
 ) -> bool
-    requires few { length (members_of groups.now others.group) ≤ 8 }
-    requires offset { others.offset < extent_units groups.now.segments }
-    requires row { IsRow D.units drives.old (row_at groups.now others.group others.offset) }
-    requires size { AreSized D.units (length sum.old) drives.old }
+    requires laid { IsLaid D.units groups.now others.group others.offset (length sum.old) drives.old }
     requires part { length part.old ≡ length sum.old }
     ensures outcome { MatchBool result (Added (length sum.old) (cells D.units D.lost drives.old) (cells D.units D.lost drives.new) (row_at groups.now others.group others.offset) others.first others.second sum.old sum.new) (Missed (cells D.units D.lost drives.old) (cells D.units D.lost drives.new) (row_at groups.now others.group others.offset) others.first others.second) }
     ensures touched { KeepsDrives D.units D.lost D.failures NoPlace drives.old drives.new }

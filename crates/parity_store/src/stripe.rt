@@ -1,15 +1,13 @@
 // A unit of a stripe: read, or had from the others; written in the first way that the lost drives leave.
-ghost use Rattle.std.specs.Prelude.{◌≡◌, ◌<◌, ◌≤◌, length, slice_get, Some, None, replicate};
+ghost use Rattle.std.specs.Prelude.{◌≡◌, ◌<◌, length, slice_get, Some, None, replicate};
 ghost use Rattle.std.specs.Bool.{MatchBool};
-ghost use Rattle.extents.specs.Sizes.{extent_units};
 ghost use Rattle.extent_groups.specs.declared.place.Place.{Place};
-ghost use Rattle.extent_groups.specs.Groups.{members_of};
 ghost use Rattle.extent_groups.specs.Cells.{cells, held};
-ghost use Rattle.extent_groups.specs.Calls.{AreSized, FadesAt, if_ok, NoPlace, Only, SameBut, KeepsDrives};
+ghost use Rattle.extent_groups.specs.Calls.{FadesAt, if_ok, NoPlace, Only, SameBut, KeepsDrives};
 ghost use Rattle.extent_groups.specs.Layout.{IsWhole};
 ghost use Rattle.extent_groups.specs.Units.{InStripe, unit_at, row_of, IsSoundAt};
 ghost use Rattle.extent_groups.specs.Stores.{IsOwn, LeavesSites, HasMemberOn};
-ghost use Rattle.parity_store.specs.Ways.{row_at, IsRow, ParityWritten, ParityMissed};
+ghost use Rattle.parity_store.specs.Ways.{row_at, IsLaid, ParityWritten, ParityMissed};
 
 use crate::difference::write_by_difference;
 use crate::others::{Others, add_others};
@@ -35,10 +33,7 @@ pub(crate) fn read_stripe<D: Drive>(
     part: &mut [u8],
 ) -> bool
     requires member { at.now.member < length (row_at groups.now group at.now.offset) }
-    requires few { length (members_of groups.now group) ≤ 8 }
-    requires offset { at.now.offset < extent_units groups.now.segments }
-    requires row { IsRow D.units drives.old (row_at groups.now group at.now.offset) }
-    requires size { AreSized D.units (length unit.old) drives.old }
+    requires laid { IsLaid D.units groups.now group at.now.offset (length unit.old) drives.old }
     requires part { length part.old ≡ length unit.old }
     ensures unit { unit_at (length unit.old) (cells D.units D.lost drives.new) (InStripe (row_at groups.now group at.now.offset) at.now.parity at.now.member) ≡ if_ok result unit.new }
     ensures fades { (x : Place) → FadesAt (cells D.units D.lost drives.old) (cells D.units D.lost drives.new) x }
@@ -70,10 +65,7 @@ fn write_parity_alone<D: Drive>(
     sum: &mut [u8],
 ) -> bool
     requires whole { IsWhole (InStripe (row_at groups.now group at.now.offset) at.now.parity at.now.member) }
-    requires few { length (members_of groups.now group) ≤ 8 }
-    requires offset { at.now.offset < extent_units groups.now.segments }
-    requires row { IsRow D.units drives.old (row_at groups.now group at.now.offset) }
-    requires size { AreSized D.units (length unit.now) drives.old }
+    requires laid { IsLaid D.units groups.now group at.now.offset (length unit.now) drives.old }
     requires part { length part.old ≡ length unit.now }
     requires sum { length sum.old ≡ length unit.now }
     ensures outcome { MatchBool result (ParityWritten (length unit.now) (cells D.units D.lost drives.old) (cells D.units D.lost drives.new) (row_at groups.now group at.now.offset) at.now.member at.now.parity unit.now) (ParityMissed (cells D.units D.lost drives.old) (cells D.units D.lost drives.new) (row_at groups.now group at.now.offset) at.now.member) }
@@ -103,10 +95,7 @@ pub(crate) fn write_stripe<D: Drive>(
     sum: &mut [u8],
 ) -> bool
     requires whole { IsWhole (InStripe (row_at groups.now group at.now.offset) at.now.parity at.now.member) }
-    requires few { length (members_of groups.now group) ≤ 8 }
-    requires offset { at.now.offset < extent_units groups.now.segments }
-    requires row { IsRow D.units drives.old (row_at groups.now group at.now.offset) }
-    requires size { AreSized D.units (length unit.now) drives.old }
+    requires laid { IsLaid D.units groups.now group at.now.offset (length unit.now) drives.old }
     requires old { length old.old ≡ length unit.now }
     requires sum { length sum.old ≡ length unit.now }
     ensures unit { unit_at (length unit.now) (cells D.units D.lost drives.new) (InStripe (row_at groups.now group at.now.offset) at.now.parity at.now.member) ≡ if_ok result unit.now }

@@ -1,12 +1,12 @@
-use Rattle.extent_groups.proofs.Sites.{site_places}
 use Rattle.extent_groups.proofs.StoreCalls.{read_keeps, site_whole, drives_kept}
+use Rattle.parity_store.proofs.Laid.{laid}
 use Rattle.parity_store.proofs.read.Goals as goal
 
 pub read_stripe-requires-clause-member : goal.read_stripe-requires-clause-member
 read_stripe-requires-clause-member g c = (site_whole _ c.args.slot _ c.row_of-at.ensures.groups c.row_of-at.ensures.site).0
 
-pub read_stripe-requires-clause-row : goal.read_stripe-requires-clause-row
-read_stripe-requires-clause-row g c = λ k x there. site_places _ _ _ c.args.slot _ c.row_of-at.ensures.groups c.requires.drives c.row_of-at.ensures.site x (k, there)
+pub read_stripe-requires-clause-laid : goal.read_stripe-requires-clause-laid
+read_stripe-requires-clause-laid g c = laid _ _ _ _ _ _ c.requires.drives c.requires.unit c.row_of-at.ensures.inside
 
 pub returns-clause-units : goal.returns-clause-units
 returns-clause-units g c = λ s. (read_keeps _ _ _ c.row_of-at.ensures.groups c.requires.drives s c.read_stripe.ensures.fades c.read_stripe.ensures.touched).all

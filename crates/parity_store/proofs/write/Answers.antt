@@ -1,14 +1,14 @@
 use Rattle.std.proofs.Common.{length}
-use Rattle.extent_groups.proofs.Sites.{site_places}
 use Rattle.extent_groups.proofs.StoreCalls.{site_wrote, site_whole, drives_kept}
 use Rattle.extent_groups.proofs.DriveCalls.{keeps_more}
+use Rattle.parity_store.proofs.Laid.{laid}
 use Rattle.parity_store.proofs.write.Goals as goal
 
 pub write_stripe-requires-clause-whole : goal.write_stripe-requires-clause-whole
 write_stripe-requires-clause-whole g c = site_whole _ c.args.slot _ c.row_of-at.ensures.groups c.row_of-at.ensures.site
 
-pub write_stripe-requires-clause-row : goal.write_stripe-requires-clause-row
-write_stripe-requires-clause-row g c = λ k x there. site_places _ _ _ c.args.slot _ c.row_of-at.ensures.groups c.requires.drives c.row_of-at.ensures.site x (k, there)
+pub write_stripe-requires-clause-laid : goal.write_stripe-requires-clause-laid
+write_stripe-requires-clause-laid g c = laid _ _ _ _ _ _ c.requires.drives c.requires.unit c.row_of-at.ensures.inside
 
 pub returns-clause-wrote : goal.returns-clause-wrote
 returns-clause-wrote g c =

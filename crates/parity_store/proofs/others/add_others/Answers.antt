@@ -1,10 +1,10 @@
-use Rattle.std.proofs.Common.{refl, sym, subst, ◌∙◌, ◌+◌, ap, Some}
+use Rattle.std.proofs.Common.{refl, sym, ◌∙◌, ◌+◌, ap, Some}
 use Rattle.extent_groups.specs.Cells.{cells}
 use Rattle.extent_groups.specs.Units.{add, row_of}
 use Rattle.parity_store.specs.Ways.{bare, row_at}
-use Rattle.extent_groups.specs.Calls.{AreSized}
-use Rattle.extent_groups.proofs.DriveCalls.{keeps_none, keeps_trans, keeps_place, keeps_sizes}
+use Rattle.extent_groups.proofs.DriveCalls.{keeps_none, keeps_trans}
 use Rattle.extent_groups.proofs.Elsewhere.{same_trans}
+use Rattle.parity_store.proofs.Laid.{still_laid}
 use Rattle.parity_store.proofs.Sums.{sum_begun, sum_more}
 use Rattle.parity_store.proofs.others.add_others.Goals as goal
 
@@ -16,12 +16,8 @@ loop-number-init g c = record {
   elsewhere = λ d apart. refl;
 }
 
-pub add_member-requires-clause-row : goal.add_member-requires-clause-row
-add_member-requires-clause-row g c = λ k x at. keeps_place c.loop-number.invariant.touched (c.requires.row k x at)
-
-pub add_member-requires-clause-size : goal.add_member-requires-clause-size
-add_member-requires-clause-size g c =
-    subst (λ n. AreSized g.D.Drive.units n c.loop-number.drives) (sym c.loop-number.auto.sum) (keeps_sizes c.loop-number.invariant.touched c.requires.size)
+pub add_member-requires-clause-laid : goal.add_member-requires-clause-laid
+add_member-requires-clause-laid g c = still_laid c.loop-number.invariant.touched c.loop-number.auto.sum c.requires.laid
 
 pub returns-then-not-add_member-clause-touched : goal.returns-then-not-add_member-clause-touched
 returns-then-not-add_member-clause-touched g c = keeps_trans c.loop-number.invariant.touched c.add_member.ensures.touched

@@ -5,9 +5,9 @@ use Rattle.extent_groups.specs.Groups.{members_of}
 use Rattle.extent_groups.specs.Cells.{cells}
 use Rattle.extent_groups.specs.Calls.{if_ok}
 use Rattle.extent_groups.specs.Units.{InStripe, place_of, unit_at}
-use Rattle.extent_groups.proofs.Sites.{row_places}
 use Rattle.extent_groups.proofs.StoreCalls.{read_keeps, drives_kept}
 use Rattle.parity_store.specs.Ways.{row_at}
+use Rattle.parity_store.proofs.Laid.{laid}
 use Rattle.parity_store.proofs.parity.read_parity.Goals as goal
 
 pub overflow_cast-at : goal.overflow_cast-at
@@ -18,8 +18,8 @@ read_stripe-requires-clause-member g c =
     let wide = length-map (members_of c.args.groups.now c.args.group) (place_of c.args.groups.now.segments c.args.offset) in
     omega (arith, wide, c.parity_member-parity.ensures.inside.0)
 
-pub read_stripe-requires-clause-row : goal.read_stripe-requires-clause-row
-read_stripe-requires-clause-row g c = row_places g.D.Drive.units c.args.groups.now c.args.drives.now c.args.group c.args.offset c.requires.drives c.requires.offset
+pub read_stripe-requires-clause-laid : goal.read_stripe-requires-clause-laid
+read_stripe-requires-clause-laid g c = laid _ _ _ _ _ _ c.requires.drives c.requires.unit (c.requires.offset, c.parity_member-parity.ensures.inside.1)
 
 pub returns-clause-told : goal.returns-clause-told
 returns-clause-told g c =

@@ -1,20 +1,16 @@
 use Rattle.std.proofs.Common.{length, sym, ◌∙◌, ap, subst}
 use Rattle.std.specs.Prelude.{replicate}
 use Rattle.extent_groups.specs.Cells.{cells}
-use Rattle.extent_groups.specs.Calls.{AreSized}
-use Rattle.extent_groups.proofs.DriveCalls.{keeps_trans, keeps_place, keeps_sizes}
+use Rattle.extent_groups.proofs.DriveCalls.{keeps_trans}
 use Rattle.extent_groups.specs.Stores.{HasMemberOn}
 use Rattle.extent_groups.proofs.Elsewhere.{same_trans, same_more, row_drive}
 use Rattle.parity_store.specs.Ways.{row_at}
+use Rattle.parity_store.proofs.Laid.{still_laid}
 use Rattle.parity_store.proofs.Stripes.{rebuilt, from_zeros}
 use Rattle.parity_store.proofs.stripe.read_stripe.Goals as goal
 
-pub add_others-requires-clause-row : goal.add_others-requires-clause-row
-add_others-requires-clause-row g c = λ k x at. keeps_place c.read_place.ensures.drives (c.requires.row k x at)
-
-pub add_others-requires-clause-size : goal.add_others-requires-clause-size
-add_others-requires-clause-size g c =
-    subst (λ n. AreSized g.D.Drive.units n c.read_place.new.drives) (sym (c.clear.auto.unit ∙ c.read_place.auto.unit)) (keeps_sizes c.read_place.ensures.drives c.requires.size)
+pub add_others-requires-clause-laid : goal.add_others-requires-clause-laid
+add_others-requires-clause-laid g c = still_laid c.read_place.ensures.drives (c.clear.auto.unit ∙ c.read_place.auto.unit) c.requires.laid
 
 pub returns-clause-unit : goal.returns-clause-unit
 returns-clause-unit g c =

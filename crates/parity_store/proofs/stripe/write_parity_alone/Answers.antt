@@ -2,20 +2,24 @@ use Rattle.std.proofs.Common.{length, inr, sym, ◌∙◌, ap, subst, Some}
 use Rattle.extent_groups.specs.Cells.{cells}
 use Rattle.extent_groups.specs.Calls.{AreSized}
 use Rattle.extent_groups.proofs.DriveCalls.{keeps_trans, keeps_more, keeps_place, keeps_sizes}
-use Rattle.parity_store.specs.Ways.{Added, row_at}
+use Rattle.parity_store.specs.Ways.{Added, IsLaid, row_at}
 use Rattle.parity_store.proofs.Stripes.{parity_outcome}
 use Rattle.parity_store.proofs.stripe.write_parity_alone.Goals as goal
 
 pub returns-then-not-add_others-clause-touched : goal.returns-then-not-add_others-clause-touched
 returns-then-not-add_others-clause-touched g c = keeps_more (λ x never. absurd never) c.add_others.ensures.touched
 
+pub add_others-requires-clause-laid : goal.add_others-requires-clause-laid
+add_others-requires-clause-laid g c =
+    subst (λ n. IsLaid g.D.Drive.units c.args.groups.now c.args.group c.args.at.now.offset n c.args.drives.now) (sym (ap length c.copy_from_slice.ensures.after)) c.requires.laid
+
 pub write_place-requires-clause-place : goal.write_place-requires-clause-place
-write_place-requires-clause-place g c = keeps_place c.add_others.ensures.touched (c.requires.row c.args.at.now.parity c.place.result c.place.ensures.place)
+write_place-requires-clause-place g c = keeps_place c.add_others.ensures.touched (c.requires.laid.row c.args.at.now.parity c.place.result c.place.ensures.place)
 
 pub write_place-requires-clause-size : goal.write_place-requires-clause-size
 write_place-requires-clause-size g c =
     subst (λ n. AreSized g.D.Drive.units n c.add_others.new.drives) (sym (c.add_others.auto.sum ∙ ap length c.copy_from_slice.ensures.after))
-    (keeps_sizes c.add_others.ensures.touched c.requires.size)
+    (keeps_sizes c.add_others.ensures.touched c.requires.laid.size)
 
 pub returns-clause-outcome : goal.returns-clause-outcome
 returns-clause-outcome g c =
