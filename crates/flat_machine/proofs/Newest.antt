@@ -138,39 +138,28 @@ map_as records M N same is = record {
   most = λ r has. let e = same r.block in let m = is.most r has in omega arith;
 }
 
--- the map of a list is one map
-pub map_unique : (records others : List Record) (M N : ℕ → ℕ) → HasSameRecords records others → IsMapOf records M → IsMapOf others N → IsSame M N
-map_unique records others M N same is other block = by (above block) (below block)
+-- a map of some of the records tells no more than a map of all of them
+map_no_more : (records others : List Record) (M N : ℕ → ℕ) → ((r : Record) → Contains records r → Contains others r) → IsMapOf records M → IsMapOf others N → (b : ℕ) → M b ≤ N b
+map_no_more records others M N some is other b = go (positive (M b))
   where
     positive : (k : ℕ) → (k ≡ 0) ⊎ (0 < k)
     positive k = grind arith
 
-    above : (b : ℕ) → M b ≤ N b
-    above b = go (positive (M b))
-      where
-        go : (M b ≡ 0) ⊎ (0 < M b) → M b ≤ N b
-        go (inl e) = omega arith
-        go (inr some) =
-            let t = is.told b some in
-            let most = other.most t.0 ((same t.0).0 t.1) in
-            let at : N t.0.block ≡ N b = ap N t.2 in
-            let k = t.3 in
-            omega arith
+    go : (M b ≡ 0) ⊎ (0 < M b) → M b ≤ N b
+    go (inl e) = omega arith
+    go (inr told) =
+        let t = is.told b told in
+        let most = other.most t.0 (some t.0 t.1) in
+        let at : N t.0.block ≡ N b = ap N t.2 in
+        let k = t.3 in
+        omega arith
 
-    below : (b : ℕ) → N b ≤ M b
-    below b = go (positive (N b))
-      where
-        go : (N b ≡ 0) ⊎ (0 < N b) → N b ≤ M b
-        go (inl e) = omega arith
-        go (inr some) =
-            let t = other.told b some in
-            let most = is.most t.0 ((same t.0).1 t.1) in
-            let at : M t.0.block ≡ M b = ap M t.2 in
-            let k = t.3 in
-            omega arith
-
-    by : M block ≤ N block → N block ≤ M block → M block ≡ N block
-    by a b = omega arith
+-- the map of a list is one map
+pub map_unique : (records others : List Record) (M N : ℕ → ℕ) → HasSameRecords records others → IsMapOf records M → IsMapOf others N → IsSame M N
+map_unique records others M N same is other block =
+    let above = map_no_more records others M N (λ r. (same r).0) is other block in
+    let below = map_no_more others records N M (λ r. (same r).1) other is block in
+    omega arith
 
 -- two maps of one list are one
 pub same_map : (records : List Record) (M N : ℕ → ℕ) → IsMapOf records M → IsMapOf records N → M ≡ N
