@@ -5,24 +5,14 @@ use Rattle.map_join.specs.Record.{record_of}
 use Rattle.flat_machine.specs.Flat.{Flat, Holder, Worker, Block, IsArrays, for_block, with_pair, without_pair}
 use Rattle.flat_machine.specs.History.{IsHistory}
 use Rattle.flat_machine.proofs.Pairs.{with_else, without_else, with_arrays, without_arrays}
-use Rattle.flat_machine.proofs.Slots.{arrays_same, block_same}
+use Rattle.flat_machine.proofs.Slots.{arrays_same, history_as}
 
 -- where the array's own holders stay, all stays
 pub arrays_kept : (F : Flat) (keys : ℕ → ℕ) (held : ℕ → Holder → Bool) → IsHistory F keys → ((t : ℕ) (k : Holder) → IsArrays k → held t k ≡ F.held t k)
     → IsHistory (record F { held = held }) keys
-arrays_kept F keys held is same = record {
-  limits = is.limits;
-  groups = is.groups;
-  records = is.records;
-  blocks = is.blocks;
-  chain = is.chain;
-  map = is.map;
-  writes = is.writes;
-  versions = is.versions;
-  holders = λ t. arrays_same F.groups keys t (F.held t) (held t) (F.tickets t) (same t) (is.holders t);
-  units = is.units;
-  written = λ b. block_same F (record F { held = held }) b (keys b) refl (λ has. (refl, same (record_of b (keys b)).place (Block b) (for_block b) ∙ has)) (is.written b);
-}
+arrays_kept F keys held is same =
+    history_as F keys is is.limits.least is.limits.most is.groups (λ t. arrays_same F.groups keys t (F.held t) (held t) (F.tickets t) (same t) (is.holders t)) is.units
+    (λ b has. (refl, same (record_of b (keys b)).place (Block b) (for_block b) ∙ has))
 
 -- a worker's pair more, or one less, at one slot
 pub with_worker : (F : Flat) (w s t : ℕ) (k : Holder) → IsArrays k → with_pair F.held s (Worker w) t k ≡ F.held t k

@@ -25,7 +25,7 @@ use Rattle.flat_machine.proofs.Commits.{emitted_by, IsReady, commit_keeps}
 use Rattle.flat_machine.proofs.Makes.{make_keeps}
 use Rattle.flat_machine.proofs.Unmakes.{unmake_keeps}
 use Rattle.flat_machine.proofs.Regroups.{move_keeps, add_keeps}
-use Rattle.flat_machine.proofs.Slots.{block_same}
+use Rattle.flat_machine.proofs.Slots.{history_as}
 
 -- a content fits where its bytes do
 fits_bytes : (size : ℕ) (x : Content) → length (bytes_of size x) ≡ size → IsSized size x
@@ -163,19 +163,7 @@ moved_ready F keys w s b (Some q) c v h x is newest ticket mine same block stamp
 
 -- drives that failed change nothing of it
 pub fared : (F : Flat) (lost : ℕ → Bool) (failures : ℕ → ℕ) (keys : ℕ → ℕ) → IsHistory F keys → IsHistory (record F { lost = lost; failures = failures }) keys
-fared F lost failures keys is = record {
-  limits = is.limits;
-  groups = is.groups;
-  records = is.records;
-  blocks = is.blocks;
-  chain = is.chain;
-  map = is.map;
-  writes = is.writes;
-  versions = is.versions;
-  holders = is.holders;
-  units = is.units;
-  written = λ b. block_same F (record F { lost = lost; failures = failures }) b (keys b) refl (λ has. (refl, has)) (is.written b);
-}
+fared F lost failures keys is = history_as F keys is is.limits.least is.limits.most is.groups is.holders is.units (λ b has. (refl, has))
 
 -- a state is what it leaves where nothing happens
 no_loss : (n : ℕ) (b : Bool) → n ≡ n + loss b b

@@ -16,9 +16,9 @@ use Rattle.extent_groups.proofs.Agreement.{members_same, members_other}
 use Rattle.flat_machine.specs.Groups.{class_at, class_below, AreMembers, AreApart, AreUnowned, GroupsStand}
 use Rattle.flat_machine.specs.Flat.{Flat, Holder, Ticket, Block, Shut, same_holder, Waiting, blank_header, Stored, waiting_unit, content_of, class_of}
 use Rattle.flat_machine.specs.Cases.{made, MakePasses}
-use Rattle.flat_machine.specs.History.{HoldersStand, UnitStands, BlockStands, IsHistory}
+use Rattle.flat_machine.specs.History.{HoldersStand, UnitStands, IsHistory}
 use Rattle.flat_machine.proofs.Pairs.{equal}
-use Rattle.flat_machine.proofs.Slots.{block_same}
+use Rattle.flat_machine.proofs.Slots.{history_as}
 
 -- an extent of a list
 stands_of : (ms : List Member) (k : ℕ) (m : Member) → slice_get ms k ≡ Some m → Stands ms m.drive m.extent
@@ -184,31 +184,18 @@ module _ (F : Flat) (keys : ℕ → ℕ) (class : Class) (members : List Member)
   units s (inr ne) = subst (UnitStands F.groups.payload F.emitted F.writes keys s (class_of G s) (F.tickets s)) (sym (unit_else s ne))
       (subst (λ o. UnitStands F.groups.payload F.emitted F.writes keys s o (F.tickets s) (F.units s)) (sym (class_else s ne)) (is.units s))
 
-  written : (b : ℕ) → BlockStands G b (keys b)
-  written b = block_same F G b (keys b) refl stays (is.written b)
+  places : (b : ℕ) → F.held (record_of b (keys b)).place (Block b) ≡ true
+      → (G.units (record_of b (keys b)).place ≡ F.units (record_of b (keys b)).place) × (G.held (record_of b (keys b)).place (Block b) ≡ true)
+  places b has = (unit_else (record_of b (keys b)).place away, and_true (F.held (record_of b (keys b)).place (Block b)) ∙ has)
     where
-      stays : F.held (record_of b (keys b)).place (Block b) ≡ true
-          → (G.units (record_of b (keys b)).place ≡ F.units (record_of b (keys b)).place) × (G.held (record_of b (keys b)).place (Block b) ≡ true)
-      stays has = (unit_else (record_of b (keys b)).place away, and_true (F.held (record_of b (keys b)).place (Block b)) ∙ has)
-        where
-          away : (record_of b (keys b)).place / 128 ≡ g → ⊥
-          away same =
-              let some = ((is.holders (record_of b (keys b)).place).block b has).0 in
-              let at = ((is.written b).1 some).2.unit in
-              let bad : None ≡ Some at.stored = sym (bare (record_of b (keys b)).place same) ∙ at.there in
-              cc
+      away : (record_of b (keys b)).place / 128 ≡ g → ⊥
+      away same =
+          let some = ((is.holders (record_of b (keys b)).place).block b has).0 in
+          let at = ((is.written b).1 some).2.unit in
+          let bad : None ≡ Some at.stored = sym (bare (record_of b (keys b)).place same) ∙ at.there in
+          cc
 
   pub make_keeps : IsHistory (made F class members g) keys
-  make_keeps = record {
-    limits = record { sizes = is.limits.sizes; least = is.limits.least; most = is.limits.most; log = is.limits.log };
-    groups = groups_more F.groups F.drives g new is.groups passes.2.limit passes.0.members_are passes.0.apart passes.0.unowned;
-    records = is.records;
-    blocks = is.blocks;
-    chain = is.chain;
-    map = is.map;
-    writes = is.writes;
-    versions = is.versions;
-    holders = holders;
-    units = λ s. units s (cases_eq (s / 128) g);
-    written = written;
-  }
+  make_keeps =
+      history_as F keys is is.limits.least is.limits.most (groups_more F.groups F.drives g new is.groups passes.2.limit passes.0.members_are passes.0.apart passes.0.unowned)
+      holders (λ s. units s (cases_eq (s / 128) g)) places

@@ -1,5 +1,5 @@
 -- A member that goes onto another extent, and a drive more, keep what is true of every state.
-use Rattle.std.proofs.Common.{◌≡◌, ◌≢◌, ℕ, ◌/◌, ◌%◌, ◌<◌, Bool, false, ◌==◌, cond, nat_lt, List, get_or, length, refl, sym, ap, ◌∙◌, subst, arith, ◌⊎◌, inl, inr, Option, Some, None}
+use Rattle.std.proofs.Common.{◌≡◌, ◌≢◌, ℕ, ◌+◌, ◌/◌, ◌%◌, ◌<◌, Bool, false, ◌==◌, cond, nat_lt, List, get_or, length, refl, sym, ap, ◌∙◌, subst, arith, ◌⊎◌, inl, inr, Option, Some, None}
 use Rattle.std.specs.Prelude.{slice_get, slice_set}
 use Rattle.std.proofs.lemmas.List.{length-set}
 use Rattle.std.proofs.lemmas.List.Folds.{list_any_none}
@@ -18,7 +18,7 @@ use Rattle.flat_machine.specs.Flat.{Flat}
 use Rattle.flat_machine.specs.Moves.{IsTarget, IsMoveReason, moved_to, with_new_drive}
 use Rattle.flat_machine.specs.History.{HoldersStand, UnitStands, IsHistory}
 use Rattle.flat_machine.proofs.Pairs.{unequal}
-use Rattle.flat_machine.proofs.Slots.{block_same}
+use Rattle.flat_machine.proofs.Slots.{history_as}
 use Rattle.flat_machine.proofs.Unmakes.{number_within}
 
 -- a group that has a member is made
@@ -128,19 +128,10 @@ module _ (groups : Groups) (drives g k : ℕ) (to : Member) (stand : GroupsStand
   }
 
 pub move_keeps : (F : Flat) (keys : ℕ → ℕ) (g k : ℕ) (to : Member) → IsHistory F keys → IsMoveReason F.groups F.drives g k to None → IsHistory (moved_to F g k to) keys
-move_keeps F keys g k to is passes = record {
-  limits = record { sizes = is.limits.sizes; least = is.limits.least; most = is.limits.most; log = is.limits.log };
-  groups = swapped_stand F.groups F.drives g k to is.groups passes.0 passes.1;
-  records = is.records;
-  blocks = is.blocks;
-  chain = is.chain;
-  map = is.map;
-  writes = is.writes;
-  versions = is.versions;
-  holders = λ s. holders s (is.holders s);
-  units = λ s. subst (λ o. UnitStands F.groups.payload F.emitted F.writes keys s o (F.tickets s) (F.units s)) (sym (class_same F.groups F.drives g k to is.groups passes.0 passes.1 s)) (is.units s);
-  written = λ b. block_same F (moved_to F g k to) b (keys b) refl (λ has. (refl, has)) (is.written b);
-}
+move_keeps F keys g k to is passes =
+    history_as F keys is is.limits.least is.limits.most (swapped_stand F.groups F.drives g k to is.groups passes.0 passes.1) (λ s. holders s (is.holders s))
+    (λ s. subst (λ o. UnitStands F.groups.payload F.emitted F.writes keys s o (F.tickets s) (F.units s)) (sym (class_same F.groups F.drives g k to is.groups passes.0 passes.1 s)) (is.units s))
+    (λ b has. (refl, has))
   where
     holders : (s : ℕ) → HoldersStand F.groups keys s (F.held s) (F.tickets s) → HoldersStand (moved_to F g k to).groups keys s (F.held s) (F.tickets s)
     holders s old = record {
@@ -154,16 +145,6 @@ move_keeps F keys g k to is passes = record {
 
 -- a drive more
 pub add_keeps : (F : Flat) (keys : ℕ → ℕ) (lost : Bool) (failures : ℕ) → IsHistory F keys → F.drives < 16 → IsHistory (with_new_drive F lost failures) keys
-add_keeps F keys lost failures is room = record {
-  limits = record { sizes = is.limits.sizes; least = let n = is.limits.least in omega arith; most = omega arith; log = is.limits.log };
-  groups = record { table = is.groups.table; there = λ g k m at. let y = is.groups.there g k m at in let low = y.0 in (omega arith, y.1) };
-  records = is.records;
-  blocks = is.blocks;
-  chain = is.chain;
-  map = is.map;
-  writes = is.writes;
-  versions = is.versions;
-  holders = is.holders;
-  units = is.units;
-  written = λ b. block_same F (with_new_drive F lost failures) b (keys b) refl (λ has. (refl, has)) (is.written b);
-}
+add_keeps F keys lost failures is room =
+    let groups : GroupsStand F.groups (F.drives + 1) = record { table = is.groups.table; there = λ g k m at. let y = is.groups.there g k m at in let low = y.0 in (omega arith, y.1) } in
+    history_as F keys is (omega (arith, is.limits.least)) (omega arith) groups is.holders is.units (λ b has. (refl, has))

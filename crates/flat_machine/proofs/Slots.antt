@@ -1,11 +1,12 @@
 -- What is true of one slot, told from who holds it now, and what stays where nothing changed.
-use Rattle.std.proofs.Common.{◌≡◌, ℕ, ◌<◌, Bool, true, false, List, refl, sym, ◌∙◌, subst, Option, Some, None}
+use Rattle.std.proofs.Common.{◌≡◌, ℕ, ◌<◌, ◌≤◌, Bool, true, false, List, refl, sym, ◌∙◌, subst, Option, Some, None}
 use Rattle.map_join.specs.declared.records.Record.{Record}
 use Rattle.map_join.specs.Record.{record_of}
 use Rattle.extent_groups.specs.declared.class.Class.{Class}
-use Rattle.extent_groups.specs.Groups.{Groups}
+use Rattle.extent_groups.specs.Groups.{Group, Groups}
 use Rattle.flat_machine.specs.Flat.{Flat, Write, Content, Holder, Worker, Ticket, Block, Shut, IsArrays, for_ticket, for_block, for_shut, Waiting, Stored, last_write}
-use Rattle.flat_machine.specs.History.{HoldersStand, UnitStands, IsAt, BlockStands}
+use Rattle.flat_machine.specs.Groups.{class_at, GroupsStand}
+use Rattle.flat_machine.specs.History.{HoldersStand, UnitStands, IsAt, BlockStands, IsHistory}
 use Rattle.flat_machine.proofs.Pairs.{IsNobodys, IsJust, just_once, just_is, just_held, not_workers}
 
 -- the array holds it for nobody, for a ticket, or for a block
@@ -123,3 +124,25 @@ block_same F G b key last stays is = (
 -- a slot that a block holds isn't one that it doesn't
 pub apart : (held : ℕ → Holder → Bool) (p s b : ℕ) → held p (Block b) ≡ true → (held s (Block b) ≡ true → ⊥) → p ≡ s → ⊥
 apart held p s b is not same = not (subst (λ n. held n (Block b) ≡ true) same is)
+
+-- a state keeps what is true of another with the same records and writes, where its groups stand, each slot's holders and unit do, and no place of a block is touched
+pub history_as : {table : List (Option Group)} {drives : ℕ} {lost : ℕ → Bool} {failures : ℕ → ℕ} {held : ℕ → Holder → Bool} {tickets : ℕ → Option Waiting} {units : ℕ → Option Stored}
+    (F : Flat) (keys : ℕ → ℕ) → IsHistory F keys → 3 ≤ drives → drives ≤ 16 → GroupsStand (record F.groups { table = table }) drives
+    → ((s : ℕ) → HoldersStand (record F.groups { table = table }) keys s (held s) (tickets s))
+    → ((s : ℕ) → UnitStands F.groups.payload F.emitted F.writes keys s (class_at (record F.groups { table = table }) s) (tickets s) (units s))
+    → ((b : ℕ) → F.held (record_of b (keys b)).place (Block b) ≡ true
+    → (units (record_of b (keys b)).place ≡ F.units (record_of b (keys b)).place) × (held (record_of b (keys b)).place (Block b) ≡ true))
+    → IsHistory (record F { groups = record F.groups { table = table }; drives = drives; lost = lost; failures = failures; held = held; tickets = tickets; units = units }) keys
+history_as F keys is least most groups holders units places = record {
+  limits = record { sizes = is.limits.sizes; least = least; most = most; log = is.limits.log };
+  groups = groups;
+  records = is.records;
+  blocks = is.blocks;
+  chain = is.chain;
+  map = is.map;
+  writes = is.writes;
+  versions = is.versions;
+  holders = holders;
+  units = units;
+  written = λ b. block_same F _ b (keys b) refl (places b) (is.written b);
+}

@@ -9,7 +9,7 @@ use Rattle.flat_machine.specs.Flat.{Flat, IsArrays, for_ticket, for_block, IsKep
 use Rattle.flat_machine.specs.Cases.{ticketed, discarded}
 use Rattle.flat_machine.specs.History.{HoldersStand, UnitStands, WaitingStands, IsHistory}
 use Rattle.flat_machine.proofs.Pairs.{put_here, put_else, turned_else, just_one, turned_just, turned_free, IsJust}
-use Rattle.flat_machine.proofs.Slots.{nobody_stands, worker_nobody, ticket_stands, holders_same, units_same, unit_ended, block_same, apart}
+use Rattle.flat_machine.proofs.Slots.{nobody_stands, worker_nobody, ticket_stands, holders_same, units_same, unit_ended, history_as, apart}
 
 -- one slot changes, which no block held
 slot_kept : (F : Flat) (keys : ℕ → ℕ) (held : ℕ → Holder → Bool) (tickets : ℕ → Option Waiting) (units : ℕ → Option Stored) (s : ℕ) → IsHistory F keys
@@ -17,22 +17,10 @@ slot_kept : (F : Flat) (keys : ℕ → ℕ) (held : ℕ → Holder → Bool) (ti
     → ((t : ℕ) → (t ≡ s → ⊥) → held t ≡ F.held t) → ((t : ℕ) → (t ≡ s → ⊥) → tickets t ≡ F.tickets t) → ((t : ℕ) → (t ≡ s → ⊥) → units t ≡ F.units t)
     → HoldersStand F.groups keys s (held s) (tickets s) → UnitStands F.groups.payload F.emitted F.writes keys s (class_of F s) (tickets s) (units s)
     → IsHistory (record F { held = held; tickets = tickets; units = units }) keys
-slot_kept F keys held tickets units s is free rest others elsewhere here unit = record {
-  limits = is.limits;
-  groups = is.groups;
-  records = is.records;
-  blocks = is.blocks;
-  chain = is.chain;
-  map = is.map;
-  writes = is.writes;
-  versions = is.versions;
-  holders = λ t. holders t (cases_eq t s);
-  units = λ t. stored t (cases_eq t s);
-  written = λ b. block_same F (record F { held = held; tickets = tickets; units = units }) b (keys b) refl
-      (λ has. let away : (record_of b (keys b)).place ≡ s → ⊥ = apart F.held (record_of b (keys b)).place s b has (free b) in
-      (elsewhere (record_of b (keys b)).place away, ap (λ (h : Holder → Bool). h (Block b)) (rest (record_of b (keys b)).place away) ∙ has))
-      (is.written b);
-}
+slot_kept F keys held tickets units s is free rest others elsewhere here unit =
+    history_as F keys is is.limits.least is.limits.most is.groups (λ t. holders t (cases_eq t s)) (λ t. stored t (cases_eq t s))
+    (λ b has. let away : (record_of b (keys b)).place ≡ s → ⊥ = apart F.held (record_of b (keys b)).place s b has (free b) in
+    (elsewhere (record_of b (keys b)).place away, ap (λ (h : Holder → Bool). h (Block b)) (rest (record_of b (keys b)).place away) ∙ has))
   where
     holders : (t : ℕ) → (t ≡ s) ⊎ (t ≡ s → ⊥) → HoldersStand F.groups keys t (held t) (tickets t)
     holders t (inl e) = subst (λ n. HoldersStand F.groups keys n (held n) (tickets n)) (sym e) here

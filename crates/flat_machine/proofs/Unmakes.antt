@@ -16,9 +16,9 @@ use Rattle.extent_groups.proofs.Fresh.{no_members}
 use Rattle.flat_machine.specs.Groups.{class_below, GroupsStand}
 use Rattle.flat_machine.specs.Flat.{Flat, Holder, Worker, Ticket, Block, Shut, IsArrays, for_ticket, for_block, for_shut, Waiting, Write, Stored, waiting_unit, content_of, class_of, turned}
 use Rattle.flat_machine.specs.Moves.{IsIn, HasClaim, unmade}
-use Rattle.flat_machine.specs.History.{HoldersStand, UnitStands, BlockStands, IsHistory}
+use Rattle.flat_machine.specs.History.{HoldersStand, UnitStands, IsHistory}
 use Rattle.flat_machine.proofs.Pairs.{equal, unequal, not_workers, IsNobodys, IsJust, just_once, just_is, turned_just}
-use Rattle.flat_machine.proofs.Slots.{block_same, free_waits}
+use Rattle.flat_machine.proofs.Slots.{history_as, free_waits}
 
 -- the number of an unmade group alone holds the slot
 shut_stands : (groups : Groups) (keys : ℕ → ℕ) (s g : ℕ) (h : Holder → Bool) → s < 65536 → IsJust IsArrays h (Shut g) → g ≡ s / 128 → group_at groups g ≡ None → HoldersStand groups keys s h None
@@ -206,37 +206,23 @@ module _ (F : Flat) (keys : ℕ → ℕ) (w g : ℕ) (is : IsHistory F keys) (ma
   units s (inr ne) = subst (UnitStands F.groups.payload F.emitted F.writes keys s (class_of G s) (F.tickets s)) (sym (unit_else s ne))
       (subst (λ o. UnitStands F.groups.payload F.emitted F.writes keys s o (F.tickets s) (F.units s)) (sym (class_else s ne)) (is.units s))
 
-  written : (b : ℕ) → BlockStands G b (keys b)
-  written b = block_same F G b (keys b) refl stays (is.written b)
+  places : (b : ℕ) → F.held (record_of b (keys b)).place (Block b) ≡ true
+      → (G.units (record_of b (keys b)).place ≡ F.units (record_of b (keys b)).place) × (G.held (record_of b (keys b)).place (Block b) ≡ true)
+  places b has = (unit_else (record_of b (keys b)).place away, ap (λ (h : Holder → Bool). h (Block b)) (held_else (record_of b (keys b)).place away) ∙ has)
     where
-      stays : F.held (record_of b (keys b)).place (Block b) ≡ true
-          → (G.units (record_of b (keys b)).place ≡ F.units (record_of b (keys b)).place) × (G.held (record_of b (keys b)).place (Block b) ≡ true)
-      stays has = (unit_else (record_of b (keys b)).place away, ap (λ (h : Holder → Bool). h (Block b)) (held_else (record_of b (keys b)).place away) ∙ has)
-        where
-          away : (record_of b (keys b)).place / 128 ≡ g → ⊥
-          away same =
-              let some = ((is.holders (record_of b (keys b)).place).block b has).0 in
-              let at = ((is.written b).1 some).2.unit in
-              let of : IsIn F g (record_of b (keys b)).place = record {
-                group = same;
-                made = some_class (F.units (record_of b (keys b)).place) (class_of F (record_of b (keys b)).place) at.stored (is.units (record_of b (keys b)).place).there at.there;
-              } in
-              (claimed (record_of b (keys b)).place of).1 (Block b, for_block b, has)
+      away : (record_of b (keys b)).place / 128 ≡ g → ⊥
+      away same =
+          let some = ((is.holders (record_of b (keys b)).place).block b has).0 in
+          let at = ((is.written b).1 some).2.unit in
+          let of : IsIn F g (record_of b (keys b)).place = record {
+            group = same;
+            made = some_class (F.units (record_of b (keys b)).place) (class_of F (record_of b (keys b)).place) at.stored (is.units (record_of b (keys b)).place).there at.there;
+          } in
+          (claimed (record_of b (keys b)).place of).1 (Block b, for_block b, has)
 
   pub unmake_keeps : IsHistory (unmade F w g) keys
-  unmake_keeps = record {
-    limits = record { sizes = is.limits.sizes; least = is.limits.least; most = is.limits.most; log = is.limits.log };
-    groups = groups_fewer F.groups F.drives g is.groups within;
-    records = is.records;
-    blocks = is.blocks;
-    chain = is.chain;
-    map = is.map;
-    writes = is.writes;
-    versions = is.versions;
-    holders = holders;
-    units = λ s. units s (cases_eq (s / 128) g);
-    written = written;
-  }
+  unmake_keeps =
+      history_as F keys is is.limits.least is.limits.most (groups_fewer F.groups F.drives g is.groups within) holders (λ s. units s (cases_eq (s / 128) g)) places
 
 -- a slot has the holders that it had, or it was the worker's and is the group's number's
 pub unmade_at : (F : Flat) (keys : ℕ → ℕ) (w g : ℕ) → IsHistory F keys → group_at F.groups g ≢ None → ((s : ℕ) → IsIn F g s → HasClaim F w s) → (t : ℕ)
