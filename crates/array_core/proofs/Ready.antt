@@ -69,6 +69,17 @@ still_ready units lost failures a p unit scratch same fit ready =
       live = ready.live;
     }
 
+-- so all of it stands that is always true of an array
+pub still_stands : {D C Claims : Type 0} (units : D → List (List ℕ)) (lost : D → Bool) (failures : D → ℕ) (a : Inside D C) (p : Parts D) (unit scratch : List ℕ)
+    → Keeps (view_of units lost failures a.parts) (view_of units lost failures p) → IsFit units p → IsWhole (seen units lost failures a) × Claims × IsReady units a
+    → IsWhole (seen units lost failures (record a { parts = p })) × Claims
+    × IsReady units (record a { parts = p; unit = with_items a.unit unit; scratch = with_items a.scratch scratch })
+still_stands units lost failures a p unit scratch same fit stands = (
+  still_whole units lost failures a p same fit stands.0,
+  stands.1,
+  still_ready units lost failures a p unit scratch same fit stands.2,
+)
+
 -- with other places, of which as many are newest places, it is ready still
 pub places_ready : {D C : Type 0} (units : D → List (List ℕ)) (a : Inside D C) (places : Vec (Place C) Global) → AreCounts (kepts_of places.items) a.live → IsReady units a → IsReady units (record a { places = places })
 places_ready units a places counts ready = record { fit = ready.fit; unit = ready.unit; scratch = ready.scratch; live = counts }

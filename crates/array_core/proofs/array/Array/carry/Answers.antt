@@ -1,5 +1,5 @@
 use Rattle.array_parts.specs.Views.{view_of}
-use Rattle.array_core.proofs.Ready.{either_way, Keeps, still_whole, still_ready, keeps, uncarried_keeps}
+use Rattle.array_core.proofs.Ready.{either_way, Keeps, still_stands, keeps, uncarried_keeps}
 use Rattle.array_core.proofs.array.Array.carry.Goals as goal
 
 pub invariant_of-self : goal.invariant_of-self
@@ -7,8 +7,5 @@ invariant_of-self g c =
     let d = g.D.Drive in
     let a = view_of d.units d.lost d.failures c.self.inside.parts in
     let b = view_of d.units d.lost d.failures c.carry.new.self in
-    let same : Keeps a b = either_way {P = Keeps a b} c.carry.result (λ x w. keeps a b w.fares w.rest) (λ q e. uncarried_keeps a b _ _ q e) c.carry.ensures.ok c.carry.ensures.err in (
-      still_whole d.units d.lost d.failures c.self.inside c.carry.new.self same c.carry.ensures.fit c.self.invariant.0,
-      c.self.invariant.1,
-      still_ready d.units d.lost d.failures c.self.inside c.carry.new.self c.carry.new.unit c.carry.new.scratch same c.carry.ensures.fit c.self.invariant.2,
-    )
+    let same : Keeps a b = either_way {P = Keeps a b} c.carry.result (λ x w. keeps a b w.fares w.rest) (λ q e. uncarried_keeps a b _ _ q e) c.carry.ensures.ok c.carry.ensures.err in
+    still_stands d.units d.lost d.failures c.self.inside c.carry.new.self _ _ same c.carry.ensures.fit c.self.invariant
