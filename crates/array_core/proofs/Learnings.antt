@@ -1,5 +1,8 @@
 -- What is learned of a record that may be stale is the flat machine's.
-use Rattle.std.proofs.Common.{◌≡◌, ◌≤◌, ℕ, refl, sym, ap, ◌∙◌, subst, inl, inr, Option, Some, List}
+use Rattle.std.proofs.Common.{◌≡◌, ◌≤◌, ℕ, refl, sym, ap, ◌∙◌, subst, inl, inr, Option, Some, List, length, Vec}
+use Rattle.std.specs.Global.{Global}
+use Rattle.std.specs.Vec.{with_items}
+use Rattle.std.proofs.lemmas.List.{with_items_is}
 use Rattle.map_join.specs.declared.records.Record.{Record}
 use Rattle.map_join.specs.Record.{key_of, record_at}
 use Rattle.array_parts.specs.Views.{Loses, WasRead, FoundGone}
@@ -19,6 +22,10 @@ use Rattle.array_model.proofs.Finds.{newest_write}
 use Rattle.array_model.proofs.Newest.{newest_told, newest_is}
 use Rattle.array_model.proofs.Seeing.{seen_case}
 use Rattle.array_core.specs.Refused.{IsRefused}
+
+-- the payload that was seen is that of a vector that it was written to
+pub data_seen : (a b : ArrayView) (r : Record) (v : Vec ℕ Global) (ws : List ℕ) → length ws ≡ v.len → WasSeen a b r (Data (Payload ws)) → WasSeen a b r (Data (Payload (with_items v ws).items))
+data_seen a b r v ws long seen = subst (λ (l : List ℕ). WasSeen a b r (Data (Payload l))) (sym (with_items_is v ws long)) seen
 
 -- the array tells this as the newest record of the block, and the one asked for isn't greater
 pub record Tells (a : ArrayView) (r n : Record) : Type 0 where

@@ -1,12 +1,10 @@
-use Rattle.std.proofs.Common.{◌≡◌, List, ℕ, sym, subst, inr, rules}
-use Rattle.std.proofs.lemmas.List.{with_items_is}
-use Rattle.std.specs.Vec.{with_items}
-use Rattle.flat_machine.specs.Flat.{Payload}
-use Rattle.flat_machine.specs.Steps.{Data, Stale}
+use Rattle.std.proofs.Common.{inr, rules}
+use Rattle.flat_machine.specs.Steps.{Stale}
 use Rattle.flat_machine.specs.Cases.{IsBehind}
 use Rattle.array_model.specs.Reads.{WasSeen}
 use Rattle.array_model.proofs.Newest.{newest_is}
 use Rattle.array_model.proofs.Seeing.{ahead_case, seen_case, unseen_case}
+use Rattle.array_core.proofs.Learnings.{data_seen}
 use Rattle.array_core.proofs.array.Array.read_at.Goals as goal
 
 pub returns-in-Err-clause-flat : goal.returns-in-Err-clause-flat
@@ -20,12 +18,8 @@ returns-in-Err-no_payload-clause-flat g c F shows =
 pub returns-in-Ok-Data-clause-flat : goal.returns-in-Ok-Data-clause-flat
 returns-in-Ok-Data-clause-flat g c F shows =
     let newest = c.in_default.ensures.ok in
-    let payload = (with_items c.in-Ok.payload c.look.new.payload).items in
-    let items : payload ≡ c.look.new.payload = with_items_is c.in-Ok.payload c.look.new.payload (search rules) in
-    let seen = Data (Payload payload) in
-    let here : WasSeen c.args.self.now c.look.new.self c.args.asked (Data (Payload c.look.new.payload)) = search rules in
-    let was : WasSeen c.args.self.now c.look.new.self c.args.asked seen = subst (λ (l : List ℕ). WasSeen c.args.self.now c.look.new.self c.args.asked (Data (Payload l))) (sym items) here in
-    seen_case c.args.self.now c.look.new.self F c.args.asked c.in_default.field-0 seen shows newest.0 newest.1 c.look.ensures.rest was
+    let was = data_seen c.args.self.now c.look.new.self c.args.asked c.in-Ok.payload c.look.new.payload (search rules) (search rules) in
+    seen_case c.args.self.now c.look.new.self F c.args.asked c.in_default.field-0 _ shows newest.0 newest.1 c.look.ensures.rest was
 
 pub returns-in-Ok-Stale-clause-flat : goal.returns-in-Ok-Stale-clause-flat
 returns-in-Ok-Stale-clause-flat g c F shows =

@@ -1,8 +1,8 @@
-use Rattle.std.proofs.Common.{◌≡◌, List, ℕ, subst, sym, rules}
+use Rattle.std.proofs.Common.{◌≡◌, subst, sym, rules}
 use Rattle.std.specs.Vec.{with_items}
 use Rattle.std.proofs.lemmas.List.{with_items_is}
 use Rattle.flat_machine.specs.Flat.{Flat, Payload}
-use Rattle.flat_machine.specs.Steps.{Data, Stale}
+use Rattle.flat_machine.specs.Steps.{Stale}
 use Rattle.flat_machine.specs.Cases.{IsBehind}
 use Rattle.flat_machine.specs.Learning.{LearnedCase}
 use Rattle.array_parts.specs.Views.{WasRead}
@@ -10,7 +10,7 @@ use Rattle.array_model.specs.Reads.{WasSeen}
 use Rattle.array_model.specs.Represents.{ShowsArray}
 use Rattle.array_model.proofs.Newest.{newest_is}
 use Rattle.array_core.specs.Reads.{Lesson}
-use Rattle.array_core.proofs.Learnings.{learned_here, learned_there, unlearned_ahead, unlearned_here, unlearned_there, unlearned_refused}
+use Rattle.array_core.proofs.Learnings.{data_seen, learned_here, learned_there, unlearned_ahead, unlearned_here, unlearned_there, unlearned_refused}
 use Rattle.array_core.proofs.array.Array.read_or_learn.Goals as goal
 
 pub returns-in-Err-clause-flat : goal.returns-in-Err-clause-flat
@@ -24,12 +24,9 @@ returns-in-Err-no_payload-clause-flat g c F shows =
 pub returns-in-Ok-Data-clause-flat : goal.returns-in-Ok-Data-clause-flat
 returns-in-Ok-Data-clause-flat g c F shows =
     let newest = c.in-Ok.ensures.ok in
-    let payload = (with_items c.in-Ok-no_payload.payload c.look.new.payload).items in
-    let items : payload ≡ c.look.new.payload = with_items_is c.in-Ok-no_payload.payload c.look.new.payload (search rules) in
-    let here : WasSeen c.args.self.now c.look.new.self c.args.asked (Data (Payload c.look.new.payload)) = search rules in
-    let was : WasSeen c.args.self.now c.look.new.self c.args.asked (Data (Payload payload)) = subst (λ (l : List ℕ). WasSeen c.args.self.now c.look.new.self c.args.asked (Data (Payload l))) (sym items) here in
+    let was = data_seen c.args.self.now c.look.new.self c.args.asked c.in-Ok-no_payload.payload c.look.new.payload (search rules) (search rules) in
     subst (λ (l : Lesson). (G : Flat) × LearnedCase F c.args.asked l.told (Payload l.payload) G × ShowsArray c.look.new.self G) (sym c.of.ensures)
-    (learned_here c.args.self.now c.look.new.self F c.args.asked c.in-Ok.newest payload shows (record { told = newest.0; most = newest.1 }) c.look.ensures.rest was)
+    (learned_here c.args.self.now c.look.new.self F c.args.asked c.in-Ok.newest _ shows (record { told = newest.0; most = newest.1 }) c.look.ensures.rest was)
 
 pub returns-in-Ok-payload_at-clause-flat : goal.returns-in-Ok-payload_at-clause-flat
 returns-in-Ok-payload_at-clause-flat g c F shows =
