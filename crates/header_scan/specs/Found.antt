@@ -13,10 +13,6 @@ use Rattle.header_scan.specs.Faults.{Bytes, between, AreFine}
 abbrev pub key_in : List ℕ → ℕ → ℕ
 key_in keys block = slice_index keys block
 
--- each is a record's key, or 0
-abbrev pub AreWritten : List ℕ → Type 0
-AreWritten keys = (block : ℕ) → 0 < key_in keys block → 2 ^ 32 ≤ key_in keys block
-
 -- the slot of the record that a key tells
 abbrev pub place_in : ℕ → ℕ
 place_in key = key % 2 ^ 16

@@ -1,8 +1,9 @@
 // The newest key of each block that headers told so far, in a table by block.
-ghost use Rattle.std.specs.Prelude.{◌≡◌, ◌<◌, ◌≤◌, length, IfOk};
+ghost use Rattle.std.specs.Prelude.{◌≡◌, ◌^◌, ◌<◌, ◌≤◌, length, IfOk};
 ghost use Rattle.map_join.specs.Maps.{at, IsSame, join, only};
 ghost use Rattle.map_join.specs.Record.{key_of, record_at};
-ghost use Rattle.header_scan.specs.Found.{AreWritten, key_in};
+ghost use Rattle.map_join.specs.Tables.{IsTable};
+ghost use Rattle.header_scan.specs.Found.{key_in};
 
 use map_join::{BlockMap, MapRefusal, Record};
 use std::alloc::{AllocError, Global};
@@ -16,13 +17,13 @@ pub(crate) struct Keys {
 
 impl Model for Keys {
     ghost use Rattle.std.specs.Prelude.{List, ℕ};
-    ghost use Rattle.header_scan.specs.Found.{AreWritten};
+    ghost use Rattle.map_join.specs.Tables.{IsTable};
 
     ghost Value = { List ℕ };
 
     ghost view = { λ k. k.keys.items };
 
-    ghost invariant = { λ k. AreWritten k.keys.items };
+    ghost invariant = { λ k. IsTable k.keys.items };
 }
 
 impl Keys {
@@ -40,7 +41,6 @@ impl Keys {
     pub(crate) fn get(&self, block: u32) -> Option<Record>
         requires { block < length self.now }
         ensures told { result ≡ record_at block (key_in self.now block) }
-        ensures written { AreWritten self.now }
     {
         Record::of_key(block, self.keys[block as usize])
     }
@@ -56,20 +56,11 @@ impl Keys {
         self.keys[told.block as usize] = told.key();
     }
 
-    /// The map of these keys, of all blocks that there are.
-    pub(crate) fn to_map(&self, alloc: Global, blocks: u32) -> Result<BlockMap, MapRefusal>
-        requires { length self.now ≡ blocks }
+    /// The map of these keys.
+    pub(crate) fn to_map(&self, alloc: Global) -> Result<BlockMap, MapRefusal>
+        requires { length self.now ≤ 2 ^ 32 }
         ensures { IfOk result (λ map. IsSame (at map) (key_in self.now)) }
     {
-        let mut map = BlockMap::new(alloc);
-        for block in 0..blocks {
-            if let Some(record) = self.get(block) {
-                match map.take(alloc, record) {
-                    Ok(()) => {}
-                    Err(refusal) => return Err(refusal),
-                }
-            }
-        }
-        Ok(map)
+        BlockMap::of_table(alloc, &self.keys)
     }
 }

@@ -152,7 +152,7 @@ pub fn scan_groups<U: Units>(
     };
     match found.twice(alloc, shape.blocks) {
         Some((block, one, other)) => Err(ScanFault::Twice(block, one, other)),
-        None => match found.newest.to_map(alloc, shape.blocks) {
+        None => match found.newest.to_map(alloc) {
             Ok(map) => Ok(map),
             Err(_) => Err(ScanFault::Memory),
         },

@@ -6,4 +6,5 @@ pub mod Merging
 pub mod Placing
 pub mod Rising
 pub mod Spelling
+pub mod Tabled
 pub mod Walks

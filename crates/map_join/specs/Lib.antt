@@ -6,3 +6,4 @@ pub mod Lists
 pub mod Live
 pub mod Marks
 pub mod Numbers
+pub mod Tables

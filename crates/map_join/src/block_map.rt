@@ -1,11 +1,12 @@
 // A block map: of each block the greatest key that it took.
-ghost use Rattle.std.specs.Prelude.{◌≡◌, ◌≢◌, ℕ, ◌<◌, ◌≤◌, ◌^◌, List, [], ◌∷◌, ◌++◌, IsOk, IfOk, IfSome, IfNone, MatchOption, OnOk, OnErr, IsTrue, ◌↔◌, max, unwrap_or};
+ghost use Rattle.std.specs.Prelude.{◌≡◌, ◌≢◌, ◌==◌, ℕ, ◌<◌, ◌≤◌, ◌^◌, List, [], ◌∷◌, ◌++◌, IsOk, IfOk, IfSome, IfNone, MatchOption, OnOk, OnErr, IsTrue, ◌↔◌, max, unwrap_or, length, slice_index};
 ghost use Rattle.map_join.specs.Record.{record_at, key_of};
 ghost use Rattle.map_join.specs.Maps.{at, IsSame, IsBelow, join, lone, only, IsMapOf, IsListOf, IsPartlyJoined, IsDifference, AreInOrder};
 ghost use Rattle.map_join.specs.Numbers.{refusal_number};
-ghost use Rattle.std.specs.List.{filter_map};
+ghost use Rattle.std.specs.List.{filter_map, list_all};
 ghost use Rattle.std.specs.Ordering.{nat_cmp};
-ghost use Rattle.std.specs.BTreeMap.{IsOrdered, IsUnchanged, Updates, get};
+ghost use Rattle.std.specs.BTreeMap.{IsOrdered, IsUnchanged, IsFromIterResult, Updates, get};
+ghost use Rattle.map_join.specs.Tables.{IsTable, entries_from};
 
 use crate::records::Record;
 use std::alloc::{AllocError, AllocFailed, Global};
@@ -57,6 +58,24 @@ impl BlockMap {
         BlockMap {
             keys: BTreeMap::new(alloc),
         }
+    }
+
+    /// The map of a table of keys by block, block 0's first: nothing of a block where 0 stands, nor of one behind the table's
+    /// end. It is made at once, which takes a fraction of what a take of each would. Memory is wanted only where there is
+    /// a key.
+    pub fn of_table(alloc: Global, keys: &[u64]) -> Result<BlockMap, MapRefusal>
+        requires many { length keys.now ≤ 2 ^ 32 }
+        requires written { IsTable keys.now }
+        ensures table { IfOk result (λ map. IsSame (at map) (slice_index keys.now)) }
+        ensures there { IsSame (slice_index keys.now) (λ _. 0) → IsOk result }
+    {
+        if has_none(keys) {
+            return Ok(BlockMap::new(alloc));
+        }
+        let Ok(keys) = entered(alloc, keys) else {
+            return Err(MapRefusal::Memory);
+        };
+        Ok(BlockMap { keys })
     }
 
     /// The newest record of the block that the map took.
@@ -202,6 +221,27 @@ impl BlockMap {
             Err(_) => Err(MapRefusal::Memory),
         }
     }
+}
+
+// Whether a table has no key.
+fn has_none(keys: &[u64]) -> bool
+    ensures { result ≡ list_all (λ key. key == 0) keys.now }
+{
+    keys.iter().all(|key| *key == 0)
+}
+
+// The entries of a table that has keys by block.
+fn entered(alloc: Global, keys: &[u64]) -> Result<BTreeMap<u32, u64>, AllocError>
+    requires { length keys.now ≤ 2 ^ 32 }
+    ensures { IfOk result (IsFromIterResult nat_cmp (entries_from 0 keys.now)) }
+{
+    let mut entries = Vec::with_capacity(alloc, keys.len())?;
+    for (block, key) in keys.iter().enumerate() {
+        if *key != 0 {
+            entries.push((block as u32, *key))?;
+        }
+    }
+    entries.into_iter().collect(alloc)
 }
 
 // Gives a block the greater of its key and this one, by one search for its place.

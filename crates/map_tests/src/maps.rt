@@ -106,6 +106,18 @@ fn a_map_without_blocks_is_covered_by_each(rt: HostRuntime) -> Result<(), Fail> 
     Ok(())
 }
 
+#[test]
+fn a_table_of_keys_is_made_a_map(rt: HostRuntime) -> Result<(), Fail> {
+    let keys = [0, 0x2_0001_0082, 0, 0x1_0000_0007];
+    let map = BlockMap::of_table(rt.alloc(), &keys)?;
+    let list = map.to_list(rt.alloc())?;
+    assert!(rt; list.len() == 2);
+    assert!(rt; (list[0].block, list[0].version, list[0].hop, list[0].place) == (1, 2, 1, 130));
+    assert!(rt; (list[1].block, list[1].version, list[1].hop, list[1].place) == (3, 1, 0, 7));
+    assert!(rt; map.get(4) == None);
+    Ok(())
+}
+
 // Each growth may be refused here, one in a run: then the first blocks are merged, and merging again ends it.
 #[test]
 fn a_refused_merge_has_the_first_blocks_and_goes_on(rt: HostRuntime) -> Result<(), Fail> {
