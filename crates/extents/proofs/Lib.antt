@@ -3,3 +3,4 @@ pub mod Placed
 pub mod Setting
 pub mod Stamps
 pub mod Headers
+pub mod Zeros

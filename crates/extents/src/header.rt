@@ -41,11 +41,22 @@ impl HeaderFault {
     }
 }
 
-/// Whether all bytes are zero.
+/// Whether all bytes are zero, without a branch for each.
+fn are_zero(bytes: &[u8]) -> bool
+    ensures { IsTrue result ↔ (bytes.now ≡ replicate (length bytes.now) 0) }
+{
+    let mut any = 0;
+    for byte in bytes {
+        any |= *byte;
+    }
+    any == 0
+}
+
+/// Whether all bytes of a header are zero.
 fn is_blank(bytes: &[u8; 32]) -> bool
     ensures { IsTrue result ↔ (bytes.now ≡ replicate 32 0) }
 {
-    &bytes[..] == &ZEROS[..]
+    are_zero(bytes)
 }
 
 /// Whether the bytes begin with the mark.
@@ -59,7 +70,7 @@ fn is_marked(bytes: &[u8; 32]) -> bool
 fn ends_in_zeros(bytes: &[u8; 32]) -> bool
     ensures { IsTrue result ↔ (drop 16 bytes.now ≡ replicate 16 0) }
 {
-    &bytes[REST_AT..] == &ZEROS[REST_AT..]
+    are_zero(&bytes[REST_AT..])
 }
 
 /// The header of a record.
