@@ -1,92 +1,161 @@
-// What a worker moves next.
-ghost use Rattle.std.specs.Prelude.{◌≡◌, ◌<◌, MatchOption, IfOk, Some, None};
-ghost use Rattle.array_model.specs.Views.{key_at};
+// What a worker moves next, and into which slot.
+ghost use Rattle.std.specs.Prelude.{◌≡◌, ◌<◌, MatchOption, true, false, Some, None};
 ghost use Rattle.migrator.specs.Ages.{IsOldest, IsMarked};
-ghost use Rattle.migrator.specs.Slots.{AreAppendSlots};
-ghost use Rattle.array_book.specs.Planned.{IsPlanned, IsPlugOf, IsCleanOf, IsMoveBy};
+ghost use Rattle.array_book.specs.Planned.{IsPlanned, IsFirstBehind, IsPlugOf, IsCleanOf, IsMoveBy, turn_of};
 
 use crate::asks::Running;
 use crate::claim::Sizes;
 use crate::kept::Kept;
 use cleaner::{Move, clean_plan_unplugged, plug_plan_counted};
+use extent_groups::SLOTS;
 use extents::Drive;
-use migrator::{append_slots, first_append, wants_demotion};
+use migrator::{Free, first_append};
 use slot_words::Naming;
-use std::alloc::{AllocError, Global};
 use tiering::Any;
 
-// A block that goes into the first slot of a list that can be claimed.
+// A block that is to be moved.
 #[derive(Drop)]
 pub(crate) struct Plan {
     pub(crate) block: u32,
-    pub(crate) slots: Vec<u16>,
+    // The slot that it goes into, if there is one.
+    pub(crate) slot: Option<u16>,
+    // Whether it goes into the next slot where the write log goes on, where that one can't be claimed.
+    pub(crate) demotes: bool,
+    // The write group, whose slots come first.
+    pub(crate) group: Option<u16>,
     // Whether the write log goes on behind the slot.
     pub(crate) appends: bool,
+}
+
+// The slot that a plan tries where it can't have this one: of a demotion the next where the write log goes on by now.
+pub(crate) fn slot_after<D: Drive, N: Naming + Sizes>(
+    kept: &Kept<D, N>,
+    plan: &Plan,
+    slot: u16,
+) -> Option<u16>
+    ensures next { plan.now.demotes ≡ true → IsFirstBehind kept.now (λ other. turn_of plan.now.group slot < turn_of plan.now.group other) result }
+    ensures none { plan.now.demotes ≡ false → result ≡ None }
+{
+    if !plan.demotes {
+        return None;
+    }
+    let after = After {
+        group: plan.group,
+        turn: turn_of(plan.group, slot),
+    };
+    first_behind(kept, &after)
+}
+
+// The first of these slots where the write log goes on.
+fn first_behind<D: Drive, N: Naming + Sizes, F: Free>(kept: &Kept<D, N>, free: &F) -> Option<u16>
+    ensures { IsFirstBehind kept.now (F.free free.now) result }
+{
+    let array = &kept.array;
+    let running = Running { array };
+    first_append(&kept.end, array.groups(), &running, free)
+}
+
+// The slots whose turn comes after this one.
+#[derive(Drop)]
+struct After {
+    group: Option<u16>,
+    turn: u32,
+}
+
+impl Free for After {
+    ghost free = { λ after slot. after.turn < turn_of after.group slot };
+
+    fn is_free(&self, slot: u16) -> bool {
+        self.turn < turn_of(self.group, slot)
+    }
+}
+
+// A slot's turn where the write log goes on: those of the write group come first, then all others by number.
+fn turn_of(group: Option<u16>, slot: u16) -> u32
+    ensures { result ≡ turn_of group slot }
+{
+    match group {
+        Some(group) if group == slot / SLOTS => u32::from(slot % SLOTS),
+        _ => u32::from(SLOTS) + u32::from(slot),
+    }
 }
 
 // What is moved next: a demotion where fewer mirrored slots are free than `low`, else a plug, else a clean. The block's number
 // is below `blocks`.
 pub(crate) fn plan_in<D: Drive, N: Naming + Sizes>(
     kept: &mut Kept<D, N>,
-    alloc: Global,
     mirrors: &[u16],
     low: u32,
-) -> Result<Option<Plan>, AllocError>
-    ensures block { IfOk result (λ found. MatchOption found (Unit {0}) (λ plan. plan.block < N.blocks)) }
-    ensures planned { IfOk result (λ found. MatchOption found (Unit {0}) (IsPlanned kept.old)) }
+) -> Option<Plan>
+    ensures block { MatchOption result (Unit {0}) (λ plan. plan.block < N.blocks) }
+    ensures planned { MatchOption result (Unit {0}) (IsPlanned kept.old) }
     ensures same { kept.new ≡ kept.old }
 {
-    if wants_demotion(free_among(kept, mirrors), low) {
+    if wants_demotion(kept, mirrors, low) {
         if let Some(block) = oldest_mirrored(kept) {
-            let slots = slots_behind(kept, alloc)?;
-            return Ok(Some(Plan {
-                block,
-                slots,
-                appends: true,
-            }));
+            return Some(demotion(kept, block));
         }
     }
     if let Some(plan) = plug_of(kept) {
-        return moved(kept, alloc, plan, false);
+        return moved(kept, plan, false);
     }
     match clean_of(kept) {
-        Some(plan) => moved(kept, alloc, plan, true),
-        None => Ok(None),
+        Some(plan) => moved(kept, plan, true),
+        None => None,
+    }
+}
+
+// The plan of a demotion.
+fn demotion<D: Drive, N: Naming + Sizes>(kept: &Kept<D, N>, block: u32) -> Plan
+    ensures block { result.block ≡ block }
+    ensures slot { IsFirstBehind kept.now (λ slot. Unit {0}) result.slot }
+    ensures goes { (result.demotes ≡ true) × (result.group ≡ kept.now.end.group) × (result.appends ≡ true) }
+{
+    Plan {
+        block,
+        slot: first_behind(kept, &Any),
+        demotes: true,
+        group: kept.end.group(),
+        appends: true,
     }
 }
 
 // The plan of a move, where its block is one of the array.
-fn moved<D: Drive, N: Naming + Sizes>(
-    kept: &Kept<D, N>,
-    alloc: Global,
-    plan: Move,
-    appends: bool,
-) -> Result<Option<Plan>, AllocError>
-    ensures block { IfOk result (λ found. MatchOption found (Unit {0}) (λ plan. plan.block < N.blocks)) }
-    ensures moves { IfOk result (λ found. MatchOption found (Unit {0}) (IsMoveBy plan appends)) }
+fn moved<D: Drive, N: Naming + Sizes>(kept: &Kept<D, N>, plan: Move, appends: bool) -> Option<Plan>
+    ensures block { MatchOption result (Unit {0}) (λ plan. plan.block < N.blocks) }
+    ensures moves { MatchOption result (Unit {0}) (IsMoveBy plan appends) }
 {
     kept.stands();
     if plan.block >= kept.array().shape().blocks {
-        return Ok(None);
+        return None;
     }
-    let mut slots = Vec::new(alloc);
-    slots.push(plan.to)?;
-    Ok(Some(Plan {
+    Some(Plan {
         block: plan.block,
-        slots,
+        slot: Some(plan.to),
+        demotes: false,
+        group: None,
         appends,
-    }))
+    })
 }
 
-// How many of the slots the array keeps nothing of.
-fn free_among<D: Drive, N: Naming + Sizes>(kept: &Kept<D, N>, mirrors: &[u16]) -> u32 {
-    let mut free = 0u32;
+// Whether the array keeps nothing of fewer of these slots than `low`. It looks no further where too many are kept.
+fn wants_demotion<D: Drive, N: Naming + Sizes>(
+    kept: &Kept<D, N>,
+    mirrors: &[u16],
+    low: u32,
+) -> bool {
+    let Some(mut spare) = mirrors.len().checked_sub(low as usize) else {
+        return true;
+    };
     for slot in mirrors {
-        if !kept.array.is_held(*slot) {
-            free = free.saturating_add(1);
+        if kept.array.is_held(*slot) {
+            if spare == 0 {
+                return true;
+            }
+            spare -= 1;
         }
     }
-    free
+    false
 }
 
 // The block in a mirrored group that was written longest ago.
@@ -101,17 +170,6 @@ fn oldest_mirrored<D: Drive, N: Naming + Sizes>(kept: &mut Kept<D, N>) -> Option
         Some(block) if block < blocks => Some(block),
         _ => None,
     }
-}
-
-// The slots where the write log goes on.
-fn slots_behind<D: Drive, N: Naming + Sizes>(
-    kept: &Kept<D, N>,
-    alloc: Global,
-) -> Result<Vec<u16>, AllocError>
-    ensures { IfOk result (λ slots. AreAppendSlots kept.now.end kept.now.array.parts.groups (key_at kept.now.array) slots.items) }
-{
-    let running = Running { array: &kept.array };
-    append_slots(alloc, &kept.end, kept.array.groups(), &running)
 }
 
 // A hole that can be plugged.

@@ -5,6 +5,7 @@ ghost use Rattle.step_core.specs.Told.{Lesson};
 ghost use Rattle.map_words.specs.Answers.{HasFound, IsNewest, key_in};
 ghost use Rattle.flat_machine.specs.declared.refusal.Refusal.TheVariants as refusal;
 ghost use Rattle.migrator.specs.Slots.{end_at};
+ghost use Rattle.slot_words.specs.Places.{slots_of};
 ghost use Rattle.array_book.specs.Takes.{controller_of, taker_of, other_of, AreSame, HasAsked, HasMigrated, HasRead, Took, Learnt, IsTold};
 ghost use Rattle.array_book.specs.declared.fault.WorkFault.TheVariants.{Core};
 
@@ -16,15 +17,15 @@ use crate::gate::{Gate, Point};
 use crate::kept::{
     Kept, appended_in, commit_fresh_in, commit_in, copy_in, discard_in, fill_in, read_in,
 };
-use crate::plan::{Plan, plan_in};
+use crate::plan::{Plan, plan_in, slot_after};
 use crate::settling::Ended;
 use extents::Drive;
 use flat_machine::Refusal;
 use map_join::Record;
 use map_words::Taker;
-use slot_words::Pass;
+use slot_words::{Pass, SlotWords};
 use std::alloc::Global;
-use std::sync::Wait;
+use std::sync::{Mutex, Wait};
 use step_core::{Done, Emitted, Reading, Ticket};
 
 /// One thread's hands on a Book: a Pass, and a Taker of each controller.
@@ -281,10 +282,11 @@ impl<
         ensures fault { result ≢ Err (Core refusal.Memory) }
         ensures rest { (self.new.number ≡ self.old.number) × (self.new.book ≡ self.old.book) }
     {
-        let Some(plan) = self.plan(rt, alloc, low)? else {
+        let Some(plan) = self.plan(rt, low) else {
             return Ok(Migration::Idle);
         };
-        let Some(claim) = self.claim(&plan.slots) else {
+        let book = self.book;
+        let Some(claim) = claim_planned(rt, &book.words, &book.kept, &mut self.pass, &plan) else {
             return Ok(Migration::NoRoom);
         };
         gate.reach(Point::Claimed, rt);
@@ -303,19 +305,11 @@ impl<
     }
 
     // What is moved next.
-    fn plan<R: Wait>(&self, rt: &R, alloc: Global, low: u32) -> Result<Option<Plan>, WorkFault>
-        ensures block { IfOk result (λ found. MatchOption found (Unit {0}) (λ plan. plan.block < self.now.book.now.blocks)) }
-        ensures fault { result ≢ Err (Core refusal.Memory) }
+    fn plan<R: Wait>(&self, rt: &R, low: u32) -> Option<Plan>
+        ensures { MatchOption result (Unit {0}) (λ plan. plan.block < self.now.book.now.blocks) }
     {
-        match plan_in(
-            &mut *self.book.kept.lock(rt),
-            alloc,
-            &self.book.mirrors,
-            low,
-        ) {
-            Ok(found) => Ok(found),
-            Err(_) => Err(WorkFault::Memory),
-        }
+        let book = self.book;
+        plan_in(&mut *book.kept.lock(rt), &book.mirrors, low)
     }
 
     // Copies the block into the claimed slot; refused it is released.
@@ -441,6 +435,27 @@ impl<
         } = self;
         Ended { pass, even, odd }
     }
+}
+
+// A claim of a plan's slot, or where that is another's of the next that the plan tries. The lock is taken for each next one
+// alone, and no more are tried than there are slots.
+fn claim_planned<R: Wait, D: Drive, N: slot_words::Naming + Sizes>(
+    rt: &R,
+    words: &SlotWords<N>,
+    kept: &Mutex<Kept<D, N>>,
+    pass: &mut Pass<N>,
+    plan: &Plan,
+) -> Option<slot_words::Claim<N>>
+    requires { slots_of N.table ≡ 65536 }
+{
+    let mut slot = plan.slot?;
+    for _ in 0..65_536u32 {
+        match words.claim(pass, slot) {
+            Ok(claim) => return Some(claim),
+            Err(_) => slot = slot_after(&*kept.lock(rt), plan, slot)?,
+        }
+    }
+    None
 }
 
 // Commits what a plan placed, and notes where the write log goes on, if the plan appends.
