@@ -1,12 +1,12 @@
 -- The number at the front of a text, before the first separator.
-use Rattle.std.proofs.Common.{◌≡◌, ℕ, zero, suc, ◌+◌, ◌-◌, ◌*◌, ◌<◌, ◌≤◌, ◌^◌, List, [], ◌∷◌, ◌++◌, length, get_or, take, drop, refl, sym, ap, ◌∙◌, arith, decimal, length-take, inl, inr}
+use Rattle.std.proofs.Common.{◌≡◌, ℕ, zero, suc, ◌+◌, ◌-◌, ◌*◌, ◌<◌, ◌≤◌, ◌^◌, List, [], ◌∷◌, ◌++◌, length, get_or, take, drop, min, refl, sym, ap, ◌∙◌, arith, decimal, length-take, inl, inr}
 use Rattle.std.specs.Int.{IsInRange}
 use Rattle.std.specs.List.{All, onto_first, join_with_byte}
 use Rattle.std.proofs.lemmas.Bool.{cases_lt, eqb-true}
 use Rattle.std.proofs.lemmas.List.{take_more, take_all, get_or-take}
 use Rattle.std.proofs.lemmas.List.Elements.{All-from_get_or}
 use Rattle.std.proofs.lemmas.List.Splits.{slice_split-cons_no, join_with_byte-slice_split}
-use Rattle.script_words.specs.Number.{IsWritable}
+use Rattle.script_words.specs.Number.{IsNumeral, IsWritable}
 use Rattle.script_words.specs.Parts.{parts}
 use Rattle.script_words.proofs.Digits.{read_on, grown, digit_of, length_of, lead_of, told_number}
 use Rattle.script_words.proofs.Numbers.{some_part}
@@ -14,10 +14,9 @@ use Rattle.script_words.proofs.Splits.{Differs, IsThere, cut_at, uncut, not_true
 
 -- the digits in front of a place, and the number that they spell
 pub record IsFront (separator : ℕ) (text : List ℕ) (at number : ℕ) : Type 0 where
-  pub few : at ≤ 10
+  pub few : at ≤ 11
   pub digits : (k : ℕ) → k < at → IsInRange 48 57 (get_or text k 0)
   pub whole : (k : ℕ) → 0 ≤ k → k < at → IsThere separator text k → ⊥
-  pub lead : 1 < at → get_or text 0 0 ≡ 48 → ⊥
   pub told : number ≡ read_on 0 (take at text)
   pub small : number < 10 ^ at
 
@@ -26,7 +25,6 @@ no_front separator text = record {
   few = omega arith;
   digits = λ k below. absurd (omega (arith, below));
   whole = λ k low below. absurd (omega (arith, below));
-  lead = λ more. absurd (omega (arith, more));
   told = refl;
   small = omega arith;
 }
@@ -36,10 +34,6 @@ no_front separator text = record {
 read_end : (n : ℕ) (front : List ℕ) (c : ℕ) → read_on n (front ++ c ∷ []) ≡ 10 * read_on n front + (c - 48)
 read_end n [] c = refl
 read_end n (d ∷ front) c = read_end (10 * n + (d - 48)) front c
-
-read_one : (text : List ℕ) → 0 < length text → read_on 0 (take 1 text) ≡ get_or text 0 0 - 48
-read_one [] some = absurd (omega arith)
-read_one (d ∷ text) some = omega arith
 
 whole_more : (separator : ℕ) (text : List ℕ) (at : ℕ) → (get_or text at 0 ≡ separator → ⊥)
     → ((k : ℕ) → 0 ≤ k → k < at → IsThere separator text k → ⊥)
@@ -62,65 +56,54 @@ digits_more text at digit digits k below =
           rw e digit
     ]
 
-lead_more : (separator : ℕ) (text : List ℕ) (at number : ℕ) → at < length text → (at ≡ 1 → number ≡ 0 → ⊥)
-    → IsFront separator text at number → 1 < at + 1 → get_or text 0 0 ≡ 48 → ⊥
-lead_more separator text at number inside lead front more zero_first =
-    elim (cases_lt 1 at) [
-      | inl longer ↦ front.lead longer zero_first
-      | inr last ↦
-          let one : at ≡ 1 = omega arith in
-          let is : number ≡ get_or text 0 0 - 48 = (rw one at front.told) ∙ read_one text (omega arith) in
-          lead one (omega (arith, is, zero_first))
-    ]
-
-pub front_more : (separator : ℕ) (text : List ℕ) (at number value : ℕ) → at < length text → at < 10
+pub front_more : (separator : ℕ) (text : List ℕ) (at number value : ℕ) → at < length text → at < 11
     → (get_or text at 0 ≡ separator → ⊥) → IsInRange 48 57 (get_or text at 0) → value ≡ get_or text at 0 - 48
-    → (at ≡ 1 → number ≡ 0 → ⊥) → IsFront separator text at number → IsFront separator text (at + 1) (10 * number + value)
-front_more separator text at number value inside few other digit is lead front = record {
+    → IsFront separator text at number → IsFront separator text (at + 1) (10 * number + value)
+front_more separator text at number value inside few other digit is front = record {
   few = omega arith;
   digits = digits_more text at digit front.digits;
   whole = whole_more separator text at other front.whole;
-  lead = lead_more separator text at number inside lead front;
   told = rw (take_more text at 0 inside, front.told, is) (sym (read_end 0 (take at text) (get_or text at 0)));
   small = rw is (grown number at (get_or text at 0) front.small (omega (arith, digit)));
 }
 
 -- ---- the number
 
-front_number : (separator : ℕ) (text : List ℕ) (at number : ℕ) → 0 < at → at ≤ length text → IsFront separator text at number
+front_number : (separator : ℕ) (text : List ℕ) (at number : ℕ) → at ≤ length text → IsNumeral text at → IsFront separator text at number
     → IsWritable number × (take at text ≡ decimal number)
-front_number separator text at number some inside front =
+front_number separator text at number inside numeral front =
     let long : length (take at text) ≡ at = omega (arith, length-take at text) in
     told_number (take at text) number
     (λ k below. let before : k < at = omega (arith, long, below) in rw (get_or-take at text k 0 before) (front.digits k before))
-    (omega (arith, long)) (omega (arith, long, front.few))
+    (omega (arith, long, numeral.some)) (omega (arith, long, numeral.few))
     (λ zero_first. only_one zero_first long) (sym front.told)
   where
     only_one : get_or (take at text) 0 0 ≡ 48 → length (take at text) ≡ at → length (take at text) ≡ 1
     only_one zero_first long =
         elim (cases_lt 1 at) [
-          | inl longer ↦ absurd (front.lead longer (sym (get_or-take at text 0 0 some) ∙ zero_first))
-          | inr short ↦ omega arith
+          | inl longer ↦ absurd (numeral.lead longer (sym (get_or-take at text 0 0 numeral.some) ∙ zero_first))
+          | inr short ↦ omega (arith, numeral.some)
         ]
 
 -- a number and the separator behind it
-pub number_cut : (separator : ℕ) (text : List ℕ) (at number : ℕ) → 0 < at → at < length text → get_or text at 0 ≡ separator
-    → IsFront separator text at number
+pub number_cut : (separator : ℕ) (text : List ℕ) (at number : ℕ) → at < length text → get_or text at 0 ≡ separator
+    → IsNumeral text at → IsFront separator text at number
     → IsWritable number × (parts separator text ≡ decimal number ∷ parts separator (take (length text - (at + 1)) (drop (at + 1) text)))
-number_cut separator text at number some inside is front =
-    let found = front_number separator text at number some (omega arith) front in (
+number_cut separator text at number inside is numeral front =
+    let found = front_number separator text at number (omega arith) numeral front in (
       found.0,
       cut_at separator text at inside front.whole (there separator text at is) ∙ ap (λ word. word ∷ parts separator (take (length text - (at + 1)) (drop (at + 1) text))) found.1,
     )
 
 -- a number and nothing behind it
-pub number_alone : (separator : ℕ) (text : List ℕ) (at number : ℕ) → 0 < length text → at ≤ length text → length text ≤ at
-    → IsFront separator text at number → IsWritable number × (parts separator text ≡ decimal number ∷ [])
-number_alone separator text at number some inside end front =
-    let found = front_number separator text at number (omega arith) inside front in (
+pub number_alone : (separator : ℕ) (text : List ℕ) (at number : ℕ) → at ≤ min (length text) 11 → min (length text) 11 ≤ at
+    → IsNumeral text (length text) → IsFront separator text at number → IsWritable number × (parts separator text ≡ decimal number ∷ [])
+number_alone separator text at number inside end numeral front =
+    let e : length text ≡ at = omega (arith, numeral.few) in
+    let found = front_number separator text at number (omega arith) (rw e at numeral) front in (
       found.0,
       uncut separator text (λ k low below. front.whole k low (omega (arith, below)))
-          ∙ ap (λ word. word ∷ []) (sym (take_all at text end) ∙ found.1),
+          ∙ ap (λ word. word ∷ []) (sym (take_all at text (omega arith)) ∙ found.1),
     )
 
 -- ---- no number
@@ -165,44 +148,64 @@ first_has separator (suc at) (x ∷ text) word rest inside differs e =
 -- where a number stands, a digit is next that it may have
 pub next_digit : (separator : ℕ) (text : List ℕ) (at number : ℕ) → at < length text → (get_or text at 0 ≡ separator → ⊥)
     → IsFront separator text at number → (n : ℕ) (rest : List (List ℕ)) → IsWritable n → parts separator text ≡ decimal n ∷ rest
-    → IsInRange 48 57 (get_or text at 0) × (at < 10) × (at ≡ 1 → number ≡ 0 → ⊥)
+    → IsInRange 48 57 (get_or text at 0)
 next_digit separator text at number inside other front n rest short spelled =
     let has = first_has separator at text (decimal n) rest inside
     (λ k low. not_true _ (whole_more separator text at other front.whole k (omega arith) (omega (arith, low)))) spelled in
     let same = has.1 at (omega arith) in
-    let few = length_of (decimal n) n short refl in (
-      rw same at (digit_of (decimal n) n short refl at has.0),
-      omega (arith, has.0, few),
-      λ one zero_so_far.
-          let is : number ≡ get_or text 0 0 - 48 = (rw one at front.told) ∙ read_one text (omega arith) in
-          let first = front.digits 0 (omega arith) in
-          let zero_first : get_or (decimal n) 0 0 ≡ 48 = has.1 0 (omega arith) ∙ omega (arith, is, zero_so_far, first) in
-          let alone = lead_of (decimal n) n short refl zero_first in
-          omega (arith, alone, has.0, one),
-    )
+    rw same at (digit_of (decimal n) n short refl at has.0)
 
--- no number is spelled by nothing
-pub not_empty : (separator : ℕ) (text : List ℕ) (back : List (List ℕ)) → parts separator text ≡ [] ∷ back
+-- the digits of a number are as many as it may have, and lead with no zero
+numeral_of : (text : List ℕ) (at n : ℕ) → at ≤ length text → IsWritable n → take at text ≡ decimal n → IsNumeral text at
+numeral_of text at n inside short e =
+    let long : length (take at text) ≡ at = omega (arith, length-take at text) in
+    let sized = length_of (take at text) n short e in
+    let some : 0 < at = omega (arith, long, sized) in
+    record {
+      some = some;
+      few = omega (arith, long, sized);
+      lead = λ more zero_first.
+          let alone = lead_of (take at text) n short e (get_or-take at text 0 0 some ∙ zero_first) in
+          omega (arith, alone, long, more);
+    }
+
+-- before a separator stands no number but by a numeral
+pub not_cut : (separator : ℕ) (text : List ℕ) (at number : ℕ) → at < length text → get_or text at 0 ≡ separator
+    → IsFront separator text at number → (IsNumeral text at → ⊥)
     → (n : ℕ) (rest : List (List ℕ)) → IsWritable n → parts separator text ≡ decimal n ∷ rest → ⊥
-not_empty separator text back empty n rest short spelled =
-    let some = length_of (decimal n) n short refl in
-    let both = sym empty ∙ spelled in
-    let none : [] ≡ decimal n = cc in
-    omega (arith, ap length none, some)
-
--- nor by what stands before a separator at the front
-pub cut_empty : (separator : ℕ) (text : List ℕ) (at number : ℕ) → at ≤ 0 → at < length text → get_or text at 0 ≡ separator
-    → IsFront separator text at number → (n : ℕ) (rest : List (List ℕ)) → IsWritable n → parts separator text ≡ decimal n ∷ rest → ⊥
-cut_empty separator text at number first inside is front =
+not_cut separator text at number inside is front none n rest short spelled =
     let cut = cut_at separator text at inside front.whole (there separator text at is) in
-    let zero : at ≡ 0 = omega arith in
-    let nothing : take at text ≡ [] = rw zero refl in
-    not_empty separator text _ (rw nothing at cut)
+    let both = sym cut ∙ spelled in
+    let word : take at text ≡ decimal n = cc in
+    none (numeral_of text at n (omega arith) short word)
 
-pub empty_text : (separator : ℕ) (text : List ℕ) → length text ≡ 0
+-- nor at the text's end
+not_whole : (separator : ℕ) (text : List ℕ) (at number : ℕ) → length text ≤ at → IsFront separator text at number
+    → (IsNumeral text (length text) → ⊥)
     → (n : ℕ) (rest : List (List ℕ)) → IsWritable n → parts separator text ≡ decimal n ∷ rest → ⊥
-empty_text separator [] none = not_empty separator [] [] refl
-empty_text separator (x ∷ text) none = absurd (omega arith)
+not_whole separator text at number end front none n rest short spelled =
+    let whole = uncut separator text (λ k low below. front.whole k low (omega (arith, below))) in
+    let both = sym whole ∙ spelled in
+    let word : text ≡ decimal n = cc in
+    none (numeral_of text (length text) n (omega arith) short (take_all (length text) text (omega arith) ∙ word))
+
+-- nor behind eleven digits
+too_long : (separator : ℕ) (text : List ℕ) (at number : ℕ) → 11 ≤ at → 11 ≤ length text → IsFront separator text at number
+    → (n : ℕ) (rest : List (List ℕ)) → IsWritable n → parts separator text ≡ decimal n ∷ rest → ⊥
+too_long separator text at number most inside front n rest short spelled =
+    let has = first_has separator 10 text (decimal n) rest (omega arith)
+    (λ k low. not_true _ (front.whole k (omega arith) (omega (arith, low, most)))) spelled in
+    let few = length_of (decimal n) n short refl in
+    omega (arith, has.0, few)
+
+pub not_ended : (separator : ℕ) (text : List ℕ) (at number : ℕ) → at ≤ min (length text) 11 → min (length text) 11 ≤ at
+    → IsFront separator text at number → (IsNumeral text (length text) → ⊥)
+    → (n : ℕ) (rest : List (List ℕ)) → IsWritable n → parts separator text ≡ decimal n ∷ rest → ⊥
+not_ended separator text at number inside end front none n rest short spelled =
+    elim (cases_lt at 11) [
+      | inl less ↦ not_whole separator text at number (omega arith) front none n rest short spelled
+      | inr most ↦ too_long separator text at number (omega arith) (omega arith) front n rest short spelled
+    ]
 
 -- ---- a word that is a number
 

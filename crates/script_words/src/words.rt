@@ -23,7 +23,7 @@ pub fn next_numbers<'a>(
     let mut rest = text;
     for place in 0..count {
         let Some(text) = rest else { return None };
-        let Some((number, behind)) = cut_number(text, SPACE) else {
+        let Some((number, behind)) = cut_number(text) else {
             return None
         };
         numbers[place] = number;
