@@ -6,6 +6,9 @@ ghost use Rattle.script_words.specs.Words.{words, words_left};
 
 use crate::parts::SPACE;
 
+/// The digit zero.
+const ZERO: u64 = b'0' as u64;
+
 /// The most digits of a number.
 const MOST_DIGITS: usize = 10;
 
@@ -19,15 +22,15 @@ pub fn cut_number(text: &[u8]) -> Option<(u64, Option<&[u8]>)>
     let most = text.len().min(MOST_DIGITS + 1);
     let mut number: u64 = 0;
     for at in 0..most {
-        let byte = text[at];
-        if byte < b'0' || byte > b'9' {
-            return if byte == SPACE && is_numeral(text, at) {
+        let digit = u64::from(text[at]).wrapping_sub(ZERO);
+        if digit > 9 {
+            return if text[at] == SPACE && is_numeral(text, at) {
                 Some((number, Some(&text[at + 1..])))
             } else {
                 None
             };
         }
-        number = 10 * number + u64::from(byte - b'0');
+        number = 10 * number + digit;
     }
     if is_numeral(text, text.len()) {
         Some((number, None))
