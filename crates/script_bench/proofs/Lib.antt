@@ -1,6 +1,5 @@
 pub mod Benches
 pub mod Carried
-pub mod Ranges
 pub mod Said
 pub mod Scanned
 pub mod Regrouped

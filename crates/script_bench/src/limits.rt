@@ -1,14 +1,13 @@
 //! Numbers as they are written, and within their limits.
-ghost use Rattle.std.specs.Prelude.{◌≡◌, ◌↔◌, ◌<◌, ◌≤◌, ℕ, List, length, slice_index, slice_index_or, IfSome, IfNone, IfOk, IsTrue};
+ghost use Rattle.std.specs.Prelude.{◌≡◌, ◌↔◌, ℕ, List, IfSome, IfNone, IfOk, IsTrue};
 ghost use Rattle.std.specs.List.{All};
-ghost use Rattle.script_words.specs.Order.{behind_of, order_of, tail_of};
-ghost use Rattle.script_bench.specs.State.{IsArrayInRange, IsBehindInRange, IsKindInRange, IsMemberInRange, IsWithin};
-ghost use Rattle.script_words.specs.declared.verb.Kind.{Kind};
+ghost use Rattle.script_words.specs.Order.{order_of};
+ghost use Rattle.script_bench.specs.State.{IsArrayInRange, IsMemberInRange, IsWithin};
 ghost use Rattle.script_bench.specs.Answers.{members_named};
 ghost use Rattle.extents.specs.Shapes.{IsShapeOf};
 ghost use Rattle.extents.specs.Sizes.{AreInRange};
 
-use script_words::{Command, Kind, Named, Tail};
+use script_words::{Command, Named, Verb};
 use std::alloc::{AllocError, Global};
 use step_core::{Member, Shape};
 
@@ -43,50 +42,31 @@ const LAST_SIZE: u64 = 65_536;
 pub fn is_in_range(command: &Command, blocks: u32) -> bool
     ensures { (bytes : List ℕ) → IsTrue result ↔ IsWithin blocks (order_of «command».now bytes) }
 {
-    let row = command.verb.row();
-    are_numbers_in_range(row.kinds, &command.numbers, blocks)
-        && is_tail_in_range(row.tail, command, blocks)
-}
-
-// Whether each number is within the limit of its kind.
-fn are_numbers_in_range(kinds: &[Kind], numbers: &[u64], blocks: u32) -> bool
-    requires { length kinds.now ≤ length numbers.now }
-    ensures { IsTrue result ↔ ((k : ℕ) (d : Kind) → k < length kinds.now →
-        IsKindInRange blocks (slice_index_or kinds.now k d) (slice_index numbers.now k)) }
-{
-    for (place, kind) in kinds.iter().enumerate() {
-        if !is_kind_in_range(*kind, numbers[place], blocks) {
-            return false;
+    let [first, second, third, ..] = command.numbers;
+    match command.verb {
+        Verb::Array
+        | Verb::Map
+        | Verb::Log
+        | Verb::Scan
+        | Verb::Restart
+        | Verb::Add
+        | Verb::Balance => true,
+        Verb::Make => are_in_range(&command.members),
+        Verb::Unmake => first <= LAST_WORKER && second <= LAST_GROUP,
+        Verb::Claim | Verb::Release | Verb::Fill | Verb::Discard => {
+            first <= LAST_WORKER && second <= LAST_SLOT
         }
-    }
-    true
-}
-
-// Whether a number is within the limit of its kind.
-fn is_kind_in_range(kind: Kind, number: u64, blocks: u32) -> bool
-    ensures { IsTrue result ↔ IsKindInRange blocks kind number }
-{
-    match kind {
-        Kind::Worker => number <= LAST_WORKER,
-        Kind::Slot => number <= LAST_SLOT,
-        Kind::Block => number < u64::from(blocks),
-        Kind::Drive => number <= LAST_DRIVE,
-        Kind::Extent => number <= LAST_EXTENT,
-        Kind::Group => number <= LAST_GROUP,
-        Kind::Map => number <= LAST_MAP,
-        Kind::Size => true,
-    }
-}
-
-// Whether what stands behind the numbers is within the limits.
-fn is_tail_in_range(tail: Tail, command: &Command, blocks: u32) -> bool
-    requires { tail ≡ tail_of «command».now.verb }
-    ensures { (bytes : List ℕ) → IsTrue result ↔ IsBehindInRange blocks (behind_of (order_of «command».now bytes)) }
-{
-    match tail {
-        Tail::Nothing | Tail::Payload => true,
-        Tail::Record => command.record.block < blocks,
-        Tail::Members => are_in_range(&command.members),
+        Verb::Copy | Verb::Commit => {
+            first <= LAST_WORKER && second <= LAST_SLOT && third < u64::from(blocks)
+        }
+        Verb::Read => first < u64::from(blocks),
+        Verb::At => command.record.block < blocks,
+        Verb::Write => first <= LAST_WORKER && second < u64::from(blocks),
+        Verb::Demote | Verb::Plug | Verb::Clean => first <= LAST_WORKER,
+        Verb::Take => first <= LAST_MAP && command.record.block < blocks,
+        Verb::Merge | Verb::Same => first <= LAST_MAP && second <= LAST_MAP,
+        Verb::Show => first <= LAST_MAP,
+        Verb::Rebuild | Verb::Lose => first <= LAST_DRIVE,
     }
 }
 
@@ -94,10 +74,7 @@ fn is_tail_in_range(tail: Tail, command: &Command, blocks: u32) -> bool
 fn are_in_range(members: &[Named]) -> bool
     ensures { IsTrue result ↔ All IsMemberInRange members.now }
 {
-    members.iter().all(|member| {
-        is_kind_in_range(Kind::Drive, member.drive, 0)
-            && is_kind_in_range(Kind::Extent, member.extent, 0)
-    })
+    members.iter().all(|member| member.drive <= LAST_DRIVE && member.extent <= LAST_EXTENT)
 }
 
 /// The members that are named, which are within the limits.
