@@ -1,6 +1,7 @@
 pub mod Benches
 pub mod Carried
+pub mod Hexes
+pub mod Newest
+pub mod Regrouped
 pub mod Said
 pub mod Scanned
-pub mod Regrouped
-pub mod Newest

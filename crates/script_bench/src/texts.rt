@@ -1,5 +1,5 @@
 //! The texts of answers, appended to a buffer.
-ghost use Rattle.std.specs.Prelude.{◌≡◌, ◌≢◌, ◌∷◌, ◌++◌, [], OnOk, codes, decimal, Some, None};
+ghost use Rattle.std.specs.Prelude.{◌≡◌, ◌≢◌, ◌%◌, ◌∷◌, ◌++◌, [], OnOk, codes, decimal, length, Some, None};
 ghost use Rattle.hex.specs.Hex.{encode_lower};
 ghost use Rattle.step_core.specs.Told.{flat_answer, seen_of};
 ghost use Rattle.script_bench.specs.Text.{answer_text, data_text, detail, difference_text, fault_detail, fault_text, found_text, header_text, outcome_text, regrouped_text, shift_text, seen_text, listing, record_or_none, record_text, records_text};
@@ -14,6 +14,12 @@ use regrouping::Regrouped;
 use std::alloc::AllocError;
 use step_core::{Answer, At, Refusal};
 use tiering::Outcome;
+
+/// The bytes whose digits are put in one step.
+const STEP: usize = 8;
+
+/// The most bytes whose digits are put step by step.
+const MOST_STEPPED: usize = 64;
 
 /// The digits of a record in hex.
 const RECORD_DIGITS: usize = 24;
@@ -37,6 +43,9 @@ pub fn put_number(out: &mut Vec<u8>, number: u64) -> Result<(), AllocError>
 pub fn put_hex(out: &mut Vec<u8>, bytes: &[u8]) -> Result<(), AllocError>
     ensures { OnOk result (out.new.items ≡ out.old.items ++ encode_lower bytes.now) }
 {
+    if bytes.len() <= MOST_STEPPED && bytes.len() % STEP == 0 {
+        return put_short_hex(out, bytes);
+    }
     let start = out.len();
     let Some(end) = start.checked_add(2 * bytes.len()) else {
         return Err(AllocError);
@@ -44,6 +53,29 @@ pub fn put_hex(out: &mut Vec<u8>, bytes: &[u8]) -> Result<(), AllocError>
     out.resize(end, 0)?;
     encode_hex(bytes, &mut out[start..]);
     Ok(())
+}
+
+// The digits of a few whole steps of bytes, for which no room is filled with zeros before.
+fn put_short_hex(out: &mut Vec<u8>, bytes: &[u8]) -> Result<(), AllocError>
+    requires { length bytes.now % 8 ≡ 0 }
+    ensures { OnOk result (out.new.items ≡ out.old.items ++ encode_lower bytes.now) }
+{
+    for step in 0..bytes.len() / STEP {
+        let at = STEP * step;
+        put_step(out, &bytes[at..at + STEP])?;
+    }
+    Ok(())
+}
+
+// The digits of one step.
+#[inline(always)]
+fn put_step(out: &mut Vec<u8>, bytes: &[u8]) -> Result<(), AllocError>
+    requires { length bytes.now ≡ 8 }
+    ensures { OnOk result (out.new.items ≡ out.old.items ++ encode_lower bytes.now) }
+{
+    let mut digits = [0; 2 * STEP];
+    encode_hex(bytes, &mut digits);
+    put(out, &digits)
 }
 
 /// A record in hex.
