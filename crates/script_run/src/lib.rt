@@ -7,6 +7,7 @@ mod halt;
 mod line;
 mod run;
 mod script;
+mod split;
 mod stop;
 
 pub use end::End;

@@ -1,18 +1,15 @@
 //! A script that is fed in pieces.
-ghost use Rattle.std.specs.Prelude.{◌≡◌, ◌+◌, ◌≤◌, [], ◌∷◌, ◌++◌, length, OnOk, IfSome, IfNone, None};
+ghost use Rattle.std.specs.Prelude.{◌≡◌, ◌+◌, ◌≤◌, [], ◌∷◌, ◌++◌, length, OnOk, None};
 ghost use Rattle.script_run.specs.Opens.{IsOpen};
 ghost use Rattle.script_bench.specs.State.{State};
 ghost use Rattle.script_bench.specs.Carrying.{Stands};
 
 use crate::line::{MOST_BYTES, MOST_LINES, answer_line, wrong};
+use crate::split::split_line;
 use crate::stop::Stop;
-use memchr::memchr;
 use script_bench::{Bench, Why};
 use std::alloc::Global;
 use std::mem::replace;
-
-/// What ends a line.
-const LINE_END: u8 = b'\n';
 
 /// Where a script stands: the number of its open line, the bench, a buffer for a payload, the bytes of
 /// the open line, a buffer for its answer, and the whole answers that are not yet written.
@@ -184,16 +181,5 @@ impl Script {
             },
             Err(Stop::Memory) => Err(Stop::Memory),
         }
-    }
-}
-
-// The bytes before the first line's end, and those behind it.
-fn split_line(text: &[u8]) -> Option<(&[u8], &[u8])>
-    ensures some { IfSome result (λ parts. IsOpen parts.0.now × (text.now ≡ parts.0.now ++ 10 ∷ parts.1.now)) }
-    ensures none { IfNone result (IsOpen text.now) }
-{
-    match memchr(LINE_END, text) {
-        Some(at) => Some((&text[..at], &text[at + 1..])),
-        None => None,
     }
 }
