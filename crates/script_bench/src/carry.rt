@@ -1,5 +1,5 @@
 //! Commands behind the first one.
-ghost use Rattle.std.specs.Prelude.{◌≡◌, ◌<◌, ◌^◌, IfOk, OnOk, length};
+ghost use Rattle.std.specs.Prelude.{◌≡◌, ◌↔◌, ◌<◌, ◌^◌, ℕ, List, IfOk, OnOk, IsTrue, length};
 ghost use Rattle.array_model.specs.Views.{key_at};
 ghost use Rattle.map_join.specs.Maps.{IsListOf};
 ghost use Rattle.script_bench.specs.Carrying.{Carries};
@@ -10,7 +10,9 @@ ghost use Rattle.script_words.specs.Spelling.{IsWritten};
 ghost use Rattle.std.specs.List.{All};
 
 use crate::bench::Bench;
-use crate::limits::members_of;
+use crate::limits::{
+    LAST_DRIVE, LAST_GROUP, LAST_MAP, LAST_SLOT, LAST_WORKER, are_in_range, members_of,
+};
 use crate::maps::{merge, same, show, take};
 use crate::scans::scan;
 use crate::texts::{put_answer, put_listing, put_outcome, put_regrouped};
@@ -18,6 +20,38 @@ use map_join::Record;
 use script_words::{Command, Named, Verb};
 use std::alloc::{AllocError, Global};
 use step_core::{Array, Class, Drive, Hold};
+
+/// Whether the numbers of a command and what stands behind them are within the limits, with so many blocks.
+pub fn is_in_range(command: &Command, blocks: u32) -> bool
+    ensures { (bytes : List ℕ) → IsTrue result ↔ IsWithin blocks (order_of «command».now bytes) }
+{
+    let [first, second, third, ..] = command.numbers;
+    match command.verb {
+        Verb::Array
+        | Verb::Map
+        | Verb::Log
+        | Verb::Scan
+        | Verb::Restart
+        | Verb::Add
+        | Verb::Balance => true,
+        Verb::Make => are_in_range(&command.members),
+        Verb::Unmake => first <= LAST_WORKER && second <= LAST_GROUP,
+        Verb::Claim | Verb::Release | Verb::Fill | Verb::Discard => {
+            first <= LAST_WORKER && second <= LAST_SLOT
+        }
+        Verb::Copy | Verb::Commit => {
+            first <= LAST_WORKER && second <= LAST_SLOT && third < u64::from(blocks)
+        }
+        Verb::Read => first < u64::from(blocks),
+        Verb::At => command.record.block < blocks,
+        Verb::Write => first <= LAST_WORKER && second < u64::from(blocks),
+        Verb::Demote | Verb::Plug | Verb::Clean => first <= LAST_WORKER,
+        Verb::Take => first <= LAST_MAP && command.record.block < blocks,
+        Verb::Merge | Verb::Same => first <= LAST_MAP && second <= LAST_MAP,
+        Verb::Show => first <= LAST_MAP,
+        Verb::Rebuild | Verb::Lose => first <= LAST_DRIVE,
+    }
+}
 
 /// Carries out a command that is within the limits, and appends its answer. A restart is carried out by `restart`.
 pub fn carry_out(

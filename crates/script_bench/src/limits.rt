@@ -1,33 +1,32 @@
 //! Numbers as they are written, and within their limits.
-ghost use Rattle.std.specs.Prelude.{◌≡◌, ◌↔◌, ℕ, List, IfSome, IfNone, IfOk, IsTrue};
+ghost use Rattle.std.specs.Prelude.{◌≡◌, ◌↔◌, IfSome, IfNone, IfOk, IsTrue};
 ghost use Rattle.std.specs.List.{All};
-ghost use Rattle.script_words.specs.Order.{order_of};
-ghost use Rattle.script_bench.specs.State.{IsArrayInRange, IsMemberInRange, IsWithin};
+ghost use Rattle.script_bench.specs.State.{IsArrayInRange, IsMemberInRange};
 ghost use Rattle.script_bench.specs.Answers.{members_named};
 ghost use Rattle.extents.specs.Shapes.{IsShapeOf};
 ghost use Rattle.extents.specs.Sizes.{AreInRange};
 
-use script_words::{Command, Named, Verb};
+use script_words::Named;
 use std::alloc::{AllocError, Global};
 use step_core::{Member, Shape};
 
 /// The greatest number of a worker.
-const LAST_WORKER: u64 = 7;
+pub const LAST_WORKER: u64 = 7;
 
 /// The greatest number of a slot.
-const LAST_SLOT: u64 = 65_535;
+pub const LAST_SLOT: u64 = 65_535;
 
 /// The greatest number of a map.
-const LAST_MAP: u64 = 3;
+pub const LAST_MAP: u64 = 3;
 
 /// The greatest number of a drive.
-const LAST_DRIVE: u64 = 15;
+pub const LAST_DRIVE: u64 = 15;
 
 /// The greatest number of an extent.
 const LAST_EXTENT: u64 = 511;
 
 /// The greatest number of a group.
-const LAST_GROUP: u64 = 511;
+pub const LAST_GROUP: u64 = 511;
 
 /// The fewest drives of an array.
 const FEWEST_DRIVES: u64 = 3;
@@ -38,40 +37,8 @@ const MOST_DRIVES: u64 = 16;
 /// The greatest size that is told to the array.
 const LAST_SIZE: u64 = 65_536;
 
-/// Whether the numbers of a command and what stands behind them are within the limits, with so many blocks.
-pub fn is_in_range(command: &Command, blocks: u32) -> bool
-    ensures { (bytes : List ℕ) → IsTrue result ↔ IsWithin blocks (order_of «command».now bytes) }
-{
-    let [first, second, third, ..] = command.numbers;
-    match command.verb {
-        Verb::Array
-        | Verb::Map
-        | Verb::Log
-        | Verb::Scan
-        | Verb::Restart
-        | Verb::Add
-        | Verb::Balance => true,
-        Verb::Make => are_in_range(&command.members),
-        Verb::Unmake => first <= LAST_WORKER && second <= LAST_GROUP,
-        Verb::Claim | Verb::Release | Verb::Fill | Verb::Discard => {
-            first <= LAST_WORKER && second <= LAST_SLOT
-        }
-        Verb::Copy | Verb::Commit => {
-            first <= LAST_WORKER && second <= LAST_SLOT && third < u64::from(blocks)
-        }
-        Verb::Read => first < u64::from(blocks),
-        Verb::At => command.record.block < blocks,
-        Verb::Write => first <= LAST_WORKER && second < u64::from(blocks),
-        Verb::Demote | Verb::Plug | Verb::Clean => first <= LAST_WORKER,
-        Verb::Take => first <= LAST_MAP && command.record.block < blocks,
-        Verb::Merge | Verb::Same => first <= LAST_MAP && second <= LAST_MAP,
-        Verb::Show => first <= LAST_MAP,
-        Verb::Rebuild | Verb::Lose => first <= LAST_DRIVE,
-    }
-}
-
-// Whether each member's numbers are within the limits.
-fn are_in_range(members: &[Named]) -> bool
+/// Whether each member's numbers are within the limits.
+pub fn are_in_range(members: &[Named]) -> bool
     ensures { IsTrue result ↔ All IsMemberInRange members.now }
 {
     members.iter().all(|member| member.drive <= LAST_DRIVE && member.extent <= LAST_EXTENT)

@@ -6,8 +6,8 @@ ghost use Rattle.script_bench.specs.Replies.{Replies, Starts};
 ghost use Rattle.script_words.specs.Order as o;
 
 use crate::bench::Bench;
-use crate::carry::carry_out;
-use crate::limits::{array_in_range, is_in_range};
+use crate::carry::{carry_out, is_in_range};
+use crate::limits::array_in_range;
 use crate::scans::restart;
 use crate::texts::put;
 use crate::why::{Failure, Why};
