@@ -1,7 +1,7 @@
 -- The first free slot, group by group.
 use Rattle.std.proofs.Common.{◌≡◌, ◌⊎◌, inl, inr, ℕ, ◌+◌, ◌*◌, ◌/◌, ◌%◌, ◌<◌, arith, length, sym, ◌∙◌, Option, Some, None}
 use Rattle.std.proofs.lemmas.Option.{same_Some}
-use Rattle.migrator.proofs.Picks.{made_low}
+use Rattle.extent_groups.proofs.Bounds.{made_low}
 use Rattle.extent_groups.specs.declared.class.Class.TheVariants.{Parity}
 use Rattle.extent_groups.specs.Groups.{Groups}
 use Rattle.migrator.specs.Slots.{End, IsBehind, IsFresh}

@@ -1,28 +1,15 @@
 -- Picked slots of groups.
-use Rattle.std.proofs.Common.{◌≡◌, ◌∙◌, ◌⊎◌, inl, inr, ℕ, List, ◌+◌, ◌*◌, ◌/◌, ◌%◌, ◌<◌, ◌≤◌, length, sym, ap, subst, arith, Some, None, slice_get, unwrap_or, ◌↔◌}
-use Rattle.std.proofs.lemmas.Bool.{cases_lt}
-use Rattle.std.proofs.lemmas.Option.{slice_get_past}
+use Rattle.std.proofs.Common.{◌≡◌, ℕ, List, ◌+◌, ◌*◌, ◌/◌, ◌%◌, ◌<◌, ◌≤◌, length, subst, arith, ◌↔◌}
 use Rattle.map_join.specs.Live.{IsLiveIn, IsLiveCount}
 use Rattle.map_join.specs.Lists.{Lists, ListsBelow}
 use Rattle.map_join.proofs.Rising.{below_all, below_skip, count_none, count_zero}
 use Rattle.extent_groups.specs.declared.class.Class.{Class}
 use Rattle.extent_groups.specs.declared.class.Class.TheVariants.{Parity}
-use Rattle.extent_groups.specs.Groups.{Groups, class_in, group_at}
+use Rattle.extent_groups.specs.Groups.{Groups}
 use Rattle.extent_groups.specs.Stores.{IsSlotOf}
+use Rattle.extent_groups.proofs.Bounds.{made_low}
 use Rattle.migrator.specs.Picking.{IsPicked}
 use Rattle.migrator.specs.Slots.{IsIdle}
-
--- a made group has a number below 512
-pub made_low : (groups : Groups) (g : ℕ) (class : Class) → length groups.table ≡ 512 → class_in (group_at groups g) ≡ Some class → g < 512
-made_low groups g class long made = by (cases_lt g 512)
-  where
-    by : (g < 512) ⊎ (512 ≤ g) → g < 512
-    by (inl l) = l
-    by (inr m) =
-        let out : slice_get groups.table g ≡ None = slice_get_past groups.table g (omega (arith, long, m)) in
-        let none : class_in (unwrap_or (slice_get groups.table g) None) ≡ None = ap (λ o. class_in (unwrap_or o None)) out in
-        let both : None ≡ Some class = sym none ∙ made in
-        cc
 
 -- a parity group is idle where none of its slots is counted as live, and none is counted where it is idle
 module _ (groups : Groups) (keys : ℕ → ℕ) (group slots count : ℕ) (just : (slot : ℕ) → slot / 128 ≡ group → IsSlotOf Parity groups slot ↔ (slot % 128 < slots)) where

@@ -1,5 +1,5 @@
 // The first free slot where the log goes on, without a list of them all.
-ghost use Rattle.std.specs.Prelude.{◌≡◌, ◌↔◌, ℕ, ◌/◌, ◌<◌, ◌≤◌, IsTrue, MatchOption};
+ghost use Rattle.std.specs.Prelude.{◌≡◌, ◌↔◌, ℕ, ◌/◌, ◌%◌, ◌<◌, ◌≤◌, IsTrue, MatchOption};
 ghost use Rattle.extent_groups.specs.declared.class.Class.TheVariants.{Mirrored};
 ghost use Rattle.extent_groups.specs.Stores.{IsSlotOf};
 ghost use Rattle.migrator.specs.First.{Behind, IsFirst, IsFirstAppend, IsFreePick};
@@ -49,7 +49,14 @@ fn first_behind<L: Live, F: Free>(
     let _members = groups.members(0);
     match end.group() {
         Some(group) if group < GROUPS as u16 => {
-            first_in(groups, Class::Parity, group, &GoingOn { end, live }, free)
+            first_in(
+                groups,
+                Class::Parity,
+                group,
+                end.next(),
+                &GoingOn { end, live },
+                free,
+            )
         }
         _ => None,
     }
@@ -95,7 +102,7 @@ fn first_in_row<P: Picks, F: Free>(
     ensures { IsFirst (λ slot. (slot / 1024 ≡ row) × IsFreePick class groups.now (P.group_is which.now) (P.slot_is which.now) (F.free free.now) slot) result }
 {
     for group in ROW * row..ROW * row + ROW {
-        match first_in(groups, class, group, which, free) {
+        match first_in(groups, class, group, 0, which, free) {
             Some(slot) => return Some(slot),
             None => {}
         }
@@ -103,15 +110,17 @@ fn first_in_row<P: Picks, F: Free>(
     None
 }
 
-// The lowest of these in one group.
+// The lowest of these in one group; none is picked before the index.
 fn first_in<P: Picks, F: Free>(
     groups: &GroupTable,
     class: Class,
     group: u16,
+    from: u16,
     which: &P,
     free: &F,
 ) -> Option<u16>
-    requires { group < 512 }
+    requires group { group < 512 }
+    requires from { (slot : ℕ) → slot % 128 < from → P.slot_is which.now slot → ⊥ }
     ensures { IsFirst (λ slot. (slot / 128 ≡ group) × IsFreePick class groups.now (P.group_is which.now) (P.slot_is which.now) (F.free free.now) slot) result }
 {
     if !is_of(groups, class, group) {
@@ -120,7 +129,7 @@ fn first_in<P: Picks, F: Free>(
     if !which.picks_group(group) {
         return None;
     }
-    for index in 0..count_of(groups, class, group) {
+    for index in from..count_of(groups, class, group) {
         let slot = SLOTS * group + index;
         if which.picks_slot(slot) && free.is_free(slot) {
             return Some(slot);

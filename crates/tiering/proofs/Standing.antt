@@ -7,7 +7,7 @@ use Rattle.map_join.specs.Maps.{IsMapOf}
 use Rattle.map_join.specs.Record.{IsRecord, record_at}
 use Rattle.extent_groups.specs.Groups.{Group, Groups, group_at, class_in, slots_in, with_group}
 use Rattle.extent_groups.proofs.GroupsLemmas.{group_same, group_other}
-use Rattle.migrator.proofs.Picks.{made_low}
+use Rattle.extent_groups.proofs.Bounds.{made_low}
 use Rattle.flat_machine.proofs.Newest.{newest_unique}
 use Rattle.std.proofs.lemmas.Bool.{cases_eq}
 use Rattle.std.proofs.lemmas.Option.{same_Some}

@@ -13,7 +13,7 @@ loop-row-preserved g c =
       | then-may_have+in_ok-push_row w ↦ rw (w.slots-is) w.in_ok-push_row.ensures
       | else-may_have w ↦ rw (w.slots-is)
           (below_skip P (1024 * c.loop-row.row) (1024 * (c.loop-row.row + 1)) c.loop-row.slots.items (omega arith)
-          (λ s low high p. c.may_have.ensures w.if-may_have.false (s / 128) (omega (arith, low, high)) p.slot_of.made) c.loop-row.invariant)
+          (λ s low high p. c.may_have.ensures.none w.if-may_have.false (s / 128) (omega (arith, low, high)) p.slot_of.made) c.loop-row.invariant)
     ]
 
 pub returns : goal.returns
