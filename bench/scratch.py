@@ -1,4 +1,4 @@
-"""What the benchmarks share: a scratch repository with the crates that are measured and a program over them, and a clock."""
+"""What the benchmarks share: a scratch repository with the crates that are measured and a program over them, the script program, and clocks."""
 
 import os
 import pathlib
@@ -63,3 +63,39 @@ def compare(here, program, crates, works, rounds, stands_on=None, kept=False):
             theirs.append(other)
         medians = statistics.median(theirs) / statistics.median(ours)
         print(f"| {work} | {min(ours):.3f} | {min(theirs):.3f} | {min(theirs) / min(ours):.2f} | {medians:.2f} |", flush=True)
+
+
+def script_program():
+    """The repository's program, proved and built, and its word for a script."""
+    crate = TOP / "crates" / "raid_bench"
+    subprocess.run(["rt", "run", "--", "script"], cwd=crate, stdin=subprocess.DEVNULL, stdout=subprocess.DEVNULL, check=True)
+    return [crate / "out" / "raid_bench", "script"]
+
+
+def processor_seconds(program, script, answers):
+    """Processor seconds of one run, whose answers go to a file."""
+    with open(script) as source, open(answers, "w") as target:
+        child = subprocess.Popen(program, stdin=source, stdout=target)
+        _, status, used = os.wait4(child.pid, 0)
+    child.returncode = status
+    if status != 0:
+        sys.exit(f"{program}: status {status}")
+    return used.ru_utime + used.ru_stime
+
+
+def a_round(programs, made, rounds, times, folder, of):
+    """Microseconds a round by each program: the difference of a script of three times the rounds and one of so many, the best of each. The
+    programs have to give the same answers."""
+    best = {program: {} for program in programs}
+    script, answers = folder / "script", folder / "answers"
+    for many in (rounds, 3 * rounds):
+        script.write_text("\n".join(made(many)) + "\n")
+        said = set()
+        for _ in range(times):
+            for program, words in programs.items():
+                used = processor_seconds(words, script, answers)
+                best[program][many] = min(used, best[program].get(many, used))
+                said.add(answers.read_bytes())
+        if len(said) != 1:
+            sys.exit(f"{of}: the programs differ")
+    return {program: (found[3 * rounds] - found[rounds]) / (2 * rounds) * 1e6 for program, found in best.items()}

@@ -11,8 +11,8 @@ import sys
 import tempfile
 
 HERE = pathlib.Path(__file__).resolve().parent
-sys.path.insert(0, str(HERE.parent / "plans"))
-from run import build, run  # noqa: E402
+sys.path.insert(0, str(HERE.parent))
+from scratch import a_round, script_program  # noqa: E402
 
 TIMES = 7
 HEADER = 32
@@ -36,29 +36,17 @@ def lines(payload, groups, kind, count):
 
 def main():
     folder = pathlib.Path(tempfile.mkdtemp(prefix="scans_bench_"))
-    programs = build()
+    programs = {"proved": script_program()}
     if sys.argv[1:]:
         programs["beside"] = sys.argv[1:]
     print("| Work | program | blocks | microseconds | bytes a nanosecond |")
     print("|---|---|---|---|---|")
     for kind in ("scan", "restart"):
         for payload, groups, count in SIZES:
-            best = {program: {} for program in programs}
-            for many in (count, 3 * count):
-                text, blocks = lines(payload, groups, kind, many)
-                script = folder / "script"
-                script.write_text("\n".join(text) + "\n")
-                said = set()
-                for _ in range(TIMES):
-                    for program, words in programs.items():
-                        used = run(words, script, folder / "answers")
-                        best[program][many] = min(used, best[program].get(many, used))
-                        said.add((folder / "answers").read_bytes())
-                if len(said) != 1:
-                    sys.exit(f"{kind} with {payload} bytes: the programs differ")
+            _, blocks = lines(payload, groups, kind, count)
+            found = a_round(programs, lambda many: lines(payload, groups, kind, many)[0], count, TIMES, folder, f"{kind} with {payload} bytes")
             slots = (UPPER + LOWER) * (groups // 2)
-            for program, found in best.items():
-                each = (found[3 * count] - found[count]) / (2 * count) * 1e6
+            for program, each in found.items():
                 told = slots * (HEADER + payload) / (1000 * each) if each > 0 else 0
                 print(f"| {kind} with {payload:,} bytes | {program} | {blocks:,} | {each:.1f} | {told:.2f} |", flush=True)
 

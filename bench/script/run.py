@@ -5,7 +5,6 @@ Usage: bench/script/run.py. A ratio of speeds above 1 says that the proved progr
 it takes more.
 """
 
-import os
 import pathlib
 import statistics
 import subprocess
@@ -13,7 +12,8 @@ import sys
 import tempfile
 
 HERE = pathlib.Path(__file__).resolve().parent
-TOP = HERE.parent.parent
+sys.path.insert(0, str(HERE.parent))
+from scratch import processor_seconds, script_program  # noqa: E402
 from workloads import WORKLOADS  # noqa: E402
 
 ROUNDS = 15
@@ -21,22 +21,9 @@ ROUNDS = 15
 
 def build(folder):
     """The proved program and the plain one."""
-    crate = TOP / "crates" / "raid_bench"
-    subprocess.run(["rt", "run", "--", "script"], cwd=crate, stdin=subprocess.DEVNULL, stdout=subprocess.DEVNULL, check=True)
     plain = folder / "plain"
     subprocess.run(["rustc", "--edition=2024", "-Copt-level=3", "-Ctarget-cpu=x86-64-v2", "-o", plain, HERE / "plain.rs"], check=True)
-    return {"proved": [crate / "out" / "raid_bench", "script"], "plain Rust": [plain]}
-
-
-def run(program, script, answers):
-    """Processor seconds of one run, whose answers go to a file."""
-    with open(script) as source, open(answers, "w") as target:
-        child = subprocess.Popen(program, stdin=source, stdout=target)
-        _, status, used = os.wait4(child.pid, 0)
-    child.returncode = status
-    if status != 0:
-        sys.exit(f"{program}: status {status}")
-    return used.ru_utime + used.ru_stime
+    return {"proved": script_program(), "plain Rust": [plain]}
 
 
 def peak(program, script, told):
@@ -59,7 +46,7 @@ def main():
         said = set()
         for _ in range(ROUNDS):
             for program, words in programs.items():
-                times[program].append(run(words, script, answers))
+                times[program].append(processor_seconds(words, script, answers))
                 said.add(answers.read_bytes())
         if len(said) != 1:
             sys.exit(f"{name}: the programs differ")
