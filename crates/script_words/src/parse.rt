@@ -24,8 +24,7 @@ const NO_RECORD: Record = Record {
 };
 
 /// The command that the line spells, if it spells one. The payload of a fill, which has to be as long as the
-/// buffer, is put there. It is inlined, since a call would copy the command that it answers.
-#[inline(always)]
+/// buffer, is put there.
 pub fn command_of(
     alloc: Global,
     line: &[u8],
