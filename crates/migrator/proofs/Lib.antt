@@ -1,4 +1,5 @@
 pub mod Keeping
+pub mod Turned
 pub mod Oldest
 pub mod Law
 pub mod Passed

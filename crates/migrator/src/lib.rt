@@ -9,6 +9,7 @@ mod marked_ages;
 mod recency;
 mod rows;
 mod slots;
+mod turns;
 
 pub use append::append_slots;
 pub use first::{Free, first_append, first_mirror};
