@@ -2,6 +2,7 @@ pub mod Placings
 pub mod Emitting
 pub mod Freeing
 pub mod Marks
+pub mod Words
 pub mod Hinted
 pub mod Counts
 pub mod Standing

@@ -30,12 +30,12 @@ mirrors_iff (Some Mirrored) = ((λ h. refl), (λ h. refl))
 mirrors_iff (Some Parity) = ((λ h. let bad : false ≡ true = h in absurd (cc)), (λ h. absurd (cc)))
 
 -- a mark that was set is what it was set to, and the others stay
-pub set_here : (marks : List Bool) (b : ℕ) (m : Bool) → b < length marks → IsMarked (slice_set marks b m) b ↔ (m ≡ true)
+set_here : (marks : List Bool) (b : ℕ) (m : Bool) → b < length marks → IsMarked (slice_set marks b m) b ↔ (m ≡ true)
 set_here marks b m inside =
     let got = get-set_same marks b m inside in
     ((λ h. same_Some m true (sym got ∙ h)), (λ h. got ∙ ap (λ x. Some x) h))
 
-pub set_other : (marks : List Bool) (b c : ℕ) (m : Bool) → (c ≡ b → ⊥) → IsMarked (slice_set marks b m) c ↔ IsMarked marks c
+set_other : (marks : List Bool) (b c : ℕ) (m : Bool) → (c ≡ b → ⊥) → IsMarked (slice_set marks b m) c ↔ IsMarked marks c
 set_other marks b c m other =
     let got = get-set_other marks b c m other in
     ((λ h. sym got ∙ h), (λ h. got ∙ h))

@@ -1,5 +1,5 @@
 -- What stands for a flat state with what is kept beside it, behind each part of a step.
-use Rattle.std.proofs.Common.{◌≡◌, ◌≢◌, ◌⊎◌, Bool, ℕ, ◌+◌, ◌/◌, ◌%◌, ◌<◌, if◌then◌else◌, arith, ◌↔◌, inl, inr, List, length, refl, sym, ap, ◌∙◌, subst, Option, Some, None, Result, Ok, Err}
+use Rattle.std.proofs.Common.{◌≡◌, ◌≢◌, ◌⊎◌, ℕ, ◌+◌, ◌/◌, ◌%◌, ◌<◌, if◌then◌else◌, arith, ◌↔◌, inl, inr, List, length, refl, sym, ap, ◌∙◌, subst, Option, Some, None, Result, Ok, Err}
 use Rattle.std.specs.Prelude.{IfOk, OnErr, MatchOption, Contains}
 use Rattle.std.proofs.lemmas.List.FromFn.{length-range_with_len}
 use Rattle.map_join.specs.declared.records.Record.{Record}
@@ -77,7 +77,7 @@ block_there t T b stands inside =
     subst (λ n. b < n) (sym (ap length stands.order ∙ stands.long ∙ ap (λ (z : Groups). z.blocks) (groups_of t T stands))) inside
 
 -- hinted slots behind a step that leaves the groups, where what gets free is hinted
-hints_keep : (F G : Flat) (was is : List Bool) (P : ℕ → Type 0) → G.groups ≡ F.groups → Frees F G P → ((s : ℕ) → P s → IsHinted is s)
+hints_keep : (F G : Flat) (was is : List ℕ) (P : ℕ → Type 0) → G.groups ≡ F.groups → Frees F G P → ((s : ℕ) → P s → IsHinted is s)
     → ((s : ℕ) → IsHinted was s → IsHinted is s) → ((s : ℕ) → IsFreeMirror F s → IsHinted was s) → (s : ℕ) → IsFreeMirror G s → IsHinted is s
 hints_keep F G was is P groups frees new others hinted s free = go (frees s free.1)
   where
@@ -86,12 +86,12 @@ hints_keep F G was is P groups frees new others hinted s free = go (frees s free
     go (inr left) = new s left
 
 -- the same where nothing gets free
-hints_still : (F G : Flat) (hints : List Bool) → G.groups ≡ F.groups → FreesNone F G → ((s : ℕ) → IsFreeMirror F s → IsHinted hints s)
+hints_still : (F G : Flat) (hints : List ℕ) → G.groups ≡ F.groups → FreesNone F G → ((s : ℕ) → IsFreeMirror F s → IsHinted hints s)
     → (s : ℕ) → IsFreeMirror G s → IsHinted hints s
 hints_still F G hints groups frees hinted = hints_keep F G hints hints (λ s. ⊥) groups (λ s free. inl (frees s free)) (λ s no. absurd no) (λ s h. h) hinted
 
 -- the place that a block had before it was placed
-left_in : (F : Flat) (w s b : ℕ) (what : Put) (o : Outcome) (G : Flat) (case : PlaceCase F w s b what o G) (hints : List Bool) (left : Option Record)
+left_in : (F : Flat) (w s b : ℕ) (what : Put) (o : Outcome) (G : Flat) (case : PlaceCase F w s b what o G) (hints : List ℕ) (left : Option Record)
     → ((q : Record) → Contains F.emitted q → IsRecord q) → IsNewest F.emitted b left → MatchOption left (Unit {0}) (λ r. IsHinted hints r.place)
     → (n : ℕ) → LeavesOld F w s b what o G case n → IsHinted hints n
 left_in F w s b what (outcome.Placed r) G case hints left all newest hinted n at =
@@ -447,7 +447,7 @@ stops_down t m u w b x (Ok o) none stopped = tt
 stops_down t m u w b x (Err e) none stopped = λ T stands. let d = stopped T (none T stands).1 in (d.0, inr (inl d.1), d.2)
 
 -- a new order has a place for each block, and marks where there are any to be
-pub begins : (v : WorldView) (F : Flat) (ages : Marked) (end : End) (hints : List Bool) → ages.order ≡ by_number v.array.parts.groups.blocks → length ages.marks ≡ v.array.parts.groups.blocks
+pub begins : (v : WorldView) (F : Flat) (ages : Marked) (end : End) (hints : List ℕ) → ages.order ≡ by_number v.array.parts.groups.blocks → length ages.marks ≡ v.array.parts.groups.blocks
     → AreMarked ages.marks v.array.parts.groups (key_at v.array) → end ≡ at_start
     → ((s : ℕ) → s < 65536 → IsHinted hints s) → Represents v F → StandsFor (record { world = v; recency = ages; end = end; hints = hints }) (begun F)
 begins v F ages end hints is long marked start all_hinted rep =
@@ -536,7 +536,7 @@ notes t u w s b a inside commits same order long marks end kept T stands =
     )
 
 -- behind a group that is made
-stands_made : (t : Tiers) (v : WorldView) (hints : List Bool) (T : Tiered) (G : Flat) (class : Class) (members : List Member) (g : ℕ) → StandsFor t T → Represents v G
+stands_made : (t : Tiers) (v : WorldView) (hints : List ℕ) (T : Tiered) (G : Flat) (class : Class) (members : List Member) (g : ℕ) → StandsFor t T → Represents v G
     → group_at T.flat.groups g ≡ None → ((s : ℕ) → s / 128 ≡ g → IsHinted hints s) → ((s : ℕ) → IsHinted t.hints s → IsHinted hints s)
     → Leaves (made T.flat class members g) G → StandsFor (record t { world = v; hints = hints }) (record T { flat = G })
 stands_made t v hints T G class members g stands rep free new others leaves = record {
@@ -573,7 +573,7 @@ stands_made t v hints T G class members g stands rep free new others leaves = re
         others s (stands.hints s (same_slot s other is.0, made_frees T.flat G (key_at t.world.array) class members g stands.world.array.history leaves s other is.1))
 
 -- with more hints
-more_hints : (t : Tiers) (v : WorldView) (hints : List Bool) (T : Tiered) (G : Flat) → ((s : ℕ) → IsHinted t.hints s → IsHinted hints s)
+more_hints : (t : Tiers) (v : WorldView) (hints : List ℕ) (T : Tiered) (G : Flat) → ((s : ℕ) → IsHinted t.hints s → IsHinted hints s)
     → StandsFor (record t { world = v }) (record T { flat = G }) → StandsFor (record t { world = v; hints = hints }) (record T { flat = G })
 more_hints t v hints T G others st = record {
   world = st.world;
@@ -589,7 +589,7 @@ more_hints t v hints T G others st = record {
 pub stands_left : (t : Tiers) (v : WorldView) (T : Tiered) (G : Flat) → StandsFor t T → Represents v G → Leaves T.flat G → StandsFor (record t { world = v }) (record T { flat = G })
 stands_left t v T G stands rep leaves = stands_alike t v T G stands rep (alike_left T.flat G leaves) (left_frees T.flat G leaves)
 
-pub makes : (t : Tiers) (v : WorldView) (hints : List Bool) (class : Class) (members : List Member) (a : Answer)
+pub makes : (t : Tiers) (v : WorldView) (hints : List ℕ) (class : Class) (members : List Member) (a : Answer)
     → ((F : Flat) → Represents t.world F → (G : Flat) × Case F (step.Make class members) (flat_answer a) G × Represents v G)
     → ((g s : ℕ) → a ≡ answer.Made g → g < 512 → s / 128 ≡ g → IsHinted hints s) → ((s : ℕ) → IsHinted t.hints s → IsHinted hints s)
     → (T : Tiered) → StandsFor t T → (U : Tiered) × StepNoted T (step.Make class members) (flat_answer a) U × StandsFor (record t { world = v; hints = hints }) U
@@ -666,7 +666,7 @@ stands_with t v T G taken answer calm stands rep case =
     stands_alike t v T G stands rep (calm_alike T.flat G taken answer calm case) (step_frees T.flat G taken answer calm case)
 
 -- behind a release
-pub releases : (t : Tiers) (v : WorldView) (hints : List Bool) (w slot : ℕ) (a : Answer)
+pub releases : (t : Tiers) (v : WorldView) (hints : List ℕ) (w slot : ℕ) (a : Answer)
     → ((F : Flat) → Represents t.world F → (G : Flat) × Case F (step.Release w slot) (flat_answer a) G × Represents v G)
     → IsHinted hints slot → ((s : ℕ) → IsHinted t.hints s → IsHinted hints s)
     → (T : Tiered) → StandsFor t T → (U : Tiered) × StepNoted T (step.Release w slot) (flat_answer a) U × StandsFor (record t { world = v; hints = hints }) U
@@ -705,7 +705,7 @@ hinted_free t T s stands = (to, from)
     from : IsFreeMirror T.flat s → IsHinted t.hints s × (IsSlotOf Mirrored t.world.array.parts.groups s × IsFreeHere t.world s)
     from h = (stands.hints s h, (subst (λ z. IsSlotOf Mirrored z s) groups h.0, (free_iff t.world T.flat s stands.world).1 h.1))
 
-pub finds_free : (t : Tiers) (hints : List Bool) (slot : Option ℕ)
+pub finds_free : (t : Tiers) (hints : List ℕ) (slot : Option ℕ)
     → IsFirst (λ s. IsHinted t.hints s × (IsSlotOf Mirrored t.world.array.parts.groups s × IsFreeHere t.world s)) slot
     → ((s : ℕ) → IsHinted t.hints s → IsSlotOf Mirrored t.world.array.parts.groups s × IsFreeHere t.world s → IsHinted hints s)
     → (T : Tiered) → StandsFor t T → IsFirst (IsFreeMirror T.flat) slot × StandsFor (record t { hints = hints }) T

@@ -3,6 +3,7 @@
 #![tactic(auto)]
 
 mod asks;
+mod bits;
 mod hints;
 mod notes;
 mod outcome;

@@ -1,7 +1,9 @@
-use Rattle.std.proofs.Common.{ℕ, ◌<◌}
-use Rattle.migrator.specs.Ages.{IsMarked}
-use Rattle.tiering.specs.Hints.{IsSought, InRow}
+use Rattle.std.proofs.Common.{get_or}
+use Rattle.tiering.specs.Hints.{IsSought}
 use Rattle.tiering.proofs.hints.first_in_row.Given as goal
 
-abbrev pub invariant-loop-slot : goal.invariant-loop-slot
-invariant-loop-slot g l = IsSought l.fn.slots l.slots (g.F.Free.free l.free) × ((s : ℕ) → InRow l.row s → s < l.slot → IsMarked l.slots s → ⊥)
+abbrev pub invariant-loop-bit : goal.invariant-loop-bit
+invariant-loop-bit g l = IsSought l.fn.slots l.slots (g.F.Free.free l.free)
+
+abbrev pub decreases-loop-bit : goal.decreases-loop-bit
+decreases-loop-bit g l = get_or l.slots l.row 0
