@@ -1,8 +1,9 @@
 -- The digits of bytes, step by step.
-use Rattle.std.proofs.Common.{◌≡◌, ℕ, ◌+◌, ◌≤◌, List, [], ◌∷◌, ◌++◌, length, take, drop, refl, sym, ap, ◌∙◌, arith, append_assoc, append-nil}
-use Rattle.std.proofs.lemmas.List.{drop_all}
+use Rattle.std.proofs.Common.{◌≡◌, ℕ, ◌+◌, ◌*◌, ◌≤◌, List, [], ◌∷◌, ◌++◌, length, take, drop, refl, sym, ap, ◌∙◌, arith, append_assoc, append-nil}
+use Rattle.std.proofs.lemmas.List.{drop_all, take_all, take-append-le}
 use Rattle.std.proofs.lemmas.Simd.{chunk-drop}
 use Rattle.hex.specs.Hex.{encode_lower, encode_with, lower_digits}
+use Rattle.hex.proofs.HexLemmas.{length-encode_with}
 
 encode_append : (t front back : List ℕ) → encode_with t (front ++ back) ≡ encode_with t front ++ encode_with t back
 unfolding encode_with
@@ -24,3 +25,15 @@ unfolding encode_with
 no_more out all bytes at end so_far =
     let none : drop at bytes ≡ [] = drop_all at bytes end in
     sym (append-nil out) ∙ (rw none at so_far)
+
+-- there are two digits for each byte
+length-encoded : (bytes : List ℕ) → length (encode_lower bytes) ≡ 2 * length bytes
+length-encoded bytes = length-encode_with lower_digits bytes
+
+-- the first digits are those of the first bytes
+pub front_digits : (count : ℕ) (front back : List ℕ) → 2 * length front ≡ count → take count (encode_lower (front ++ back)) ≡ encode_lower front
+front_digits count front back twice =
+    let digits : List ℕ = encode_lower front in
+    let long : length digits ≡ count = length-encoded front ∙ twice in
+    ap (take count) (encode_append lower_digits front back) ∙ take-append-le count digits (encode_lower back) (omega (arith, long))
+    ∙ take_all count digits (omega (arith, long))
