@@ -1,6 +1,6 @@
 -- The bytes that are decoded so far.
 use Rattle.std.proofs.Common.{◌≡◌, ℕ, ◌+◌, ◌*◌, ◌%◌, ◌≤◌, List, [], ◌++◌, length, map, take, drop, Bool, true, false, Result, Ok, Err, refl, sym, ap, ◌∙◌, arith, append-nil, ◌-◌}
-use Rattle.std.proofs.lemmas.List.{take-append-drop, length-take-le, length-drop, drop_all}
+use Rattle.std.proofs.lemmas.List.{take-append-drop, length-take-le, length-drop, drop_all, map-append}
 use Rattle.std.proofs.lemmas.Simd.{take_more_put_chunk, length-chunk}
 use Rattle.std.specs.Prelude.{MatchResult}
 use Rattle.std.specs.List.{between}
@@ -11,7 +11,7 @@ use borrow.Rule.Slice.PartMut.{put_mid}
 use Rattle.hex.specs.Hex.{decode_sized}
 use Rattle.hex.specs.declared.error.FromHexError.{FromHexError}
 use Rattle.hex_lanes.specs.Halves.{value_or_more, joined}
-use Rattle.hex_lanes.proofs.Lanes.{IsHalf, take_chunk}
+use Rattle.hex_lanes.proofs.Lanes.{IsHalf, take_chunk, two_chunks}
 use Rattle.hex_lanes.proofs.Spelled.{IsDigit, spelled, spelled-append, length-spelled, Each1-append, Each1-behind, digits_of, decoded, digits_from_values}
 
 -- the first k bytes are decoded
@@ -22,20 +22,39 @@ pub record IsDone (k : ℕ) (digits out : List ℕ) : Type 0 where
 pub none_done : (digits out : List ℕ) → IsDone 0 digits out
 none_done digits out = record { are = tt; spelled_is = refl }
 
+-- n bytes more
+more_done : (k n : ℕ) (digits out values bytes : List ℕ) → k + n ≤ length out → length digits ≡ 2 * length out
+    → values ≡ map value_or_more (chunk (2 * k) (2 * n) digits) → Each1 IsHalf values → bytes ≡ joined values
+    → IsDone k digits out → IsDone (k + n) digits (put_chunk k out bytes)
+more_done k n digits out values bytes fits twice is halves joins done =
+    let more : List ℕ = chunk (2 * k) (2 * n) digits in
+    let front : take (2 * (k + n)) digits ≡ take (2 * k) digits ++ more = take_chunk (2 * k) (2 * n) _ digits (omega arith) in
+    let even : length (take (2 * k) digits) % 2 ≡ 0 = omega (arith, length-take-le (2 * k) digits (omega (arith, fits, twice))) in
+    let spells : bytes ≡ spelled more = joins ∙ ap joined is in
+    let long : length bytes ≡ n = ap length spells ∙ length-spelled n more (length-chunk (2 * k) (2 * n) digits (omega (arith, fits, twice))) in
+    let written = take_more_put_chunk k out bytes (k + n) (omega (arith, long)) (omega (arith, fits)) in record {
+      are = rw front (Each1-append IsDigit _ more done.are (digits_from_values more (rw is at halves)));
+      spelled_is = rw (front, spelled-append (take (2 * k) digits) more even, written, done.spelled_is, spells) refl;
+    }
+
 -- one step more
 pub step_done : (s : ℕ) (digits out values bytes : List ℕ) → 8 * s + 8 ≤ length out → length digits ≡ 2 * length out
     → values ≡ map value_or_more (chunk (2 * (8 * s)) 16 digits) → Each1 IsHalf values → bytes ≡ joined values
     → IsDone (8 * s) digits out → IsDone (8 * (s + 1)) digits (put_chunk (8 * s) out bytes)
 step_done s digits out values bytes fits twice is halves joins done =
-    let more : List ℕ = chunk (2 * (8 * s)) 16 digits in
-    let front : take (2 * (8 * (s + 1))) digits ≡ take (2 * (8 * s)) digits ++ more = take_chunk (2 * (8 * s)) 16 _ digits (omega arith) in
-    let even : length (take (2 * (8 * s)) digits) % 2 ≡ 0 = omega (arith, length-take-le (2 * (8 * s)) digits (omega (arith, fits, twice))) in
-    let spells : bytes ≡ spelled more = joins ∙ ap joined is in
-    let long : length bytes ≡ 8 = ap length spells ∙ length-spelled 8 more (length-chunk (2 * (8 * s)) 16 digits (omega (arith, fits, twice))) in
-    let written = take_more_put_chunk (8 * s) out bytes (8 * (s + 1)) (omega (arith, long)) (omega (arith, fits)) in record {
-      are = rw front (Each1-append IsDigit _ more done.are (digits_from_values more (rw is at halves)));
-      spelled_is = rw (front, spelled-append (take (2 * (8 * s)) digits) more even, written, done.spelled_is, spells) refl;
-    }
+    let next : 8 * (s + 1) ≡ 8 * s + 8 = omega arith in
+    rw next (more_done (8 * s) 8 digits out values bytes fits twice is halves joins done)
+
+-- one turn more
+pub turn_done : (t : ℕ) (digits out first second bytes : List ℕ) → 16 * t + 16 ≤ length out → length digits ≡ 2 * length out
+    → first ≡ map value_or_more (chunk (2 * (16 * t)) 16 digits) → second ≡ map value_or_more (chunk (2 * (16 * t) + 16) 16 digits)
+    → Each1 IsHalf first → Each1 IsHalf second → bytes ≡ joined (first ++ second)
+    → IsDone (16 * t) digits out → IsDone (16 * (t + 1)) digits (put_chunk (16 * t) out bytes)
+turn_done t digits out first second bytes fits twice one other halves too joins done =
+    let next : 16 * (t + 1) ≡ 16 * t + 16 = omega arith in
+    let is : first ++ second ≡ map value_or_more (chunk (2 * (16 * t)) 32 digits) =
+    rw (two_chunks (2 * (16 * t)) 16 16 (2 * (16 * t) + 16) 32 digits refl refl, map-append value_or_more (chunk (2 * (16 * t)) 16 digits) (chunk (2 * (16 * t) + 16) 16 digits), one, other) refl in
+    rw next (more_done (16 * t) 16 digits out (first ++ second) bytes fits twice is (Each1-append IsHalf first second halves too) joins done)
 
 -- what is told of the bytes that the digits spell, and what the buffer holds then
 abbrev pub Tells : Bool → List ℕ → Result (List ℕ) FromHexError → Type 0

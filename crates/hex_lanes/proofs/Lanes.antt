@@ -1,5 +1,7 @@
 -- The lanes of vectors, one by one.
-use Rattle.std.proofs.Common.{◌≡◌, ℕ, zero, suc, ◌<◌, List, [], ◌∷◌, ◌++◌, ◌+◌, length, get_or, take, refl, sym, ap, arith}
+use Rattle.std.proofs.Common.{◌≡◌, ℕ, zero, suc, ◌<◌, ◌≤◌, List, [], ◌∷◌, ◌++◌, ◌+◌, length, get_or, take, drop, refl, sym, ap, arith}
+use Rattle.std.proofs.lemmas.Simd.{length-chunk}
+use Rattle.std.proofs.lemmas.List.{take-append-le, take_all, drop-append-le, drop_all}
 use Rattle.std.specs.Simd.Lanes.{chunk}
 
 -- n lanes
@@ -28,3 +30,21 @@ take_chunk zero n m s e = let same : m ≡ n = omega arith in ap (λ k. take k s
 take_chunk (suc i) n zero s e = absurd (omega arith)
 take_chunk (suc i) n (suc m) [] e = sym (take_nothing n)
 take_chunk (suc i) n (suc m) (x ∷ s) e = ap (λ rest. x ∷ rest) (take_chunk i n m s (omega arith))
+
+-- lanes in two parts
+pub two_chunks : (i n m j t : ℕ) (s : List ℕ) → j ≡ i + n → t ≡ n + m → chunk i t s ≡ chunk i n s ++ chunk j m s
+two_chunks zero n m j t s there all = let same : j ≡ n = omega (arith, there) in rw same (take_chunk n m t s all)
+two_chunks (suc i) n m zero t s there all = absurd (omega (arith, there))
+two_chunks (suc i) n m (suc j) t [] there all = rw (take_nothing t, take_nothing n, take_nothing m) refl
+two_chunks (suc i) n m (suc j) t (x ∷ s) there all = two_chunks i n m j t s (omega (arith, there)) all
+
+-- each part by itself
+pub first_chunk : (i n m j t : ℕ) (s : List ℕ) → j ≡ i + n → t ≡ n + m → j ≤ length s → take n (chunk i t s) ≡ chunk i n s
+first_chunk i n m j t s there all fits =
+    let long : length (chunk i n s) ≡ n = length-chunk i n s (omega (arith, there, fits)) in
+    rw (two_chunks i n m j t s there all, take-append-le n (chunk i n s) (chunk j m s) (omega (arith, long))) (take_all n (chunk i n s) (omega (arith, long)))
+
+pub second_chunk : (i n m j t : ℕ) (s : List ℕ) → j ≡ i + n → t ≡ n + m → j ≤ length s → drop n (chunk i t s) ≡ chunk j m s
+second_chunk i n m j t s there all fits =
+    let long : length (chunk i n s) ≡ n = length-chunk i n s (omega (arith, there, fits)) in
+    rw (two_chunks i n m j t s there all, drop-append-le n (chunk i n s) (chunk j m s) (omega (arith, long)), drop_all n (chunk i n s) (omega (arith, long))) refl

@@ -86,7 +86,3 @@ length-spelled (suc n) (a ∷ b ∷ s) e = let rest = length-spelled n s (omega 
 pub digits_from_values : (s : List ℕ) → Each1 IsHalf (map value_or_more s) → Each1 IsDigit s
 digits_from_values [] h = tt
 digits_from_values (c ∷ s) h = (h.0, digits_from_values s h.1)
-
-pub values_from_digits : (s : List ℕ) → Each1 IsDigit s → Each1 IsHalf (map value_or_more s)
-values_from_digits [] h = tt
-values_from_digits (c ∷ s) h = (h.0, values_from_digits s h.1)

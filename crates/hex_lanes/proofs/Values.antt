@@ -1,5 +1,5 @@
 -- What the lanes of digits come to.
-use Rattle.std.proofs.Common.{◌≡◌, ℕ, zero, suc, ◌+◌, ◌-◌, ◌*◌, ◌%◌, ◌^◌, ◌<◌, ◌==◌, Bool, true, false, not, ◌&&◌, cond, leb, ltb, List, [], ◌∷◌, ◌++◌, length, map, replicate, bit_or, w8, Fits, refl, sym, ◌∙◌, arith, inl, inr, leb-true, leb-false}
+use Rattle.std.proofs.Common.{◌≡◌, ℕ, zero, suc, ◌+◌, ◌-◌, ◌*◌, ◌%◌, ◌^◌, ◌<◌, ◌==◌, Bool, true, false, not, ◌&&◌, cond, leb, ltb, List, [], ◌∷◌, ◌++◌, length, map, replicate, bit_and, w8, Fits, refl, sym, ap, ◌∙◌, arith, inl, inr, leb-true, leb-false, ltb-true, ltb-false, subst}
 use Rattle.std.proofs.lemmas.Bool.{and_parts, cases_lt, eqb-true}
 use Rattle.std.proofs.lemmas.Simd.{mask_l-mod}
 use Rattle.std.specs.Simd.Lanes.{Each1, zip2}
@@ -19,50 +19,104 @@ more a b = (a + b) % 2 ^ 8
 abbrev pub below : ℕ → ℕ → ℕ
 below a b = cond (ltb a b) 255 0
 
+abbrev flipped : ℕ → ℕ
+flipped a = 255 - a
+
+-- the greater of both
+abbrev pub greater : ℕ → ℕ → ℕ
+greater a b = cond (top 7 (below a b)) b a
+
+-- the sum, 255 at most
+abbrev plus : ℕ → ℕ → ℕ
+plus a b = more a (cond (top 7 (below b (flipped a))) b (flipped a))
+
+abbrev decimal : ℕ → ℕ
+decimal c = less (less (greater (more c 198) 6) 6) 240
+
 abbrev letter : ℕ → ℕ
-letter c = less (bit_or c 32) 97
+letter c = plus (less (bit_and c 223) 65) 10
 
 abbrev lane : ℕ → ℕ
-lane c = cond (top 7 (below (less c 48) 10)) (less c 48) (cond (top 7 (below (letter c) 6)) (more (letter c) 10) 255)
+lane c = cond (top 7 (below (decimal c) (letter c))) (decimal c) (letter c)
+
+-- a lane is its digit's value, or neither is a half byte
+abbrev is_right : ℕ → Bool
+is_right c = cond (ltb (lane c) 16) (lane c == value_or_more c) (leb 16 (value_or_more c))
 
 -- the lanes of all bytes below n are right
-abbrev all_agree : ℕ → Bool
-all_agree zero = true
-all_agree (suc n) = (lane n == value_or_more n) && all_agree n
+abbrev all_right : ℕ → Bool
+all_right zero = true
+all_right (suc n) = is_right n && all_right n
 
-agree : (n c : ℕ) → all_agree n ≡ true → c < n → lane c ≡ value_or_more c
-agree zero c h l = absurd (omega arith)
-agree (suc n) c h l =
-    let parts = and_parts (lane n == value_or_more n) (all_agree n) h in
+right_below : (n c : ℕ) → all_right n ≡ true → c < n → is_right c ≡ true
+right_below zero c h l = absurd (omega arith)
+right_below (suc n) c h l =
+    let parts = and_parts (is_right n) (all_right n) h in
     elim (cases_lt c n) [
-      | inl lower ↦ agree n c parts.1 lower
+      | inl lower ↦ right_below n c parts.1 lower
       | inr last ↦
           let e : c ≡ n = omega arith in
-          rw e (eqb-true _ _ parts.0)
+          rw e parts.0
     ]
 
-lane_is : (c : ℕ) → c < 256 → lane c ≡ value_or_more c
-lane_is c l = agree 256 c refl l
+right : (c : ℕ) → c < 256 → is_right c ≡ true
+right c l = right_below 256 c refl l
+
+lane_is : (c : ℕ) → c < 256 → IsHalf (lane c) → lane c ≡ value_or_more c
+lane_is c l half = go (ltb (lane c) 16) refl (right c l)
+  where
+    go : (t : Bool) → ltb (lane c) 16 ≡ t → cond t (lane c == value_or_more c) (leb 16 (value_or_more c)) ≡ true → lane c ≡ value_or_more c
+    go true t is = eqb-true _ _ is
+    go false t is = absurd (omega (arith, ltb-false _ _ t, half))
+
+digit_lane : (c : ℕ) → c < 256 → IsHalf (value_or_more c) → IsHalf (lane c)
+digit_lane c l half = go (ltb (lane c) 16) refl (right c l)
+  where
+    go : (t : Bool) → ltb (lane c) 16 ≡ t → cond t (lane c == value_or_more c) (leb 16 (value_or_more c)) ≡ true → IsHalf (lane c)
+    go true t is = omega (arith, ltb-true _ _ t)
+    go false t is = absurd (omega (arith, leb-true _ _ is, half))
 
 -- ---- the values of n digits
 
+abbrev sums : ℕ → List ℕ → List ℕ
+sums n v = zip2 more v (replicate n 198)
+
 abbrev decimals : ℕ → List ℕ → List ℕ
-decimals n v = zip2 less v (replicate n 48)
+decimals n v =
+    zip2 less (zip2 less (sel_l (map (top 7) (zip2 below (sums n v) (replicate n 6))) (replicate n 6) (sums n v)) (replicate n 6)) (replicate n 240)
+
+abbrev capitals : ℕ → List ℕ → List ℕ
+capitals n v = zip2 less (zip2 bit_and v (replicate n 223)) (replicate n 65)
 
 abbrev letters : ℕ → List ℕ → List ℕ
-letters n v = zip2 less (zip2 bit_or v (replicate n 32)) (replicate n 97)
-
-abbrev tens : ℕ → List ℕ → List ℕ
-tens n v = sel_l (map (top 7) (zip2 below (letters n v) (replicate n 6))) (zip2 more (letters n v) (replicate n 10)) (replicate n 255)
+letters n v =
+    zip2 more (capitals n v)
+    (sel_l (map (top 7) (zip2 below (replicate n 10) (map flipped (capitals n v)))) (replicate n 10) (map flipped (capitals n v)))
 
 abbrev values : ℕ → List ℕ → List ℕ
-values n v = sel_l (map (top 7) (zip2 below (decimals n v) (replicate n 10))) (decimals n v) (tens n v)
+values n v = sel_l (map (top 7) (zip2 below (decimals n v) (letters n v))) (decimals n v) (letters n v)
 
-pub values_are : (n : ℕ) (v : List ℕ) → length v ≡ n → Each1 (Fits w8) v → values n v ≡ map value_or_more v
-values_are zero [] e h = refl
-values_are (suc n) [] e h = absurd (omega arith)
-values_are zero (c ∷ v) e h = absurd (omega arith)
-values_are (suc n) (c ∷ v) e h = rw (lane_is c h.0.fits, values_are n v (omega arith) h.1) refl
+lanes_are : (n : ℕ) (v : List ℕ) → length v ≡ n → values n v ≡ map lane v
+lanes_are zero [] e = refl
+lanes_are (suc n) [] e = absurd (omega arith)
+lanes_are zero (c ∷ v) e = absurd (omega arith)
+lanes_are (suc n) (c ∷ v) e = ap (λ rest. lane c ∷ rest) (lanes_are n v (omega arith))
+
+lanes_mean : (v : List ℕ) → Each1 (Fits w8) v → Each1 IsHalf (map lane v) → map lane v ≡ map value_or_more v
+lanes_mean [] fits h = refl
+lanes_mean (c ∷ v) fits h = rw (lane_is c fits.0.fits h.0, lanes_mean v fits.1 h.1) refl
+
+digits_mean : (v : List ℕ) → Each1 (Fits w8) v → Each1 (λ c. IsHalf (value_or_more c)) v → Each1 IsHalf (map lane v)
+digits_mean [] fits h = tt
+digits_mean (c ∷ v) fits h = (digit_lane c fits.0.fits h.0, digits_mean v fits.1 h.1)
+
+pub values_mean : (n : ℕ) (v : List ℕ) → length v ≡ n → Each1 (Fits w8) v → Each1 IsHalf (values n v) → values n v ≡ map value_or_more v
+values_mean n v e fits h =
+    let are : values n v ≡ map lane v = lanes_are n v e in
+    are ∙ lanes_mean v fits (rw are at h)
+
+pub digits_have_values : (n : ℕ) (v : List ℕ) → length v ≡ n → Each1 (Fits w8) v → Each1 (λ c. IsHalf (value_or_more c)) v → Each1 IsHalf (values n v)
+digits_have_values n v e fits h = subst (λ s. Each1 IsHalf s) (sym (lanes_are n v e)) (digits_mean v fits h)
 
 -- ---- whether they are half bytes
 
@@ -110,6 +164,47 @@ halves_seen v e =
       λ h. rw (whole, none_others 16 v e h) refl,
     )
 
+-- ---- whether those of two vectors are
+
+abbrev greatest : List ℕ → List ℕ → List ℕ
+greatest v w = sel_l (map (top 7) (zip2 below v w)) w v
+
+parts_half : (a b : ℕ) → IsHalf (greater a b) → IsHalf a × IsHalf b
+parts_half a b h = go (ltb a b) refl h
+  where
+    go : (t : Bool) → ltb a b ≡ t → IsHalf (cond (top 7 (cond t 255 0)) b a) → IsHalf a × IsHalf b
+    go true t half = (omega (arith, ltb-true _ _ t, half), half)
+    go false t half = (half, omega (arith, ltb-false _ _ t, half))
+
+greater_half : (a b : ℕ) → IsHalf a → IsHalf b → IsHalf (greater a b)
+greater_half a b h k = go (ltb a b)
+  where
+    go : (t : Bool) → IsHalf (cond (top 7 (cond t 255 0)) b a)
+    go true = k
+    go false = h
+
+all_parts_half : (n : ℕ) (v w : List ℕ) → length v ≡ n → length w ≡ n → Each1 IsHalf (greatest v w) → Each1 IsHalf v × Each1 IsHalf w
+all_parts_half zero [] [] e f h = (tt, tt)
+all_parts_half zero (a ∷ v) w e f h = absurd (omega arith)
+all_parts_half zero [] (b ∷ w) e f h = absurd (omega arith)
+all_parts_half (suc n) [] w e f h = absurd (omega arith)
+all_parts_half (suc n) (a ∷ v) [] e f h = absurd (omega arith)
+all_parts_half (suc n) (a ∷ v) (b ∷ w) e f h =
+    let one = parts_half a b h.0 in
+    let rest = all_parts_half n v w (omega arith) (omega arith) h.1 in
+    ((one.0, rest.0), (one.1, rest.1))
+
+all_greater_half : (n : ℕ) (v w : List ℕ) → length v ≡ n → length w ≡ n → Each1 IsHalf v → Each1 IsHalf w → Each1 IsHalf (greatest v w)
+all_greater_half zero [] [] e f h k = tt
+all_greater_half zero (a ∷ v) w e f h k = absurd (omega arith)
+all_greater_half zero [] (b ∷ w) e f h k = absurd (omega arith)
+all_greater_half (suc n) [] w e f h k = absurd (omega arith)
+all_greater_half (suc n) (a ∷ v) [] e f h k = absurd (omega arith)
+all_greater_half (suc n) (a ∷ v) (b ∷ w) e f h k = (greater_half a b h.0 k.0, all_greater_half n v w (omega arith) (omega arith) h.1 k.1)
+
+pub both_seen : (n : ℕ) (v w : List ℕ) → length v ≡ n → length w ≡ n → Each1 IsHalf (greatest v w) ↔ Each1 IsHalf v × Each1 IsHalf w
+both_seen n v w e f = (all_parts_half n v w e f, λ both. all_greater_half n v w e f both.0 both.1)
+
 -- ---- the bytes that they make
 
 abbrev byte_of : ℕ → ℕ → ℕ
@@ -126,6 +221,19 @@ pairs_are (high ∷ []) h = refl
 pairs_are (high ∷ low ∷ rest) h =
     let one : byte_of high low ≡ high * 16 + low = omega (arith, h.0, h.1.0) in
     rw (one, pairs_are rest h.1.1) refl
+
+-- the pairs of two vectors, side by side
+abbrev evens : List ℕ → List ℕ
+evens v = pick_l 0 v (0 ∷ 2 ∷ 4 ∷ 6 ∷ 8 ∷ 10 ∷ 12 ∷ 14 ∷ 16 ∷ 18 ∷ 20 ∷ 22 ∷ 24 ∷ 26 ∷ 28 ∷ 30 ∷ [])
+
+abbrev odds : List ℕ → List ℕ
+odds v = pick_l 0 v (1 ∷ 3 ∷ 5 ∷ 7 ∷ 9 ∷ 11 ∷ 13 ∷ 15 ∷ 17 ∷ 19 ∷ 21 ∷ 23 ∷ 25 ∷ 27 ∷ 29 ∷ 31 ∷ [])
+
+both_paired : (v : List ℕ) → length v ≡ 32 → zip2 byte_of (evens v) (odds v) ≡ pairs v
+both_paired v e = rw (in_lanes 32 v e) refl
+
+pub both_are : (v : List ℕ) → length v ≡ 32 → Each1 IsHalf v → zip2 byte_of (evens v) (odds v) ≡ joined v
+both_are v e h = both_paired v e ∙ pairs_are v h
 
 abbrev highs : List ℕ → List ℕ
 highs v = pick_l 0 (v ++ v) (0 ∷ 2 ∷ 4 ∷ 6 ∷ 8 ∷ 10 ∷ 12 ∷ 14 ∷ [])

@@ -1,10 +1,10 @@
 //! Bytes from hex digits.
-ghost use Rattle.std.specs.Prelude.{◌≡◌, ◌<◌, ◌↔◌, length, map, true, false, IsTrue, MatchResult};
+ghost use Rattle.std.specs.Prelude.{◌≡◌, ◌<◌, ◌↔◌, ◌++◌, length, map, true, false, IsTrue, MatchResult};
 ghost use Rattle.std.specs.Simd.Lanes.{Each1};
 ghost use Rattle.hex.specs.Hex.{decode_sized};
 ghost use Rattle.hex_lanes.specs.Halves.{joined, value_or_more};
 
-use crate::STEP;
+use crate::{STEP, WIDE};
 use hex::decode_to_slice;
 use std::simd::prelude::*;
 
@@ -18,8 +18,18 @@ pub fn decode_hex(digits: &[u8], out: &mut [u8]) -> bool
     if digits.len() % 2 != 0 || digits.len() / 2 != out.len() {
         return false;
     }
+    let turns = out.len() / WIDE;
     let steps = out.len() / STEP;
-    for step in 0..steps {
+    for turn in 0..turns {
+        let at = WIDE * turn;
+        let first = values_of(u8x16::from_slice(&digits[2 * at..]));
+        let second = values_of(u8x16::from_slice(&digits[2 * at + WIDE..]));
+        if !are_all_halves(first, second) {
+            return false;
+        }
+        join_both(first, second).copy_to_slice(&mut out[at..]);
+    }
+    for step in 2 * turns..steps {
         let at = STEP * step;
         let values = values_of(u8x16::from_slice(&digits[2 * at..]));
         if !are_halves(values) {
@@ -39,17 +49,26 @@ fn are_halves(values: u8x16) -> bool
     !values.simd_ge(u8x16::splat(16)).any()
 }
 
-// The value of each digit, and 255 of what is none.
+// Whether each lane of both is a half byte.
+#[inline(always)]
+fn are_all_halves(first: u8x16, second: u8x16) -> bool
+    ensures { IsTrue result ↔ Each1 (λ value. value < 16) first × Each1 (λ value. value < 16) second }
+{
+    are_halves(first.simd_max(second))
+}
+
+// The value of each digit, and 16 or more of what is none.
 #[inline(always)]
 fn values_of(digits: u8x16) -> u8x16
-    ensures { result ≡ map value_or_more digits }
+    ensures digits { Each1 (λ digit. value_or_more digit < 16) digits ↔ Each1 (λ value. value < 16) result }
+    ensures values { Each1 (λ value. value < 16) result → result ≡ map value_or_more digits }
 {
-    let decimal = digits - u8x16::splat(b'0');
-    let letter = (digits | u8x16::splat(32)) - u8x16::splat(b'a');
-    let tens = letter
-        .simd_lt(u8x16::splat(6))
-        .select(letter + u8x16::splat(10), u8x16::splat(255));
-    decimal.simd_lt(u8x16::splat(10)).select(decimal, tens)
+    // By the sum '0' to '9' are 246 to 255; what is less comes out as 16 or more.
+    let decimal = (digits + u8x16::splat(198)).saturating_sub(u8x16::splat(6)) - u8x16::splat(240);
+    // Without the bit of small letters 'A' to 'F' are 0 to 5, and all else is more.
+    let capital = (digits & u8x16::splat(223)) - u8x16::splat(b'A');
+    let letter = capital.saturating_add(u8x16::splat(10));
+    decimal.simd_min(letter)
 }
 
 // Each pair of half bytes as a byte.
@@ -61,4 +80,14 @@ fn join(values: u8x16) -> u8x8
     let highs: u8x8 = values.swizzle([0, 2, 4, 6, 8, 10, 12, 14]);
     let lows: u8x8 = values.swizzle([1, 3, 5, 7, 9, 11, 13, 15]);
     (highs << u8x8::splat(4)) + lows
+}
+
+// The same of two vectors.
+#[inline(always)]
+fn join_both(first: u8x16, second: u8x16) -> u8x16
+    requires { Each1 (λ value. value < 16) first × Each1 (λ value. value < 16) second }
+    ensures { result ≡ joined (first ++ second) }
+{
+    let (highs, lows) = first.deinterleave(second);
+    (highs << u8x16::splat(4)) + lows
 }

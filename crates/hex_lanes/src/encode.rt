@@ -1,10 +1,10 @@
 //! Hex digits of bytes.
-ghost use Rattle.std.specs.Prelude.{◌≡◌, ◌*◌, ◌<◌, length, map, slice_index};
+ghost use Rattle.std.specs.Prelude.{◌≡◌, ◌*◌, ◌<◌, length, map, slice_index, take, drop};
 ghost use Rattle.std.specs.Simd.Lanes.{Each1};
 ghost use Rattle.hex.specs.Hex.{encode_lower, lower_digits};
 ghost use Rattle.hex_lanes.specs.Halves.{halves};
 
-use crate::STEP;
+use crate::{STEP, WIDE};
 use std::simd::prelude::*;
 
 /// The digits of a half byte.
@@ -15,8 +15,15 @@ pub fn encode_hex(bytes: &[u8], out: &mut [u8])
     requires { length out.old ≡ 2 * length bytes.now }
     ensures { out.new ≡ encode_lower bytes.now }
 {
+    let turns = bytes.len() / WIDE;
     let steps = bytes.len() / STEP;
-    for step in 0..steps {
+    for turn in 0..turns {
+        let at = WIDE * turn;
+        let (first, second) = halves_of_both(u8x16::from_slice(&bytes[at..]));
+        digits_of(first).copy_to_slice(&mut out[2 * at..]);
+        digits_of(second).copy_to_slice(&mut out[2 * at + WIDE..]);
+    }
+    for step in 2 * turns..steps {
         let at = STEP * step;
         let digits = digits_of(halves_of(u8x8::from_slice(&bytes[at..])));
         digits.copy_to_slice(&mut out[2 * at..]);
@@ -36,6 +43,18 @@ fn halves_of(bytes: u8x8) -> u8x16
     let highs = bytes >> u8x8::splat(4);
     let lows = bytes & u8x8::splat(15);
     highs.shuffle(lows, [0, 8, 1, 9, 2, 10, 3, 11, 4, 12, 5, 13, 6, 14, 7, 15])
+}
+
+// The halves of the first eight bytes, and those of the others.
+#[inline(always)]
+fn halves_of_both(bytes: u8x16) -> (u8x16, u8x16)
+    ensures first { result.0 ≡ halves (take 8 bytes) }
+    ensures second { result.1 ≡ halves (drop 8 bytes) }
+    ensures small { Each1 (λ half. half < 16) result.0 × Each1 (λ half. half < 16) result.1 }
+{
+    let highs = bytes >> u8x16::splat(4);
+    let lows = bytes & u8x16::splat(15);
+    highs.interleave(lows)
 }
 
 // The digit of each half byte.

@@ -1,9 +1,21 @@
-use Rattle.std.proofs.Common.{arith, ap}
+use Rattle.std.proofs.Common.{◌≡◌, ◌*◌, ◌/◌, length, arith, ap}
 use Rattle.std.specs.Prelude.{slice_index}
 use Rattle.hex.specs.Hex.{lower_digits}
 use Rattle.hex.proofs.Pairs.{encode_step, encode_done}
-use Rattle.hex_lanes.proofs.Encoded.{step_encoded}
+use Rattle.hex_lanes.proofs.Encoded.{step_encoded, turn_encoded}
 use Rattle.hex_lanes.proofs.encode.encode_hex.Goals as goal
+
+pub loop-turn-preserved : goal.loop-turn-preserved
+loop-turn-preserved c =
+    turn_encoded c.loop-turn.turn c.args.bytes.now c.loop-turn.out c.halves_of_both.result.0 c.halves_of_both.result.1
+    c.digits_of.result c.digits_of-in-loop-turn.result (omega (arith, c.loop-turn-test.true)) (omega (arith, c.requires, c.loop-turn.auto.out))
+    c.halves_of_both.ensures.first c.halves_of_both.ensures.second c.digits_of.ensures c.digits_of-in-loop-turn.ensures c.loop-turn.invariant
+
+pub loop-step-init : goal.loop-step-init
+loop-step-init c =
+    let all : c.loop-turn.turn ≡ length c.args.bytes.now / 16 = omega (arith, c.loop-turn-test.false, c.loop-turn.auto.turn-end) in
+    let same : 8 * (2 * (length c.args.bytes.now / 16)) ≡ 16 * (length c.args.bytes.now / 16) = omega arith in
+    rw same (rw all at c.loop-turn.invariant)
 
 pub loop-step-preserved : goal.loop-step-preserved
 loop-step-preserved c =
