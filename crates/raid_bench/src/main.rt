@@ -29,7 +29,8 @@ fn main(rt: HostRuntime) -> ExitCode {
             run_script(rt.alloc(), &mut rt.stdin(), &mut rt.stdout()).status()
         }
         Ok(Some(Task::Storm { workers, writes })) => {
-            tell_storm(&rt, run_storm(&rt, rt.alloc(), workers, writes))
+            let told = run_storm(&rt, rt.alloc(), workers, writes);
+            tell_storm(rt.alloc(), &mut rt.stdout(), told)
         }
         Ok(None) => NO_TASK,
         Err(_) => End::Memory.status(),
