@@ -3,6 +3,7 @@
 
 mod bench;
 mod carry;
+mod laws;
 mod limits;
 mod maps;
 mod replies;
@@ -11,6 +12,7 @@ mod texts;
 mod why;
 
 pub use bench::Bench;
+pub use laws::line_laws;
 pub use replies::reply;
 pub use texts::{put, put_number};
 pub use why::{Failure, Why};

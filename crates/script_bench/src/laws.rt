@@ -1,0 +1,14 @@
+// Laws of what a line means, as the contract of a function that does nothing.
+ghost use Rattle.std.specs.Prelude.{◌≡◌, ℕ, List};
+ghost use Rattle.script_words.specs.Order.{Order};
+ghost use Rattle.script_words.specs.Spelling.{Spells};
+ghost use Rattle.script_bench.specs.State.{State};
+ghost use Rattle.script_bench.specs.Meaning.{Meaning, Means};
+
+/// A line spells one command at most, and where it stands it means one thing: nothing, that command, or one fault.
+pub fn line_laws()
+    ensures spelled { (line : List ℕ) (one other : Order) → Spells one line → Spells other line → one ≡ other }
+    ensures meant { (n : ℕ) (state : State) (line : List ℕ) (one other : Meaning) → Means n state line one → Means n state line other → one ≡ other }
+{
+    // The laws are the contract: there is nothing to do.
+}
