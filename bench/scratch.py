@@ -1,4 +1,5 @@
-"""What the benchmarks share: a scratch repository with the crates that are measured and a program over them, the script program, and clocks."""
+"""What the benchmarks share: a scratch repository with the crates that are measured and a program over them, the script program proved and
+in plain Rust, and clocks."""
 
 import os
 import pathlib
@@ -12,29 +13,51 @@ import time
 TOP = pathlib.Path(__file__).resolve().parent.parent
 
 
-def lay_out(folder, here, program, stands_on, crates, kept=False):
-    """Copies the crates and the program into a repository of their own, and, if told so, what is kept of the crates' proofs."""
-    passed_over = shutil.ignore_patterns() if kept else shutil.ignore_patterns("out")
+def lines_of_crates():
+    """The lines of crates.txt, by the crate that each is of."""
+    lines = [line for line in (TOP / "crates.txt").read_text().splitlines() if line and not line.startswith("#")]
+    return {line.split(":")[0].split(" ")[0]: line for line in lines}
+
+
+def lay_out(folder, crates):
+    """Copies the crates into a repository of their own, without their must-fail edits."""
     for name in crates:
+        passed_over = shutil.ignore_patterns("out", "must-fail")
         shutil.copytree(TOP / "crates" / name, folder / "crates" / name, ignore=passed_over, dirs_exist_ok=True)
-    # The program's files end in .txt here, since the gate wants every file of code to be of a crate that it proves.
+    shutil.copy(TOP / "HANDLES", folder / "HANDLES")
+    lines = lines_of_crates()
+    (folder / "crates.txt").write_text("".join(f"{lines[name]}\n" for name in crates))
+
+
+def add_program(folder, here, program, stands_on):
+    """Copies a program over crates that are laid out."""
+    # Its files end in .txt here, since the gate wants every file of code to be of a crate that it proves.
     for file in (here / program).rglob("*.txt"):
         to = folder / "crates" / program / file.relative_to(here / program).with_suffix("")
         to.parent.mkdir(parents=True, exist_ok=True)
         shutil.copy(file, to)
-    shutil.copy(TOP / "HANDLES", folder / "HANDLES")
-    lines = [line for line in (TOP / "crates.txt").read_text().splitlines() if line.split(":")[0].split(" ")[0] in crates]
-    (folder / "crates.txt").write_text("\n".join(lines + [f"{program}: {stands_on}", ""]))
-    (folder / ".gitignore").write_text("out/\n")
+    with open(folder / "crates.txt", "a") as lines:
+        lines.write(f"{program}: {stands_on}\n")
 
 
-def build(folder, here, program):
+def prove(folder, program):
+    """The program, proved and built. What the gate passed with the same files on this machine the kit has kept, and it isn't proved again."""
+    told = folder / "told"
+    with open(told, "w") as target:
+        done = subprocess.run(["rt", "ci"], cwd=folder, stdin=subprocess.DEVNULL, stdout=target, stderr=subprocess.STDOUT)
+    if done.returncode != 0:
+        sys.exit("".join(told.read_text().splitlines(keepends=True)[-20:]))
+    return folder / "crates" / program / "out" / program
+
+
+def build(folder, here, program, stands_on, crates):
     """The program, proved and built, and the one in plain Rust."""
-    crate = folder / "crates" / program
-    subprocess.run(["rt", "run"], cwd=crate, stdin=subprocess.DEVNULL, check=True)
+    lay_out(folder, crates)
+    add_program(folder, here, program, stands_on)
+    proved = prove(folder, program)
     plain = folder / "plain"
     subprocess.run(["rustc", "--edition=2021", "-Copt-level=3", "-Ctarget-cpu=x86-64-v2", "-o", plain, here / "plain.rs"], check=True)
-    return crate / "out" / program, plain
+    return proved, plain
 
 
 def seconds(program, line):
@@ -44,12 +67,11 @@ def seconds(program, line):
     return time.perf_counter() - start, said
 
 
-def compare(here, program, crates, works, rounds, stands_on=None, kept=False):
-    """Lays out and builds a program and the one in plain Rust, runs both on each line of work in turn, and prints a table of their
-    times. What the program stands on is all the crates, where nothing else is said."""
+def compare(here, program, crates, works, rounds, stands_on=None):
+    """Builds a program and the one in plain Rust, runs both on each line of work in turn, and prints a table of their times. What the
+    program stands on is all the crates, where nothing else is said."""
     folder = pathlib.Path(sys.argv[1] if len(sys.argv) > 1 else tempfile.mkdtemp(prefix=f"{program}_"))
-    lay_out(folder, here, program, stands_on or " ".join(crates), crates, kept)
-    proved, plain = build(folder, here, program)
+    proved, plain = build(folder, here, program, stands_on or " ".join(crates), crates)
     print(f"{time.strftime('%Y-%m-%d')}, {os.cpu_count()} processors, {rounds} runs each, in turn")
     print("| Work | proved, best (s) | plain Rust, best (s) | ratio of the best | ratio of the medians |")
     print("|---|---|---|---|---|")
@@ -67,9 +89,21 @@ def compare(here, program, crates, works, rounds, stands_on=None, kept=False):
 
 def script_program():
     """The repository's program, proved and built, and its word for a script."""
-    crate = TOP / "crates" / "raid_bench"
-    subprocess.run(["rt", "run", "--", "script"], cwd=crate, stdin=subprocess.DEVNULL, stdout=subprocess.DEVNULL, check=True)
-    return [crate / "out" / "raid_bench", "script"]
+    lines = lines_of_crates()
+    crates = ["raid_bench"]
+    for name in crates:
+        crates += [each for each in lines[name].split(":")[1].split() if each in lines and each not in crates]
+    folder = pathlib.Path(tempfile.mkdtemp(prefix="raid_bench_"))
+    lay_out(folder, crates)
+    return [prove(folder, "raid_bench"), "script"]
+
+
+def plain_program(folder):
+    """The script program in plain Rust, built in the folder."""
+    plain = folder / "plain"
+    source = TOP / "bench" / "script" / "plain.rs"
+    subprocess.run(["rustc", "--edition=2024", "-Copt-level=3", "-Ctarget-cpu=x86-64-v2", "-o", plain, source], check=True)
+    return [plain]
 
 
 def processor_seconds(program, script, answers):

@@ -12,7 +12,7 @@ import tempfile
 
 HERE = pathlib.Path(__file__).resolve().parent
 sys.path.insert(0, str(HERE.parent))
-from scratch import build, lay_out, seconds  # noqa: E402
+from scratch import build, seconds  # noqa: E402
 
 CRATES = ["map_join", "extents", "extent_groups", "parity_store"]
 SIZES = ["104", "65568"]
@@ -21,7 +21,7 @@ ROUNDS = 7
 
 def build_all(folder):
     """The programs by name, the first one proved."""
-    proved, plain = build(folder, HERE, "exclusive_or_bench")
+    proved, plain = build(folder, HERE, "exclusive_or_bench", "parity_store", CRATES)
     programs = {"proved": proved, "plain Rust": plain}
     made = subprocess.run(["cc", "-O3", "-x", "c", HERE / "isal.c.txt", "-x", "none", "-o", folder / "isal", "-lisal"], capture_output=True)
     if made.returncode == 0:
@@ -33,7 +33,6 @@ def build_all(folder):
 
 def main():
     folder = pathlib.Path(sys.argv[1] if len(sys.argv) > 1 else tempfile.mkdtemp(prefix="exclusive_or_bench_"))
-    lay_out(folder, HERE, "exclusive_or_bench", "parity_store", CRATES)
     programs = build_all(folder)
     print("| Bytes | beside | proved, best (s) | the other, best (s) | ratio of the best | ratio of the medians |")
     print("|---|---|---|---|---|---|")

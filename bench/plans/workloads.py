@@ -92,5 +92,6 @@ def clean(blocks, count, rounds):
     return lines
 
 
-# what makes the script, and how many rounds; a round of a plug or a clean has four plain steps too, and of a demotion a write
-KINDS = {"write": (write, 100_000), "demote": (demote, 50_000), "plug": (plug, 8_000), "clean": (clean, 8_000)}
+# What makes the script, and how many rounds; a round of a plug or a clean has four plain steps too, and of a demotion a write. The longer
+# script has three times the rounds: block 0 is moved twice in a round, and no more than 65,535 times.
+KINDS = {"write": (write, 100_000), "demote": (demote, 50_000), "plug": (plug, 10_000), "clean": (clean, 10_000)}

@@ -1,8 +1,10 @@
 #!/usr/bin/env python3
-"""Builds the program and times scans of all units and restarts from them, with payloads of few and of many bytes.
+"""Builds the program and the one in plain Rust, and times scans of all units and restarts from them, with short and long payloads.
 
-Usage: bench/scans/run.py [PROGRAM WORD..]. Prints microseconds a scan or a restart, and how many bytes of units it reads in a
-nanosecond. With a program and its words that one is timed beside it on the same scripts, in turn, and has to give the same answers.
+Usage: bench/scans/run.py [PROGRAM WORD..]. Prints microseconds a scan or a restart, the bytes of all units by that time (the one in plain
+Rust reads their headers alone), and in the row of a program beside the proved one the ratio of the best: its microseconds by the proved
+program's, so that above 1 the proved one is the faster. With a program and its words that one is timed beside both on the same scripts,
+in turn. All answers have to be the same.
 """
 
 import pathlib
@@ -12,12 +14,12 @@ import tempfile
 
 HERE = pathlib.Path(__file__).resolve().parent
 sys.path.insert(0, str(HERE.parent))
-from scratch import a_round, script_program  # noqa: E402
+from scratch import a_round, plain_program, script_program  # noqa: E402
 
 TIMES = 7
 HEADER = 32
 # Bytes of a payload, groups of four members, half of them mirrored, and how often it is scanned or started anew.
-SIZES = [(8, 256, 40), (1_024, 64, 60), (65_536, 8, 60)]
+SIZES = [(8, 256, 40), (1_024, 64, 200), (65_536, 8, 600)]
 SEGMENTS, UPPER, LOWER = 8, 32, 48
 
 
@@ -36,11 +38,11 @@ def lines(payload, groups, kind, count):
 
 def main():
     folder = pathlib.Path(tempfile.mkdtemp(prefix="scans_bench_"))
-    programs = {"proved": script_program()}
+    programs = {"proved": script_program(), "plain Rust": plain_program(folder)}
     if sys.argv[1:]:
         programs["beside"] = sys.argv[1:]
-    print("| Work | program | blocks | microseconds | bytes a nanosecond |")
-    print("|---|---|---|---|---|")
+    print("| Work | program | blocks | microseconds | bytes a nanosecond | ratio of the best |")
+    print("|---|---|---|---|---|---|")
     for kind in ("scan", "restart"):
         for payload, groups, count in SIZES:
             _, blocks = lines(payload, groups, kind, count)
@@ -48,7 +50,9 @@ def main():
             slots = (UPPER + LOWER) * (groups // 2)
             for program, each in found.items():
                 told = slots * (HEADER + payload) / (1000 * each) if each > 0 else 0
-                print(f"| {kind} with {payload:,} bytes | {program} | {blocks:,} | {each:.1f} | {told:.2f} |", flush=True)
+                is_told = program != "proved" and min(each, found["proved"]) > 0
+                beside = f"{each / found['proved']:.2f}" if is_told else ""
+                print(f"| {kind} with {payload:,} bytes | {program} | {blocks:,} | {each:.1f} | {told:.2f} | {beside} |", flush=True)
 
 
 if __name__ == "__main__":

@@ -13,17 +13,10 @@ import tempfile
 
 HERE = pathlib.Path(__file__).resolve().parent
 sys.path.insert(0, str(HERE.parent))
-from scratch import processor_seconds, script_program  # noqa: E402
+from scratch import plain_program, processor_seconds, script_program  # noqa: E402
 from workloads import WORKLOADS  # noqa: E402
 
 ROUNDS = 15
-
-
-def build(folder):
-    """The proved program and the plain one."""
-    plain = folder / "plain"
-    subprocess.run(["rustc", "--edition=2024", "-Copt-level=3", "-Ctarget-cpu=x86-64-v2", "-o", plain, HERE / "plain.rs"], check=True)
-    return {"proved": script_program(), "plain Rust": [plain]}
 
 
 def peak(program, script, told):
@@ -35,7 +28,7 @@ def peak(program, script, told):
 
 def main():
     folder = pathlib.Path(tempfile.mkdtemp(prefix="script_bench_"))
-    programs = build(folder)
+    programs = {"proved": script_program(), "plain Rust": plain_program(folder)}
     script, answers = folder / "script", folder / "answers"
     print("| Script | lines | proved, best (s) | plain Rust, best (s) | ratio of the best | ratio of the medians | proved (KB) | plain Rust (KB) | ratio of memory |")
     print("|---|---|---|---|---|---|---|---|---|")

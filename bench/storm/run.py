@@ -1,8 +1,7 @@
 #!/usr/bin/env python3
 """Builds the proved program and the plain one in a scratch folder, times twenty storms in a row by both, and prints the ratios of their speeds.
 
-Usage: bench/storm/run.py [FOLDER]. A ratio above 1 says that the proved program is the faster one. What this repository's crates
-keep of their proofs is copied along, so that only what isn't proved yet is proved there.
+Usage: bench/storm/run.py [FOLDER]. A ratio above 1 says that the proved program is the faster one.
 """
 
 import pathlib
@@ -17,4 +16,4 @@ CRATES = ["storm", "mirrored_store", "parity_store", *BELOW.split()]
 WORKS = [f"{workers} {payload}" for payload in (8, 4096) for workers in (1, 2, 4, 8)]
 
 if __name__ == "__main__":
-    compare(HERE, "storm_bench", CRATES, WORKS, rounds=7, stands_on=f"storm {BELOW} atomic_table", kept=True)
+    compare(HERE, "storm_bench", CRATES, WORKS, rounds=7, stands_on=f"storm {BELOW} atomic_table")
