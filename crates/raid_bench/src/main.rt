@@ -30,7 +30,7 @@ fn main(rt: HostRuntime) -> ExitCode {
         }
         Ok(Some(Task::Storm { workers, writes })) => {
             let told = run_storm(&rt, rt.alloc(), workers, writes);
-            tell_storm(rt.alloc(), &mut rt.stdout(), told)
+            tell_storm(&mut rt.stdout(), told)
         }
         Ok(None) => NO_TASK,
         Err(_) => End::Memory.status(),
