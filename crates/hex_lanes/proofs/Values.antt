@@ -19,25 +19,21 @@ more a b = (a + b) % 2 ^ 8
 abbrev pub below : ℕ → ℕ → ℕ
 below a b = cond (ltb a b) 255 0
 
-abbrev flipped : ℕ → ℕ
-flipped a = 255 - a
-
--- the greater of both
+-- the greater of both, and the lesser
 abbrev pub greater : ℕ → ℕ → ℕ
 greater a b = cond (top 7 (below a b)) b a
 
--- the sum, 255 at most
-abbrev plus : ℕ → ℕ → ℕ
-plus a b = more a (cond (top 7 (below b (flipped a))) b (flipped a))
+abbrev lesser : ℕ → ℕ → ℕ
+lesser a b = cond (top 7 (below a b)) a b
 
 abbrev decimal : ℕ → ℕ
-decimal c = less (less (greater (more c 198) 6) 6) 240
+decimal c = less (greater (more c 198) 6) 246
 
 abbrev letter : ℕ → ℕ
-letter c = plus (less (bit_and c 223) 65) 10
+letter c = more (lesser (less (bit_and c 223) 65) 239) 10
 
 abbrev lane : ℕ → ℕ
-lane c = cond (top 7 (below (decimal c) (letter c))) (decimal c) (letter c)
+lane c = lesser (decimal c) (letter c)
 
 -- a lane is its digit's value, or neither is a half byte
 abbrev is_right : ℕ → Bool
@@ -82,16 +78,14 @@ abbrev sums : ℕ → List ℕ → List ℕ
 sums n v = zip2 more v (replicate n 198)
 
 abbrev decimals : ℕ → List ℕ → List ℕ
-decimals n v =
-    zip2 less (zip2 less (sel_l (map (top 7) (zip2 below (sums n v) (replicate n 6))) (replicate n 6) (sums n v)) (replicate n 6)) (replicate n 240)
+decimals n v = zip2 less (sel_l (map (top 7) (zip2 below (sums n v) (replicate n 6))) (replicate n 6) (sums n v)) (replicate n 246)
 
 abbrev capitals : ℕ → List ℕ → List ℕ
 capitals n v = zip2 less (zip2 bit_and v (replicate n 223)) (replicate n 65)
 
 abbrev letters : ℕ → List ℕ → List ℕ
 letters n v =
-    zip2 more (capitals n v)
-    (sel_l (map (top 7) (zip2 below (replicate n 10) (map flipped (capitals n v)))) (replicate n 10) (map flipped (capitals n v)))
+    zip2 more (sel_l (map (top 7) (zip2 below (capitals n v) (replicate n 239))) (capitals n v) (replicate n 239)) (replicate n 10)
 
 abbrev values : ℕ → List ℕ → List ℕ
 values n v = sel_l (map (top 7) (zip2 below (decimals n v) (letters n v))) (decimals n v) (letters n v)

@@ -64,10 +64,10 @@ fn values_of(digits: u8x16) -> u8x16
     ensures values { Each1 (λ value. value < 16) result → result ≡ map value_or_more digits }
 {
     // By the sum '0' to '9' are 246 to 255; what is less comes out as 16 or more.
-    let decimal = (digits + u8x16::splat(198)).saturating_sub(u8x16::splat(6)) - u8x16::splat(240);
-    // Without the bit of small letters 'A' to 'F' are 0 to 5, and all else is more.
+    let decimal = (digits + u8x16::splat(198)).simd_max(u8x16::splat(6)) - u8x16::splat(246);
+    // Without the bit of small letters 'A' to 'F' are 0 to 5, and all else is more: at most 249 with ten more.
     let capital = (digits & u8x16::splat(223)) - u8x16::splat(b'A');
-    let letter = capital.saturating_add(u8x16::splat(10));
+    let letter = capital.simd_min(u8x16::splat(239)) + u8x16::splat(10);
     decimal.simd_min(letter)
 }
 
