@@ -129,3 +129,6 @@ returns-clause-flat g c F w shows mine =
     (subst (λ (r : Record). (G : Flat) × (CommitCase F w c.args.ticket c.args.block (Committed r) G)
     × (ShowsArray (commit_view (with_parts old b) c.args.ticket c.args.block found r) G)) (sym is)
     (commit_case old b F w c.args.ticket c.args.block (subst IsWhole c.self.view_is c.self.invariant.0) (search rules) (search rules) none was shows mine))
+
+pub returns-clause-done : goal.returns-clause-done
+returns-clause-done g c = search rules

@@ -1,10 +1,11 @@
 use Rattle.std.proofs.Common.{◌≡◌, ◌∙◌, ap, refl, sym, subst, rules}
 use Rattle.map_join.specs.declared.records.Record.{Record}
+use Rattle.extents.specs.declared.header.Header.TheVariants.{Blank}
 use Rattle.flat_machine.specs.Flat.{Worker}
 use Rattle.flat_machine.specs.Steps.{Copied, Refused}
 use Rattle.flat_machine.specs.Cases.{CopyCase, CopyPasses}
 use Rattle.extent_groups.specs.Stores.{AreDrives}
-use Rattle.array_parts.specs.Views.{drive_units}
+use Rattle.array_parts.specs.Views.{drive_units, WasCarried}
 use Rattle.array_model.specs.Changes.{copy_view}
 use Rattle.array_model.specs.Views.{ArrayView, Moving, Nothing, kept_at, with_parts}
 use Rattle.array_model.proofs.Fills.{as_whole, as_shown}
@@ -41,7 +42,7 @@ invariant_of-self g c =
     let can : CanCopy c.args.self.now s c.in-Ok.source = can_copy c.args.self.now s c.in-Ok.source (search rules) in
     let free : kept_at now s ≡ Nothing = ap (λ (v : ArrayView). kept_at v s) (c.self.view_is ∙ c.carry.ensures.rest) ∙ can.free in (
       as_whole _ _ (ap (λ k. record now { kept = k }) c.put_in.ensures.kept ∙ ap (λ (z : ArrayView). copy_view z s c.in-Ok.source) (c.self.view_is ∙ c.carry.ensures.rest))
-          (copy_whole c.args.self.now c.carry.new.self.parts s c.in-Ok.source (search rules) (search rules) (search rules) (subst (λ (v : ArrayView). AreDrives drive_units v.parts.groups v.parts.drives) c.self.view_is c.self.invariant.0.drives) c.told.ensures.whole),
+          (copy_whole c.args.self.now c.carry.new.self.parts s c.in-Ok.source (search rules) c.in_default.ensures.ok (search rules) (subst (λ (v : ArrayView). AreDrives drive_units v.parts.groups v.parts.drives) c.self.view_is c.self.invariant.0.drives) c.told.ensures.whole),
       c.put_in.ensures.claims,
       slot_ready g.D.Drive.units c.self.inside c.put_in.new.places s (Moving c.in-Ok.source) c.put_in.ensures.kept c.self.invariant.0.room.kept (search rules) (ap is_newest free) refl c.self.invariant.2,
     )
@@ -51,6 +52,12 @@ returns-clause-flat g c F w shows held =
     let s = c.of.result in
     let is : s ≡ g.C.Hold.names c.args.claim = c.of.ensures ∙ c.slot-slot.ensures in
     let r = c.in-Ok.source in
+    let was : WasCarried c.args.self.now.parts c.carry.new.self.parts r.place s Blank =
+    subst (λ n. WasCarried c.args.self.now.parts c.carry.new.self.parts r.place n Blank) (sym c.of.ensures) c.in_default.ensures.ok
+    in
     as_shown (λ G. CopyCase F w s c.args.block (Copied s) G) _ (copy_view (with_parts c.args.self.now c.carry.new.self.parts) s r) (search rules)
-    (copy_case c.args.self.now c.carry.new.self.parts F w s c.args.block r (search rules) (search rules) (sym c.told.ensures.value ∙ c.in-Ok.ensures.ok.1) (search rules) (search rules)
+    (copy_case c.args.self.now c.carry.new.self.parts F w s c.args.block r (search rules) (search rules) (sym c.told.ensures.value ∙ c.in-Ok.ensures.ok.1) was (search rules)
     c.told.ensures.whole shows (ap (λ n. F.held n (Worker w)) is ∙ held))
+
+pub returns-clause-ticket : goal.returns-clause-ticket
+returns-clause-ticket g c = search rules

@@ -43,3 +43,6 @@ returns-clause-flat g c F w shows held =
     as_shown (λ G. FillCase F w s (Payload c.args.payload.now) (Filled s) G) _ (fill_view (with_parts c.args.self.now c.put.new.self.parts) s) (search rules)
     (fill_case c.args.self.now c.put.new.self.parts F w s c.args.payload.now (search rules) (search rules) (search rules) (search rules) c.put.ensures.whole shows
     (ap (λ n. F.held n (Worker w)) is ∙ held))
+
+pub returns-clause-ticket : goal.returns-clause-ticket
+returns-clause-ticket g c = search rules

@@ -1,4 +1,4 @@
-use Rattle.std.proofs.Common.{refl, subst, Some, None}
+use Rattle.std.proofs.Common.{refl, rules, subst, Some, None}
 use Rattle.flat_machine.specs.declared.refusal.Refusal.TheVariants.{DriveLost}
 use Rattle.array_model.specs.Making.{IsPutReason, IsMakeReason}
 use Rattle.array_model.specs.Views.{ArrayView}
@@ -11,6 +11,9 @@ use Rattle.array_core.proofs.array.Array.make_fault.Goals.{After-told}
 -- what the check of the members told is why they can't be put
 put : (g : given.Over) (c : After-told g) → IsPutReason (seen g.D.Drive.units g.D.Drive.lost g.D.Drive.failures c.self.inside) c.args.members.now c.told.result
 put g c = reason_as _ c.args.members.now c.told.result c.put_check.result c.self.invariant.0 (c.are_members.ensures.0 c.if-not-are_members.false) c.told.ensures.value c.put_check.ensures
+
+pub returns-then-not-are_members-clause-reason : goal.returns-then-not-are_members-clause-reason
+returns-then-not-are_members-clause-reason g c = search rules
 
 pub returns-in-Some-clause-reason : goal.returns-in-Some-clause-reason
 returns-in-Some-clause-reason g c =

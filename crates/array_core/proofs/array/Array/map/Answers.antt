@@ -4,6 +4,9 @@ use Rattle.flat_machine.proofs.Newest.{map_as}
 use Rattle.array_model.proofs.Newest.{map_whole}
 use Rattle.array_core.proofs.array.Array.map.Goals as goal
 
+pub loop-block-init : goal.loop-block-init
+loop-block-init g c = search rules
+
 pub returns-clause-ok : goal.returns-clause-ok
 returns-clause-ok g c =
     let whole = subst IsWhole c.self.view_is c.self.invariant.0 in

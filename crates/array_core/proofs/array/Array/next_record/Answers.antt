@@ -1,4 +1,5 @@
-use Rattle.std.proofs.Common.{◌≡◌, ◌<◌, length, get_or, rules, sym, ap, ◌∙◌}
+use Rattle.std.proofs.Common.{◌≡◌, ◌<◌, length, get_or, rules, arith, sym, ap, ◌∙◌}
+use Rattle.std.proofs.lemmas.Grind.{common_steps}
 use Rattle.std.proofs.lemmas.List.{length-map}
 use Rattle.slot_tables.specs.Kept.{kept_of}
 use Rattle.slot_tables.proofs.Places.{kept_there}
@@ -12,3 +13,6 @@ moved-next-requires g c =
     c.self.invariant.0.moving c.args.slot c.in-Moving.source
     (sym (kept_there places c.args.slot c.index.result.now inside)
     ∙ ap kept_of (ap (λ n. get_or places n c.index.result.now) (sym c.from.ensures) ∙ sym c.index.ensures ∙ c.in-Moving.is))
+
+pub returns-clause-ok : goal.returns-clause-ok
+returns-clause-ok g c = grind (arith, common_steps)
