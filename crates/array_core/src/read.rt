@@ -10,9 +10,8 @@ ghost use Rattle.array_model.specs.Changes.{MayRefuse};
 ghost use Rattle.array_model.specs.Reads.{WasSeen};
 ghost use Rattle.array_model.specs.Represents.{ShowsArray};
 ghost use Rattle.array_model.specs.Views.{with_parts, key_at, IsWhole};
-ghost use Rattle.array_core.specs.Reads.{WasFound, WasNotFound};
+ghost use Rattle.array_core.specs.Reads.{WasFound, WasFoundIn, WasGone, WasNotFound, version_in, version_of, seen_of};
 ghost use Rattle.array_core.specs.Refused.{IsRefused};
-ghost use Rattle.array_core.specs.Reads.{version_of, seen_of};
 
 use crate::array::Array;
 use array_parts::Sight;
@@ -53,6 +52,28 @@ impl<D: Drive, C: Hold> Array<D, C> {
         };
         match self.payload_at(record.place, &mut payload) {
             Ok(()) => Ok(Some((record.version, payload))),
+            Err(refusal) => Err(refusal),
+        }
+    }
+
+    /// The version of a block's last acknowledged write, with its payload put into the buffer, which needs no
+    /// memory. Refused as gone with the slot of its newest record, where that can't be had. Where no version
+    /// is told, nothing is said of what the buffer holds.
+    pub fn read_into(&mut self, block: u32, payload: &mut [u8]) -> Result<Option<u32>, Refusal>
+        requires block { block < self.old.parts.groups.blocks }
+        requires payload { length payload.old ≡ self.old.parts.groups.payload }
+        ensures ok { IfOk result (λ found. WasFoundIn self.old self.new block found payload.new) }
+        ensures err { IfErr result (WasGone self.old self.new block) }
+        ensures rest { self.new ≡ with_parts self.old self.new.parts }
+        ensures flat { (F : Flat) → ShowsArray self.old F → MatchResult result
+            (λ found. (G : Flat) × ReadCase F block (say.Found (version_in found payload.new)) G × ShowsArray self.new G)
+            (λ refusal. (G : Flat) × ReadCase F block (say.Refused refusal) G × ShowsArray self.new G) }
+    {
+        let Some(record) = self.told(block) else {
+            return Ok(None);
+        };
+        match self.payload_at(record.place, payload) {
+            Ok(()) => Ok(Some(record.version)),
             Err(refusal) => Err(refusal),
         }
     }

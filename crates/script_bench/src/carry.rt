@@ -15,7 +15,7 @@ use crate::limits::{
 };
 use crate::maps::{merge, same, show, take};
 use crate::scans::scan;
-use crate::texts::{put_answer, put_listing, put_outcome, put_regrouped};
+use crate::texts::{put_answer, put_found, put_listing, put_outcome, put_regrouped};
 use map_join::Record;
 use script_words::{Command, Named, Verb};
 use std::alloc::{AllocError, Global};
@@ -53,21 +53,22 @@ pub fn is_in_range(command: &Command, blocks: u32) -> bool
     }
 }
 
-/// Carries out a command that is within the limits, and appends its answer. A restart is carried out by `restart`.
+/// Carries out a command that is within the limits, and appends its answer. The buffer holds the payload of a fill,
+/// and is room for what a read finds. A restart is carried out by `restart`.
 pub fn carry_out(
     alloc: Global,
     bench: &mut Bench,
-    payload: &[u8],
+    payload: &mut [u8],
     command: &Command,
     out: &mut Vec<u8>,
 ) -> Result<(), AllocError>
-    requires payload { length payload.now ≡ bench.old.tiers.world.array.parts.groups.payload }
-    requires written { IsWritten (order_of «command».now payload.now) }
+    requires payload { length payload.old ≡ bench.old.tiers.world.array.parts.groups.payload }
+    requires written { IsWritten (order_of «command».now payload.old) }
     requires later { «command».now.verb ≡ Verb.Array → ⊥ }
     requires stays { «command».now.verb ≡ Verb.Restart → ⊥ }
     requires blocks { bench.old.tiers.world.array.parts.groups.blocks < 2 ^ 32 }
-    requires range { IsWithin bench.old.tiers.world.array.parts.groups.blocks (order_of «command».now payload.now) }
-    ensures { OnOk result (Carries bench.old bench.new (order_of «command».now payload.now) out.old.items out.new.items) }
+    requires range { IsWithin bench.old.tiers.world.array.parts.groups.blocks (order_of «command».now payload.old) }
+    ensures { OnOk result (Carries bench.old bench.new (order_of «command».now payload.old) out.old.items out.new.items) }
 {
     let [first, second, third, ..] = command.numbers;
     match command.verb {
@@ -84,7 +85,7 @@ pub fn carry_out(
         Verb::Balance => balance(alloc, bench, out),
         Verb::Rebuild => rebuild(alloc, bench, first as u8, out),
         Verb::Lose => lose(bench, first as u8, out),
-        Verb::Read => read(alloc, bench, first as u32, out),
+        Verb::Read => read(bench, first as u32, payload, out),
         Verb::At => read_at(alloc, bench, command.record, out),
         Verb::Take => take(alloc, bench, first as usize, command.record, out),
         Verb::Merge => merge(alloc, bench, first as usize, second as usize, out),
@@ -186,12 +187,18 @@ fn read_at(
     put_answer(out, &answer, record.version)
 }
 
-fn read(alloc: Global, bench: &mut Bench, block: u32, out: &mut Vec<u8>) -> Result<(), AllocError>
-    requires { block < bench.old.tiers.world.array.parts.groups.blocks }
+fn read(
+    bench: &mut Bench,
+    block: u32,
+    payload: &mut [u8],
+    out: &mut Vec<u8>,
+) -> Result<(), AllocError>
+    requires block { block < bench.old.tiers.world.array.parts.groups.blocks }
+    requires payload { length payload.old ≡ bench.old.tiers.world.array.parts.groups.payload }
     ensures { OnOk result (Carries bench.old bench.new (o.Read block) out.old.items out.new.items) }
 {
-    let answer = bench.tiers.world.read(alloc, block)?;
-    put_answer(out, &answer, 0)
+    let found = bench.tiers.world.read_into(block, payload);
+    put_found(out, found, payload)
 }
 
 fn make(

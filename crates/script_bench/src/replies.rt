@@ -16,7 +16,7 @@ use std::alloc::Global;
 use step_core::World;
 use tiering::Tiers;
 
-/// Appends the answer to a line's command. The buffer holds the payload of a fill.
+/// Appends the answer to a line's command. The buffer is for a payload: of a fill, or what a read finds.
 pub fn reply(
     alloc: Global,
     bench: &mut Option<Bench>,

@@ -1,7 +1,7 @@
 //! The texts of answers, appended to a buffer.
 ghost use Rattle.std.specs.Prelude.{◌≡◌, ◌≢◌, ◌%◌, ◌∷◌, ◌++◌, [], OnOk, codes, decimal, length, Some, None};
 ghost use Rattle.hex.specs.Hex.{encode_lower};
-ghost use Rattle.step_core.specs.Told.{flat_answer, seen_of};
+ghost use Rattle.step_core.specs.Told.{read_answer, flat_answer, seen_of};
 ghost use Rattle.script_bench.specs.Text.{answer_text, data_text, detail, difference_text, fault_detail, fault_text, found_text, header_text, outcome_text, regrouped_text, shift_text, seen_text, listing, record_or_none, record_text, records_text};
 ghost use Rattle.flat_machine.specs.Steps as s;
 
@@ -111,6 +111,21 @@ fn put_data(out: &mut Vec<u8>, version: u32, payload: &[u8]) -> Result<(), Alloc
     put_numbered(out, b"data ", u64::from(version))?;
     out.push(b' ')?;
     put_hex(out, payload)
+}
+
+/// What a read of a block into a buffer tells.
+pub fn put_found(
+    out: &mut Vec<u8>,
+    found: Result<Option<u32>, Refusal>,
+    payload: &[u8],
+) -> Result<(), AllocError>
+    ensures { OnOk result (out.new.items ≡ out.old.items ++ answer_text 0 (read_answer found payload.now)) }
+{
+    match found {
+        Ok(Some(version)) => put_data(out, version, payload),
+        Ok(None) => put(out, b"none"),
+        Err(refusal) => put_refusal(out, &refusal),
+    }
 }
 
 // What is seen at the place of a record of this version.

@@ -1,5 +1,5 @@
 -- What a world's step tells, whether its array carried it out or refused it.
-use Rattle.std.proofs.Common.{◌≡◌, ◌≢◌, ℕ, List, refl, sym, ap, ◌∙◌, subst, inl, inr, Option, Some, None, Vec, Result, Ok, Err, IfOk, OnErr}
+use Rattle.std.proofs.Common.{◌≡◌, ◌≢◌, ℕ, List, [], refl, sym, ap, ◌∙◌, subst, inl, inr, Option, Some, None, Vec, Result, Ok, Err, IfOk, IfErr, OnErr, MatchResult}
 use Rattle.std.specs.Global.{Global}
 use Rattle.std.specs.declared.alloc.AllocError.{AllocError}
 use Rattle.map_join.specs.declared.records.Record.{Record}
@@ -10,8 +10,8 @@ use Rattle.array_parts.specs.Views.{Entered}
 use Rattle.flat_machine.specs.declared.refusal.Refusal.{Refusal}
 use Rattle.flat_machine.specs.declared.refusal.Refusal.TheVariants.{Memory, Gone, DriveLost}
 use Rattle.flat_machine.specs.Flat.{Flat}
-use Rattle.flat_machine.specs.Steps.{FlatStep, Seen, Refused}
-use Rattle.flat_machine.specs.Cases.{Case, IsWanted}
+use Rattle.flat_machine.specs.Steps.{FlatStep, Seen, Read, Found, Refused}
+use Rattle.flat_machine.specs.Cases.{Case, ReadCase, IsWanted}
 use Rattle.flat_machine.specs.History.{IsStep}
 use Rattle.array_model.specs.Changes.{MayRefuse}
 use Rattle.array_model.specs.Reads.{WasNotRead, WasSeen}
@@ -20,10 +20,10 @@ use Rattle.array_model.specs.Views.{ArrayView, WorldView, SameSizes}
 use Rattle.array_model.proofs.Hands.{as_world}
 use Rattle.step_core.specs.declared.step.Answer.{Answer}
 use Rattle.step_core.specs.declared.step.Answer.TheVariants as answer
-use Rattle.array_core.specs.Reads.{WasFound, WasNotFound}
+use Rattle.array_core.specs.Reads.{WasFound, WasFoundIn, WasGone, WasNotFound, version_in}
 use Rattle.array_core.specs.Refused.{IsRefused, OnlyLoses}
-use Rattle.step_core.specs.Told.{flat_answer}
-use Rattle.step_core.proofs.Worlds.{refused_world}
+use Rattle.step_core.specs.Told.{flat_answer, read_answer}
+use Rattle.step_core.proofs.Worlds.{stays_world, refused_world}
 
 -- what a refusal means, where it is not for want of memory, and where it is
 refused_of : (r : Refusal) (W P : Type 0) → MayRefuse r W P → r ≢ Memory → P
@@ -115,9 +115,13 @@ pub made_sizes : (a b : ArrayView) (g : ℕ) (class : Class) (members : List Mem
 made_sizes a b g class members e = record { payload = ap (λ (z : Groups). z.payload) e.groups; blocks = ap (λ (z : Groups). z.blocks) e.groups }
 
 -- and where a block is read, or isn't
+found_in_sizes : (a b : ArrayView) (block : ℕ) (found : Option ℕ) (bytes : List ℕ) → WasFoundIn a b block found bytes → SameSizes a b
+found_in_sizes a b block None bytes is = same_sizes a b (ap (λ (x : ArrayView). x.parts.groups) is.1)
+found_in_sizes a b block (Some version) bytes is = same_sizes a b is.3.loses.rest.groups
+
 pub found_sizes : (a b : ArrayView) (block : ℕ) (found : Option (ℕ × Vec ℕ Global)) → WasFound a b block found → SameSizes a b
-found_sizes a b block None is = same_sizes a b (ap (λ (x : ArrayView). x.parts.groups) is.1)
-found_sizes a b block (Some found) is = same_sizes a b is.3.loses.rest.groups
+found_sizes a b block None is = found_in_sizes a b block None [] is
+found_sizes a b block (Some found) is = found_in_sizes a b block (Some found.0) found.1.items is
 
 unread_sizes : (a b : ArrayView) (slot : ℕ) (r : Refusal) → WasNotRead a b slot r → SameSizes a b
 unread_sizes a b slot r (inl is) = same_sizes a b (ap (λ (x : ArrayView). x.parts.groups) is.1)
@@ -132,6 +136,27 @@ unread_same a b slot r (inr gone) memory = let bad : Memory ≡ Gone slot = sym 
 
 pub not_found_same : (a b : ArrayView) (block : ℕ) (r : Refusal) → WasNotFound a b block r → r ≡ Memory → b ≡ a
 not_found_same a b block r is = unread_same a b is.0.place r is.2
+
+-- a block that was read into a buffer, or wasn't: the world's step is the flat machine's, and the sizes stay
+pub read_sizes : (a b : ArrayView) (block : ℕ) (result : Result (Option ℕ) Refusal) (bytes : List ℕ)
+    → IfOk result (λ found. WasFoundIn a b block found bytes) → IfErr result (WasGone a b block) → SameSizes a b
+read_sizes a b block (Ok found) bytes ok err = found_in_sizes a b block found bytes ok
+read_sizes a b block (Err r) bytes ok err = same_sizes a b err.2.loses.rest.groups
+
+read_stays : (v : WorldView) (a : ArrayView) (F : Flat) (block : ℕ) (result : Result (Option ℕ) Refusal) (bytes : List ℕ) → Represents v F
+    → MatchResult result (λ found. (G : Flat) × (ReadCase F block (Found (version_in found bytes)) G) × (ShowsArray a G))
+    (λ r. (G : Flat) × (ReadCase F block (Refused r) G) × (ShowsArray a G))
+    → (G : Flat) × (ReadCase F block (read_answer result bytes) G) × (Represents (record { array = a; hands = v.hands }) G)
+read_stays v a F block (Ok found) bytes rep y = stays_world v F (Read block) (Found (version_in found bytes)) a tt rep y y.1.2
+read_stays v a F block (Err r) bytes rep y = refused_world v F (Read block) r a tt rep y
+
+pub read_does : (u v : WorldView) (a : ArrayView) (F : Flat) (block : ℕ) (result : Result (Option ℕ) Refusal) (bytes : List ℕ) → u ≡ v → Represents v F
+    → ((T : Flat) → ShowsArray u.array T → MatchResult result (λ found. (G : Flat) × (ReadCase T block (Found (version_in found bytes)) G) × (ShowsArray a G))
+    (λ r. (G : Flat) × (ReadCase T block (Refused r) G) × (ShowsArray a G)))
+    → (G : Flat) × (ReadCase F block (read_answer result bytes) G) × (Represents (record { array = a; hands = u.hands }) G)
+read_does u v a F block result bytes is rep does =
+    as_world (λ G. ReadCase F block (read_answer result bytes) G) (record { array = a; hands = u.hands }) (record { array = a; hands = v.hands })
+    (ap (λ (x : WorldView). record { array = a; hands = x.hands }) is) (read_stays v a F block result bytes rep (does F (shows_of u v F is rep)))
 
 -- and where a record's place is seen
 pub seen_sizes : (a b : ArrayView) (asked : Record) (seen : Seen) → WasSeen a b asked seen → SameSizes a b

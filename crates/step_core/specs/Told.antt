@@ -1,12 +1,13 @@
 -- The answers of a world as those of the flat machine.
-use Rattle.std.specs.Prelude.{◌≡◌, ◌<◌, length}
+use Rattle.std.specs.Prelude.{◌≡◌, ℕ, ◌<◌, List, length, Option, Result, Ok, Err}
 use Rattle.step_core.specs.declared.step.Answer.{Answer}
 use Rattle.step_core.specs.declared.step.Answer.TheVariants as answer
 use Rattle.step_core.specs.declared.step.Step.{Step}
 use Rattle.step_core.specs.declared.step.Step.TheVariants as step
 use Rattle.extent_groups.specs.Groups.{Groups}
+use Rattle.flat_machine.specs.declared.refusal.Refusal.{Refusal}
 use Rattle.flat_machine.specs.Flat.{Payload}
-pub use Rattle.array_core.specs.Reads.{version_of, seen_of, Lesson}
+pub use Rattle.array_core.specs.Reads.{version_in, version_of, seen_of, Lesson}
 use Rattle.flat_machine.specs.Steps.{FlatStep, Claim, Release, Fill, Copy, Commit, Discard, Read, ReadAt, Make, Unmake, MoveExtent, AddDrive, FlatAnswer, Claimed, Taken, Released, NotHeld, Filled, Copied, Committed, Discarded, Found, FoundAt, MadeGroup, UnmadeGroup, MovedExtent, AddedDrive, Lose, LostDrive, Refused}
 
 -- each answer, as plain data
@@ -27,6 +28,11 @@ flat_answer answer.Shifted = MovedExtent
 flat_answer (answer.Added d) = AddedDrive d
 flat_answer (answer.Lost d) = LostDrive d
 flat_answer (answer.Refused r) = Refused r
+
+-- what a read into a buffer tells, as plain data
+abbrev pub read_answer : Result (Option ℕ) Refusal → List ℕ → FlatAnswer
+read_answer (Ok found) bytes = Found (version_in found bytes)
+read_answer (Err refusal) bytes = Refused refusal
 
 -- a step as plain data
 abbrev pub flat_step : Step → FlatStep

@@ -9,7 +9,7 @@ ghost use Rattle.flat_machine.specs.Cases.{Case, IsWanted};
 ghost use Rattle.array_model.specs.Views.{kept_at, hand_at, has_no_holder, IsWhole, SameSizes};
 ghost use Rattle.array_model.specs.Represents.{Represents, is_claim};
 ghost use Rattle.step_core.specs.Passed.{given_old};
-ghost use Rattle.step_core.specs.Told.{flat_answer};
+ghost use Rattle.step_core.specs.Told.{flat_answer, read_answer};
 
 use crate::step::Answer;
 use array_core::{Array, Hands};
@@ -253,6 +253,18 @@ impl World {
             Ok(found) => Ok(Answer::Read(found)),
             Err(refusal) => refused(refusal),
         }
+    }
+
+    /// Reads a block, and puts its payload into the buffer, which needs no memory. Where no version is told,
+    /// nothing is said of what the buffer holds.
+    pub fn read_into(&mut self, block: u32, payload: &mut [u8]) -> Result<Option<u32>, Refusal>
+        requires block { block < self.old.array.parts.groups.blocks }
+        requires payload { length payload.old ≡ self.old.array.parts.groups.payload }
+        ensures flat { (F : Flat) → Represents self.old F
+            → (G : Flat) × Case F (say.Read block) (read_answer result payload.new) G × Represents self.new G }
+        ensures room { SameSizes self.old.array self.new.array }
+    {
+        self.array.read_into(block, payload)
     }
 
     /// Makes a group.

@@ -5,6 +5,6 @@ use Rattle.script_bench.proofs.carry.read.Goals as goal
 
 pub returns : goal.returns
 returns c =
-    told_step c.put_answer.result c.args.bench.now _ (o.Read c.args.block)
-    (s.Read c.args.block) _ _ _ tt c.put_answer.ensures
-    (λ P stands. c.in_ok-answer.ensures.ok P.tiers.flat stands.tiers.world) c.in_ok-answer.ensures.room (λ P text t steps. steps)
+    told_step c.put_found.result c.args.bench.now _ (o.Read c.args.block)
+    (s.Read c.args.block) _ _ _ tt c.put_found.ensures
+    (λ P stands. c.read_into-found.ensures.flat P.tiers.flat stands.tiers.world) c.read_into-found.ensures.room (λ P text t steps. steps)
