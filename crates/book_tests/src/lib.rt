@@ -18,4 +18,6 @@ mod spent;
 #[cfg(test)]
 mod storms;
 #[cfg(test)]
+mod told;
+#[cfg(test)]
 mod turns;

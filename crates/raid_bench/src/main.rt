@@ -7,9 +7,9 @@ mod told;
 use script_run::{End, run_script};
 use std::process::ExitCode;
 use std::{env, io};
-use storm::run_storm;
+use storm::{run_storm, tell_storm};
 use task::{Task, task_of};
-use told::tell_storm;
+use told::storm_status;
 
 /// The status for a command line that asks for nothing that the program does.
 const NO_TASK: u8 = 2;
@@ -29,8 +29,8 @@ fn main(rt: HostRuntime) -> ExitCode {
             run_script(rt.alloc(), &mut rt.stdin(), &mut rt.stdout()).status()
         }
         Ok(Some(Task::Storm { workers, writes })) => {
-            let told = run_storm(&rt, rt.alloc(), workers, writes);
-            tell_storm(&mut rt.stdout(), told)
+            let ended = run_storm(&rt, rt.alloc(), workers, writes);
+            storm_status(tell_storm(&mut rt.stdout(), ended))
         }
         Ok(None) => NO_TASK,
         Err(_) => End::Memory.status(),

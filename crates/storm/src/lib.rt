@@ -6,6 +6,8 @@ mod life;
 mod outcome;
 mod rounds;
 mod setting;
+mod told;
 
 pub use life::{Fuse, Orders, run_orders, run_storm};
 pub use outcome::{Storm, StormFault, Tally};
+pub use told::{Told, tell_storm};

@@ -1,0 +1,44 @@
+// What is told of a storm, however it ended, and of a line that can't be written.
+use step_core::Refusal;
+use storm::{Storm, StormFault, Tally, Told, tell_storm};
+
+// A storm of which nothing was carried out.
+fn agreed() -> Result<Storm, StormFault> {
+    Ok(Storm::Agreed(Tally {
+        writes: 0,
+        moves: 0,
+        reads: 0,
+        blanks: 0,
+        lost: 0,
+    }))
+}
+
+// Each line goes behind what was written before.
+#[test]
+fn each_end_of_a_storm_is_told_in_its_line(rt: HostRuntime) {
+    let mut lines = Vec::new(rt.alloc());
+    assert!(rt; tell_storm(&mut lines, agreed()) == Told::Agreed);
+    assert!(rt; tell_storm(&mut lines, Ok(Storm::Differs(70))) == Told::Differs);
+    let none = Err(StormFault::Setup(Refusal::Memory));
+    assert!(rt; tell_storm(&mut lines, none) == Told::Nothing);
+    assert!(rt; lines.as_slice() == b"agreed\ndiffers 70\n".as_slice());
+}
+
+// What is told where a line has so much room.
+fn told_in(room: &mut [u8], ended: Result<Storm, StormFault>) -> Told {
+    let mut left = room;
+    tell_storm(&mut left, ended)
+}
+
+// A line that has no room for all of it is told as unwritten.
+#[test]
+fn a_line_without_room_for_its_end_is_unwritten(rt: HostRuntime) {
+    let mut six = [0; 6];
+    let mut seven = [0; 7];
+    let mut ten = [0; 10];
+    assert!(rt; told_in(&mut six, agreed()) == Told::Unwritten);
+    assert!(rt; told_in(&mut seven, agreed()) == Told::Agreed);
+    assert!(rt; told_in(&mut ten, Ok(Storm::Differs(10))) == Told::Unwritten);
+    assert!(rt; told_in(&mut ten, Ok(Storm::Differs(9))) == Told::Differs);
+    assert!(rt; ten == *b"differs 9\n");
+}

@@ -1,0 +1,56 @@
+// What is told of a storm.
+ghost use Rattle.std.specs.Prelude.{◌++◌, codes, OnOk};
+ghost use Rattle.std.specs.Io.KnownBytes.{Appends};
+ghost use Rattle.storm.specs.Telling.{IsTold, IsToldOrNot};
+
+use crate::outcome::{Storm, StormFault};
+use itoa::Buffer;
+use std::io;
+use std::io::Write;
+
+/// What is told of a storm.
+#[derive(Clone, Copy, Debug, PartialEq, Eq)]
+pub enum Told {
+    /// That the maps agree.
+    Agreed,
+    /// At which block they differ.
+    Differs,
+    /// Nothing, since the storm has no end.
+    Nothing,
+    /// The line couldn't be written, or not whole.
+    Unwritten,
+}
+
+/// Writes the line that a storm ends with: `agreed`, or `differs` with the lowest block of which the maps differ. Of a storm that has
+/// no end nothing is written.
+pub fn tell_storm<W: Write>(writer: &mut W, ended: Result<Storm, StormFault>) -> Told
+    ensures { IsTold ended result (W.contents writer.old) (W.contents writer.new) }
+{
+    match ended {
+        Ok(Storm::Agreed(_)) => told_or_not(writer.write_all(b"agreed\n"), Told::Agreed),
+        Ok(Storm::Differs(block)) => {
+            let mut digits = Buffer::new();
+            told_or_not(differs(writer, digits.format(block)), Told::Differs)
+        }
+        Err(_) => Told::Nothing,
+    }
+}
+
+// Writes that maps differ at the block of these digits.
+fn differs<W: Write>(writer: &mut W, digits: &str) -> io::Result<()>
+    ensures { OnOk result (Appends (W.contents writer.old) (W.contents writer.new) (codes "differs " ++ (digits.now ++ codes "\n"))) }
+{
+    writer.write_all(b"differs ")?;
+    writer.write_all(digits.as_bytes())?;
+    writer.write_all(b"\n")
+}
+
+// What is told, where the line could be written.
+fn told_or_not(line: io::Result<()>, told: Told) -> Told
+    ensures { IsToldOrNot line told result }
+{
+    match line {
+        Ok(()) => told,
+        Err(_) => Told::Unwritten,
+    }
+}
