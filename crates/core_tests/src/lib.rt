@@ -1,4 +1,4 @@
-//! The array, its world and its runs against values from outside.
+//! The array by its own calls, and made anew, against values from outside.
 #![tactic(auto)]
 
 #[cfg(test)]
@@ -8,24 +8,10 @@ mod counts;
 #[cfg(test)]
 mod learned;
 #[cfg(test)]
-mod losses;
-#[cfg(test)]
-mod moves;
-#[cfg(test)]
 mod reads;
 #[cfg(test)]
 mod restarts;
 #[cfg(test)]
 mod rig;
 #[cfg(test)]
-mod runs;
-#[cfg(test)]
-mod scans;
-#[cfg(test)]
-mod script;
-#[cfg(test)]
-mod sizes;
-#[cfg(test)]
 mod unmakes;
-#[cfg(test)]
-mod walk;

@@ -1,10 +1,9 @@
 // An array taken apart and made anew: its map, its log, its claims, and what each block reads.
 use crate::rig::{Memory, Rig, record};
-use crate::script::{Told, tell};
 use header_scan::restart;
 use std::alloc::Global;
 use std::process::Abort;
-use step_core::{Class, Plain, Refusal, World};
+use step_core::{Class, Plain, World};
 
 /// More calls of one drive than the restart below makes.
 const CALLS: u64 = 30;
@@ -99,29 +98,6 @@ fn world_of(rt: &impl Abort, alloc: Global, array: Memory) -> World {
         panic!(rt; "no world")
     };
     world
-}
-
-// What filling a slot answers.
-fn fill(rt: &impl Abort, alloc: Global, world: &mut World, worker: u8, slot: u16) -> Told {
-    assert!(rt; world.array().shape().payload == 8);
-    match world.fill(alloc, worker, slot, &[0x55; 8]) {
-        Ok(answer) => tell(&answer),
-        Err(_) => Told::Other,
-    }
-}
-
-#[test]
-fn a_world_of_an_array_has_empty_hands(rt: HostRuntime) {
-    let alloc = rt.alloc();
-    let mut world = world_of(&rt, alloc, written(&rt, alloc).array);
-    assert!(rt; tell(&world.claim(6, 5)) == Told::Claimed(5));
-    assert!(rt; tell(&world.claim(6, 3)) == Told::Claimed(3));
-    assert!(rt; fill(&rt, alloc, &mut world, 6, 3) == Told::Filled(3));
-    let mut world = world_of(&rt, alloc, world.into_array());
-    assert!(rt; tell(&world.release(6, 5)) == Told::NotHeld(5));
-    assert!(rt; tell(&world.discard(6, 3)) == Told::Refused(Refusal::NoTicket));
-    assert!(rt; tell(&world.claim(1, 5)) == Told::Claimed(5));
-    assert!(rt; tell(&world.claim(1, 3)) == Told::Taken(3));
 }
 
 // The array as `written` left it, with a drive fused as a world fuses it.

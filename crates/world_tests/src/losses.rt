@@ -1,6 +1,7 @@
 // Every drive lost at every call of a run, a second one after it, and what is told then.
-use crate::rig::{members_on, record};
-use crate::script::{Script, Told, answers, grouped, push_commit, push_fill, push_move};
+use crate::script::{
+    Script, Told, answers, grouped, members_on, push_commit, push_fill, push_move, record_of,
+};
 use std::alloc::{AllocError, Global};
 use std::process::Abort;
 use step_core::{Class, Refusal, Step, World};
@@ -41,7 +42,7 @@ fn push_writes(alloc: Global, script: &mut Script) -> Result<(), AllocError> {
 // The places of blocks 3 and 6 are read, and the first place of block 3.
 fn push_reads(script: &mut Script) -> Result<(), AllocError> {
     for (block, hop, place, byte) in [(3, 1, 128, 1), (3, 0, 0, 1), (6, 0, 2, 3)] {
-        let record = record(block, 1, hop, place);
+        let record = record_of(block, hop, place);
         script.push((Step::ReadAt { record }, Told::Data(Some(byte))))?;
     }
     Ok(())

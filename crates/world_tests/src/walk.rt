@@ -2,8 +2,7 @@
 // each step three maps are compared, and every block is read.
 ghost use Rattle.std.specs.Prelude.{◌<◌};
 
-use crate::rig::members_on;
-use crate::script::grouped;
+use crate::script::{grouped, members_on};
 use header_scan::scan_world;
 use map_join::{BlockMap, Record};
 use std::alloc::Global;

@@ -1,6 +1,5 @@
 // Runs of many steps: no count of them, and no length of the log, ends one.
-use crate::rig::members_on;
-use crate::script::new_world;
+use crate::script::{members_on, new_world};
 use std::alloc::{AllocError, Global};
 use std::process::Abort;
 use step_core::{Answer, Class, Run, Step, World, run_steps};

@@ -1,6 +1,5 @@
 // The map that the headers tell is the running map, with a drive lost too.
-use crate::rig::record;
-use crate::script::{Script, answers, grouped, push_commit, push_fill, push_move};
+use crate::script::{Script, answers, grouped, push_commit, push_fill, push_move, record_of};
 use header_scan::{ScanFault, scan, scan_world};
 use map_join::BlockMap;
 use std::alloc::{AllocError, Global};
@@ -53,7 +52,7 @@ fn is_running(alloc: Global, world: &World, map: &BlockMap) -> bool {
 fn a_scan_of_a_world_finds_its_map_until_a_slot_is_gone(rt: HostRuntime) {
     let alloc = rt.alloc();
     let mut world = moved(&rt, alloc);
-    let newest = record(3, 1, 1, 128);
+    let newest = record_of(3, 1, 128);
     let before = scanned(&rt, alloc, &mut world);
     assert!(rt; before.get(3) == Some(newest) && is_running(alloc, &world, &before));
     world.lose(1);

@@ -1,9 +1,8 @@
 // Steps of a world, each with what it answers.
-use crate::rig::members_on;
 use map_join::Record;
 use std::alloc::{AllocError, Global};
 use std::process::Abort;
-use step_core::{Answer, At, Class, Refusal, Shape, Step, World};
+use step_core::{Answer, At, Class, Member, Refusal, Shape, Step, World};
 
 /// What an answer tells; of a payload its first byte.
 #[derive(Clone, Copy, PartialEq, Eq)]
@@ -59,6 +58,22 @@ pub(crate) fn new_world(rt: &impl Abort, alloc: Global) -> World {
     world
 }
 
+/// The record of a block's first version, so many moves on.
+pub(crate) fn record_of(block: u32, hop: u16, place: u16) -> Record {
+    Record {
+        block,
+        version: 1,
+        hop,
+        place,
+    }
+}
+
+/// An extent of this number on each of three drives.
+pub(crate) fn members_on([first, second, third]: [u8; 3], extent: u16) -> [Member; 3] {
+    let on = |drive| Member { drive, extent };
+    [on(first), on(second), on(third)]
+}
+
 // Makes a group of an extent of this number on each of these drives.
 fn make(
     rt: &impl Abort,
@@ -112,13 +127,7 @@ pub(crate) fn push_commit(
         slot,
         block,
     };
-    let record = Record {
-        block,
-        version: 1,
-        hop,
-        place: slot,
-    };
-    script.push((commit, Told::Committed(record)))?;
+    script.push((commit, Told::Committed(record_of(block, hop, slot))))?;
     Ok(())
 }
 
