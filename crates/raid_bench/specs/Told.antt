@@ -1,5 +1,8 @@
 -- With which status the program ends, once a storm was told.
-use Rattle.std.specs.Prelude.{ℕ}
+use Rattle.std.specs.Prelude.{◌≡◌, ℕ, List, Option, Result}
+use Rattle.storm.specs.Telling.{IsTold}
+use Rattle.storm.specs.declared.outcome.Storm.{Storm}
+use Rattle.storm.specs.declared.outcome.StormFault.{StormFault}
 use Rattle.storm.specs.declared.told.Told.{Told}
 use Rattle.storm.specs.declared.told.Told.TheVariants as told
 
@@ -9,3 +12,7 @@ storm_status told.Agreed = 0
 storm_status told.Differs = 3
 storm_status told.Nothing = 4
 storm_status told.Unwritten = 5
+
+-- what is written of a storm is told, and the status is that of what is told
+abbrev pub IsEnded : Result Storm StormFault → ℕ → Option (List ℕ) → Option (List ℕ) → Type 0
+IsEnded ended status held now = (told : Told) × (IsTold ended told held now) × (status ≡ storm_status told)

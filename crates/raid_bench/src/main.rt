@@ -7,9 +7,9 @@ mod told;
 use script_run::{End, run_script};
 use std::process::ExitCode;
 use std::{env, io};
-use storm::{run_storm, tell_storm};
+use storm::run_storm;
 use task::{Task, task_of};
-use told::storm_status;
+use told::end_storm;
 
 /// The status for a command line that asks for nothing that the program does.
 const NO_TASK: u8 = 2;
@@ -30,7 +30,7 @@ fn main(rt: HostRuntime) -> ExitCode {
         }
         Ok(Some(Task::Storm { workers, writes })) => {
             let ended = run_storm(&rt, rt.alloc(), workers, writes);
-            storm_status(tell_storm(&mut rt.stdout(), ended))
+            end_storm(&mut rt.stdout(), ended)
         }
         Ok(None) => NO_TASK,
         Err(_) => End::Memory.status(),

@@ -1,13 +1,21 @@
 //! The status that a storm ends with.
 ghost use Rattle.std.specs.Prelude.{◌≡◌};
-ghost use Rattle.raid_bench.specs.Told.{storm_status};
+ghost use Rattle.raid_bench.specs.Told.{IsEnded, storm_status};
 
 use script_run::End;
-use storm::Told;
+use std::io::Write;
+use storm::{Storm, StormFault, Told, tell_storm};
 
-/// The status to end with, once a storm was told: 0 where the maps agree, 3 where they differ, 4 where the storm has no end, and 5 where
-/// its line couldn't be written.
-pub fn storm_status(told: Told) -> u8
+/// Writes the line that a storm ends with, and tells the status to end with.
+pub fn end_storm<W: Write>(writer: &mut W, ended: Result<Storm, StormFault>) -> u8
+    ensures { IsEnded ended result (W.contents writer.old) (W.contents writer.new) }
+{
+    storm_status(tell_storm(writer, ended))
+}
+
+// The status to end with, once a storm was told: 0 where the maps agree, 3 where they differ, 4 where the storm has no end, and 5 where
+// its line couldn't be written.
+fn storm_status(told: Told) -> u8
     ensures { result ≡ storm_status told }
 {
     match told {
