@@ -1,7 +1,7 @@
 -- The bytes that are decoded so far.
-use Rattle.std.proofs.Common.{◌≡◌, ℕ, ◌+◌, ◌*◌, ◌%◌, ◌≤◌, List, [], ◌++◌, length, map, take, drop, Bool, true, false, Result, Ok, Err, refl, sym, ap, ◌∙◌, arith, append-nil, ◌-◌}
+use Rattle.std.proofs.Common.{◌≡◌, ℕ, ◌+◌, ◌*◌, ◌%◌, ◌≤◌, List, [], ◌++◌, length, map, take, drop, replicate, Bool, true, false, Result, Ok, Err, refl, sym, ap, ◌∙◌, arith, rules, append-nil, ◌-◌}
 use Rattle.std.proofs.lemmas.List.{take-append-drop, length-take-le, length-drop, drop_all, map-append}
-use Rattle.std.proofs.lemmas.Simd.{take_more_put_chunk, length-chunk}
+use Rattle.std.proofs.lemmas.Simd.{take_more_put_chunk, length-chunk, length-put_chunk}
 use Rattle.std.specs.Prelude.{MatchResult}
 use Rattle.std.specs.List.{between}
 use Rattle.std.specs.Result.{is_ok}
@@ -45,16 +45,47 @@ step_done s digits out values bytes fits twice is halves joins done =
     let next : 8 * (s + 1) ≡ 8 * s + 8 = omega arith in
     rw next (more_done (8 * s) 8 digits out values bytes fits twice is halves joins done)
 
--- one turn more
-pub turn_done : (t : ℕ) (digits out first second bytes : List ℕ) → 16 * t + 16 ≤ length out → length digits ≡ 2 * length out
-    → first ≡ map value_or_more (chunk (2 * (16 * t)) 16 digits) → second ≡ map value_or_more (chunk (2 * (16 * t) + 16) 16 digits)
+-- the digits of two vectors more
+pair_done : (k : ℕ) (digits out first second bytes : List ℕ) → k + 16 ≤ length out → length digits ≡ 2 * length out
+    → first ≡ map value_or_more (chunk (2 * k) 16 digits) → second ≡ map value_or_more (chunk (2 * k + 16) 16 digits)
     → Each1 IsHalf first → Each1 IsHalf second → bytes ≡ joined (first ++ second)
-    → IsDone (16 * t) digits out → IsDone (16 * (t + 1)) digits (put_chunk (16 * t) out bytes)
-turn_done t digits out first second bytes fits twice one other halves too joins done =
-    let next : 16 * (t + 1) ≡ 16 * t + 16 = omega arith in
-    let is : first ++ second ≡ map value_or_more (chunk (2 * (16 * t)) 32 digits) =
-    rw (two_chunks (2 * (16 * t)) 16 16 (2 * (16 * t) + 16) 32 digits refl refl, map-append value_or_more (chunk (2 * (16 * t)) 16 digits) (chunk (2 * (16 * t) + 16) 16 digits), one, other) refl in
-    rw next (more_done (16 * t) 16 digits out (first ++ second) bytes fits twice is (Each1-append IsHalf first second halves too) joins done)
+    → IsDone k digits out → IsDone (k + 16) digits (put_chunk k out bytes)
+pair_done k digits out first second bytes fits twice one other halves too joins done =
+    let is : first ++ second ≡ map value_or_more (chunk (2 * k) 32 digits) =
+    rw (two_chunks (2 * k) 16 16 (2 * k + 16) 32 digits refl refl, map-append value_or_more (chunk (2 * k) 16 digits) (chunk (2 * k + 16) 16 digits), one, other) refl in
+    more_done k 16 digits out (first ++ second) bytes fits twice is (Each1-append IsHalf first second halves too) joins done
+
+-- what a vector holds of the digits is what their values are, and half bytes
+pub record IsRead (at : ℕ) (digits values : List ℕ) : Type 0 where
+  pub are : values ≡ map value_or_more (chunk at 16 digits)
+  pub halves : Each1 IsHalf values
+
+-- one turn more
+pub turn_done : (t : ℕ) (digits out first second third fourth ones others : List ℕ)
+    → 32 * t + 32 ≤ length out → length digits ≡ 2 * length out
+    → IsRead (2 * (32 * t)) digits first → IsRead (2 * (32 * t) + 16) digits second
+    → IsRead (2 * (32 * t) + 32) digits third → IsRead (2 * (32 * t) + 48) digits fourth
+    → ones ≡ joined (first ++ second) → others ≡ joined (third ++ fourth)
+    → IsDone (32 * t) digits out
+    → IsDone (32 * (t + 1)) digits (put_chunk (32 * t + 16) (put_chunk (32 * t) out ones) others)
+turn_done t digits out first second third fourth ones others fits twice a b c d joins too done =
+    let k : ℕ = 32 * t in
+    let next : 32 * (t + 1) ≡ k + 16 + 16 = omega arith in
+    let here : 2 * k + 32 ≡ 2 * (k + 16) = omega arith in
+    let there : 2 * k + 48 ≡ 2 * (k + 16) + 16 = omega arith in
+    let half : List ℕ = put_chunk k out ones in
+    let same : length half ≡ length out = length-put_chunk k out ones in
+    let before = pair_done k digits out first second ones (omega (arith, fits)) twice a.are b.are a.halves b.halves joins done in
+    rw next (pair_done (k + 16) digits half third fourth others (omega (arith, fits, same)) (omega (arith, twice, same))
+    (rw here at c.are) (rw there at d.are) c.halves d.halves too before)
+
+-- the first k bytes are decoded, if the greatest values are half bytes, and they are if all are digits
+pub record IsAhead (k : ℕ) (greatest digits out : List ℕ) : Type 0 where
+  pub done : Each1 IsHalf greatest → IsDone k digits out
+  pub seen : Each1 IsDigit digits → Each1 IsHalf greatest
+
+pub none_ahead : (digits out : List ℕ) → IsAhead 0 (replicate 16 0) digits out
+none_ahead digits out = record { done = λ h. none_done digits out; seen = λ are. search (rules, arith) }
 
 -- what is told of the bytes that the digits spell, and what the buffer holds then
 abbrev pub Tells : Bool → List ℕ → Result (List ℕ) FromHexError → Type 0

@@ -18,18 +18,25 @@ pub fn decode_hex(digits: &[u8], out: &mut [u8]) -> bool
     if digits.len() % 2 != 0 || digits.len() / 2 != out.len() {
         return false;
     }
-    let turns = out.len() / WIDE;
+    let turns = out.len() / (2 * WIDE);
     let steps = out.len() / STEP;
+    // What isn't a digit is found at the end: until then its lane's greatest value stays too great.
+    let mut greatest = u8x16::splat(0);
     for turn in 0..turns {
-        let at = WIDE * turn;
+        let at = 2 * WIDE * turn;
         let first = values_of(u8x16::from_slice(&digits[2 * at..]));
         let second = values_of(u8x16::from_slice(&digits[2 * at + WIDE..]));
-        if !are_all_halves(first, second) {
-            return false;
-        }
+        let third = values_of(u8x16::from_slice(&digits[2 * at + 2 * WIDE..]));
+        let fourth = values_of(u8x16::from_slice(&digits[2 * at + 3 * WIDE..]));
+        let here = greatest_of(greatest_of(first, second), greatest_of(third, fourth));
+        greatest = greatest_of(greatest, here);
         join_both(first, second).copy_to_slice(&mut out[at..]);
+        join_both(third, fourth).copy_to_slice(&mut out[at + WIDE..]);
     }
-    for step in 2 * turns..steps {
+    if !are_halves(greatest) {
+        return false;
+    }
+    for step in 4 * turns..steps {
         let at = STEP * step;
         let values = values_of(u8x16::from_slice(&digits[2 * at..]));
         if !are_halves(values) {
@@ -49,12 +56,12 @@ fn are_halves(values: u8x16) -> bool
     !values.simd_ge(u8x16::splat(16)).any()
 }
 
-// Whether each lane of both is a half byte.
+// The greater value of each lane: all are half bytes where those of both are.
 #[inline(always)]
-fn are_all_halves(first: u8x16, second: u8x16) -> bool
-    ensures { IsTrue result ↔ Each1 (λ value. value < 16) first × Each1 (λ value. value < 16) second }
+fn greatest_of(first: u8x16, second: u8x16) -> u8x16
+    ensures { Each1 (λ value. value < 16) result ↔ Each1 (λ value. value < 16) first × Each1 (λ value. value < 16) second }
 {
-    are_halves(first.simd_max(second))
+    first.simd_max(second)
 }
 
 // The value of each digit, and 16 or more of what is none.
@@ -82,11 +89,10 @@ fn join(values: u8x16) -> u8x8
     (highs << u8x8::splat(4)) + lows
 }
 
-// The same of two vectors.
+// The same of two vectors. Nothing is said of what aren't half bytes.
 #[inline(always)]
 fn join_both(first: u8x16, second: u8x16) -> u8x16
-    requires { Each1 (λ value. value < 16) first × Each1 (λ value. value < 16) second }
-    ensures { result ≡ joined (first ++ second) }
+    ensures { Each1 (λ value. value < 16) first → Each1 (λ value. value < 16) second → result ≡ joined (first ++ second) }
 {
     let (highs, lows) = first.deinterleave(second);
     (highs << u8x16::splat(4)) + lows
