@@ -1,5 +1,5 @@
 -- What one word and three words ask for, and what others do.
-use Rattle.std.proofs.Common.{◌≡◌, ℕ, ◌<◌, ◌≤◌, List, [], ◌∷◌, length, map, slice_index_or, sym, ap, ◌∙◌, arith, codes, decimal, Option, None, Some}
+use Rattle.std.proofs.Common.{◌≡◌, ℕ, ◌<◌, ◌≤◌, List, [], ◌∷◌, length, map, slice_index_or, sym, ap, arith, codes, decimal, None, Some}
 use Rattle.raid_bench.specs.declared.task.Task.{Task}
 use Rattle.raid_bench.specs.declared.task.Task.TheVariants.{Script, Storm}
 use Rattle.raid_bench.specs.Asked.{IsAsked, AreStorm, IsStorm}

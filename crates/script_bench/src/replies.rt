@@ -11,7 +11,7 @@ use crate::limits::array_in_range;
 use crate::scans::restart;
 use crate::texts::put;
 use crate::why::{Failure, Why};
-use script_words::{Command, Verb, command_of};
+use script_words::{Command, Verb, read_command};
 use std::alloc::Global;
 use step_core::World;
 use tiering::Tiers;
@@ -59,11 +59,12 @@ fn start(
 fn first(alloc: Global, line: &[u8], out: &mut Vec<u8>) -> Result<Bench, Failure>
     ensures { Starts result line.now out.old.items out.new.items }
 {
-    let command = match command_of(alloc, line, &mut []) {
-        Ok(Some(command)) => command,
-        Ok(None) => return Err(Failure::Wrong(Why::Form)),
+    let mut command = Command::new(alloc);
+    match read_command(alloc, line, &mut [], &mut command) {
+        Ok(true) => {}
+        Ok(false) => return Err(Failure::Wrong(Why::Form)),
         Err(_) => return Err(Failure::Memory),
-    };
+    }
     match command.verb {
         Verb::Array => {
             let [drives, extents, segments, payload, blocks] = command.numbers;
@@ -117,11 +118,12 @@ fn later(
     };
     let shape = standing.tiers.world.array().shape();
     let payload = &mut payload[..shape.payload as usize];
-    let command = match command_of(alloc, line, payload) {
-        Ok(Some(command)) => command,
-        Ok(None) => return Err(Failure::Wrong(Why::Form)),
+    let mut command = Command::new(alloc);
+    match read_command(alloc, line, payload, &mut command) {
+        Ok(true) => {}
+        Ok(false) => return Err(Failure::Wrong(Why::Form)),
         Err(_) => return Err(Failure::Memory),
-    };
+    }
     if let Verb::Array = command.verb {
         return Err(Failure::Wrong(Why::Form));
     }

@@ -1,5 +1,5 @@
 -- The words of a spelled line are the words that spell it.
-use Rattle.std.proofs.Common.{◌≡◌, ℕ, ◌≤◌, ◌==◌, true, List, [], ◌∷◌, ◌++◌, Ok, Err, Result, length, get_or, refl, sym, ap, ◌∙◌, arith, map, take, slice_index, decimal, codes, rules, eqb-true, length-take, Option, Some, None}
+use Rattle.std.proofs.Common.{◌≡◌, ℕ, ◌≤◌, ◌==◌, Bool, true, false, List, [], ◌∷◌, ◌++◌, Ok, Err, Result, length, get_or, refl, sym, ap, ◌∙◌, arith, map, take, slice_index, decimal, codes, rules, eqb-true, length-take}
 use Rattle.std.specs.Prelude.{IfOk}
 use Rattle.std.specs.List.{AllByRecursion, All}
 use Rattle.std.proofs.lemmas.List.Elements.{All-from_get_or, All-from_recursion, All-append, All-cons}
@@ -177,15 +177,28 @@ pub no_members_behind : (back : List (List ℕ)) → ((level : Class) (members :
 no_members_behind back none size (Members level members) is long there = none level members there
 no_members_behind back none size _ is long there = cc is
 
+-- whether a payload stands behind the numbers
+pub payload_found : (asked : Verb) (size count : ℕ) (command : Command) (bytes : List ℕ) (ws back : List (List ℕ)) (told : Bool)
+    → length command.numbers ≡ 5 → count ≤ 5 → count ≡ length (kinds_of asked) → tail_of asked ≡ tail.Payload → command.verb ≡ asked
+    → AllByRecursion IsWritable (take count command.numbers) → ws ≡ map decimal (take count command.numbers) ++ back
+    → (told ≡ true → PayloadAlone bytes back)
+    → (told ≡ false → (content : List ℕ) → length content ≡ size → PayloadAlone content back → ⊥)
+    → length bytes ≡ size → Finds asked size ws bytes command told
+payload_found asked size count command bytes ws back true five few counted tailed named writable spelled put none long =
+    rw named (found_as asked tail.Payload size count command.numbers command.record bytes command.class command.members.items ws back five counted tailed
+    writable spelled (put refl) long)
+payload_found asked size count command bytes ws back false five few counted tailed named writable spelled put none long =
+    no_behind asked tail.Payload size count command.numbers ws back five few counted tailed spelled (no_payload_behind back size (none refl))
+
 -- what was found behind the first word is what the line spells
-read_line : (asked : Verb) (size : ℕ) (line word bytes : List ℕ) (ws : List (List ℕ)) (found : Option Command)
-    → words line ≡ word ∷ ws → word ≡ word_of asked → Finds asked size ws bytes found → Reads size line bytes found
-read_line asked size line word bytes ws (Some command) cut named found =
+read_line : (asked : Verb) (size : ℕ) (line word bytes : List ℕ) (ws : List (List ℕ)) (command : Command) (found : Bool)
+    → words line ≡ word ∷ ws → word ≡ word_of asked → Finds asked size ws bytes command found → Reads size line bytes command found
+read_line asked size line word bytes ws command true cut named found =
     record { spells = found_spells asked size line word ws _ cut named found; sized = found.sized }
-read_line asked size line word bytes ws None cut named none =
+read_line asked size line word bytes ws command false cut named none =
     λ order read. none order (spelled_found asked size line word ws order cut named read.sized read.spells)
 
-pub read_result : {E : Type 0} (asked : Verb) (size : ℕ) (line word bytes : List ℕ) (ws : List (List ℕ)) (r : Result (Option Command) E)
-    → words line ≡ word ∷ ws → word ≡ word_of asked → IfOk r (Finds asked size ws bytes) → IfOk r (Reads size line bytes)
-read_result asked size line word bytes ws (Ok found) cut named h = read_line asked size line word bytes ws found cut named h
-read_result asked size line word bytes ws (Err e) cut named h = h
+pub read_result : {E : Type 0} (asked : Verb) (size : ℕ) (line word bytes : List ℕ) (ws : List (List ℕ)) (command : Command) (r : Result Bool E)
+    → words line ≡ word ∷ ws → word ≡ word_of asked → IfOk r (Finds asked size ws bytes command) → IfOk r (Reads size line bytes command)
+read_result asked size line word bytes ws command (Ok found) cut named h = read_line asked size line word bytes ws command found cut named h
+read_result asked size line word bytes ws command (Err e) cut named h = h

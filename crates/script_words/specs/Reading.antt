@@ -1,5 +1,5 @@
 -- What reading a line finds.
-use Rattle.std.specs.Prelude.{◌≡◌, ℕ, List, Option, Some, None}
+use Rattle.std.specs.Prelude.{◌≡◌, ℕ, List, Bool, true, false}
 use Rattle.script_words.specs.Order.{Order, order_of, verb_of}
 use Rattle.script_words.specs.Spelling.{Follows, IsSized, Spells}
 use Rattle.script_words.specs.declared.command.Command.{Command}
@@ -11,17 +11,17 @@ pub record IsFound (verb : Verb) (size : ℕ) (ws : List (List ℕ)) (order : Or
   pub sized : IsSized size order
   pub follows : Follows order ws
 
--- a command of the verb that the words spell, or none where they spell none
-abbrev pub Finds : Verb → ℕ → List (List ℕ) → List ℕ → Option Command → Type 0
-Finds verb size ws bytes (Some command) = IsFound verb size ws (order_of command bytes)
-Finds verb size ws bytes None = (order : Order) → IsFound verb size ws order → ⊥
+-- it is told whether the words spell a command of the verb, and where they do, it is this one
+abbrev pub Finds : Verb → ℕ → List (List ℕ) → List ℕ → Command → Bool → Type 0
+Finds verb size ws bytes command true = IsFound verb size ws (order_of command bytes)
+Finds verb size ws bytes command false = (order : Order) → IsFound verb size ws order → ⊥
 
 -- the line spells this command, with a payload of the length that is wanted
 pub record IsRead (size : ℕ) (line : List ℕ) (order : Order) : Type 0 where
   pub spells : Spells order line
   pub sized : IsSized size order
 
--- a command that the line spells, or none where it spells none
-abbrev pub Reads : ℕ → List ℕ → List ℕ → Option Command → Type 0
-Reads size line bytes (Some command) = IsRead size line (order_of command bytes)
-Reads size line bytes None = (order : Order) → IsRead size line order → ⊥
+-- it is told whether the line spells a command, and where it does, it is this one
+abbrev pub Reads : ℕ → List ℕ → List ℕ → Command → Bool → Type 0
+Reads size line bytes command true = IsRead size line (order_of command bytes)
+Reads size line bytes command false = (order : Order) → IsRead size line order → ⊥

@@ -2,6 +2,7 @@
 use crate::verb::Verb;
 use flat_machine::Class;
 use map_join::Record;
+use std::alloc::Global;
 
 /// The most numbers of a command.
 pub const MOST_NUMBERS: usize = 5;
@@ -13,7 +14,7 @@ pub struct Named {
     pub extent: u64,
 }
 
-/// A command of a script. What its verb doesn't ask for is zero or empty. The payload of a fill stands in the
+/// A command of a script. What its verb doesn't ask for means nothing. The payload of a fill stands in the
 /// buffer that was lent for it.
 #[derive(Drop)]
 pub struct Command {
@@ -23,4 +24,22 @@ pub struct Command {
     pub verb: Verb,
     pub class: Class,
     pub members: Vec<Named>,
+}
+
+impl Command {
+    /// Room for a command.
+    pub fn new(alloc: Global) -> Command {
+        Command {
+            numbers: [0; MOST_NUMBERS],
+            record: Record {
+                block: 0,
+                version: 0,
+                hop: 0,
+                place: 0,
+            },
+            verb: Verb::Array,
+            class: Class::Mirrored,
+            members: Vec::new(alloc),
+        }
+    }
 }

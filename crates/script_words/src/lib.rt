@@ -13,5 +13,5 @@ mod words;
 
 pub use command::{Command, Named};
 pub use number::number_of;
-pub use parse::command_of;
+pub use parse::read_command;
 pub use verb::{Kind, Row, Tail, Verb};

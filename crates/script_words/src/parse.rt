@@ -4,86 +4,64 @@ ghost use Rattle.script_words.specs.Parts.{text_of};
 ghost use Rattle.script_words.specs.Words.{words_left};
 ghost use Rattle.script_words.specs.Reading.{Finds, Reads};
 
-use crate::command::{Command, MOST_NUMBERS};
+use crate::command::Command;
 use crate::member::class_and_members;
 use crate::parts::{SPACE, cut};
 use crate::payload::put_payload;
 use crate::record::last_record;
 use crate::verb::{Tail, Verb, verb_of};
 use crate::words::{is_end, next_numbers};
-use flat_machine::Class;
-use map_join::Record;
 use std::alloc::{AllocError, Global};
 
-/// The record of a command that names none.
-const NO_RECORD: Record = Record {
-    block: 0,
-    version: 0,
-    hop: 0,
-    place: 0,
-};
-
-/// The command that the line spells, if it spells one. The payload of a fill, which has to be as long as the
-/// buffer, is put there.
-pub fn command_of(
+/// Whether the line spells a command, which is put into the room for it. The payload of a fill, which has to be as
+/// long as the buffer, is put there.
+pub fn read_command(
     alloc: Global,
     line: &[u8],
     payload: &mut [u8],
-) -> Result<Option<Command>, AllocError>
-    ensures { IfOk result (Reads (length payload.old) line.now payload.new) }
+    command: &mut Command,
+) -> Result<bool, AllocError>
+    ensures { IfOk result (Reads (length payload.old) line.now payload.new «command».new) }
 {
     let (word, rest) = cut(line, SPACE);
     let Some(verb) = verb_of(word) else {
-        return Ok(None)
+        return Ok(false)
     };
-    follow(alloc, verb, rest, payload)
+    follow(alloc, verb, rest, payload, command)
 }
 
-// The command of the verb, whose words are left.
+// Whether the words that are left make a command of the verb.
 fn follow(
     alloc: Global,
     verb: Verb,
     words: Option<&[u8]>,
     payload: &mut [u8],
-) -> Result<Option<Command>, AllocError>
-    ensures { IfOk result (Finds verb (length payload.old) (words_left (text_of words.entry)) payload.new) }
+    command: &mut Command,
+) -> Result<bool, AllocError>
+    ensures { IfOk result (Finds verb (length payload.old) (words_left (text_of words.entry)) payload.new «command».new) }
 {
     let row = verb.row();
-    let mut numbers = [0; MOST_NUMBERS];
-    let Some(rest) = next_numbers(&mut numbers, row.kinds.len(), words) else {
-        return Ok(None)
+    let Some(rest) = next_numbers(&mut command.numbers, row.kinds.len(), words) else {
+        return Ok(false)
     };
-    let mut command = Command {
-        verb,
-        numbers,
-        record: NO_RECORD,
-        class: Class::Mirrored,
-        members: Vec::new(alloc),
-    };
+    command.verb = verb;
     match row.tail {
-        Tail::Nothing => {
-            if !is_end(rest) {
-                return Ok(None);
+        Tail::Nothing => Ok(is_end(rest)),
+        Tail::Record => match last_record(rest) {
+            Some(record) => {
+                command.record = record;
+                Ok(true)
             }
-        }
-        Tail::Record => {
-            let Some(record) = last_record(rest) else {
-                return Ok(None)
-            };
-            command.record = record;
-        }
-        Tail::Payload => {
-            if !put_payload(rest, payload) {
-                return Ok(None);
+            None => Ok(false),
+        },
+        Tail::Payload => Ok(put_payload(rest, payload)),
+        Tail::Members => match class_and_members(alloc, rest)? {
+            Some((class, members)) => {
+                command.class = class;
+                command.members = members;
+                Ok(true)
             }
-        }
-        Tail::Members => {
-            let Some((class, members)) = class_and_members(alloc, rest)? else {
-                return Ok(None)
-            };
-            command.class = class;
-            command.members = members;
-        }
+            None => Ok(false),
+        },
     }
-    Ok(Some(command))
 }

@@ -1,4 +1,4 @@
-use Rattle.std.proofs.Common.{◌≡◌, ◌==◌, ◌<◌, eqb, length, map, sym, ap, ◌∙◌, arith, w8}
+use Rattle.std.proofs.Common.{◌==◌, ◌<◌, eqb, map, sym, ap, ◌∙◌, arith, w8}
 use Rattle.std.proofs.lemmas.Simd.{bitmask_splat, leading_from_mask_l, trailing_mask_l}
 use Rattle.std.specs.Simd.Lanes.{mask_l}
 use Rattle.script_run.proofs.split.open_bytes.Goals as goal
