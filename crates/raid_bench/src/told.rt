@@ -25,3 +25,11 @@ fn storm_status(told: Told) -> u8
         Told::Unwritten => End::WriteFault.status(),
     }
 }
+
+// No storm that is run ends with maps that differ, so this end is told by hand.
+#[test]
+fn maps_that_differ_end_with_their_own_status(rt: HostRuntime) {
+    let mut line = Vec::new(rt.alloc());
+    assert!(rt; end_storm(&mut line, Ok(Storm::Differs(70))) == 3);
+    assert!(rt; line.as_slice() == b"differs 70\n".as_slice());
+}
