@@ -17,6 +17,7 @@ pub mod RowWrites
 pub mod Sites
 pub mod SlotWrites
 pub mod StoreCalls
+pub mod Fronts
 pub mod Blank
 pub mod Losses
 pub mod Readiness

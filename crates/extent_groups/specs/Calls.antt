@@ -1,12 +1,16 @@
 -- One call of a drive, and what any number of them leaves: every unit that is still there is what it was or what was written.
 use Rattle.std.specs.Prelude.{◌≡◌, ◌≢◌, ℕ, ◌+◌, ◌<◌, ◌⊎◌, Bool, true, Option, Some, None, List, length, slice_get, if◌then◌else◌}
-use Rattle.extents.specs.Units.{IsSized, loss}
+use Rattle.extents.specs.Units.{IsSized, HaveFront, loss}
 use Rattle.extent_groups.specs.declared.place.Place.{Place}
 use Rattle.extent_groups.specs.Cells.{Cells, held}
 
 -- every unit of every drive has so many bytes
 abbrev pub AreSized : {D : Type 0} → (D → List (List ℕ)) → ℕ → List D → Type 0
 AreSized {D} units bytes drives = (d : ℕ) (x : D) → slice_get drives d ≡ Some x → IsSized bytes (units x)
+
+-- every unit of every drive has at least so many bytes
+abbrev pub HaveFronts : {D : Type 0} → (D → List (List ℕ)) → ℕ → List D → Type 0
+HaveFronts {D} units count drives = (d : ℕ) (x : D) → slice_get drives d ≡ Some x → HaveFront count (units x)
 
 -- the place is one of the drives'
 pub record IsPlace {D : Type 0} (units : D → List (List ℕ)) (drives : List D) (p : Place) : Type 0 where

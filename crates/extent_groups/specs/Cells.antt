@@ -1,5 +1,6 @@
 -- What the drives hold, as one function from drive and address to a unit; a lost drive holds none.
-use Rattle.std.specs.Prelude.{ℕ, Bool, Option, Some, None, List, slice_get, if◌then◌else◌}
+use Rattle.std.specs.Prelude.{ℕ, Bool, Option, Some, None, List, take, option_map, slice_get, if◌then◌else◌}
+use Rattle.extents.specs.Units.{fronts}
 use Rattle.extent_groups.specs.declared.place.Place.{Place}
 
 -- a unit, or none, for each drive and address
@@ -18,3 +19,11 @@ cells units lost drives drive at = cell units lost (slice_get drives drive) at
 -- what a place holds
 abbrev pub held : Cells → Place → Option (List ℕ)
 held c p = c p.drive p.address
+
+-- the first bytes of what may be a unit, so many of them
+abbrev pub front : ℕ → Option (List ℕ) → Option (List ℕ)
+front count unit = option_map (take count) unit
+
+-- a drive's units, of which these bytes alone are looked at
+abbrev pub front_units : {D : Type 0} → ℕ → (D → List (List ℕ)) → D → List (List ℕ)
+front_units count units drive = fronts count (units drive)

@@ -8,7 +8,7 @@ use Rattle.extent_groups.specs.declared.place.Place.{Place}
 use Rattle.extent_groups.specs.declared.refusal.StoreRefusal.{StoreRefusal}
 use Rattle.extent_groups.specs.declared.refusal.StoreRefusal.TheVariants.{Gone}
 use Rattle.extent_groups.specs.Groups.{Groups, group_at, class_in, slots_in, members_of}
-use Rattle.extent_groups.specs.Cells.{Cells, cells}
+use Rattle.extent_groups.specs.Cells.{Cells, cells, front}
 use Rattle.extent_groups.specs.Calls.{AreSized}
 use Rattle.extent_groups.specs.Units.{Site, Pair, InStripe, site_of, unit_at, effective_unit, IsSoundAt, IsSound}
 use Rattle.extent_groups.specs.Layout.{IsOf, IsApart, AreBeside, IsWhole}
@@ -20,6 +20,10 @@ unit_bytes groups = HEADER_BYTES + groups.payload
 -- the effective unit of a slot of these groups
 abbrev pub unit_of : Groups → Cells → ℕ → Option (List ℕ)
 unit_of groups c slot = effective_unit (unit_bytes groups) groups c slot
+
+-- the header bytes of a slot's effective unit
+abbrev pub header_of : Groups → Cells → ℕ → Option (List ℕ)
+header_of groups c slot = front HEADER_BYTES (unit_of groups c slot)
 
 -- every slot of these groups is sound
 abbrev pub AreSound : Groups → Cells → Type 0

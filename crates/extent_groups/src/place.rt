@@ -1,7 +1,7 @@
-// Where a unit lies, and the two calls by which stores reach a drive.
+// Where a unit lies, and the calls by which stores reach a drive.
 ghost use Rattle.std.specs.Prelude.{◌≡◌, ◌<◌, length};
-ghost use Rattle.extent_groups.specs.Cells.{cells};
-ghost use Rattle.extent_groups.specs.Calls.{AreSized, IsPlace, DidRead, DidWrite, NoPlace, Only, SameBut, KeepsDrives};
+ghost use Rattle.extent_groups.specs.Cells.{cells, front_units};
+ghost use Rattle.extent_groups.specs.Calls.{AreSized, HaveFronts, IsPlace, DidRead, DidWrite, NoPlace, Only, SameBut, KeepsDrives};
 
 use extents::Drive;
 
@@ -24,6 +24,20 @@ pub fn read_place<D: Drive>(drives: &mut [D], place: Place, unit: &mut [u8]) -> 
 {
     drives[place.drive as usize]
         .read_unit(place.address, unit)
+        .is_ok()
+}
+
+/// Reads the first bytes of the unit at a place, as many as the buffer has; false where its drive is lost.
+pub fn read_front<D: Drive>(drives: &mut [D], place: Place, front: &mut [u8]) -> bool
+    requires inside { place.drive < length drives.old }
+    requires place { IsPlace D.units drives.old place }
+    requires size { HaveFronts D.units (length front.old) drives.old }
+    ensures read { DidRead (cells (front_units (length front.old) D.units) D.lost drives.old) (cells (front_units (length front.old) D.units) D.lost drives.new) place front.new result }
+    ensures drives { KeepsDrives D.units D.lost D.failures NoPlace drives.old drives.new }
+    ensures others { SameBut (λ d. d ≡ place.drive) drives.old drives.new }
+{
+    drives[place.drive as usize]
+        .read_front(place.address, front)
         .is_ok()
 }
 

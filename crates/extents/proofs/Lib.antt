@@ -1,3 +1,4 @@
+pub mod Fronts
 pub mod UnitsIn
 pub mod Placed
 pub mod Setting

@@ -1,12 +1,13 @@
 -- Units that are kept by their places: one of them, a write over a kept one, and a first write.
-use Rattle.std.proofs.Common.{◌≡◌, ◌≢◌, ℕ, zero, suc, ◌+◌, ◌-◌, ◌*◌, ◌≤◌, ◌<◌, Option, Some, List, [], ◌∷◌, ◌++◌, length, take, drop, set, get_or, map, replicate, refl, sym, ◌∙◌, ap, subst, arith, length-drop, ◌⊎◌, inl, inr}
+use Rattle.std.proofs.Common.{◌≡◌, ◌≢◌, ℕ, zero, suc, ◌+◌, ◌-◌, ◌*◌, ◌≤◌, ◌<◌, Some, List, [], ◌∷◌, ◌++◌, length, take, drop, set, get_or, map, replicate, refl, sym, ◌∙◌, ap, subst, arith, length-drop, ◌⊎◌, inl, inr}
 use Rattle.std.proofs.Math.Seq.{get_or-append_seam, take-length}
-use Rattle.std.specs.Prelude.{slice_get, slice_set, slice_index_or, option_map}
-use Rattle.std.proofs.lemmas.List.{take-append-le, drop-append-le, length-take-le, length-map, map-set, length-replicate, get_or_append_left, get_or-set_same, get_or-set_other, get_or-replicate, length-set, set-get_or, length-append}
+use Rattle.std.specs.Prelude.{slice_get, slice_set, option_map}
+use Rattle.std.proofs.lemmas.List.{take-take, take-replicate, take-append-le, drop-append-le, length-map, map-set, length-replicate, get_or_append_left, get_or-set_same, get_or-set_other, length-set, set-get_or, length-append}
 use Rattle.std.proofs.lemmas.Option.{slice_get-map, slice_get-get_or, slice_get_within, same_Some}
 use Rattle.std.proofs.lemmas.Bool.{cases_eq}
-use Rattle.extents.specs.Units.{IsSized, units_in, zero_units}
+use Rattle.extents.specs.Units.{IsSized, HaveFront, fronts, units_in, zero_units}
 use Rattle.extents.specs.Thin.{unit_of, units_of, blanks, IsThin}
+use Rattle.extents.proofs.Fronts.{have_whole}
 use Rattle.extents.proofs.UnitsIn.{length-units_in, get-units_in, sized_units_in, units_in-written, unit_within}
 
 -- ---- maps along a list of places
@@ -124,12 +125,24 @@ module _ {size count stored capacity : ℕ} {bytes places : List ℕ} (thin : Is
       let inside : at < length places = omega (arith, h, length-map places (unit_of size (units_in size stored bytes))) in
       (sym (sized at _ (unit_at at inside)) ∙ sized_unit size stored (get_or places at 0) bytes thin.whole (thin.below at), inside)
 
-  -- what the table of places says of a unit that is asked for
+  -- what the table of places says of a unit whose first bytes are asked for
+  pub found_front : (units : List (List ℕ)) (n at place : ℕ) → units_of size stored bytes places ≡ units → at < length units → HaveFront n units → place ≡ get_or places at place
+      → (n ≤ size) × (at < length places) × (get_or places at 0 ≡ place)
+  found_front units n at place told h have e =
+      let inside : at < length places = omega (arith, h, ap length told, length-map places (unit_of size (units_in size stored bytes))) in
+      let short : n ≤ length (unit_of size (units_in size stored bytes) (get_or places at 0)) = have at _ (subst (λ us. slice_get us at ≡ Some (unit_of size (units_in size stored bytes) (get_or places at 0))) told (unit_at at inside)) in (
+        subst (λ m. n ≤ m) (sized_unit size stored (get_or places at 0) bytes thin.whole (thin.below at)) short,
+        inside,
+        same_Some _ _ (sym (slice_get-get_or places at 0 inside) ∙ slice_get-get_or places at place inside) ∙ sym e,
+      )
+
+  -- what it says of a whole unit
   pub found : (units : List (List ℕ)) (m at place : ℕ) → units_of size stored bytes places ≡ units → at < length units → IsSized m units → place ≡ get_or places at place
       → (m ≡ size) × (at < length places) × (get_or places at 0 ≡ place)
   found units m at place told h are e =
       let fits = fitting m at (subst (λ us. at < length us) (sym told) h) (subst (IsSized m) (sym told) are) in
-      (fits.0, fits.1, same_Some _ _ (sym (slice_get-get_or places at 0 fits.1) ∙ slice_get-get_or places at place fits.1) ∙ sym e)
+      let front = found_front units m at place told h (have_whole m units are) e in
+      (fits.0, front.1, front.2)
 
   -- each has the size
   pub sized : IsSized size (units_of size stored bytes places)
@@ -156,6 +169,22 @@ module _ {size count stored capacity : ℕ} {bytes places : List ℕ} (thin : Is
   -- a unit that isn't kept is zeros
   pub blank_unit : (at : ℕ) → at < length places → get_or places at 0 ≡ 0 → slice_get (units_of size stored bytes places) at ≡ Some (replicate size 0)
   blank_unit at h e = unit_at at h ∙ ap (λ place. Some (unit_of size (units_in size stored bytes) place)) e
+
+  -- the first bytes of a kept unit
+  pub kept_front : (n at number : ℕ) → n ≤ size → at < length places → get_or places at 0 ≡ suc number
+      → slice_get (fronts n (units_of size stored bytes places)) at ≡ Some (take n (drop (number * size) bytes))
+  kept_front n at number short h e =
+      slice_get-map (take n) (units_of size stored bytes places) at
+      ∙ ap (option_map (take n)) (kept_unit at number h e)
+      ∙ ap Some (take-take n size (drop (number * size) bytes) short)
+
+  -- and of one that isn't kept
+  pub blank_front : (n at : ℕ) → n ≤ size → at < length places → get_or places at 0 ≡ 0
+      → slice_get (fronts n (units_of size stored bytes places)) at ≡ Some (replicate n 0)
+  blank_front n at short h e =
+      slice_get-map (take n) (units_of size stored bytes places) at
+      ∙ ap (option_map (take n)) (blank_unit at h e)
+      ∙ ap Some (take-replicate n size 0 short)
 
   -- a write over a kept unit
   pub written_over : (at number start : ℕ) (unit : List ℕ) → at < length places → get_or places at 0 ≡ suc number → start ≡ number * size → length unit ≡ size

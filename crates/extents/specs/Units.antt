@@ -1,9 +1,17 @@
 -- What a drive holds: a list of units, each a list of bytes of one length.
-use Rattle.std.specs.Prelude.{◌≡◌, ℕ, zero, suc, Bool, true, false, Some, List, [], ◌∷◌, length, take, drop, slice_get, replicate}
+use Rattle.std.specs.Prelude.{◌≡◌, ◌≤◌, ℕ, zero, suc, Bool, true, false, Some, List, [], ◌∷◌, length, map, take, drop, slice_get, replicate}
 
 -- every unit has so many bytes
 abbrev pub IsSized : ℕ → List (List ℕ) → Type 0
 IsSized size units = (at : ℕ) (unit : List ℕ) → slice_get units at ≡ Some unit → length unit ≡ size
+
+-- every unit has at least so many bytes
+abbrev pub HaveFront : ℕ → List (List ℕ) → Type 0
+HaveFront count units = (at : ℕ) (unit : List ℕ) → slice_get units at ≡ Some unit → count ≤ length unit
+
+-- the first bytes of each unit, so many of them
+abbrev pub fronts : ℕ → List (List ℕ) → List (List ℕ)
+fronts count units = map (take count) units
 
 -- the units that lie side by side in the bytes: so many of them, each of this size
 abbrev pub units_in : ℕ → ℕ → List ℕ → List (List ℕ)

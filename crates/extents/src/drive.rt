@@ -1,6 +1,6 @@
 // What a drive promises.
 ghost use Rattle.std.specs.Prelude.{◌≡◌, ℕ, ◌+◌, ◌<◌, Bool, true, List, length, slice_get, slice_set, Some, OnOk, OnErr, is_err};
-ghost use Rattle.extents.specs.Units.{IsSized, loss};
+ghost use Rattle.extents.specs.Units.{IsSized, HaveFront, fronts, loss};
 
 /// The drive answers no more, and never will again.
 #[derive(Clone, Copy, Debug, PartialEq, Eq)]
@@ -30,6 +30,17 @@ pub trait Drive {
         requires at { at < length (units self.old) }
         requires size { IsSized (length unit.old) (units self.old) }
         ensures read { OnOk result (slice_get (units self.old) at ≡ Some unit.new) }
+        ensures units { units self.new ≡ units self.old }
+        ensures lost { lost self.new ≡ is_err result }
+        ensures stays { lost self.old ≡ true → lost self.new ≡ true }
+        ensures count { failures self.new ≡ failures self.old + loss (lost self.old) (lost self.new) };
+
+    /// Reads the first bytes of the unit at an address, as many as the buffer has; a call as the read of a whole unit is,
+    /// and refused where that is.
+    fn read_front(&mut self, at: u32, front: &mut [u8]) -> Result<(), DriveLost>
+        requires at { at < length (units self.old) }
+        requires size { HaveFront (length front.old) (units self.old) }
+        ensures read { OnOk result (slice_get (fronts (length front.old) (units self.old)) at ≡ Some front.new) }
         ensures units { units self.new ≡ units self.old }
         ensures lost { lost self.new ≡ is_err result }
         ensures stays { lost self.old ≡ true → lost self.new ≡ true }

@@ -1,6 +1,6 @@
 // A drive in memory, which can be lost from outside or by a fuse.
 ghost use Rattle.std.specs.Prelude.{◌≡◌, ℕ, ◌+◌, ◌*◌, ◌-◌, ◌≤◌, ◌<◌, not, true, List, length, slice_get, slice_set, Some, take, drop, ◌++◌, IfOk, OnOk, OnErr, is_err, vec_len};
-ghost use Rattle.extents.specs.Units.{IsSized, loss, zero_units};
+ghost use Rattle.extents.specs.Units.{IsSized, HaveFront, fronts, loss, zero_units};
 ghost use Rattle.extents.specs.Condition.{is_gone, failures_of, after_call};
 ghost use Rattle.extents.specs.declared.shape.TheConstants.{HEADER_BYTES};
 
@@ -129,10 +129,23 @@ impl Drive for MemDrive {
         ensures count { failures_of self.new.condition ≡ failures_of self.old.condition + loss (is_gone self.old.condition) (is_gone self.new.condition) }
         ensures condition { self.new.condition ≡ after_call self.old.condition }
     {
+        self.read_front(at, unit)
+    }
+
+    fn read_front(&mut self, at: u32, front: &mut [u8]) -> Result<(), DriveLost>
+        requires at { at < length self.old.units }
+        requires size { HaveFront (length front.old) self.old.units }
+        ensures read { OnOk result (slice_get (fronts (length front.old) self.old.units) at ≡ Some front.new) }
+        ensures units { self.new.units ≡ self.old.units }
+        ensures lost { is_gone self.new.condition ≡ is_err result }
+        ensures stays { is_gone self.old.condition ≡ true → is_gone self.new.condition ≡ true }
+        ensures count { failures_of self.new.condition ≡ failures_of self.old.condition + loss (is_gone self.old.condition) (is_gone self.new.condition) }
+        ensures condition { self.new.condition ≡ after_call self.old.condition }
+    {
         if !spend(&mut self.condition) {
             return Err(DriveLost);
         }
-        self.units.read(at, unit);
+        self.units.read(at, front);
         Ok(())
     }
 

@@ -1,6 +1,6 @@
 // The units of a drive in memory, of which those take memory that were written.
 ghost use Rattle.std.specs.Prelude.{◌≡◌, ◌+◌, ◌<◌, ◌≤◌, ◌++◌, ℕ, true, List, length, replicate, slice_get, slice_set, Some, take, drop, IfOk};
-ghost use Rattle.extents.specs.Units.{IsSized, zero_units};
+ghost use Rattle.extents.specs.Units.{IsSized, HaveFront, fronts, zero_units};
 
 use std::alloc::{AllocError, Global};
 use std::marker::Model;
@@ -59,17 +59,17 @@ impl ThinUnits {
         self.count
     }
 
-    /// Reads a unit.
-    pub fn read(&self, at: u32, unit: &mut [u8])
+    /// Reads the first bytes of a unit, as many as the buffer has.
+    pub fn read(&self, at: u32, front: &mut [u8])
         requires at { at < length self.now }
-        requires size { IsSized (length unit.old) self.now }
-        ensures { slice_get self.now at ≡ Some unit.new }
+        requires size { HaveFront (length front.old) self.now }
+        ensures { slice_get (fronts (length front.old) self.now) at ≡ Some front.new }
     {
         let place = self.places[at as usize];
         if place > 0 {
-            load(&self.bytes, (place - 1) as usize * self.size, unit);
+            load(&self.bytes, (place - 1) as usize * self.size, front);
         } else {
-            unit.fill(0);
+            front.fill(0);
         }
     }
 
@@ -103,12 +103,12 @@ fn store(bytes: &mut [u8], start: usize, unit: &[u8])
     bytes[start..start + unit.len()].copy_from_slice(unit);
 }
 
-/// Reads the bytes from a place on into a unit.
-fn load(bytes: &[u8], start: usize, unit: &mut [u8])
-    requires { start + length unit.old ≤ length bytes.now }
-    ensures { unit.new ≡ take (length unit.old) (drop start bytes.now) }
+/// Reads the bytes from a place on, as many as the buffer has.
+fn load(bytes: &[u8], start: usize, front: &mut [u8])
+    requires { start + length front.old ≤ length bytes.now }
+    ensures { front.new ≡ take (length front.old) (drop start bytes.now) }
 {
-    unit.copy_from_slice(&bytes[start..start + unit.len()]);
+    front.copy_from_slice(&bytes[start..start + front.len()]);
 }
 
 /// Whether all bytes are zero: the first is, and each is as the one before it, which two slices tell at once.

@@ -1,30 +1,52 @@
 //! Reads and writes of mirrored slots: each lies in two copies, on two drives.
 #![tactic(auto)]
 
-ghost use Rattle.std.specs.Prelude.{◌≡◌, ◌≢◌, ◌⊎◌, ◌*◌, ◌/◌, length, Some, OnOk, IfErr};
+ghost use Rattle.std.specs.Prelude.{◌≡◌, ◌≢◌, ◌≤◌, ◌⊎◌, ◌*◌, ◌/◌, length, Some, OnOk, IfErr};
 ghost use Rattle.extent_groups.specs.declared.class.Class.TheVariants.{Mirrored};
-ghost use Rattle.extent_groups.specs.Cells.{cells};
+ghost use Rattle.extents.specs.declared.shape.TheConstants.{HEADER_BYTES};
+ghost use Rattle.extent_groups.specs.Cells.{cells, front, front_units};
 ghost use Rattle.extent_groups.specs.Units.{Pair, unit_at};
-ghost use Rattle.extent_groups.specs.Calls.{AreSized, IsPlace, FadesAt, if_ok, NoPlace, SameBut, KeepsDrives};
-ghost use Rattle.extent_groups.specs.Stores.{unit_bytes, unit_of, AreSound, IsSlotOf, AreDrives, KeepsUnits, Wrote, NamesGone, IsOwn, IsOwnOf, LeavesSites, HasMemberOn};
+ghost use Rattle.extent_groups.specs.Calls.{AreSized, HaveFronts, IsPlace, if_ok, NoPlace, SameBut, KeepsDrives};
+ghost use Rattle.extent_groups.specs.Stores.{unit_bytes, unit_of, header_of, AreSound, IsSlotOf, AreDrives, KeepsUnits, Wrote, NamesGone, IsOwn, IsOwnOf, LeavesSites, HasMemberOn};
 
-use extent_groups::{GroupTable, Place, StoreRefusal, read_place, write_place};
+use extent_groups::{GroupTable, Place, StoreRefusal, read_front, write_place};
 use extents::Drive;
 
-/// Reads the first copy that is there; false where both are lost.
-fn read_pair<D: Drive>(drives: &mut [D], first: Place, second: Place, unit: &mut [u8]) -> bool
+/// Reads the first bytes of a slot's effective unit, as many as the buffer has: of the first copy that is there; false where both are lost.
+fn read_fronts<D: Drive>(
+    groups: &GroupTable,
+    drives: &mut [D],
+    slot: u16,
+    buffer: &mut [u8],
+) -> bool
+    requires slot { IsSlotOf Mirrored groups.now slot }
+    requires drives { AreDrives D.units groups.now drives.old }
+    requires size { length buffer.old ≤ unit_bytes groups.now }
+    ensures front { front (length buffer.old) (unit_of groups.now (cells D.units D.lost drives.new) slot) ≡ if_ok result buffer.new }
+    ensures whole { length buffer.old ≡ unit_bytes groups.now → unit_of groups.now (cells D.units D.lost drives.new) slot ≡ if_ok result buffer.new }
+    ensures units { AreSound groups.now (cells D.units D.lost drives.old) → KeepsUnits groups.now (cells D.units D.lost drives.old) (cells D.units D.lost drives.new) }
+    ensures sound { AreSound groups.now (cells D.units D.lost drives.old) → AreSound groups.now (cells D.units D.lost drives.new) }
+    ensures touched { KeepsDrives D.units D.lost D.failures NoPlace drives.old drives.new }
+    ensures elsewhere { SameBut (HasMemberOn groups.now (slot / 128)) drives.old drives.new }
+    ensures drives { AreDrives D.units groups.now drives.new }
+{
+    let (first, second) = groups.pair_of(slot);
+    read_pair(drives, first, second, buffer)
+}
+
+/// Reads the first bytes of the first copy that is there, as many as the buffer has; false where both are lost.
+fn read_pair<D: Drive>(drives: &mut [D], first: Place, second: Place, front: &mut [u8]) -> bool
     requires first { IsPlace D.units drives.old first }
     requires second { IsPlace D.units drives.old second }
-    requires size { AreSized D.units (length unit.old) drives.old }
-    ensures unit { unit_at (length unit.new) (cells D.units D.lost drives.new) (Pair first second) ≡ if_ok result unit.new }
-    ensures fades { (x : Place) → FadesAt (cells D.units D.lost drives.old) (cells D.units D.lost drives.new) x }
+    requires size { HaveFronts D.units (length front.old) drives.old }
+    ensures unit { unit_at (length front.old) (cells (front_units (length front.old) D.units) D.lost drives.new) (Pair first second) ≡ if_ok result front.new }
     ensures touched { KeepsDrives D.units D.lost D.failures NoPlace drives.old drives.new }
     ensures elsewhere { SameBut (λ d. (d ≡ first.drive) ⊎ (d ≡ second.drive)) drives.old drives.new }
 {
-    if read_place(drives, first, unit) {
+    if read_front(drives, first, front) {
         return true;
     }
-    read_place(drives, second, unit)
+    read_front(drives, second, front)
 }
 
 /// Writes both copies, each where its drive is there; false where both are lost.
@@ -62,8 +84,32 @@ pub fn read<D: Drive>(
     ensures elsewhere { SameBut (HasMemberOn groups.now (slot / 128)) drives.old drives.new }
     ensures drives { AreDrives D.units groups.now drives.new }
 {
-    let (first, second) = groups.pair_of(slot);
-    read_pair(drives, first, second, unit)
+    read_fronts(groups, drives, slot, unit)
+        .then_some(())
+        .ok_or(StoreRefusal::Gone(slot))
+}
+
+/// Reads the header of a slot's effective unit alone; refused where that unit's read is.
+pub fn read_header<D: Drive>(
+    groups: &GroupTable,
+    drives: &mut [D],
+    slot: u16,
+    header: &mut [u8],
+    _scratch: &mut [u8],
+) -> Result<(), StoreRefusal>
+    requires slot { IsSlotOf Mirrored groups.now slot }
+    requires drives { AreDrives D.units groups.now drives.old }
+    requires header { length header.old ≡ HEADER_BYTES }
+    requires scratch { length _scratch.old ≡ 2 * HEADER_BYTES }
+    ensures ok { OnOk result (header_of groups.now (cells D.units D.lost drives.new) slot ≡ Some header.new) }
+    ensures gone { IfErr result (NamesGone groups.now (cells D.units D.lost drives.new) slot) }
+    ensures units { AreSound groups.now (cells D.units D.lost drives.old) → KeepsUnits groups.now (cells D.units D.lost drives.old) (cells D.units D.lost drives.new) }
+    ensures sound { AreSound groups.now (cells D.units D.lost drives.old) → AreSound groups.now (cells D.units D.lost drives.new) }
+    ensures touched { KeepsDrives D.units D.lost D.failures NoPlace drives.old drives.new }
+    ensures elsewhere { SameBut (HasMemberOn groups.now (slot / 128)) drives.old drives.new }
+    ensures drives { AreDrives D.units groups.now drives.new }
+{
+    read_fronts(groups, drives, slot, header)
         .then_some(())
         .ok_or(StoreRefusal::Gone(slot))
 }

@@ -2,4 +2,5 @@ pub mod Mixed
 pub mod Differences
 pub mod Laid
 pub mod Sums
+pub mod Whole
 pub mod Stripes

@@ -6,7 +6,7 @@ use Rattle.extent_groups.specs.Groups.{Groups, members_of}
 use Rattle.extent_groups.specs.Geometry.{parity_of}
 use Rattle.extent_groups.specs.Cells.{Cells, held}
 use Rattle.extent_groups.specs.Units.{InStripe, plus, add, put, total, row_of, unit_at, places_of}
-use Rattle.extent_groups.specs.Calls.{AreSized, FadesAt, IsPlace}
+use Rattle.extent_groups.specs.Calls.{AreSized, HaveFronts, FadesAt, IsPlace}
 use Rattle.extent_groups.specs.Stores.{unit_bytes}
 
 -- the places at an offset of all members
@@ -29,6 +29,13 @@ pub record IsLaid {D : Type 0} (units : D → List (List ℕ)) (groups : Groups)
   pub low : offset < extent_units groups.segments
   pub row : IsRow units drives (row_at groups group offset)
   pub size : AreSized units bytes drives
+
+-- so many first bytes of the units at an offset of a group can be read: its members are few and have that offset, and its places are those of drives whose units have as many
+pub record IsReadable {D : Type 0} (units : D → List (List ℕ)) (groups : Groups) (group offset count : ℕ) (drives : List D) : Type 0 where
+  pub few : length (members_of groups group) ≤ 8
+  pub low : offset < extent_units groups.segments
+  pub row : IsRow units drives (row_at groups group offset)
+  pub fronts : HaveFronts units count drives
 
 -- a row in which two members count as zeros
 abbrev pub bare : ℕ → (ℕ → Option (List ℕ)) → ℕ → ℕ → ℕ → Option (List ℕ)

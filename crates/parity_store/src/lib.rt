@@ -7,16 +7,41 @@ mod others;
 mod parity;
 mod stripe;
 
-ghost use Rattle.std.specs.Prelude.{◌≡◌, ◌*◌, ◌/◌, length, Some, OnOk, IfErr};
+ghost use Rattle.std.specs.Prelude.{◌≡◌, ◌≤◌, ◌*◌, ◌/◌, length, Some, OnOk, IfErr};
+ghost use Rattle.extents.specs.declared.shape.TheConstants.{HEADER_BYTES};
 ghost use Rattle.extent_groups.specs.declared.class.Class.TheVariants.{Parity};
-ghost use Rattle.extent_groups.specs.Cells.{cells};
-ghost use Rattle.extent_groups.specs.Calls.{NoPlace, SameBut, KeepsDrives};
-ghost use Rattle.extent_groups.specs.Stores.{unit_bytes, unit_of, AreSound, IsSlotOf, AreDrives, KeepsUnits, Wrote, NamesGone, IsOwnOf, HasMemberOn};
+ghost use Rattle.extent_groups.specs.Cells.{cells, front};
+ghost use Rattle.extent_groups.specs.Calls.{if_ok, NoPlace, SameBut, KeepsDrives};
+ghost use Rattle.extent_groups.specs.Stores.{unit_bytes, unit_of, header_of, AreSound, IsSlotOf, AreDrives, KeepsUnits, Wrote, NamesGone, IsOwnOf, HasMemberOn};
 
 pub use exclusive_or::xor_into;
 use extent_groups::{GroupTable, SLOTS, StoreRefusal};
 use extents::Drive;
 pub use parity::read_parity;
+
+// Reads the first bytes of a slot's effective unit, as many as the buffer has, with another buffer for each member's; false where the unit's drive and another member's are lost.
+fn read_fronts<D: Drive>(
+    groups: &GroupTable,
+    drives: &mut [D],
+    slot: u16,
+    buffer: &mut [u8],
+    part: &mut [u8],
+) -> bool
+    requires slot { IsSlotOf Parity groups.now slot }
+    requires drives { AreDrives D.units groups.now drives.old }
+    requires size { length buffer.old ≤ unit_bytes groups.now }
+    requires part { length part.old ≡ length buffer.old }
+    ensures front { front (length buffer.old) (unit_of groups.now (cells D.units D.lost drives.new) slot) ≡ if_ok result buffer.new }
+    ensures whole { length buffer.old ≡ unit_bytes groups.now → unit_of groups.now (cells D.units D.lost drives.new) slot ≡ if_ok result buffer.new }
+    ensures units { AreSound groups.now (cells D.units D.lost drives.old) → KeepsUnits groups.now (cells D.units D.lost drives.old) (cells D.units D.lost drives.new) }
+    ensures sound { AreSound groups.now (cells D.units D.lost drives.old) → AreSound groups.now (cells D.units D.lost drives.new) }
+    ensures touched { KeepsDrives D.units D.lost D.failures NoPlace drives.old drives.new }
+    ensures elsewhere { SameBut (HasMemberOn groups.now (slot / 128)) drives.old drives.new }
+    ensures drives { AreDrives D.units groups.now drives.new }
+{
+    let at = groups.row_of(slot);
+    stripe::read_stripe(groups, drives, slot / SLOTS, &at, buffer, part)
+}
 
 /// Reads the effective unit of a slot, with two buffers of a unit's length; refused where the unit's drive and another member's are lost.
 pub fn read<D: Drive>(
@@ -38,10 +63,34 @@ pub fn read<D: Drive>(
     ensures elsewhere { SameBut (HasMemberOn groups.now (slot / 128)) drives.old drives.new }
     ensures drives { AreDrives D.units groups.now drives.new }
 {
-    let at = groups.row_of(slot);
     let size = unit.len();
-    let part = &mut scratch[..size];
-    stripe::read_stripe(groups, drives, slot / SLOTS, &at, unit, part)
+    read_fronts(groups, drives, slot, unit, &mut scratch[..size])
+        .then_some(())
+        .ok_or(StoreRefusal::Gone(slot))
+}
+
+/// Reads the header of a slot's effective unit alone, with two buffers of a header's length; refused where that unit's read is.
+pub fn read_header<D: Drive>(
+    groups: &GroupTable,
+    drives: &mut [D],
+    slot: u16,
+    header: &mut [u8],
+    scratch: &mut [u8],
+) -> Result<(), StoreRefusal>
+    requires slot { IsSlotOf Parity groups.now slot }
+    requires drives { AreDrives D.units groups.now drives.old }
+    requires header { length header.old ≡ HEADER_BYTES }
+    requires scratch { length scratch.old ≡ 2 * HEADER_BYTES }
+    ensures ok { OnOk result (header_of groups.now (cells D.units D.lost drives.new) slot ≡ Some header.new) }
+    ensures gone { IfErr result (NamesGone groups.now (cells D.units D.lost drives.new) slot) }
+    ensures units { AreSound groups.now (cells D.units D.lost drives.old) → KeepsUnits groups.now (cells D.units D.lost drives.old) (cells D.units D.lost drives.new) }
+    ensures sound { AreSound groups.now (cells D.units D.lost drives.old) → AreSound groups.now (cells D.units D.lost drives.new) }
+    ensures touched { KeepsDrives D.units D.lost D.failures NoPlace drives.old drives.new }
+    ensures elsewhere { SameBut (HasMemberOn groups.now (slot / 128)) drives.old drives.new }
+    ensures drives { AreDrives D.units groups.now drives.new }
+{
+    let size = header.len();
+    read_fronts(groups, drives, slot, header, &mut scratch[..size])
         .then_some(())
         .ok_or(StoreRefusal::Gone(slot))
 }

@@ -2,13 +2,13 @@
 ghost use Rattle.std.specs.Prelude.{◌≡◌, ◌<◌, length};
 ghost use Rattle.std.specs.Bool.{MatchBool};
 ghost use Rattle.extent_groups.specs.Groups.{members_of};
-ghost use Rattle.extent_groups.specs.Cells.{cells};
+ghost use Rattle.extent_groups.specs.Cells.{cells, front_units};
 ghost use Rattle.extent_groups.specs.Calls.{NoPlace, SameBut, KeepsDrives};
 ghost use Rattle.extent_groups.specs.Stores.{HasMemberOn};
-ghost use Rattle.parity_store.specs.Ways.{row_at, IsLaid, Added, AddedOne, Missed};
+ghost use Rattle.parity_store.specs.Ways.{row_at, IsReadable, Added, AddedOne, Missed};
 
 use crate::xor_into;
-use extent_groups::{GroupTable, read_place};
+use extent_groups::{GroupTable, read_front};
 use extents::Drive;
 
 /// All members of a group at an offset but two, or but one that is named twice.
@@ -20,7 +20,7 @@ pub(crate) struct Others {
     pub(crate) second: u8,
 }
 
-/// Adds a member's unit to a sum, where it isn't passed over, with a buffer for it; false where it is lost.
+/// Adds the first bytes of a member's unit to a sum, as many as it has, where that isn't passed over, with a buffer for them; false where it is lost.
 fn add_member<D: Drive>(
     groups: &GroupTable,
     drives: &mut [D],
@@ -30,9 +30,9 @@ fn add_member<D: Drive>(
     part: &mut [u8],
 ) -> bool
     requires number { number < length (members_of groups.now others.group) }
-    requires laid { IsLaid D.units groups.now others.group others.offset (length sum.old) drives.old }
+    requires readable { IsReadable D.units groups.now others.group others.offset (length sum.old) drives.old }
     requires part { length part.old ≡ length sum.old }
-    ensures outcome { MatchBool result (AddedOne (length sum.old) (cells D.units D.lost drives.old) (cells D.units D.lost drives.new) (row_at groups.now others.group others.offset) others.first others.second number sum.old sum.new) (Missed (cells D.units D.lost drives.old) (cells D.units D.lost drives.new) (row_at groups.now others.group others.offset) others.first others.second) }
+    ensures outcome { MatchBool result (AddedOne (length sum.old) (cells (front_units (length sum.old) D.units) D.lost drives.old) (cells (front_units (length sum.old) D.units) D.lost drives.new) (row_at groups.now others.group others.offset) others.first others.second number sum.old sum.new) (Missed (cells (front_units (length sum.old) D.units) D.lost drives.old) (cells (front_units (length sum.old) D.units) D.lost drives.new) (row_at groups.now others.group others.offset) others.first others.second) }
     ensures touched { KeepsDrives D.units D.lost D.failures NoPlace drives.old drives.new }
     ensures elsewhere { SameBut (HasMemberOn groups.now others.group) drives.old drives.new }
 {
@@ -43,14 +43,14 @@ fn add_member<D: Drive>(
         return true;
     }
     let place = groups.place(others.group, number, others.offset);
-    if !read_place(drives, place, part) {
+    if !read_front(drives, place, part) {
         return false;
     }
     xor_into(sum, part);
     true
 }
 
-/// Adds the units of the others to a sum, with a buffer for each; false where one of them is lost.
+/// Adds the first bytes of the others' units to a sum, as many as it has, with a buffer for each; false where one of them is lost.
 pub(crate) fn add_others<D: Drive>(
     groups: &GroupTable,
     drives: &mut [D],
@@ -58,9 +58,9 @@ pub(crate) fn add_others<D: Drive>(
     sum: &mut [u8],
     part: &mut [u8],
 ) -> bool
-    requires laid { IsLaid D.units groups.now others.group others.offset (length sum.old) drives.old }
+    requires readable { IsReadable D.units groups.now others.group others.offset (length sum.old) drives.old }
     requires part { length part.old ≡ length sum.old }
-    ensures outcome { MatchBool result (Added (length sum.old) (cells D.units D.lost drives.old) (cells D.units D.lost drives.new) (row_at groups.now others.group others.offset) others.first others.second sum.old sum.new) (Missed (cells D.units D.lost drives.old) (cells D.units D.lost drives.new) (row_at groups.now others.group others.offset) others.first others.second) }
+    ensures outcome { MatchBool result (Added (length sum.old) (cells (front_units (length sum.old) D.units) D.lost drives.old) (cells (front_units (length sum.old) D.units) D.lost drives.new) (row_at groups.now others.group others.offset) others.first others.second sum.old sum.new) (Missed (cells (front_units (length sum.old) D.units) D.lost drives.old) (cells (front_units (length sum.old) D.units) D.lost drives.new) (row_at groups.now others.group others.offset) others.first others.second) }
     ensures touched { KeepsDrives D.units D.lost D.failures NoPlace drives.old drives.new }
     ensures elsewhere { SameBut (HasMemberOn groups.now others.group) drives.old drives.new }
 {

@@ -2,16 +2,16 @@
 ghost use Rattle.std.specs.Prelude.{◌≡◌, ◌<◌, length, slice_get, Some, None, replicate};
 ghost use Rattle.std.specs.Bool.{MatchBool};
 ghost use Rattle.extent_groups.specs.declared.place.Place.{Place};
-ghost use Rattle.extent_groups.specs.Cells.{cells, held};
-ghost use Rattle.extent_groups.specs.Calls.{FadesAt, if_ok, NoPlace, Only, SameBut, KeepsDrives};
+ghost use Rattle.extent_groups.specs.Cells.{cells, front_units, held};
+ghost use Rattle.extent_groups.specs.Calls.{if_ok, NoPlace, Only, SameBut, KeepsDrives};
 ghost use Rattle.extent_groups.specs.Layout.{IsWhole};
 ghost use Rattle.extent_groups.specs.Units.{InStripe, unit_at, row_of, IsSoundAt};
 ghost use Rattle.extent_groups.specs.Stores.{IsOwn, LeavesSites, HasMemberOn};
-ghost use Rattle.parity_store.specs.Ways.{row_at, IsLaid, ParityWritten, ParityMissed};
+ghost use Rattle.parity_store.specs.Ways.{row_at, IsLaid, IsReadable, ParityWritten, ParityMissed};
 
 use crate::difference::write_by_difference;
 use crate::others::{Others, add_others};
-use extent_groups::{GroupTable, Stripe, read_place, write_place};
+use extent_groups::{GroupTable, Stripe, read_front, write_place};
 use extents::Drive;
 
 /// Makes all bytes zero.
@@ -23,25 +23,24 @@ fn clear(unit: &mut [u8])
     }
 }
 
-/// Reads a unit of a stripe, or adds up all others where its drive is lost, with a buffer for each; false where one of these is lost too.
+/// Reads the first bytes of a unit of a stripe, as many as the buffer has, or adds up those of all others where its drive is lost, with a buffer for each; false where one of these is lost too.
 pub(crate) fn read_stripe<D: Drive>(
     groups: &GroupTable,
     drives: &mut [D],
     group: u16,
     at: &Stripe,
-    unit: &mut [u8],
+    front: &mut [u8],
     part: &mut [u8],
 ) -> bool
     requires member { at.now.member < length (row_at groups.now group at.now.offset) }
-    requires laid { IsLaid D.units groups.now group at.now.offset (length unit.old) drives.old }
-    requires part { length part.old ≡ length unit.old }
-    ensures unit { unit_at (length unit.old) (cells D.units D.lost drives.new) (InStripe (row_at groups.now group at.now.offset) at.now.parity at.now.member) ≡ if_ok result unit.new }
-    ensures fades { (x : Place) → FadesAt (cells D.units D.lost drives.old) (cells D.units D.lost drives.new) x }
+    requires readable { IsReadable D.units groups.now group at.now.offset (length front.old) drives.old }
+    requires part { length part.old ≡ length front.old }
+    ensures unit { unit_at (length front.old) (cells (front_units (length front.old) D.units) D.lost drives.new) (InStripe (row_at groups.now group at.now.offset) at.now.parity at.now.member) ≡ if_ok result front.new }
     ensures touched { KeepsDrives D.units D.lost D.failures NoPlace drives.old drives.new }
     ensures elsewhere { SameBut (HasMemberOn groups.now group) drives.old drives.new }
 {
     let home = groups.place(group, at.member, at.offset);
-    if read_place(drives, home, unit) {
+    if read_front(drives, home, front) {
         return true;
     }
     let others = Others {
@@ -50,8 +49,8 @@ pub(crate) fn read_stripe<D: Drive>(
         first: at.member,
         second: at.member,
     };
-    clear(unit);
-    add_others(groups, drives, others, unit, part)
+    clear(front);
+    add_others(groups, drives, others, front, part)
 }
 
 /// Writes the exclusive or of a unit and all others as the parity, with a buffer for it and one for each other; false, with nothing written, where one of these or the parity is lost.

@@ -1,4 +1,4 @@
-use Rattle.std.proofs.Common.{◌≡◌, ◌*◌, ◌≤◌, refl, arith, replicate}
+use Rattle.std.proofs.Common.{arith}
 use Rattle.extents.proofs.Placed.{thin_first, zeros_of}
 use Rattle.extents.proofs.thin.ThinUnits.new.Goals as goal
 

@@ -1,4 +1,4 @@
-use Rattle.std.proofs.Common.{◌≡◌, ◌+◌, ◌-◌, ◌<◌, suc, get_or, length, sym, ◌∙◌, ap, refl, arith}
+use Rattle.std.proofs.Common.{◌≡◌, ◌+◌, ◌-◌, ◌<◌, suc, get_or, length, ◌∙◌, ap, refl, arith}
 use Rattle.std.proofs.lemmas.List.{take_at}
 use Rattle.extents.proofs.Placed.{found, kept_within, written_over, left_blank, one_more, with_room, thin_more, written_first}
 use Rattle.extents.proofs.thin.ThinUnits.write.Goals as goal

@@ -1,9 +1,11 @@
-use Rattle.std.proofs.Common.{◌/◌, inl, inr, refl, sym, subst}
+use Rattle.std.proofs.Common.{◌/◌, length, inl, inr, refl, sym, subst}
 use Rattle.extent_groups.specs.Stores.{HasMemberOn}
 use Rattle.extent_groups.proofs.Elsewhere.{same_more, site_member}
+use Rattle.extent_groups.proofs.Fronts.{have_fronts, slot_front, slot_whole}
+use Rattle.extent_groups.proofs.Losses.{kept_fades}
 use Rattle.extent_groups.proofs.Sites.{site_places}
 use Rattle.extent_groups.proofs.StoreCalls.{read_keeps, drives_kept}
-use Rattle.mirrored_store.proofs.read.Goals as goal
+use Rattle.mirrored_store.proofs.read_fronts.Goals as goal
 
 pub read_pair-requires-clause-first : goal.read_pair-requires-clause-first
 read_pair-requires-clause-first g c = site_places _ _ _ c.args.slot _ c.pair_of.ensures.groups c.requires.drives c.pair_of.ensures.site _ (inl refl)
@@ -12,10 +14,10 @@ pub read_pair-requires-clause-second : goal.read_pair-requires-clause-second
 read_pair-requires-clause-second g c = site_places _ _ _ c.args.slot _ c.pair_of.ensures.groups c.requires.drives c.pair_of.ensures.site _ (inr refl)
 
 pub returns-clause-units : goal.returns-clause-units
-returns-clause-units g c = λ s. (read_keeps _ _ _ c.pair_of.ensures.groups c.requires.drives s c.read_pair.ensures.fades c.read_pair.ensures.touched).all
+returns-clause-units g c = λ s. (read_keeps _ _ _ c.pair_of.ensures.groups c.requires.drives s (kept_fades c.read_pair.ensures.touched) c.read_pair.ensures.touched).all
 
 pub returns-clause-sound : goal.returns-clause-sound
-returns-clause-sound g c = λ s. (read_keeps _ _ _ c.pair_of.ensures.groups c.requires.drives s c.read_pair.ensures.fades c.read_pair.ensures.touched).sound
+returns-clause-sound g c = λ s. (read_keeps _ _ _ c.pair_of.ensures.groups c.requires.drives s (kept_fades c.read_pair.ensures.touched) c.read_pair.ensures.touched).sound
 
 pub returns-clause-drives : goal.returns-clause-drives
 returns-clause-drives g c = drives_kept _ c.read_pair.ensures.touched c.requires.drives
@@ -28,3 +30,14 @@ returns-clause-elsewhere g c =
       | inr e ↦ subst (HasMemberOn c.args.groups.now (c.args.slot / 128)) (sym e) (site_member c.args.groups.now c.args.slot _ c.pair_of.result.1 c.pair_of.ensures.groups c.pair_of.ensures.site (inr refl))
     ])
     c.read_pair.ensures.elsewhere
+
+pub read_pair-requires-clause-size : goal.read_pair-requires-clause-size
+read_pair-requires-clause-size g c = have_fronts g.D.Drive.units _ _ c.args.drives.now c.requires.size c.requires.drives.sized
+
+pub returns-clause-front : goal.returns-clause-front
+returns-clause-front g c = slot_front g.D.Drive.units g.D.Drive.lost c.read_pair.new.drives c.args.groups.now c.args.slot _ (length c.args.buffer.now) _ c.pair_of.ensures.site c.requires.size c.read_pair.ensures.unit
+
+pub returns-clause-whole : goal.returns-clause-whole
+returns-clause-whole g c = λ same.
+    slot_whole g.D.Drive.units g.D.Drive.lost c.read_pair.new.drives c.args.groups.now c.args.slot (length c.args.buffer.now) _ (drives_kept _ c.read_pair.ensures.touched c.requires.drives) same
+    (slot_front g.D.Drive.units g.D.Drive.lost c.read_pair.new.drives c.args.groups.now c.args.slot _ (length c.args.buffer.now) _ c.pair_of.ensures.site c.requires.size c.read_pair.ensures.unit)

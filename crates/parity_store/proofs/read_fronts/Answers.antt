@@ -1,0 +1,29 @@
+use Rattle.std.proofs.Common.{length}
+use Rattle.extent_groups.proofs.Fronts.{slot_front, slot_whole}
+use Rattle.extent_groups.proofs.Losses.{kept_fades}
+use Rattle.extent_groups.proofs.StoreCalls.{read_keeps, site_whole, drives_kept}
+use Rattle.parity_store.proofs.Laid.{readable}
+use Rattle.parity_store.proofs.read_fronts.Goals as goal
+
+pub read_stripe-requires-clause-member : goal.read_stripe-requires-clause-member
+read_stripe-requires-clause-member g c = (site_whole _ c.args.slot _ c.row_of-at.ensures.groups c.row_of-at.ensures.site).0
+
+pub read_stripe-requires-clause-readable : goal.read_stripe-requires-clause-readable
+read_stripe-requires-clause-readable g c = readable _ _ _ _ _ _ c.requires.drives c.requires.size c.row_of-at.ensures.inside
+
+pub returns-clause-units : goal.returns-clause-units
+returns-clause-units g c = λ s. (read_keeps _ _ _ c.row_of-at.ensures.groups c.requires.drives s (kept_fades c.read_stripe.ensures.touched) c.read_stripe.ensures.touched).all
+
+pub returns-clause-sound : goal.returns-clause-sound
+returns-clause-sound g c = λ s. (read_keeps _ _ _ c.row_of-at.ensures.groups c.requires.drives s (kept_fades c.read_stripe.ensures.touched) c.read_stripe.ensures.touched).sound
+
+pub returns-clause-drives : goal.returns-clause-drives
+returns-clause-drives g c = drives_kept _ c.read_stripe.ensures.touched c.requires.drives
+
+pub returns-clause-front : goal.returns-clause-front
+returns-clause-front g c = slot_front g.D.Drive.units g.D.Drive.lost c.read_stripe.new.drives c.args.groups.now c.args.slot _ (length c.args.buffer.now) _ c.row_of-at.ensures.site c.requires.size c.read_stripe.ensures.unit
+
+pub returns-clause-whole : goal.returns-clause-whole
+returns-clause-whole g c = λ same.
+    slot_whole g.D.Drive.units g.D.Drive.lost c.read_stripe.new.drives c.args.groups.now c.args.slot (length c.args.buffer.now) _ (drives_kept _ c.read_stripe.ensures.touched c.requires.drives) same
+    (slot_front g.D.Drive.units g.D.Drive.lost c.read_stripe.new.drives c.args.groups.now c.args.slot _ (length c.args.buffer.now) _ c.row_of-at.ensures.site c.requires.size c.read_stripe.ensures.unit)
