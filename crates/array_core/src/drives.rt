@@ -1,9 +1,10 @@
 // What an array has its drives do for a slot. All but its parts stay as they were.
 ghost use Rattle.std.specs.Prelude.{◌≡◌, ◌*◌, ◌≤◌, length, vec_len, vec_capacity, OnOk, OnErr, IfOk, IfErr, Some, None};
 ghost use Rattle.extents.specs.Header.{IsHeader};
+ghost use Rattle.extents.specs.declared.shape.TheConstants.{HEADER_BYTES};
 ghost use Rattle.extent_groups.specs.Faults.{put_fault};
 ghost use Rattle.extent_groups.specs.Groups.{AreThere};
-ghost use Rattle.extent_groups.specs.Stores.{unit_bytes, unit_of, AreSound, KeepsUnits};
+ghost use Rattle.extent_groups.specs.Stores.{unit_of, header_of, AreSound, KeepsUnits};
 ghost use Rattle.flat_machine.specs.Flat.{Payload, waiting_unit};
 ghost use Rattle.flat_machine.specs.Groups.{IsLowestFree};
 ghost use Rattle.array_parts.specs.Slots.{IsSlot};
@@ -110,22 +111,22 @@ impl<D: Drive, C: Hold> Array<D, C> {
         }
     }
 
-    // Reads the effective unit of a slot, with two buffers of a unit's length.
-    pub(crate) fn effective(
+    // Reads the header of a slot's effective unit, with two buffers of a header's length.
+    pub(crate) fn header_at(
         &mut self,
         slot: u16,
-        unit: &mut [u8],
+        header: &mut [u8],
         scratch: &mut [u8],
     ) -> Result<(), Refusal>
         requires slot { IsSlot self.old.parts.groups slot }
-        requires unit { length unit.old ≡ unit_bytes self.old.parts.groups }
-        requires scratch { length scratch.old ≡ 2 * unit_bytes self.old.parts.groups }
-        ensures ok { OnOk result (unit_of self.new.parts.groups (cells_of self.new.parts) slot ≡ Some unit.new) }
+        requires header { length header.old ≡ HEADER_BYTES }
+        requires scratch { length scratch.old ≡ 2 * HEADER_BYTES }
+        ensures ok { OnOk result (header_of self.new.parts.groups (cells_of self.new.parts) slot ≡ Some header.new) }
         ensures gone { IfErr result (λ e. (e ≡ Refusal.Gone slot) × (unit_of self.new.parts.groups (cells_of self.new.parts) slot ≡ None)) }
         ensures units { AreSound self.old.parts.groups (cells_of self.old.parts) → KeepsUnits self.old.parts.groups (cells_of self.old.parts) (cells_of self.new.parts) }
         ensures sound { AreSound self.old.parts.groups (cells_of self.old.parts) → AreSound self.new.parts.groups (cells_of self.new.parts) }
         ensures loses { OnlyLoses self.old self.new }
     {
-        self.parts.read(slot, unit, scratch)
+        self.parts.read_header(slot, header, scratch)
     }
 }

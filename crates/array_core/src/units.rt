@@ -23,8 +23,8 @@ impl<D: Drive, C: Hold> Units for Array<D, C> {
         &self.parts.groups
     }
 
-    fn unit(&mut self, slot: u16, unit: &mut [u8], scratch: &mut [u8]) -> Result<(), Refusal> {
-        self.effective(slot, unit, scratch)
+    fn header(&mut self, slot: u16, header: &mut [u8], scratch: &mut [u8]) -> Result<(), Refusal> {
+        self.header_at(slot, header, scratch)
     }
 
     ghost none = { λ a. only_itself a };

@@ -17,7 +17,9 @@ use Rattle.extent_groups.specs.Cells.{cells}
 use Rattle.extent_groups.specs.Calls.{KeepsDrives}
 use Rattle.extent_groups.specs.Missing.{missing_of, is_missing, IsGone}
 use Rattle.extent_groups.specs.Units.{Site, site_in, site_of, site_of_index}
-use Rattle.extent_groups.specs.Stores.{unit_of, AreDrives, NamesGone}
+use Rattle.extent_groups.specs.Stores.{unit_of, header_of, AreDrives, NamesGone}
+use Rattle.extents.specs.declared.shape.TheConstants.{HEADER_BYTES}
+use Rattle.extent_groups.proofs.Fronts.{front_some}
 use Rattle.array_parts.specs.declared.parts.Parts.{Parts}
 use Rattle.extent_groups.proofs.Missing.{gone_law}
 use Rattle.array_parts.specs.Losses.{AllFare, failures_at}
@@ -102,6 +104,16 @@ slot_told units lost p lent new slot u (Ok done) answer told e many is groups ar
 slot_told units lost p lent new slot u (Err refusal) answer told e many is groups are there names =
     subst (SlotTold units lost (lent_back p new) slot) (sym told)
     (record { there = tt; gone = gone_of units lost (lent_back p new) new slot (written_back p.drives lent new e many) is groups are names.1 })
+
+-- the same of a store that read a header
+pub header_told : {A D : Type 0} (units : D → List (List ℕ)) (lost : D → Bool) (p : Parts D) (lent new : List D) (slot : ℕ) (header : List ℕ) (found : Result A StoreRefusal) (answer : Result A Refusal)
+    → answer ≡ ok_or (result_ok found) (Gone slot) → lent ≡ p.drives.items → length new ≡ length lent → IsSlot p.groups slot → AreGroups p.groups → AreDrives units p.groups new
+    → OnOk found (header_of p.groups (cells units lost new) slot ≡ Some header) → IfErr found (NamesGone p.groups (cells units lost new) slot) → SlotTold units lost (lent_back p new) slot answer
+header_told units lost p lent new slot header (Ok done) answer told e many is groups are there names =
+    let one = front_some HEADER_BYTES (unit_of p.groups (cells units lost new) slot) header there in
+    slot_told units lost p lent new slot one.0 (Ok done) answer told e many is groups are one.1 names
+header_told units lost p lent new slot header (Err refusal) answer told e many is groups are there names =
+    slot_told units lost p lent new slot header (Err refusal) answer told e many is groups are there names
 
 -- what is left of the drives, told of the parts that were lent them
 pub fares_back : {D : Type 0} {units : D → List (List ℕ)} {lost : D → Bool} {failures : D → ℕ} {touched : Place → Type 0} {Z : Type 0} (v : Vec D Z) (lent new : List D) → lent ≡ v.items

@@ -6,12 +6,12 @@ ghost use Rattle.extents.specs.declared.shape.TheConstants.{HEADER_BYTES};
 ghost use Rattle.extent_groups.specs.Groups.{group_at};
 ghost use Rattle.extent_groups.specs.Calls.{AreSized, KeepsDrives};
 ghost use Rattle.extent_groups.specs.Missing.{IsGone};
-ghost use Rattle.extent_groups.specs.Stores.{unit_bytes, unit_of, AreSound, KeepsUnits, Wrote, IsOwnOf};
+ghost use Rattle.extent_groups.specs.Stores.{unit_bytes, unit_of, header_of, AreSound, KeepsUnits, Wrote, IsOwnOf};
 ghost use Rattle.array_parts.specs.Fit.{IsFit, HaveUnits};
 ghost use Rattle.array_parts.specs.Losses.{AllFare, KeepsTables, LosesOnly};
 ghost use Rattle.array_parts.specs.Slots.{IsSlot, cells_in, missing_in, TellsGone};
 
-use crate::slots::{read_slot, write_slot};
+use crate::slots::{read_slot, read_slot_header, write_slot};
 use extent_groups::GroupTable;
 use extents::{Drive, ExtentTable, Shape};
 use flat_machine::Refusal;
@@ -83,6 +83,32 @@ impl<D: Drive> Parts<D> {
     {
         let drives: &mut [D] = &mut self.drives;
         read_slot(&self.groups, drives, slot, unit, scratch)
+            .ok()
+            .ok_or(Refusal::Gone(slot))
+    }
+
+    /// Reads the header of a slot's effective unit alone, with two buffers of a header's length; else as `read` does.
+    pub fn read_header(
+        &mut self,
+        slot: u16,
+        header: &mut [u8],
+        scratch: &mut [u8],
+    ) -> Result<(), Refusal>
+        requires fit { IsFit D.units self.old }
+        requires slot { IsSlot self.old.groups slot }
+        requires header { length header.old ≡ HEADER_BYTES }
+        requires scratch { length scratch.old ≡ 2 * HEADER_BYTES }
+        ensures ok { OnOk result (header_of self.new.groups (cells_in D.units D.lost self.new) slot ≡ Some header.new) }
+        ensures there { OnOk result (IsGone self.new.groups (missing_in D.lost self.new) slot → ⊥) }
+        ensures gone { IfErr result (TellsGone D.units D.lost self.new slot) }
+        ensures units { AreSound self.old.groups (cells_in D.units D.lost self.old) → KeepsUnits self.old.groups (cells_in D.units D.lost self.old) (cells_in D.units D.lost self.new) }
+        ensures sound { AreSound self.old.groups (cells_in D.units D.lost self.old) → AreSound self.new.groups (cells_in D.units D.lost self.new) }
+        ensures only { LosesOnly D.units D.lost D.failures self.old self.new }
+        ensures fares { AllFare D.lost D.failures self.old.drives.items self.new.drives.items }
+        ensures fit { IsFit D.units self.new }
+    {
+        let drives: &mut [D] = &mut self.drives;
+        read_slot_header(&self.groups, drives, slot, header, scratch)
             .ok()
             .ok_or(Refusal::Gone(slot))
     }

@@ -1,9 +1,10 @@
 // Whoever has units under slot numbers.
 ghost use Rattle.std.specs.Prelude.{◌≡◌, ◌*◌, length, Some, None, OnOk, IfErr};
 ghost use Rattle.flat_machine.specs.declared.refusal.Refusal.TheVariants.{Gone};
+ghost use Rattle.extents.specs.declared.shape.TheConstants.{HEADER_BYTES};
 ghost use Rattle.extent_groups.specs.Groups.{Groups};
 ghost use Rattle.extent_groups.specs.Cells.{Cells, cells};
-ghost use Rattle.extent_groups.specs.Stores.{unit_bytes, unit_of, AreSound, KeepsUnits};
+ghost use Rattle.extent_groups.specs.Stores.{unit_of, header_of, AreSound, KeepsUnits};
 ghost use Rattle.array_parts.specs.Fit.{IsFit};
 ghost use Rattle.array_parts.specs.Losses.{LosesOnly};
 ghost use Rattle.array_parts.specs.Laws.{loses_none, loses_more};
@@ -14,7 +15,7 @@ use extent_groups::GroupTable;
 use extents::Drive;
 use flat_machine::Refusal;
 
-/// Whoever has the effective units of the slots of made groups.
+/// Whoever has the effective units of the slots of made groups, for those who read their headers.
 pub trait Units {
     /// The groups of the slots.
     ghost groups: { Self → Groups };
@@ -22,7 +23,7 @@ pub trait Units {
     /// What the drives hold.
     ghost cells: { Self → Cells };
 
-    /// When a unit may be read.
+    /// When a header may be read.
     ghost fits: { Self → Type 0 };
 
     /// What reads leave of it: all but which drives are lost.
@@ -32,13 +33,13 @@ pub trait Units {
     fn groups(&self) -> &GroupTable
         ensures { result.now ≡ groups self.now };
 
-    /// Reads the effective unit of a slot, with two buffers of a unit's length.
-    fn unit(&mut self, slot: u16, unit: &mut [u8], scratch: &mut [u8]) -> Result<(), Refusal>
+    /// Reads the header of a slot's effective unit, with two buffers of a header's length.
+    fn header(&mut self, slot: u16, header: &mut [u8], scratch: &mut [u8]) -> Result<(), Refusal>
         requires fits { fits self.old }
         requires slot { IsSlot (groups self.old) slot }
-        requires unit { length unit.old ≡ unit_bytes (groups self.old) }
-        requires scratch { length scratch.old ≡ 2 * unit_bytes (groups self.old) }
-        ensures ok { OnOk result (unit_of (groups self.new) (cells self.new) slot ≡ Some unit.new) }
+        requires header { length header.old ≡ HEADER_BYTES }
+        requires scratch { length scratch.old ≡ 2 * HEADER_BYTES }
+        ensures ok { OnOk result (header_of (groups self.new) (cells self.new) slot ≡ Some header.new) }
         ensures gone { IfErr result (λ e. (e ≡ Gone slot) × (unit_of (groups self.new) (cells self.new) slot ≡ None)) }
         ensures units { AreSound (groups self.old) (cells self.old) → KeepsUnits (groups self.old) (cells self.old) (cells self.new) }
         ensures sound { AreSound (groups self.old) (cells self.old) → AreSound (groups self.new) (cells self.new) }
@@ -66,8 +67,8 @@ impl<D: Drive> Units for Parts<D> {
         &self.groups
     }
 
-    fn unit(&mut self, slot: u16, unit: &mut [u8], scratch: &mut [u8]) -> Result<(), Refusal> {
-        self.read(slot, unit, scratch)
+    fn header(&mut self, slot: u16, header: &mut [u8], scratch: &mut [u8]) -> Result<(), Refusal> {
+        self.read_header(slot, header, scratch)
     }
 
     ghost none = { λ p. loses_none D.units D.lost D.failures p };

@@ -1,9 +1,8 @@
 // The header of one slot.
-ghost use Rattle.std.specs.Prelude.{◌≡◌, ◌*◌, ◌≤◌, length, take, IfOk, IfErr, Ok};
+ghost use Rattle.std.specs.Prelude.{◌≡◌, IfOk, IfErr, Ok};
 ghost use Rattle.extents.specs.declared.header.Header.{Header};
-ghost use Rattle.extents.specs.declared.shape.TheConstants.{HEADER_BYTES};
 ghost use Rattle.extents.specs.Header.{Spells, record_in};
-ghost use Rattle.extent_groups.specs.Stores.{unit_bytes, unit_of, AreSound, KeepsUnits};
+ghost use Rattle.extent_groups.specs.Stores.{unit_of, AreSound, KeepsUnits};
 ghost use Rattle.array_parts.specs.Slots.{IsSlot};
 ghost use Rattle.header_scan.specs.Faults.{IsFine, IsRanged, Tells, IsFaultAt, IsMisfit};
 
@@ -12,16 +11,13 @@ use array_parts::Units;
 use extents::{HEADER_BYTES, Header, HeaderFault};
 use map_join::Record;
 
-/// The record in the header of a unit, none where that is blank.
-fn header_of(unit: &[u8]) -> Result<Option<Record>, HeaderFault>
-    requires { HEADER_BYTES ≤ length unit.now }
-    ensures ok { IfOk result (λ o. (h : Header) × Spells (take HEADER_BYTES unit.now) h × (record_in h ≡ o)) }
-    ensures only { (h : Header) → Spells (take HEADER_BYTES unit.now) h → result ≡ Ok (record_in h) }
+/// The record in a header, none where that is blank.
+fn told_by(header: &[u8; HEADER_BYTES]) -> Result<Option<Record>, HeaderFault>
+    ensures ok { IfOk result (λ o. (h : Header) × Spells header.now h × (record_in h ≡ o)) }
+    ensures only { (h : Header) → Spells header.now h → result ≡ Ok (record_in h) }
     ensures ranges { IfOk result IsRanged }
 {
-    let mut bytes = [0; HEADER_BYTES];
-    bytes.copy_from_slice(&unit[..HEADER_BYTES]);
-    match Header::decode(&bytes) {
+    match Header::decode(header) {
         Ok(header) => Ok(header.record()),
         Err(fault) => Err(fault),
     }
@@ -51,18 +47,14 @@ fn judge(
     Ok(Some(record))
 }
 
-/// Reads what the header of a slot tells, with buffers of a unit and of two.
+/// Reads what the header of a slot tells.
 pub(crate) fn look<U: Units>(
     units: &mut U,
     slot: u16,
     blocks: u32,
-    unit: &mut [u8],
-    scratch: &mut [u8],
 ) -> Result<Option<Record>, ScanFault>
     requires fits { U.fits units.old }
     requires slot { IsSlot (U.groups units.old) slot }
-    requires unit { length unit.old ≡ unit_bytes (U.groups units.old) }
-    requires scratch { length scratch.old ≡ 2 * unit_bytes (U.groups units.old) }
     ensures ok { AreSound (U.groups units.old) (U.cells units.old) → IfOk result (Tells blocks (unit_of (U.groups units.old) (U.cells units.old)) slot) }
     ensures err { AreSound (U.groups units.old) (U.cells units.old) → IfErr result (IsFaultAt blocks (unit_of (U.groups units.old) (U.cells units.old)) (unit_of (U.groups units.new) (U.cells units.new)) slot) }
     ensures inside { IfOk result (IsFine blocks slot) }
@@ -73,8 +65,10 @@ pub(crate) fn look<U: Units>(
     ensures fits { U.fits units.new }
     ensures leaves { U.leaves units.old units.new }
 {
-    match units.unit(slot, unit, scratch) {
-        Ok(()) => judge(header_of(unit), slot, blocks),
+    let mut header = [0; HEADER_BYTES];
+    let mut scratch = [0; 2 * HEADER_BYTES];
+    match units.header(slot, &mut header, &mut scratch) {
+        Ok(()) => judge(told_by(&header), slot, blocks),
         Err(_) => Err(ScanFault::Gone(slot)),
     }
 }

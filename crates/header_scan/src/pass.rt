@@ -3,7 +3,7 @@ ghost use Rattle.std.specs.Prelude.{◌≡◌, ℕ, ◌+◌, ◌*◌, ◌^◌, �
 ghost use Rattle.map_join.specs.Maps.{at};
 ghost use Rattle.extent_groups.specs.Cells.{Cells};
 ghost use Rattle.extent_groups.specs.Groups.{group_at, slots_in};
-ghost use Rattle.extent_groups.specs.Stores.{unit_bytes, unit_of, AreSound};
+ghost use Rattle.extent_groups.specs.Stores.{unit_of, AreSound};
 ghost use Rattle.flat_machine.specs.Scanned.{IsScanned};
 ghost use Rattle.flat_machine.specs.Restarted.{HasPlaces};
 ghost use Rattle.header_scan.specs.Faults.{AreFine, IsFirstFault, IsTwice, between};
@@ -27,21 +27,17 @@ fn count_slots(groups: &GroupTable, group: u16) -> u16
     groups.slots_of(group)
 }
 
-/// Notes the headers of the slots of one group, with buffers of a unit and of two.
+/// Notes the headers of the slots of one group.
 pub(crate) fn scan_group<U: Units>(
     alloc: Global,
     units: &mut U,
     group: u16,
     blocks: u32,
-    unit: &mut [u8],
-    scratch: &mut [u8],
     found: &mut Found,
 ) -> Result<(), ScanFault>
     requires fits { U.fits units.old }
     requires group { group < 512 }
     requires blocks { blocks ≡ (U.groups units.old).blocks }
-    requires unit { length unit.old ≡ unit_bytes (U.groups units.old) }
-    requires scratch { length scratch.old ≡ 2 * unit_bytes (U.groups units.old) }
     requires many { length found.old.newest ≡ blocks }
     ensures many { OnOk result (length found.new.newest ≡ blocks) }
     ensures ok { (low : ℕ) (start : Cells) → low ≤ 128 * group
@@ -58,7 +54,7 @@ pub(crate) fn scan_group<U: Units>(
     ensures leaves { U.leaves units.old units.new }
 {
     for index in 0..count_slots(units.groups(), group) {
-        let told = match look(units, SLOTS * group + index, blocks, unit, scratch) {
+        let told = match look(units, SLOTS * group + index, blocks) {
             Ok(told) => told,
             Err(fault) => return Err(fault),
         };
@@ -71,20 +67,16 @@ pub(crate) fn scan_group<U: Units>(
     Ok(())
 }
 
-/// Notes the headers of the slots of a range of groups, with buffers of a unit and of two.
+/// Notes the headers of the slots of a range of groups.
 fn note_groups<U: Units>(
     alloc: Global,
     units: &mut U,
     first: u16,
     end: u16,
-    unit: &mut [u8],
-    scratch: &mut [u8],
 ) -> Result<Found, ScanFault>
     requires fits { U.fits units.old }
     requires order { first ≤ end }
     requires end { end ≤ 512 }
-    requires unit { length unit.old ≡ unit_bytes (U.groups units.old) }
-    requires scratch { length scratch.old ≡ 2 * unit_bytes (U.groups units.old) }
     ensures ok { AreSound (U.groups units.old) (U.cells units.old)
         → IfOk result (λ f. IsUnderway (U.groups units.old) (U.cells units.old) (U.cells units.new) (128 * first) (128 * end) (key_in f.newest) (at f.twins)) }
     ensures err { AreSound (U.groups units.old) (U.cells units.old)
@@ -105,7 +97,7 @@ fn note_groups<U: Units>(
         twins: BlockMap::new(alloc),
     };
     for group in first..end {
-        match scan_group(alloc, units, group, blocks, unit, scratch, &mut found) {
+        match scan_group(alloc, units, group, blocks, &mut found) {
             Ok(()) => {}
             Err(fault) => return Err(fault),
         }
@@ -139,14 +131,7 @@ pub fn scan_groups<U: Units>(
     ensures leaves { U.leaves units.old units.new }
 {
     let shape = units.groups().shape();
-    let size = shape.unit_bytes();
-    let Ok(mut unit) = vec![in alloc; 0; size] else {
-        return Err(ScanFault::Memory);
-    };
-    let Ok(mut scratch) = vec![in alloc; 0; 2 * size] else {
-        return Err(ScanFault::Memory);
-    };
-    let found = match note_groups(alloc, units, first, end, &mut unit, &mut scratch) {
+    let found = match note_groups(alloc, units, first, end) {
         Ok(found) => found,
         Err(fault) => return Err(fault),
     };

@@ -9,7 +9,7 @@ ghost use Rattle.array_parts.specs.Fit.{IsFit};
 ghost use Rattle.array_parts.specs.Memory.{held_units};
 ghost use Rattle.array_parts.specs.Slots.{IsSlot};
 
-use array_parts::{Parts, Sight, Units};
+use array_parts::{Parts, Sight};
 use extent_groups::{Class, GroupTable, Member, SLOTS, are_there, put_check};
 use extents::{Drive, ExtentTable, Header, MemDrive, Shape};
 use flat_machine::Refusal;
@@ -102,21 +102,6 @@ pub(crate) fn restart_parts(
     restart(alloc, parts, claims)
 }
 
-/// Reads the effective unit of a slot of whoever has units.
-fn read_unit<U: Units>(
-    units: &mut U,
-    slot: u16,
-    unit: &mut [u8],
-    scratch: &mut [u8],
-) -> Result<(), Refusal>
-    requires fits { U.fits units.old }
-    requires slot { IsSlot (U.groups units.old) slot }
-    requires unit { length unit.old ≡ unit_bytes (U.groups units.old) }
-    requires scratch { length scratch.old ≡ 2 * unit_bytes (U.groups units.old) }
-{
-    units.unit(slot, unit, scratch)
-}
-
 impl Rig {
     /// Drives all of whose units are zero, and no group.
     pub(crate) fn new(rt: &impl Abort, alloc: Global) -> Rig {
@@ -173,7 +158,7 @@ impl Rig {
     pub(crate) fn read(&mut self, rt: &impl Abort, slot: u16) -> Result<(), Refusal> {
         assert!(rt; self.is_ready());
         assert!(rt; is_slot(&self.parts.groups, slot));
-        read_unit(&mut self.parts, slot, &mut self.unit, &mut self.scratch)
+        self.parts.read(slot, &mut self.unit, &mut self.scratch)
     }
 
     /// Writes a unit of one byte throughout to a slot.

@@ -21,8 +21,8 @@ impl Units for World {
         self.array().groups()
     }
 
-    fn unit(&mut self, slot: u16, unit: &mut [u8], scratch: &mut [u8]) -> Result<(), Refusal> {
-        self.array.unit(slot, unit, scratch)
+    fn header(&mut self, slot: u16, header: &mut [u8], scratch: &mut [u8]) -> Result<(), Refusal> {
+        self.array.header(slot, header, scratch)
     }
 
     ghost none = { λ w. world_itself w };

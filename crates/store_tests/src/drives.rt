@@ -59,6 +59,17 @@ fn read(rt: &impl Abort, drive: &mut MemDrive, at: u32, unit: &mut [u8]) -> Resu
     drive.read_unit(at, unit)
 }
 
+fn read_front(
+    rt: &impl Abort,
+    drive: &mut MemDrive,
+    at: u32,
+    front: &mut [u8],
+) -> Result<(), DriveLost> {
+    assert!(rt; at < drive.units());
+    assert!(rt; front.len() <= drive.unit_bytes());
+    drive.read_front(at, front)
+}
+
 fn write(rt: &impl Abort, drive: &mut MemDrive, at: u32, unit: &[u8]) -> Result<(), DriveLost> {
     assert!(rt; at < drive.units());
     assert!(rt; unit.len() == drive.unit_bytes());
@@ -106,6 +117,21 @@ fn a_new_drive_is_zero_and_a_lost_one_stays_lost(rt: HostRuntime) -> Result<(), 
     drive.fuse(5);
     assert!(rt; write(&rt, &mut drive, 0, &unit) == Err(DriveLost));
     assert!(rt; drive.is_lost());
+    Ok(())
+}
+
+#[test]
+fn the_first_bytes_of_a_unit_are_read_by_a_call_of_their_own(rt: HostRuntime) -> Result<(), Fail> {
+    let mut drive = MemDrive::new(rt.alloc(), &shape_of(&rt, 8, 2))?;
+    let unit = vec![in rt.alloc(); 7; shape_of(&rt, 8, 2).unit_bytes()]?;
+    assert!(rt; write(&rt, &mut drive, 31, &unit) == Ok(()));
+    drive.fuse(3);
+    let mut front = [9; 5];
+    assert!(rt; read_front(&rt, &mut drive, 31, &mut front) == Ok(()));
+    assert!(rt; front == [7; 5]);
+    assert!(rt; read_front(&rt, &mut drive, 30, &mut front) == Ok(()));
+    assert!(rt; front == [0; 5]);
+    assert!(rt; read_front(&rt, &mut drive, 31, &mut front) == Err(DriveLost));
     Ok(())
 }
 

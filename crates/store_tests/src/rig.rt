@@ -10,7 +10,7 @@ ghost use Rattle.extent_groups.specs.Stores.{IsSlotOf, AreDrives};
 
 use crate::tables::shape_of;
 use extent_groups::{Class, GroupTable, Member, SLOTS, StoreRefusal, are_there, wipe_extent};
-use extents::{ExtentTable, MemDrive, Shape};
+use extents::{ExtentTable, HEADER_BYTES, MemDrive, Shape};
 use std::alloc::{AllocError, Global};
 use std::process::Abort;
 
@@ -179,6 +179,23 @@ impl Rig {
             &mut self.unit,
             &mut self.scratch,
         )
+    }
+
+    /// Reads the header of a slot alone.
+    pub(crate) fn read_header(
+        &mut self,
+        rt: &impl Abort,
+        slot: u16,
+        header: &mut [u8],
+    ) -> Result<(), StoreRefusal> {
+        assert!(rt; header.len() == HEADER_BYTES);
+        let mut scratch = [0; 2 * HEADER_BYTES];
+        let drives: &mut [MemDrive] = &mut self.drives;
+        if is_slot(&self.groups, Class::Mirrored, slot) {
+            return mirrored_store::read_header(&self.groups, drives, slot, header, &mut scratch);
+        }
+        assert!(rt; is_slot(&self.groups, Class::Parity, slot));
+        parity_store::read_header(&self.groups, drives, slot, header, &mut scratch)
     }
 
     /// Reads the parity at an offset of a group that is seen to be a parity group.

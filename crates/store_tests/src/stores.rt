@@ -2,7 +2,7 @@
 use crate::rig::{Rig, SIZE, is_slot};
 use crate::slow::{holds, peek};
 use extent_groups::{Class, GroupTable, Member, SLOTS, StoreRefusal};
-use extents::{Drive, MemDrive};
+use extents::{Drive, HEADER_BYTES, MemDrive};
 use parity_store::xor_into;
 use std::alloc::{AllocError, Global};
 use std::process::Abort;
@@ -54,7 +54,7 @@ struct Case {
     lost: Option<usize>,
 }
 
-/// Writes and reads a slot over a loss; the groups and drives then, and whether each call was answered.
+/// Writes and reads a slot and its header over a loss; the groups and drives then, and whether the write was answered, and both reads.
 fn run(rt: &impl Abort, alloc: Global, case: &Case) -> Result<(Rig, bool, bool), AllocError> {
     let mut rig = Rig::new(rt, alloc, case.class, case.drives, case.segments)?;
     fill(rt, &mut rig);
@@ -72,8 +72,17 @@ fn run(rt: &impl Abort, alloc: Global, case: &Case) -> Result<(Rig, bool, bool),
             read == Err(StoreRefusal::Gone(case.slot))
         }
     );
+    let mut header = [0; HEADER_BYTES];
+    let front = rig.read_header(rt, case.slot, &mut header);
+    assert!(rt;
+        if front.is_ok() {
+            read.is_ok() && is_all(&header, NEW)
+        } else {
+            front == Err(StoreRefusal::Gone(case.slot))
+        }
+    );
     rig.fuse(rt, case.fused, 1000000);
-    Ok((rig, wrote.is_ok(), read.is_ok()))
+    Ok((rig, wrote.is_ok(), read.is_ok() && front.is_ok()))
 }
 
 /// Each slot has the unit that it was last given, or is gone with a second drive; whether the written one has one.
