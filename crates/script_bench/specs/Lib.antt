@@ -1,5 +1,6 @@
 pub mod State
 pub mod Text
+pub mod Kept
 pub mod Answers
 pub mod Meaning
 pub mod Carrying

@@ -4,6 +4,7 @@ ghost use Rattle.array_model.specs.Views.{key_at};
 ghost use Rattle.map_join.specs.Maps.{IsListOf};
 ghost use Rattle.script_bench.specs.Carrying.{Carries};
 ghost use Rattle.script_bench.specs.State.{IsMemberInRange, IsWithin};
+ghost use Rattle.script_bench.specs.Kept.{IsKept};
 ghost use Rattle.script_words.specs.Order as o;
 ghost use Rattle.script_words.specs.Order.{order_of};
 ghost use Rattle.script_words.specs.Spelling.{IsWritten};
@@ -68,7 +69,8 @@ pub fn carry_out(
     requires stays { «command».now.verb ≡ Verb.Restart → ⊥ }
     requires blocks { bench.old.tiers.world.array.parts.groups.blocks < 2 ^ 32 }
     requires range { IsWithin bench.old.tiers.world.array.parts.groups.blocks (order_of «command».now payload.old) }
-    ensures { OnOk result (Carries bench.old bench.new (order_of «command».now payload.old) out.old.items out.new.items) }
+    ensures carried { OnOk result (Carries bench.old bench.new (order_of «command».now payload.old) out.old.items out.new.items) }
+    ensures kept { IsKept out.old.items out.new.items }
 {
     let [first, second, third, ..] = command.numbers;
     match command.verb {
@@ -102,14 +104,16 @@ pub fn carry_out(
 }
 
 fn claim(bench: &mut Bench, worker: u8, slot: u16, out: &mut Vec<u8>) -> Result<(), AllocError>
-    ensures { OnOk result (Carries bench.old bench.new (o.Claim worker slot) out.old.items out.new.items) }
+    ensures carried { OnOk result (Carries bench.old bench.new (o.Claim worker slot) out.old.items out.new.items) }
+    ensures kept { IsKept out.old.items out.new.items }
 {
     let answer = bench.tiers.world.claim(worker, slot);
     put_answer(out, &answer, 0)
 }
 
 fn release(bench: &mut Bench, worker: u8, slot: u16, out: &mut Vec<u8>) -> Result<(), AllocError>
-    ensures { OnOk result (Carries bench.old bench.new (o.Release worker slot) out.old.items out.new.items) }
+    ensures carried { OnOk result (Carries bench.old bench.new (o.Release worker slot) out.old.items out.new.items) }
+    ensures kept { IsKept out.old.items out.new.items }
 {
     let answer = bench.tiers.release(worker, slot);
     put_answer(out, &answer, 0)
@@ -124,7 +128,8 @@ fn fill(
     out: &mut Vec<u8>,
 ) -> Result<(), AllocError>
     requires payload { length payload.now ≡ bench.old.tiers.world.array.parts.groups.payload }
-    ensures { OnOk result (Carries bench.old bench.new (o.Fill worker slot payload.now) out.old.items out.new.items) }
+    ensures carried { OnOk result (Carries bench.old bench.new (o.Fill worker slot payload.now) out.old.items out.new.items) }
+    ensures kept { IsKept out.old.items out.new.items }
 {
     let answer = bench.tiers.world.fill(alloc, worker, slot, payload)?;
     put_answer(out, &answer, 0)
@@ -139,7 +144,8 @@ fn copy(
     out: &mut Vec<u8>,
 ) -> Result<(), AllocError>
     requires block { block < bench.old.tiers.world.array.parts.groups.blocks }
-    ensures { OnOk result (Carries bench.old bench.new (o.Copy worker slot block) out.old.items out.new.items) }
+    ensures carried { OnOk result (Carries bench.old bench.new (o.Copy worker slot block) out.old.items out.new.items) }
+    ensures kept { IsKept out.old.items out.new.items }
 {
     let answer = bench.tiers.world.copy(alloc, worker, slot, block)?;
     put_answer(out, &answer, 0)
@@ -154,21 +160,24 @@ fn commit(
     out: &mut Vec<u8>,
 ) -> Result<(), AllocError>
     requires block { block < bench.old.tiers.world.array.parts.groups.blocks }
-    ensures { OnOk result (Carries bench.old bench.new (o.Commit worker slot block) out.old.items out.new.items) }
+    ensures carried { OnOk result (Carries bench.old bench.new (o.Commit worker slot block) out.old.items out.new.items) }
+    ensures kept { IsKept out.old.items out.new.items }
 {
     let answer = bench.tiers.commit(alloc, worker, slot, block)?;
     put_answer(out, &answer, 0)
 }
 
 fn discard(bench: &mut Bench, worker: u8, slot: u16, out: &mut Vec<u8>) -> Result<(), AllocError>
-    ensures { OnOk result (Carries bench.old bench.new (o.Discard worker slot) out.old.items out.new.items) }
+    ensures carried { OnOk result (Carries bench.old bench.new (o.Discard worker slot) out.old.items out.new.items) }
+    ensures kept { IsKept out.old.items out.new.items }
 {
     let answer = bench.tiers.world.discard(worker, slot);
     put_answer(out, &answer, 0)
 }
 
 fn lose(bench: &mut Bench, drive: u8, out: &mut Vec<u8>) -> Result<(), AllocError>
-    ensures { OnOk result (Carries bench.old bench.new (o.Lose drive) out.old.items out.new.items) }
+    ensures carried { OnOk result (Carries bench.old bench.new (o.Lose drive) out.old.items out.new.items) }
+    ensures kept { IsKept out.old.items out.new.items }
 {
     let answer = bench.tiers.world.lose(drive);
     put_answer(out, &answer, 0)
@@ -181,7 +190,8 @@ fn read_at(
     out: &mut Vec<u8>,
 ) -> Result<(), AllocError>
     requires { «record».block < bench.old.tiers.world.array.parts.groups.blocks }
-    ensures { OnOk result (Carries bench.old bench.new (o.At «record») out.old.items out.new.items) }
+    ensures carried { OnOk result (Carries bench.old bench.new (o.At «record») out.old.items out.new.items) }
+    ensures kept { IsKept out.old.items out.new.items }
 {
     let answer = bench.tiers.world.read_at(alloc, record)?;
     put_answer(out, &answer, record.version)
@@ -195,7 +205,8 @@ fn read(
 ) -> Result<(), AllocError>
     requires block { block < bench.old.tiers.world.array.parts.groups.blocks }
     requires payload { length payload.old ≡ bench.old.tiers.world.array.parts.groups.payload }
-    ensures { OnOk result (Carries bench.old bench.new (o.Read block) out.old.items out.new.items) }
+    ensures carried { OnOk result (Carries bench.old bench.new (o.Read block) out.old.items out.new.items) }
+    ensures kept { IsKept out.old.items out.new.items }
 {
     let found = bench.tiers.world.read_into(block, payload);
     put_found(out, found, payload)
@@ -209,7 +220,8 @@ fn make(
     out: &mut Vec<u8>,
 ) -> Result<(), AllocError>
     requires { All IsMemberInRange named.now }
-    ensures { OnOk result (Carries bench.old bench.new (o.Make class named.now) out.old.items out.new.items) }
+    ensures carried { OnOk result (Carries bench.old bench.new (o.Make class named.now) out.old.items out.new.items) }
+    ensures kept { IsKept out.old.items out.new.items }
 {
     let members = members_of(alloc, named)?;
     let answer = bench.tiers.make(alloc, class, &members)?;
@@ -223,14 +235,16 @@ fn unmake(
     group: u16,
     out: &mut Vec<u8>,
 ) -> Result<(), AllocError>
-    ensures { OnOk result (Carries bench.old bench.new (o.Unmake worker group) out.old.items out.new.items) }
+    ensures carried { OnOk result (Carries bench.old bench.new (o.Unmake worker group) out.old.items out.new.items) }
+    ensures kept { IsKept out.old.items out.new.items }
 {
     let answer = bench.tiers.unmake(alloc, worker, group)?;
     put_answer(out, &answer, 0)
 }
 
 fn map(alloc: Global, bench: &mut Bench, out: &mut Vec<u8>) -> Result<(), AllocError>
-    ensures { OnOk result (Carries bench.old bench.new o.Map out.old.items out.new.items) }
+    ensures carried { OnOk result (Carries bench.old bench.new o.Map out.old.items out.new.items) }
+    ensures kept { IsKept out.old.items out.new.items }
 {
     let records = newest_records(alloc, bench.tiers.world.array())?;
     put_listing(out, b"map ", &records)
@@ -254,7 +268,8 @@ fn newest_records<D: Drive, C: Hold>(
 }
 
 fn log(alloc: Global, bench: &mut Bench, out: &mut Vec<u8>) -> Result<(), AllocError>
-    ensures { OnOk result (Carries bench.old bench.new o.Log out.old.items out.new.items) }
+    ensures carried { OnOk result (Carries bench.old bench.new o.Log out.old.items out.new.items) }
+    ensures kept { IsKept out.old.items out.new.items }
 {
     let Ok(records) = bench.tiers.world.array().records_from(alloc, 0) else {
         return Err(AllocError)
@@ -272,49 +287,56 @@ fn write(
 ) -> Result<(), AllocError>
     requires block { block < bench.old.tiers.world.array.parts.groups.blocks }
     requires payload { length payload.now ≡ bench.old.tiers.world.array.parts.groups.payload }
-    ensures { OnOk result (Carries bench.old bench.new (o.Write worker block payload.now) out.old.items out.new.items) }
+    ensures carried { OnOk result (Carries bench.old bench.new (o.Write worker block payload.now) out.old.items out.new.items) }
+    ensures kept { IsKept out.old.items out.new.items }
 {
     let outcome = bench.tiers.write(alloc, worker, block, payload)?;
     put_outcome(out, outcome)
 }
 
 fn demote(alloc: Global, bench: &mut Bench, worker: u8, out: &mut Vec<u8>) -> Result<(), AllocError>
-    ensures { OnOk result (Carries bench.old bench.new (o.Demote worker) out.old.items out.new.items) }
+    ensures carried { OnOk result (Carries bench.old bench.new (o.Demote worker) out.old.items out.new.items) }
+    ensures kept { IsKept out.old.items out.new.items }
 {
     let outcome = bench.tiers.demote(alloc, worker)?;
     put_outcome(out, outcome)
 }
 
 fn plug(alloc: Global, bench: &mut Bench, worker: u8, out: &mut Vec<u8>) -> Result<(), AllocError>
-    ensures { OnOk result (Carries bench.old bench.new (o.Plug worker) out.old.items out.new.items) }
+    ensures carried { OnOk result (Carries bench.old bench.new (o.Plug worker) out.old.items out.new.items) }
+    ensures kept { IsKept out.old.items out.new.items }
 {
     let outcome = bench.tiers.plug(alloc, worker)?;
     put_outcome(out, outcome)
 }
 
 fn clean(alloc: Global, bench: &mut Bench, worker: u8, out: &mut Vec<u8>) -> Result<(), AllocError>
-    ensures { OnOk result (Carries bench.old bench.new (o.Clean worker) out.old.items out.new.items) }
+    ensures carried { OnOk result (Carries bench.old bench.new (o.Clean worker) out.old.items out.new.items) }
+    ensures kept { IsKept out.old.items out.new.items }
 {
     let outcome = bench.tiers.clean(alloc, worker)?;
     put_outcome(out, outcome)
 }
 
 fn add(alloc: Global, bench: &mut Bench, out: &mut Vec<u8>) -> Result<(), AllocError>
-    ensures { OnOk result (Carries bench.old bench.new o.Add out.old.items out.new.items) }
+    ensures carried { OnOk result (Carries bench.old bench.new o.Add out.old.items out.new.items) }
+    ensures kept { IsKept out.old.items out.new.items }
 {
     let answer = bench.tiers.world.add_drive(alloc)?;
     put_answer(out, &answer, 0)
 }
 
 fn balance(alloc: Global, bench: &mut Bench, out: &mut Vec<u8>) -> Result<(), AllocError>
-    ensures { OnOk result (Carries bench.old bench.new o.Balance out.old.items out.new.items) }
+    ensures carried { OnOk result (Carries bench.old bench.new o.Balance out.old.items out.new.items) }
+    ensures kept { IsKept out.old.items out.new.items }
 {
     let outcome = regrouping::balance(&mut bench.tiers.world, alloc)?;
     put_regrouped(out, outcome)
 }
 
 fn rebuild(alloc: Global, bench: &mut Bench, drive: u8, out: &mut Vec<u8>) -> Result<(), AllocError>
-    ensures { OnOk result (Carries bench.old bench.new (o.Rebuild drive) out.old.items out.new.items) }
+    ensures carried { OnOk result (Carries bench.old bench.new (o.Rebuild drive) out.old.items out.new.items) }
+    ensures kept { IsKept out.old.items out.new.items }
 {
     let outcome = regrouping::rebuild(&mut bench.tiers.world, alloc, drive)?;
     put_regrouped(out, outcome)

@@ -7,6 +7,7 @@ ghost use Rattle.flat_machine.specs.Flat.{put};
 ghost use Rattle.script_bench.specs.Carrying.{AreMapsOf, Carries, IsMap};
 ghost use Rattle.script_words.specs.Order as o;
 ghost use Rattle.script_bench.specs.Text.{record_text};
+ghost use Rattle.script_bench.specs.Kept.{IsKept};
 
 use crate::bench::Bench;
 use crate::texts::{put, put_difference, put_listing, put_record};
@@ -24,7 +25,8 @@ pub fn take(
 ) -> Result<(), AllocError>
     requires written { 0 < «record».version }
     requires map { IsMap map }
-    ensures { OnOk result (Carries bench.old bench.new (o.Take map «record») out.old.items out.new.items) }
+    ensures carried { OnOk result (Carries bench.old bench.new (o.Take map «record») out.old.items out.new.items) }
+    ensures kept { IsKept out.old.items out.new.items }
 {
     let Ok(newest) = take_into(alloc, &mut bench.maps, map, record) else {
         return Err(AllocError)
@@ -64,7 +66,8 @@ pub fn merge(
 ) -> Result<(), AllocError>
     requires into { IsMap into }
     requires from { IsMap from }
-    ensures { OnOk result (Carries bench.old bench.new (o.Merge into from) out.old.items out.new.items) }
+    ensures carried { OnOk result (Carries bench.old bench.new (o.Merge into from) out.old.items out.new.items) }
+    ensures kept { IsKept out.old.items out.new.items }
 {
     match join(alloc, &mut bench.maps, into, from) {
         Ok(()) => {}
@@ -99,7 +102,8 @@ pub fn same(
 ) -> Result<(), AllocError>
     requires left { IsMap left }
     requires right { IsMap right }
-    ensures { OnOk result (Carries bench.old bench.new (o.Same left right) out.old.items out.new.items) }
+    ensures carried { OnOk result (Carries bench.old bench.new (o.Same left right) out.old.items out.new.items) }
+    ensures kept { IsKept out.old.items out.new.items }
 {
     put_difference(out, difference(&bench.maps, left, right))
 }
@@ -122,7 +126,8 @@ pub fn show(
     out: &mut Vec<u8>,
 ) -> Result<(), AllocError>
     requires { IsMap map }
-    ensures { OnOk result (Carries bench.old bench.new (o.Show map) out.old.items out.new.items) }
+    ensures carried { OnOk result (Carries bench.old bench.new (o.Show map) out.old.items out.new.items) }
+    ensures kept { IsKept out.old.items out.new.items }
 {
     let Ok(records) = bench.maps[map].to_list(alloc) else {
         return Err(AllocError)
@@ -132,7 +137,8 @@ pub fn show(
 
 // The answer to a record that was taken.
 fn put_took(out: &mut Vec<u8>, newest: &Record) -> Result<(), AllocError>
-    ensures { OnOk result (out.new.items ≡ out.old.items ++ (codes "took " ++ record_text newest.now)) }
+    ensures told { OnOk result (out.new.items ≡ out.old.items ++ (codes "took " ++ record_text newest.now)) }
+    ensures kept { IsKept out.old.items out.new.items }
 {
     put(out, b"took ")?;
     put_record(out, newest)

@@ -3,6 +3,7 @@ ghost use Rattle.std.specs.Prelude.{◌≡◌, ◌≤◌, length, Some, None};
 ghost use Rattle.script_bench.specs.State.{Position, State};
 ghost use Rattle.script_bench.specs.Carrying.{Stands, MakesBench};
 ghost use Rattle.script_bench.specs.Replies.{Replies, Starts};
+ghost use Rattle.script_bench.specs.Kept.{IsKept};
 ghost use Rattle.script_words.specs.Order as o;
 
 use crate::bench::Bench;
@@ -25,8 +26,9 @@ pub fn reply(
     out: &mut Vec<u8>,
 ) -> Result<(), Failure>
     requires { 65536 ≤ length payload.old }
-    ensures { (state : State) → Stands bench.old state →
+    ensures replied { (state : State) → Stands bench.old state →
         Replies result state bench.new line.now out.old.items out.new.items }
+    ensures kept { IsKept out.old.items out.new.items }
 {
     if bench.is_some() {
         return later(alloc, bench, payload, line, out);
@@ -43,8 +45,9 @@ fn start(
     out: &mut Vec<u8>,
 ) -> Result<(), Failure>
     requires { bench.old ≡ None }
-    ensures { (state : State) → Stands bench.old state →
+    ensures replied { (state : State) → Stands bench.old state →
         Replies result state bench.new line.now out.old.items out.new.items }
+    ensures kept { IsKept out.old.items out.new.items }
 {
     match first(alloc, line, out) {
         Ok(made) => {
@@ -57,7 +60,8 @@ fn start(
 
 // The first command makes the array.
 fn first(alloc: Global, line: &[u8], out: &mut Vec<u8>) -> Result<Bench, Failure>
-    ensures { Starts result line.now out.old.items out.new.items }
+    ensures replied { Starts result line.now out.old.items out.new.items }
+    ensures kept { IsKept out.old.items out.new.items }
 {
     let mut command = Command::new(alloc);
     match read_command(alloc, line, &mut [], &mut command) {
@@ -84,7 +88,8 @@ fn begin(
     blocks: u64,
     out: &mut Vec<u8>,
 ) -> Result<Bench, Failure>
-    ensures { MakesBench result (o.Array drives extents segments payload blocks) out.old.items out.new.items }
+    ensures replied { MakesBench result (o.Array drives extents segments payload blocks) out.old.items out.new.items }
+    ensures kept { IsKept out.old.items out.new.items }
 {
     let Some((drives, shape)) = array_in_range(drives, extents, segments, payload, blocks) else {
         return Err(Failure::Wrong(Why::Range));
@@ -110,8 +115,9 @@ fn later(
     out: &mut Vec<u8>,
 ) -> Result<(), Failure>
     requires { 65536 ≤ length payload.old }
-    ensures { (P : Position) → Stands bench.old (Some P) →
+    ensures replied { (P : Position) → Stands bench.old (Some P) →
         Replies result (Some P) bench.new line.now out.old.items out.new.items }
+    ensures kept { IsKept out.old.items out.new.items }
 {
     let Some(standing) = bench else {
         return Err(Failure::Wrong(Why::Form))

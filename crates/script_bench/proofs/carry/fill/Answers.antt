@@ -4,8 +4,8 @@ use Rattle.script_words.specs.Order as o
 use Rattle.script_bench.proofs.Carried.{told_step}
 use Rattle.script_bench.proofs.carry.fill.Goals as goal
 
-pub returns : goal.returns
-returns c =
+pub returns-clause-carried : goal.returns-clause-carried
+returns-clause-carried c =
     told_step c.put_answer.result c.args.bench.now _ (o.Fill c.args.worker c.args.slot c.args.payload.now)
-    (s.Fill c.args.worker c.args.slot (Payload c.args.payload.now)) _ _ _ tt c.put_answer.ensures
+    (s.Fill c.args.worker c.args.slot (Payload c.args.payload.now)) _ _ _ tt c.put_answer.ensures.told
     (λ P stands. c.in_ok-answer.ensures.ok P.tiers.flat stands.tiers.world) c.in_ok-answer.ensures.room (λ P text t steps. steps)

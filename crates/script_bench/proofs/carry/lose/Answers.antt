@@ -3,8 +3,8 @@ use Rattle.script_words.specs.Order as o
 use Rattle.script_bench.proofs.Carried.{told_step}
 use Rattle.script_bench.proofs.carry.lose.Goals as goal
 
-pub returns : goal.returns
-returns c =
+pub returns-clause-carried : goal.returns-clause-carried
+returns-clause-carried c =
     told_step c.put_answer.result c.args.bench.now _ (o.Lose c.args.drive)
-    (s.Lose c.args.drive) _ _ _ tt c.put_answer.ensures
+    (s.Lose c.args.drive) _ _ _ tt c.put_answer.ensures.told
     (λ P stands. c.lose-answer.ensures.flat P.tiers.flat stands.tiers.world) c.lose-answer.ensures.room (λ P text t steps. steps)

@@ -11,8 +11,8 @@ use Rattle.script_bench.proofs.replies.begin.Goals as goal
 abbrev begun_state : Groups → ℕ → State
 begun_state groups drives = Some (record { tiers = begun (new_flat groups drives (nat_le drives) (λ _. 0)); taken = nothing_taken })
 
-pub returns-in-Ok-put : goal.returns-in-Ok-put
-returns-in-Ok-put c =
+pub returns-in-Ok-put-clause-replied : goal.returns-in-Ok-put-clause-replied
+returns-in-Ok-put-clause-replied c =
     let some = c.in-Some.ensures.some in
     let sizes = c.in-Ok.ensures.sizes in
     let groups = c.in-Ok.world.array.parts.groups in
@@ -39,6 +39,6 @@ returns-in-Ok-put c =
               (c.in-Ok-new.ensures.ok _ c.in-Ok.ensures.ok);
           maps = c.new-in-Ok-put.ensures.maps;
         };
-        out = c.in-Ok-put.ensures;
+        out = c.in-Ok-put.ensures.told;
       };
     }
