@@ -282,25 +282,6 @@ unfolding along_start
 end_refused reason old state new part stands fed =
     part_refused reason old state old new (part ++ 10 ∷ []) part (10 ∷ []) (along_start old state (part ++ 10 ∷ []) stands) fed
 
--- a line that was told in a buffer of its own, appended
-pub told_behind : (n : ℕ) (state : State) (bench : Option Bench) (line empty told old new : List ℕ) → IsLineTold n state bench line empty told
-    → empty ≡ [] → new ≡ old ++ told → IsLineTold n state bench line old new
-told_behind n state bench line empty told old new t none out = record {
-  next = t.next;
-  stands = t.stands;
-  bytes = t.bytes;
-  out = out ∙ ap (λ xs. old ++ xs) (t.out ∙ ap (λ xs. xs ++ t.bytes) none);
-  told = t.told;
-}
-
-pub wrong_behind : (n : ℕ) (state : State) (line empty told old new : List ℕ) → IsLineWrong n state line empty told
-    → empty ≡ [] → new ≡ old ++ told → IsLineWrong n state line old new
-wrong_behind n state line empty told old new t none out = record {
-  bytes = t.bytes;
-  out = out ∙ ap (λ xs. old ++ xs) (t.out ∙ ap (λ xs. xs ++ t.bytes) none);
-  told = t.told;
-}
-
 -- bytes behind a line that is too long make it no shorter
 pub too_long : (line part more : List ℕ) → 131200 < length line + length part → most_bytes < length ((line ++ part) ++ more)
 too_long line part more long = omega (arith, length-append (line ++ part) more, length-append line part)

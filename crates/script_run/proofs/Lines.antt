@@ -58,3 +58,10 @@ refused_line r why.Range n state bench after line old mid new counts replied tol
     let limits = replied.limits in
     wrong_line r n state bench line old new why.Range (told_from r n why.Range old mid new limits.out told)
     (counts, (replied.order, record { spells = replied.spells; due = limits.due }, limits.range))
+
+-- five texts, one behind the other
+pub told_five : {E : Type 0} (r : Result (Unit {0}) E) (old one two three four five a b c d e : List ℕ) → one ≡ old ++ a → two ≡ one ++ b
+    → three ≡ two ++ c → four ≡ three ++ d → OnOk r (five ≡ four ++ e) → OnOk r (five ≡ old ++ (a ++ (b ++ (c ++ (d ++ e)))))
+told_five (Ok u) old one two three four five a b c d e first second third fourth fifth =
+    fifth ∙ simp (fourth, third, second, first, append_assoc)
+told_five (Err f) old one two three four five a b c d e first second third fourth fifth = tt

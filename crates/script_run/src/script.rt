@@ -12,14 +12,13 @@ use std::alloc::Global;
 use std::mem::replace;
 
 /// Where a script stands: the number of its open line, the bench, a buffer for a payload, the bytes of
-/// the open line, a buffer for its answer, and the whole answers that are not yet written.
+/// the open line, and the whole answers that are not yet written.
 #[derive(Drop)]
 pub struct Script {
     pub number: u64,
     pub bench: Option<Bench>,
     pub payload: Vec<u8>,
     pub line: Vec<u8>,
-    pub told: Vec<u8>,
     pub out: Vec<u8>,
 }
 
@@ -40,7 +39,6 @@ impl Script {
             bench: None,
             payload,
             line: Vec::new(alloc),
-            told: Vec::new(alloc),
             out: Vec::new(alloc),
         }
     }
@@ -97,17 +95,17 @@ impl Script {
         }
     }
 
-    // Tells a fault of the open line.
+    // Tells a fault of the open line. Without memory for all of it, nothing of it is kept.
     fn tell_fault(&mut self, why: Why) -> Result<(), Stop>
         ensures { Faults result why self.old self.new }
     {
-        self.told.clear();
-        match wrong(&mut self.told, self.number, why) {
-            Err(Stop::Fault) => match self.out.extend_from_slice(&self.told) {
-                Ok(()) => Err(Stop::Fault),
-                Err(_) => Err(Stop::Memory),
-            },
-            unfinished => unfinished,
+        let before = self.out.len();
+        match wrong(&mut self.out, self.number, why) {
+            Err(Stop::Memory) => {
+                self.out.truncate(before);
+                Err(Stop::Memory)
+            }
+            told => told,
         }
     }
 
@@ -148,7 +146,7 @@ impl Script {
         }
     }
 
-    // Answers a line. What is told of it is appended once it is whole.
+    // Answers a line behind the whole answers. Without memory for all of its answer, nothing of it is kept.
     fn answer(&mut self, alloc: Global, line: &[u8]) -> Result<(), Stop>
         requires good { IsScript self.old }
         requires none { self.old.line.items ≡ [] }
@@ -158,28 +156,25 @@ impl Script {
         ensures told { (state : State) → Stands self.old.bench state →
             Answered result self.old state line.now self.new }
     {
-        self.told.clear();
+        let whole = self.out.len();
         let told = answer_line(
             alloc,
             self.number,
             &mut self.bench,
             &mut self.payload,
             line,
-            &mut self.told,
+            &mut self.out,
         );
         match told {
-            Ok(()) => match self.out.extend_from_slice(&self.told) {
-                Ok(()) => {
-                    self.number += 1;
-                    Ok(())
-                }
-                Err(_) => Err(Stop::Memory),
-            },
-            Err(Stop::Fault) => match self.out.extend_from_slice(&self.told) {
-                Ok(()) => Err(Stop::Fault),
-                Err(_) => Err(Stop::Memory),
-            },
-            Err(Stop::Memory) => Err(Stop::Memory),
+            Ok(()) => {
+                self.number += 1;
+                Ok(())
+            }
+            Err(Stop::Fault) => Err(Stop::Fault),
+            Err(Stop::Memory) => {
+                self.out.truncate(whole);
+                Err(Stop::Memory)
+            }
         }
     }
 }
