@@ -1,13 +1,12 @@
 -- What a script's pieces lead to, one after the other.
-use Rattle.std.proofs.Common.{◌≡◌, ℕ, ◌+◌, ◌<◌, ◌==◌, Bool, true, false, List, [], ◌∷◌, ◌++◌, length, Option, Result, Ok, Err, refl, sym, ap, ◌∙◌, subst, inl, inr, arith, append_assoc, append-nil, length-append}
+use Rattle.std.proofs.Common.{◌≡◌, ℕ, ◌+◌, ◌<◌, ◌==◌, Bool, true, false, List, [], ◌∷◌, ◌++◌, length, Result, Ok, Err, refl, sym, ap, ◌∙◌, subst, inl, inr, arith, append_assoc, append-nil, length-append}
 use Rattle.std.proofs.lemmas.List.Elements.{All-append}
 use Rattle.script_run.specs.Opens.{AreLines, IsOpen}
 use Rattle.script_bench.specs.State.{State}
 use Rattle.script_bench.specs.Carrying.{Stands}
 use Rattle.script_bench.specs.Meaning.{Means, Wrong, fault_line, most_bytes}
 use Rattle.script_run.specs.Says.{Tells, lines_of}
-use Rattle.script_run.specs.Feeding.{Answered, Closes, Faults, Feeds, IsAlong, IsLineAnswered, IsClosed, IsCut, IsLineTold, IsLineWrong, IsUnfinished, IsStopped, Leads}
-use Rattle.script_bench.specs.declared.bench.Bench.{Bench}
+use Rattle.script_run.specs.Feeding.{Answered, Closes, Faults, Feeds, IsAlong, IsLineAnswered, IsClosed, IsCut, IsLineWrong, IsUnfinished, IsStopped, Leads}
 use Rattle.script_run.specs.declared.end.End.{End}
 use Rattle.script_run.specs.declared.end.End.TheVariants as end
 use Rattle.script_run.specs.declared.script.Script.{Script}
