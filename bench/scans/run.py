@@ -1,8 +1,8 @@
 #!/usr/bin/env python3
 """Builds the program and the one in plain Rust, and times scans of all units and restarts from them, with short and long payloads.
 
-Usage: bench/scans/run.py [PROGRAM WORD..]. Prints microseconds a scan or a restart, the bytes of all units by that time (the one in plain
-Rust reads their headers alone), and in the row of a program beside the proved one the ratio of the best: its microseconds by the proved
+Usage: bench/scans/run.py [PROGRAM WORD..]. Prints microseconds a scan or a restart, the bytes of all units by that time (of which both
+read the headers alone), and in the row of a program beside the proved one the ratio of the best: its microseconds by the proved
 program's, so that above 1 the proved one is the faster. With a program and its words that one is timed beside both on the same scripts,
 in turn. All answers have to be the same.
 """
