@@ -10,7 +10,7 @@ ghost use Rattle.extent_groups.specs.Stores.{IsSlotOf, AreDrives};
 
 use crate::tables::shape_of;
 use extent_groups::{Class, GroupTable, Member, SLOTS, StoreRefusal, are_there, wipe_extent};
-use extents::{ExtentTable, HEADER_BYTES, MemDrive, Shape};
+use extents::{Drive, ExtentTable, HEADER_BYTES, MemDrive, Shape};
 use std::alloc::{AllocError, Global};
 use std::process::Abort;
 
@@ -240,6 +240,12 @@ impl Rig {
         assert!(rt; drive < self.drives.len());
         assert!(rt; calls >= 1);
         self.drives[drive].fuse(calls);
+    }
+
+    /// Whether a drive is lost.
+    pub(crate) fn is_lost(&self, rt: &impl Abort, drive: usize) -> bool {
+        assert!(rt; drive < self.drives.len());
+        self.drives[drive].is_lost()
     }
 
     /// Loses a drive.

@@ -314,3 +314,20 @@ fn an_extent_is_wiped_to_its_end(rt: HostRuntime) -> Result<(), Fail> {
     );
     Ok(())
 }
+
+#[test]
+fn a_header_is_read_by_one_call_of_its_drive(rt: HostRuntime) -> Result<(), Fail> {
+    for class in [Class::Mirrored, Class::Parity] {
+        let mut rig = Rig::new(&rt, rt.alloc(), class, 3, 1)?;
+        fill(&rt, &mut rig);
+        let mut header = [0; HEADER_BYTES];
+        // Slot 0 lies on drive 0; its copy, or the two others of its row, on drives 1 and 2.
+        rig.fuse(&rt, 0, 2);
+        assert!(rt; rig.read_header(&rt, 0, &mut header).is_ok());
+        assert!(rt; !rig.is_lost(&rt, 0));
+        assert!(rt; rig.read_header(&rt, 0, &mut header).is_ok());
+        assert!(rt; rig.is_lost(&rt, 0));
+        assert!(rt; is_given(&header, 0));
+    }
+    Ok(())
+}
