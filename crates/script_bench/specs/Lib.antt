@@ -1,6 +1,6 @@
 pub mod State
 pub mod Text
-pub mod Kept
+pub mod Prefix
 pub mod Answers
 pub mod Meaning
 pub mod Carrying

@@ -4,7 +4,7 @@ ghost use Rattle.array_model.specs.Views.{key_at};
 ghost use Rattle.map_join.specs.Maps.{IsListOf};
 ghost use Rattle.script_bench.specs.Carrying.{Carries};
 ghost use Rattle.script_bench.specs.State.{IsMemberInRange, IsWithin};
-ghost use Rattle.script_bench.specs.Kept.{IsKept};
+ghost use Rattle.script_bench.specs.Prefix.{IsPrefix};
 ghost use Rattle.script_words.specs.Order as o;
 ghost use Rattle.script_words.specs.Order.{order_of};
 ghost use Rattle.script_words.specs.Spelling.{IsWritten};
@@ -70,7 +70,7 @@ pub fn carry_out(
     requires blocks { bench.old.tiers.world.array.parts.groups.blocks < 2 ^ 32 }
     requires range { IsWithin bench.old.tiers.world.array.parts.groups.blocks (order_of «command».now payload.old) }
     ensures carried { OnOk result (Carries bench.old bench.new (order_of «command».now payload.old) out.old.items out.new.items) }
-    ensures kept { IsKept out.old.items out.new.items }
+    ensures kept { IsPrefix out.old.items out.new.items }
 {
     let [first, second, third, ..] = command.numbers;
     match command.verb {
@@ -105,7 +105,7 @@ pub fn carry_out(
 
 fn claim(bench: &mut Bench, worker: u8, slot: u16, out: &mut Vec<u8>) -> Result<(), AllocError>
     ensures carried { OnOk result (Carries bench.old bench.new (o.Claim worker slot) out.old.items out.new.items) }
-    ensures kept { IsKept out.old.items out.new.items }
+    ensures kept { IsPrefix out.old.items out.new.items }
 {
     let answer = bench.tiers.world.claim(worker, slot);
     put_answer(out, &answer, 0)
@@ -113,7 +113,7 @@ fn claim(bench: &mut Bench, worker: u8, slot: u16, out: &mut Vec<u8>) -> Result<
 
 fn release(bench: &mut Bench, worker: u8, slot: u16, out: &mut Vec<u8>) -> Result<(), AllocError>
     ensures carried { OnOk result (Carries bench.old bench.new (o.Release worker slot) out.old.items out.new.items) }
-    ensures kept { IsKept out.old.items out.new.items }
+    ensures kept { IsPrefix out.old.items out.new.items }
 {
     let answer = bench.tiers.release(worker, slot);
     put_answer(out, &answer, 0)
@@ -129,7 +129,7 @@ fn fill(
 ) -> Result<(), AllocError>
     requires payload { length payload.now ≡ bench.old.tiers.world.array.parts.groups.payload }
     ensures carried { OnOk result (Carries bench.old bench.new (o.Fill worker slot payload.now) out.old.items out.new.items) }
-    ensures kept { IsKept out.old.items out.new.items }
+    ensures kept { IsPrefix out.old.items out.new.items }
 {
     let answer = bench.tiers.world.fill(alloc, worker, slot, payload)?;
     put_answer(out, &answer, 0)
@@ -145,7 +145,7 @@ fn copy(
 ) -> Result<(), AllocError>
     requires block { block < bench.old.tiers.world.array.parts.groups.blocks }
     ensures carried { OnOk result (Carries bench.old bench.new (o.Copy worker slot block) out.old.items out.new.items) }
-    ensures kept { IsKept out.old.items out.new.items }
+    ensures kept { IsPrefix out.old.items out.new.items }
 {
     let answer = bench.tiers.world.copy(alloc, worker, slot, block)?;
     put_answer(out, &answer, 0)
@@ -161,7 +161,7 @@ fn commit(
 ) -> Result<(), AllocError>
     requires block { block < bench.old.tiers.world.array.parts.groups.blocks }
     ensures carried { OnOk result (Carries bench.old bench.new (o.Commit worker slot block) out.old.items out.new.items) }
-    ensures kept { IsKept out.old.items out.new.items }
+    ensures kept { IsPrefix out.old.items out.new.items }
 {
     let answer = bench.tiers.commit(alloc, worker, slot, block)?;
     put_answer(out, &answer, 0)
@@ -169,7 +169,7 @@ fn commit(
 
 fn discard(bench: &mut Bench, worker: u8, slot: u16, out: &mut Vec<u8>) -> Result<(), AllocError>
     ensures carried { OnOk result (Carries bench.old bench.new (o.Discard worker slot) out.old.items out.new.items) }
-    ensures kept { IsKept out.old.items out.new.items }
+    ensures kept { IsPrefix out.old.items out.new.items }
 {
     let answer = bench.tiers.world.discard(worker, slot);
     put_answer(out, &answer, 0)
@@ -177,7 +177,7 @@ fn discard(bench: &mut Bench, worker: u8, slot: u16, out: &mut Vec<u8>) -> Resul
 
 fn lose(bench: &mut Bench, drive: u8, out: &mut Vec<u8>) -> Result<(), AllocError>
     ensures carried { OnOk result (Carries bench.old bench.new (o.Lose drive) out.old.items out.new.items) }
-    ensures kept { IsKept out.old.items out.new.items }
+    ensures kept { IsPrefix out.old.items out.new.items }
 {
     let answer = bench.tiers.world.lose(drive);
     put_answer(out, &answer, 0)
@@ -191,7 +191,7 @@ fn read_at(
 ) -> Result<(), AllocError>
     requires { «record».block < bench.old.tiers.world.array.parts.groups.blocks }
     ensures carried { OnOk result (Carries bench.old bench.new (o.At «record») out.old.items out.new.items) }
-    ensures kept { IsKept out.old.items out.new.items }
+    ensures kept { IsPrefix out.old.items out.new.items }
 {
     let answer = bench.tiers.world.read_at(alloc, record)?;
     put_answer(out, &answer, record.version)
@@ -206,7 +206,7 @@ fn read(
     requires block { block < bench.old.tiers.world.array.parts.groups.blocks }
     requires payload { length payload.old ≡ bench.old.tiers.world.array.parts.groups.payload }
     ensures carried { OnOk result (Carries bench.old bench.new (o.Read block) out.old.items out.new.items) }
-    ensures kept { IsKept out.old.items out.new.items }
+    ensures kept { IsPrefix out.old.items out.new.items }
 {
     let found = bench.tiers.world.read_into(block, payload);
     put_found(out, found, payload)
@@ -221,7 +221,7 @@ fn make(
 ) -> Result<(), AllocError>
     requires { All IsMemberInRange named.now }
     ensures carried { OnOk result (Carries bench.old bench.new (o.Make class named.now) out.old.items out.new.items) }
-    ensures kept { IsKept out.old.items out.new.items }
+    ensures kept { IsPrefix out.old.items out.new.items }
 {
     let members = members_of(alloc, named)?;
     let answer = bench.tiers.make(alloc, class, &members)?;
@@ -236,7 +236,7 @@ fn unmake(
     out: &mut Vec<u8>,
 ) -> Result<(), AllocError>
     ensures carried { OnOk result (Carries bench.old bench.new (o.Unmake worker group) out.old.items out.new.items) }
-    ensures kept { IsKept out.old.items out.new.items }
+    ensures kept { IsPrefix out.old.items out.new.items }
 {
     let answer = bench.tiers.unmake(alloc, worker, group)?;
     put_answer(out, &answer, 0)
@@ -244,7 +244,7 @@ fn unmake(
 
 fn map(alloc: Global, bench: &mut Bench, out: &mut Vec<u8>) -> Result<(), AllocError>
     ensures carried { OnOk result (Carries bench.old bench.new o.Map out.old.items out.new.items) }
-    ensures kept { IsKept out.old.items out.new.items }
+    ensures kept { IsPrefix out.old.items out.new.items }
 {
     let records = newest_records(alloc, bench.tiers.world.array())?;
     put_listing(out, b"map ", &records)
@@ -269,7 +269,7 @@ fn newest_records<D: Drive, C: Hold>(
 
 fn log(alloc: Global, bench: &mut Bench, out: &mut Vec<u8>) -> Result<(), AllocError>
     ensures carried { OnOk result (Carries bench.old bench.new o.Log out.old.items out.new.items) }
-    ensures kept { IsKept out.old.items out.new.items }
+    ensures kept { IsPrefix out.old.items out.new.items }
 {
     let Ok(records) = bench.tiers.world.array().records_from(alloc, 0) else {
         return Err(AllocError)
@@ -288,7 +288,7 @@ fn write(
     requires block { block < bench.old.tiers.world.array.parts.groups.blocks }
     requires payload { length payload.now ≡ bench.old.tiers.world.array.parts.groups.payload }
     ensures carried { OnOk result (Carries bench.old bench.new (o.Write worker block payload.now) out.old.items out.new.items) }
-    ensures kept { IsKept out.old.items out.new.items }
+    ensures kept { IsPrefix out.old.items out.new.items }
 {
     let outcome = bench.tiers.write(alloc, worker, block, payload)?;
     put_outcome(out, outcome)
@@ -296,7 +296,7 @@ fn write(
 
 fn demote(alloc: Global, bench: &mut Bench, worker: u8, out: &mut Vec<u8>) -> Result<(), AllocError>
     ensures carried { OnOk result (Carries bench.old bench.new (o.Demote worker) out.old.items out.new.items) }
-    ensures kept { IsKept out.old.items out.new.items }
+    ensures kept { IsPrefix out.old.items out.new.items }
 {
     let outcome = bench.tiers.demote(alloc, worker)?;
     put_outcome(out, outcome)
@@ -304,7 +304,7 @@ fn demote(alloc: Global, bench: &mut Bench, worker: u8, out: &mut Vec<u8>) -> Re
 
 fn plug(alloc: Global, bench: &mut Bench, worker: u8, out: &mut Vec<u8>) -> Result<(), AllocError>
     ensures carried { OnOk result (Carries bench.old bench.new (o.Plug worker) out.old.items out.new.items) }
-    ensures kept { IsKept out.old.items out.new.items }
+    ensures kept { IsPrefix out.old.items out.new.items }
 {
     let outcome = bench.tiers.plug(alloc, worker)?;
     put_outcome(out, outcome)
@@ -312,7 +312,7 @@ fn plug(alloc: Global, bench: &mut Bench, worker: u8, out: &mut Vec<u8>) -> Resu
 
 fn clean(alloc: Global, bench: &mut Bench, worker: u8, out: &mut Vec<u8>) -> Result<(), AllocError>
     ensures carried { OnOk result (Carries bench.old bench.new (o.Clean worker) out.old.items out.new.items) }
-    ensures kept { IsKept out.old.items out.new.items }
+    ensures kept { IsPrefix out.old.items out.new.items }
 {
     let outcome = bench.tiers.clean(alloc, worker)?;
     put_outcome(out, outcome)
@@ -320,7 +320,7 @@ fn clean(alloc: Global, bench: &mut Bench, worker: u8, out: &mut Vec<u8>) -> Res
 
 fn add(alloc: Global, bench: &mut Bench, out: &mut Vec<u8>) -> Result<(), AllocError>
     ensures carried { OnOk result (Carries bench.old bench.new o.Add out.old.items out.new.items) }
-    ensures kept { IsKept out.old.items out.new.items }
+    ensures kept { IsPrefix out.old.items out.new.items }
 {
     let answer = bench.tiers.world.add_drive(alloc)?;
     put_answer(out, &answer, 0)
@@ -328,7 +328,7 @@ fn add(alloc: Global, bench: &mut Bench, out: &mut Vec<u8>) -> Result<(), AllocE
 
 fn balance(alloc: Global, bench: &mut Bench, out: &mut Vec<u8>) -> Result<(), AllocError>
     ensures carried { OnOk result (Carries bench.old bench.new o.Balance out.old.items out.new.items) }
-    ensures kept { IsKept out.old.items out.new.items }
+    ensures kept { IsPrefix out.old.items out.new.items }
 {
     let outcome = regrouping::balance(&mut bench.tiers.world, alloc)?;
     put_regrouped(out, outcome)
@@ -336,7 +336,7 @@ fn balance(alloc: Global, bench: &mut Bench, out: &mut Vec<u8>) -> Result<(), Al
 
 fn rebuild(alloc: Global, bench: &mut Bench, drive: u8, out: &mut Vec<u8>) -> Result<(), AllocError>
     ensures carried { OnOk result (Carries bench.old bench.new (o.Rebuild drive) out.old.items out.new.items) }
-    ensures kept { IsKept out.old.items out.new.items }
+    ensures kept { IsPrefix out.old.items out.new.items }
 {
     let outcome = regrouping::rebuild(&mut bench.tiers.world, alloc, drive)?;
     put_regrouped(out, outcome)

@@ -7,7 +7,7 @@ ghost use Rattle.flat_machine.specs.Flat.{put};
 ghost use Rattle.script_bench.specs.Carrying.{AreMapsOf, Carries, IsMap};
 ghost use Rattle.script_words.specs.Order as o;
 ghost use Rattle.script_bench.specs.Text.{record_text};
-ghost use Rattle.script_bench.specs.Kept.{IsKept};
+ghost use Rattle.script_bench.specs.Prefix.{IsPrefix};
 
 use crate::bench::Bench;
 use crate::texts::{put, put_difference, put_listing, put_record};
@@ -26,7 +26,7 @@ pub fn take(
     requires written { 0 < «record».version }
     requires map { IsMap map }
     ensures carried { OnOk result (Carries bench.old bench.new (o.Take map «record») out.old.items out.new.items) }
-    ensures kept { IsKept out.old.items out.new.items }
+    ensures kept { IsPrefix out.old.items out.new.items }
 {
     let Ok(newest) = take_into(alloc, &mut bench.maps, map, record) else {
         return Err(AllocError)
@@ -67,7 +67,7 @@ pub fn merge(
     requires into { IsMap into }
     requires from { IsMap from }
     ensures carried { OnOk result (Carries bench.old bench.new (o.Merge into from) out.old.items out.new.items) }
-    ensures kept { IsKept out.old.items out.new.items }
+    ensures kept { IsPrefix out.old.items out.new.items }
 {
     match join(alloc, &mut bench.maps, into, from) {
         Ok(()) => {}
@@ -103,7 +103,7 @@ pub fn same(
     requires left { IsMap left }
     requires right { IsMap right }
     ensures carried { OnOk result (Carries bench.old bench.new (o.Same left right) out.old.items out.new.items) }
-    ensures kept { IsKept out.old.items out.new.items }
+    ensures kept { IsPrefix out.old.items out.new.items }
 {
     put_difference(out, difference(&bench.maps, left, right))
 }
@@ -127,7 +127,7 @@ pub fn show(
 ) -> Result<(), AllocError>
     requires { IsMap map }
     ensures carried { OnOk result (Carries bench.old bench.new (o.Show map) out.old.items out.new.items) }
-    ensures kept { IsKept out.old.items out.new.items }
+    ensures kept { IsPrefix out.old.items out.new.items }
 {
     let Ok(records) = bench.maps[map].to_list(alloc) else {
         return Err(AllocError)
@@ -138,7 +138,7 @@ pub fn show(
 // The answer to a record that was taken.
 fn put_took(out: &mut Vec<u8>, newest: &Record) -> Result<(), AllocError>
     ensures told { OnOk result (out.new.items ≡ out.old.items ++ (codes "took " ++ record_text newest.now)) }
-    ensures kept { IsKept out.old.items out.new.items }
+    ensures kept { IsPrefix out.old.items out.new.items }
 {
     put(out, b"took ")?;
     put_record(out, newest)

@@ -3,7 +3,7 @@ ghost use Rattle.std.specs.Prelude.{◌≡◌, ◌≤◌, length, Some, None};
 ghost use Rattle.script_bench.specs.State.{Position, State};
 ghost use Rattle.script_bench.specs.Carrying.{Stands, MakesBench};
 ghost use Rattle.script_bench.specs.Replies.{Replies, Starts};
-ghost use Rattle.script_bench.specs.Kept.{IsKept};
+ghost use Rattle.script_bench.specs.Prefix.{IsPrefix};
 ghost use Rattle.script_words.specs.Order as o;
 
 use crate::bench::Bench;
@@ -28,7 +28,7 @@ pub fn reply(
     requires { 65536 ≤ length payload.old }
     ensures replied { (state : State) → Stands bench.old state →
         Replies result state bench.new line.now out.old.items out.new.items }
-    ensures kept { IsKept out.old.items out.new.items }
+    ensures kept { IsPrefix out.old.items out.new.items }
 {
     if bench.is_some() {
         return later(alloc, bench, payload, line, out);
@@ -47,7 +47,7 @@ fn start(
     requires { bench.old ≡ None }
     ensures replied { (state : State) → Stands bench.old state →
         Replies result state bench.new line.now out.old.items out.new.items }
-    ensures kept { IsKept out.old.items out.new.items }
+    ensures kept { IsPrefix out.old.items out.new.items }
 {
     match first(alloc, line, out) {
         Ok(made) => {
@@ -61,7 +61,7 @@ fn start(
 // The first command makes the array.
 fn first(alloc: Global, line: &[u8], out: &mut Vec<u8>) -> Result<Bench, Failure>
     ensures replied { Starts result line.now out.old.items out.new.items }
-    ensures kept { IsKept out.old.items out.new.items }
+    ensures kept { IsPrefix out.old.items out.new.items }
 {
     let mut command = Command::new(alloc);
     match read_command(alloc, line, &mut [], &mut command) {
@@ -89,7 +89,7 @@ fn begin(
     out: &mut Vec<u8>,
 ) -> Result<Bench, Failure>
     ensures replied { MakesBench result (o.Array drives extents segments payload blocks) out.old.items out.new.items }
-    ensures kept { IsKept out.old.items out.new.items }
+    ensures kept { IsPrefix out.old.items out.new.items }
 {
     let Some((drives, shape)) = array_in_range(drives, extents, segments, payload, blocks) else {
         return Err(Failure::Wrong(Why::Range));
@@ -117,7 +117,7 @@ fn later(
     requires { 65536 ≤ length payload.old }
     ensures replied { (P : Position) → Stands bench.old (Some P) →
         Replies result (Some P) bench.new line.now out.old.items out.new.items }
-    ensures kept { IsKept out.old.items out.new.items }
+    ensures kept { IsPrefix out.old.items out.new.items }
 {
     let Some(standing) = bench else {
         return Err(Failure::Wrong(Why::Form))

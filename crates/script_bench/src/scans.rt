@@ -2,7 +2,7 @@
 ghost use Rattle.std.specs.Prelude.{IfOk, OnOk, Some};
 ghost use Rattle.script_bench.specs.State.{Position};
 ghost use Rattle.script_bench.specs.Carrying.{Carries, IsCarried, Stands};
-ghost use Rattle.script_bench.specs.Kept.{IsKept};
+ghost use Rattle.script_bench.specs.Prefix.{IsPrefix};
 ghost use Rattle.script_words.specs.Order as o;
 
 use crate::bench::Bench;
@@ -14,7 +14,7 @@ use tiering::Tiers;
 /// Lists the map that the headers tell, or tells the fault that comes first.
 pub fn scan(alloc: Global, bench: &mut Bench, out: &mut Vec<u8>) -> Result<(), AllocError>
     ensures carried { OnOk result (Carries bench.old bench.new o.Scan out.old.items out.new.items) }
-    ensures kept { IsKept out.old.items out.new.items }
+    ensures kept { IsPrefix out.old.items out.new.items }
 {
     let map = match scan_world(alloc, &mut bench.tiers.world) {
         Ok(map) => map,
@@ -36,7 +36,7 @@ pub fn restart(
 ) -> Result<(), AllocError>
     ensures carried { OnOk result ((P : Position) → Stands bench.old (Some P) →
         IsCarried (Some P) bench.new o.Restart out.old.items out.new.items) }
-    ensures kept { IsKept out.old.items out.new.items }
+    ensures kept { IsPrefix out.old.items out.new.items }
 {
     let Some(before) = bench.take() else {
         return Err(AllocError)
@@ -49,7 +49,7 @@ pub fn restart(
 // The bench with its array made anew.
 fn made_anew(alloc: Global, bench: Bench, out: &mut Vec<u8>) -> Result<Bench, AllocError>
     ensures carried { IfOk result (λ after. Carries bench after o.Restart out.old.items out.new.items) }
-    ensures kept { IsKept out.old.items out.new.items }
+    ensures kept { IsPrefix out.old.items out.new.items }
 {
     let Bench { mut tiers, maps } = bench;
     let map = match scan_world(alloc, &mut tiers.world) {

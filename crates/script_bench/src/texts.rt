@@ -3,7 +3,7 @@ ghost use Rattle.std.specs.Prelude.{◌≡◌, ◌≢◌, ◌%◌, ◌∷◌, �
 ghost use Rattle.hex.specs.Hex.{encode_lower};
 ghost use Rattle.step_core.specs.Told.{read_answer, flat_answer, seen_of};
 ghost use Rattle.script_bench.specs.Text.{answer_text, data_text, detail, difference_text, fault_detail, fault_text, found_text, header_text, outcome_text, regrouped_text, shift_text, seen_text, listing, record_or_none, record_text, records_text};
-ghost use Rattle.script_bench.specs.Kept.{IsKept};
+ghost use Rattle.script_bench.specs.Prefix.{IsPrefix};
 ghost use Rattle.flat_machine.specs.Steps as s;
 
 use header_scan::ScanFault;
@@ -34,7 +34,7 @@ const RECORD_DIGITS: usize = 24;
 /// A text as it stands.
 pub fn put(out: &mut Vec<u8>, text: &[u8]) -> Result<(), AllocError>
     ensures told { OnOk result (out.new.items ≡ out.old.items ++ text.now) }
-    ensures kept { IsKept out.old.items out.new.items }
+    ensures kept { IsPrefix out.old.items out.new.items }
 {
     out.extend_from_slice(text)
 }
@@ -42,7 +42,7 @@ pub fn put(out: &mut Vec<u8>, text: &[u8]) -> Result<(), AllocError>
 /// A number in decimal.
 pub fn put_number(out: &mut Vec<u8>, number: u64) -> Result<(), AllocError>
     ensures told { OnOk result (out.new.items ≡ out.old.items ++ decimal number) }
-    ensures kept { IsKept out.old.items out.new.items }
+    ensures kept { IsPrefix out.old.items out.new.items }
 {
     let mut buffer = Buffer::new();
     out.extend_from_slice(buffer.format(number).as_bytes())
@@ -51,7 +51,7 @@ pub fn put_number(out: &mut Vec<u8>, number: u64) -> Result<(), AllocError>
 /// Bytes in hex.
 pub fn put_hex(out: &mut Vec<u8>, bytes: &[u8]) -> Result<(), AllocError>
     ensures told { OnOk result (out.new.items ≡ out.old.items ++ encode_lower bytes.now) }
-    ensures kept { IsKept out.old.items out.new.items }
+    ensures kept { IsPrefix out.old.items out.new.items }
 {
     if bytes.len() <= MOST_STEPPED && bytes.len() % STEP == 0 {
         return put_short_hex(out, bytes);
@@ -69,7 +69,7 @@ pub fn put_hex(out: &mut Vec<u8>, bytes: &[u8]) -> Result<(), AllocError>
 fn put_short_hex(out: &mut Vec<u8>, bytes: &[u8]) -> Result<(), AllocError>
     requires { length bytes.now % 8 ≡ 0 }
     ensures told { OnOk result (out.new.items ≡ out.old.items ++ encode_lower bytes.now) }
-    ensures kept { IsKept out.old.items out.new.items }
+    ensures kept { IsPrefix out.old.items out.new.items }
 {
     for step in 0..bytes.len() / STEP {
         let at = STEP * step;
@@ -83,7 +83,7 @@ fn put_short_hex(out: &mut Vec<u8>, bytes: &[u8]) -> Result<(), AllocError>
 fn put_step(out: &mut Vec<u8>, bytes: &[u8]) -> Result<(), AllocError>
     requires { length bytes.now ≡ 8 }
     ensures told { OnOk result (out.new.items ≡ out.old.items ++ encode_lower bytes.now) }
-    ensures kept { IsKept out.old.items out.new.items }
+    ensures kept { IsPrefix out.old.items out.new.items }
 {
     let mut digits = [0; 2 * STEP];
     encode_hex(bytes, &mut digits);
@@ -93,7 +93,7 @@ fn put_step(out: &mut Vec<u8>, bytes: &[u8]) -> Result<(), AllocError>
 /// A record in hex.
 pub fn put_record(out: &mut Vec<u8>, record: &Record) -> Result<(), AllocError>
     ensures told { OnOk result (out.new.items ≡ out.old.items ++ record_text «record».now) }
-    ensures kept { IsKept out.old.items out.new.items }
+    ensures kept { IsPrefix out.old.items out.new.items }
 {
     // Two whole steps take less time than one and the digits of four single bytes.
     let mut bytes = [0; STEPPED_BYTES];
@@ -106,7 +106,7 @@ pub fn put_record(out: &mut Vec<u8>, record: &Record) -> Result<(), AllocError>
 /// A word and a number.
 pub fn put_numbered(out: &mut Vec<u8>, word: &[u8], number: u64) -> Result<(), AllocError>
     ensures told { OnOk result (out.new.items ≡ out.old.items ++ (word.now ++ decimal number)) }
-    ensures kept { IsKept out.old.items out.new.items }
+    ensures kept { IsPrefix out.old.items out.new.items }
 {
     put(out, word)?;
     put_number(out, number)
@@ -115,7 +115,7 @@ pub fn put_numbered(out: &mut Vec<u8>, word: &[u8], number: u64) -> Result<(), A
 // A version and its payload.
 fn put_data(out: &mut Vec<u8>, version: u32, payload: &[u8]) -> Result<(), AllocError>
     ensures told { OnOk result (out.new.items ≡ out.old.items ++ data_text version payload.now) }
-    ensures kept { IsKept out.old.items out.new.items }
+    ensures kept { IsPrefix out.old.items out.new.items }
 {
     put_numbered(out, b"data ", u64::from(version))?;
     out.push(b' ')?;
@@ -129,7 +129,7 @@ pub fn put_found(
     payload: &[u8],
 ) -> Result<(), AllocError>
     ensures told { OnOk result (out.new.items ≡ out.old.items ++ answer_text 0 (read_answer found payload.now)) }
-    ensures kept { IsKept out.old.items out.new.items }
+    ensures kept { IsPrefix out.old.items out.new.items }
 {
     match found {
         Ok(Some(version)) => put_data(out, version, payload),
@@ -141,7 +141,7 @@ pub fn put_found(
 // What is seen at the place of a record of this version.
 fn put_seen(out: &mut Vec<u8>, version: u32, seen: &At) -> Result<(), AllocError>
     ensures told { OnOk result (out.new.items ≡ out.old.items ++ seen_text version (seen_of seen.now)) }
-    ensures kept { IsKept out.old.items out.new.items }
+    ensures kept { IsPrefix out.old.items out.new.items }
 {
     match seen {
         At::Data(payload) => put_data(out, version, payload),
@@ -153,7 +153,7 @@ fn put_seen(out: &mut Vec<u8>, version: u32, seen: &At) -> Result<(), AllocError
 // A header that is found in another one's place.
 fn put_header(out: &mut Vec<u8>, header: &Record) -> Result<(), AllocError>
     ensures told { OnOk result (out.new.items ≡ out.old.items ++ (codes "stale " ++ header_text header.now)) }
-    ensures kept { IsKept out.old.items out.new.items }
+    ensures kept { IsPrefix out.old.items out.new.items }
 {
     put_numbered(out, b"stale ", u64::from(header.block))?;
     put_numbered(out, b" ", u64::from(header.version))?;
@@ -164,7 +164,7 @@ fn put_header(out: &mut Vec<u8>, header: &Record) -> Result<(), AllocError>
 /// The answer to a step. What is read at a record's place has the version that was asked for.
 pub fn put_answer(out: &mut Vec<u8>, answer: &Answer, asked: u32) -> Result<(), AllocError>
     ensures told { OnOk result (out.new.items ≡ out.old.items ++ answer_text asked (flat_answer answer.now)) }
-    ensures kept { IsKept out.old.items out.new.items }
+    ensures kept { IsPrefix out.old.items out.new.items }
 {
     match answer {
         Answer::Claimed(slot) => put_numbered(out, b"claimed ", u64::from(*slot)),
@@ -190,7 +190,7 @@ pub fn put_answer(out: &mut Vec<u8>, answer: &Answer, asked: u32) -> Result<(), 
 /// What comes of a step by a plan.
 pub fn put_outcome(out: &mut Vec<u8>, outcome: Outcome) -> Result<(), AllocError>
     ensures told { OnOk result (out.new.items ≡ out.old.items ++ outcome_text outcome) }
-    ensures kept { IsKept out.old.items out.new.items }
+    ensures kept { IsPrefix out.old.items out.new.items }
 {
     match outcome {
         Outcome::Placed(record) => put_emitted(out, &record),
@@ -203,7 +203,7 @@ pub fn put_outcome(out: &mut Vec<u8>, outcome: Outcome) -> Result<(), AllocError
 /// What comes of a shift by a plan.
 pub fn put_regrouped(out: &mut Vec<u8>, outcome: Regrouped) -> Result<(), AllocError>
     ensures told { OnOk result (out.new.items ≡ out.old.items ++ regrouped_text outcome) }
-    ensures kept { IsKept out.old.items out.new.items }
+    ensures kept { IsPrefix out.old.items out.new.items }
 {
     match outcome {
         Regrouped::Moved(shift) => put_shift(out, shift),
@@ -215,7 +215,7 @@ pub fn put_regrouped(out: &mut Vec<u8>, outcome: Regrouped) -> Result<(), AllocE
 // The group, the number of its member, and the extent that this is now.
 fn put_shift(out: &mut Vec<u8>, shift: Shift) -> Result<(), AllocError>
     ensures told { OnOk result (out.new.items ≡ out.old.items ++ shift_text shift) }
-    ensures kept { IsKept out.old.items out.new.items }
+    ensures kept { IsPrefix out.old.items out.new.items }
 {
     put_numbered(out, b"moved ", u64::from(shift.group))?;
     put_numbered(out, b" ", u64::from(shift.member))?;
@@ -226,7 +226,7 @@ fn put_shift(out: &mut Vec<u8>, shift: Shift) -> Result<(), AllocError>
 // A record that was emitted.
 fn put_emitted(out: &mut Vec<u8>, record: &Record) -> Result<(), AllocError>
     ensures told { OnOk result (out.new.items ≡ out.old.items ++ answer_text 0 (s.Committed «record».now)) }
-    ensures kept { IsKept out.old.items out.new.items }
+    ensures kept { IsPrefix out.old.items out.new.items }
 {
     put(out, b"record ")?;
     put_record(out, record)
@@ -235,7 +235,7 @@ fn put_emitted(out: &mut Vec<u8>, record: &Record) -> Result<(), AllocError>
 /// A refusal: its number, and what it names.
 fn put_refusal(out: &mut Vec<u8>, refusal: &Refusal) -> Result<(), AllocError>
     ensures told { OnOk result (out.new.items ≡ out.old.items ++ answer_text 0 (s.Refused refusal.now)) }
-    ensures kept { IsKept out.old.items out.new.items }
+    ensures kept { IsPrefix out.old.items out.new.items }
 {
     put_numbered(out, b"refused ", u64::from(refusal.number()))?;
     put_detail(out, refusal)
@@ -244,7 +244,7 @@ fn put_refusal(out: &mut Vec<u8>, refusal: &Refusal) -> Result<(), AllocError>
 // The record, the slot or the drive that a refusal names.
 fn put_detail(out: &mut Vec<u8>, refusal: &Refusal) -> Result<(), AllocError>
     ensures told { OnOk result (out.new.items ≡ out.old.items ++ detail refusal.now) }
-    ensures kept { IsKept out.old.items out.new.items }
+    ensures kept { IsPrefix out.old.items out.new.items }
 {
     match refusal {
         Refusal::Outrun(record) | Refusal::Ahead(Some(record)) => {
@@ -262,7 +262,7 @@ fn put_detail(out: &mut Vec<u8>, refusal: &Refusal) -> Result<(), AllocError>
 pub fn put_fault(out: &mut Vec<u8>, fault: &ScanFault) -> Result<(), AllocError>
     ensures told { OnOk result (out.new.items ≡ out.old.items ++ fault_text fault.now) }
     ensures memory { OnOk result (fault.now ≢ ScanFault.Memory) }
-    ensures kept { IsKept out.old.items out.new.items }
+    ensures kept { IsPrefix out.old.items out.new.items }
 {
     if let ScanFault::Memory = fault {
         return Err(AllocError);
@@ -274,7 +274,7 @@ pub fn put_fault(out: &mut Vec<u8>, fault: &ScanFault) -> Result<(), AllocError>
 // The slots and the block that a scan's fault names.
 fn put_fault_detail(out: &mut Vec<u8>, fault: &ScanFault) -> Result<(), AllocError>
     ensures told { OnOk result (out.new.items ≡ out.old.items ++ fault_detail fault.now) }
-    ensures kept { IsKept out.old.items out.new.items }
+    ensures kept { IsPrefix out.old.items out.new.items }
 {
     match fault {
         ScanFault::Memory => Ok(()),
@@ -296,7 +296,7 @@ fn put_fault_detail(out: &mut Vec<u8>, fault: &ScanFault) -> Result<(), AllocErr
 /// The lowest block of which two maps differ, if they do.
 pub fn put_difference(out: &mut Vec<u8>, lowest: Option<u32>) -> Result<(), AllocError>
     ensures told { OnOk result (out.new.items ≡ out.old.items ++ difference_text lowest) }
-    ensures kept { IsKept out.old.items out.new.items }
+    ensures kept { IsPrefix out.old.items out.new.items }
 {
     match lowest {
         None => put(out, b"same"),
@@ -307,7 +307,7 @@ pub fn put_difference(out: &mut Vec<u8>, lowest: Option<u32>) -> Result<(), Allo
 /// How many records, and the records.
 pub fn put_listing(out: &mut Vec<u8>, word: &[u8], records: &[Record]) -> Result<(), AllocError>
     ensures told { OnOk result (out.new.items ≡ out.old.items ++ (word.now ++ listing records.now)) }
-    ensures kept { IsKept out.old.items out.new.items }
+    ensures kept { IsPrefix out.old.items out.new.items }
 {
     put_numbered(out, word, records.len() as u64)?;
     for record in records {

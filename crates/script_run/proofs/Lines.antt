@@ -4,7 +4,7 @@ use Rattle.std.proofs.Math.Seq.{take-append_seam}
 use Rattle.std.specs.Prelude.{OnOk, OnErr}
 use Rattle.script_bench.specs.declared.bench.Bench.{Bench}
 use Rattle.script_bench.specs.State.{State}
-use Rattle.script_bench.specs.Kept.{IsKept}
+use Rattle.script_bench.specs.Prefix.{IsPrefix}
 use Rattle.script_bench.specs.Replies.{IsReplied, Replies}
 use Rattle.script_bench.specs.Meaning.{Counts, Do, Means, Wrong, fault_line}
 use Rattle.script_run.specs.Feeding.{TellsFault, LineComes}
@@ -69,6 +69,6 @@ told_five (Ok u) old one two three four five a b c d e first second third fourth
 told_five (Err f) old one two three four five a b c d e first second third fourth fifth = tt
 
 -- what is cut back to as much as stood there is what stood there
-pub cut_back : (old mid new : List ℕ) (whole : ℕ) → whole ≡ length old → IsKept old mid → new ≡ take whole mid → new ≡ old
+pub cut_back : (old mid new : List ℕ) (whole : ℕ) → whole ≡ length old → IsPrefix old mid → new ≡ take whole mid → new ≡ old
 cut_back old mid new whole size kept cut =
     cut ∙ ap (λ n. take n mid) size ∙ ap (take (length old)) kept.out ∙ take-append_seam old kept.more

@@ -3,7 +3,7 @@ ghost use Rattle.std.specs.Prelude.{◌≡◌, ◌≤◌, ◌++◌, ◌∷◌, [
 ghost use Rattle.script_bench.specs.State.{State};
 ghost use Rattle.script_bench.specs.Meaning.{is_skipped as is_passed, fault_line, name_of};
 ghost use Rattle.script_bench.specs.Carrying.{Stands};
-ghost use Rattle.script_bench.specs.Kept.{IsKept};
+ghost use Rattle.script_bench.specs.Prefix.{IsPrefix};
 ghost use Rattle.script_run.specs.Feeding.{TellsFault, LineComes};
 
 use crate::stop::Stop;
@@ -30,7 +30,7 @@ pub fn answer_line(
     ensures short { OnOk result (length line.now ≤ 131200) }
     ensures told { (state : State) → Stands bench.old state →
         LineComes result number state bench.new line.now out.old.items out.new.items }
-    ensures kept { IsKept out.old.items out.new.items }
+    ensures kept { IsPrefix out.old.items out.new.items }
 {
     if number > MOST_LINES {
         return wrong(out, number, Why::Many);
@@ -52,7 +52,7 @@ pub fn answer_line(
 #[inline(never)]
 pub fn wrong(out: &mut Vec<u8>, number: u64, why: Why) -> Result<(), Stop>
     ensures told { TellsFault result number why out.old.items out.new.items }
-    ensures kept { IsKept out.old.items out.new.items }
+    ensures kept { IsPrefix out.old.items out.new.items }
 {
     match put_fault(out, number, why) {
         Ok(()) => Err(Stop::Fault),
@@ -63,7 +63,7 @@ pub fn wrong(out: &mut Vec<u8>, number: u64, why: Why) -> Result<(), Stop>
 // The line that tells a fault.
 fn put_fault(out: &mut Vec<u8>, number: u64, why: Why) -> Result<(), AllocError>
     ensures told { OnOk result (out.new.items ≡ out.old.items ++ fault_line number why) }
-    ensures kept { IsKept out.old.items out.new.items }
+    ensures kept { IsPrefix out.old.items out.new.items }
 {
     put(out, b"fault ")?;
     put_number(out, number)?;
@@ -88,7 +88,7 @@ fn name_of(why: Why) -> &'static [u8]
 fn end_line(out: &mut Vec<u8>) -> Result<(), Stop>
     ensures ok { OnOk result (out.new.items ≡ out.old.items ++ 10 ∷ []) }
     ensures err { OnErr result (result ≡ Err Stop.Memory) }
-    ensures kept { IsKept out.old.items out.new.items }
+    ensures kept { IsPrefix out.old.items out.new.items }
 {
     match out.push(b'\n') {
         Ok(()) => Ok(()),

@@ -1,5 +1,5 @@
 use Rattle.std.proofs.Common.{◌≡◌, ◌++◌, drop}
-use Rattle.script_bench.specs.Kept.{IsKept}
+use Rattle.script_bench.specs.Prefix.{IsPrefix}
 use Rattle.script_bench.specs.Text.{listing, records_text}
 use Rattle.script_bench.proofs.texts.put_listing.Given as goal
 
@@ -7,5 +7,5 @@ use Rattle.script_bench.proofs.texts.put_listing.Given as goal
 abbrev pub invariant-loop-record : goal.invariant-loop-record
 invariant-loop-record l = record {
   told : l.out.items ++ records_text (drop l.record-index l.records) ≡ l.fn.out.items ++ (l.fn.word ++ listing l.records);
-  kept : IsKept l.fn.out.items l.out.items;
+  kept : IsPrefix l.fn.out.items l.out.items;
 }
