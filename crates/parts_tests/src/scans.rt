@@ -54,6 +54,18 @@ fn a_scan_of_some_groups_tells_their_records_alone(rt: HostRuntime) {
 }
 
 #[test]
+fn a_scan_reads_each_header_by_one_call(rt: HostRuntime) {
+    let alloc = rt.alloc();
+    let mut rig = two_groups(&rt, alloc);
+    // Of the units that are read where no drive is lost, those of slots 0 and 1 lie on drive 0.
+    rig.fuse(&rt, 0, 3);
+    assert!(rt; rig.scan(&rt, alloc).is_ok());
+    assert!(rt; rig.first_lost(&rt, alloc, &[0]) == None);
+    assert!(rt; rig.scan(&rt, alloc).is_ok());
+    assert!(rt; rig.first_lost(&rt, alloc, &[0]) == Some(0));
+}
+
+#[test]
 fn the_lowest_slot_that_is_gone_is_told(rt: HostRuntime) {
     let alloc = rt.alloc();
     let mut rig = two_groups(&rt, alloc);
