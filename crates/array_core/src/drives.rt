@@ -111,7 +111,7 @@ impl<D: Drive, C: Hold> Array<D, C> {
         }
     }
 
-    // Reads the header of a slot's effective unit, with two buffers of a header's length.
+    // Reads the header of a slot's effective unit, with another buffer of a header's length.
     pub(crate) fn header_at(
         &mut self,
         slot: u16,
@@ -120,7 +120,7 @@ impl<D: Drive, C: Hold> Array<D, C> {
     ) -> Result<(), Refusal>
         requires slot { IsSlot self.old.parts.groups slot }
         requires header { length header.old ≡ HEADER_BYTES }
-        requires scratch { length scratch.old ≡ 2 * HEADER_BYTES }
+        requires scratch { length scratch.old ≡ HEADER_BYTES }
         ensures ok { OnOk result (header_of self.new.parts.groups (cells_of self.new.parts) slot ≡ Some header.new) }
         ensures gone { IfErr result (λ e. (e ≡ Refusal.Gone slot) × (unit_of self.new.parts.groups (cells_of self.new.parts) slot ≡ None)) }
         ensures units { AreSound self.old.parts.groups (cells_of self.old.parts) → KeepsUnits self.old.parts.groups (cells_of self.old.parts) (cells_of self.new.parts) }

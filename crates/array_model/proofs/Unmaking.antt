@@ -1,8 +1,7 @@
 -- An array whose group was unmade is whole, and stands for the state in which it is.
-use Rattle.std.proofs.Common.{◌≡◌, ◌≢◌, ◌⊎◌, inl, inr, ℕ, ◌/◌, ◌%◌, ◌<◌, ◌≤◌, ◌==◌, ◌&&◌, ◌||◌, not, Bool, true, false, nat_lt, List, length, refl, sym, ap, ◌∙◌, subst, arith, Option, Some, None}
+use Rattle.std.proofs.Common.{◌≡◌, ◌≢◌, ◌⊎◌, inl, inr, ℕ, ◌/◌, ◌%◌, ◌<◌, ◌≤◌, ◌==◌, ◌&&◌, ◌||◌, Bool, true, false, nat_lt, List, length, refl, sym, ap, ◌∙◌, subst, arith, None}
 use Rattle.std.proofs.lemmas.Bool.{cases_eq, cases_lt}
 use Rattle.std.proofs.lemmas.Bool.Decides.{nat_tests}
-use Rattle.map_join.specs.declared.records.Record.{Record}
 use Rattle.map_join.specs.Record.{record_of}
 use Rattle.extents.specs.Owners.{Owners}
 use Rattle.extent_groups.specs.Groups.{Groups, group_at, members_of, slots_in, with_group}
@@ -10,18 +9,18 @@ use Rattle.extent_groups.specs.Stores.{AreDrives}
 use Rattle.extent_groups.proofs.GroupsLemmas.{group_same, group_other}
 use Rattle.extent_groups.proofs.Readiness.{rows_given, extents_given}
 use Rattle.array_parts.specs.Slots.{IsSlot}
-use Rattle.array_parts.specs.Views.{PartsView, WasTaken, drive_units, drive_lost, drive_failures, lost_of, failed_of}
+use Rattle.array_parts.specs.Views.{PartsView, WasTaken, drive_units, drive_lost, drive_failures}
 use Rattle.extent_groups.specs.Missing.{missing_of}
 use Rattle.array_parts.specs.Losses.{failures_of}
 use Rattle.flat_machine.specs.Groups.{GroupsStand, class_at, class_below}
-use Rattle.flat_machine.specs.Flat.{Flat, Holder, Worker, Block, Shut, IsArrays, for_block, for_shut, same_holder, turned, IsKept}
+use Rattle.flat_machine.specs.Flat.{Flat, Holder, Worker, Block, Shut, IsArrays, for_block, for_shut}
 use Rattle.flat_machine.specs.Moves.{IsIn, HasClaim, unmade}
 use Rattle.flat_machine.specs.Steps.{Unmake, UnmadeGroup}
 use Rattle.flat_machine.specs.Cases.{UnmakeCase}
-use Rattle.flat_machine.proofs.Pairs.{turned_here, unequal}
+use Rattle.flat_machine.proofs.Pairs.{turned_here}
 use Rattle.flat_machine.proofs.Unmakes.{number_within, groups_fewer, none_still, in_group, held_in, held_past, held_else}
 use Rattle.array_model.specs.Changes.{IsClosed, opened_view}
-use Rattle.array_model.specs.Represents.{ArraySlot, InTables, ShowsArray, is_shut, is_newest, IsTicketOf}
+use Rattle.array_model.specs.Represents.{ArraySlot, InTables, ShowsArray, IsTicketOf}
 use Rattle.array_model.specs.Views.{Kept, Nothing, Moving, Newest, Unmade, ArrayView, IsWhole, kept_at, key_at}
 use Rattle.array_model.proofs.Fares.{itself}
 use Rattle.array_model.proofs.Slots.{slot_same, shows_after}

@@ -8,7 +8,7 @@ ghost use Rattle.array_parts.specs.Slots.{IsSlot};
 ghost use Rattle.array_parts.specs.Views.{view_of, FoundGone, WasPut, WasCarried, WasNotCarried};
 
 use crate::Parts;
-use crate::unit::{put_header, put_payload};
+use crate::unit::put_header;
 use extents::{Drive, Header};
 use flat_machine::Refusal;
 
@@ -30,8 +30,7 @@ impl<D: Drive> Parts<D> {
         ensures err { IfErr result (FoundGone (view_of D.units D.lost D.failures self.old) (view_of D.units D.lost D.failures self.new) slot) }
         ensures fit { IsFit D.units self.new }
     {
-        put_payload(unit, payload);
-        self.write(slot, unit, scratch)
+        self.write_gathered(slot, &Header::Blank.encode(), payload, unit, scratch)
     }
 
     /// Writes what a slot holds into a slot, under another header, with a buffer of a unit's length and

@@ -1,5 +1,5 @@
 // What an array consists of, without what is remembered of its blocks.
-ghost use Rattle.std.specs.Prelude.{◌≡◌, ◌*◌, ◌≤◌, ◌↔◌, ℕ, length, slice_get, None, Some, OnOk, OnErr, IfOk, IfErr, IsTrue};
+ghost use Rattle.std.specs.Prelude.{◌≡◌, ◌+◌, ◌*◌, ◌≤◌, ◌↔◌, ◌++◌, ℕ, length, slice_get, None, Some, OnOk, OnErr, IfOk, IfErr, IsTrue};
 ghost use Rattle.extents.specs.Shapes.{IsShapeOf};
 ghost use Rattle.extents.specs.Sizes.{extent_units};
 ghost use Rattle.extents.specs.declared.shape.TheConstants.{HEADER_BYTES};
@@ -11,7 +11,7 @@ ghost use Rattle.array_parts.specs.Fit.{IsFit, HaveUnits};
 ghost use Rattle.array_parts.specs.Losses.{AllFare, KeepsTables, LosesOnly};
 ghost use Rattle.array_parts.specs.Slots.{IsSlot, cells_in, missing_in, TellsGone};
 
-use crate::slots::{read_slot, read_slot_header, write_slot};
+use crate::slots::{read_slot, read_slot_header, write_slot, write_slot_gathered};
 use extent_groups::GroupTable;
 use extents::{Drive, ExtentTable, Shape};
 use flat_machine::Refusal;
@@ -87,7 +87,7 @@ impl<D: Drive> Parts<D> {
             .ok_or(Refusal::Gone(slot))
     }
 
-    /// Reads the header of a slot's effective unit alone, with two buffers of a header's length; else as `read` does.
+    /// Reads the header of a slot's effective unit alone, with another buffer of a header's length; else as `read` does.
     pub fn read_header(
         &mut self,
         slot: u16,
@@ -97,7 +97,7 @@ impl<D: Drive> Parts<D> {
         requires fit { IsFit D.units self.old }
         requires slot { IsSlot self.old.groups slot }
         requires header { length header.old ≡ HEADER_BYTES }
-        requires scratch { length scratch.old ≡ 2 * HEADER_BYTES }
+        requires scratch { length scratch.old ≡ HEADER_BYTES }
         ensures ok { OnOk result (header_of self.new.groups (cells_in D.units D.lost self.new) slot ≡ Some header.new) }
         ensures there { OnOk result (IsGone self.new.groups (missing_in D.lost self.new) slot → ⊥) }
         ensures gone { IfErr result (TellsGone D.units D.lost self.new slot) }
@@ -130,6 +130,34 @@ impl<D: Drive> Parts<D> {
     {
         let drives: &mut [D] = &mut self.drives;
         write_slot(&self.groups, drives, slot, unit, scratch)
+            .ok()
+            .ok_or(Refusal::Gone(slot))
+    }
+
+    /// Writes the unit of a slot, given in two pieces, the one behind the other, with a buffer of a unit's length and one of two
+    /// units'; else as `write` does.
+    pub(crate) fn write_gathered(
+        &mut self,
+        slot: u16,
+        front: &[u8],
+        rest: &[u8],
+        unit: &mut [u8],
+        scratch: &mut [u8],
+    ) -> Result<(), Refusal>
+        requires fit { IsFit D.units self.old }
+        requires slot { IsSlot self.old.groups slot }
+        requires pieces { length front.now + length rest.now ≡ unit_bytes self.old.groups }
+        requires unit { length unit.old ≡ unit_bytes self.old.groups }
+        requires scratch { length scratch.old ≡ 2 * unit_bytes self.old.groups }
+        ensures there { OnOk result (IsGone self.new.groups (missing_in D.lost self.new) slot → ⊥) }
+        ensures gone { IfErr result (TellsGone D.units D.lost self.new slot) }
+        ensures wrote { Wrote self.old.groups (cells_in D.units D.lost self.old) (cells_in D.units D.lost self.new) slot (front.now ++ rest.now) }
+        ensures tables { KeepsTables self.old self.new }
+        ensures fares { AllFare D.lost D.failures self.old.drives.items self.new.drives.items }
+        ensures fit { IsFit D.units self.new }
+    {
+        let drives: &mut [D] = &mut self.drives;
+        write_slot_gathered(&self.groups, drives, slot, front, rest, unit, scratch)
             .ok()
             .ok_or(Refusal::Gone(slot))
     }

@@ -1,11 +1,12 @@
 // Reads and writes of slots of either class.
-ghost use Rattle.std.specs.Prelude.{◌≡◌, ◌*◌, ◌/◌, length, Some, OnOk, IfErr};
+ghost use Rattle.std.specs.Prelude.{◌≡◌, ◌+◌, ◌*◌, ◌/◌, ◌++◌, length, Some, OnOk, IfErr};
 ghost use Rattle.extents.specs.declared.shape.TheConstants.{HEADER_BYTES};
 ghost use Rattle.extent_groups.specs.Cells.{cells};
 ghost use Rattle.extent_groups.specs.Calls.{NoPlace, SameBut, KeepsDrives};
 ghost use Rattle.extent_groups.specs.Stores.{unit_bytes, unit_of, header_of, AreSound, AreDrives, KeepsUnits, Wrote, NamesGone, IsOwnOf, HasMemberOn};
 ghost use Rattle.array_parts.specs.Slots.{IsSlot};
 
+use crate::unit::join;
 use extent_groups::{Class, GroupTable, SLOTS, StoreRefusal};
 use extents::Drive;
 
@@ -46,7 +47,7 @@ pub(crate) fn read_slot_header<D: Drive>(
     requires slot { IsSlot groups.now slot }
     requires drives { AreDrives D.units groups.now drives.old }
     requires header { length header.old ≡ HEADER_BYTES }
-    requires scratch { length scratch.old ≡ 2 * HEADER_BYTES }
+    requires scratch { length scratch.old ≡ HEADER_BYTES }
     ensures ok { OnOk result (header_of groups.now (cells D.units D.lost drives.new) slot ≡ Some header.new) }
     ensures gone { IfErr result (NamesGone groups.now (cells D.units D.lost drives.new) slot) }
     ensures units { AreSound groups.now (cells D.units D.lost drives.old) → KeepsUnits groups.now (cells D.units D.lost drives.old) (cells D.units D.lost drives.new) }
@@ -56,7 +57,7 @@ pub(crate) fn read_slot_header<D: Drive>(
     ensures drives { AreDrives D.units groups.now drives.new }
 {
     match groups.class_of(slot / SLOTS) {
-        Some(Class::Mirrored) => mirrored_store::read_header(groups, drives, slot, header, scratch),
+        Some(Class::Mirrored) => mirrored_store::read_header(groups, drives, slot, header),
         _ => parity_store::read_header(groups, drives, slot, header, scratch),
     }
 }
@@ -83,4 +84,33 @@ pub(crate) fn write_slot<D: Drive>(
         Some(Class::Mirrored) => mirrored_store::write(groups, drives, slot, unit, scratch),
         _ => parity_store::write(groups, drives, slot, unit, scratch),
     }
+}
+
+/// Writes the unit of a slot of either class, given in two pieces, the one behind the other, with a buffer of a unit's length
+/// and one of two units'.
+pub(crate) fn write_slot_gathered<D: Drive>(
+    groups: &GroupTable,
+    drives: &mut [D],
+    slot: u16,
+    front: &[u8],
+    rest: &[u8],
+    unit: &mut [u8],
+    scratch: &mut [u8],
+) -> Result<(), StoreRefusal>
+    requires slot { IsSlot groups.now slot }
+    requires drives { AreDrives D.units groups.now drives.old }
+    requires pieces { length front.now + length rest.now ≡ unit_bytes groups.now }
+    requires unit { length unit.old ≡ unit_bytes groups.now }
+    requires scratch { length scratch.old ≡ 2 * unit_bytes groups.now }
+    ensures ok { OnOk result (unit_of groups.now (cells D.units D.lost drives.new) slot ≡ Some (front.now ++ rest.now)) }
+    ensures gone { IfErr result (NamesGone groups.now (cells D.units D.lost drives.new) slot) }
+    ensures wrote { Wrote groups.now (cells D.units D.lost drives.old) (cells D.units D.lost drives.new) slot (front.now ++ rest.now) }
+    ensures touched { KeepsDrives D.units D.lost D.failures (IsOwnOf groups.now slot) drives.old drives.new }
+    ensures drives { AreDrives D.units groups.now drives.new }
+{
+    if let Some(Class::Mirrored) = groups.class_of(slot / SLOTS) {
+        return mirrored_store::write_gathered(groups, drives, slot, front, rest);
+    }
+    join(unit, front, rest);
+    parity_store::write(groups, drives, slot, unit, scratch)
 }

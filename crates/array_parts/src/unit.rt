@@ -16,13 +16,13 @@ pub(crate) fn put_header(unit: &mut [u8], header: &Header)
     unit[..HEADER_BYTES].copy_from_slice(&header.encode());
 }
 
-// Puts a payload behind a blank header.
-pub(crate) fn put_payload(unit: &mut [u8], payload: &[u8])
-    requires { length unit.old ≡ HEADER_BYTES + length payload.now }
-    ensures { unit.new ≡ header_bytes Header.Blank ++ payload.now }
+// Puts two pieces into a buffer, the one behind the other.
+pub(crate) fn join(unit: &mut [u8], front: &[u8], rest: &[u8])
+    requires { length unit.old ≡ length front.now + length rest.now }
+    ensures { unit.new ≡ front.now ++ rest.now }
 {
-    put_header(unit, &Header::Blank);
-    unit[HEADER_BYTES..].copy_from_slice(payload);
+    unit[..front.len()].copy_from_slice(front);
+    unit[front.len()..].copy_from_slice(rest);
 }
 
 // The record in the header, none where it is blank, or no header.

@@ -33,12 +33,12 @@ pub trait Units {
     fn groups(&self) -> &GroupTable
         ensures { result.now ≡ groups self.now };
 
-    /// Reads the header of a slot's effective unit, with two buffers of a header's length.
+    /// Reads the header of a slot's effective unit, with another buffer of a header's length.
     fn header(&mut self, slot: u16, header: &mut [u8], scratch: &mut [u8]) -> Result<(), Refusal>
         requires fits { fits self.old }
         requires slot { IsSlot (groups self.old) slot }
         requires header { length header.old ≡ HEADER_BYTES }
-        requires scratch { length scratch.old ≡ 2 * HEADER_BYTES }
+        requires scratch { length scratch.old ≡ HEADER_BYTES }
         ensures ok { OnOk result (header_of (groups self.new) (cells self.new) slot ≡ Some header.new) }
         ensures gone { IfErr result (λ e. (e ≡ Gone slot) × (unit_of (groups self.new) (cells self.new) slot ≡ None)) }
         ensures units { AreSound (groups self.old) (cells self.old) → KeepsUnits (groups self.old) (cells self.old) (cells self.new) }

@@ -24,6 +24,6 @@ held c p = c p.drive p.address
 abbrev pub front : ℕ → Option (List ℕ) → Option (List ℕ)
 front count unit = option_map (take count) unit
 
--- a drive's units, of which these bytes alone are looked at
+-- a drive's units, so many first bytes of each alone
 abbrev pub front_units : {D : Type 0} → ℕ → (D → List (List ℕ)) → D → List (List ℕ)
 front_units count units drive = fronts count (units drive)

@@ -15,7 +15,7 @@ mod wipe;
 pub use change::{are_there, put_check, swap_check};
 pub use class::{Class, Member};
 pub use geometry::{Copies, Spot, Stripe};
-pub use place::{Place, read_front, read_place, write_place};
+pub use place::{Place, read_front, read_place, write_gathered, write_place};
 pub use refusal::{GroupRefusal, StoreRefusal};
 pub use role::Role;
 pub use table::{GROUPS, GroupTable, SLOTS};

@@ -1,5 +1,5 @@
 // Where a unit lies, and the calls by which stores reach a drive.
-ghost use Rattle.std.specs.Prelude.{◌≡◌, ◌<◌, length};
+ghost use Rattle.std.specs.Prelude.{◌≡◌, ◌+◌, ◌<◌, ◌++◌, length};
 ghost use Rattle.extent_groups.specs.Cells.{cells, front_units};
 ghost use Rattle.extent_groups.specs.Calls.{AreSized, HaveFronts, IsPlace, DidRead, DidWrite, NoPlace, Only, SameBut, KeepsDrives};
 
@@ -52,5 +52,19 @@ pub fn write_place<D: Drive>(drives: &mut [D], place: Place, unit: &[u8]) -> boo
 {
     drives[place.drive as usize]
         .write_unit(place.address, unit)
+        .is_ok()
+}
+
+/// Writes the unit at a place, given in two pieces, the one behind the other; false where its drive is lost.
+pub fn write_gathered<D: Drive>(drives: &mut [D], place: Place, front: &[u8], rest: &[u8]) -> bool
+    requires inside { place.drive < length drives.old }
+    requires place { IsPlace D.units drives.old place }
+    requires size { AreSized D.units (length front.now + length rest.now) drives.old }
+    ensures written { DidWrite (cells D.units D.lost drives.old) (cells D.units D.lost drives.new) place (front.now ++ rest.now) result }
+    ensures drives { KeepsDrives D.units D.lost D.failures (Only place) drives.old drives.new }
+    ensures others { SameBut (λ d. d ≡ place.drive) drives.old drives.new }
+{
+    drives[place.drive as usize]
+        .write_gathered(place.address, front, rest)
         .is_ok()
 }

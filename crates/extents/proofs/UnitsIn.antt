@@ -3,7 +3,7 @@ use Rattle.std.proofs.Common.{◌≡◌, ℕ, zero, suc, ◌+◌, ◌-◌, ◌*�
 use Rattle.std.proofs.Math.Seq.{take-add}
 use Rattle.std.proofs.Math.Nat.{mul-le-mul_right}
 use Rattle.std.specs.Prelude.{slice_get, slice_set, replicate}
-use Rattle.std.proofs.lemmas.List.{take-replicate, drop-replicate, drop-drop, take_at, drop_at, length-take-le}
+use Rattle.std.proofs.lemmas.List.{take-replicate, drop-replicate, drop-drop, take_at, drop_at, length-take-le, length-append}
 use Rattle.std.proofs.lemmas.Option.{slice_get_within, same_Some}
 use Rattle.extents.specs.Units.{IsSized, units_in, zero_units}
 
@@ -44,6 +44,23 @@ written_later : (size start : ℕ) (bytes unit : List ℕ) → size ≤ length b
 written_later size start bytes unit room =
     let same : size + start + length unit ≡ size + (start + length unit) = omega arith in
     rw (take-add size start bytes, append_assoc, drop-drop (start + length unit) size bytes, same)
+
+-- two pieces written one behind the other are written at once
+pub written_behind : (start : ℕ) (bytes front rest : List ℕ) → start + (length front + length rest) ≤ length bytes
+    → take (start + length front) (take start bytes ++ (front ++ drop (start + length front) bytes)) ++ (rest ++ drop (start + length front + length rest) (take start bytes ++ (front ++ drop (start + length front) bytes)))
+    ≡ take start bytes ++ ((front ++ rest) ++ drop (start + length (front ++ rest)) bytes)
+written_behind start bytes front rest room =
+    let before = take start bytes ++ front in
+    let behind = drop (start + length front) bytes in
+    let long : length before ≡ start + length front = omega (arith, length-append (take start bytes) front, length-take-le start bytes (omega arith)) in
+    let once : take start bytes ++ (front ++ behind) ≡ before ++ behind = sym (append_assoc (take start bytes) front behind) in
+    let all : start + length front + length rest ≡ start + length (front ++ rest) = omega (arith, length-append front rest) in
+    let left : drop (start + length front + length rest) (before ++ behind) ≡ drop (start + length (front ++ rest)) bytes =
+    sym (drop-drop (length rest) (start + length front) (before ++ behind))
+    ∙ ap (drop (length rest)) (drop_at before behind (start + length front) long)
+    ∙ drop-drop (length rest) (start + length front) bytes
+    ∙ ap (λ n. drop n bytes) all in
+    rw (once, take_at before behind (start + length front) long, left, append_assoc, append_assoc) refl
 
 -- a unit written over its run of bytes
 pub units_in-written : (size count at start : ℕ) (bytes unit : List ℕ) → at < count → start ≡ at * size → count * size ≤ length bytes → length unit ≡ size

@@ -1,5 +1,5 @@
 // What a drive promises.
-ghost use Rattle.std.specs.Prelude.{◌≡◌, ℕ, ◌+◌, ◌<◌, Bool, true, List, length, slice_get, slice_set, Some, OnOk, OnErr, is_err};
+ghost use Rattle.std.specs.Prelude.{◌≡◌, ℕ, ◌+◌, ◌<◌, Bool, true, List, length, slice_get, slice_set, Some, ◌++◌, OnOk, OnErr, is_err};
 ghost use Rattle.extents.specs.Units.{IsSized, HaveFront, fronts, loss};
 
 /// The drive answers no more, and never will again.
@@ -35,8 +35,8 @@ pub trait Drive {
         ensures stays { lost self.old ≡ true → lost self.new ≡ true }
         ensures count { failures self.new ≡ failures self.old + loss (lost self.old) (lost self.new) };
 
-    /// Reads the first bytes of the unit at an address, as many as the buffer has; a call as the read of a whole unit is,
-    /// and refused where that is.
+    /// Reads the first bytes of the unit at an address, as many as the buffer has, which is at most a unit's length;
+    /// else as `read_unit` does, and by one call as well.
     fn read_front(&mut self, at: u32, front: &mut [u8]) -> Result<(), DriveLost>
         requires at { at < length (units self.old) }
         requires size { HaveFront (length front.old) (units self.old) }
@@ -51,6 +51,17 @@ pub trait Drive {
         requires at { at < length (units self.old) }
         requires size { IsSized (length unit.now) (units self.old) }
         ensures written { OnOk result (units self.new ≡ slice_set (units self.old) at unit.now) }
+        ensures unwritten { OnErr result (units self.new ≡ units self.old) }
+        ensures lost { lost self.new ≡ is_err result }
+        ensures stays { lost self.old ≡ true → lost self.new ≡ true }
+        ensures count { failures self.new ≡ failures self.old + loss (lost self.old) (lost self.new) };
+
+    /// Writes the unit at an address, given in two pieces, the one behind the other; else as `write_unit` does, and by one
+    /// call as well.
+    fn write_gathered(&mut self, at: u32, front: &[u8], rest: &[u8]) -> Result<(), DriveLost>
+        requires at { at < length (units self.old) }
+        requires size { IsSized (length front.now + length rest.now) (units self.old) }
+        ensures written { OnOk result (units self.new ≡ slice_set (units self.old) at (front.now ++ rest.now)) }
         ensures unwritten { OnErr result (units self.new ≡ units self.old) }
         ensures lost { lost self.new ≡ is_err result }
         ensures stays { lost self.old ≡ true → lost self.new ≡ true }

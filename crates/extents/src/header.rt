@@ -113,10 +113,14 @@ impl Header {
         ensures ok { IfOk result (Spells bytes.now) }
         ensures only { (header : Header) → Spells bytes.now header → result ≡ Ok header }
     {
-        if is_blank(bytes) {
-            return Ok(Header::Blank);
+        if !is_marked(bytes) {
+            return if is_blank(bytes) {
+                Ok(Header::Blank)
+            } else {
+                Err(HeaderFault::BadHeader)
+            };
         }
-        if !is_marked(bytes) || !ends_in_zeros(bytes) {
+        if !ends_in_zeros(bytes) {
             return Err(HeaderFault::BadHeader);
         }
         match Record::of_bytes(&bytes[RECORD_AT..REST_AT]) {

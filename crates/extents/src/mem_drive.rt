@@ -159,8 +159,22 @@ impl Drive for MemDrive {
         ensures count { failures_of self.new.condition ≡ failures_of self.old.condition + loss (is_gone self.old.condition) (is_gone self.new.condition) }
         ensures condition { self.new.condition ≡ after_call self.old.condition }
     {
+        self.write_gathered(at, unit, &[])
+    }
+
+    #[inline(always)]
+    fn write_gathered(&mut self, at: u32, front: &[u8], rest: &[u8]) -> Result<(), DriveLost>
+        requires at { at < length self.old.units }
+        requires size { IsSized (length front.now + length rest.now) self.old.units }
+        ensures written { OnOk result (self.new.units ≡ slice_set self.old.units at (front.now ++ rest.now)) }
+        ensures unwritten { OnErr result (self.new.units ≡ self.old.units) }
+        ensures lost { is_gone self.new.condition ≡ is_err result }
+        ensures stays { is_gone self.old.condition ≡ true → is_gone self.new.condition ≡ true }
+        ensures count { failures_of self.new.condition ≡ failures_of self.old.condition + loss (is_gone self.old.condition) (is_gone self.new.condition) }
+        ensures condition { self.new.condition ≡ after_call self.old.condition }
+    {
         if spend(&mut self.condition) {
-            self.units.write(at, unit);
+            self.units.write(at, front, rest);
             return Ok(());
         }
         Err(DriveLost)

@@ -1,5 +1,5 @@
 // The units of a drive in memory, of which those take memory that were written.
-ghost use Rattle.std.specs.Prelude.{◌≡◌, ◌+◌, ◌<◌, ◌≤◌, ◌++◌, ℕ, true, List, length, replicate, slice_get, slice_set, Some, take, drop, IfOk};
+ghost use Rattle.std.specs.Prelude.{◌≡◌, ◌+◌, ◌<◌, ◌≤◌, ◌++◌, ℕ, true, List, length, replicate, slice_get, slice_set, Some, take, drop, IfOk, vec_capacity};
 ghost use Rattle.extents.specs.Units.{IsSized, HaveFront, fronts, zero_units};
 
 use std::alloc::{AllocError, Global};
@@ -73,34 +73,58 @@ impl ThinUnits {
         }
     }
 
-    /// Writes a unit.
-    pub fn write(&mut self, at: u32, unit: &[u8])
+    /// Writes a unit, given in two pieces, the one behind the other.
+    #[inline(always)]
+    pub fn write(&mut self, at: u32, front: &[u8], rest: &[u8])
         requires at { at < length self.old }
-        requires size { IsSized (length unit.now) self.old }
-        ensures { self.new ≡ slice_set self.old at unit.now }
+        requires size { IsSized (length front.now + length rest.now) self.old }
+        ensures { self.new ≡ slice_set self.old at (front.now ++ rest.now) }
     {
         let place = self.places[at as usize];
         if place > 0 {
-            store(&mut self.bytes, (place - 1) as usize * self.size, unit);
+            store(
+                &mut self.bytes,
+                (place - 1) as usize * self.size,
+                front,
+                rest,
+            );
             return;
         }
-        if are_zeros(unit) {
+        if are_zeros(front) && are_zeros(rest) {
             return;
         }
-        // There is room for it, since not all units are stored.
-        if let Ok(()) = self.bytes.extend_from_slice(unit) {
-            self.stored += 1;
-            self.places[at as usize] = self.stored;
-        }
+        append(&mut self.bytes, front, rest);
+        self.stored += 1;
+        self.places[at as usize] = self.stored;
     }
 }
 
-/// Puts a unit over the bytes from a place on.
-fn store(bytes: &mut [u8], start: usize, unit: &[u8])
-    requires { start + length unit.now ≤ length bytes.old }
-    ensures { bytes.new ≡ take start bytes.old ++ (unit.now ++ drop (start + length unit.now) bytes.old) }
+/// Puts two pieces over the bytes from a place on.
+fn store(bytes: &mut [u8], start: usize, front: &[u8], rest: &[u8])
+    requires { start + (length front.now + length rest.now) ≤ length bytes.old }
+    ensures { bytes.new ≡ take start bytes.old ++ ((front.now ++ rest.now) ++ drop (start + length (front.now ++ rest.now)) bytes.old) }
 {
-    bytes[start..start + unit.len()].copy_from_slice(unit);
+    put(bytes, start, front);
+    put(bytes, start + front.len(), rest);
+}
+
+/// Puts a piece over the bytes from a place on.
+fn put(bytes: &mut [u8], start: usize, piece: &[u8])
+    requires { start + length piece.now ≤ length bytes.old }
+    ensures { bytes.new ≡ take start bytes.old ++ (piece.now ++ drop (start + length piece.now) bytes.old) }
+{
+    bytes[start..start + piece.len()].copy_from_slice(piece);
+}
+
+/// Puts two pieces behind the bytes, for which there is room.
+fn append(bytes: &mut Vec<u8>, front: &[u8], rest: &[u8])
+    requires { length bytes.old.items + (length front.now + length rest.now) ≤ vec_capacity bytes.old }
+    ensures items { bytes.new.items ≡ bytes.old.items ++ (front.now ++ rest.now) }
+    ensures capacity { vec_capacity bytes.old ≤ vec_capacity bytes.new }
+{
+    if let Ok(()) = bytes.extend_from_slice(front) {
+        let _ = bytes.extend_from_slice(rest);
+    }
 }
 
 /// Reads the bytes from a place on, as many as the buffer has.

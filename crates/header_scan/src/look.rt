@@ -66,7 +66,7 @@ pub(crate) fn look<U: Units>(
     ensures leaves { U.leaves units.old units.new }
 {
     let mut header = [0; HEADER_BYTES];
-    let mut scratch = [0; 2 * HEADER_BYTES];
+    let mut scratch = [0; HEADER_BYTES];
     match units.header(slot, &mut header, &mut scratch) {
         Ok(()) => judge(told_by(&header), slot, blocks),
         Err(_) => Err(ScanFault::Gone(slot)),

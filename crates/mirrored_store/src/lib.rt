@@ -1,7 +1,7 @@
 //! Reads and writes of mirrored slots: each lies in two copies, on two drives.
 #![tactic(auto)]
 
-ghost use Rattle.std.specs.Prelude.{◌≡◌, ◌≢◌, ◌≤◌, ◌⊎◌, ◌*◌, ◌/◌, length, Some, OnOk, IfErr};
+ghost use Rattle.std.specs.Prelude.{◌≡◌, ◌≢◌, ◌≤◌, ◌⊎◌, ◌+◌, ◌*◌, ◌/◌, ◌++◌, length, Some, OnOk, IfErr};
 ghost use Rattle.extent_groups.specs.declared.class.Class.TheVariants.{Mirrored};
 ghost use Rattle.extents.specs.declared.shape.TheConstants.{HEADER_BYTES};
 ghost use Rattle.extent_groups.specs.Cells.{cells, front, front_units};
@@ -9,10 +9,12 @@ ghost use Rattle.extent_groups.specs.Units.{Pair, unit_at};
 ghost use Rattle.extent_groups.specs.Calls.{AreSized, HaveFronts, IsPlace, if_ok, NoPlace, SameBut, KeepsDrives};
 ghost use Rattle.extent_groups.specs.Stores.{unit_bytes, unit_of, header_of, AreSound, IsSlotOf, AreDrives, KeepsUnits, Wrote, NamesGone, IsOwn, IsOwnOf, LeavesSites, HasMemberOn};
 
-use extent_groups::{GroupTable, Place, StoreRefusal, read_front, write_place};
+use extent_groups::{GroupTable, Place, StoreRefusal, read_front};
 use extents::Drive;
 
-/// Reads the first bytes of a slot's effective unit, as many as the buffer has: of the first copy that is there; false where both are lost.
+/// Reads the first bytes of a slot's effective unit, as many as the buffer has: of the first copy that is there; false
+/// where both are lost.
+#[inline(always)]
 fn read_fronts<D: Drive>(
     groups: &GroupTable,
     drives: &mut [D],
@@ -49,18 +51,25 @@ fn read_pair<D: Drive>(drives: &mut [D], first: Place, second: Place, front: &mu
     read_front(drives, second, front)
 }
 
-/// Writes both copies, each where its drive is there; false where both are lost.
-fn write_pair<D: Drive>(drives: &mut [D], first: Place, second: Place, unit: &[u8]) -> bool
+/// Writes both copies of a unit that is given in two pieces, each where its drive is there; false where both are lost.
+#[inline(always)]
+fn write_pair<D: Drive>(
+    drives: &mut [D],
+    first: Place,
+    second: Place,
+    front: &[u8],
+    rest: &[u8],
+) -> bool
     requires first { IsPlace D.units drives.old first }
     requires second { IsPlace D.units drives.old second }
     requires apart { first.drive ≢ second.drive }
-    requires size { AreSized D.units (length unit.now) drives.old }
-    ensures unit { unit_at (length unit.now) (cells D.units D.lost drives.new) (Pair first second) ≡ if_ok result unit.now }
-    ensures leaves { LeavesSites (length unit.now) (cells D.units D.lost drives.old) (cells D.units D.lost drives.new) (Pair first second) }
+    requires size { AreSized D.units (length front.now + length rest.now) drives.old }
+    ensures unit { unit_at (length front.now + length rest.now) (cells D.units D.lost drives.new) (Pair first second) ≡ if_ok result (front.now ++ rest.now) }
+    ensures leaves { LeavesSites (length front.now + length rest.now) (cells D.units D.lost drives.old) (cells D.units D.lost drives.new) (Pair first second) }
     ensures touched { KeepsDrives D.units D.lost D.failures (IsOwn (Pair first second)) drives.old drives.new }
 {
-    let one = write_place(drives, first, unit);
-    let two = write_place(drives, second, unit);
+    let one = extent_groups::write_gathered(drives, first, front, rest);
+    let two = extent_groups::write_gathered(drives, second, front, rest);
     one || two
 }
 
@@ -95,12 +104,10 @@ pub fn read_header<D: Drive>(
     drives: &mut [D],
     slot: u16,
     header: &mut [u8],
-    _scratch: &mut [u8],
 ) -> Result<(), StoreRefusal>
     requires slot { IsSlotOf Mirrored groups.now slot }
     requires drives { AreDrives D.units groups.now drives.old }
     requires header { length header.old ≡ HEADER_BYTES }
-    requires scratch { length _scratch.old ≡ 2 * HEADER_BYTES }
     ensures ok { OnOk result (header_of groups.now (cells D.units D.lost drives.new) slot ≡ Some header.new) }
     ensures gone { IfErr result (NamesGone groups.now (cells D.units D.lost drives.new) slot) }
     ensures units { AreSound groups.now (cells D.units D.lost drives.old) → KeepsUnits groups.now (cells D.units D.lost drives.old) (cells D.units D.lost drives.new) }
@@ -132,8 +139,29 @@ pub fn write<D: Drive>(
     ensures touched { KeepsDrives D.units D.lost D.failures (IsOwnOf groups.now slot) drives.old drives.new }
     ensures drives { AreDrives D.units groups.now drives.new }
 {
+    write_gathered(groups, drives, slot, unit, &[])
+}
+
+/// Writes the unit of a slot, given in two pieces, the one behind the other; else as `write` does.
+#[inline(always)]
+pub fn write_gathered<D: Drive>(
+    groups: &GroupTable,
+    drives: &mut [D],
+    slot: u16,
+    front: &[u8],
+    rest: &[u8],
+) -> Result<(), StoreRefusal>
+    requires slot { IsSlotOf Mirrored groups.now slot }
+    requires drives { AreDrives D.units groups.now drives.old }
+    requires unit { length front.now + length rest.now ≡ unit_bytes groups.now }
+    ensures ok { OnOk result (unit_of groups.now (cells D.units D.lost drives.new) slot ≡ Some (front.now ++ rest.now)) }
+    ensures gone { IfErr result (NamesGone groups.now (cells D.units D.lost drives.new) slot) }
+    ensures wrote { Wrote groups.now (cells D.units D.lost drives.old) (cells D.units D.lost drives.new) slot (front.now ++ rest.now) }
+    ensures touched { KeepsDrives D.units D.lost D.failures (IsOwnOf groups.now slot) drives.old drives.new }
+    ensures drives { AreDrives D.units groups.now drives.new }
+{
     let (first, second) = groups.pair_of(slot);
-    write_pair(drives, first, second, unit)
+    write_pair(drives, first, second, front, rest)
         .then_some(())
         .ok_or(StoreRefusal::Gone(slot))
 }

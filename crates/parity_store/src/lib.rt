@@ -69,7 +69,7 @@ pub fn read<D: Drive>(
         .ok_or(StoreRefusal::Gone(slot))
 }
 
-/// Reads the header of a slot's effective unit alone, with two buffers of a header's length; refused where that unit's read is.
+/// Reads the header of a slot's effective unit alone, with another buffer of a header's length; refused where that unit's read is.
 pub fn read_header<D: Drive>(
     groups: &GroupTable,
     drives: &mut [D],
@@ -80,7 +80,7 @@ pub fn read_header<D: Drive>(
     requires slot { IsSlotOf Parity groups.now slot }
     requires drives { AreDrives D.units groups.now drives.old }
     requires header { length header.old ≡ HEADER_BYTES }
-    requires scratch { length scratch.old ≡ 2 * HEADER_BYTES }
+    requires scratch { length scratch.old ≡ HEADER_BYTES }
     ensures ok { OnOk result (header_of groups.now (cells D.units D.lost drives.new) slot ≡ Some header.new) }
     ensures gone { IfErr result (NamesGone groups.now (cells D.units D.lost drives.new) slot) }
     ensures units { AreSound groups.now (cells D.units D.lost drives.old) → KeepsUnits groups.now (cells D.units D.lost drives.old) (cells D.units D.lost drives.new) }
@@ -89,8 +89,7 @@ pub fn read_header<D: Drive>(
     ensures elsewhere { SameBut (HasMemberOn groups.now (slot / 128)) drives.old drives.new }
     ensures drives { AreDrives D.units groups.now drives.new }
 {
-    let size = header.len();
-    read_fronts(groups, drives, slot, header, &mut scratch[..size])
+    read_fronts(groups, drives, slot, header, scratch)
         .then_some(())
         .ok_or(StoreRefusal::Gone(slot))
 }

@@ -7,11 +7,12 @@ use std::alloc::Global;
 use std::process::Abort;
 
 /// Slots 0 to 5 are mirrored, slots 128 to 135 have parity. Block 5 stands at slot 4 with nines, blocks 3 and 7 at slots
-/// 130 and 134 with eights, which slot 1 holds without a record. Slots 2 and 133 hold bytes that begin with no header.
+/// 130 and 134 with eights, which slot 1 holds without a record, as slot 131 does sixes. Slots 2 and 133 hold bytes that begin with no header.
 fn filled(rt: &impl Abort, alloc: Global) -> Rig {
     let mut rig = Rig::grouped(rt, alloc);
     assert!(rt; rig.put(rt, 4, 9) == Ok(()));
     assert!(rt; rig.put(rt, 1, 8) == Ok(()));
+    assert!(rt; rig.put(rt, 131, 6) == Ok(()));
     let carried = [
         (4, record(5, 2, 0, 4)),
         (1, record(3, 1, 1, 130)),
@@ -61,7 +62,7 @@ fn see_all(rt: &impl Abort, rig: &mut Rig) {
 
 /// Reads the payloads of both classes, under any header or none.
 fn read_all(rt: &impl Abort, rig: &mut Rig) {
-    let payloads = [(1, 8), (2, 7), (4, 9), (130, 8), (131, 0), (133, 7)];
+    let payloads = [(1, 8), (2, 7), (4, 9), (130, 8), (131, 6), (133, 7)];
     for (slot, byte) in &payloads {
         assert!(rt; reads(rt, rig, *slot, *byte));
     }

@@ -76,6 +76,19 @@ fn write(rt: &impl Abort, drive: &mut MemDrive, at: u32, unit: &[u8]) -> Result<
     drive.write_unit(at, unit)
 }
 
+fn write_gathered(
+    rt: &impl Abort,
+    drive: &mut MemDrive,
+    front: &[u8],
+    rest: &[u8],
+) -> Result<(), DriveLost> {
+    assert!(rt; 5 < drive.units());
+    let size = drive.unit_bytes();
+    assert!(rt; rest.len() <= size);
+    assert!(rt; front.len() == size - rest.len());
+    drive.write_gathered(5, front, rest)
+}
+
 #[test]
 fn a_drive_reads_as_written_until_its_fuse_burns(rt: HostRuntime) -> Result<(), Fail> {
     let size = shape_of(&rt, 8, 2).unit_bytes();
@@ -132,6 +145,26 @@ fn the_first_bytes_of_a_unit_are_read_by_a_call_of_their_own(rt: HostRuntime) ->
     assert!(rt; read_front(&rt, &mut drive, 30, &mut front) == Ok(()));
     assert!(rt; front == [0; 5]);
     assert!(rt; read_front(&rt, &mut drive, 31, &mut front) == Err(DriveLost));
+    Ok(())
+}
+
+#[test]
+fn a_unit_is_written_in_two_pieces_by_one_call(rt: HostRuntime) -> Result<(), Fail> {
+    let mut drive = MemDrive::new(rt.alloc(), &shape_of(&rt, 8, 2))?;
+    let mut unit = [9; 40];
+    drive.fuse(7);
+    // Zeros where nothing was written, a first write that begins with them, and one over it.
+    assert!(rt; write_gathered(&rt, &mut drive, &[0; 32], &[0; 8]) == Ok(()));
+    assert!(rt; read(&rt, &mut drive, 5, &mut unit) == Ok(()));
+    assert!(rt; unit[0] == 0 && unit[39] == 0);
+    assert!(rt; write_gathered(&rt, &mut drive, &[0; 32], &[1; 8]) == Ok(()));
+    assert!(rt; read(&rt, &mut drive, 5, &mut unit) == Ok(()));
+    assert!(rt; unit[0] == 0 && unit[31] == 0 && unit[32] == 1 && unit[39] == 1);
+    assert!(rt; write_gathered(&rt, &mut drive, &[2; 39], &[3]) == Ok(()));
+    assert!(rt; read(&rt, &mut drive, 5, &mut unit) == Ok(()));
+    assert!(rt; unit[0] == 2 && unit[38] == 2 && unit[39] == 3);
+    // The seventh call is refused.
+    assert!(rt; write_gathered(&rt, &mut drive, &[4; 40], &[]) == Err(DriveLost));
     Ok(())
 }
 

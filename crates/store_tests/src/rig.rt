@@ -147,11 +147,15 @@ impl Rig {
         self.unit.len() == size && self.scratch.len() == 2 * size
     }
 
-    /// Writes the buffered unit to a slot.
+    /// Writes the buffered unit to a slot, in two pieces to a mirrored one of odd number.
     pub(crate) fn write(&mut self, rt: &impl Abort, slot: u16) -> Result<(), StoreRefusal> {
         assert!(rt; self.has_buffers());
         let drives: &mut [MemDrive] = &mut self.drives;
         if is_slot(&self.groups, Class::Mirrored, slot) {
+            if slot % 2 == 1 {
+                let (header, payload) = self.unit.split_at(HEADER_BYTES);
+                return mirrored_store::write_gathered(&self.groups, drives, slot, header, payload);
+            }
             return mirrored_store::write(&self.groups, drives, slot, &self.unit, &mut self.scratch);
         }
         assert!(rt; is_slot(&self.groups, Class::Parity, slot));
@@ -189,12 +193,12 @@ impl Rig {
         header: &mut [u8],
     ) -> Result<(), StoreRefusal> {
         assert!(rt; header.len() == HEADER_BYTES);
-        let mut scratch = [0; 2 * HEADER_BYTES];
         let drives: &mut [MemDrive] = &mut self.drives;
         if is_slot(&self.groups, Class::Mirrored, slot) {
-            return mirrored_store::read_header(&self.groups, drives, slot, header, &mut scratch);
+            return mirrored_store::read_header(&self.groups, drives, slot, header);
         }
         assert!(rt; is_slot(&self.groups, Class::Parity, slot));
+        let mut scratch = [0; HEADER_BYTES];
         parity_store::read_header(&self.groups, drives, slot, header, &mut scratch)
     }
 

@@ -3,24 +3,24 @@ use Rattle.extent_groups.proofs.DriveCalls.{keeps_sizes, keeps_trans, keeps_more
 use Rattle.extent_groups.proofs.SlotWrites.{pair_leaves}
 use Rattle.mirrored_store.proofs.write_pair.Goals as goal
 
-pub write_place-two-requires-clause-size : goal.write_place-two-requires-clause-size
-write_place-two-requires-clause-size g c = keeps_sizes c.write_place-one.ensures.drives c.requires.size
+pub write_gathered-two-requires-clause-size : goal.write_gathered-two-requires-clause-size
+write_gathered-two-requires-clause-size g c = keeps_sizes c.write_gathered-one.ensures.drives c.requires.size
 
 pub returns-then-one-clause-leaves : goal.returns-then-one-clause-leaves
 returns-then-one-clause-leaves g c =
-    pair_leaves _ _ _ _ _ _ _ c.write_place-one.result c.write_place-two.result c.requires.apart (cells_sized _ _ _ c.args.drives.now c.requires.size)
-    c.write_place-one.ensures.written c.write_place-two.ensures.written
+    pair_leaves _ _ _ _ _ _ _ c.write_gathered-one.result c.write_gathered-two.result c.requires.apart (cells_sized _ _ _ c.args.drives.now c.requires.size)
+    c.write_gathered-one.ensures.written c.write_gathered-two.ensures.written
 
 pub returns-then-one-clause-touched : goal.returns-then-one-clause-touched
-returns-then-one-clause-touched g c = keeps_trans (keeps_more (λ x e. inl e) c.write_place-one.ensures.drives) (keeps_more (λ x e. inr e) c.write_place-two.ensures.drives)
+returns-then-one-clause-touched g c = keeps_trans (keeps_more (λ x e. inl e) c.write_gathered-one.ensures.drives) (keeps_more (λ x e. inr e) c.write_gathered-two.ensures.drives)
 
 pub returns-else-one-clause-leaves : goal.returns-else-one-clause-leaves
 returns-else-one-clause-leaves g c =
-    pair_leaves _ _ _ _ _ _ _ c.write_place-one.result c.write_place-two.result c.requires.apart (cells_sized _ _ _ c.args.drives.now c.requires.size)
-    c.write_place-one.ensures.written c.write_place-two.ensures.written
+    pair_leaves _ _ _ _ _ _ _ c.write_gathered-one.result c.write_gathered-two.result c.requires.apart (cells_sized _ _ _ c.args.drives.now c.requires.size)
+    c.write_gathered-one.ensures.written c.write_gathered-two.ensures.written
 
 pub returns-else-one-clause-touched : goal.returns-else-one-clause-touched
-returns-else-one-clause-touched g c = keeps_trans (keeps_more (λ x e. inl e) c.write_place-one.ensures.drives) (keeps_more (λ x e. inr e) c.write_place-two.ensures.drives)
+returns-else-one-clause-touched g c = keeps_trans (keeps_more (λ x e. inl e) c.write_gathered-one.ensures.drives) (keeps_more (λ x e. inr e) c.write_gathered-two.ensures.drives)
 
 pub returns-then-one-clause-unit : goal.returns-then-one-clause-unit
 returns-then-one-clause-unit g c = search rules

@@ -1,6 +1,5 @@
-use Rattle.std.proofs.Common.{arith}
-use Rattle.std.proofs.lemmas.Grind.{common_steps}
+use Rattle.extents.proofs.UnitsIn.{written_behind}
 use Rattle.extents.proofs.thin.store.Goals as goal
 
 pub returns : goal.returns
-returns c = grind (arith, common_steps)
+returns c = rw (c.put-2.ensures, c.put.ensures) (written_behind c.args.start c.args.bytes.now c.args.front.now c.args.rest.now c.requires)

@@ -1,8 +1,8 @@
-use Rattle.std.proofs.Common.{length, inl, inr, refl}
+use Rattle.std.proofs.Common.{length, ◌+◌, ◌++◌, inl, inr, refl}
 use Rattle.extent_groups.proofs.Sites.{site_places}
 use Rattle.extent_groups.proofs.StoreCalls.{site_wrote, site_whole, drives_kept}
 use Rattle.extent_groups.proofs.DriveCalls.{keeps_more}
-use Rattle.mirrored_store.proofs.write.Goals as goal
+use Rattle.mirrored_store.proofs.write_gathered.Goals as goal
 
 pub write_pair-requires-clause-first : goal.write_pair-requires-clause-first
 write_pair-requires-clause-first g c = site_places _ _ _ c.args.slot _ c.pair_of.ensures.groups c.requires.drives c.pair_of.ensures.site _ (inl refl)
@@ -15,7 +15,7 @@ write_pair-requires-clause-apart g c = site_whole _ c.args.slot _ c.pair_of.ensu
 
 pub returns-clause-wrote : goal.returns-clause-wrote
 returns-clause-wrote g c =
-    site_wrote g.D.Drive.units g.D.Drive.lost c.args.groups.now c.args.slot _ (length c.args.unit.now) c.args.drives.now _ c.args.unit.now c.write_pair.result c.pair_of.ensures.groups c.pair_of.ensures.site c.requires.unit c.write_pair.ensures.unit (λ _. c.write_pair.ensures.leaves)
+    site_wrote g.D.Drive.units g.D.Drive.lost c.args.groups.now c.args.slot _ (length c.args.front.now + length c.args.rest.now) c.args.drives.now _ (c.args.front.now ++ c.args.rest.now) c.write_pair.result c.pair_of.ensures.groups c.pair_of.ensures.site c.requires.unit c.write_pair.ensures.unit (λ _. c.write_pair.ensures.leaves)
 
 pub returns-clause-touched : goal.returns-clause-touched
 returns-clause-touched g c = keeps_more (λ x own. (_, c.pair_of.ensures.site, own)) c.write_pair.ensures.touched
