@@ -111,7 +111,7 @@ impl<D: Drive, C: Hold> Array<D, C> {
         }
     }
 
-    // Reads the header of a slot's effective unit, with another buffer of a header's length.
+    // Reads the header of a slot's effective unit; a second buffer of a header's length is for parity slots.
     pub(crate) fn header_at(
         &mut self,
         slot: u16,

@@ -13,7 +13,7 @@ use extents::{Drive, Header};
 use flat_machine::Refusal;
 
 impl<D: Drive> Parts<D> {
-    /// Writes a payload under a blank header, with a buffer of a unit's length and one of two units'.
+    /// Writes a payload under a blank header, to parity slots with a buffer of a unit's length and one of two units'.
     pub fn put(
         &mut self,
         slot: u16,

@@ -64,7 +64,7 @@ impl<D: Drive> Parts<D> {
         have_units(&self.drives, self.shape.drive_units()) && self.groups.agrees(&self.extents)
     }
 
-    /// Reads the effective unit of a slot, with two buffers of a unit's length.
+    /// Reads the effective unit of a slot, with a buffer of two units' length.
     pub fn read(&mut self, slot: u16, unit: &mut [u8], scratch: &mut [u8]) -> Result<(), Refusal>
         requires fit { IsFit D.units self.old }
         requires slot { IsSlot self.old.groups slot }
@@ -87,7 +87,8 @@ impl<D: Drive> Parts<D> {
             .ok_or(Refusal::Gone(slot))
     }
 
-    /// Reads the header of a slot's effective unit alone, with another buffer of a header's length; else as `read` does.
+    /// Reads the header of a slot's effective unit alone, of parity slots with another buffer of a header's length; else as
+    /// `read` does.
     pub fn read_header(
         &mut self,
         slot: u16,
@@ -113,7 +114,7 @@ impl<D: Drive> Parts<D> {
             .ok_or(Refusal::Gone(slot))
     }
 
-    /// Writes the unit of a slot, with two buffers of a unit's length.
+    /// Writes the unit of a slot, with a buffer of two units' length.
     pub fn write(&mut self, slot: u16, unit: &[u8], scratch: &mut [u8]) -> Result<(), Refusal>
         requires fit { IsFit D.units self.old }
         requires slot { IsSlot self.old.groups slot }
@@ -134,8 +135,8 @@ impl<D: Drive> Parts<D> {
             .ok_or(Refusal::Gone(slot))
     }
 
-    /// Writes the unit of a slot, given in two pieces, the one behind the other, with a buffer of a unit's length and one of two
-    /// units'; else as `write` does.
+    /// Writes the unit of a slot, given as `front` and, behind it, `rest`; of parity slots alone with a buffer of a unit's
+    /// length and one of two units'. Else as `write` does.
     pub(crate) fn write_gathered(
         &mut self,
         slot: u16,
@@ -149,9 +150,11 @@ impl<D: Drive> Parts<D> {
         requires pieces { length front.now + length rest.now ≡ unit_bytes self.old.groups }
         requires unit { length unit.old ≡ unit_bytes self.old.groups }
         requires scratch { length scratch.old ≡ 2 * unit_bytes self.old.groups }
+        ensures ok { OnOk result (unit_of self.new.groups (cells_in D.units D.lost self.new) slot ≡ Some (front.now ++ rest.now)) }
         ensures there { OnOk result (IsGone self.new.groups (missing_in D.lost self.new) slot → ⊥) }
         ensures gone { IfErr result (TellsGone D.units D.lost self.new slot) }
         ensures wrote { Wrote self.old.groups (cells_in D.units D.lost self.old) (cells_in D.units D.lost self.new) slot (front.now ++ rest.now) }
+        ensures touched { KeepsDrives D.units D.lost D.failures (IsOwnOf self.old.groups slot) self.old.drives.items self.new.drives.items }
         ensures tables { KeepsTables self.old self.new }
         ensures fares { AllFare D.lost D.failures self.old.drives.items self.new.drives.items }
         ensures fit { IsFit D.units self.new }

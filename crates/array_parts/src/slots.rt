@@ -36,7 +36,8 @@ pub(crate) fn read_slot<D: Drive>(
     }
 }
 
-/// Reads the header of the effective unit of a slot of either class alone.
+/// Reads the header of the effective unit of a slot of either class alone, of parity slots with another buffer of a header's
+/// length.
 pub(crate) fn read_slot_header<D: Drive>(
     groups: &GroupTable,
     drives: &mut [D],
@@ -86,8 +87,8 @@ pub(crate) fn write_slot<D: Drive>(
     }
 }
 
-/// Writes the unit of a slot of either class, given in two pieces, the one behind the other, with a buffer of a unit's length
-/// and one of two units'.
+/// Writes the unit of a slot of either class, given as `front` and, behind it, `rest`; of parity slots alone with a buffer of
+/// a unit's length, in which they are joined, and one of two units'.
 pub(crate) fn write_slot_gathered<D: Drive>(
     groups: &GroupTable,
     drives: &mut [D],

@@ -33,7 +33,7 @@ pub trait Units {
     fn groups(&self) -> &GroupTable
         ensures { result.now ≡ groups self.now };
 
-    /// Reads the header of a slot's effective unit, with another buffer of a header's length.
+    /// Reads the header of a slot's effective unit; a second buffer of a header's length is for parity slots.
     fn header(&mut self, slot: u16, header: &mut [u8], scratch: &mut [u8]) -> Result<(), Refusal>
         requires fits { fits self.old }
         requires slot { IsSlot (groups self.old) slot }

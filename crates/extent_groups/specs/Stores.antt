@@ -8,7 +8,7 @@ use Rattle.extent_groups.specs.declared.place.Place.{Place}
 use Rattle.extent_groups.specs.declared.refusal.StoreRefusal.{StoreRefusal}
 use Rattle.extent_groups.specs.declared.refusal.StoreRefusal.TheVariants.{Gone}
 use Rattle.extent_groups.specs.Groups.{Groups, group_at, class_in, slots_in, members_of}
-use Rattle.extent_groups.specs.Cells.{Cells, cells, front}
+use Rattle.extent_groups.specs.Cells.{Cells, cells, front, held}
 use Rattle.extent_groups.specs.Calls.{AreSized}
 use Rattle.extent_groups.specs.Units.{Site, Pair, InStripe, site_of, unit_at, effective_unit, IsSoundAt, IsSound}
 use Rattle.extent_groups.specs.Layout.{IsOf, IsApart, AreBeside, IsWhole}
@@ -72,6 +72,10 @@ IsOwn (InStripe row parity i) x = (slice_get row i ≡ Some x) ⊎ (slice_get ro
 -- the places that a write of a slot may touch
 abbrev pub IsOwnOf : Groups → ℕ → Place → Type 0
 IsOwnOf groups slot x = (site : Site) × (site_of groups slot ≡ Some site) × IsOwn site x
+
+-- each such place holds these bytes, or its drive is lost
+abbrev pub AreCopies : (Place → Type 0) → Cells → List ℕ → Type 0
+AreCopies own c bytes = (x : Place) → own x → (held c x ≡ Some bytes) ⊎ (held c x ≡ None)
 
 -- one of the site's places is on the drive
 abbrev pub IsDriveOf : Site → ℕ → Type 0

@@ -55,7 +55,9 @@ pub fn write_place<D: Drive>(drives: &mut [D], place: Place, unit: &[u8]) -> boo
         .is_ok()
 }
 
-/// Writes the unit at a place, given in two pieces, the one behind the other; false where its drive is lost.
+/// Writes the unit at a place, given as `front` and, behind it, `rest`; false where its drive is lost. Inlined, so that what
+/// is empty costs nothing.
+#[inline(always)]
 pub fn write_gathered<D: Drive>(drives: &mut [D], place: Place, front: &[u8], rest: &[u8]) -> bool
     requires inside { place.drive < length drives.old }
     requires place { IsPlace D.units drives.old place }

@@ -56,8 +56,8 @@ pub trait Drive {
         ensures stays { lost self.old ≡ true → lost self.new ≡ true }
         ensures count { failures self.new ≡ failures self.old + loss (lost self.old) (lost self.new) };
 
-    /// Writes the unit at an address, given in two pieces, the one behind the other; else as `write_unit` does, and by one
-    /// call as well.
+    /// Writes the unit at an address, given as `front` and, behind it, `rest`, which are together as long as a unit; either
+    /// may be empty. Else as `write_unit` does, and by one call as well.
     fn write_gathered(&mut self, at: u32, front: &[u8], rest: &[u8]) -> Result<(), DriveLost>
         requires at { at < length (units self.old) }
         requires size { IsSized (length front.now + length rest.now) (units self.old) }

@@ -162,6 +162,7 @@ impl Drive for MemDrive {
         self.write_gathered(at, unit, &[])
     }
 
+    // Inlined, as what it calls is.
     #[inline(always)]
     fn write_gathered(&mut self, at: u32, front: &[u8], rest: &[u8]) -> Result<(), DriveLost>
         requires at { at < length self.old.units }

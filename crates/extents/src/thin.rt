@@ -73,7 +73,7 @@ impl ThinUnits {
         }
     }
 
-    /// Writes a unit, given in two pieces, the one behind the other.
+    /// Writes a unit, given as `front` and, behind it, `rest`. Inlined, so that a whole unit's write has no second copy.
     #[inline(always)]
     pub fn write(&mut self, at: u32, front: &[u8], rest: &[u8])
         requires at { at < length self.old }

@@ -130,12 +130,12 @@ pub fn scan_groups<U: Units>(
     ensures fits { U.fits units.new }
     ensures leaves { U.leaves units.old units.new }
 {
-    let shape = units.groups().shape();
+    let blocks = units.groups().shape().blocks;
     let found = match note_groups(alloc, units, first, end) {
         Ok(found) => found,
         Err(fault) => return Err(fault),
     };
-    match found.twice(alloc, shape.blocks) {
+    match found.twice(alloc, blocks) {
         Some((block, one, other)) => Err(ScanFault::Twice(block, one, other)),
         None => match found.newest.to_map(alloc) {
             Ok(map) => Ok(map),

@@ -7,7 +7,7 @@ ghost use Rattle.extents.specs.declared.shape.TheConstants.{HEADER_BYTES};
 ghost use Rattle.extent_groups.specs.Cells.{cells, front, front_units};
 ghost use Rattle.extent_groups.specs.Units.{Pair, unit_at};
 ghost use Rattle.extent_groups.specs.Calls.{AreSized, HaveFronts, IsPlace, if_ok, NoPlace, SameBut, KeepsDrives};
-ghost use Rattle.extent_groups.specs.Stores.{unit_bytes, unit_of, header_of, AreSound, IsSlotOf, AreDrives, KeepsUnits, Wrote, NamesGone, IsOwn, IsOwnOf, LeavesSites, HasMemberOn};
+ghost use Rattle.extent_groups.specs.Stores.{unit_bytes, unit_of, header_of, AreSound, IsSlotOf, AreDrives, KeepsUnits, Wrote, NamesGone, IsOwn, IsOwnOf, AreCopies, LeavesSites, HasMemberOn};
 
 use extent_groups::{GroupTable, Place, StoreRefusal, read_front};
 use extents::Drive;
@@ -37,6 +37,7 @@ fn read_fronts<D: Drive>(
 }
 
 /// Reads the first bytes of the first copy that is there, as many as the buffer has; false where both are lost.
+#[inline(always)]
 fn read_pair<D: Drive>(drives: &mut [D], first: Place, second: Place, front: &mut [u8]) -> bool
     requires first { IsPlace D.units drives.old first }
     requires second { IsPlace D.units drives.old second }
@@ -51,7 +52,8 @@ fn read_pair<D: Drive>(drives: &mut [D], first: Place, second: Place, front: &mu
     read_front(drives, second, front)
 }
 
-/// Writes both copies of a unit that is given in two pieces, each where its drive is there; false where both are lost.
+/// Writes both copies of a unit, given as `front` and, behind it, `rest`, each where its drive is there; false where both
+/// are lost.
 #[inline(always)]
 fn write_pair<D: Drive>(
     drives: &mut [D],
@@ -67,6 +69,7 @@ fn write_pair<D: Drive>(
     ensures unit { unit_at (length front.now + length rest.now) (cells D.units D.lost drives.new) (Pair first second) ≡ if_ok result (front.now ++ rest.now) }
     ensures leaves { LeavesSites (length front.now + length rest.now) (cells D.units D.lost drives.old) (cells D.units D.lost drives.new) (Pair first second) }
     ensures touched { KeepsDrives D.units D.lost D.failures (IsOwn (Pair first second)) drives.old drives.new }
+    ensures copies { AreCopies (IsOwn (Pair first second)) (cells D.units D.lost drives.new) (front.now ++ rest.now) }
 {
     let one = extent_groups::write_gathered(drives, first, front, rest);
     let two = extent_groups::write_gathered(drives, second, front, rest);
@@ -136,13 +139,14 @@ pub fn write<D: Drive>(
     ensures ok { OnOk result (unit_of groups.now (cells D.units D.lost drives.new) slot ≡ Some unit.now) }
     ensures gone { IfErr result (NamesGone groups.now (cells D.units D.lost drives.new) slot) }
     ensures wrote { Wrote groups.now (cells D.units D.lost drives.old) (cells D.units D.lost drives.new) slot unit.now }
+    ensures copies { AreCopies (IsOwnOf groups.now slot) (cells D.units D.lost drives.new) unit.now }
     ensures touched { KeepsDrives D.units D.lost D.failures (IsOwnOf groups.now slot) drives.old drives.new }
     ensures drives { AreDrives D.units groups.now drives.new }
 {
     write_gathered(groups, drives, slot, unit, &[])
 }
 
-/// Writes the unit of a slot, given in two pieces, the one behind the other; else as `write` does.
+/// Writes the unit of a slot, given as `front` and, behind it, `rest`, from where they lie; else as `write` does.
 #[inline(always)]
 pub fn write_gathered<D: Drive>(
     groups: &GroupTable,
@@ -153,10 +157,11 @@ pub fn write_gathered<D: Drive>(
 ) -> Result<(), StoreRefusal>
     requires slot { IsSlotOf Mirrored groups.now slot }
     requires drives { AreDrives D.units groups.now drives.old }
-    requires unit { length front.now + length rest.now ≡ unit_bytes groups.now }
+    requires pieces { length front.now + length rest.now ≡ unit_bytes groups.now }
     ensures ok { OnOk result (unit_of groups.now (cells D.units D.lost drives.new) slot ≡ Some (front.now ++ rest.now)) }
     ensures gone { IfErr result (NamesGone groups.now (cells D.units D.lost drives.new) slot) }
     ensures wrote { Wrote groups.now (cells D.units D.lost drives.old) (cells D.units D.lost drives.new) slot (front.now ++ rest.now) }
+    ensures copies { AreCopies (IsOwnOf groups.now slot) (cells D.units D.lost drives.new) (front.now ++ rest.now) }
     ensures touched { KeepsDrives D.units D.lost D.failures (IsOwnOf groups.now slot) drives.old drives.new }
     ensures drives { AreDrives D.units groups.now drives.new }
 {

@@ -7,7 +7,8 @@ use std::alloc::Global;
 use std::process::Abort;
 
 /// Slots 0 to 5 are mirrored, slots 128 to 135 have parity. Block 5 stands at slot 4 with nines, blocks 3 and 7 at slots
-/// 130 and 134 with eights, which slot 1 holds without a record, as slot 131 does sixes. Slots 2 and 133 hold bytes that begin with no header.
+/// 130 and 134 with eights, which slot 1 holds without a record. Slot 131 holds sixes without one. Slots 2 and 133 hold
+/// bytes that begin with no header.
 fn filled(rt: &impl Abort, alloc: Global) -> Rig {
     let mut rig = Rig::grouped(rt, alloc);
     assert!(rt; rig.put(rt, 4, 9) == Ok(()));

@@ -1,6 +1,6 @@
 use Rattle.std.proofs.Common.{inl, inr, rules}
 use Rattle.extent_groups.proofs.DriveCalls.{keeps_sizes, keeps_trans, keeps_more, cells_sized}
-use Rattle.extent_groups.proofs.SlotWrites.{pair_leaves}
+use Rattle.extent_groups.proofs.SlotWrites.{pair_leaves, pair_copies}
 use Rattle.mirrored_store.proofs.write_pair.Goals as goal
 
 pub write_gathered-two-requires-clause-size : goal.write_gathered-two-requires-clause-size
@@ -27,3 +27,9 @@ returns-then-one-clause-unit g c = search rules
 
 pub returns-else-one-clause-unit : goal.returns-else-one-clause-unit
 returns-else-one-clause-unit g c = search rules
+
+pub returns-then-one-clause-copies : goal.returns-then-one-clause-copies
+returns-then-one-clause-copies g c = pair_copies _ _ _ _ _ _ _ _ c.requires.apart c.write_gathered-one.ensures.written c.write_gathered-two.ensures.written
+
+pub returns-else-one-clause-copies : goal.returns-else-one-clause-copies
+returns-else-one-clause-copies g c = pair_copies _ _ _ _ _ _ _ _ c.requires.apart c.write_gathered-one.ensures.written c.write_gathered-two.ensures.written

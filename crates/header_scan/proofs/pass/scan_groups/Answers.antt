@@ -18,13 +18,13 @@ returns-in-Ok-to_map-clause-map g c = λ sound.
     scanned_as _ (key_in c.in-Ok.found.newest) (at c.in-Ok-to_map.map) c.in-Ok-to_map.ensures
     (scanned (g.U.Units.groups c.args.units.now) (g.U.Units.cells c.args.units.now) (g.U.Units.cells c.note_groups.new.units) (128 * c.args.first) (128 * c.args.end) (key_in c.in-Ok.found.newest) (at c.in-Ok.found.twins)
     (omega (arith, end)) under
-    (no_twins (g.U.Units.groups c.args.units.now) (g.U.Units.cells c.args.units.now) (g.U.Units.cells c.note_groups.new.units) (128 * c.args.first) (128 * c.args.end) c.shape-shape.result.blocks
-    (key_in c.in-Ok.found.newest) (at c.in-Ok.found.twins) under (same_blocks c.shape-shape.result.blocks c.groups.result.now (g.U.Units.groups c.args.units.now) c.shape-shape.ensures.of_blocks c.groups.ensures) c.in-None.ensures))
+    (no_twins (g.U.Units.groups c.args.units.now) (g.U.Units.cells c.args.units.now) (g.U.Units.cells c.note_groups.new.units) (128 * c.args.first) (128 * c.args.end) c.shape-blocks.result.blocks
+    (key_in c.in-Ok.found.newest) (at c.in-Ok.found.twins) under (same_blocks c.shape-blocks.result.blocks c.groups.result.now (g.U.Units.groups c.args.units.now) c.shape-blocks.ensures.of_blocks c.groups.ensures) c.in-None.ensures))
 
 pub returns-in-Ok-to_map-clause-once : goal.returns-in-Ok-to_map-clause-once
 returns-in-Ok-to_map-clause-once g c = λ sound b p q is.
     let under = c.in-Ok.ensures.ok sound in
-    no_twins (g.U.Units.groups c.args.units.now) (g.U.Units.cells c.args.units.now) (g.U.Units.cells c.note_groups.new.units) (128 * c.args.first) (128 * c.args.end) c.shape-shape.result.blocks
-    (key_in c.in-Ok.found.newest) (at c.in-Ok.found.twins) under (same_blocks c.shape-shape.result.blocks c.groups.result.now (g.U.Units.groups c.args.units.now) c.shape-shape.ensures.of_blocks c.groups.ensures) c.in-None.ensures b
+    no_twins (g.U.Units.groups c.args.units.now) (g.U.Units.cells c.args.units.now) (g.U.Units.cells c.note_groups.new.units) (128 * c.args.first) (128 * c.args.end) c.shape-blocks.result.blocks
+    (key_in c.in-Ok.found.newest) (at c.in-Ok.found.twins) under (same_blocks c.shape-blocks.result.blocks c.groups.result.now (g.U.Units.groups c.args.units.now) c.shape-blocks.ensures.of_blocks c.groups.ensures) c.in-None.ensures b
     (noted_twice (g.U.Units.groups c.args.units.now) (g.U.Units.cells c.args.units.now) (g.U.Units.cells c.note_groups.new.units) (128 * c.args.first) (128 * c.args.end) b p q
     (key_in c.in-Ok.found.newest) (at c.in-Ok.found.twins) under is).0
