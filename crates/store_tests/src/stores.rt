@@ -261,6 +261,20 @@ fn a_write_in_a_sound_group_reaches_two_drives_alone(rt: HostRuntime) -> Result<
 }
 
 #[test]
+fn a_mirrored_write_is_one_call_of_each_of_its_two_drives(rt: HostRuntime) -> Result<(), Fail> {
+    let mut rig = Rig::new(&rt, rt.alloc(), Class::Mirrored, 3, 1)?;
+    // Both slots lie on drives 0 and 1. The first is written whole, the second in two pieces.
+    rig.fuse(&rt, 0, 3);
+    rig.fuse(&rt, 1, 3);
+    rig.fuse(&rt, 2, 1);
+    assert!(rt; rig.write_all(&rt, 0, 7).is_ok());
+    assert!(rt; rig.write_all(&rt, 1, 7).is_ok());
+    let (_groups, drives) = rig.open();
+    assert!(rt; drives.iter().all(|drive| !drive.is_lost()));
+    Ok(())
+}
+
+#[test]
 fn the_parity_is_read_or_had_from_the_others(rt: HostRuntime) -> Result<(), Fail> {
     let mut rig = Rig::new(&rt, rt.alloc(), Class::Parity, 3, 2)?;
     assert!(rt; rig.write_all(&rt, 128, 0x5a).is_ok());
