@@ -1,4 +1,3 @@
 pub mod Kept
 pub mod Takes
-pub mod Settling
 pub mod Planned

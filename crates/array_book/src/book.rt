@@ -9,10 +9,10 @@ ghost use Rattle.slot_words.specs.Steps.{given_half as right_given, kept_half as
 
 use crate::claim::{Claim, Sizes};
 use crate::kept::{Kept, is_mirrored};
-use crate::settling::Ended;
 use extents::Drive;
 use map_words::MapWords;
 use migrator::{LogEnd, MarkedAges, mirror_slots};
+use settling::Ended;
 use slot_words::SlotWords;
 use std::alloc::{AllocError, Global};
 use std::sync::Mutex;

@@ -1,4 +1,4 @@
-// Why a worker's call did nothing, and why a Book isn't settled.
+// Why a worker's call did nothing.
 ghost use Rattle.std.specs.Prelude.{◌≡◌, ◌≢◌};
 ghost use Rattle.flat_machine.specs.declared.refusal.Refusal.TheVariants as refusal;
 ghost use Rattle.array_book.specs.declared.fault.WorkFault.TheVariants.{Core};
@@ -25,14 +25,4 @@ impl WorkFault {
             other => WorkFault::Core(other),
         }
     }
-}
-
-/// Why a Book isn't settled.
-#[derive(Clone, Copy, Debug, PartialEq, Eq)]
-pub enum SettleFault {
-    /// The lowest block of which the workers' map isn't the array's.
-    Differs(u32),
-    Memory,
-    /// The Takers of a controller that came have this share, and not the whole.
-    NotWhole(u32),
 }

@@ -18,11 +18,11 @@ use crate::kept::{
     Kept, appended_in, commit_fresh_in, commit_in, copy_in, discard_in, fill_in, read_in,
 };
 use crate::plan::{Plan, plan_in, slot_after};
-use crate::settling::Ended;
 use extents::Drive;
 use flat_machine::Refusal;
 use map_join::Record;
 use map_words::Taker;
+use settling::Ended;
 use slot_words::{Pass, SlotWords};
 use std::alloc::Global;
 use std::sync::{Mutex, Wait};

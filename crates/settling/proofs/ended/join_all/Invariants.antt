@@ -1,6 +1,6 @@
 use Rattle.std.proofs.Common.{◌≡◌, ◌+◌, ◌++◌, map}
-use Rattle.array_book.specs.Settling.{taken_by, shares_of}
-use Rattle.array_book.proofs.settling.join_all.Given as goal
+use Rattle.settling.specs.Settling.{taken_by, shares_of}
+use Rattle.settling.proofs.ended.join_all.Given as goal
 
 -- what is joined and what is left to join are all that was taken, and all shares
 abbrev pub invariant-loop-other : goal.invariant-loop-other

@@ -5,9 +5,9 @@ use Rattle.map_join.specs.Maps.{IsMapOf, IsSame, IsLowestDifference, join}
 use Rattle.map_join.proofs.Joins.{together}
 use Rattle.map_words.specs.TakeRule.{whole}
 use Rattle.flat_machine.proofs.Newest.{same_map}
-use Rattle.array_book.specs.declared.fault.SettleFault.{SettleFault}
-use Rattle.array_book.specs.declared.fault.SettleFault.TheVariants.{Differs, Memory, NotWhole}
-use Rattle.array_book.specs.Settling.{IsUnsettled, IsDiffering}
+use Rattle.settling.specs.declared.fault.SettleFault.{SettleFault}
+use Rattle.settling.specs.declared.fault.SettleFault.TheVariants.{Differs, Memory, NotWhole}
+use Rattle.settling.specs.Settling.{IsUnsettled, IsDiffering}
 
 -- where the join is the array's map, that is the map of all that was taken
 pub settled_ok : (r : Result (Unit {0}) SettleFault) (even odd : ℕ) (xs ys : List Record) (M N K : ℕ → ℕ) → OnOk r (IsSame (join M N) K) → IsMapOf xs M → IsMapOf ys N

@@ -4,8 +4,8 @@ use Rattle.map_join.specs.declared.records.Record.{Record}
 use Rattle.map_join.specs.Maps.{IsMapOf, IsLowestDifference}
 use Rattle.map_words.specs.declared.view.View.{View}
 use Rattle.map_words.specs.TakeRule.{whole}
-use Rattle.array_book.specs.declared.fault.SettleFault.{SettleFault}
-use Rattle.array_book.specs.declared.fault.SettleFault.TheVariants.{Differs, Memory, NotWhole}
+use Rattle.settling.specs.declared.fault.SettleFault.{SettleFault}
+use Rattle.settling.specs.declared.fault.SettleFault.TheVariants.{Differs, Memory, NotWhole}
 
 -- the records of these views, one view after the other
 abbrev pub taken_by : List View → List Record

@@ -1,8 +1,8 @@
 use Rattle.std.proofs.Common.{rules}
 use Rattle.map_join.specs.Maps.{at}
 use Rattle.array_model.specs.Views.{key_at}
-use Rattle.array_book.proofs.Settles.{settled_ok, settled_err}
-use Rattle.array_book.proofs.settling.close_and_compare.Goals as goal
+use Rattle.settling.proofs.Settles.{settled_ok, settled_err}
+use Rattle.settling.proofs.closing.close_and_compare.Goals as goal
 
 pub returns-in-Ok-Ok-clause-ok : goal.returns-in-Ok-Ok-clause-ok
 returns-in-Ok-Ok-clause-ok g c =

@@ -1,0 +1,80 @@
+// What is left of a Book when its workers have ended.
+ghost use Rattle.std.specs.Prelude.{◌≡◌, ◌++◌, map, IfOk, IfErr, MatchResult};
+ghost use Rattle.array_model.specs.Represents.{ShowsArray};
+ghost use Rattle.array_model.specs.Views.{key_at};
+ghost use Rattle.flat_machine.specs.Flat.{Flat};
+ghost use Rattle.map_join.specs.Maps.{IsMapOf};
+ghost use Rattle.map_words.specs.TakeRule.{whole};
+ghost use Rattle.settling.specs.Settling.{taken_by, shares_of, IsUnsettled};
+
+use crate::book::Book;
+use crate::claim::{Claim, Sizes};
+use crate::kept::Kept;
+use extents::Drive;
+use settling::{Ended, SettleFault, close_and_compare, join_all, parted};
+use slot_words::{Pass, SlotWords};
+use std::alloc::Global;
+use step_core::Array;
+
+/// What is left of a Book: a new one can be made round the array with these words, and claims can be released by the Pass. There
+/// is none where no worker's came.
+pub struct Settled<D: Drive, N: slot_words::Naming> {
+    pub array: Array<D, Claim<N>>,
+    pub words: SlotWords<N>,
+    pub pass: Option<Pass<N>>,
+}
+
+/// Ends a Book: joins what its workers had, closes both maps of words, and tests whether what was taken, and nothing else, has
+/// made the array's map. The maps end with it, and all else comes back whatever is answered.
+pub fn settle<D: Drive, N: slot_words::Naming + Sizes, A: map_words::Naming, B: map_words::Naming>(
+    alloc: Global,
+    book: Book<D, N, A, B>,
+    ended: Vec<Ended<N, A, B>>,
+) -> Result<Settled<D, N>, (SettleFault, Settled<D, N>)>
+    ensures ok { IfOk result (λ settled. (shares_of (map (λ e. e.even) ended.items) ≡ whole) × (shares_of (map (λ e. e.odd) ended.items) ≡ whole)
+        × IsMapOf (taken_by (map (λ e. e.even) ended.items) ++ taken_by (map (λ e. e.odd) ended.items)) (key_at settled.array)) }
+    ensures err { IfErr result (λ e. IsUnsettled (shares_of (map (λ e. e.even) ended.items)) (shares_of (map (λ e. e.odd) ended.items))
+        (taken_by (map (λ e. e.even) ended.items) ++ taken_by (map (λ e. e.odd) ended.items)) (key_at e.1.array) e.0) }
+    ensures shows { MatchResult result (λ settled. (F : Flat) × ShowsArray settled.array F) (λ e. (F : Flat) × ShowsArray e.1.array F) }
+{
+    let Book {
+        words,
+        even,
+        odd,
+        kept,
+        mirrors: _,
+        blocks: _,
+        payload: _,
+    } = book;
+    let kept = kept.into_inner();
+    kept.stands();
+    let Kept {
+        array,
+        ages: _,
+        end: _,
+    } = kept;
+    let Some((mut first, rest)) = parted(ended) else {
+        let settled = Settled {
+            array,
+            words,
+            pass: None,
+        };
+        return Err((SettleFault::NotWhole(0), settled));
+    };
+    join_all(&words, &even, &odd, &mut first, rest);
+    let Ended {
+        pass,
+        even: one,
+        odd: other,
+    } = first;
+    let told = close_and_compare(alloc, (even, one), (odd, other), &array);
+    let settled = Settled {
+        array,
+        words,
+        pass: Some(pass),
+    };
+    match told {
+        Ok(()) => Ok(settled),
+        Err(fault) => Err((fault, settled)),
+    }
+}
