@@ -31,7 +31,7 @@ fn needs_sync<T: Sync>(_: &T) {}
 fn split_of<N: Naming, R: Abort>(rt: &R, words: &MapWords<N>, taker: &mut Taker<N>) -> Taker<N> {
     match words.split(taker) {
         Ok(other) => other,
-        Err(refusal) => panic!(rt; "there is a share, but {refusal:?}"),
+        Err(_) => panic!(rt; "there is a share"),
     }
 }
 
@@ -46,8 +46,8 @@ fn not_whole<N: Naming, R: Abort>(
     match words.close(alloc, taker) {
         Ok(_) => panic!(rt; "the share is not the whole"),
         Err((refusal, words, taker)) => {
-            assert_eq!(rt; refusal, CloseRefusal::NotWhole(share));
-            assert_eq!(rt; refusal.number(), 1);
+            assert!(rt; refusal == CloseRefusal::NotWhole(share));
+            assert!(rt; refusal.number() == 1);
             (words, taker)
         }
     }
@@ -61,8 +61,28 @@ fn closed<N: Naming, R: Abort>(
 ) -> BlockMap {
     match words.close(alloc, taker) {
         Ok(map) => map,
-        Err((refusal, _, _)) => panic!(rt; "the share is whole, but {refusal:?}"),
+        Err(_) => panic!(rt; "the share is whole"),
     }
+}
+
+// The key of the block before this record was taken.
+fn key_before<N: Naming>(words: &MapWords<N>, taker: &mut Taker<N>, record: Record) -> u64
+    requires block { «record».block < blocks_of N.table }
+    requires written { 0 < «record».version }
+{
+    words.take(taker, record)
+}
+
+// Whether the words hold this record of the block.
+fn finds<N: Naming>(
+    words: &MapWords<N>,
+    taker: &mut Taker<N>,
+    block: u32,
+    record: Option<Record>,
+) -> bool
+    requires { block < blocks_of N.table }
+{
+    words.find(taker, block) == record
 }
 
 fn splits_sixteen_times<N: Naming, R: Abort>(rt: &R, table: Unnamed, alloc: Global)
@@ -78,7 +98,7 @@ fn splits_sixteen_times<N: Naming, R: Abort>(rt: &R, table: Unnamed, alloc: Glob
     }
     match words.split(&mut taker) {
         Ok(_) => panic!(rt; "the share is 1"),
-        Err(refusal) => assert_eq!(rt; refusal, SplitRefusal::NoShare),
+        Err(refusal) => assert!(rt; refusal == SplitRefusal::NoShare),
     }
 }
 
@@ -95,10 +115,10 @@ fn closes_after_the_join<N: Naming + Send + Sync, R: Abort>(rt: &R, table: Unnam
     let (words, mut taker) = table.named::<N>();
     needs_sync(&words);
     needs_send(&taker);
-    assert_eq!(rt; words.take(&mut taker, OLDER), 0);
+    assert!(rt; key_before(&words, &mut taker, OLDER) == 0);
     let mut other = split_of(rt, &words, &mut taker);
-    assert!(rt; words.find(&mut other, 3) == Some(OLDER));
-    assert!(rt; words.find(&mut other, 4).is_none());
+    assert!(rt; finds(&words, &mut other, 3, Some(OLDER)));
+    assert!(rt; finds(&words, &mut other, 4, None));
     let (words, mut taker) = not_whole(rt, words, alloc, taker, 32768);
     words.join(&mut taker, other);
     let map = closed(rt, words, alloc, taker);
@@ -127,15 +147,15 @@ fn takes_two<N: Naming, R: Abort>(
 {
     let (words, mut one) = table.named::<N>();
     let mut other = split_of(rt, &words, &mut one);
-    assert!(rt; words.find(&mut other, 3).is_none());
-    assert_eq!(rt; words.take(&mut one, first), 0);
-    assert_eq!(rt; words.take(&mut other, second), first_key);
-    assert!(rt; words.find(&mut one, 3) == Some(NEWER));
-    assert!(rt; words.find(&mut other, 3) == Some(NEWER));
+    assert!(rt; finds(&words, &mut other, 3, None));
+    assert!(rt; key_before(&words, &mut one, first) == 0);
+    assert!(rt; key_before(&words, &mut other, second) == first_key);
+    assert!(rt; finds(&words, &mut one, 3, Some(NEWER)));
+    assert!(rt; finds(&words, &mut other, 3, Some(NEWER)));
     words.join(&mut one, other);
     let map = closed(rt, words, alloc, one);
     assert!(rt; map.get(3) == Some(NEWER));
-    assert_eq!(rt; map.to_list(alloc)?.len(), 1);
+    assert!(rt; map.to_list(alloc)?.len() == 1);
     Ok(())
 }
 
@@ -183,10 +203,10 @@ fn take_all_in_two<N: Naming + Send + Sync, R: Threads + Sync>(
     one: &mut Taker<N>,
     other: &mut Taker<N>,
     steps: (u8, u8),
-) -> (bool, bool)
+) -> bool
     requires { blocks_of N.table ≡ 16 }
 {
-    thread::join(
+    let (first, second) = thread::join(
         rt,
         ||
             requires { blocks_of N.table ≡ 16 }
@@ -194,7 +214,8 @@ fn take_all_in_two<N: Naming + Send + Sync, R: Threads + Sync>(
         ||
             requires { blocks_of N.table ≡ 16 }
         { take_all(words, other, steps.1) },
-    )
+    );
+    first & second
 }
 
 fn takes_in_four_threads<N: Naming + Send + Sync, R: Abort + Threads + Sync>(
@@ -209,7 +230,7 @@ fn takes_in_four_threads<N: Naming + Send + Sync, R: Abort + Threads + Sync>(
     let mut b = split_of(rt, &words, &mut a);
     let mut c = split_of(rt, &words, &mut a);
     let mut d = split_of(rt, &words, &mut b);
-    let found = thread::join(
+    let (first, second) = thread::join(
         rt,
         ||
             requires { blocks_of N.table ≡ 16 }
@@ -218,7 +239,7 @@ fn takes_in_four_threads<N: Naming + Send + Sync, R: Abort + Threads + Sync>(
             requires { blocks_of N.table ≡ 16 }
         { take_all_in_two(rt, &words, &mut c, &mut d, (5, 37)) },
     );
-    assert_eq!(rt; found, ((true, true), (true, true)));
+    assert!(rt; first & second);
     words.join(&mut a, b);
     words.join(&mut a, c);
     words.join(&mut a, d);

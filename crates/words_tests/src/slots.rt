@@ -27,7 +27,7 @@ fn claimed<N: Naming, R: Abort>(
 {
     match words.claim(pass, slot) {
         Ok(claim) => claim,
-        Err(refusal) => panic!(rt; "slot {slot} is free, but {refusal:?}"),
+        Err(_) => panic!(rt; "the slot is free"),
     }
 }
 
@@ -43,7 +43,7 @@ fn refused<N: Naming, R: Abort>(
     match words.claim(pass, slot) {
         Ok(claim) => {
             words.release(pass, claim);
-            panic!(rt; "slot {slot} is held")
+            panic!(rt; "the slot is held")
         }
         Err(refusal) => refusal,
     }
@@ -58,42 +58,21 @@ fn claims_one_slot_twice<N: Naming + Send + Sync, R: Abort>(rt: &R, table: Unnam
     needs_send(&pass);
     let first = claimed(rt, &words, &mut pass, 0);
     needs_send(&first);
-    assert_eq!(rt; first.slot(), 0);
-    assert_eq!(rt; first.generation(), 1);
+    assert!(rt; first.slot() == 0);
+    assert!(rt; first.generation() == 1);
     let taken = refused(rt, &words, &mut pass, 0);
-    assert_eq!(rt; taken, ClaimRefusal::Taken(3));
-    assert_eq!(rt; taken.number(), 1);
+    assert!(rt; taken == ClaimRefusal::Taken(3));
+    assert!(rt; taken.number() == 1);
     words.release(&mut pass, first);
     let second = claimed(rt, &words, &mut pass, 0);
-    assert_eq!(rt; second.generation(), 2);
-    assert_eq!(rt; refused(rt, &words, &mut pass, 0), ClaimRefusal::Taken(5));
+    assert!(rt; second.generation() == 2);
+    assert!(rt; refused(rt, &words, &mut pass, 0) == ClaimRefusal::Taken(5));
     words.release(&mut pass, second);
 }
 
 #[test]
 fn a_slot_gains_a_generation_with_each_claim(rt: HostRuntime) -> Result<(), Fail> {
     claims_one_slot_twice::<Brand, HostRuntime>(&rt, SlotWords::new(rt.alloc(), 8)?);
-    Ok(())
-}
-
-fn claims_what_another_released<N: Naming, R: Abort>(rt: &R, table: Unnamed)
-    requires name { table ≡ N.table }
-    requires slots { slots_of table ≡ 8 }
-{
-    let (words, mut pass) = table.named::<N>();
-    let mut second = words.split(&mut pass);
-    let claim = claimed(rt, &words, &mut pass, 5);
-    assert_eq!(rt; refused(rt, &words, &mut second, 5), ClaimRefusal::Taken(3));
-    words.release(&mut pass, claim);
-    let next = claimed(rt, &words, &mut second, 5);
-    assert_eq!(rt; next.generation(), 2);
-    assert_eq!(rt; refused(rt, &words, &mut pass, 5), ClaimRefusal::Taken(5));
-    words.release(&mut second, next);
-}
-
-#[test]
-fn a_refused_slot_is_claimed_once_it_is_released(rt: HostRuntime) -> Result<(), Fail> {
-    claims_what_another_released::<Brand, HostRuntime>(&rt, SlotWords::new(rt.alloc(), 8)?);
     Ok(())
 }
 
@@ -110,29 +89,46 @@ fn claims_at<N: Naming, R: Abort>(
 {
     let (pass, other) = passes;
     let claim = claimed(rt, words, pass, slot);
-    assert_eq!(rt; claim.generation(), generation);
+    assert!(rt; claim.generation() == generation);
     let held = ClaimRefusal::Taken(2 * generation + 1);
-    assert_eq!(rt; refused(rt, words, other, slot), held);
+    assert!(rt; refused(rt, words, other, slot) == held);
     words.release(pass, claim);
 }
 
-// Claims the first of the two slots by their list, at this generation, and releases it.
+fn claims_what_another_released<N: Naming, R: Abort>(rt: &R, table: Unnamed)
+    requires name { table ≡ N.table }
+    requires slots { slots_of table ≡ 8 }
+{
+    let (words, mut pass) = table.named::<N>();
+    let mut second = words.split(&mut pass);
+    claims_at(rt, &words, (&mut pass, &mut second), 5, 1);
+    claims_at(rt, &words, (&mut second, &mut pass), 5, 2);
+}
+
+#[test]
+fn a_refused_slot_is_claimed_once_it_is_released(rt: HostRuntime) -> Result<(), Fail> {
+    claims_what_another_released::<Brand, HostRuntime>(&rt, SlotWords::new(rt.alloc(), 8)?);
+    Ok(())
+}
+
+// Claims the first free slot of the list, which is this one, at this generation, and releases it.
 fn claims_first_at<N: Naming, R: Abort>(
     rt: &R,
     words: &SlotWords<N>,
     pass: &mut Pass<N>,
-    list: &[u16; 2],
+    list: &[u16],
+    slot: u16,
     generation: u64,
 )
     requires { All (λ s. s < slots_of N.table) list.now }
 {
     match words.claim_first(pass, list) {
         Ok(claim) => {
-            assert_eq!(rt; claim.slot(), list[0]);
-            assert_eq!(rt; claim.generation(), generation);
+            assert!(rt; claim.slot() == slot);
+            assert!(rt; claim.generation() == generation);
             words.release(pass, claim);
         }
-        Err(_) => panic!(rt; "slot {} is free", list[0]),
+        Err(_) => panic!(rt; "the slot is free"),
     }
 }
 
@@ -148,7 +144,7 @@ fn counts_each_claim<N: Naming, R: Abort>(rt: &R, table: Unnamed)
         }
     }
     for slot in 0..99u16 {
-        claims_first_at(rt, &words, &mut pass, &[slot, slot + 1], 4);
+        claims_first_at(rt, &words, &mut pass, &[slot, slot + 1], slot, 4);
     }
     for slot in 0..99u16 {
         claims_at(rt, &words, (&mut pass, &mut other), slot, 5);
@@ -175,17 +171,17 @@ fn hands_a_claim_over<N: Naming + Send + Sync, R: Abort + Threads>(rt: &R, table
     let (words, mut pass) = table.named::<N>();
     let mut second = words.split(&mut pass);
     let claim = claimed(rt, &words, &mut pass, 2);
-    assert_eq!(rt; refused(rt, &words, &mut second, 2), ClaimRefusal::Taken(3));
+    assert!(rt; refused(rt, &words, &mut second, 2) == ClaimRefusal::Taken(3));
     let mut given = Some(claim);
     thread::join(rt, || let_go(&words, &mut second, &mut given), || ());
     if let Some(kept) = given {
         words.release(&mut pass, kept);
     }
     let mut two = claimed(rt, &words, &mut pass, 2);
-    assert_eq!(rt; two.generation(), 2);
+    assert!(rt; two.generation() == 2);
     let mut three = claimed(rt, &words, &mut pass, 3);
     words.apart(&mut two, &mut three);
-    assert_eq!(rt; (two.slot(), three.slot()), (2, 3));
+    assert!(rt; (two.slot(), three.slot()) == (2, 3));
     words.release(&mut pass, two);
     words.release(&mut pass, three);
 }
@@ -204,20 +200,14 @@ fn finds_a_free_slot_in_a_list<N: Naming, R: Abort>(rt: &R, table: Unnamed, allo
     let all: [u16; 8] = [0, 1, 2, 3, 4, 5, 6, 7];
     let second = words.split(&mut pass);
     let claims = claim_all(&words, second, &all, alloc);
-    assert_eq!(rt; claims.len(), 8);
+    assert!(rt; claims.len() == 8);
     let last_refusal = NoneFree(Some(ClaimRefusal::Taken(3)));
     assert!(rt; first_refusal(&words, &mut pass, &all) == Some(last_refusal));
     assert!(rt; first_refusal(&words, &mut pass, &[]) == Some(NoneFree(None)));
     release_all(&words, &mut pass, claims, &mut [0; 64]);
     let zero = claimed(rt, &words, &mut pass, 0);
     let one = claimed(rt, &words, &mut pass, 1);
-    match words.claim_first(&mut pass, &all) {
-        Ok(claim) => {
-            assert_eq!(rt; (claim.slot(), claim.generation()), (2, 2));
-            words.release(&mut pass, claim);
-        }
-        Err(_) => panic!(rt; "slot 2 is free"),
-    }
+    claims_first_at(rt, &words, &mut pass, &all, 2, 2);
     words.release(&mut pass, zero);
     words.release(&mut pass, one);
 }
@@ -331,7 +321,7 @@ fn shares_a_list_among_four<N: Naming + Send + Sync, R: Abort + Threads + Sync>(
     release_all(&words, &mut pass, second, &mut counts);
     release_all(&words, &mut pass, third, &mut counts);
     release_all(&words, &mut pass, fourth, &mut counts);
-    assert_eq!(rt; counts, [1u8; 64]);
+    assert!(rt; counts == [1u8; 64]);
 }
 
 #[test]
@@ -366,17 +356,17 @@ fn churn<N: Naming>(words: &SlotWords<N>, pass: &mut Pass<N>, holders: &[AtomicU
     alone
 }
 
-// Two threads churn.
+// Two threads churn, and say whether each claim's holder was alone.
 fn churn_in_two<N: Naming + Send + Sync, R: Threads + Sync>(
     rt: &R,
     words: &SlotWords<N>,
     one: &mut Pass<N>,
     other: &mut Pass<N>,
     holders: &[AtomicU64; 4],
-) -> (bool, bool)
+) -> bool
     requires { slots_of N.table ≡ 4 }
 {
-    thread::join(
+    let (first, second) = thread::join(
         rt,
         ||
             requires { slots_of N.table ≡ 4 }
@@ -384,7 +374,8 @@ fn churn_in_two<N: Naming + Send + Sync, R: Threads + Sync>(
         ||
             requires { slots_of N.table ≡ 4 }
         { churn(words, other, holders) },
-    )
+    );
+    first & second
 }
 
 fn churns_in_four_threads<N: Naming + Send + Sync, R: Abort + Threads + Sync>(
@@ -403,7 +394,7 @@ fn churns_in_four_threads<N: Naming + Send + Sync, R: Abort + Threads + Sync>(
         AtomicU64::new(0),
         AtomicU64::new(0),
     ];
-    let alone = thread::join(
+    let (first, second) = thread::join(
         rt,
         ||
             requires { slots_of N.table ≡ 4 }
@@ -412,7 +403,7 @@ fn churns_in_four_threads<N: Naming + Send + Sync, R: Abort + Threads + Sync>(
             requires { slots_of N.table ≡ 4 }
         { churn_in_two(rt, &words, &mut c, &mut d, &holders) },
     );
-    assert_eq!(rt; alone, ((true, true), (true, true)));
+    assert!(rt; first & second);
     words.join(&mut a, b);
     for slot in 0..4u16 {
         let claim = claimed(rt, &words, &mut a, slot);
