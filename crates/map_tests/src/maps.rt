@@ -1,14 +1,41 @@
 // Records and maps against values from outside.
 use map_join::{BlockMap, Live, MapRefusal, Newest, Record, RecordFault};
 use std::alloc::Global;
-use std::test::Fail;
+use std::process::Abort;
 
-fn record(version: u32, hop: u16, place: u16) -> Record {
+fn record_of(block: u32, version: u32, hop: u16, place: u16) -> Record {
     Record {
-        block: 3,
+        block,
         version,
         hop,
         place,
+    }
+}
+
+fn record(version: u32, hop: u16, place: u16) -> Record {
+    record_of(3, version, hop, place)
+}
+
+// The first write of a block, into the slot before the block's number.
+fn first_of(block: u16) -> Record {
+    record_of(u32::from(block), 1, 0, block.saturating_sub(1))
+}
+
+// The map that took these records in their order.
+fn map_of(rt: &impl Abort, alloc: Global, records: &[Record]) -> BlockMap {
+    let mut map = BlockMap::new(alloc);
+    for record in records {
+        assert!(rt; record.version > 0);
+        assert!(rt; map.take(alloc, *record).is_ok());
+    }
+    map
+}
+
+// Whether the map lists exactly these records.
+fn lists(alloc: Global, map: &BlockMap, wanted: &[Record]) -> bool {
+    match map.to_list(alloc) {
+        Ok(list) => list.as_slice() == wanted,
+        Err(_) => false,
     }
 }
 
@@ -36,172 +63,132 @@ fn twelve_bytes_spell_a_record_and_no_others_do(rt: HostRuntime) {
 }
 
 #[test]
-fn three_records_in_any_order_and_twice_leave_the_newest(rt: HostRuntime) -> Result<(), Fail> {
-    let records = [record(1, 0, 0), record(1, 1, 128), record(2, 0, 5)];
+fn three_records_in_any_order_and_twice_leave_the_newest(rt: HostRuntime) {
+    let (one, two, three) = (record(1, 0, 0), record(1, 1, 128), record(2, 0, 5));
     let orders = [
-        [0usize, 1, 2],
-        [0, 2, 1],
-        [1, 0, 2],
-        [1, 2, 0],
-        [2, 0, 1],
-        [2, 1, 0],
+        [one, two, three],
+        [one, three, two],
+        [two, one, three],
+        [two, three, one],
+        [three, one, two],
+        [three, two, one],
     ];
-    for order in orders {
-        let mut map = BlockMap::new(rt.alloc());
-        for at in order {
-            assert!(rt; at < 3);
-            let taken = records[at];
-            assert!(rt; taken.version > 0);
-            map.take(rt.alloc(), taken)?;
-            map.take(rt.alloc(), taken)?;
-        }
-        assert!(rt; map.get(3) == Some(record(2, 0, 5)));
+    for [a, b, c] in &orders {
+        let map = map_of(&rt, rt.alloc(), &[*a, *a, *b, *b, *c, *c]);
+        assert!(rt; map.get(3) == Some(three));
         assert!(rt; map.get(4) == None);
     }
-    Ok(())
 }
 
 #[test]
-fn a_write_is_newer_than_the_last_move_before_it(rt: HostRuntime) -> Result<(), Fail> {
+fn a_write_is_newer_than_the_last_move_before_it(rt: HostRuntime) {
     let moved = record(1, 65_535, 65_535);
     let written = record(2, 0, 0);
     assert!(rt; written.key() == 8_589_934_592);
     for (first, second) in [(moved, written), (written, moved)] {
-        let map = map_of(rt.alloc(), &[first, second])?;
+        let map = map_of(&rt, rt.alloc(), &[first, second]);
         assert!(rt; map.get(3) == Some(written));
     }
-    Ok(())
 }
 
 #[test]
-fn the_older_of_two_maps_differs_and_is_covered(rt: HostRuntime) -> Result<(), Fail> {
-    let newer = map_of(rt.alloc(), &[record(2, 0, 5), record(1, 0, 0)])?;
-    let older = map_of(rt.alloc(), &[record(1, 0, 0)])?;
+fn the_older_of_two_maps_differs_and_is_covered(rt: HostRuntime) {
+    let newer = map_of(&rt, rt.alloc(), &[record(2, 0, 5), record(1, 0, 0)]);
+    let older = map_of(&rt, rt.alloc(), &[record(1, 0, 0)]);
     assert!(rt; older.lowest_difference(&newer) == Some(3));
     assert!(rt; newer.lowest_difference(&older) == Some(3));
     assert!(rt; !older.agrees(&newer));
     assert!(rt; newer.covers(&older) && !older.covers(&newer));
-    Ok(())
 }
 
 #[test]
-fn two_maps_agree_once_the_older_one_is_merged(rt: HostRuntime) -> Result<(), Fail> {
-    let newer = map_of(rt.alloc(), &[record(2, 0, 5), record(1, 0, 0)])?;
-    let mut older = map_of(rt.alloc(), &[record(1, 0, 0)])?;
-    older.merge(rt.alloc(), &newer)?;
+fn two_maps_agree_once_the_older_one_is_merged(rt: HostRuntime) {
+    let newer = map_of(&rt, rt.alloc(), &[record(2, 0, 5), record(1, 0, 0)]);
+    let mut older = map_of(&rt, rt.alloc(), &[record(1, 0, 0)]);
+    assert!(rt; older.merge(rt.alloc(), &newer).is_ok());
     assert!(rt; older.get(3) == Some(record(2, 0, 5)));
     assert!(rt; older.lowest_difference(&newer) == None);
     assert!(rt; older.agrees(&newer));
     assert!(rt; newer.covers(&older) && older.covers(&newer));
-    Ok(())
 }
 
 #[test]
-fn a_map_without_blocks_is_covered_by_each(rt: HostRuntime) -> Result<(), Fail> {
-    let one = map_of(rt.alloc(), &[record(1, 0, 0)])?;
+fn a_map_without_blocks_is_covered_by_each(rt: HostRuntime) {
+    let one = map_of(&rt, rt.alloc(), &[record(1, 0, 0)]);
     let mut none = BlockMap::new(rt.alloc());
-    none.merge(rt.alloc(), &BlockMap::new(rt.alloc()))?;
-    assert!(rt; none.to_list(rt.alloc())?.len() == 0);
+    let other = BlockMap::new(rt.alloc());
+    assert!(rt; none.merge(rt.alloc(), &other).is_ok());
+    assert!(rt; lists(rt.alloc(), &none, &[]));
     assert!(rt; one.covers(&none) && !none.agrees(&one));
-    Ok(())
 }
 
 #[test]
-fn a_table_of_keys_is_made_a_map(rt: HostRuntime) -> Result<(), Fail> {
+fn a_table_of_keys_is_made_a_map(rt: HostRuntime) {
     let keys = [0, 0x2_0001_0082, 0, 0x1_0000_0007];
-    let map = BlockMap::of_table(rt.alloc(), &keys)?;
-    let list = map.to_list(rt.alloc())?;
-    assert!(rt; list.len() == 2);
-    assert!(rt; (list[0].block, list[0].version, list[0].hop, list[0].place) == (1, 2, 1, 130));
-    assert!(rt; (list[1].block, list[1].version, list[1].hop, list[1].place) == (3, 1, 0, 7));
+    let Ok(map) = BlockMap::of_table(rt.alloc(), &keys) else {
+        panic!(rt; "no map")
+    };
+    let wanted = [record_of(1, 2, 1, 130), record(1, 0, 7)];
+    assert!(rt; lists(rt.alloc(), &map, &wanted));
     assert!(rt; map.get(4) == None);
-    Ok(())
+}
+
+// Whether no block up to this one is there behind one that is not.
+fn has_the_first(map: &BlockMap, last: u32) -> bool {
+    let mut ended = false;
+    for block in 1..=last {
+        if map.get(block).is_none() {
+            ended = true;
+        } else if ended {
+            return false;
+        }
+    }
+    true
 }
 
 // Each growth may be refused here, one in a run: then the first blocks are merged, and merging again ends it.
 #[test]
-fn a_refused_merge_has_the_first_blocks_and_goes_on(rt: HostRuntime) -> Result<(), Fail> {
-    for blocks in [2u32, 100] {
+fn a_refused_merge_has_the_first_blocks_and_goes_on(rt: HostRuntime) {
+    for blocks in [2u16, 100] {
         let mut from = BlockMap::new(rt.alloc());
-        for block in 1..blocks + 1 {
+        for block in 1..=blocks {
             let taken = first_of(block);
             assert!(rt; taken.version > 0);
             if from.take(rt.alloc(), taken) == Err(MapRefusal::Memory) {
-                assert!(rt; from.get(block) == None);
-                from.take(rt.alloc(), taken)?;
+                assert!(rt; from.get(taken.block) == None);
+                assert!(rt; from.take(rt.alloc(), taken).is_ok());
             }
         }
         let mut to = BlockMap::new(rt.alloc());
         if to.merge(rt.alloc(), &from) == Err(MapRefusal::Memory) {
-            let merged = (1..blocks + 1)
-                .filter(|block| to.get(*block).is_some())
-                .count();
-            let first = (1..blocks + 1)
-                .take_while(|block| to.get(*block).is_some())
-                .count();
-            assert!(rt; merged == first);
+            assert!(rt; has_the_first(&to, u32::from(blocks)));
             assert!(rt; !to.covers(&from) && from.covers(&to));
-            to.merge(rt.alloc(), &from)?;
+            assert!(rt; to.merge(rt.alloc(), &from).is_ok());
         }
         assert!(rt; to.get(1) == Some(first_of(1)));
-        assert!(rt; to.get(blocks) == Some(first_of(blocks)));
+        assert!(rt; to.get(u32::from(blocks)) == Some(first_of(blocks)));
         assert!(rt; to.agrees(&from));
     }
-    Ok(())
-}
-
-// The first write of a block, into the slot before the block's number.
-fn first_of(block: u32) -> Record {
-    Record {
-        block,
-        version: 1,
-        hop: 0,
-        place: block.saturating_sub(1).min(65_535) as u16,
-    }
-}
-
-fn map_of(alloc: Global, records: &[Record]) -> Result<BlockMap, Fail> {
-    let mut map = BlockMap::new(alloc);
-    for record in records {
-        if record.version == 0 {
-            return Err("version 0".into());
-        }
-        map.take(alloc, *record)?;
-    }
-    Ok(map)
 }
 
 #[test]
-fn a_list_is_in_block_order_and_a_copy_has_the_same(rt: HostRuntime) -> Result<(), Fail> {
-    let mut map = BlockMap::new(rt.alloc());
-    for block in [9u32, 2, 5] {
-        map.take(
-            rt.alloc(),
-            Record {
-                block,
-                version: 1,
-                hop: 0,
-                place: 7,
-            },
-        )?;
-    }
-    let copy = map.copied(rt.alloc())?;
-    let list = copy.to_list(rt.alloc())?;
-    assert!(rt; list.len() == 3);
-    assert!(rt; (list[0].block, list[1].block, list[2].block) == (2, 5, 9));
-    Ok(())
-}
-
-#[test]
-fn the_newest_records_alone_tell_which_slots_are_live(rt: HostRuntime) -> Result<(), Fail> {
-    let mut map = map_of(rt.alloc(), &[record(1, 0, 5), record(1, 1, 130)])?;
-    let other = Record {
-        block: 9,
-        version: 1,
-        hop: 0,
-        place: 5,
+fn a_list_is_in_block_order_and_a_copy_has_the_same(rt: HostRuntime) {
+    let (two, five, nine) = (
+        record_of(2, 1, 0, 7),
+        record_of(5, 1, 0, 7),
+        record_of(9, 1, 0, 7),
+    );
+    let map = map_of(&rt, rt.alloc(), &[nine, two, five]);
+    let Ok(copy) = map.copied(rt.alloc()) else {
+        panic!(rt; "no copy")
     };
-    map.take(rt.alloc(), other)?;
+    assert!(rt; lists(rt.alloc(), &copy, &[two, five, nine]));
+}
+
+#[test]
+fn the_newest_records_alone_tell_which_slots_are_live(rt: HostRuntime) {
+    let records = [record(1, 0, 5), record(1, 1, 130), record_of(9, 1, 0, 5)];
+    let map = map_of(&rt, rt.alloc(), &records);
     assert!(rt; map.newest(3) == Some(record(1, 1, 130)));
     assert!(rt; map.newest(4) == None);
     assert!(rt; map.block_at(5) == Some(9));
@@ -211,5 +198,4 @@ fn the_newest_records_alone_tell_which_slots_are_live(rt: HostRuntime) -> Result
     assert!(rt; map.count_live(0, 6) == 1);
     assert!(rt; map.count_live(1, 128) == 1);
     assert!(rt; map.count_live(2, 128) == 0);
-    Ok(())
 }
