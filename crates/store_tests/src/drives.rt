@@ -32,6 +32,14 @@ const FIRST_HEADER: [u8; 32] = [
     0, 0, 0, 0,
 ];
 
+/// Whether the header with this byte at a place is refused.
+fn is_refused_with(rt: &impl Abort, at: usize, byte: u8) -> bool {
+    let mut changed = FIRST_HEADER;
+    assert!(rt; at < changed.len());
+    changed[at] = byte;
+    Header::decode(&changed) == Err(HeaderFault::BadHeader)
+}
+
 #[test]
 fn a_header_is_blank_or_spells_a_record_in_all_its_bytes(rt: HostRuntime) {
     let is = Header::Is(first_record());
@@ -42,15 +50,9 @@ fn a_header_is_blank_or_spells_a_record_in_all_its_bytes(rt: HostRuntime) {
     assert!(rt; HeaderFault::BadHeader.number() == 1);
     assert!(rt; Header::Blank.encode() == [0; 32]);
     assert!(rt; Header::decode(&[0; 32]) == Ok(Header::Blank));
-    let mut stray = FIRST_HEADER;
-    stray[20] = 1;
-    assert!(rt; Header::decode(&stray) == Err(HeaderFault::BadHeader));
-    let mut unwritten = FIRST_HEADER;
-    unwritten[11] = 0;
-    assert!(rt; Header::decode(&unwritten) == Err(HeaderFault::BadHeader));
-    let mut later = FIRST_HEADER;
-    later[3] = 0x32;
-    assert!(rt; Header::decode(&later) == Err(HeaderFault::BadHeader));
+    assert!(rt; is_refused_with(&rt, 20, 1));
+    assert!(rt; is_refused_with(&rt, 11, 0));
+    assert!(rt; is_refused_with(&rt, 3, 0x32));
 }
 
 fn read(rt: &impl Abort, drive: &mut MemDrive, at: u32, unit: &mut [u8]) -> Result<(), DriveLost> {
@@ -89,32 +91,31 @@ fn write_gathered(
     drive.write_gathered(5, front, rest)
 }
 
+/// Whether of six writes and reads of a drive those before the fuse burns are answered, and none behind.
+fn burns_at(rt: &impl Abort, drive: &mut MemDrive, fuse: u8, unit: &mut [u8; 40]) -> bool {
+    for call in 1..7u8 {
+        let answered = if call % 2 == 1 {
+            write(rt, drive, 31, &[call; 40])
+        } else {
+            read(rt, drive, 31, unit)
+        };
+        if answered.is_ok() != (call < fuse) || drive.is_lost() != (call >= fuse) {
+            return false;
+        }
+    }
+    true
+}
+
 #[test]
 fn a_drive_reads_as_written_until_its_fuse_burns(rt: HostRuntime) -> Result<(), Fail> {
-    let size = shape_of(&rt, 8, 2).unit_bytes();
-    for fuse in 1..6 {
+    for (fuse, last_read) in [(1u8, 9), (2, 9), (3, 1), (4, 1), (5, 3)] {
         let mut drive = MemDrive::new(rt.alloc(), &shape_of(&rt, 8, 2))?;
-        let mut unit = vec![in rt.alloc(); 9; size]?;
+        let mut unit = [9; 40];
         assert!(rt; drive.units() == 32);
-        drive.fuse(fuse);
-        for call in 1..7 {
-            let answered = if call % 2 == 1 {
-                let written = vec![in rt.alloc(); call as u8; size]?;
-                write(&rt, &mut drive, 31, &written)
-            } else {
-                read(&rt, &mut drive, 31, &mut unit)
-            };
-            assert!(rt; answered.is_ok() == (call < fuse));
-            assert!(rt; drive.is_lost() == (call >= fuse));
-        }
-        let last_read = if fuse > 4 {
-            3
-        } else if fuse > 2 {
-            1
-        } else {
-            9
-        };
-        assert!(rt; unit.iter().all(|byte| *byte == last_read));
+        assert!(rt; fuse > 0);
+        drive.fuse(u64::from(fuse));
+        assert!(rt; burns_at(&rt, &mut drive, fuse, &mut unit));
+        assert!(rt; unit == [last_read; 40]);
     }
     Ok(())
 }
@@ -148,24 +149,44 @@ fn the_first_bytes_of_a_unit_are_read_by_a_call_of_their_own(rt: HostRuntime) ->
     Ok(())
 }
 
+/// Whether a unit that is written in two pieces reads as both of them.
+fn is_gathered(rt: &impl Abort, drive: &mut MemDrive, front: &[u8], rest: &[u8]) -> bool {
+    let mut unit = [9; 40];
+    write_gathered(rt, drive, front, rest) == Ok(())
+        && read(rt, drive, 5, &mut unit) == Ok(())
+        && unit.starts_with(front)
+        && unit.ends_with(rest)
+}
+
 #[test]
 fn a_unit_is_written_in_two_pieces_by_one_call(rt: HostRuntime) -> Result<(), Fail> {
     let mut drive = MemDrive::new(rt.alloc(), &shape_of(&rt, 8, 2))?;
-    let mut unit = [9; 40];
     drive.fuse(7);
     // Zeros where nothing was written, a first write that begins with them, and one over it.
-    assert!(rt; write_gathered(&rt, &mut drive, &[0; 32], &[0; 8]) == Ok(()));
-    assert!(rt; read(&rt, &mut drive, 5, &mut unit) == Ok(()));
-    assert!(rt; unit[0] == 0 && unit[39] == 0);
-    assert!(rt; write_gathered(&rt, &mut drive, &[0; 32], &[1; 8]) == Ok(()));
-    assert!(rt; read(&rt, &mut drive, 5, &mut unit) == Ok(()));
-    assert!(rt; unit[0] == 0 && unit[31] == 0 && unit[32] == 1 && unit[39] == 1);
-    assert!(rt; write_gathered(&rt, &mut drive, &[2; 39], &[3]) == Ok(()));
-    assert!(rt; read(&rt, &mut drive, 5, &mut unit) == Ok(()));
-    assert!(rt; unit[0] == 2 && unit[38] == 2 && unit[39] == 3);
+    assert!(rt; is_gathered(&rt, &mut drive, &[0; 32], &[0; 8]));
+    assert!(rt; is_gathered(&rt, &mut drive, &[0; 32], &[1; 8]));
+    assert!(rt; is_gathered(&rt, &mut drive, &[2; 39], &[3]));
     // The seventh call is refused.
     assert!(rt; write_gathered(&rt, &mut drive, &[4; 40], &[]) == Err(DriveLost));
     Ok(())
+}
+
+/// Gives an extent that is seen to be there to a group, or frees it.
+fn set_owner(rt: &impl Abort, table: &mut ExtentTable, drive: u8, extent: u16, owner: Option<u16>) {
+    assert!(rt; table.has_extent(drive, extent));
+    table.set_owner(drive, extent, owner);
+}
+
+/// The owner of an extent that is seen to be there.
+fn owner(rt: &impl Abort, table: &ExtentTable, drive: u8, extent: u16) -> Option<u16> {
+    assert!(rt; table.has_extent(drive, extent));
+    table.owner(drive, extent)
+}
+
+/// The load of a drive that is seen to be there, and its lowest free extent.
+fn load(rt: &impl Abort, table: &ExtentTable, drive: u8) -> (u32, Option<u16>) {
+    assert!(rt; (drive as usize) < table.drives());
+    (table.load(drive), table.lowest_free(drive))
 }
 
 #[test]
@@ -174,19 +195,17 @@ fn an_extent_table_knows_owners_loads_and_the_lowest_free_extent(
 ) -> Result<(), Fail> {
     let mut table = ExtentTable::new(rt.alloc(), 3, &shape_of(&rt, 8, 2))?;
     table.add_drive(rt.alloc())?;
-    table.set_owner(3, 0, Some(7));
-    table.set_owner(3, 2, Some(9));
-    table.set_owner(3, 0, Some(8));
-    assert!(rt; table.owner(3, 0) == Some(8));
-    assert!(rt; table.load(3) == 2);
-    assert!(rt; table.load(0) == 0);
-    assert!(rt; table.lowest_free(3) == Some(1));
+    set_owner(&rt, &mut table, 3, 0, Some(7));
+    set_owner(&rt, &mut table, 3, 2, Some(9));
+    set_owner(&rt, &mut table, 3, 0, Some(8));
+    assert!(rt; owner(&rt, &table, 3, 0) == Some(8));
+    assert!(rt; load(&rt, &table, 3) == (2, Some(1)));
+    assert!(rt; load(&rt, &table, 0).0 == 0);
     assert!(rt; table.has_extent(3, 7));
     assert!(rt; table.drives() == 4);
     assert!(rt; table.owners(3).len() == 8);
     assert!(rt; !(table.has_extent(4, 0)));
-    table.set_owner(3, 0, None);
-    assert!(rt; table.load(3) == 1);
-    assert!(rt; table.lowest_free(3) == Some(0));
+    set_owner(&rt, &mut table, 3, 0, None);
+    assert!(rt; load(&rt, &table, 3) == (1, Some(0)));
     Ok(())
 }

@@ -4,7 +4,7 @@ use crate::slow::{holds, peek};
 use extent_groups::{Class, GroupTable, Member, SLOTS, StoreRefusal};
 use extents::{Drive, HEADER_BYTES, MemDrive};
 use parity_store::xor_into;
-use std::alloc::{AllocError, Global};
+use std::alloc::Global;
 use std::process::Abort;
 use std::test::Fail;
 
@@ -32,6 +32,14 @@ fn is_all(unit: &[u8], wanted: u8) -> bool {
     unit.iter().all(|byte| *byte == wanted)
 }
 
+/// Two groups of a class over so many drives, where there is memory for them.
+fn rig_of(rt: &impl Abort, alloc: Global, class: Class, drives: u8, segments: u32) -> Rig {
+    let Ok(rig) = Rig::new(rt, alloc, class, drives, segments) else {
+        panic!(rt; "no memory")
+    };
+    rig
+}
+
 /// Gives each slot of both groups a unit of its own.
 fn fill(rt: &impl Abort, rig: &mut Rig) {
     for slot in 0..2 * SLOTS {
@@ -55,8 +63,8 @@ struct Case {
 }
 
 /// Writes and reads a slot and its header over a loss; the groups and drives then, and whether the write was answered, and both reads.
-fn run(rt: &impl Abort, alloc: Global, case: &Case) -> Result<(Rig, bool, bool), AllocError> {
-    let mut rig = Rig::new(rt, alloc, case.class, case.drives, case.segments)?;
+fn run(rt: &impl Abort, alloc: Global, case: &Case) -> (Rig, bool, bool) {
+    let mut rig = rig_of(rt, alloc, case.class, case.drives, case.segments);
     fill(rt, &mut rig);
     if let Some(drive) = case.lost {
         rig.lose(rt, drive);
@@ -82,7 +90,7 @@ fn run(rt: &impl Abort, alloc: Global, case: &Case) -> Result<(Rig, bool, bool),
         }
     );
     rig.fuse(rt, case.fused, 1000000);
-    Ok((rig, wrote.is_ok(), read.is_ok() && front.is_ok()))
+    (rig, wrote.is_ok(), read.is_ok() && front.is_ok())
 }
 
 /// Each slot has the unit that it was last given, or is gone with a second drive; whether the written one has one.
@@ -115,27 +123,24 @@ fn stand(
     found
 }
 
-/// No answer is changed by the loss.
-fn swept(rt: &impl Abort, alloc: Global, case: &Case) -> Result<(), AllocError> {
-    let (rig, wrote, read) = run(rt, alloc, case)?;
+/// Whether the written slot has a unit on the drives alone.
+fn stands(rt: &impl Abort, case: &Case, rig: Rig) -> bool {
     let (groups, mut drives) = rig.open();
-    let mut unit = vec![in alloc; 0; SIZE]?;
-    let mut part = vec![in alloc; 0; SIZE]?;
-    let there = stand(rt, case, &groups, &mut drives, &mut unit, &mut part);
+    let mut unit = [0; SIZE];
+    let mut part = [0; SIZE];
+    stand(rt, case, &groups, &mut drives, &mut unit, &mut part)
+}
+
+/// No answer is changed by the loss.
+fn swept(rt: &impl Abort, alloc: Global, case: &Case) {
+    let (rig, wrote, read) = run(rt, alloc, case);
+    let there = stands(rt, case, rig);
     assert!(rt; case.lost.is_some() || wrote && read && there);
     assert!(rt; wrote && read || !there);
-    Ok(())
 }
 
 /// Every drive lost at each of its calls, and at its second one with one of the first two lost before.
-fn sweep(
-    rt: &impl Abort,
-    alloc: Global,
-    class: Class,
-    drives: u8,
-    segments: u32,
-    last: u16,
-) -> Result<(), AllocError> {
+fn sweep(rt: &impl Abort, alloc: Global, class: Class, drives: u8, segments: u32, last: u16) {
     for fused in 0..drives as usize {
         for call in 1..6 {
             swept(
@@ -150,7 +155,7 @@ fn sweep(
                     call,
                     lost: None,
                 },
-            )?;
+            );
         }
         for lost in 0..2 {
             swept(
@@ -165,14 +170,13 @@ fn sweep(
                     call: 2,
                     lost: Some(lost),
                 },
-            )?;
+            );
         }
     }
-    Ok(())
 }
 
 #[test]
-fn one_drive_lost_at_any_call_changes_no_answer(rt: HostRuntime) -> Result<(), Fail> {
+fn one_drive_lost_at_any_call_changes_no_answer(rt: HostRuntime) {
     for drives in [3u8, 4, 8] {
         for segments in 1..4u32 {
             let pairs = drives as u16 * segments as u16 / 2;
@@ -183,12 +187,11 @@ fn one_drive_lost_at_any_call_changes_no_answer(rt: HostRuntime) -> Result<(), F
                 drives,
                 segments,
                 2 * pairs - 1,
-            )?;
+            );
             let units = 2 * segments as u16 * (drives as u16 - 1);
-            sweep(&rt, rt.alloc(), Class::Parity, drives, segments, units - 1)?;
+            sweep(&rt, rt.alloc(), Class::Parity, drives, segments, units - 1);
         }
     }
-    Ok(())
 }
 
 #[test]
@@ -211,137 +214,134 @@ fn the_exclusive_or_by_lanes_is_that_of_each_byte(rt: HostRuntime) -> Result<(),
     Ok(())
 }
 
+/// Writes a unit of one byte throughout, which is not refused.
+fn writes(rt: &impl Abort, rig: &mut Rig, slot: u16, byte: u8) {
+    assert!(rt; rig.write_all(rt, slot, byte).is_ok());
+}
+
+/// Whether a slot's unit is of this byte.
+fn reads(rt: &impl Abort, rig: &mut Rig, slot: u16, byte: u8) -> bool {
+    rig.read(rt, slot).is_ok() && is_all(&rig.unit, byte)
+}
+
+/// Whether the parity at an offset of the second group is read as this byte.
+fn reads_parity(rt: &impl Abort, rig: &mut Rig, offset: u16, byte: u8) -> bool {
+    rig.read_parity(rt, 1, offset) && is_all(&rig.unit, byte)
+}
+
+/// Parity groups of three drives, with two units of the second one's first row written.
+fn two_written(rt: &impl Abort, alloc: Global) -> Rig {
+    let mut rig = rig_of(rt, alloc, Class::Parity, 3, 2);
+    writes(rt, &mut rig, 128, 0x5a);
+    writes(rt, &mut rig, 130, 0xc3);
+    rig
+}
+
 /// Whether the parity of the lowest units of the second group of three drives is this byte throughout.
-fn has_parity(rt: &impl Abort, alloc: Global, rig: Rig, wanted: u8) -> Result<bool, AllocError> {
+fn has_parity(rt: &impl Abort, rig: Rig, wanted: u8) -> bool {
     let (groups, mut drives) = rig.open();
-    let mut unit = vec![in alloc; 0; SIZE]?;
+    let mut unit = [0; SIZE];
     assert!(rt; groups.members(1).len() > 2);
     assert!(rt; groups.shape().extent_units() > 0);
     let parity = groups.place(1, 2, 0);
-    Ok(peek(rt, &mut drives, parity, &mut unit) && is_all(&unit, wanted))
+    peek(rt, &mut drives, parity, &mut unit) && is_all(&unit, wanted)
 }
 
 #[test]
-fn the_parity_is_of_header_and_payload(rt: HostRuntime) -> Result<(), Fail> {
-    let mut one = Rig::new(&rt, rt.alloc(), Class::Parity, 3, 2)?;
-    assert!(rt; one.write_all(&rt, 128, 0x5a).is_ok());
-    assert!(rt; has_parity(&rt, rt.alloc(), one, 0x5a)?);
-    let mut two = Rig::new(&rt, rt.alloc(), Class::Parity, 3, 2)?;
-    assert!(rt; two.write_all(&rt, 128, 0x5a).is_ok());
-    assert!(rt; two.write_all(&rt, 130, 0xc3).is_ok());
-    assert!(rt; has_parity(&rt, rt.alloc(), two, 0x99)?);
-    Ok(())
+fn the_parity_is_of_header_and_payload(rt: HostRuntime) {
+    let mut one = rig_of(&rt, rt.alloc(), Class::Parity, 3, 2);
+    writes(&rt, &mut one, 128, 0x5a);
+    assert!(rt; has_parity(&rt, one, 0x5a));
+    assert!(rt; has_parity(&rt, two_written(&rt, rt.alloc()), 0x99));
 }
 
 #[test]
-fn a_lost_neighbour_stays_over_a_write(rt: HostRuntime) -> Result<(), Fail> {
-    let mut rig = Rig::new(&rt, rt.alloc(), Class::Parity, 3, 2)?;
-    assert!(rt; rig.write_all(&rt, 128, 0x5a).is_ok());
-    assert!(rt; rig.write_all(&rt, 130, 0xc3).is_ok());
+fn a_lost_neighbour_stays_over_a_write(rt: HostRuntime) {
+    let mut rig = two_written(&rt, rt.alloc());
     rig.lose(&rt, 1);
-    assert!(rt; rig.write_all(&rt, 128, 0xc3).is_ok());
-    assert!(rt; rig.read(&rt, 130).is_ok());
-    assert!(rt; is_all(&rig.unit, 0xc3));
-    Ok(())
+    writes(&rt, &mut rig, 128, 0xc3);
+    assert!(rt; reads(&rt, &mut rig, 130, 0xc3));
+}
+
+/// Whether no drive is lost.
+fn are_there(rig: Rig) -> bool {
+    let (_groups, drives) = rig.open();
+    drives.iter().all(|drive| !drive.is_lost())
 }
 
 #[test]
-fn a_write_in_a_sound_group_reaches_two_drives_alone(rt: HostRuntime) -> Result<(), Fail> {
-    let mut rig = Rig::new(&rt, rt.alloc(), Class::Parity, 8, 1)?;
+fn a_write_in_a_sound_group_reaches_two_drives_alone(rt: HostRuntime) {
+    let mut rig = rig_of(&rt, rt.alloc(), Class::Parity, 8, 1);
     for drive in 1..7 {
         rig.fuse(&rt, drive, 1);
     }
     // The first slot is on drive 0 and its parity on drive 7.
     rig.fuse(&rt, 0, 3);
     rig.fuse(&rt, 7, 3);
-    assert!(rt; rig.write_all(&rt, 0, 7).is_ok());
-    let (_groups, drives) = rig.open();
-    assert!(rt; drives.iter().all(|drive| !drive.is_lost()));
-    Ok(())
+    writes(&rt, &mut rig, 0, 7);
+    assert!(rt; are_there(rig));
 }
 
 #[test]
-fn a_mirrored_write_is_one_call_of_each_of_its_two_drives(rt: HostRuntime) -> Result<(), Fail> {
-    let mut rig = Rig::new(&rt, rt.alloc(), Class::Mirrored, 3, 1)?;
+fn a_mirrored_write_is_one_call_of_each_of_its_two_drives(rt: HostRuntime) {
+    let mut rig = rig_of(&rt, rt.alloc(), Class::Mirrored, 3, 1);
     // Both slots lie on drives 0 and 1. The first is written whole, the second in two pieces.
     rig.fuse(&rt, 0, 3);
     rig.fuse(&rt, 1, 3);
     rig.fuse(&rt, 2, 1);
-    assert!(rt; rig.write_all(&rt, 0, 7).is_ok());
-    assert!(rt; rig.write_all(&rt, 1, 7).is_ok());
-    let (_groups, drives) = rig.open();
-    assert!(rt; drives.iter().all(|drive| !drive.is_lost()));
-    Ok(())
+    writes(&rt, &mut rig, 0, 7);
+    writes(&rt, &mut rig, 1, 7);
+    assert!(rt; are_there(rig));
 }
 
 #[test]
-fn the_parity_is_read_or_had_from_the_others(rt: HostRuntime) -> Result<(), Fail> {
-    let mut rig = Rig::new(&rt, rt.alloc(), Class::Parity, 3, 2)?;
-    assert!(rt; rig.write_all(&rt, 128, 0x5a).is_ok());
-    assert!(rt; rig.write_all(&rt, 130, 0xc3).is_ok());
-    assert!(rt; rig.read_parity(&rt, 1, 0) && is_all(&rig.unit, 0x99));
-    assert!(rt; rig.read_parity(&rt, 1, 1) && is_all(&rig.unit, 0));
+fn the_parity_is_read_or_had_from_the_others(rt: HostRuntime) {
+    let mut rig = two_written(&rt, rt.alloc());
+    assert!(rt; reads_parity(&rt, &mut rig, 0, 0x99));
+    assert!(rt; reads_parity(&rt, &mut rig, 1, 0));
     // The parity of the first offset is on the last drive.
     rig.lose(&rt, 2);
-    assert!(rt; rig.read_parity(&rt, 1, 0) && is_all(&rig.unit, 0x99));
+    assert!(rt; reads_parity(&rt, &mut rig, 0, 0x99));
     rig.lose(&rt, 0);
     assert!(rt; !rig.read_parity(&rt, 1, 0));
-    Ok(())
+}
+
+/// Writes the buffered unit over an extent of the second group.
+fn wipe(rt: &impl Abort, rig: &mut Rig, drive: u8) -> bool {
+    rig.wipe(rt, Member { drive, extent: 1 })
 }
 
 #[test]
-fn an_extent_is_wiped_to_its_end(rt: HostRuntime) -> Result<(), Fail> {
-    let mut rig = Rig::new(&rt, rt.alloc(), Class::Mirrored, 3, 2)?;
+fn an_extent_is_wiped_to_its_end(rt: HostRuntime) {
+    let mut rig = rig_of(&rt, rt.alloc(), Class::Mirrored, 3, 2);
     fill(&rt, &mut rig);
     rig.unit.fill(NEW);
-    assert!(rt;
-        rig.wipe(
-            &rt,
-            Member {
-                drive: 0,
-                extent: 1
-            }
-        )
-    );
-    assert!(rt;
-        rig.wipe(
-            &rt,
-            Member {
-                drive: 1,
-                extent: 1
-            }
-        )
-    );
+    assert!(rt; wipe(&rt, &mut rig, 0));
+    assert!(rt; wipe(&rt, &mut rig, 1));
     // The last pair of the group lies at the end of the extents of drives 1 and 2, the first on 0 and 1.
-    assert!(rt; rig.read(&rt, 133).is_ok() && is_all(&rig.unit, NEW));
-    assert!(rt; rig.read(&rt, 128).is_ok() && is_all(&rig.unit, NEW));
+    assert!(rt; reads(&rt, &mut rig, 133, NEW));
+    assert!(rt; reads(&rt, &mut rig, 128, NEW));
     assert!(rt; rig.read(&rt, 5).is_ok() && is_given(&rig.unit, 5));
     rig.lose(&rt, 0);
-    assert!(rt;
-        !rig.wipe(
-            &rt,
-            Member {
-                drive: 0,
-                extent: 1
-            }
-        )
-    );
-    Ok(())
+    assert!(rt; !wipe(&rt, &mut rig, 0));
+}
+
+/// Reads the header of slot 0 into a buffer, and tells whether drive 0 is lost then.
+fn burns_at_header(rt: &impl Abort, rig: &mut Rig, header: &mut [u8]) -> bool {
+    assert!(rt; rig.read_header(rt, 0, header).is_ok());
+    rig.is_lost(rt, 0)
 }
 
 #[test]
-fn a_header_is_read_by_one_call_of_its_drive(rt: HostRuntime) -> Result<(), Fail> {
+fn a_header_is_read_by_one_call_of_its_drive(rt: HostRuntime) {
     for class in [Class::Mirrored, Class::Parity] {
-        let mut rig = Rig::new(&rt, rt.alloc(), class, 3, 1)?;
+        let mut rig = rig_of(&rt, rt.alloc(), class, 3, 1);
         fill(&rt, &mut rig);
         let mut header = [0; HEADER_BYTES];
         // Slot 0 lies on drive 0; its copy, or the two others of its row, on drives 1 and 2.
         rig.fuse(&rt, 0, 2);
-        assert!(rt; rig.read_header(&rt, 0, &mut header).is_ok());
-        assert!(rt; !rig.is_lost(&rt, 0));
-        assert!(rt; rig.read_header(&rt, 0, &mut header).is_ok());
-        assert!(rt; rig.is_lost(&rt, 0));
+        assert!(rt; !burns_at_header(&rt, &mut rig, &mut header));
+        assert!(rt; burns_at_header(&rt, &mut rig, &mut header));
         assert!(rt; is_given(&header, 0));
     }
-    Ok(())
 }
