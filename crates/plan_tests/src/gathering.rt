@@ -3,14 +3,15 @@ ghost use Rattle.std.specs.Prelude.{◌≢◌};
 
 use crate::set_up::{four_groups, places, took};
 use cleaner::{Move, clean_plan, empty_group, plug_plan};
+use extent_groups::GroupTable;
 use map_join::BlockMap;
 use migrator::{Free, LogEnd, append_slots, first_append};
-use std::test::Fail;
+use std::alloc::Global;
 
 #[test]
-fn the_fullest_group_is_plugged_from_the_emptiest(rt: HostRuntime) -> Result<(), Fail> {
-    let groups = four_groups(&rt, rt.alloc())?;
-    let mut map = places(rt.alloc())?;
+fn the_fullest_group_is_plugged_from_the_emptiest(rt: HostRuntime) {
+    let groups = four_groups(&rt, rt.alloc());
+    let mut map = places(&rt, rt.alloc());
     let plug = Move {
         block: 6,
         from: 258,
@@ -18,16 +19,15 @@ fn the_fullest_group_is_plugged_from_the_emptiest(rt: HostRuntime) -> Result<(),
     };
     assert!(rt; plug_plan(&groups, &map, Some(3)) == Some(plug));
     assert!(rt; clean_plan(&groups, &map, Some(3), Some(386)) == None);
-    took(&mut map, rt.alloc(), 6, 1, 2, 128)?;
+    took(&rt, &mut map, rt.alloc(), 6, 1, 2, 128);
     assert!(rt; plug_plan(&groups, &map, Some(3)) == None);
-    Ok(())
 }
 
 #[test]
-fn the_last_block_of_a_group_goes_to_the_end_of_the_log(rt: HostRuntime) -> Result<(), Fail> {
-    let groups = four_groups(&rt, rt.alloc())?;
-    let mut map = places(rt.alloc())?;
-    took(&mut map, rt.alloc(), 6, 1, 2, 128)?;
+fn the_last_block_of_a_group_goes_to_the_end_of_the_log(rt: HostRuntime) {
+    let groups = four_groups(&rt, rt.alloc());
+    let mut map = places(&rt, rt.alloc());
+    took(&rt, &mut map, rt.alloc(), 6, 1, 2, 128);
     let clean = Move {
         block: 7,
         from: 259,
@@ -37,42 +37,52 @@ fn the_last_block_of_a_group_goes_to_the_end_of_the_log(rt: HostRuntime) -> Resu
     assert!(rt; clean_plan(&groups, &map, Some(3), Some(257)) == None);
     assert!(rt; clean_plan(&groups, &map, Some(3), None) == None);
     assert!(rt; empty_group(&groups, &map, Some(3)) == None);
-    took(&mut map, rt.alloc(), 7, 1, 2, 386)?;
+    took(&rt, &mut map, rt.alloc(), 7, 1, 2, 386);
     assert!(rt; empty_group(&groups, &map, Some(3)) == Some(2));
     assert!(rt; empty_group(&groups, &map, Some(2)) == None);
-    Ok(())
+}
+
+/// Whether the log goes on in exactly these slots.
+fn appends(
+    alloc: Global,
+    end: &LogEnd,
+    groups: &GroupTable,
+    map: &BlockMap,
+    wanted: &[u16],
+) -> bool {
+    match append_slots(alloc, end, groups, map) {
+        Ok(slots) => slots.as_slice() == wanted,
+        Err(_) => false,
+    }
 }
 
 #[test]
-fn the_log_goes_on_in_its_group_and_then_in_empty_ones(rt: HostRuntime) -> Result<(), Fail> {
-    let groups = four_groups(&rt, rt.alloc())?;
-    let mut map = places(rt.alloc())?;
+fn the_log_goes_on_in_its_group_and_then_in_empty_ones(rt: HostRuntime) {
+    let groups = four_groups(&rt, rt.alloc());
+    let mut map = places(&rt, rt.alloc());
     let mut end = LogEnd::new();
     assert!(rt; end.group() == None);
     end.appended(385);
     assert!(rt; end.group() == Some(3));
-    let slots = append_slots(rt.alloc(), &end, &groups, &map)?;
-    assert!(rt; slots.as_slice() == [386, 387].as_slice());
-    took(&mut map, rt.alloc(), 6, 1, 2, 128)?;
-    took(&mut map, rt.alloc(), 7, 1, 2, 386)?;
-    let slots = append_slots(rt.alloc(), &end, &groups, &map)?;
-    assert!(rt; slots.as_slice() == [387, 256, 257, 258, 259].as_slice());
+    assert!(rt; appends(rt.alloc(), &end, &groups, &map, &[386, 387]));
+    took(&rt, &mut map, rt.alloc(), 6, 1, 2, 128);
+    took(&rt, &mut map, rt.alloc(), 7, 1, 2, 386);
+    assert!(rt; appends(rt.alloc(), &end, &groups, &map, &[387, 256, 257, 258, 259]));
     end.appended(128 * 5);
-    let slots = append_slots(rt.alloc(), &end, &groups, &map)?;
-    assert!(rt; slots.as_slice() == [256, 257, 258, 259].as_slice());
-    Ok(())
+    assert!(rt; appends(rt.alloc(), &end, &groups, &map, &[256, 257, 258, 259]));
 }
 
 #[test]
-fn a_new_log_begins_with_the_lowest_parity_slot(rt: HostRuntime) -> Result<(), Fail> {
-    let groups = four_groups(&rt, rt.alloc())?;
+fn a_new_log_begins_with_the_lowest_parity_slot(rt: HostRuntime) {
+    let groups = four_groups(&rt, rt.alloc());
     let map = BlockMap::new(rt.alloc());
-    let slots = append_slots(rt.alloc(), &LogEnd::new(), &groups, &map)?;
+    let Ok(slots) = append_slots(rt.alloc(), &LogEnd::new(), &groups, &map) else {
+        panic!(rt; "no slots")
+    };
     assert!(rt; slots.len() == 12);
-    assert!(rt; (slots[0], slots[4], slots[11]) == (128, 256, 387));
+    assert!(rt; slots[0] == 128 && slots[4] == 256 && slots[11] == 387);
     assert!(rt; empty_group(&groups, &map, None) == Some(1));
     assert!(rt; plug_plan(&groups, &map, None) == None);
-    Ok(())
 }
 
 /// Every slot is free but one.
@@ -87,9 +97,9 @@ impl Free for AllBut {
 }
 
 #[test]
-fn the_first_free_slot_behind_the_log_is_found(rt: HostRuntime) -> Result<(), Fail> {
-    let groups = four_groups(&rt, rt.alloc())?;
-    let map = places(rt.alloc())?;
+fn the_first_free_slot_behind_the_log_is_found(rt: HostRuntime) {
+    let groups = four_groups(&rt, rt.alloc());
+    let map = places(&rt, rt.alloc());
     let mut end = LogEnd::new();
     assert!(rt; first_append(&end, &groups, &map, &AllBut(0)) == None);
     end.appended(385);
@@ -97,5 +107,4 @@ fn the_first_free_slot_behind_the_log_is_found(rt: HostRuntime) -> Result<(), Fa
     assert!(rt; first_append(&end, &groups, &map, &AllBut(386)) == Some(387));
     end.appended(387);
     assert!(rt; first_append(&end, &groups, &map, &AllBut(0)) == None);
-    Ok(())
 }

@@ -7,7 +7,6 @@ use extents::{ExtentTable, Shape};
 use map_join::{BlockMap, Record};
 use std::alloc::{AllocError, Global};
 use std::process::Abort;
-use std::test::Fail;
 
 fn on(drive: u8, extent: u16) -> Member {
     Member { drive, extent }
@@ -45,8 +44,10 @@ fn put(
 }
 
 /// Group 0 is mirrored, with slots 0 and 1; groups 1 to 3 are parity, with four slots each.
-pub(crate) fn four_groups(rt: &impl Abort, alloc: Global) -> Result<GroupTable, AllocError> {
-    let (mut groups, mut extents) = tables(rt, alloc)?;
+pub(crate) fn four_groups(rt: &impl Abort, alloc: Global) -> GroupTable {
+    let Ok((mut groups, mut extents)) = tables(rt, alloc) else {
+        panic!(rt; "no tables")
+    };
     let table = &mut groups;
     let owners = &mut extents;
     let mirrored = [on(0, 0), on(1, 0), on(2, 0)];
@@ -57,43 +58,46 @@ pub(crate) fn four_groups(rt: &impl Abort, alloc: Global) -> Result<GroupTable, 
     put(rt, alloc, table, owners, 2, Class::Parity, &second);
     let third = [on(0, 2), on(1, 2), on(3, 3)];
     put(rt, alloc, table, owners, 3, Class::Parity, &third);
-    Ok(groups)
+    groups
 }
 
 /// Takes a record.
 pub(crate) fn took(
+    rt: &impl Abort,
     map: &mut BlockMap,
     alloc: Global,
     block: u32,
     version: u32,
     hop: u16,
     place: u16,
-) -> Result<(), Fail> {
-    if version == 0 {
-        return Err("version 0".into());
-    }
+) {
     let record = Record {
         block,
         version,
         hop,
         place,
     };
-    map.take(alloc, record)?;
-    Ok(())
+    assert!(rt; version > 0);
+    assert!(rt; map.take(alloc, record).is_ok());
 }
 
 /// The places after blocks 0 to 8 were written and went down, blocks 0, 4 and 5 were written again, and block 0
 /// went down once more: group 1 has three live slots, groups 2 and 3 have two.
-pub(crate) fn places(alloc: Global) -> Result<BlockMap, Fail> {
+pub(crate) fn places(rt: &impl Abort, alloc: Global) -> BlockMap {
     let mut map = BlockMap::new(alloc);
-    took(&mut map, alloc, 0, 2, 1, 385)?;
-    took(&mut map, alloc, 1, 1, 1, 129)?;
-    took(&mut map, alloc, 2, 1, 1, 130)?;
-    took(&mut map, alloc, 3, 1, 1, 131)?;
-    took(&mut map, alloc, 4, 2, 0, 1)?;
-    took(&mut map, alloc, 5, 2, 0, 0)?;
-    took(&mut map, alloc, 6, 1, 1, 258)?;
-    took(&mut map, alloc, 7, 1, 1, 259)?;
-    took(&mut map, alloc, 8, 1, 1, 384)?;
-    Ok(map)
+    let taken = [
+        (0, 2, 1, 385),
+        (1, 1, 1, 129),
+        (2, 1, 1, 130),
+        (3, 1, 1, 131),
+        (4, 2, 0, 1),
+        (5, 2, 0, 0),
+        (6, 1, 1, 258),
+        (7, 1, 1, 259),
+        (8, 1, 1, 384),
+    ];
+    for (block, version, hop, place) in &taken {
+        took(rt, &mut map, alloc, *block, *version, *hop, *place);
+    }
+    map
 }
