@@ -7,40 +7,47 @@ use step_core::{Shape, Step, World};
 
 /// Steps, each with the answer that is wanted of it.
 #[derive(Drop)]
+pub(crate) struct Part<'a> {
+    pub(crate) steps: Vec<Step>,
+    pub(crate) wanted: Vec<Words<'a>>,
+}
+
+/// The steps before the line at which a trial begins, and those behind it.
+#[derive(Drop)]
 pub(crate) struct Case<'a> {
     /// Drives, extents of each, segments, bytes of a payload, and blocks.
     sizes: Words<'a>,
-    pub(crate) steps: Vec<Step>,
-    pub(crate) wanted: Vec<Words<'a>>,
-    /// How many steps stand before the line at which the trial begins.
-    pub(crate) before: usize,
+    pub(crate) before: Part<'a>,
+    pub(crate) behind: Part<'a>,
 }
 
-/// Reads a file: `array` and its sizes, then lines of a step and its answer with ` > ` between them, and somewhere a
-/// line `--`.
+/// Reads a file: `array` and its sizes, then lines of a step and its answer with ` > ` between them, and maybe between
+/// those lines a line `--`, at which the trial begins.
 pub(crate) fn read_case(alloc: Global, text: &str) -> Result<Case<'_>, Trouble> {
-    let mut lines = text.lines();
-    let sizes = words_of(lines.next().ok_or(Trouble::Input)?)?;
-    let mut case = Case {
-        sizes,
+    let (sizes, lines) = text.split_once('\n').ok_or(Trouble::Input)?;
+    let (before, behind) = lines.split_once("--\n").unwrap_or(("", lines));
+    Ok(Case {
+        sizes: words_of(sizes)?,
+        before: part_of(alloc, before)?,
+        behind: part_of(alloc, behind)?,
+    })
+}
+
+fn part_of(alloc: Global, lines: &str) -> Result<Part<'_>, Trouble> {
+    let mut part = Part {
         steps: Vec::new(alloc),
         wanted: Vec::new(alloc),
-        before: 0,
     };
-    for line in lines {
-        push(alloc, &mut case, line)?;
+    for line in lines.lines() {
+        push(alloc, &mut part, line)?;
     }
-    Ok(case)
+    Ok(part)
 }
 
-fn push<'a>(alloc: Global, case: &mut Case<'a>, line: &'a str) -> Result<(), Trouble> {
-    if line == "--" {
-        case.before = case.steps.len();
-        return Ok(());
-    }
+fn push<'a>(alloc: Global, part: &mut Part<'a>, line: &'a str) -> Result<(), Trouble> {
     let (asked, wanted) = line.split_once(" > ").ok_or(Trouble::Input)?;
-    case.steps.push(step(alloc, &words_of(asked)?)?)?;
-    case.wanted.push(words_of(wanted)?)?;
+    part.steps.push(step(alloc, &words_of(asked)?)?)?;
+    part.wanted.push(words_of(wanted)?)?;
     Ok(())
 }
 

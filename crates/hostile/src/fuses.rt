@@ -1,7 +1,8 @@
 // Each drive fused at each call of a case, until the fuse isn't reached.
 use crate::answers::is_answer;
-use crate::case::Case;
+use crate::case::{Case, Part};
 use crate::growths::map_of;
+use crate::runs::run;
 use crate::trouble::Trouble;
 use crate::words::Words;
 use map_join::BlockMap;
@@ -26,7 +27,8 @@ pub(crate) fn fuse_all(alloc: Global, case: &Case<'_>) -> Result<Fuses, Trouble>
         losses: 0,
         refused: 0,
     };
-    for drive in 0..case.drives_then(alloc)? {
+    let drives = begun(alloc, case)?.array().drive_count();
+    for drive in 0..drives {
         fuse_each(alloc, case, drive, &mut counts)?;
     }
     Ok(counts)
@@ -35,15 +37,10 @@ pub(crate) fn fuse_all(alloc: Global, case: &Case<'_>) -> Result<Fuses, Trouble>
 // Fuses a drive at its first call, and so on.
 fn fuse_each(alloc: Global, case: &Case<'_>, drive: u8, counts: &mut Fuses) -> Result<(), Trouble> {
     for call in 1..MOST_CALLS {
-        let mut world = begun(alloc, case)?;
-        if drive >= world.array().drive_count() {
-            return Err(Trouble::Input);
-        }
-        world.fuse(drive, call);
-        let refused = run_fused(alloc, case, &mut world, drive)?;
+        let (is_lost, refused) = fuse_once(alloc, case, drive, call)?;
         counts.runs = counts.runs.saturating_add(1);
         counts.refused = counts.refused.saturating_add(refused);
-        if !world.array().is_lost(drive) {
+        if !is_lost {
             return Ok(());
         }
         counts.losses = counts.losses.saturating_add(1);
@@ -51,37 +48,27 @@ fn fuse_each(alloc: Global, case: &Case<'_>, drive: u8, counts: &mut Fuses) -> R
     Err(Trouble::Wrong)
 }
 
-impl Case<'_> {
-    /// How many drives there are at the line `--`.
-    fn drives_then(&self, alloc: Global) -> Result<u8, Trouble> {
-        Ok(begun(alloc, self)?.array().drive_count())
+// Runs a case with a drive fused at a call: whether it was lost, and how many moves were refused for it.
+fn fuse_once(alloc: Global, case: &Case<'_>, drive: u8, call: u64) -> Result<(bool, u64), Trouble> {
+    let mut world = begun(alloc, case)?;
+    if call == 0 || drive >= world.array().drive_count() {
+        return Err(Trouble::Input);
     }
+    world.fuse(drive, call);
+    let refused = run_fused(alloc, &mut world, &case.behind, drive)?;
+    Ok((world.array().is_lost(drive), refused))
 }
 
 // The case's world at its line `--`.
 fn begun(alloc: Global, case: &Case<'_>) -> Result<World, Trouble> {
-    let mut world = case.world(alloc)?;
-    let pairs = case.steps.iter().zip(case.wanted.iter());
-    for (step, wanted) in pairs.take(case.before) {
-        if !is_answer(wanted, &stepped(alloc, &mut world, step)?) {
-            return Err(Trouble::Wrong);
-        }
-    }
-    Ok(world)
-}
-
-fn stepped(alloc: Global, world: &mut World, step: &Step) -> Result<Answer, Trouble> {
-    if !world.fits(step) {
-        return Err(Trouble::Input);
-    }
-    Ok(world.step(alloc, step)?)
+    let part = &case.before;
+    run(alloc, case.world(alloc)?, &part.steps, &part.wanted)
 }
 
 // Runs the rest of the case: how many moves were refused since their target, the fused drive, was lost.
-fn run_fused(alloc: Global, case: &Case<'_>, world: &mut World, drive: u8) -> Result<u64, Trouble> {
+fn run_fused(alloc: Global, world: &mut World, part: &Part<'_>, drive: u8) -> Result<u64, Trouble> {
     let mut refused = 0u64;
-    let pairs = case.steps.iter().zip(case.wanted.iter());
-    for (step, wanted) in pairs.skip(case.before) {
+    for (step, wanted) in part.steps.iter().zip(part.wanted.iter()) {
         if !is_as_wanted(alloc, world, step, wanted, drive)? {
             refused = refused.saturating_add(1);
         }
@@ -99,24 +86,51 @@ fn is_as_wanted(
     drive: u8,
 ) -> Result<bool, Trouble> {
     let kept = Kept::of(alloc, world, step)?;
-    let answer = stepped(alloc, world, step)?;
-    if is_answer(wanted, &answer) {
-        return Ok(true);
+    let is_wanted = is_wanted_or_lost(alloc, world, step, wanted, drive)?;
+    if !is_wanted && !kept.is_same(&Kept::of(alloc, world, step)?) {
+        return Err(Trouble::Wrong);
     }
-    let is_onto = matches!(step, Step::MoveExtent { to, .. } if to.drive == drive);
+    Ok(is_wanted)
+}
+
+// Whether a step is answered as without the loss; else it is a move that is refused for it.
+fn is_wanted_or_lost(
+    alloc: Global,
+    world: &mut World,
+    step: &Step,
+    wanted: &Words<'_>,
+    drive: u8,
+) -> Result<bool, Trouble> {
+    if !world.fits(step) {
+        return Err(Trouble::Input);
+    }
+    let answer = world.step(alloc, step)?;
+    if is_answer(wanted, &answer) {
+        Ok(true)
+    } else if is_onto(step, drive) && is_lost(&answer, drive) {
+        Ok(false)
+    } else {
+        Err(Trouble::Wrong)
+    }
+}
+
+fn is_onto(step: &Step, drive: u8) -> bool {
+    match step {
+        Step::MoveExtent { to, .. } => to.drive == drive,
+        _ => false,
+    }
+}
+
+fn is_lost(answer: &Answer, drive: u8) -> bool {
     match answer {
-        Answer::Refused(Refusal::DriveLost(lost)) if is_onto && lost == drive => {
-            kept.check(alloc, world)?;
-            Ok(false)
-        }
-        _ => Err(Trouble::Wrong),
+        Answer::Refused(Refusal::DriveLost(lost)) => *lost == drive,
+        _ => false,
     }
 }
 
 // What a refused move leaves: its group's members, the map, and how many records were emitted.
 #[derive(Drop)]
 struct Kept {
-    group: u16,
     members: Vec<Member>,
     map: BlockMap,
     records: usize,
@@ -128,19 +142,17 @@ impl Kept {
             Step::MoveExtent { group, .. } => *group,
             _ => 0,
         };
+        let array = world.array();
         Ok(Kept {
-            group,
-            members: world.array().groups().members(group).to_vec(alloc)?,
-            map: map_of(alloc, world.array())?,
-            records: world.array().record_count(),
+            members: array.groups().members(group).to_vec(alloc)?,
+            map: map_of(alloc, array)?,
+            records: array.record_count(),
         })
     }
 
-    fn check(&self, alloc: Global, world: &World) -> Result<(), Trouble> {
-        let array = world.array();
-        let is_kept = array.groups().members(self.group) == self.members.as_slice()
-            && map_of(alloc, world.array())?.agrees(&self.map)
-            && array.record_count() == self.records;
-        if is_kept { Ok(()) } else { Err(Trouble::Wrong) }
+    fn is_same(&self, other: &Kept) -> bool {
+        self.members.as_slice() == other.members.as_slice()
+            && self.map.agrees(&other.map)
+            && self.records == other.records
     }
 }

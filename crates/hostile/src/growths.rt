@@ -1,14 +1,14 @@
 // A run of steps that goes on from where memory was wanted, and a restart from what is handed back.
 use crate::answers::are_answers;
-use crate::case::Case;
+use crate::case::{Case, Part};
+use crate::runs::{answered, run, run_once};
 use crate::slots::are_fit;
 use crate::trouble::Trouble;
-use crate::words::Words;
 use array_parts::Parts;
 use header_scan::{ScanFault, restart, scan};
 use map_join::BlockMap;
 use std::alloc::Global;
-use step_core::{Array, MemDrive, Plain, Run, Step, Stopped, World, run_steps};
+use step_core::{Array, MemDrive, Plain, Stopped, World};
 
 /// An array of drives in memory, with plain claims.
 pub(crate) type Memory = Array<MemDrive, Plain>;
@@ -22,91 +22,90 @@ pub(crate) struct Growths {
 
 /// Runs a case; at its line `--` the array is restarted from its drives, groups and claims.
 pub(crate) fn run_case(alloc: Global, case: &Case<'_>) -> Result<Growths, Trouble> {
-    let world = case.world(alloc)?;
-    let (steps, later) = case
-        .steps
-        .split_at_checked(case.before)
-        .ok_or(Trouble::Input)?;
-    let (wanted, wanted_later) = case
-        .wanted
-        .split_at_checked(case.before)
-        .ok_or(Trouble::Input)?;
-    let (world, first) = run(alloc, world, steps, wanted)?;
-    let (world, second) = anew(alloc, world)?;
-    let (_world, third) = run(alloc, world, later, wanted_later)?;
+    let mut wanted = 0u32;
+    let world = run_on(alloc, case.world(alloc)?, &case.before, &mut wanted)?;
+    let world = anew(alloc, world, &mut wanted)?;
+    run_on(alloc, world, &case.behind, &mut wanted)?;
     Ok(Growths {
-        answers: case.steps.len(),
-        wanted: sum([first, second, third, 0]),
+        answers: case
+            .before
+            .steps
+            .len()
+            .saturating_add(case.behind.steps.len()),
+        wanted,
     })
 }
 
+// One more time that memory was wanted.
+fn count(wanted: &mut u32) {
+    *wanted = wanted.saturating_add(1);
+}
+
 // Runs a world over steps, again from where it stopped, if it did.
-fn run(
+fn run_on(
     alloc: Global,
     world: World,
-    steps: &[Step],
-    wanted: &[Words<'_>],
-) -> Result<(World, u32), Trouble> {
-    let stopped = match run_once(alloc, world, steps)? {
-        Ok(run) => return answered(run.world, are_answers(wanted, &run.answers), 0),
-        Err(stopped) => stopped,
-    };
-    let (done, left) = wanted.split_at_checked(stopped.at).ok_or(Trouble::Wrong)?;
-    let rest = steps.get(stopped.at..).ok_or(Trouble::Wrong)?;
+    part: &Part<'_>,
+    wanted: &mut u32,
+) -> Result<World, Trouble> {
+    match run_once(alloc, world, &part.steps)? {
+        Ok(run) => answered(run, &part.wanted),
+        Err(stopped) => {
+            count(wanted);
+            go_on(alloc, stopped, part)
+        }
+    }
+}
+
+fn go_on(alloc: Global, stopped: Stopped, part: &Part<'_>) -> Result<World, Trouble> {
+    let steps = part.steps.get(stopped.at..).ok_or(Trouble::Wrong)?;
+    let (done, left) = part
+        .wanted
+        .split_at_checked(stopped.at)
+        .ok_or(Trouble::Wrong)?;
     if !are_answers(done, &stopped.answers) {
         return Err(Trouble::Wrong);
     }
-    match run_once(alloc, stopped.world, rest)? {
-        Ok(run) => answered(run.world, are_answers(left, &run.answers), 1),
-        Err(_) => Err(Trouble::Memory),
-    }
-}
-
-// Runs a world over steps that fit it.
-fn run_once(alloc: Global, world: World, steps: &[Step]) -> Result<Result<Run, Stopped>, Trouble> {
-    if !steps.iter().all(|step| world.fits(step)) {
-        return Err(Trouble::Input);
-    }
-    Ok(run_steps(alloc, world, steps))
-}
-
-fn answered(world: World, is_right: bool, wanted: u32) -> Result<(World, u32), Trouble> {
-    if is_right {
-        Ok((world, wanted))
-    } else {
-        Err(Trouble::Wrong)
-    }
+    run(alloc, stopped.world, steps, left)
 }
 
 // Takes a world apart and makes it anew, each call again where it wanted memory. The map of the headers is the
 // running map before and after.
-fn anew(alloc: Global, world: World) -> Result<(World, u32), Trouble> {
+fn anew(alloc: Global, world: World, wanted: &mut u32) -> Result<World, Trouble> {
     let array = world.into_array();
     let before = map_of(alloc, &array)?;
-    let (mut parts, claims, first) = apart(alloc, array)?;
-    let mut second = 0u32;
-    let mut scanned = scan_fit(alloc, &mut parts);
-    if scanned.as_ref().err() == Some(&ScanFault::Memory) {
-        scanned = scan_fit(alloc, &mut parts);
-        second = 1;
-    }
-    if !is_map(scanned, &before)? {
-        return Err(Trouble::Wrong);
-    }
-    let (array, third) = made(alloc, parts, claims)?;
+    let array = remade(alloc, array, &before, wanted)?;
     if !map_of(alloc, &array)?.agrees(&before) {
         return Err(Trouble::Wrong);
     }
-    let (world, fourth) = housed(alloc, array)?;
-    Ok((world, sum([first, second, third, fourth])))
+    housed(alloc, array, wanted)
 }
 
-fn sum(counts: [u32; 4]) -> u32 {
-    let [first, second, third, fourth] = counts;
-    first
-        .saturating_add(second)
-        .saturating_add(third)
-        .saturating_add(fourth)
+fn remade(
+    alloc: Global,
+    array: Memory,
+    before: &BlockMap,
+    wanted: &mut u32,
+) -> Result<Memory, Trouble> {
+    let (mut parts, claims) = apart(alloc, array, wanted)?;
+    if !is_map(scan_again(alloc, &mut parts, wanted), before)? {
+        return Err(Trouble::Wrong);
+    }
+    made(alloc, parts, claims, wanted)
+}
+
+fn scan_again(
+    alloc: Global,
+    parts: &mut Parts<MemDrive>,
+    wanted: &mut u32,
+) -> Result<BlockMap, ScanFault> {
+    match scan_fit(alloc, parts) {
+        Err(ScanFault::Memory) => {
+            count(wanted);
+            scan_fit(alloc, parts)
+        }
+        scanned => scanned,
+    }
 }
 
 // A scan of parts that fit; those that don't are told as a slot that is gone.
@@ -133,13 +132,16 @@ fn is_map(scanned: Result<BlockMap, ScanFault>, wanted: &BlockMap) -> Result<boo
     }
 }
 
-fn apart(alloc: Global, array: Memory) -> Result<(Parts<MemDrive>, Vec<Plain>, u32), Trouble> {
+type Taken = (Parts<MemDrive>, Vec<Plain>);
+
+fn apart(alloc: Global, array: Memory, wanted: &mut u32) -> Result<Taken, Trouble> {
     let array = match array.into_parts(alloc) {
-        Ok((parts, claims)) => return Ok((parts, claims, 0)),
+        Ok(taken) => return Ok(taken),
         Err(array) => array,
     };
+    count(wanted);
     match array.into_parts(alloc) {
-        Ok((parts, claims)) => Ok((parts, claims, 1)),
+        Ok(taken) => Ok(taken),
         Err(_) => Err(Trouble::Memory),
     }
 }
@@ -148,18 +150,18 @@ fn made(
     alloc: Global,
     parts: Parts<MemDrive>,
     claims: Vec<Plain>,
-) -> Result<(Memory, u32), Trouble> {
+    wanted: &mut u32,
+) -> Result<Memory, Trouble> {
     let (parts, claims) = match made_once(alloc, parts, claims)? {
-        Ok(array) => return Ok((array, 0)),
+        Ok(array) => return Ok(array),
         Err(back) => back,
     };
+    count(wanted);
     match made_once(alloc, parts, claims)? {
-        Ok(array) => Ok((array, 1)),
+        Ok(array) => Ok(array),
         Err(_) => Err(Trouble::Memory),
     }
 }
-
-type Taken = (Parts<MemDrive>, Vec<Plain>);
 
 // An array of parts that fit and claims; wanting memory both come back.
 fn made_once(
@@ -177,13 +179,14 @@ fn made_once(
     }
 }
 
-fn housed(alloc: Global, array: Memory) -> Result<(World, u32), Trouble> {
+fn housed(alloc: Global, array: Memory, wanted: &mut u32) -> Result<World, Trouble> {
     let array = match World::of(alloc, array) {
-        Ok(world) => return Ok((world, 0)),
+        Ok(world) => return Ok(world),
         Err(array) => array,
     };
+    count(wanted);
     match World::of(alloc, array) {
-        Ok(world) => Ok((world, 1)),
+        Ok(world) => Ok(world),
         Err(_) => Err(Trouble::Memory),
     }
 }

@@ -38,21 +38,28 @@ fn no_scans() -> Headers {
 /// mostly one.
 pub(crate) fn scan_noise(alloc: Global, seed: u32, rounds: u32) -> Result<Headers, Trouble> {
     let mut slots = Slots::new(alloc)?;
-    let mut noise = Noise::new(u64::from(seed));
     let mut counts = no_scans();
+    let mut noise = Noise::new(u64::from(seed));
     for _ in 0..rounds {
-        let at = noise.below(PLACES) as usize;
-        slots.put(at, bytes(&mut noise), payload(&mut noise))?;
-        let before = counts.maps;
-        check(alloc, &mut slots, &mut counts)?;
-        if counts.maps != before {
-            return Err(Trouble::Wrong);
-        }
-        let header = header(&mut noise, slot_at(&slots, at));
-        slots.put(at, header, payload(&mut noise))?;
-        check(alloc, &mut slots, &mut counts)?;
+        scan_once(alloc, &mut slots, &mut counts, &mut noise)?;
     }
     Ok(counts)
+}
+
+fn scan_once(
+    alloc: Global,
+    slots: &mut Slots,
+    counts: &mut Headers,
+    noise: &mut Noise,
+) -> Result<(), Trouble> {
+    let at = noise.below(PLACES) as usize;
+    let before = counts.maps;
+    put(alloc, slots, counts, at, bytes(noise), payload(noise))?;
+    if counts.maps != before {
+        return Err(Trouble::Wrong);
+    }
+    let header = header(noise, slot_at(slots, at));
+    put(alloc, slots, counts, at, header, payload(noise))
 }
 
 /// Each bit of a header in each slot is the other way once.
@@ -60,27 +67,49 @@ pub(crate) fn flips(alloc: Global) -> Result<Headers, Trouble> {
     let mut slots = Slots::new(alloc)?;
     let mut counts = no_scans();
     for at in 0..PLACES as usize {
-        let sound = spell(3, 1, 0, slot_at(&slots, at));
-        for bit in 0..BITS {
-            slots.put(at, flipped(sound, bit), [7; 8])?;
-            check(alloc, &mut slots, &mut counts)?;
-        }
-        slots.put(at, [0; 32], [0; 8])?;
+        flip_each(alloc, &mut slots, &mut counts, at)?;
     }
     Ok(counts)
+}
+
+fn flip_each(
+    alloc: Global,
+    slots: &mut Slots,
+    counts: &mut Headers,
+    at: usize,
+) -> Result<(), Trouble> {
+    let sound = spell(3, 1, 0, slot_at(slots, at));
+    for bit in 0..BITS {
+        put(alloc, slots, counts, at, flipped(sound, bit), [7; 8])?;
+    }
+    slots.put(at, [0; 32], [0; 8])
+}
+
+// Writes to a slot, and scans.
+fn put(
+    alloc: Global,
+    slots: &mut Slots,
+    counts: &mut Headers,
+    at: usize,
+    header: [u8; 32],
+    payload: [u8; 8],
+) -> Result<(), Trouble> {
+    slots.put(at, header, payload)?;
+    check(alloc, slots, counts)
 }
 
 // Scans, and compares with the walk.
 fn check(alloc: Global, slots: &mut Slots, counts: &mut Headers) -> Result<(), Trouble> {
     counts.scans = counts.scans.saturating_add(1);
     let scanned = slots.scan(alloc)?;
-    match walk(alloc, &slots.placed, BLOCKS)? {
+    match walk(alloc, &slots.placed, BLOCKS) {
         Ok(newest) => {
             if !is_list(alloc, &scanned, &newest)? {
                 return Err(Trouble::Wrong);
             }
             counts.maps = counts.maps.saturating_add(1);
         }
+        Err(ScanFault::Memory) => return Err(Trouble::Memory),
         Err(wanted) => {
             if scanned.err() != Some(wanted) {
                 return Err(Trouble::Wrong);

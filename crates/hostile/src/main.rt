@@ -10,6 +10,7 @@ mod growths;
 mod headers;
 mod mutants;
 mod noise;
+mod runs;
 mod slots;
 mod steps;
 mod trial;

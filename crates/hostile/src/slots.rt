@@ -1,5 +1,5 @@
 // Drives whose units are written by hand, and scans of them.
-ghost use Rattle.std.specs.Prelude.{◌≡◌, ◌*◌, length, IsTrue};
+ghost use Rattle.std.specs.Prelude.{◌≡◌, IsTrue};
 ghost use Rattle.extent_groups.specs.Calls.{AreSized};
 ghost use Rattle.extent_groups.specs.Stores.{unit_bytes};
 ghost use Rattle.array_parts.specs.Fit.{IsFit};
@@ -7,14 +7,15 @@ ghost use Rattle.array_parts.specs.Memory.{held_units};
 ghost use Rattle.array_parts.specs.Slots.{IsSlot};
 
 use crate::case::read_case;
+use crate::runs::run;
 use crate::trouble::Trouble;
 use crate::walk::Placed;
 use array_parts::Parts;
 use extent_groups::{GroupTable, SLOTS};
 use header_scan::{ScanFault, scan};
 use map_join::BlockMap;
-use std::alloc::Global;
-use step_core::{Answer, MemDrive, World};
+use std::alloc::{AllocError, Global};
+use step_core::{MemDrive, World};
 
 /// Slots 0 to 5 are mirrored, slots 128 to 135 have parity.
 const GROUPS: &str =
@@ -29,8 +30,6 @@ const TWO_UNITS: usize = 80;
 #[derive(Drop)]
 pub(crate) struct Slots {
     parts: Parts<MemDrive>,
-    unit: Vec<u8>,
-    scratch: Vec<u8>,
     pub(crate) placed: Vec<Placed>,
 }
 
@@ -61,13 +60,24 @@ fn is_slot(groups: &GroupTable, slot: u16) -> bool
 // A world with the two groups.
 fn grouped(alloc: Global) -> Result<World, Trouble> {
     let case = read_case(alloc, GROUPS)?;
-    let mut world = case.world(alloc)?;
-    for step in case.steps.iter() {
-        if !world.fits(step) || !matches!(world.step(alloc, step)?, Answer::Made(_)) {
-            return Err(Trouble::Wrong);
-        }
+    let part = &case.behind;
+    run(alloc, case.world(alloc)?, &part.steps, &part.wanted)
+}
+
+// The slots of the two groups, each with a blank header.
+fn blank(alloc: Global) -> Result<Vec<Placed>, AllocError> {
+    let mut placed = Vec::new(alloc);
+    for slot in (0..6u16).chain(128..136) {
+        placed.push((slot, [0; 32]))?;
     }
-    Ok(world)
+    Ok(placed)
+}
+
+fn unit_of(header: [u8; 32], payload: [u8; 8]) -> [u8; UNIT] {
+    let mut unit = [0; UNIT];
+    unit[..32].copy_from_slice(&header);
+    unit[32..].copy_from_slice(&payload);
+    unit
 }
 
 impl Slots {
@@ -76,29 +86,25 @@ impl Slots {
         let Ok((parts, _claims)) = grouped(alloc)?.into_array().into_parts(alloc) else {
             return Err(Trouble::Memory);
         };
-        let mut placed = Vec::new(alloc);
-        for slot in (0..6u16).chain(128..136) {
-            placed.push((slot, [0; 32]))?;
-        }
         Ok(Slots {
             parts,
-            unit: vec![in alloc; 0; UNIT]?,
-            scratch: vec![in alloc; 0; TWO_UNITS]?,
-            placed,
+            placed: blank(alloc)?,
         })
     }
 
-    // Whether the parts fit, and the buffers them.
+    // Whether the parts fit, and units have their length.
     fn is_ready(&self) -> bool
         ensures fit { IsTrue result → IsFit held_units self.now.parts }
-        ensures unit { IsTrue result → length self.now.unit.items ≡ unit_bytes self.now.parts.groups }
-        ensures scratch { IsTrue result → length self.now.scratch.items ≡ 2 * unit_bytes self.now.parts.groups }
+        ensures unit { IsTrue result → 40 ≡ unit_bytes self.now.parts.groups }
     {
-        let size = self.parts.groups.shape().unit_bytes();
-        if self.unit.len() != size || self.scratch.len() != 2 * size {
-            return false;
-        }
-        are_fit(&self.parts)
+        self.parts.groups.shape().unit_bytes() == UNIT && are_fit(&self.parts)
+    }
+
+    // Notes a header at one of the slots, counted from 0: the slot.
+    fn place(&mut self, at: usize, header: [u8; 32]) -> Option<u16> {
+        let place = self.placed.get_mut(at)?;
+        place.1 = header;
+        Some(place.0)
     }
 
     /// Writes a header and a payload to one of the slots, counted from 0.
@@ -108,16 +114,14 @@ impl Slots {
         header: [u8; 32],
         payload: [u8; 8],
     ) -> Result<(), Trouble> {
-        let place = self.placed.get_mut(at).ok_or(Trouble::Input)?;
-        let slot = place.0;
-        place.1 = header;
-        self.unit.clear();
-        self.unit.extend_from_slice(&header)?;
-        self.unit.extend_from_slice(&payload)?;
+        let slot = self.place(at, header).ok_or(Trouble::Input)?;
         if !self.is_ready() || !is_slot(&self.parts.groups, slot) {
             return Err(Trouble::Input);
         }
-        match self.parts.write(slot, &self.unit, &mut self.scratch) {
+        match self
+            .parts
+            .write(slot, &unit_of(header, payload), &mut [0; TWO_UNITS])
+        {
             Ok(()) => Ok(()),
             Err(_) => Err(Trouble::Wrong),
         }

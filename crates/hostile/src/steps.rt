@@ -7,23 +7,16 @@ use step_core::{Class, Member, Step};
 
 /// The step that a line spells.
 pub(crate) fn step(alloc: Global, line: &Words<'_>) -> Result<Step, Trouble> {
-    let [first, second, third, _, _, _, _, _] = line.numbers;
     match line.verb {
-        "claim" | "release" | "fill" | "copy" | "commit" | "discard" => {
-            work(alloc, line.verb, byte(first)?, short(second)?, third)
-        }
-        "read" => Ok(Step::Read { block: first }),
-        "at" => Ok(Step::ReadAt {
-            record: record(line)?,
+        "claim" | "release" | "fill" | "copy" | "commit" | "discard" | "unmake" => work(
+            alloc, line,
+        ),
+        "read" => Ok(Step::Read {
+            block: line.numbers[0],
         }),
-        "lose" => Ok(Step::Lose {
-            drive: byte(first)?,
-        }),
+        "at" => found(line),
+        "lose" => loss(line),
         "add" => Ok(Step::AddDrive),
-        "unmake" => Ok(Step::Unmake {
-            worker: byte(first)?,
-            group: short(second)?,
-        }),
         "move" => relocation(line),
         "mirrored" => make(alloc, Class::Mirrored, line),
         "parity" => make(alloc, Class::Parity, line),
@@ -31,16 +24,18 @@ pub(crate) fn step(alloc: Global, line: &Words<'_>) -> Result<Step, Trouble> {
     }
 }
 
-// A step of a worker at a slot, with a payload's byte or a block behind it.
-fn work(alloc: Global, verb: &str, worker: u8, slot: u16, third: u32) -> Result<Step, Trouble> {
-    let block = third;
-    match verb {
+// A step of a worker at a slot or a group, with a payload's byte or a block behind it.
+fn work(alloc: Global, line: &Words<'_>) -> Result<Step, Trouble> {
+    let [worker, slot, block, _, _, _, _, _] = line.numbers;
+    let worker = byte(worker)?;
+    let slot = short(slot)?;
+    match line.verb {
         "claim" => Ok(Step::Claim { worker, slot }),
         "release" => Ok(Step::Release { worker, slot }),
         "fill" => Ok(Step::Fill {
             worker,
             slot,
-            payload: payload(alloc, byte(third)?)?,
+            payload: payload(alloc, byte(block)?)?,
         }),
         "copy" => Ok(Step::Copy {
             worker,
@@ -52,6 +47,10 @@ fn work(alloc: Global, verb: &str, worker: u8, slot: u16, third: u32) -> Result<
             slot,
             block,
         }),
+        "unmake" => Ok(Step::Unmake {
+            worker,
+            group: slot,
+        }),
         _ => Ok(Step::Discard { worker, slot }),
     }
 }
@@ -60,13 +59,21 @@ fn payload(alloc: Global, byte: u8) -> Result<Vec<u8>, AllocError> {
     [byte; 8].to_vec(alloc)
 }
 
-fn record(line: &Words<'_>) -> Result<Record, Trouble> {
+fn found(line: &Words<'_>) -> Result<Step, Trouble> {
     let [block, version, hop, place, _, _, _, _] = line.numbers;
-    Ok(Record {
-        block,
-        version,
-        hop: short(hop)?,
-        place: short(place)?,
+    Ok(Step::ReadAt {
+        record: Record {
+            block,
+            version,
+            hop: short(hop)?,
+            place: short(place)?,
+        },
+    })
+}
+
+fn loss(line: &Words<'_>) -> Result<Step, Trouble> {
+    Ok(Step::Lose {
+        drive: byte(line.numbers[0])?,
     })
 }
 

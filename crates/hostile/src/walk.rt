@@ -1,34 +1,42 @@
 // A plain walk over headers as bytes: the fault that a scan of them tells, or the newest record of each block.
 use header_scan::ScanFault;
 use map_join::Record;
-use std::alloc::{AllocError, Global};
+use std::alloc::Global;
 
 /// A slot and the header that lies there.
 pub(crate) type Placed = (u16, [u8; 32]);
 
-/// What the headers of some slots tell, which are listed by number.
+/// What the headers of some slots tell, which are listed by number; it wants memory as a scan does.
 pub(crate) fn walk(
     alloc: Global,
     placed: &[Placed],
     blocks: u32,
-) -> Result<Result<Vec<Record>, ScanFault>, AllocError> {
-    let mut records = Vec::new(alloc);
-    for (slot, header) in placed {
-        match told(*slot, header, blocks) {
-            Ok(Some(record)) => records.push(record)?,
-            Ok(None) => {}
-            Err(fault) => return Ok(Err(fault)),
-        }
-    }
+) -> Result<Vec<Record>, ScanFault> {
+    let records = told_by(alloc, placed, blocks)?;
     let mut newest = Vec::new(alloc);
     for block in 0..blocks {
-        match newest_of(block, &records) {
-            Ok(Some(record)) => newest.push(record)?,
-            Ok(None) => {}
-            Err(fault) => return Ok(Err(fault)),
+        if let Some(record) = newest_of(block, &records)? {
+            push(&mut newest, record)?;
         }
     }
-    Ok(Ok(newest))
+    Ok(newest)
+}
+
+fn told_by(alloc: Global, placed: &[Placed], blocks: u32) -> Result<Vec<Record>, ScanFault> {
+    let mut records = Vec::new(alloc);
+    for (slot, header) in placed {
+        if let Some(record) = told(*slot, header, blocks)? {
+            push(&mut records, record)?;
+        }
+    }
+    Ok(records)
+}
+
+fn push(records: &mut Vec<Record>, record: Record) -> Result<(), ScanFault> {
+    match records.push(record) {
+        Ok(()) => Ok(()),
+        Err(_) => Err(ScanFault::Memory),
+    }
 }
 
 // The record in a slot's header, none in a blank one, or what is wrong with it.

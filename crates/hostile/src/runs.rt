@@ -1,0 +1,40 @@
+// Runs of a world over steps, each of which is answered as wanted.
+use crate::answers::are_answers;
+use crate::trouble::Trouble;
+use crate::words::Words;
+use std::alloc::Global;
+use step_core::{Run, Step, Stopped, World, run_steps};
+
+/// Runs a world over steps that fit it.
+pub(crate) fn run_once(
+    alloc: Global,
+    world: World,
+    steps: &[Step],
+) -> Result<Result<Run, Stopped>, Trouble> {
+    if !steps.iter().all(|step| world.fits(step)) {
+        return Err(Trouble::Input);
+    }
+    Ok(run_steps(alloc, world, steps))
+}
+
+/// The world behind steps, each of which is answered as wanted.
+pub(crate) fn run(
+    alloc: Global,
+    world: World,
+    steps: &[Step],
+    wanted: &[Words<'_>],
+) -> Result<World, Trouble> {
+    match run_once(alloc, world, steps)? {
+        Ok(run) => answered(run, wanted),
+        Err(_) => Err(Trouble::Memory),
+    }
+}
+
+/// The world of a run whose answers are those that are wanted.
+pub(crate) fn answered(run: Run, wanted: &[Words<'_>]) -> Result<World, Trouble> {
+    if are_answers(wanted, &run.answers) {
+        Ok(run.world)
+    } else {
+        Err(Trouble::Wrong)
+    }
+}
