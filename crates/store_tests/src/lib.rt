@@ -1,10 +1,15 @@
-//! Tests of drives, groups, stores and plans, which stand above them all.
+//! Tests of drives, groups, stores and plans, which stand above them all: where the write log goes on, what is demoted, plugged
+//! and cleaned, and which extents are moved.
 #![tactic(auto)]
 
 #[cfg(test)]
 mod cases;
 #[cfg(test)]
+mod demotion;
+#[cfg(test)]
 mod drives;
+#[cfg(test)]
+mod gathering;
 #[cfg(test)]
 mod geometry;
 #[cfg(test)]
@@ -13,6 +18,8 @@ mod groups;
 mod plans;
 #[cfg(test)]
 mod rig;
+#[cfg(test)]
+mod set_up;
 #[cfg(test)]
 mod slow;
 #[cfg(test)]

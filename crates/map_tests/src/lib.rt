@@ -1,5 +1,0 @@
-//! Tests of records and maps.
-#![tactic(auto)]
-
-#[cfg(test)]
-mod maps;
