@@ -1,8 +1,8 @@
 // What workers have in hand, where a world is made of an array that another world had.
-use crate::script::{Told, grouped, tell};
+use crate::script::{Script, Told, answers, grouped, push, push_fill};
 use std::alloc::Global;
 use std::process::Abort;
-use step_core::{Refusal, World};
+use step_core::{Refusal, Step, World};
 
 // The same array in a new world.
 fn anew(rt: &impl Abort, alloc: Global, world: World) -> World {
@@ -12,25 +12,35 @@ fn anew(rt: &impl Abort, alloc: Global, world: World) -> World {
     world
 }
 
-// What filling a slot answers.
-fn fill(rt: &impl Abort, alloc: Global, world: &mut World, worker: u8, slot: u16) -> Told {
-    assert!(rt; world.array().shape().payload == 8);
-    match world.fill(alloc, worker, slot, &[0x55; 8]) {
-        Ok(answer) => tell(&answer),
-        Err(_) => Told::Other,
-    }
+fn push_claim(rt: &impl Abort, script: &mut Script, worker: u8, slot: u16, wanted: Told) {
+    push(rt, script, Step::Claim { worker, slot }, wanted);
+}
+
+// Worker 6 claims slot 5, and fills slot 3.
+fn before(rt: &impl Abort, alloc: Global) -> Script {
+    let mut script = Vec::new(alloc);
+    push_claim(rt, &mut script, 6, 5, Told::Claimed(5));
+    push_fill(rt, alloc, &mut script, 6, 3, 0x55);
+    script
+}
+
+// What worker 6 had in hand isn't held then, but what it filled is.
+fn behind(rt: &impl Abort, alloc: Global) -> Script {
+    let mut script = Vec::new(alloc);
+    let release = Step::Release { worker: 6, slot: 5 };
+    push(rt, &mut script, release, Told::NotHeld(5));
+    let discard = Step::Discard { worker: 6, slot: 3 };
+    push(rt, &mut script, discard, Told::Refused(Refusal::NoTicket));
+    push_claim(rt, &mut script, 1, 5, Told::Claimed(5));
+    push_claim(rt, &mut script, 1, 3, Told::Taken(3));
+    script
 }
 
 #[test]
 fn a_world_of_an_array_has_empty_hands(rt: HostRuntime) {
     let alloc = rt.alloc();
     let mut world = grouped(&rt, alloc);
-    assert!(rt; tell(&world.claim(6, 5)) == Told::Claimed(5));
-    assert!(rt; tell(&world.claim(6, 3)) == Told::Claimed(3));
-    assert!(rt; fill(&rt, alloc, &mut world, 6, 3) == Told::Filled(3));
+    assert!(rt; answers(&rt, alloc, &mut world, &before(&rt, alloc)));
     let mut world = anew(&rt, alloc, world);
-    assert!(rt; tell(&world.release(6, 5)) == Told::NotHeld(5));
-    assert!(rt; tell(&world.discard(6, 3)) == Told::Refused(Refusal::NoTicket));
-    assert!(rt; tell(&world.claim(1, 5)) == Told::Claimed(5));
-    assert!(rt; tell(&world.claim(1, 3)) == Told::Taken(3));
+    assert!(rt; answers(&rt, alloc, &mut world, &behind(&rt, alloc)));
 }

@@ -1,8 +1,9 @@
 // Every drive lost at every call of a run, a second one after it, and what is told then.
 use crate::script::{
-    Script, Told, answers, grouped, members_on, push_commit, push_fill, push_move, record_of,
+    Script, Told, answers, fuse, grouped, is_lost, list_on, lose, push, push_fill, push_move,
+    push_read, push_write, record_of,
 };
-use std::alloc::{AllocError, Global};
+use std::alloc::Global;
 use std::process::Abort;
 use step_core::{Class, Refusal, Step, World};
 
@@ -20,83 +21,77 @@ fn others(drive: u8) -> [u8; 3] {
 }
 
 // A group is made on the drives other than this one.
-fn push_make(alloc: Global, script: &mut Script, drive: u8) -> Result<(), AllocError> {
-    let members = members_on(others(drive), 2).to_vec(alloc)?;
+fn push_make(rt: &impl Abort, alloc: Global, script: &mut Script, drive: u8) {
+    let members = list_on(rt, alloc, others(drive), 2);
     let class = Class::Parity;
-    script.push((Step::Make { class, members }, Told::Made(2)))?;
-    Ok(())
+    push(rt, script, Step::Make { class, members }, Told::Made(2));
 }
 
 // Blocks 3, 4 and 6 are written, and a payload is given up.
-fn push_writes(alloc: Global, script: &mut Script) -> Result<(), AllocError> {
-    for (slot, block, byte) in [(0, 3, 1), (1, 4, 2), (2, 6, 3)] {
-        push_fill(alloc, script, 0, slot, byte)?;
-        push_commit(script, 0, block, 0, slot)?;
-    }
-    push_fill(alloc, script, 2, 5, 9)?;
+fn push_writes(rt: &impl Abort, alloc: Global, script: &mut Script) {
+    push_write(rt, alloc, script, 0, 3, 1);
+    push_write(rt, alloc, script, 1, 4, 2);
+    push_write(rt, alloc, script, 2, 6, 3);
+    push_fill(rt, alloc, script, 2, 5, 9);
     let discard = Step::Discard { worker: 2, slot: 5 };
-    script.push((discard, Told::Discarded(5)))?;
-    Ok(())
+    push(rt, script, discard, Told::Discarded(5));
 }
 
-// The places of blocks 3 and 6 are read, and the first place of block 3.
-fn push_reads(script: &mut Script) -> Result<(), AllocError> {
-    for (block, hop, place, byte) in [(3, 1, 128, 1), (3, 0, 0, 1), (6, 0, 2, 3)] {
-        let record = record_of(block, hop, place);
-        script.push((Step::ReadAt { record }, Told::Data(Some(byte))))?;
-    }
-    Ok(())
+// A place of a block is read.
+fn push_read_at(rt: &impl Abort, script: &mut Script, block: u32, hop: u16, place: u16, byte: u8) {
+    let record = record_of(block, hop, place);
+    push(rt, script, Step::ReadAt { record }, Told::Data(Some(byte)));
 }
 
-// Blocks 3, 4 and 6 are written, a payload is given up, a group is made without a drive, and blocks 3 and 4 move.
-fn run_without(alloc: Global, drive: u8) -> Result<Script, AllocError> {
+// Blocks 3, 4 and 6 are written, a payload is given up, a group is made without a drive, blocks 3 and 4 move, and
+// the places of blocks 3 and 6 are read, and the first place of block 3.
+fn run_without(rt: &impl Abort, alloc: Global, drive: u8) -> Script {
     let mut script = Vec::new(alloc);
-    push_writes(alloc, &mut script)?;
-    push_make(alloc, &mut script, drive)?;
-    push_move(&mut script, 3, 128, 1)?;
-    push_move(&mut script, 4, 131, 2)?;
-    push_reads(&mut script)?;
-    Ok(script)
+    push_writes(rt, alloc, &mut script);
+    push_make(rt, alloc, &mut script, drive);
+    push_move(rt, &mut script, 3, 128, 1);
+    push_move(rt, &mut script, 4, 131, 2);
+    push_read_at(rt, &mut script, 3, 1, 128, 1);
+    push_read_at(rt, &mut script, 3, 0, 0, 1);
+    push_read_at(rt, &mut script, 6, 0, 2, 3);
+    script
+}
+
+// A block is read, or its slot is gone.
+fn push_look(rt: &impl Abort, script: &mut Script, block: u32, slot: u16, byte: u8, is_gone: bool) {
+    if is_gone {
+        let gone = Told::Refused(Refusal::Gone(slot));
+        push(rt, script, Step::Read { block }, gone);
+    } else {
+        push_read(rt, script, block, byte);
+    }
 }
 
 // The reads of all blocks once two drives are lost. Blocks 3 and 4 lie on drives 1 and 2 of a parity group on
 // drives 1 to 3, block 6 on drives 2 and 0.
-fn reads_without(alloc: Global, one: u8, other: u8) -> Result<Script, AllocError> {
-    let is_lost = |drive: u8| drive == one || drive == other;
+fn reads_without(rt: &impl Abort, alloc: Global, one: u8, other: u8) -> Script {
+    let no_0 = one == 0 || other == 0;
+    let no_1 = one == 1 || other == 1;
+    let no_2 = one == 2 || other == 2;
     let mut script = Vec::new(alloc);
-    let blocks = [
-        (3, 128, 1, is_lost(1) && !is_lost(0)),
-        (4, 131, 2, is_lost(2) && !is_lost(0)),
-        (6, 2, 3, is_lost(2) && is_lost(0)),
-    ];
-    for (block, slot, byte, is_gone) in blocks {
-        let wanted = if is_gone {
-            Told::Refused(Refusal::Gone(slot))
-        } else {
-            Told::Read(1, Some(byte))
-        };
-        script.push((Step::Read { block }, wanted))?;
-    }
-    Ok(script)
+    push_look(rt, &mut script, 3, 128, 1, no_1 & !no_0);
+    push_look(rt, &mut script, 4, 131, 2, no_2 & !no_0);
+    push_look(rt, &mut script, 6, 2, 3, no_2 & no_0);
+    script
 }
 
 // Carries out the run with the drive fused for a call of its own.
 fn run(rt: &impl Abort, alloc: Global, world: &mut World, drive: u8, call: u64) {
-    assert!(rt; drive < world.array().drive_count() && call > 0);
-    world.fuse(drive, call);
-    let Ok(script) = run_without(alloc, drive) else {
-        panic!(rt; "no memory")
-    };
+    fuse(rt, world, drive, call);
+    let script = run_without(rt, alloc, drive);
     assert!(rt; answers(rt, alloc, world, &script));
 }
 
 // Loses two drives, and reads all blocks.
-fn lose(rt: &impl Abort, alloc: Global, world: &mut World, one: u8, other: u8) {
-    world.lose(one);
-    world.lose(other);
-    let Ok(script) = reads_without(alloc, one, other) else {
-        panic!(rt; "no memory")
-    };
+fn lose_two(rt: &impl Abort, alloc: Global, world: &mut World, one: u8, other: u8) {
+    lose(world, one);
+    lose(world, other);
+    let script = reads_without(rt, alloc, one, other);
     assert!(rt; answers(rt, alloc, world, &script));
 }
 
@@ -105,9 +100,9 @@ fn burns(rt: &impl Abort, alloc: Global, drive: u8, call: u64) -> bool {
     assert!(rt; drive < 4);
     let mut world = grouped(rt, alloc);
     run(rt, alloc, &mut world, drive, call);
-    let burnt = world.array().is_lost(drive);
+    let burnt = is_lost(&world, drive);
     let other = (drive + 1 + (call % 3) as u8) % 4;
-    lose(rt, alloc, &mut world, drive, other);
+    lose_two(rt, alloc, &mut world, drive, other);
     burnt
 }
 

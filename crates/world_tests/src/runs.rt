@@ -1,47 +1,52 @@
 // Runs of many steps: no count of them, and no length of the log, ends one.
-use crate::script::{members_on, new_world};
-use std::alloc::{AllocError, Global};
+use crate::script::{is_lost, list_on, new_world, payload_of, records_from};
+use std::alloc::Global;
 use std::process::Abort;
 use step_core::{Answer, Class, Run, Step, World, run_steps};
 
 /// More commits than a log of 4,096 records takes.
 const WRITES: u16 = 4_200;
 
-fn group(alloc: Global) -> Result<Step, AllocError> {
-    Ok(Step::Make {
-        class: Class::Mirrored,
-        members: members_on([0, 1, 2], 0).to_vec(alloc)?,
-    })
+fn push(rt: &impl Abort, steps: &mut Vec<Step>, step: Step) {
+    assert!(rt; steps.push(step).is_ok());
+}
+
+// A group is made.
+fn push_make(rt: &impl Abort, alloc: Global, steps: &mut Vec<Step>) {
+    let members = list_on(rt, alloc, [0, 1, 2], 0);
+    let class = Class::Mirrored;
+    push(rt, steps, Step::Make { class, members });
 }
 
 // A write of block 3 through a slot, and the release of the other slot, where the block was before.
-fn push_write(alloc: Global, steps: &mut Vec<Step>, slot: u16) -> Result<(), AllocError> {
-    let payload = [0x11u8; 8].to_vec(alloc)?;
-    steps.push(Step::Claim { worker: 0, slot })?;
-    steps.push(Step::Fill {
-        worker: 0,
+fn push_write(rt: &impl Abort, alloc: Global, steps: &mut Vec<Step>, slot: u16) {
+    let worker = 0;
+    push(rt, steps, Step::Claim { worker, slot });
+    let payload = payload_of(rt, alloc, 0x11);
+    let fill = Step::Fill {
+        worker,
         slot,
         payload,
-    })?;
-    steps.push(Step::Commit {
-        worker: 0,
+    };
+    push(rt, steps, fill);
+    let block = 3;
+    let commit = Step::Commit {
+        worker,
         slot,
-        block: 3,
-    })?;
-    steps.push(Step::Release {
-        worker: 0,
-        slot: 1 - slot % 2,
-    })?;
-    Ok(())
+        block,
+    };
+    push(rt, steps, commit);
+    let slot = 1 - slot % 2;
+    push(rt, steps, Step::Release { worker, slot });
 }
 
-fn writes(alloc: Global) -> Result<Vec<Step>, AllocError> {
+fn writes(rt: &impl Abort, alloc: Global) -> Vec<Step> {
     let mut steps = Vec::new(alloc);
-    steps.push(group(alloc)?)?;
+    push_make(rt, alloc, &mut steps);
     for write in 0..WRITES {
-        push_write(alloc, &mut steps, write % 2)?;
+        push_write(rt, alloc, &mut steps, write % 2);
     }
-    Ok(steps)
+    steps
 }
 
 // Runs a world over steps to their end.
@@ -53,25 +58,15 @@ fn run(rt: &impl Abort, alloc: Global, world: World, steps: &[Step]) -> Run {
     run
 }
 
-// How many records the world emitted, as its log lists them.
-fn listed(rt: &impl Abort, alloc: Global, world: &World) -> usize {
-    let Ok(records) = world.array().records_from(alloc, 0) else {
-        panic!(rt; "no memory")
-    };
-    records.len()
-}
-
 #[test]
 fn thousands_of_steps_run_to_their_end(rt: HostRuntime) {
     let alloc = rt.alloc();
-    let Ok(steps) = writes(alloc) else {
-        panic!(rt; "no memory")
-    };
+    let steps = writes(&rt, alloc);
     let run = run(&rt, alloc, new_world(&rt, alloc), &steps);
     assert!(rt; run.answers.len() == steps.len());
-    assert!(rt; listed(&rt, alloc, &run.world) == usize::from(WRITES));
+    assert!(rt; records_from(&rt, alloc, &run.world, 0).len() == usize::from(WRITES));
     assert!(rt; matches!(run.answers.last(), Some(Answer::Released(0))));
     for drive in 0..4u8 {
-        assert!(rt; !run.world.array().is_lost(drive));
+        assert!(rt; !is_lost(&run.world, drive));
     }
 }

@@ -1,6 +1,6 @@
 // Steps of a world, each with what it answers.
 use map_join::Record;
-use std::alloc::{AllocError, Global};
+use std::alloc::Global;
 use std::process::Abort;
 use step_core::{Answer, At, Class, Member, Refusal, Shape, Step, World};
 
@@ -70,8 +70,36 @@ pub(crate) fn record_of(block: u32, hop: u16, place: u16) -> Record {
 
 /// An extent of this number on each of three drives.
 pub(crate) fn members_on([first, second, third]: [u8; 3], extent: u16) -> [Member; 3] {
-    let on = |drive| Member { drive, extent };
-    [on(first), on(second), on(third)]
+    [
+        Member {
+            drive: first,
+            extent,
+        },
+        Member {
+            drive: second,
+            extent,
+        },
+        Member {
+            drive: third,
+            extent,
+        },
+    ]
+}
+
+/// A list of an extent of this number on each of three drives.
+pub(crate) fn list_on(rt: &impl Abort, alloc: Global, drives: [u8; 3], extent: u16) -> Vec<Member> {
+    let Ok(members) = members_on(drives, extent).to_vec(alloc) else {
+        panic!(rt; "no memory")
+    };
+    members
+}
+
+/// A payload of one byte throughout.
+pub(crate) fn payload_of(rt: &impl Abort, alloc: Global, byte: u8) -> Vec<u8> {
+    let Ok(payload) = [byte; 8].to_vec(alloc) else {
+        panic!(rt; "no memory")
+    };
+    payload
 }
 
 // Makes a group of an extent of this number on each of these drives.
@@ -95,75 +123,129 @@ pub(crate) fn grouped(rt: &impl Abort, alloc: Global) -> World {
     world
 }
 
+/// Loses a drive at a call of its own from now on.
+pub(crate) fn fuse(rt: &impl Abort, world: &mut World, drive: u8, call: u64) {
+    assert!(rt; drive < world.array().drive_count() && call > 0);
+    world.fuse(drive, call);
+}
+
+/// Loses a drive at once.
+pub(crate) fn lose(world: &mut World, drive: u8) {
+    world.lose(drive);
+}
+
+pub(crate) fn is_lost(world: &World, drive: u8) -> bool {
+    world.array().is_lost(drive)
+}
+
+/// The records that the world emitted, from this one on, as its log lists them.
+pub(crate) fn records_from(
+    rt: &impl Abort,
+    alloc: Global,
+    world: &World,
+    first: usize,
+) -> Vec<Record> {
+    let Ok(records) = world.array().records_from(alloc, first) else {
+        panic!(rt; "no memory")
+    };
+    records
+}
+
+/// A step, with what it answers.
+pub(crate) fn push(rt: &impl Abort, script: &mut Script, step: Step, wanted: Told) {
+    assert!(rt; script.push((step, wanted)).is_ok());
+}
+
 /// A slot is claimed and filled with a payload of one byte throughout.
 pub(crate) fn push_fill(
+    rt: &impl Abort,
     alloc: Global,
     script: &mut Script,
     worker: u8,
     slot: u16,
     byte: u8,
-) -> Result<(), AllocError> {
-    script.push((Step::Claim { worker, slot }, Told::Claimed(slot)))?;
-    let payload = [byte; 8].to_vec(alloc)?;
+) {
+    push(
+        rt,
+        script,
+        Step::Claim { worker, slot },
+        Told::Claimed(slot),
+    );
+    let payload = payload_of(rt, alloc, byte);
     let fill = Step::Fill {
         worker,
         slot,
         payload,
     };
-    script.push((fill, Told::Filled(slot)))?;
-    Ok(())
+    push(rt, script, fill, Told::Filled(slot));
 }
 
 /// The slot that waits is committed, as the first version of a block.
 pub(crate) fn push_commit(
+    rt: &impl Abort,
     script: &mut Script,
     worker: u8,
     block: u32,
     hop: u16,
     slot: u16,
-) -> Result<(), AllocError> {
+) {
     let commit = Step::Commit {
         worker,
         slot,
         block,
     };
-    script.push((commit, Told::Committed(record_of(block, hop, slot))))?;
-    Ok(())
+    push(
+        rt,
+        script,
+        commit,
+        Told::Committed(record_of(block, hop, slot)),
+    );
+}
+
+/// A block is first written, of one byte throughout, at a slot.
+pub(crate) fn push_write(
+    rt: &impl Abort,
+    alloc: Global,
+    script: &mut Script,
+    slot: u16,
+    block: u32,
+    byte: u8,
+) {
+    push_fill(rt, alloc, script, 0, slot, byte);
+    push_commit(rt, script, 0, block, 0, slot);
+}
+
+/// A block's first version is read.
+pub(crate) fn push_read(rt: &impl Abort, script: &mut Script, block: u32, byte: u8) {
+    push(rt, script, Step::Read { block }, Told::Read(1, Some(byte)));
 }
 
 /// A block is copied to a slot, one hop from its first place, and read there.
-pub(crate) fn push_move(
-    script: &mut Script,
-    block: u32,
-    slot: u16,
-    byte: u8,
-) -> Result<(), AllocError> {
+pub(crate) fn push_move(rt: &impl Abort, script: &mut Script, block: u32, slot: u16, byte: u8) {
     let worker = 1;
-    script.push((Step::Claim { worker, slot }, Told::Claimed(slot)))?;
+    push(
+        rt,
+        script,
+        Step::Claim { worker, slot },
+        Told::Claimed(slot),
+    );
     let copy = Step::Copy {
         worker,
         slot,
         block,
     };
-    script.push((copy, Told::Copied(slot)))?;
-    push_commit(script, worker, block, 1, slot)?;
-    script.push((Step::Read { block }, Told::Read(1, Some(byte))))?;
-    Ok(())
+    push(rt, script, copy, Told::Copied(slot));
+    push_commit(rt, script, worker, block, 1, slot);
+    push_read(rt, script, block, byte);
 }
 
-// Whether the step fits the world and is answered so.
-fn is_answered(
-    rt: &impl Abort,
-    alloc: Global,
-    world: &mut World,
-    step: &Step,
-    wanted: Told,
-) -> bool {
+/// What a step answers that fits the world.
+pub(crate) fn answer(rt: &impl Abort, alloc: Global, world: &mut World, step: &Step) -> Answer {
     assert!(rt; world.fits(step));
-    match world.step(alloc, step) {
-        Ok(answer) => tell(&answer) == wanted,
-        Err(_) => false,
-    }
+    let Ok(answer) = world.step(alloc, step) else {
+        panic!(rt; "no memory")
+    };
+    answer
 }
 
 /// Whether the world answers each step as it is told.
@@ -174,7 +256,7 @@ pub(crate) fn answers(
     script: &[(Step, Told)],
 ) -> bool {
     for (step, wanted) in script {
-        if !is_answered(rt, alloc, world, step, *wanted) {
+        if tell(&answer(rt, alloc, world, step)) != *wanted {
             return false;
         }
     }

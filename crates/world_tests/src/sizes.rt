@@ -9,9 +9,14 @@ fn sizes_are_refused_by_the_first_that_is_out(rt: HostRuntime) {
     assert!(rt; Shape::new(8, 2, 8, 16).is_ok());
 }
 
+fn member_at((drive, extent): (u8, u16)) -> Member {
+    Member { drive, extent }
+}
+
 // What making a group is answered, 0 or the number of a refusal.
 fn made(world: &mut World, rt: &HostRuntime, places: [(u8, u16); 3]) -> u8 {
-    let members = places.map(|(drive, extent)| Member { drive, extent });
+    let [one, two, three] = places;
+    let members = [member_at(one), member_at(two), member_at(three)];
     match world.make(rt.alloc(), Class::Mirrored, &members) {
         Ok(Answer::Made(_)) => 0,
         Ok(Answer::Refused(refusal)) => refusal.number(),

@@ -2,8 +2,8 @@
 // each step three maps are compared, and every block is read.
 ghost use Rattle.std.specs.Prelude.{◌<◌};
 
-use crate::script::{grouped, members_on};
-use header_scan::scan_world;
+use crate::scans::{running, world_scanned};
+use crate::script::{answer, grouped, is_lost, list_on, payload_of, records_from};
 use map_join::{BlockMap, Record};
 use std::alloc::Global;
 use std::process::Abort;
@@ -17,6 +17,35 @@ const BLOCKS: u32 = 16;
 
 /// Slots of a group that are drawn, past its last one too.
 const SLOTS: u32 = 9;
+
+fn drive_count(world: &World) -> u8 {
+    world.array().drive_count()
+}
+
+// The slot at a place of one of four groups.
+fn slot_at(group: u16, place: u16) -> u16 {
+    (128 * (group % 4)).wrapping_add(place)
+}
+
+// A step of the flow of payloads, by the number of its kind.
+fn flow_step(kind: u32, worker: u8, slot: u16, block: u32) -> Step {
+    match kind {
+        0 => Step::Claim { worker, slot },
+        1 => Step::Release { worker, slot },
+        2 => Step::Copy {
+            worker,
+            slot,
+            block,
+        },
+        3 => Step::Discard { worker, slot },
+        4 => Step::Read { block },
+        _ => Step::Commit {
+            worker,
+            slot,
+            block,
+        },
+    }
+}
 
 /// A world, and what is known of it without it.
 #[derive(Drop)]
@@ -77,8 +106,7 @@ impl Walk {
             7..=18 => 1,
             _ => 0,
         };
-        let place = self.draw(SLOTS);
-        (128 * group + place) as u16
+        slot_at(group, self.draw(SLOTS) as u16)
     }
 
     fn block(&mut self) -> u32 {
@@ -87,15 +115,17 @@ impl Walk {
 
     // Takes the records that were emitted since, which the log lists.
     fn follow_log(&mut self, rt: &impl Abort) {
-        let Ok(records) = self.world.array().records_from(self.alloc, self.listed) else {
-            panic!(rt; "no memory")
-        };
+        let records = records_from(rt, self.alloc, &self.world, self.listed);
         for record in &records {
-            assert!(rt; record.version > 0);
-            assert!(rt; self.emitted.take(self.alloc, *record).is_ok());
-            self.note_record(record);
+            self.take_record(rt, record);
         }
         self.listed = self.world.array().record_count();
+    }
+
+    fn take_record(&mut self, rt: &impl Abort, record: &Record) {
+        assert!(rt; record.version > 0);
+        assert!(rt; self.emitted.take(self.alloc, *record).is_ok());
+        self.note_record(record);
     }
 
     // A write is of the byte that its slot was filled with.
@@ -109,39 +139,43 @@ impl Walk {
 
     // The running map, that of the headers and that of the log are one.
     fn maps_agree(&mut self, rt: &impl Abort) -> bool {
-        let Ok(running) = self.world.array().map(self.alloc) else {
-            panic!(rt; "no memory")
-        };
-        match scan_world(self.alloc, &mut self.world) {
-            Ok(scanned) => running.agrees(&scanned) && running.agrees(&self.emitted),
-            Err(_) => false,
-        }
+        let running = running(rt, self.alloc, &self.world);
+        let scanned = world_scanned(rt, self.alloc, &mut self.world);
+        running.agrees(&scanned) && running.agrees(&self.emitted)
     }
 
     // A block reads as it was last written.
     fn reads(&mut self, rt: &impl Abort, block: u32) -> bool {
-        assert!(rt; block < self.world.array().shape().blocks);
         let wanted = self.written[block as usize % 16];
-        match self.world.read(self.alloc, block) {
-            Ok(Answer::Read(None)) => wanted == None,
-            Ok(Answer::Read(Some((_, payload)))) => wanted == payload.first().copied(),
+        match answer(rt, self.alloc, &mut self.world, &Step::Read { block }) {
+            Answer::Read(None) => wanted == None,
+            Answer::Read(Some((_, payload))) => wanted == payload.first().copied(),
             _ => false,
         }
     }
 
+    fn reads_all(&mut self, rt: &impl Abort) -> bool {
+        for block in 0..BLOCKS {
+            if !self.reads(rt, block) {
+                return false;
+            }
+        }
+        true
+    }
+
     // Takes a step, and sees that all is as it should be.
     fn take(&mut self, rt: &impl Abort, step: &Step) -> Answer {
-        assert!(rt; self.world.fits(step));
-        let Ok(answer) = self.world.step(self.alloc, step) else {
-            panic!(rt; "no memory")
-        };
+        let answer = answer(rt, self.alloc, &mut self.world, step);
         self.follow_log(rt);
         assert!(rt; self.maps_agree(rt));
-        for block in 0..BLOCKS {
-            assert!(rt; self.reads(rt, block));
-        }
+        assert!(rt; self.reads_all(rt));
         self.steps = self.steps.wrapping_add(1);
         answer
+    }
+
+    // Takes a step, whatever it answers.
+    fn go(&mut self, rt: &impl Abort, step: Step) {
+        let _answer = self.take(rt, &step);
     }
 
     // A byte goes into a slot.
@@ -149,33 +183,53 @@ impl Walk {
         let worker = self.worker();
         let slot = self.slot();
         let byte = self.draw(256) as u8;
-        let Ok(payload) = [byte; 8].to_vec(self.alloc) else {
-            panic!(rt; "no memory")
-        };
+        let payload = payload_of(rt, self.alloc, byte);
         let step = Step::Fill {
             worker,
             slot,
             payload,
         };
         if let Answer::Filled(_) = self.take(rt, &step) {
-            self.filled[usize::from(slot / 128) % 4][usize::from(slot % 128) % 9] = byte;
+            self.note_fill(slot, byte);
         }
+    }
+
+    fn note_fill(&mut self, slot: u16, byte: u8) {
+        self.filled[usize::from(slot / 128) % 4][usize::from(slot % 128) % 9] = byte;
     }
 
     // The next drive that isn't lost.
     fn present_behind(&self, drive: u8) -> u8 {
-        let count = self.world.array().drive_count();
+        let count = drive_count(&self.world);
         let mut at = drive;
         for _turn in 0..16u8 {
             at = at.wrapping_add(1);
             if at >= count {
                 at = 0;
             }
-            if !self.world.array().is_lost(at) {
+            if !is_lost(&self.world, at) {
                 return at;
             }
         }
         at
+    }
+
+    // Extents of one number on three drives that aren't lost.
+    fn members(&mut self, rt: &impl Abort) -> Vec<Member> {
+        let drawn = self.draw(16) as u8;
+        let first = self.present_behind(drawn);
+        let second = self.present_behind(first);
+        let third = self.present_behind(second);
+        let extent = self.draw(8) as u16;
+        list_on(rt, self.alloc, [first, second, third], extent)
+    }
+
+    fn class(&mut self) -> Class {
+        if self.draw(2) == 0 {
+            Class::Mirrored
+        } else {
+            Class::Parity
+        }
     }
 
     // A group of extents on three drives that aren't lost, while there are fewer than four; half of them are unmade again at
@@ -184,20 +238,8 @@ impl Walk {
         if !self.world.array().groups().is_free(3) {
             return;
         }
-        let drawn = self.draw(16) as u8;
-        let first = self.present_behind(drawn);
-        let second = self.present_behind(first);
-        let third = self.present_behind(second);
-        let extent = self.draw(8) as u16;
-        let members = members_on([first, second, third], extent);
-        let Ok(members) = members.to_vec(self.alloc) else {
-            panic!(rt; "no memory")
-        };
-        let class = if self.draw(2) == 0 {
-            Class::Mirrored
-        } else {
-            Class::Parity
-        };
+        let members = self.members(rt);
+        let class = self.class();
         if let Answer::Made(group) = self.take(rt, &Step::Make { class, members })
             && self.draw(2) == 0
         {
@@ -212,8 +254,8 @@ impl Walk {
         self.give_back(rt, 1, group);
         let worker = self.worker();
         for place in 0..SLOTS as u16 {
-            let slot = 128 * (group % 4) + place;
-            let _claimed = self.take(rt, &Step::Claim { worker, slot });
+            let slot = slot_at(group, place);
+            self.go(rt, Step::Claim { worker, slot });
         }
         match self.take(rt, &Step::Unmake { worker, group }) {
             Answer::Unmade(_) => self.unmade = self.unmade.wrapping_add(1),
@@ -223,29 +265,34 @@ impl Walk {
 
     fn give_back(&mut self, rt: &impl Abort, worker: u8, group: u16) {
         for place in 0..SLOTS as u16 {
-            let slot = 128 * (group % 4) + place;
-            let _discarded = self.take(rt, &Step::Discard { worker, slot });
-            let _released = self.take(rt, &Step::Release { worker, slot });
+            let slot = slot_at(group, place);
+            self.go(rt, Step::Discard { worker, slot });
+            self.go(rt, Step::Release { worker, slot });
         }
     }
 
     // A drive is lost where none is missing and one may be added.
     fn lose(&mut self, rt: &impl Abort) {
-        let count = self.world.array().drive_count();
+        let count = drive_count(&self.world);
         assert!(rt; count > 0);
         if self.lost == None && count < 16 {
             let drive = self.draw(u32::from(count)) as u8;
             self.lost = Some(drive);
-            let _lost = self.take(rt, &Step::Lose { drive });
+            self.go(rt, Step::Lose { drive });
         }
+    }
+
+    fn add_drive(&mut self, rt: &impl Abort) -> u8 {
+        let Answer::Added(drive) = self.take(rt, &Step::AddDrive) else {
+            panic!(rt; "no drive was added")
+        };
+        drive
     }
 
     // The members on the drive that is missing go onto a new one.
     fn rebuild(&mut self, rt: &impl Abort) {
         let Some(lost) = self.lost else { return };
-        let Answer::Added(drive) = self.take(rt, &Step::AddDrive) else {
-            panic!(rt; "no drive was added")
-        };
+        let drive = self.add_drive(rt);
         for group in 0..4u16 {
             self.replace(rt, group, lost, drive);
         }
@@ -255,15 +302,20 @@ impl Walk {
     // The group's member on the drive that is missing goes onto the other.
     fn replace(&mut self, rt: &impl Abort, group: u16, lost: u8, drive: u8) {
         for member in 0..8u8 {
-            let to = Member {
-                drive,
-                extent: group,
-            };
             if self.is_on(group, member, lost) {
-                let step = Step::MoveExtent { group, member, to };
-                assert!(rt; matches!(self.take(rt, &step), Answer::Shifted));
+                self.shift(rt, group, member, drive);
             }
         }
+    }
+
+    // The member goes onto the drive's extent of the group's number.
+    fn shift(&mut self, rt: &impl Abort, group: u16, member: u8, drive: u8) {
+        let to = Member {
+            drive,
+            extent: group,
+        };
+        let step = Step::MoveExtent { group, member, to };
+        assert!(rt; matches!(self.take(rt, &step), Answer::Shifted));
     }
 
     fn is_on(&self, group: u16, member: u8, drive: u8) -> bool {
@@ -275,7 +327,7 @@ impl Walk {
     }
 
     fn move_extent(&mut self, rt: &impl Abort) {
-        let count = self.world.array().drive_count();
+        let count = drive_count(&self.world);
         assert!(rt; count > 0);
         let to = Member {
             drive: self.draw(u32::from(count)) as u8,
@@ -283,7 +335,7 @@ impl Walk {
         };
         let group = self.draw(4) as u16;
         let member = self.draw(3) as u8;
-        let _moved = self.take(rt, &Step::MoveExtent { group, member, to });
+        self.go(rt, Step::MoveExtent { group, member, to });
     }
 
     // A step of the flow of payloads.
@@ -292,23 +344,7 @@ impl Walk {
         let worker = self.worker();
         let slot = self.slot();
         let block = self.block();
-        let step = match kind {
-            0 => Step::Claim { worker, slot },
-            1 => Step::Release { worker, slot },
-            2 => Step::Copy {
-                worker,
-                slot,
-                block,
-            },
-            3 => Step::Discard { worker, slot },
-            4 => Step::Read { block },
-            _ => Step::Commit {
-                worker,
-                slot,
-                block,
-            },
-        };
-        let _answer = self.take(rt, &step);
+        self.go(rt, flow_step(kind, worker, slot, block));
     }
 
     // A record's place is asked for that may be or have been one of its block's.
@@ -319,7 +355,7 @@ impl Walk {
             hop: self.draw(2) as u16,
             place: self.slot(),
         };
-        let _found = self.take(rt, &Step::ReadAt { record });
+        self.go(rt, Step::ReadAt { record });
     }
 
     fn turn(&mut self, rt: &impl Abort) {
@@ -347,5 +383,5 @@ fn after_each_step_of_a_long_walk_three_maps_are_one(rt: HostRuntime) {
     }
     assert!(rt; walk.steps > TURNS);
     assert!(rt; walk.unmade > 5);
-    assert!(rt; walk.world.array().drive_count() > 8);
+    assert!(rt; drive_count(&walk.world) > 8);
 }
