@@ -34,6 +34,26 @@ fn taken_apart(
     (parts, map, claims)
 }
 
+// The array of parts, their map and just its claims.
+fn put_together(
+    rt: &impl Abort,
+    alloc: Global,
+    parts: Parts<MemDrive>,
+    map: BlockMap,
+    claims: Vec<Plain>,
+) -> Memory
+    requires fit { IsFit held_units parts }
+    requires places { HasPlaces parts.groups (at map) }
+    ensures places { HasPlaces result.parts.groups (at map) }
+    ensures kept { (s : ℕ) → IsPlaced (at map) s (kept_at result s) }
+{
+    let Ok((array, others)) = Array::adopt_among(alloc, parts, map, claims) else {
+        panic!(rt; "not put together")
+    };
+    assert!(rt; others.is_empty());
+    array
+}
+
 // Takes the array apart and puts it together: the array, in which nothing is pending, and a second map of it.
 fn adopted(rt: &impl Abort, alloc: Global, array: Memory) -> (Memory, BlockMap)
     ensures places { HasPlaces result.0.parts.groups (at result.1) }
@@ -43,11 +63,7 @@ fn adopted(rt: &impl Abort, alloc: Global, array: Memory) -> (Memory, BlockMap)
     let Ok(copy) = map.copied(alloc) else {
         panic!(rt; "no second map")
     };
-    let Ok((array, others)) = Array::adopt_among(alloc, parts, map, claims) else {
-        panic!(rt; "not put together")
-    };
-    assert!(rt; others.is_empty());
-    (array, copy)
+    (put_together(rt, alloc, parts, map, claims), copy)
 }
 
 // Takes an array apart in which nothing is pending, and puts it together from all of its claims.
@@ -79,9 +95,19 @@ fn an_array_at_rest_that_is_taken_apart_is_adopted(rt: HostRuntime) {
     assert!(rt; is_as_written(&rt, &mut Rig { array, alloc }));
 }
 
-// Takes the array apart, and puts it together first without its last claim, which is of its lowest slot, and then with it.
-fn adopted_at_last(rt: &impl Abort, alloc: Global, array: Memory, lowest: u16) -> Memory {
-    let (parts, map, mut claims) = taken_apart(rt, alloc, array);
+// Parts aren't put together without their last claim, which is of their lowest slot, and come back with it.
+fn refused_without_last(
+    rt: &impl Abort,
+    alloc: Global,
+    whole: (Parts<MemDrive>, BlockMap, Vec<Plain>),
+    lowest: u16,
+) -> (Parts<MemDrive>, BlockMap, Vec<Plain>)
+    requires fit { IsFit held_units whole.0 }
+    requires places { HasPlaces whole.0.groups (at whole.1) }
+    ensures fit { IsFit held_units result.0 }
+    ensures places { HasPlaces result.0.groups (at result.1) }
+{
+    let (parts, map, mut claims) = whole;
     let Some(last) = claims.pop() else {
         panic!(rt; "no claim")
     };
@@ -91,11 +117,14 @@ fn adopted_at_last(rt: &impl Abort, alloc: Global, array: Memory, lowest: u16) -
     assert!(rt; why == NotAdopted::NoClaim(lowest));
     assert!(rt; claims.as_slice() == [Plain { slot: 130 }, Plain { slot: 4 }].as_slice());
     assert!(rt; claims.push(last).is_ok());
-    let Ok((array, others)) = Array::adopt_among(alloc, parts, map, claims) else {
-        panic!(rt; "not put together")
-    };
-    assert!(rt; others.is_empty());
-    array
+    (parts, map, claims)
+}
+
+// Takes the array apart, and puts it together first without its last claim, which is of its lowest slot, and then with it.
+fn adopted_at_last(rt: &impl Abort, alloc: Global, array: Memory, lowest: u16) -> Memory {
+    let whole = taken_apart(rt, alloc, array);
+    let (parts, map, claims) = refused_without_last(rt, alloc, whole, lowest);
+    put_together(rt, alloc, parts, map, claims)
 }
 
 #[test]

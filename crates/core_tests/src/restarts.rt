@@ -37,7 +37,12 @@ fn lists_newest(rig: &Rig) -> bool {
 
 // Whether the array holds the newest places that `written` left, and no other slot of its groups.
 fn holds_newest(array: &Memory) -> bool {
-    (0..256).all(|slot| array.is_held(slot) == (slot == 2 || slot == 4 || slot == 130))
+    for slot in 0..256u16 {
+        if array.is_held(slot) != (slot == 2 || slot == 4 || slot == 130) {
+            return false;
+        }
+    }
+    true
 }
 
 /// Whether the array tells what `written` left, made anew, and no more.
@@ -47,10 +52,12 @@ pub(crate) fn is_as_written(rt: &impl Abort, rig: &mut Rig) -> bool {
 
 // Whether the claims are of these slots, one of each.
 fn are_of(claims: &[Plain], slots: &[u16]) -> bool {
+    for slot in slots {
+        if !claims.contains(&Plain { slot: *slot }) {
+            return false;
+        }
+    }
     claims.len() == slots.len()
-        && slots
-            .iter()
-            .all(|slot| claims.contains(&Plain { slot: *slot }))
 }
 
 // Takes the array apart, which held these slots, and makes it anew with claims of some others beside: the array, and the

@@ -1,16 +1,16 @@
 // Groups that are unmade and made again: whose claims are wanted, in which order a refusal is told, and what comes back.
 use crate::rig::Rig;
-use std::alloc::{AllocError, Global};
+use std::alloc::Global;
 use std::process::Abort;
 use step_core::{Class, Plain, Refusal};
 
 // Claims of these slots.
-fn claims_of(alloc: Global, slots: &[u16]) -> Result<Vec<Plain>, AllocError> {
+fn claims_of(rt: &impl Abort, alloc: Global, slots: &[u16]) -> Vec<Plain> {
     let mut claims = Vec::new(alloc);
     for slot in slots {
-        claims.push(Plain { slot: *slot })?;
+        assert!(rt; claims.push(Plain { slot: *slot }).is_ok());
     }
-    Ok(claims)
+    claims
 }
 
 fn are_of(claims: &[Plain], slots: &[u16]) -> bool {
@@ -23,9 +23,7 @@ fn are_of(claims: &[Plain], slots: &[u16]) -> bool {
 
 // Whether unmaking a group with claims of these slots is refused so, with the claims back in their order.
 fn is_refused(rt: &impl Abort, rig: &mut Rig, group: u16, slots: &[u16], wanted: Refusal) -> bool {
-    let Ok(claims) = claims_of(rig.alloc, slots) else {
-        panic!(rt; "no memory")
-    };
+    let claims = claims_of(rt, rig.alloc, slots);
     match rig.array.unmake_group(group, claims) {
         Ok(()) => false,
         Err((refusal, claims)) => refusal == wanted && are_of(&claims, slots),
@@ -34,9 +32,7 @@ fn is_refused(rt: &impl Abort, rig: &mut Rig, group: u16, slots: &[u16], wanted:
 
 // Unmakes group 0 with its claims, the last slot's first.
 fn unmake(rt: &impl Abort, rig: &mut Rig) {
-    let Ok(claims) = claims_of(rig.alloc, &[5, 0, 4, 1, 3, 2]) else {
-        panic!(rt; "no memory")
-    };
+    let claims = claims_of(rt, rig.alloc, &[5, 0, 4, 1, 3, 2]);
     assert!(rt; rig.array.unmake_group(0, claims).is_ok());
 }
 
