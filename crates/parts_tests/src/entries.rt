@@ -2,6 +2,7 @@
 use crate::rig::Rig;
 use extent_groups::Class;
 use flat_machine::Refusal;
+use std::alloc::Global;
 use std::process::Abort;
 
 /// Writes sevens to the units of the first two extents of all drives.
@@ -25,28 +26,50 @@ fn hold(rt: &impl Abort, rig: &mut Rig, drives: &[usize], first: u32, end: u32, 
     true
 }
 
+/// Whether no group owns an extent of this number on any drive.
+fn are_unowned(rt: &impl Abort, rig: &Rig, extent: u16) -> bool {
+    for drive in 0..4 {
+        if !rig.is_owned(rt, drive, extent, None) {
+            return false;
+        }
+    }
+    true
+}
+
+/// Whether group 2 doesn't enter, for this drive is lost.
+fn misses(
+    rt: &impl Abort,
+    alloc: Global,
+    rig: &mut Rig,
+    class: Class,
+    drives: &[u8],
+    lost: u8,
+) -> bool {
+    rig.enter(rt, alloc, 2, class, drives, 1) == Err(Refusal::DriveLost(lost))
+}
+
 #[test]
 fn a_group_that_enters_is_wiped_and_the_tables_have_it(rt: HostRuntime) {
     let alloc = rt.alloc();
     let mut rig = Rig::new(&rt, alloc);
     soil(&rt, &mut rig);
-    assert!(rt; rig.enter(&rt, alloc, 0, Class::Mirrored, &[0, 1, 2], 0) == Ok(()));
+    rig.enters(&rt, alloc, 0, Class::Mirrored, &[0, 1, 2], 0);
     rig.unit.fill(7);
-    assert!(rt; rig.enter(&rt, alloc, 5, Class::Parity, &[3, 1, 2], 1) == Ok(()));
+    rig.enters(&rt, alloc, 5, Class::Parity, &[3, 1, 2], 1);
 
     assert!(rt; hold(&rt, &mut rig, &[0, 1, 2], 0, 4, 0));
     assert!(rt; hold(&rt, &mut rig, &[1, 2, 3], 4, 8, 0));
     assert!(rt; hold(&rt, &mut rig, &[3], 0, 4, 7));
     assert!(rt; hold(&rt, &mut rig, &[0], 4, 8, 7));
 
-    assert!(rt; rig.parts.groups.class_of(0) == Some(Class::Mirrored));
-    assert!(rt; rig.parts.groups.class_of(5) == Some(Class::Parity));
-    assert!(rt; rig.owner(&rt, 2, 0) == Some(0));
-    assert!(rt; rig.owner(&rt, 2, 1) == Some(5));
-    assert!(rt; rig.owner(&rt, 3, 0).is_none());
+    assert!(rt; rig.is_of(0, Class::Mirrored));
+    assert!(rt; rig.is_of(5, Class::Parity));
+    assert!(rt; rig.is_owned(&rt, 2, 0, Some(0)));
+    assert!(rt; rig.is_owned(&rt, 2, 1, Some(5)));
+    assert!(rt; rig.is_owned(&rt, 3, 0, None));
 
     // Index 0 is on the first member, its parity on the last.
-    assert!(rt; rig.write(&rt, 640, 9) == Ok(()));
+    rig.writes(&rt, 640, 9);
     assert!(rt; hold(&rt, &mut rig, &[3, 2], 4, 5, 9));
     assert!(rt; hold(&rt, &mut rig, &[1], 4, 5, 0));
 }
@@ -55,24 +78,19 @@ fn a_group_that_enters_is_wiped_and_the_tables_have_it(rt: HostRuntime) {
 fn a_group_is_refused_with_its_first_member_whose_drive_is_lost(rt: HostRuntime) {
     let alloc = rt.alloc();
     let mut rig = Rig::new(&rt, alloc);
-    assert!(rt; rig.enter(&rt, alloc, 1, Class::Mirrored, &[0, 1, 2], 0) == Ok(()));
+    rig.enters(&rt, alloc, 1, Class::Mirrored, &[0, 1, 2], 0);
     rig.fuse(&rt, 3, 2);
-    assert!(rt; rig.first_lost(&rt, alloc, &[1, 3, 0]).is_none());
-    let refused = rig.enter(&rt, alloc, 2, Class::Mirrored, &[1, 3, 0], 1);
-    assert!(rt; refused == Err(Refusal::DriveLost(3)));
+    assert!(rt; rig.is_first_lost(&rt, alloc, &[1, 3, 0], None));
+    assert!(rt; misses(&rt, alloc, &mut rig, Class::Mirrored, &[1, 3, 0], 3));
     rig.lose(&rt, 0);
-    let refused = rig.enter(&rt, alloc, 2, Class::Parity, &[1, 0, 3], 1);
-    assert!(rt; refused == Err(Refusal::DriveLost(0)));
-    let refused = rig.enter(&rt, alloc, 2, Class::Parity, &[1, 3, 0], 1);
-    assert!(rt; refused == Err(Refusal::DriveLost(3)));
+    assert!(rt; misses(&rt, alloc, &mut rig, Class::Parity, &[1, 0, 3], 0));
+    assert!(rt; misses(&rt, alloc, &mut rig, Class::Parity, &[1, 3, 0], 3));
 
-    assert!(rt; rig.first_lost(&rt, alloc, &[1, 3, 0]) == Some(3));
-    assert!(rt; rig.first_lost(&rt, alloc, &[1, 0, 3]) == Some(0));
-    assert!(rt; rig.first_lost(&rt, alloc, &[2, 1]).is_none());
+    assert!(rt; rig.is_first_lost(&rt, alloc, &[1, 3, 0], Some(3)));
+    assert!(rt; rig.is_first_lost(&rt, alloc, &[1, 0, 3], Some(0)));
+    assert!(rt; rig.is_first_lost(&rt, alloc, &[2, 1], None));
     assert!(rt; rig.parts.groups.is_free(2));
-    assert!(rt; rig.parts.groups.class_of(1) == Some(Class::Mirrored));
-    for drive in 0..4 {
-        assert!(rt; rig.owner(&rt, drive, 1).is_none());
-    }
-    assert!(rt; rig.owner(&rt, 0, 0) == Some(1));
+    assert!(rt; rig.is_of(1, Class::Mirrored));
+    assert!(rt; are_unowned(&rt, &rig, 1));
+    assert!(rt; rig.is_owned(&rt, 0, 0, Some(1)));
 }

@@ -15,7 +15,7 @@ use extents::{Drive, ExtentTable, Header, MemDrive, Shape};
 use flat_machine::Refusal;
 use header_scan::{ScanFault, restart, scan, scan_groups};
 use map_join::{BlockMap, Record};
-use std::alloc::{AllocError, Global};
+use std::alloc::Global;
 use std::process::Abort;
 use step_core::{Array, Plain};
 
@@ -45,6 +45,26 @@ pub(crate) fn record(block: u32, version: u32, hop: u16, place: u16) -> Record {
 /// Whether each byte is this one.
 pub(crate) fn is_all(unit: &[u8], wanted: u8) -> bool {
     unit.iter().all(|byte| *byte == wanted)
+}
+
+/// A buffer of so many zeros.
+fn zeros(rt: &impl Abort, alloc: Global, size: usize) -> Vec<u8> {
+    let Ok(bytes) = vec![in alloc; 0; size] else {
+        panic!(rt; "no buffer")
+    };
+    bytes
+}
+
+/// Four drives of a shape, all of whose units are zero.
+fn four_drives(rt: &impl Abort, alloc: Global, shape: &Shape) -> Vec<MemDrive> {
+    let mut drives = Vec::new(alloc);
+    for _drive in 0..4 {
+        let Ok(drive) = MemDrive::new(alloc, shape) else {
+            panic!(rt; "no drive")
+        };
+        assert!(rt; drives.push(drive).is_ok());
+    }
+    drives
 }
 
 /// An extent of this number on each of these drives in turn.
@@ -105,36 +125,40 @@ pub(crate) fn restart_parts(
 impl Rig {
     /// Drives all of whose units are zero, and no group.
     pub(crate) fn new(rt: &impl Abort, alloc: Global) -> Rig {
-        let Ok(rig) = Rig::try_new(rt, alloc) else {
-            panic!(rt; "no memory")
+        let Ok(shape) = Shape::new(8, 2, 8, 16) else {
+            panic!(rt; "no shape")
         };
+        let Ok(groups) = GroupTable::new(alloc, &shape) else {
+            panic!(rt; "no groups")
+        };
+        let Ok(extents) = ExtentTable::new(alloc, 4, &shape) else {
+            panic!(rt; "no extents")
+        };
+        let drives = four_drives(rt, alloc, &shape);
+        Rig {
+            parts: Parts {
+                shape,
+                groups,
+                extents,
+                drives,
+            },
+            unit: zeros(rt, alloc, SIZE),
+            payload: [0; 8],
+            scratch: zeros(rt, alloc, 2 * SIZE),
+        }
+    }
+
+    /// Slots 0 to 5 are mirrored on drives 0 to 2.
+    pub(crate) fn mirrored(rt: &impl Abort, alloc: Global) -> Rig {
+        let mut rig = Rig::new(rt, alloc);
+        rig.makes(rt, alloc, 0, Class::Mirrored, &[0, 1, 2], 0);
         rig
     }
 
-    fn try_new(rt: &impl Abort, alloc: Global) -> Result<Rig, AllocError> {
-        let shape = Shape::new(8, 2, 8, 16).expect(rt, "a shape");
-        let mut drives = Vec::with_capacity(alloc, 4)?;
-        for _drive in 0..4 {
-            drives.push(MemDrive::new(alloc, &shape)?)?;
-        }
-        Ok(Rig {
-            parts: Parts {
-                shape,
-                groups: GroupTable::new(alloc, &shape)?,
-                extents: ExtentTable::new(alloc, 4, &shape)?,
-                drives,
-            },
-            unit: vec![in alloc; 0; SIZE]?,
-            payload: [0; 8],
-            scratch: vec![in alloc; 0; 2 * SIZE]?,
-        })
-    }
-
-    /// Slots 0 to 5 are mirrored on drives 0 to 2, slots 128 to 135 have parity on drives 1 to 3.
+    /// The same, and slots 128 to 135 have parity on drives 1 to 3.
     pub(crate) fn grouped(rt: &impl Abort, alloc: Global) -> Rig {
-        let mut rig = Rig::new(rt, alloc);
-        assert!(rt; rig.make(rt, alloc, 0, Class::Mirrored, &[0, 1, 2], 0) == Ok(()));
-        assert!(rt; rig.make(rt, alloc, 1, Class::Parity, &[1, 2, 3], 1) == Ok(()));
+        let mut rig = Rig::mirrored(rt, alloc);
+        rig.makes(rt, alloc, 1, Class::Parity, &[1, 2, 3], 1);
         rig
     }
 
@@ -161,51 +185,64 @@ impl Rig {
         self.parts.read(slot, &mut self.unit, &mut self.scratch)
     }
 
-    /// Writes a unit of one byte throughout to a slot.
-    pub(crate) fn write(&mut self, rt: &impl Abort, slot: u16, byte: u8) -> Result<(), Refusal> {
-        self.unit.fill(byte);
+    /// Writes what the buffer holds to a slot.
+    fn store(&mut self, rt: &impl Abort, slot: u16) -> Result<(), Refusal> {
         assert!(rt; self.is_ready());
         assert!(rt; is_slot(&self.parts.groups, slot));
         self.parts.write(slot, &self.unit, &mut self.scratch)
     }
 
-    /// Puts a payload of one byte throughout under a blank header in a slot.
-    pub(crate) fn put(&mut self, rt: &impl Abort, slot: u16, byte: u8) -> Result<(), Refusal> {
+    /// Writes a unit of one byte throughout to a slot.
+    pub(crate) fn write(&mut self, rt: &impl Abort, slot: u16, byte: u8) -> Result<(), Refusal> {
+        self.unit.fill(byte);
+        self.store(rt, slot)
+    }
+
+    /// Writes a unit of one byte throughout to a slot, which is not refused.
+    pub(crate) fn writes(&mut self, rt: &impl Abort, slot: u16, byte: u8) {
+        assert!(rt; self.write(rt, slot, byte).is_ok());
+    }
+
+    /// Puts a payload of one byte throughout under a blank header in a slot, which is not refused.
+    pub(crate) fn put(&mut self, rt: &impl Abort, slot: u16, byte: u8) {
         assert!(rt; self.is_ready());
         assert!(rt; is_slot(&self.parts.groups, slot));
         assert!(rt; self.parts.groups.shape().payload == 8);
         let payload = [byte; 8];
-        self.parts
-            .put(slot, &payload, &mut self.unit, &mut self.scratch)
+        let put = self
+            .parts
+            .put(slot, &payload, &mut self.unit, &mut self.scratch);
+        assert!(rt; put.is_ok());
     }
 
-    /// Writes what a slot holds into a slot, under a record's header.
-    pub(crate) fn carry(
-        &mut self,
-        rt: &impl Abort,
-        from: u16,
-        to: u16,
-        record: Record,
-    ) -> Result<(), Refusal> {
+    /// Writes what a slot holds into a slot, under a record's header, which is not refused.
+    pub(crate) fn carry(&mut self, rt: &impl Abort, from: u16, to: u16, record: Record) {
         assert!(rt; self.is_ready());
         assert!(rt; is_slot(&self.parts.groups, from));
         assert!(rt; is_slot(&self.parts.groups, to));
         assert!(rt; record.version > 0);
         let header = Header::Is(record);
-        self.parts
-            .carry(from, to, &header, &mut self.unit, &mut self.scratch)
+        let carried = self
+            .parts
+            .carry(from, to, &header, &mut self.unit, &mut self.scratch);
+        assert!(rt; carried.is_ok());
     }
 
     /// Carries what a slot holds to another, or the same, each under a record's header.
     pub(crate) fn carry_all(&mut self, rt: &impl Abort, carried: &[(u16, Record)]) {
         for (from, told) in carried {
-            assert!(rt; self.carry(rt, *from, told.place, *told) == Ok(()));
+            self.carry(rt, *from, told.place, *told);
         }
     }
 
     /// Whether a slot's unit is of this byte.
     pub(crate) fn holds(&mut self, rt: &impl Abort, slot: u16, byte: u8) -> bool {
-        self.read(rt, slot) == Ok(()) && is_all(&self.unit, byte)
+        self.read(rt, slot).is_ok() && is_all(&self.unit, byte)
+    }
+
+    /// Whether a slot is told as gone when it is read.
+    pub(crate) fn is_gone(&mut self, rt: &impl Abort, slot: u16) -> bool {
+        self.read(rt, slot) == Err(Refusal::Gone(slot))
     }
 
     /// Whether the unit at an address of a drive is of this byte.
@@ -213,20 +250,12 @@ impl Rig {
         self.peek(rt, drive, at) && is_all(&self.unit, byte)
     }
 
-    /// Sets a byte of what a slot holds.
-    pub(crate) fn set(
-        &mut self,
-        rt: &impl Abort,
-        slot: u16,
-        at: usize,
-        byte: u8,
-    ) -> Result<(), Refusal> {
-        self.read(rt, slot)?;
+    /// Sets a byte of what a slot holds, which is not refused.
+    pub(crate) fn set(&mut self, rt: &impl Abort, slot: u16, at: usize, byte: u8) {
+        assert!(rt; self.read(rt, slot).is_ok());
         assert!(rt; at < self.unit.len());
         self.unit[at] = byte;
-        assert!(rt; self.is_ready());
-        assert!(rt; is_slot(&self.parts.groups, slot));
-        self.parts.write(slot, &self.unit, &mut self.scratch)
+        assert!(rt; self.store(rt, slot).is_ok());
     }
 
     /// The map of the headers of all groups.
@@ -269,6 +298,19 @@ impl Rig {
         self.parts.make(group, class, members, &zeros)
     }
 
+    /// Makes a group of an extent of this number on each of these drives in turn, which is not refused.
+    pub(crate) fn makes(
+        &mut self,
+        rt: &impl Abort,
+        alloc: Global,
+        group: u16,
+        class: Class,
+        drives: &[u8],
+        extent: u16,
+    ) {
+        assert!(rt; self.make(rt, alloc, group, class, drives, extent).is_ok());
+    }
+
     /// Lets a group enter, of an extent of this number on each of these drives in turn.
     pub(crate) fn enter(
         &mut self,
@@ -285,6 +327,19 @@ impl Rig {
         assert!(rt; are_there(&self.parts.extents, &members));
         assert!(rt; put_check(&self.parts.extents, &members).is_none());
         self.parts.enter(group, class, members, &mut self.unit)
+    }
+
+    /// Lets a group enter, of an extent of this number on each of these drives in turn, which is not refused.
+    pub(crate) fn enters(
+        &mut self,
+        rt: &impl Abort,
+        alloc: Global,
+        group: u16,
+        class: Class,
+        drives: &[u8],
+        extent: u16,
+    ) {
+        assert!(rt; self.enter(rt, alloc, group, class, drives, extent).is_ok());
     }
 
     /// Moves a group's member onto another extent.
@@ -308,17 +363,28 @@ impl Rig {
             .shift(group, member, to, &mut self.unit, &mut self.scratch)
     }
 
-    /// The lowest slot of a group that is gone.
-    pub(crate) fn first_gone(&self, rt: &impl Abort, group: u16) -> Option<u16> {
-        assert!(rt; self.is_ready());
-        self.parts.first_gone(group)
+    /// Moves a group's member onto another extent, which is not refused.
+    pub(crate) fn shifts(&mut self, rt: &impl Abort, group: u16, member: u8, to: Member) {
+        assert!(rt; self.shift(rt, group, member, to).is_ok());
     }
 
-    /// The first of these drives, in the order given, that is lost.
-    pub(crate) fn first_lost(&self, rt: &impl Abort, alloc: Global, drives: &[u8]) -> Option<u8> {
+    /// Whether this is the lowest slot of a group that is gone, or none is.
+    pub(crate) fn is_first_gone(&self, rt: &impl Abort, group: u16, wanted: Option<u16>) -> bool {
+        assert!(rt; self.is_ready());
+        self.parts.first_gone(group) == wanted
+    }
+
+    /// Whether this is the first of these drives, in the order given, that is lost, or none is.
+    pub(crate) fn is_first_lost(
+        &self,
+        rt: &impl Abort,
+        alloc: Global,
+        drives: &[u8],
+        wanted: Option<u8>,
+    ) -> bool {
         let members = members_on(rt, alloc, drives, 0);
         assert!(rt; are_on(self.parts.drives.len(), &members));
-        self.parts.first_lost(&members)
+        self.parts.first_lost(&members) == wanted
     }
 
     /// Reads the payload of a slot into the buffer.
@@ -338,10 +404,21 @@ impl Rig {
         self.parts.see(&asked, &mut self.payload, &mut self.unit, &mut self.scratch)
     }
 
-    /// The group that owns an extent.
-    pub(crate) fn owner(&self, rt: &impl Abort, drive: u8, extent: u16) -> Option<u16> {
+    /// Whether this group owns an extent, or none does.
+    pub(crate) fn is_owned(
+        &self,
+        rt: &impl Abort,
+        drive: u8,
+        extent: u16,
+        wanted: Option<u16>,
+    ) -> bool {
         assert!(rt; self.parts.extents.has_extent(drive, extent));
-        self.parts.extents.owner(drive, extent)
+        self.parts.extents.owner(drive, extent) == wanted
+    }
+
+    /// Whether a group is made, of this class.
+    pub(crate) fn is_of(&self, group: u16, class: Class) -> bool {
+        self.parts.groups.class_of(group) == Some(class)
     }
 
     /// Loses a drive.

@@ -1,9 +1,8 @@
 // Members that are moved onto other extents: slots keep their units, also where they are rebuilt.
-ghost use Rattle.std.specs.Prelude.{◌+◌, ◌≤◌};
-
 use crate::rig::Rig;
 use extent_groups::{Class, Member};
 use flat_machine::Refusal;
+use std::alloc::Global;
 use std::process::Abort;
 
 fn extent(drive: u8, extent: u16) -> Member {
@@ -11,41 +10,65 @@ fn extent(drive: u8, extent: u16) -> Member {
 }
 
 /// Fills slots from one on with bytes from another on, one for each.
-fn fill(rt: &impl Abort, rig: &mut Rig, first: u16, count: u16, byte: u8)
-    requires slots { first + count ≤ 65535 }
-    requires bytes { byte + count ≤ 255 }
-{
+fn fill(rt: &impl Abort, rig: &mut Rig, first: u16, count: u8, byte: u8) {
     for index in 0..count {
-        assert!(rt; rig.write(rt, first + index, byte + index as u8) == Ok(()));
+        rig.writes(
+            rt,
+            first.wrapping_add(u16::from(index)),
+            byte.wrapping_add(index),
+        );
     }
 }
 
 /// Whether slots from one on hold bytes from another on, one for each.
-fn are_filled(rt: &impl Abort, rig: &mut Rig, first: u16, count: u16, byte: u8) -> bool
-    requires slots { first + count ≤ 65535 }
-    requires bytes { byte + count ≤ 255 }
-{
+fn are_filled(rt: &impl Abort, rig: &mut Rig, first: u16, count: u8, byte: u8) -> bool {
     for index in 0..count {
-        if !rig.holds(rt, first + index, byte + index as u8) {
+        if !rig.holds(
+            rt,
+            first.wrapping_add(u16::from(index)),
+            byte.wrapping_add(index),
+        ) {
             return false;
         }
     }
     true
 }
 
+/// A mirrored group on drives 0 to 2, whose slots 0 to 5 hold 20 to 25.
+fn mirrored(rt: &impl Abort, alloc: Global) -> Rig {
+    let mut rig = Rig::new(rt, alloc);
+    rig.enters(rt, alloc, 0, Class::Mirrored, &[0, 1, 2], 0);
+    fill(rt, &mut rig, 0, 6, 20);
+    rig
+}
+
+/// Group 1 with parity on drives 0 to 2, whose slots 128 to 135 hold 40 to 47.
+fn parity(rt: &impl Abort, alloc: Global) -> Rig {
+    let mut rig = Rig::new(rt, alloc);
+    rig.enters(rt, alloc, 1, Class::Parity, &[0, 1, 2], 1);
+    fill(rt, &mut rig, 128, 8, 40);
+    rig
+}
+
+/// Whether group 0 has exactly these members.
+fn is_on(rig: &Rig, members: &[Member]) -> bool {
+    rig.parts.groups.members(0) == members
+}
+
+/// Whether a move of one of group 0's members onto drive 3 is refused so.
+fn refuses(rt: &impl Abort, rig: &mut Rig, member: u8, wanted: Refusal) -> bool {
+    rig.shift(rt, 0, member, extent(3, 0)) == Err(wanted)
+}
+
 #[test]
 fn a_member_that_is_there_is_copied(rt: HostRuntime) {
     let alloc = rt.alloc();
-    let mut rig = Rig::new(&rt, alloc);
-    assert!(rt; rig.enter(&rt, alloc, 0, Class::Mirrored, &[0, 1, 2], 0) == Ok(()));
-    fill(&rt, &mut rig, 0, 6, 20);
+    let mut rig = mirrored(&rt, alloc);
     assert!(rt; rig.parts.groups.slots_of(0) == 6);
-    assert!(rt; rig.shift(&rt, 0, 2, extent(3, 5)) == Ok(()));
-    assert!(rt;
-        rig.parts.groups.members(0) == [extent(0, 0), extent(1, 0), extent(3, 5)].as_slice()
-    );
-    assert!(rt; rig.owner(&rt, 2, 0).is_none());
-    assert!(rt; rig.owner(&rt, 3, 5) == Some(0));
+    rig.shifts(&rt, 0, 2, extent(3, 5));
+    assert!(rt; is_on(&rig, &[extent(0, 0), extent(1, 0), extent(3, 5)]));
+    assert!(rt; rig.is_owned(&rt, 2, 0, None));
+    assert!(rt; rig.is_owned(&rt, 3, 5, Some(0)));
     assert!(rt; are_filled(&rt, &mut rig, 0, 6, 20));
 
     // Position 2 is of the pair of indexes 2 and 3, position 5 of that of 4 and 5.
@@ -55,18 +78,16 @@ fn a_member_that_is_there_is_copied(rt: HostRuntime) {
     assert!(rt; rig.drive_holds(&rt, 3, 23, 25));
     rig.lose(&rt, 0);
     rig.lose(&rt, 1);
-    assert!(rt; rig.read(&rt, 0) == Err(Refusal::Gone(0)));
+    assert!(rt; rig.is_gone(&rt, 0));
     assert!(rt; are_filled(&rt, &mut rig, 2, 4, 22));
 }
 
 #[test]
 fn a_lost_member_is_rebuilt_with_its_parity(rt: HostRuntime) {
     let alloc = rt.alloc();
-    let mut rig = Rig::new(&rt, alloc);
-    assert!(rt; rig.enter(&rt, alloc, 1, Class::Parity, &[0, 1, 2], 1) == Ok(()));
-    fill(&rt, &mut rig, 128, 8, 40);
+    let mut rig = parity(&rt, alloc);
     rig.lose(&rt, 1);
-    assert!(rt; rig.shift(&rt, 1, 1, extent(3, 0)) == Ok(()));
+    rig.shifts(&rt, 1, 1, extent(3, 0));
     assert!(rt; are_filled(&rt, &mut rig, 128, 8, 40));
 
     // Index 2 is the first of the second member; the parity of the second stripe is on it.
@@ -74,47 +95,47 @@ fn a_lost_member_is_rebuilt_with_its_parity(rt: HostRuntime) {
     assert!(rt; rig.drive_holds(&rt, 3, 2, 44 ^ 46));
     rig.lose(&rt, 0);
     assert!(rt; are_filled(&rt, &mut rig, 128, 8, 40));
-    assert!(rt; rig.first_gone(&rt, 1).is_none());
+    assert!(rt; rig.is_first_gone(&rt, 1, None));
+}
+
+/// Whether the slots stay where a member's drive is lost at one of its calls in the midst of its move, and then another.
+fn is_rebuilt(rt: &impl Abort, alloc: Global, calls: u64) -> bool {
+    let mut rig = parity(rt, alloc);
+    rig.fuse(rt, 1, calls);
+    rig.shifts(rt, 1, 1, extent(3, 0));
+    assert!(rt; are_filled(rt, &mut rig, 128, 8, 40));
+    rig.lose(rt, 2);
+    are_filled(rt, &mut rig, 128, 8, 40)
 }
 
 #[test]
 fn a_member_whose_drive_is_lost_in_the_midst_is_rebuilt(rt: HostRuntime) {
     for calls in 1..5 {
-        let alloc = rt.alloc();
-        let mut rig = Rig::new(&rt, alloc);
-        assert!(rt; rig.enter(&rt, alloc, 1, Class::Parity, &[0, 1, 2], 1) == Ok(()));
-        fill(&rt, &mut rig, 128, 8, 40);
-        rig.fuse(&rt, 1, calls);
-        assert!(rt; rig.shift(&rt, 1, 1, extent(3, 0)) == Ok(()));
-        assert!(rt; are_filled(&rt, &mut rig, 128, 8, 40));
-        rig.lose(&rt, 2);
-        assert!(rt; are_filled(&rt, &mut rig, 128, 8, 40));
+        assert!(rt; is_rebuilt(&rt, rt.alloc(), calls));
     }
+}
+
+/// Moves members of a group two of whose drives are lost, which is refused where a slot is gone.
+fn move_with_two_lost(rt: &impl Abort, alloc: Global) {
+    let mut rig = mirrored(rt, alloc);
+    rig.lose(rt, 0);
+    rig.lose(rt, 2);
+    assert!(rt; rig.is_first_gone(rt, 0, Some(2)));
+    assert!(rt; refuses(rt, &mut rig, 2, Refusal::Gone(2)));
+    // A member that is there is copied, whatever else the group misses.
+    rig.shifts(rt, 0, 1, extent(3, 0));
+    assert!(rt; rig.holds(rt, 0, 20));
+    assert!(rt; is_on(&rig, &[extent(0, 0), extent(3, 0), extent(2, 0)]));
 }
 
 #[test]
 fn a_move_is_refused_with_the_lowest_gone_slot_or_the_target(rt: HostRuntime) {
     let alloc = rt.alloc();
-    let mut rig = Rig::new(&rt, alloc);
-    assert!(rt; rig.enter(&rt, alloc, 0, Class::Mirrored, &[0, 1, 2], 0) == Ok(()));
-    fill(&rt, &mut rig, 0, 6, 20);
+    let mut rig = mirrored(&rt, alloc);
     rig.fuse(&rt, 3, 3);
-    assert!(rt; rig.shift(&rt, 0, 0, extent(3, 0)) == Err(Refusal::DriveLost(3)));
-    assert!(rt; rig.owner(&rt, 3, 0).is_none());
-    assert!(rt; rig.owner(&rt, 0, 0) == Some(0));
+    assert!(rt; refuses(&rt, &mut rig, 0, Refusal::DriveLost(3)));
+    assert!(rt; rig.is_owned(&rt, 3, 0, None));
+    assert!(rt; rig.is_owned(&rt, 0, 0, Some(0)));
     assert!(rt; are_filled(&rt, &mut rig, 0, 6, 20));
-
-    let mut rig = Rig::new(&rt, alloc);
-    assert!(rt; rig.enter(&rt, alloc, 0, Class::Mirrored, &[0, 1, 2], 0) == Ok(()));
-    fill(&rt, &mut rig, 0, 6, 20);
-    rig.lose(&rt, 0);
-    rig.lose(&rt, 2);
-    assert!(rt; rig.first_gone(&rt, 0) == Some(2));
-    assert!(rt; rig.shift(&rt, 0, 2, extent(3, 0)) == Err(Refusal::Gone(2)));
-    // A member that is there is copied, whatever else the group misses.
-    assert!(rt; rig.shift(&rt, 0, 1, extent(3, 0)) == Ok(()));
-    assert!(rt; rig.holds(&rt, 0, 20));
-    assert!(rt;
-        rig.parts.groups.members(0) == [extent(0, 0), extent(3, 0), extent(2, 0)].as_slice()
-    );
+    move_with_two_lost(&rt, alloc);
 }

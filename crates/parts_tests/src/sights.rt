@@ -11,18 +11,17 @@ use std::process::Abort;
 /// bytes that begin with no header.
 fn filled(rt: &impl Abort, alloc: Global) -> Rig {
     let mut rig = Rig::grouped(rt, alloc);
-    assert!(rt; rig.put(rt, 4, 9) == Ok(()));
-    assert!(rt; rig.put(rt, 1, 8) == Ok(()));
-    assert!(rt; rig.put(rt, 131, 6) == Ok(()));
+    rig.put(rt, 4, 9);
+    rig.put(rt, 1, 8);
+    rig.put(rt, 131, 6);
     let carried = [
         (4, record(5, 2, 0, 4)),
         (1, record(3, 1, 1, 130)),
         (130, record(7, 1, 1, 134)),
     ];
     rig.carry_all(rt, &carried);
-    for slot in [2, 133] {
-        assert!(rt; rig.write(rt, slot, 7) == Ok(()));
-    }
+    rig.writes(rt, 2, 7);
+    rig.writes(rt, 133, 7);
     rig
 }
 
@@ -32,10 +31,15 @@ fn sees(rt: &impl Abort, rig: &mut Rig, asked: Record, byte: u8) -> bool {
     rig.see(rt, asked) == Ok(Sight::Data) && is_all(&rig.payload, byte)
 }
 
+/// Whether another record lies at its place, or none.
+fn is_stale(rt: &impl Abort, rig: &mut Rig, asked: Record, found: Option<Record>) -> bool {
+    rig.see(rt, asked) == Ok(Sight::Stale(found))
+}
+
 /// Whether a slot's payload is of this byte.
 fn reads(rt: &impl Abort, rig: &mut Rig, slot: u16, byte: u8) -> bool {
     rig.payload = [1; 8];
-    rig.take_payload(rt, slot) == Ok(()) && is_all(&rig.payload, byte)
+    rig.take_payload(rt, slot).is_ok() && is_all(&rig.payload, byte)
 }
 
 /// Whether a slot is refused as gone, by a look for this record there and by a reading of its payload.
@@ -57,7 +61,7 @@ fn see_all(rt: &impl Abort, rig: &mut Rig) {
         (record(6, 1, 1, 133), None),
     ];
     for (asked, found) in &stale {
-        assert!(rt; rig.see(rt, *asked) == Ok(Sight::Stale(*found)));
+        assert!(rt; is_stale(rt, rig, *asked, *found));
     }
 }
 

@@ -5,16 +5,14 @@ use flat_machine::Refusal;
 
 #[test]
 fn a_mirrored_slot_stands_one_loss_and_is_gone_with_two(rt: HostRuntime) {
-    let alloc = rt.alloc();
-    let mut rig = Rig::new(&rt, alloc);
-    assert!(rt; rig.make(&rt, alloc, 0, Class::Mirrored, &[0, 1, 2], 0) == Ok(()));
+    let mut rig = Rig::mirrored(&rt, rt.alloc());
     assert!(rt; rig.holds(&rt, 5, 0));
-    assert!(rt; rig.write(&rt, 0, 7) == Ok(()));
-    assert!(rt; rig.write(&rt, 2, 9) == Ok(()));
+    rig.writes(&rt, 0, 7);
+    rig.writes(&rt, 2, 9);
     rig.lose(&rt, 0);
     assert!(rt; rig.holds(&rt, 0, 7));
     rig.fuse(&rt, 1, 1);
-    assert!(rt; rig.read(&rt, 0) == Err(Refusal::Gone(0)));
+    assert!(rt; rig.is_gone(&rt, 0));
     assert!(rt; rig.write(&rt, 0, 8) == Err(Refusal::Gone(0)));
     assert!(rt; rig.holds(&rt, 2, 9));
 }
@@ -23,10 +21,10 @@ fn a_mirrored_slot_stands_one_loss_and_is_gone_with_two(rt: HostRuntime) {
 fn the_parity_of_three_members_is_the_exclusive_or(rt: HostRuntime) {
     let alloc = rt.alloc();
     let mut rig = Rig::new(&rt, alloc);
-    assert!(rt; rig.make(&rt, alloc, 1, Class::Parity, &[1, 2, 3], 1) == Ok(()));
-    assert!(rt; rig.write(&rt, 128, 0x5A) == Ok(()));
+    rig.makes(&rt, alloc, 1, Class::Parity, &[1, 2, 3], 1);
+    rig.writes(&rt, 128, 0x5A);
     assert!(rt; rig.drive_holds(&rt, 3, 4, 0x5A));
-    assert!(rt; rig.write(&rt, 130, 0x33) == Ok(()));
+    rig.writes(&rt, 130, 0x33);
     assert!(rt; rig.drive_holds(&rt, 3, 4, 0x69));
     rig.lose(&rt, 1);
     assert!(rt; rig.holds(&rt, 128, 0x5A));
@@ -41,5 +39,5 @@ fn a_group_whose_second_drive_fails_is_not_made(rt: HostRuntime) {
         rig.make(&rt, alloc, 2, Class::Parity, &[0, 1, 2], 2) == Err(Refusal::DriveLost(1))
     );
     assert!(rt; rig.parts.groups.is_free(2));
-    assert!(rt; rig.make(&rt, alloc, 2, Class::Parity, &[0, 2, 3], 2) == Ok(()));
+    rig.makes(&rt, alloc, 2, Class::Parity, &[0, 2, 3], 2);
 }
