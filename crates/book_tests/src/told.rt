@@ -1,6 +1,6 @@
 // What is told of a storm, however it ended, and of a line that can't be written.
 use step_core::Refusal;
-use storm::{Storm, StormFault, Tally, Told, tell_storm};
+use storm::{Storm, StormFault, Tally, Told, end_storm, tell_storm};
 
 // A storm of which nothing was carried out.
 fn agreed() -> Result<Storm, StormFault> {
@@ -41,4 +41,12 @@ fn a_line_without_room_for_its_end_is_unwritten(rt: HostRuntime) {
     assert!(rt; told_in(&mut ten, Ok(Storm::Differs(10))) == Told::Unwritten);
     assert!(rt; told_in(&mut ten, Ok(Storm::Differs(9))) == Told::Differs);
     assert!(rt; ten == *b"differs 9\n");
+}
+
+// No storm that is run ends with maps that differ, so this end is told by hand.
+#[test]
+fn maps_that_differ_end_with_their_own_status(rt: HostRuntime) {
+    let mut line = Vec::new(rt.alloc());
+    assert!(rt; end_storm(&mut line, Ok(Storm::Differs(70))) == 3);
+    assert!(rt; line.as_slice() == b"differs 70\n".as_slice());
 }

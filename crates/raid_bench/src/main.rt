@@ -2,14 +2,12 @@
 #![tactic(auto)]
 
 mod task;
-mod told;
 
 use script_run::{End, run_script};
 use std::process::ExitCode;
 use std::{env, io};
-use storm::run_storm;
+use storm::{end_storm, run_storm};
 use task::{Task, task_of};
-use told::end_storm;
 
 /// The status for a command line that asks for nothing that the program does.
 const NO_TASK: u8 = 2;

@@ -2,12 +2,14 @@
 #![tactic(auto)]
 
 mod crew;
+mod ended;
 mod life;
 mod outcome;
 mod rounds;
 mod setting;
 mod told;
 
+pub use ended::end_storm;
 pub use life::{Fuse, Orders, run_orders, run_storm};
 pub use outcome::{Storm, StormFault, Tally};
 pub use told::{Told, tell_storm};

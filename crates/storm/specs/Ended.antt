@@ -1,4 +1,4 @@
--- With which status the program ends, once a storm was told.
+-- With which status a program ends, once a storm was told.
 use Rattle.std.specs.Prelude.{◌≡◌, ℕ, List, Option, Result}
 use Rattle.storm.specs.Telling.{IsTold}
 use Rattle.storm.specs.declared.outcome.Storm.{Storm}
