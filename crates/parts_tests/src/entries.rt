@@ -53,9 +53,15 @@ fn a_group_that_enters_is_wiped_and_the_tables_have_it(rt: HostRuntime) {
     let alloc = rt.alloc();
     let mut rig = Rig::new(&rt, alloc);
     soil(&rt, &mut rig);
-    rig.enters(&rt, alloc, 0, Class::Mirrored, &[0, 1, 2], 0);
+    assert!(rt;
+        rig.enter(&rt, alloc, 0, Class::Mirrored, &[0, 1, 2], 0)
+            .is_ok()
+    );
     rig.unit.fill(7);
-    rig.enters(&rt, alloc, 5, Class::Parity, &[3, 1, 2], 1);
+    assert!(rt;
+        rig.enter(&rt, alloc, 5, Class::Parity, &[3, 1, 2], 1)
+            .is_ok()
+    );
 
     assert!(rt; hold(&rt, &mut rig, &[0, 1, 2], 0, 4, 0));
     assert!(rt; hold(&rt, &mut rig, &[1, 2, 3], 4, 8, 0));
@@ -78,7 +84,10 @@ fn a_group_that_enters_is_wiped_and_the_tables_have_it(rt: HostRuntime) {
 fn a_group_is_refused_with_its_first_member_whose_drive_is_lost(rt: HostRuntime) {
     let alloc = rt.alloc();
     let mut rig = Rig::new(&rt, alloc);
-    rig.enters(&rt, alloc, 1, Class::Mirrored, &[0, 1, 2], 0);
+    assert!(rt;
+        rig.enter(&rt, alloc, 1, Class::Mirrored, &[0, 1, 2], 0)
+            .is_ok()
+    );
     rig.fuse(&rt, 3, 2);
     assert!(rt; rig.is_first_lost(&rt, alloc, &[1, 3, 0], None));
     assert!(rt; misses(&rt, alloc, &mut rig, Class::Mirrored, &[1, 3, 0], 3));

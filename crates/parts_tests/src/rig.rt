@@ -151,14 +151,17 @@ impl Rig {
     /// Slots 0 to 5 are mirrored on drives 0 to 2.
     pub(crate) fn mirrored(rt: &impl Abort, alloc: Global) -> Rig {
         let mut rig = Rig::new(rt, alloc);
-        rig.makes(rt, alloc, 0, Class::Mirrored, &[0, 1, 2], 0);
+        assert!(rt;
+            rig.make(rt, alloc, 0, Class::Mirrored, &[0, 1, 2], 0)
+                .is_ok()
+        );
         rig
     }
 
     /// The same, and slots 128 to 135 have parity on drives 1 to 3.
     pub(crate) fn grouped(rt: &impl Abort, alloc: Global) -> Rig {
         let mut rig = Rig::mirrored(rt, alloc);
-        rig.makes(rt, alloc, 1, Class::Parity, &[1, 2, 3], 1);
+        assert!(rt; rig.make(rt, alloc, 1, Class::Parity, &[1, 2, 3], 1).is_ok());
         rig
     }
 
@@ -298,19 +301,6 @@ impl Rig {
         self.parts.make(group, class, members, &zeros)
     }
 
-    /// Makes a group of an extent of this number on each of these drives in turn, which is not refused.
-    pub(crate) fn makes(
-        &mut self,
-        rt: &impl Abort,
-        alloc: Global,
-        group: u16,
-        class: Class,
-        drives: &[u8],
-        extent: u16,
-    ) {
-        assert!(rt; self.make(rt, alloc, group, class, drives, extent).is_ok());
-    }
-
     /// Lets a group enter, of an extent of this number on each of these drives in turn.
     pub(crate) fn enter(
         &mut self,
@@ -327,19 +317,6 @@ impl Rig {
         assert!(rt; are_there(&self.parts.extents, &members));
         assert!(rt; put_check(&self.parts.extents, &members).is_none());
         self.parts.enter(group, class, members, &mut self.unit)
-    }
-
-    /// Lets a group enter, of an extent of this number on each of these drives in turn, which is not refused.
-    pub(crate) fn enters(
-        &mut self,
-        rt: &impl Abort,
-        alloc: Global,
-        group: u16,
-        class: Class,
-        drives: &[u8],
-        extent: u16,
-    ) {
-        assert!(rt; self.enter(rt, alloc, group, class, drives, extent).is_ok());
     }
 
     /// Moves a group's member onto another extent.

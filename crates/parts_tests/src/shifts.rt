@@ -37,7 +37,10 @@ fn are_filled(rt: &impl Abort, rig: &mut Rig, first: u16, count: u8, byte: u8) -
 /// A mirrored group on drives 0 to 2, whose slots 0 to 5 hold 20 to 25.
 fn mirrored(rt: &impl Abort, alloc: Global) -> Rig {
     let mut rig = Rig::new(rt, alloc);
-    rig.enters(rt, alloc, 0, Class::Mirrored, &[0, 1, 2], 0);
+    assert!(rt;
+        rig.enter(rt, alloc, 0, Class::Mirrored, &[0, 1, 2], 0)
+            .is_ok()
+    );
     fill(rt, &mut rig, 0, 6, 20);
     rig
 }
@@ -45,7 +48,10 @@ fn mirrored(rt: &impl Abort, alloc: Global) -> Rig {
 /// Group 1 with parity on drives 0 to 2, whose slots 128 to 135 hold 40 to 47.
 fn parity(rt: &impl Abort, alloc: Global) -> Rig {
     let mut rig = Rig::new(rt, alloc);
-    rig.enters(rt, alloc, 1, Class::Parity, &[0, 1, 2], 1);
+    assert!(rt;
+        rig.enter(rt, alloc, 1, Class::Parity, &[0, 1, 2], 1)
+            .is_ok()
+    );
     fill(rt, &mut rig, 128, 8, 40);
     rig
 }

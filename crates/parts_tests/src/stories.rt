@@ -21,7 +21,10 @@ fn a_mirrored_slot_stands_one_loss_and_is_gone_with_two(rt: HostRuntime) {
 fn the_parity_of_three_members_is_the_exclusive_or(rt: HostRuntime) {
     let alloc = rt.alloc();
     let mut rig = Rig::new(&rt, alloc);
-    rig.makes(&rt, alloc, 1, Class::Parity, &[1, 2, 3], 1);
+    assert!(rt;
+        rig.make(&rt, alloc, 1, Class::Parity, &[1, 2, 3], 1)
+            .is_ok()
+    );
     rig.writes(&rt, 128, 0x5A);
     assert!(rt; rig.drive_holds(&rt, 3, 4, 0x5A));
     rig.writes(&rt, 130, 0x33);
@@ -39,5 +42,8 @@ fn a_group_whose_second_drive_fails_is_not_made(rt: HostRuntime) {
         rig.make(&rt, alloc, 2, Class::Parity, &[0, 1, 2], 2) == Err(Refusal::DriveLost(1))
     );
     assert!(rt; rig.parts.groups.is_free(2));
-    rig.makes(&rt, alloc, 2, Class::Parity, &[0, 2, 3], 2);
+    assert!(rt;
+        rig.make(&rt, alloc, 2, Class::Parity, &[0, 2, 3], 2)
+            .is_ok()
+    );
 }
