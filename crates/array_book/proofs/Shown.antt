@@ -1,6 +1,7 @@
 -- What a call under the lock leaves shows a flat state again.
-use Rattle.std.proofs.Common.{◌≡◌, ◌≢◌, ◌<◌, ◌≤◌, ℕ, true, List, ◌∷◌, [], ◌++◌, length, refl, sym, ap, ◌∙◌, subst, arith, Option, Some, None, Result, Ok, Err, IfOk, IfErr, Contains}
+use Rattle.std.proofs.Common.{◌≡◌, ◌≢◌, ◌<◌, ◌≤◌, ℕ, Bool, true, List, ◌∷◌, [], ◌++◌, length, slice_index, slice_set, refl, sym, ap, ◌∙◌, subst, arith, Option, Some, None, Result, Ok, Err, IfOk, IfErr, Contains}
 use Rattle.std.specs.Prelude.{MatchResult}
+use Rattle.std.proofs.lemmas.List.{length-set}
 use Rattle.std.proofs.lemmas.List.Elements.{Contains-push}
 use Rattle.map_join.specs.declared.records.Record.{Record}
 use Rattle.map_join.specs.Record.{key_of}
@@ -10,13 +11,19 @@ use Rattle.flat_machine.specs.declared.refusal.Refusal.TheVariants.{Memory, InUs
 use Rattle.flat_machine.specs.Flat.{Flat, Content, Payload, Stored, Ticket, Waiting, IsKept}
 use Rattle.flat_machine.specs.Steps.{Seen, Data, Stale}
 use Rattle.flat_machine.specs.Steps as say
-use Rattle.flat_machine.specs.Learning.{LearnedCase}
-use Rattle.flat_machine.specs.Cases.{IsLearned, FillCase, FillPasses, CopyCase, CopyPasses, DiscardCase}
+use Rattle.flat_machine.specs.Learning.{LearnedCase, UnlearnedCase}
+use Rattle.flat_machine.specs.Cases.{IsBehind, IsLearned, FillCase, FillPasses, CopyCase, CopyPasses, CommitCase, DiscardCase}
 use Rattle.extents.specs.declared.header.Header.TheVariants.{Blank}
 use Rattle.array_parts.specs.Views.{WasPut, WasCarried}
-use Rattle.array_model.specs.Changes.{MayRefuse, discard_view}
+use Rattle.array_model.specs.Changes.{MayRefuse, fill_view, copy_view, discard_view}
 use Rattle.array_model.specs.Represents.{ShowsArray}
-use Rattle.array_model.specs.Views.{ArrayView, IsWhole, key_at}
+use Rattle.array_model.specs.Views.{ArrayView, IsWhole, key_at, with_parts}
+use Rattle.migrator.specs.Ages.{Marked}
+use Rattle.migrator.specs.Slots.{class_at}
+use Rattle.tiering.specs.Marking.{AreMarked, is_mirrors}
+use Rattle.tiering.specs.declared.outcome.Outcome.TheVariants as outcome
+use Rattle.tiering.proofs.Emitting.{HasEmitted, alike_left, commit_emits}
+use Rattle.tiering.proofs.Marks.{marks_keep}
 use Rattle.map_join.specs.Maps.{IsMapOf}
 use Rattle.step_core.specs.Headline.{bytes_of}
 use Rattle.step_core.proofs.Standing.{headers_tell, one_scan}
@@ -31,22 +38,57 @@ pub refused_shown : (q : Refusal) (W : Type 0) (P : Flat → Type 0) (a b : Arra
 refused_shown Memory W P a b F shows same may = (F, subst (λ (x : ArrayView). ShowsArray x F) (sym same) shows)
 refused_shown _ W P a b F shows same may = (may.0, may.2)
 
--- and its groups
-pub refused_groups : (a b : ArrayView) (q : Refusal) → IsRefused a b q → b.parts.groups ≡ a.parts.groups
-refused_groups a b (Gone slot) is = is.1.rest.groups
-refused_groups a b (DriveLost drive) is = is.1.rest.groups
-refused_groups a b _ is = ap (λ (x : ArrayView). x.parts.groups) is
+-- an array has the groups and the keys of another
+pub record IsStill (a b : ArrayView) : Type 0 where
+  pub groups : b.parts.groups ≡ a.parts.groups
+  pub keys : b.keys ≡ a.keys
 
--- with another array that shows a state, of the same groups, what is kept stands
-pub kept_with : (blocks payload : ℕ) (k l : KeptView) → book.IsKept blocks payload k → l.array.parts.groups ≡ k.array.parts.groups
-    → length l.ages.order ≡ length k.ages.order → (G : Flat) × ShowsArray l.array G → book.IsKept blocks payload l
-kept_with blocks payload k l is same long shown = record {
+-- so has one that refused
+pub refused_still : (a b : ArrayView) (q : Refusal) → IsRefused a b q → IsStill a b
+refused_still a b (Gone slot) is = record { groups = is.1.rest.groups; keys = ap (λ (x : ArrayView). x.keys) is.0 }
+refused_still a b (DriveLost drive) is = record { groups = is.1.rest.groups; keys = ap (λ (x : ArrayView). x.keys) is.0 }
+refused_still a b _ is = record { groups = ap (λ (x : ArrayView). x.parts.groups) is; keys = ap (λ (x : ArrayView). x.keys) is }
+
+-- and one that is another's equal
+pub still_of : (a b c : ArrayView) → b ≡ a → IsStill b c → IsStill a c
+still_of a b c same is = subst (λ (x : ArrayView). IsStill x c) same is
+
+-- with another array that shows a state, of the same groups and keys, what is kept stands
+pub kept_with : (blocks payload : ℕ) (k l : KeptView) → book.IsKept blocks payload k → IsStill k.array l.array → l.ages ≡ k.ages
+    → (G : Flat) × ShowsArray l.array G → book.IsKept blocks payload l
+kept_with blocks payload k l is still ages shown = record {
   flat = shown.0;
   shows = shown.1;
+  blocks = ap (λ (z : Groups). z.blocks) still.groups ∙ is.blocks;
+  payload = ap (λ (z : Groups). z.payload) still.groups ∙ is.payload;
+  order = ap (λ (m : Marked). length m.order) ages ∙ is.order;
+  long = ap (λ (m : Marked). length m.marks) ages ∙ is.long;
+  marked = subst (λ (m : Marked). AreMarked m.marks l.array.parts.groups (key_at l.array)) (sym ages)
+      (subst (λ (z : Groups). AreMarked k.ages.marks z (key_at l.array)) (sym still.groups)
+      (subst (λ (ks : List ℕ). AreMarked k.ages.marks k.array.parts.groups (λ b. slice_index ks b)) (sym still.keys) is.marked));
+}
+
+-- with an array that committed a record, which is noted and marked, it stands too
+pub kept_committed : (blocks payload : ℕ) (k l : KeptView) (w s b : ℕ) (r : Record) (is : book.IsKept blocks payload k) → b < blocks
+    → l.array.parts.groups ≡ k.array.parts.groups → length l.ages.order ≡ length k.ages.order
+    → l.ages.marks ≡ slice_set k.ages.marks r.block (is_mirrors (class_at l.array.parts.groups (Some r)))
+    → (G : Flat) × CommitCase is.flat w s b (say.Committed r) G × ShowsArray l.array G → book.IsKept blocks payload l
+kept_committed blocks payload k l w s b r is low same order marks shown = record {
+  flat = shown.0;
+  shows = shown.2;
   blocks = ap (λ (z : Groups). z.blocks) same ∙ is.blocks;
   payload = ap (λ (z : Groups). z.payload) same ∙ is.payload;
-  order = long ∙ is.order;
+  order = order ∙ is.order;
+  long = ap length marks ∙ length-set k.ages.marks r.block (is_mirrors (class_at l.array.parts.groups (Some r))) ∙ is.long;
+  marked = subst (λ (ms : List Bool). AreMarked ms l.array.parts.groups (key_at l.array)) (sym marks)
+      (subst (λ (n : ℕ). AreMarked (slice_set k.ages.marks n (is_mirrors (class_at l.array.parts.groups (Some r)))) l.array.parts.groups (key_at l.array)) (sym emits.newest.1)
+      (subst (λ (z : Groups). AreMarked (slice_set k.ages.marks b (is_mirrors (class_at z (Some r)))) z (key_at l.array)) shown.2.tables.groups
+      (marks_keep is.flat shown.0 (key_at k.array) (key_at l.array) k.ages.marks b (outcome.Placed r) shown.2.history.records (let long = is.long in omega (arith, long, low))
+      is.shows.history.map shown.2.history.map emits (subst (λ (z : Groups). AreMarked k.ages.marks z (key_at k.array)) (sym is.shows.tables.groups) is.marked))));
 }
+  where
+    emits : HasEmitted is.flat shown.0 b r
+    emits = commit_emits is.flat shown.0 w s b r is.shows.history.records shown.1
 
 -- a worker whose ticket it is, where there is one
 pub ticket_of_some : (F : Flat) (a : ArrayView) (s : ℕ) → ShowsArray a F → (w : ℕ) × (F.tickets s ≢ None → F.held s (Ticket w) ≡ true)
@@ -92,10 +134,10 @@ pub fill_shown : {C : Type 0} (r : Result ℕ (Refusal × C)) (claim : C) (a b :
 fill_shown (Ok t) claim a b F w s x shows err tells = (tells.0, tells.2)
 fill_shown (Err e) claim a b F w s x shows err tells = refused_shown e.0 (FillPasses F w s) (λ G. FillCase F w s x (say.Refused e.0) G) a b F shows err.1 tells
 
-pub fill_groups : {C : Type 0} (A B : ℕ → Type 0) (u : Stored) (r : Result ℕ (Refusal × C)) (claim : C) (a b : ArrayView)
-    → IfOk r (λ t. A t × B t × WasPut a.parts b.parts t u) → IfErr r (λ e. (e.1 ≡ claim) × IsRefused a b e.0) → b.parts.groups ≡ a.parts.groups
-fill_groups A B u (Ok t) claim a b ok err = ok.2.rest.groups
-fill_groups A B u (Err e) claim a b ok err = refused_groups a b e.0 err.1
+pub fill_still : {C : Type 0} (A : ℕ → Type 0) (u : Stored) (r : Result ℕ (Refusal × C)) (claim : C) (a b : ArrayView)
+    → IfOk r (λ t. A t × (b ≡ fill_view (with_parts a b.parts) t) × WasPut a.parts b.parts t u) → IfErr r (λ e. (e.1 ≡ claim) × IsRefused a b e.0) → IsStill a b
+fill_still A u (Ok t) claim a b ok err = record { groups = ok.2.rest.groups; keys = ap (λ (x : ArrayView). x.keys) ok.1 }
+fill_still A u (Err e) claim a b ok err = refused_still a b e.0 err.1
 
 -- a slot of which the array keeps nothing isn't in use
 pub fill_not_used : {C : Type 0} (r : Result ℕ (Refusal × C)) (claim : C) (a b : ArrayView) (F : Flat) (w s : ℕ) (x : Content) → (IsKept F s → ⊥)
@@ -118,11 +160,11 @@ copy_shown (Ok t) claim a b F w s block shows err tells = (tells.0, tells.2)
 copy_shown (Err e) claim a b F w s block shows err tells =
     refused_shown e.0 ((q : Record) × CopyPasses F w s block q) (λ G. CopyCase F w s block (say.Refused e.0) G) a b F shows err.1 tells
 
-pub copy_groups : {C : Type 0} (A : ℕ → Type 0) (B : Record → Type 0) (D : ℕ → Record → Type 0) (r : Result ℕ (Refusal × C)) (claim : C) (a b : ArrayView)
-    → IfOk r (λ t. A t × ((q : Record) × B q × D t q × WasCarried a.parts b.parts q.place t Blank)) → IfErr r (λ e. (e.1 ≡ claim) × IsRefused a b e.0)
-    → b.parts.groups ≡ a.parts.groups
-copy_groups A B D (Ok t) claim a b ok err = ok.1.3.rest.groups
-copy_groups A B D (Err e) claim a b ok err = refused_groups a b e.0 err.1
+pub copy_still : {C : Type 0} (A : ℕ → Type 0) (B : Record → Type 0) (r : Result ℕ (Refusal × C)) (claim : C) (a b : ArrayView)
+    → IfOk r (λ t. A t × ((q : Record) × B q × (b ≡ copy_view (with_parts a b.parts) t q) × WasCarried a.parts b.parts q.place t Blank))
+    → IfErr r (λ e. (e.1 ≡ claim) × IsRefused a b e.0) → IsStill a b
+copy_still A B (Ok t) claim a b ok err = record { groups = ok.1.3.rest.groups; keys = ap (λ (x : ArrayView). x.keys) ok.1.2 }
+copy_still A B (Err e) claim a b ok err = refused_still a b e.0 err.1
 
 pub copy_not_used : {C : Type 0} (r : Result ℕ (Refusal × C)) (claim : C) (a b : ArrayView) (F : Flat) (w s block : ℕ) → (IsKept F s → ⊥)
     → IfErr r (λ e. (e.1 ≡ claim) × IsRefused a b e.0) → CopyTells r F w block b s → IfErr r (λ e. (e.1 ≡ claim) × (e.0 ≢ InUse) × IsRefused a b e.0)
@@ -143,10 +185,28 @@ pub discard_shown : {C : Type 0} (E D : Refusal × ℕ → Type 0) (r : Result C
 discard_shown E D (Ok t) a b F w s shows err tells = (tells.0, tells.2)
 discard_shown E D (Err e) a b F w s shows err tells = (F, subst (λ (x : ArrayView). ShowsArray x F) (sym err.2) shows)
 
-pub discard_groups : {C : Type 0} (A : C → Type 0) (E D : Refusal × ℕ → Type 0) (r : Result C (Refusal × ℕ)) (a b : ArrayView) (s : ℕ)
-    → IfOk r (λ t. A t × (b ≡ discard_view a s)) → IfErr r (λ e. E e × D e × (b ≡ a)) → b.parts.groups ≡ a.parts.groups
-discard_groups A E D (Ok t) a b s ok err = ap (λ (x : ArrayView). x.parts.groups) ok.1
-discard_groups A E D (Err e) a b s ok err = ap (λ (x : ArrayView). x.parts.groups) err.2
+pub discard_still : {C : Type 0} (A : C → Type 0) (E D : Refusal × ℕ → Type 0) (r : Result C (Refusal × ℕ)) (a b : ArrayView) (s : ℕ)
+    → IfOk r (λ t. A t × (b ≡ discard_view a s)) → IfErr r (λ e. E e × D e × (b ≡ a)) → IsStill a b
+discard_still A E D (Ok t) a b s ok err = record { groups = ap (λ (x : ArrayView). x.parts.groups) ok.1; keys = ap (λ (x : ArrayView). x.keys) ok.1 }
+discard_still A E D (Err e) a b s ok err = record { groups = ap (λ (x : ArrayView). x.parts.groups) err.2; keys = ap (λ (x : ArrayView). x.keys) err.2 }
+
+abbrev pub LearnTells : Result Lesson Refusal → Flat → Record → ArrayView → Type 0
+LearnTells r F asked b = MatchResult r
+    (λ l. (G : Flat) × LearnedCase F asked l.told (Payload l.payload) G × ShowsArray b G)
+    (λ q. MayRefuse q (IsBehind F asked) ((G : Flat) × UnlearnedCase F asked q G × ShowsArray b G))
+
+pub learn_shown : (r : Result Lesson Refusal) (a b : ArrayView) (F : Flat) (asked : Record) → ShowsArray a F
+    → IfErr r (IsRefused a b) → LearnTells r F asked b → (G : Flat) × ShowsArray b G
+learn_shown (Ok l) a b F asked shows err tells = (tells.0, tells.2)
+learn_shown (Err q) a b F asked shows err tells = refused_shown q (IsBehind F asked) (λ G. UnlearnedCase F asked q G) a b F shows err tells
+
+pub learn_still : (r : Result Lesson Refusal) (a b : ArrayView) (F : Flat) (asked : Record) → b ≡ with_parts a b.parts → ShowsArray a F
+    → IfErr r (IsRefused a b) → LearnTells r F asked b → IsStill a b
+learn_still (Ok l) a b F asked rest shows err tells = record {
+  groups = sym tells.2.tables.groups ∙ (alike_left F tells.0 tells.1.4).groups ∙ shows.tables.groups;
+  keys = ap (λ (x : ArrayView). x.keys) rest;
+}
+learn_still (Err q) a b F asked rest shows err tells = refused_still a b q err
 
 -- what was learned of a record
 pub learned_told : (r : Result Lesson Refusal) (a b : ArrayView) (F : Flat) (asked : Record) (E : Refusal → Type 0) → ShowsArray a F

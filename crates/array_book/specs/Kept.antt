@@ -10,6 +10,7 @@ use Rattle.array_model.specs.Views.{ArrayView, key_at}
 use Rattle.array_model.specs.Represents.{ShowsArray}
 use Rattle.migrator.specs.Ages.{Marked, written}
 use Rattle.migrator.specs.Slots.{End}
+use Rattle.tiering.specs.Marking.{AreMarked}
 use Rattle.step_core.specs.Headline.{bytes_of}
 
 -- the array, the order of last writes with marks on the blocks in mirrored groups, and the end of the write log
@@ -18,13 +19,16 @@ pub record KeptView : Type 0 where
   pub ages : Marked
   pub end : End
 
--- what is true whenever the lock is free: the array shows some flat state, and has these sizes; and the order is of its blocks
+-- what is true whenever the lock is free: the array shows some flat state, and has these sizes; the order and the marks are of its
+-- blocks, and just the blocks whose newest place is in a mirrored group are marked
 pub record IsKept (many size : ℕ) (k : KeptView) : Type 0 where
   pub flat : Flat
   pub shows : ShowsArray k.array flat
   pub blocks : k.array.parts.groups.blocks ≡ many
   pub payload : k.array.parts.groups.payload ≡ size
   pub order : length k.ages.order ≡ many
+  pub long : length k.ages.marks ≡ many
+  pub marked : AreMarked k.ages.marks k.array.parts.groups (key_at k.array)
 
 -- no block's newest place is gone
 abbrev pub AreHere : ArrayView → Type 0

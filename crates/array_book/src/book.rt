@@ -8,15 +8,16 @@ ghost use Rattle.slot_words.specs.Places.{slots_of};
 ghost use Rattle.slot_words.specs.Steps.{given_half as right_given, kept_half as right_kept};
 
 use crate::claim::{Claim, Sizes};
-use crate::kept::{Kept, is_mirrored};
+use crate::kept::Kept;
 use extents::Drive;
 use map_words::MapWords;
-use migrator::{LogEnd, MarkedAges, mirror_slots};
+use migrator::{LogEnd, mirror_slots};
 use settling::Ended;
 use slot_words::SlotWords;
-use std::alloc::{AllocError, Global};
+use std::alloc::Global;
 use std::sync::Mutex;
 use step_core::Array;
+use tiering::ages_of;
 
 /// An array behind a lock, its slot words, and the maps of two controllers. While it is in a Book no group of it is made.
 pub struct Book<
@@ -61,7 +62,6 @@ impl<D: Drive, N: slot_words::Naming + Sizes, A: map_words::Naming, B: map_words
         requires odd { blocks_of B.table ≡ N.blocks }
         ensures err { IfErr result (λ e. e.0 ≡ array) }
     {
-        array.whole();
         let shape = array.shape();
         let Ok(mirrors) = mirror_slots(alloc, array.groups()) else {
             return Err((array, words, maps));
@@ -119,22 +119,4 @@ impl<D: Drive, N: slot_words::Naming + Sizes, A: map_words::Naming, B: map_words
     {
         self.payload
     }
-}
-
-// All blocks by number, with marks on those that lie in mirrored groups.
-fn ages_of<D: Drive, N: slot_words::Naming>(
-    alloc: Global,
-    array: &Array<D, Claim<N>>,
-) -> Result<MarkedAges, AllocError>
-    requires { array.now.parts.groups.blocks ≤ 65536 }
-    ensures { IfOk result (λ ages. length ages.order ≡ array.now.parts.groups.blocks) }
-{
-    let blocks = array.shape().blocks;
-    let mut ages = MarkedAges::new(alloc, blocks)?;
-    for block in 0..blocks {
-        if let Some(record) = array.newest(block) {
-            ages.mark(block, is_mirrored(array.groups(), record.place));
-        }
-    }
-    Ok(ages)
 }

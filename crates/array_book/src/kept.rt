@@ -1,5 +1,5 @@
 // What lies under a Book's lock, and the calls that are lent it.
-ghost use Rattle.std.specs.Prelude.{◌≡◌, ◌≢◌, ℕ, ◌<◌, ◌≤◌, length, IfOk, IfErr, MatchResult, true, None};
+ghost use Rattle.std.specs.Prelude.{◌≡◌, ◌≢◌, ℕ, ◌<◌, ◌≤◌, length, slice_set, IfOk, IfErr, MatchResult, true, Some, None};
 ghost use Rattle.map_join.specs.Record.{key_of, record_at};
 ghost use Rattle.flat_machine.specs.Steps as say;
 ghost use Rattle.flat_machine.specs.Flat.{Flat, Payload, Worker, Ticket as ticket_of};
@@ -10,12 +10,13 @@ ghost use Rattle.map_join.specs.declared.records.Record.{Record};
 ghost use Rattle.array_model.specs.Changes.{MayRefuse, commit_record};
 ghost use Rattle.array_model.specs.Views.{key_at};
 ghost use Rattle.array_model.specs.Represents.{ShowsArray};
-ghost use Rattle.migrator.specs.Slots.{end_at};
+ghost use Rattle.migrator.specs.Slots.{class_at, end_at};
 ghost use Rattle.step_core.specs.Refused.{IsRefused};
+ghost use Rattle.tiering.specs.Marking.{is_mirrors};
 ghost use Rattle.array_book.specs.Kept.{Agrees, OnlyArray, order_after};
 
 use crate::claim::{Claim, Sizes};
-use extent_groups::{Class, GroupTable, SLOTS};
+use extent_groups::GroupTable;
 use extents::Drive;
 use flat_machine::Refusal;
 use map_join::Record;
@@ -24,6 +25,7 @@ use slot_words::{Naming, SlotWords};
 use std::alloc::Global;
 use std::marker::Model;
 use step_core::{Array, Done, Reading, Ticket};
+use tiering::is_mirrored;
 
 /// An array, the order of last writes with marks on the blocks in mirrored groups, and the end of the write log.
 pub struct Kept<D: Drive, N: Naming + Sizes> {
@@ -120,6 +122,8 @@ pub fn commit_in<D: Drive, N: Naming + Sizes>(
     ensures record { IfOk result (λ done. done.emitted ≡ commit_record kept.old.array ticket block (record_at block (key_at kept.old.array block))) }
     ensures written { IfOk result (λ done. 0 < done.emitted.version) }
     ensures noted { IfOk result (λ done. kept.new.ages.order ≡ order_after kept.old.ages.order done.emitted) }
+    ensures marked { IfOk result (λ done. kept.new.ages.marks
+        ≡ slice_set kept.old.ages.marks block (is_mirrors (class_at kept.new.array.parts.groups (Some done.emitted)))) }
     ensures err { IfErr result (λ e. (e.1 ≡ ticket) × IsRefused kept.old.array kept.new.array e.0 × (kept.new.ages ≡ kept.old.ages)) }
     ensures end { kept.new.end ≡ kept.old.end }
     ensures flat { (F : Flat) (w : ℕ) → ShowsArray kept.old.array F → (F.tickets ticket ≢ None → F.held ticket (ticket_of w) ≡ true)
@@ -144,16 +148,12 @@ fn note(ages: &mut MarkedAges, groups: &GroupTable, told: Record)
     requires { «told».block < length ages.old.order }
     ensures order { ages.new.order ≡ order_after ages.old.order «told» }
     ensures length { length ages.new.order ≡ length ages.old.order }
+    ensures marks { ages.new.marks ≡ slice_set ages.old.marks «told».block (is_mirrors (class_at groups.now (Some «told»))) }
 {
     if told.hop == 0 {
         ages.wrote(told.block);
     }
-    ages.mark(told.block, is_mirrored(groups, told.place));
-}
-
-// Whether the slot is one of a mirrored group.
-pub(crate) fn is_mirrored(groups: &GroupTable, slot: u16) -> bool {
-    groups.class_of(slot / SLOTS) == Some(Class::Mirrored)
+    ages.mark(told.block, is_mirrored(groups, Some(told)));
 }
 
 /// Commits a ticket under which a fresh payload waits. Where none does it is refused, as there is no such ticket.

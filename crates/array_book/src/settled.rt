@@ -6,6 +6,7 @@ ghost use Rattle.flat_machine.specs.Flat.{Flat};
 ghost use Rattle.map_join.specs.Maps.{IsMapOf};
 ghost use Rattle.map_words.specs.TakeRule.{whole};
 ghost use Rattle.settling.specs.Settling.{taken_by, shares_of, IsUnsettled};
+ghost use Rattle.settling.specs.Passes.{all_joined};
 
 use crate::book::Book;
 use crate::claim::{Claim, Sizes};
@@ -35,6 +36,7 @@ pub fn settle<D: Drive, N: slot_words::Naming + Sizes, A: map_words::Naming, B: 
         × IsMapOf (taken_by (map (λ e. e.even) ended.items) ++ taken_by (map (λ e. e.odd) ended.items)) (key_at settled.array)) }
     ensures err { IfErr result (λ e. IsUnsettled (shares_of (map (λ e. e.even) ended.items)) (shares_of (map (λ e. e.odd) ended.items))
         (taken_by (map (λ e. e.even) ended.items) ++ taken_by (map (λ e. e.odd) ended.items)) (key_at e.1.array) e.0) }
+    ensures pass { MatchResult result (λ settled. settled.pass ≡ all_joined (map (λ e. e.pass) ended.items)) (λ e. e.1.pass ≡ all_joined (map (λ e. e.pass) ended.items)) }
     ensures shows { MatchResult result (λ settled. (F : Flat) × ShowsArray settled.array F) (λ e. (F : Flat) × ShowsArray e.1.array F) }
 {
     let Book {

@@ -1,6 +1,7 @@
 // What workers give back when they have ended, and all of it joined.
 ghost use Rattle.std.specs.Prelude.{◌≡◌, ◌+◌, ◌++◌, ◌∷◌, [], IfSome, IfNone, map};
 ghost use Rattle.settling.specs.Settling.{taken_by, shares_of};
+ghost use Rattle.settling.specs.Passes.{joined};
 
 use map_words::{MapWords, Taker};
 use slot_words::{Pass, SlotWords};
@@ -36,6 +37,7 @@ pub fn join_all<N: slot_words::Naming, A: map_words::Naming, B: map_words::Namin
     first: &mut Ended<N, A, B>,
     rest: Vec<Ended<N, A, B>>,
 )
+    ensures pass { first.new.pass ≡ joined first.old.pass (map (λ e. e.pass) rest.items) }
     ensures even { first.new.even.taken ≡ first.old.even.taken ++ taken_by (map (λ e. e.even) rest.items) }
     ensures odd { first.new.odd.taken ≡ first.old.odd.taken ++ taken_by (map (λ e. e.odd) rest.items) }
     ensures shares { (first.new.even.share ≡ first.old.even.share + shares_of (map (λ e. e.even) rest.items))

@@ -15,5 +15,6 @@ mod write;
 
 pub use asks::{Any, count_live};
 pub use hints::FreeHints;
+pub use notes::{ages_of, is_mirrored};
 pub use outcome::Outcome;
 pub use tiers::Tiers;

@@ -1,7 +1,7 @@
 // What is noted of a block that was put somewhere: the order of last writes, and whether it lies in a mirrored group now.
-ghost use Rattle.std.specs.Prelude.{◌≡◌, ℕ, ◌<◌, length, slice_set, Some, None};
+ghost use Rattle.std.specs.Prelude.{◌≡◌, ℕ, ◌<◌, length, slice_set, IfOk, Some, None};
 ghost use Rattle.array_model.specs.Views.{key_at};
-ghost use Rattle.migrator.specs.Ages.{written, IsMarked};
+ghost use Rattle.migrator.specs.Ages.{by_number, written, IsMarked};
 ghost use Rattle.migrator.specs.Slots.{class_at};
 ghost use Rattle.tiering.specs.Inside.{order_told, outcome_of};
 ghost use Rattle.tiering.specs.Marking.{AreMarked, is_mirrors, marks_after, order_put};
@@ -9,10 +9,13 @@ ghost use Rattle.tiering.specs.Placing.{put_of};
 ghost use Rattle.tiering.specs.Steps.{order_after};
 
 use crate::Outcome;
+use array_core::{Array, Hold};
 use extent_groups::{Class, GroupTable, SLOTS};
+use extents::Drive;
 use map_join::Record;
 use migrator::MarkedAges;
-use step_core::{Answer, World};
+use std::alloc::{AllocError, Global};
+use step_core::Answer;
 
 // Notes a commit of a fresh payload, whose record has no hop.
 pub(crate) fn note_answer(recency: &mut MarkedAges, block: u32, answer: &Answer)
@@ -106,8 +109,8 @@ fn mark(recency: &mut MarkedAges, block: u32, marked: bool)
     }
 }
 
-// Whether what may be a record lies in a mirrored group.
-fn is_mirrored(groups: &GroupTable, told: Option<Record>) -> bool
+/// Whether what may be a record lies in a mirrored group.
+pub fn is_mirrored(groups: &GroupTable, told: Option<Record>) -> bool
     ensures { result ≡ is_mirrors (class_at groups.now told) }
 {
     match told {
@@ -116,17 +119,32 @@ fn is_mirrored(groups: &GroupTable, told: Option<Record>) -> bool
     }
 }
 
-// Marks the blocks of a world that lie in mirrored groups, where none is marked.
-pub(crate) fn mark_stored(recency: &mut MarkedAges, world: &World)
-    requires order { length recency.old.order ≡ world.now.array.parts.groups.blocks }
-    requires marks { length recency.old.marks ≡ world.now.array.parts.groups.blocks }
+/// All blocks by number, as if none was written yet, with marks on those that lie in mirrored groups. It takes memory by the number
+/// of blocks.
+pub fn ages_of<D: Drive, C: Hold>(
+    alloc: Global,
+    array: &Array<D, C>,
+) -> Result<MarkedAges, AllocError>
+    ensures order { IfOk result (λ ages. ages.order ≡ by_number array.now.parts.groups.blocks) }
+    ensures long { IfOk result (λ ages. length ages.marks ≡ array.now.parts.groups.blocks) }
+    ensures marks { IfOk result (λ ages. AreMarked ages.marks array.now.parts.groups (key_at array.now)) }
+{
+    array.whole();
+    let mut recency = MarkedAges::new(alloc, array.shape().blocks)?;
+    mark_stored(&mut recency, array);
+    Ok(recency)
+}
+
+// Marks the blocks of an array that lie in mirrored groups, where none is marked.
+fn mark_stored<D: Drive, C: Hold>(recency: &mut MarkedAges, array: &Array<D, C>)
+    requires order { length recency.old.order ≡ array.now.parts.groups.blocks }
+    requires marks { length recency.old.marks ≡ array.now.parts.groups.blocks }
     requires none { (b : ℕ) → IsMarked recency.old.marks b → ⊥ }
     ensures order { recency.new.order ≡ recency.old.order }
-    ensures marks { AreMarked recency.new.marks world.now.array.parts.groups (key_at world.now.array) }
+    ensures marks { AreMarked recency.new.marks array.now.parts.groups (key_at array.now) }
     ensures long { length recency.new.marks ≡ length recency.old.marks }
 {
-    world.whole();
-    let array = world.array();
+    array.whole();
     for block in 0..array.shape().blocks {
         let marked = is_mirrored(array.groups(), array.newest(block));
         recency.mark(block, marked);

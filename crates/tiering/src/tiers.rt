@@ -11,7 +11,7 @@ ghost use Rattle.tiering.specs.Tiered.{Tiered, begun};
 
 use crate::FreeHints;
 use crate::hints::hint_made;
-use crate::notes::{mark_answer, mark_stored, note_answer};
+use crate::notes::{ages_of, mark_answer, note_answer};
 use migrator::{LogEnd, MarkedAges};
 use std::alloc::{AllocError, Global};
 use step_core::{Answer, Class, Member, World};
@@ -34,9 +34,7 @@ impl Tiers {
         ensures same { IfOk result (λ tiers. tiers.world ≡ world) }
         ensures ok { IfOk result (λ tiers. (F : Flat) → Represents world F → StandsFor tiers (begun F)) }
     {
-        world.whole();
-        let mut recency = MarkedAges::new(alloc, world.array().shape().blocks)?;
-        mark_stored(&mut recency, &world);
+        let recency = ages_of(alloc, world.array())?;
         let hints = FreeHints::new(alloc)?;
         Ok(Tiers {
             world,

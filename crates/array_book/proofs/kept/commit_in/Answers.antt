@@ -1,10 +1,10 @@
-use Rattle.std.proofs.Common.{sym, ap, subst, refl}
+use Rattle.std.proofs.Common.{sym, ap, subst, refl, rules}
 use Rattle.flat_machine.specs.Steps as say
 use Rattle.flat_machine.specs.Cases.{CommitCase, IsWanted}
 use Rattle.array_model.specs.Represents.{ShowsArray}
 use Rattle.array_model.specs.Views.{ArrayView}
 use Rattle.array_book.specs.Kept.{KeptView}
-use Rattle.array_book.proofs.Shown.{kept_with, ticket_of_some, refused_shown, refused_groups, emitted_written}
+use Rattle.array_book.proofs.Shown.{kept_with, kept_committed, ticket_of_some, refused_shown, refused_still, emitted_written}
 use Rattle.array_book.proofs.kept.commit_in.Goals as goal
 
 pub invariant_of-kept : goal.invariant_of-kept
@@ -12,7 +12,7 @@ invariant_of-kept g c =
     let k = c.kept.invariant in
     let w = ticket_of_some k.flat c.kept.inside.array c.args.ticket k.shows in
     let told = c.in-Ok.ensures.flat k.flat w.0 k.shows w.1 in
-    kept_with _ _ _ _ k c.in-Ok.ensures.done.3.rest.groups c.note.ensures.length (told.0, told.2)
+    kept_committed _ _ _ _ w.0 c.args.ticket c.args.block c.in-Ok.done.emitted k c.requires c.in-Ok.ensures.done.3.rest.groups c.note.ensures.length (search rules) told
 
 pub invariant_of-kept-in-Err : goal.invariant_of-kept-in-Err
 invariant_of-kept-in-Err g c =
@@ -20,7 +20,7 @@ invariant_of-kept-in-Err g c =
     let a = c.kept.inside.array in
     let w = ticket_of_some k.flat a c.args.ticket k.shows in
     let q = c.in-Err.refused.0 in
-    kept_with _ _ _ _ k (refused_groups a c.commit.new.self q c.in-Err.ensures.err.1) refl
+    kept_with _ _ _ _ k (refused_still a c.commit.new.self q c.in-Err.ensures.err.1) refl
     (refused_shown q (IsWanted k.flat (say.Commit w.0 c.args.ticket c.args.block)) (λ G. CommitCase k.flat w.0 c.args.ticket c.args.block (say.Refused q) G)
     a c.commit.new.self k.flat k.shows c.in-Err.ensures.err.1 (c.in-Err.ensures.flat k.flat w.0 k.shows w.1))
 

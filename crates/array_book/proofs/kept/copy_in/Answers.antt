@@ -5,7 +5,7 @@ use Rattle.array_model.specs.Views.{ArrayView}
 use Rattle.array_model.proofs.OneMore.{shows_one_more, holds_one_more}
 use Rattle.step_core.specs.Claimed.{with_claim}
 use Rattle.array_book.specs.Kept.{KeptView}
-use Rattle.array_book.proofs.Shown.{kept_with, CopyTells, copy_shown, copy_groups, copy_not_used, err_as}
+use Rattle.array_book.proofs.Shown.{kept_with, still_of, CopyTells, copy_shown, copy_still, copy_not_used, err_as}
 use Rattle.array_book.proofs.kept.copy_in.Goals as goal
 
 pub invariant_of-kept : goal.invariant_of-kept
@@ -15,7 +15,8 @@ invariant_of-kept g c =
     let s = c.apart_from.new.claim.0.slot in
     let F = with_claim k.flat s 0 in
     let shows : ShowsArray a F = subst (λ (v : ArrayView). ShowsArray v F) (sym c.apart_from.ensures.same.0) (shows_one_more c.kept.inside.array k.flat s 0 k.shows) in
-    kept_with _ _ _ _ k (copy_groups _ _ _ c.copy.result c.apart_from.new.claim a c.copy.new.self c.copy.ensures.ticket c.copy.ensures.err ∙ ap (λ (v : ArrayView). v.parts.groups) c.apart_from.ensures.same.0) refl
+    kept_with _ _ _ _ k (still_of c.kept.inside.array a c.copy.new.self c.apart_from.ensures.same.0
+    (copy_still _ _ c.copy.result c.apart_from.new.claim a c.copy.new.self c.copy.ensures.ticket c.copy.ensures.err)) refl
     (copy_shown c.copy.result c.apart_from.new.claim a c.copy.new.self F 0 s c.args.block shows c.copy.ensures.err (c.copy.ensures.flat F 0 shows (holds_one_more k.flat s 0)))
 
 pub returns-clause-flat : goal.returns-clause-flat

@@ -5,7 +5,7 @@ use Rattle.array_model.specs.Views.{ArrayView}
 use Rattle.array_model.proofs.OneMore.{shows_one_more, holds_one_more}
 use Rattle.step_core.specs.Claimed.{with_claim}
 use Rattle.array_book.specs.Kept.{KeptView}
-use Rattle.array_book.proofs.Shown.{kept_with, FillTells, fill_shown, fill_groups, fill_not_used, err_as}
+use Rattle.array_book.proofs.Shown.{kept_with, still_of, FillTells, fill_shown, fill_still, fill_not_used, err_as}
 use Rattle.array_book.proofs.kept.fill_in.Goals as goal
 
 pub invariant_of-kept : goal.invariant_of-kept
@@ -15,7 +15,8 @@ invariant_of-kept g c =
     let s = c.apart_from.new.claim.0.slot in
     let F = with_claim k.flat s 0 in
     let shows : ShowsArray a F = subst (λ (v : ArrayView). ShowsArray v F) (sym c.apart_from.ensures.same.0) (shows_one_more c.kept.inside.array k.flat s 0 k.shows) in
-    kept_with _ _ _ _ k (fill_groups _ _ _ c.fill.result c.apart_from.new.claim a c.fill.new.self c.fill.ensures.ticket c.fill.ensures.err ∙ ap (λ (v : ArrayView). v.parts.groups) c.apart_from.ensures.same.0) refl
+    kept_with _ _ _ _ k (still_of c.kept.inside.array a c.fill.new.self c.apart_from.ensures.same.0
+    (fill_still _ _ c.fill.result c.apart_from.new.claim a c.fill.new.self c.fill.ensures.ticket c.fill.ensures.err)) refl
     (fill_shown c.fill.result c.apart_from.new.claim a c.fill.new.self F 0 s (Payload c.args.payload.now) shows c.fill.ensures.err (c.fill.ensures.flat F 0 shows (holds_one_more k.flat s 0)))
 
 pub returns-clause-flat : goal.returns-clause-flat

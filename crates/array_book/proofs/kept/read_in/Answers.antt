@@ -1,5 +1,15 @@
-use Rattle.array_book.proofs.Shown.{learned_told, learned_version}
+use Rattle.std.proofs.Common.{refl}
+use Rattle.array_book.proofs.Shown.{kept_with, learn_shown, learn_still, learned_told, learned_version}
 use Rattle.array_book.proofs.kept.read_in.Goals as goal
+
+pub invariant_of-kept : goal.invariant_of-kept
+invariant_of-kept g c =
+    let k = c.kept.invariant in
+    let a = c.kept.inside.array in
+    let b = c.read_or_learn.new.self in
+    let told = c.read_or_learn.ensures.flat k.flat k.shows in
+    kept_with _ _ _ _ k (learn_still c.read_or_learn.result a b k.flat c.args.asked c.read_or_learn.ensures.rest k.shows c.read_or_learn.ensures.err told) refl
+    (learn_shown c.read_or_learn.result a b k.flat c.args.asked k.shows c.read_or_learn.ensures.err told)
 
 pub returns-clause-told : goal.returns-clause-told
 returns-clause-told g c =

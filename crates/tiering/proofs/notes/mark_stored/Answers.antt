@@ -1,7 +1,7 @@
 use Rattle.std.proofs.Common.{◌+◌, length, refl, ap, sym, subst, ◌∙◌, arith}
 use Rattle.std.proofs.lemmas.List.{length-set}
 use Rattle.map_join.specs.Record.{record_at}
-use Rattle.array_model.specs.Views.{ArrayView, key_at}
+use Rattle.array_model.specs.Views.{key_at}
 use Rattle.array_model.proofs.Newest.{block_inside}
 use Rattle.migrator.specs.Slots.{class_at}
 use Rattle.tiering.specs.Marking.{AreMarkedBelow, is_mirrors}
@@ -9,43 +9,43 @@ use Rattle.tiering.proofs.Marks.{below_none, below_more, below_all, mirrored_rec
 use Rattle.tiering.proofs.notes.mark_stored.Goals as goal
 
 pub loop-block-init : goal.loop-block-init
-loop-block-init c =
-    let world = c.args.world.now.array in
-    (refl, refl, below_none c.args.recency.now.marks world.parts.groups (key_at world) c.requires.none)
+loop-block-init g c =
+    let array = c.args.array.now in
+    (refl, refl, below_none c.args.recency.now.marks array.parts.groups (key_at array) c.requires.none)
 
 pub mark-requires : goal.mark-requires
-mark-requires c =
-    let blocks = c.shape-block-end.ensures.of_blocks ∙ ap (λ (a : ArrayView). a.parts.groups.blocks) c.array-array.ensures in
+mark-requires g c =
+    let blocks = c.shape-block-end.ensures.of_blocks in
     let long = ap length c.loop-block.invariant.0 ∙ c.requires.order in
     let test = c.loop-block-test.true in
     omega arith
 
 pub loop-block-preserved : goal.loop-block-preserved
-loop-block-preserved c =
-    let world = c.args.world.now.array in
+loop-block-preserved g c =
+    let array = c.args.array.now in
     let at = c.loop-block in
-    let blocks = c.shape-block-end.ensures.of_blocks ∙ ap (λ (a : ArrayView). a.parts.groups.blocks) c.array-array.ensures in
+    let blocks = c.shape-block-end.ensures.of_blocks in
     let long = at.invariant.1 ∙ c.requires.marks in
     let test = c.loop-block-test.true in
-    let tables = c.groups.ensures ∙ ap (λ (a : ArrayView). a.parts.groups) c.array-array.ensures in
-    let newest = c.newest.ensures.value ∙ ap (λ (a : ArrayView). record_at at.block (key_at a at.block)) c.array-array.ensures in
-    let told = c.is_mirrored-marked.ensures ∙ ap (λ z. is_mirrors (class_at z c.newest.result)) tables ∙ ap (λ o. is_mirrors (class_at world.parts.groups o)) newest in (
+    let tables = c.groups.ensures in
+    let newest = c.newest.ensures.value in
+    let told = c.is_mirrored-marked.ensures ∙ ap (λ z. is_mirrors (class_at z c.newest.result)) tables ∙ ap (λ o. is_mirrors (class_at array.parts.groups o)) newest in (
       c.mark.ensures.order ∙ at.invariant.0,
       ap length c.mark.ensures.marks ∙ length-set at.recency.marks at.block c.is_mirrored-marked.result ∙ at.invariant.1,
-      subst (λ ms. AreMarkedBelow ms world.parts.groups (key_at world) (at.block + 1)) (sym c.mark.ensures.marks)
-          (below_more at.recency.marks world.parts.groups (key_at world) at.block c.is_mirrored-marked.result (omega arith) told at.invariant.2),
+      subst (λ ms. AreMarkedBelow ms array.parts.groups (key_at array) (at.block + 1)) (sym c.mark.ensures.marks)
+          (below_more at.recency.marks array.parts.groups (key_at array) at.block c.is_mirrored-marked.result (omega arith) told at.invariant.2),
     )
 
 pub returns : goal.returns
-returns c =
-    let world = c.args.world.now.array in
+returns g c =
+    let array = c.args.array.now in
     let at = c.loop-block in
-    let blocks = c.shape-block-end.ensures.of_blocks ∙ ap (λ (a : ArrayView). a.parts.groups.blocks) c.array-array.ensures in
+    let blocks = c.shape-block-end.ensures.of_blocks in
     let test = c.loop-block-test.false in
     record {
       order = at.invariant.0;
-      marks = below_all at.recency.marks world.parts.groups (key_at world) at.block
-          (λ b is. let r = mirrored_record world.parts.groups (record_at b (key_at world b)) is in let inside = block_inside world b r.0 c.whole.ensures.room r.1 in omega arith)
+      marks = below_all at.recency.marks array.parts.groups (key_at array) at.block
+          (λ b is. let r = mirrored_record array.parts.groups (record_at b (key_at array b)) is in let inside = block_inside array b r.0 c.whole.ensures.room r.1 in omega arith)
           at.invariant.2;
       long = at.invariant.1;
     }
