@@ -1,12 +1,44 @@
--- A move that is planned is a plug or a clean.
-use Rattle.std.proofs.Common.{Bool, Option, Some, None}
+-- A block that is to be moved is one of the array's, and the oldest marked one is the oldest in a mirrored group.
+use Rattle.std.proofs.Common.{◌≡◌, ℕ, ◌<◌, Option, Some, None, subst}
 use Rattle.std.specs.Prelude.{MatchOption}
+use Rattle.map_join.specs.declared.records.Record.{Record}
+use Rattle.map_join.specs.Record.{record_at}
+use Rattle.extent_groups.specs.Groups.{Groups}
+use Rattle.flat_machine.specs.Flat.{Flat, IsNewest}
+use Rattle.flat_machine.proofs.Newest.{newest_told}
+use Rattle.array_model.specs.Represents.{ShowsArray}
+use Rattle.array_model.specs.Views.{ArrayView, key_at}
+use Rattle.migrator.specs.Ages.{IsOldest, IsMarked}
+use Rattle.tiering.proofs.Marks.{mirrored_record}
 use Rattle.cleaner.specs.declared.moves.Move.{Move}
-use Rattle.array_book.specs.declared.plan.Plan.{Plan}
-use Rattle.array_book.specs.Kept.{KeptView}
-use Rattle.array_book.specs.Planned.{IsMoveBy, IsPlanned}
+use Rattle.array_book.specs.Kept.{KeptView, IsKept}
+use Rattle.array_book.specs.Planned.{IsPlugOf, IsCleanOf, IsOldestMirrored}
 
-pub planned_by : (k : KeptView) (r : Option Plan) (move : Move) (behind : Bool) → ((plan : Plan) → IsMoveBy move behind plan → IsPlanned k plan)
-    → MatchOption r (Unit {0}) (IsMoveBy move behind) → MatchOption r (Unit {0}) (IsPlanned k)
-planned_by k (Some plan) move behind is moves = is plan moves
-planned_by k None move behind is moves = tt
+-- a block that lies somewhere is one of the array's
+pub told_inside : (a : ArrayView) (F : Flat) (b : ℕ) (r : Record) → ShowsArray a F → record_at b (key_at a b) ≡ Some r → b < a.parts.groups.blocks
+told_inside a F b r shows told =
+    let newest = subst (IsNewest F.emitted b) told (newest_told F.emitted (key_at a) b shows.history.records shows.history.map) in
+    let inside = shows.history.blocks r newest.0 in
+    subst (λ (z : Groups). b < z.blocks) shows.tables.groups (subst (λ n. n < F.groups.blocks) newest.1 inside)
+
+-- what is moved by a plug or a clean is
+pub plug_inside : (k : KeptView) (move : Move) → (F : Flat) × ShowsArray k.array F → IsPlugOf k (Some move) → move.block < k.array.parts.groups.blocks
+plug_inside k move shows plug = let r = plug.4.block in told_inside k.array shows.0 move.block r.0 shows.1 r.1
+
+pub clean_inside : (k : KeptView) (move : Move) → (F : Flat) × ShowsArray k.array F → IsCleanOf k (Some move) → move.block < k.array.parts.groups.blocks
+clean_inside k move shows clean = let r = clean.2.2.block in told_inside k.array shows.0 move.block r.0 shows.1 r.1
+
+-- what is marked is what lies in a mirrored group
+pub oldest_mirrored : (many size : ℕ) (k : KeptView) (r : Option ℕ) → IsKept many size k → IsOldest k.ages.order (IsMarked k.ages.marks) r → IsOldestMirrored k r
+oldest_mirrored many size k None is none = λ c has q. none c has ((is.marked c).1 q)
+oldest_mirrored many size k (Some b) is one = record {
+  passes = (is.marked b).0 one.passes;
+  among = one.among;
+  oldest = λ c has q other. one.oldest c has ((is.marked c).1 q) other;
+}
+
+-- and such a block is one of the array's
+pub oldest_inside : (k : KeptView) (r : Option ℕ) → (F : Flat) × ShowsArray k.array F → IsOldestMirrored k r → MatchOption r (Unit {0}) (λ b. b < k.array.parts.groups.blocks)
+oldest_inside k None shows none = tt
+oldest_inside k (Some b) shows one =
+    let r = mirrored_record k.array.parts.groups (record_at b (key_at k.array b)) one.passes in told_inside k.array shows.0 b r.0 shows.1 r.1

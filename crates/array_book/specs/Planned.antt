@@ -3,8 +3,9 @@ use Rattle.std.specs.Prelude.{◌≡◌, ◌⊎◌, ℕ, ◌+◌, ◌/◌, ◌%�
 use Rattle.array_model.specs.Views.{key_at}
 use Rattle.cleaner.specs.declared.moves.Move.{Move}
 use Rattle.cleaner.specs.Plans.{IsPlugPlan, IsCleanPlan}
-use Rattle.migrator.specs.Ages.{IsOldest, IsMarked}
+use Rattle.migrator.specs.Ages.{IsOldest}
 use Rattle.migrator.specs.First.{IsFirstAppend}
+use Rattle.migrator.specs.Slots.{IsMirrored}
 use Rattle.array_book.specs.declared.plan.Plan.{Plan}
 use Rattle.array_book.specs.Kept.{KeptView}
 
@@ -27,9 +28,13 @@ turn_of (Some group) slot = if group == (slot / 128) then slot % 128 else 128 + 
 abbrev pub IsFirstBehind : KeptView → (ℕ → Type 0) → Option ℕ → Type 0
 IsFirstBehind k free slot = IsFirstAppend k.end k.array.parts.groups (key_at k.array) free slot
 
--- the marked block that was written longest ago goes to where the log goes on
+-- the block in a mirrored group that was written longest ago, or none where no block is in one
+abbrev pub IsOldestMirrored : KeptView → Option ℕ → Type 0
+IsOldestMirrored k block = IsOldest k.ages.order (IsMirrored k.array.parts.groups (key_at k.array)) block
+
+-- that block goes to where the log goes on
 pub record IsDemotion (k : KeptView) (plan : Plan) : Type 0 where
-  pub oldest : IsOldest k.ages.order (IsMarked k.ages.marks) (Some plan.block)
+  pub oldest : IsOldestMirrored k (Some plan.block)
   pub slot : IsFirstBehind k (λ slot. Unit {0}) plan.slot
   pub demotes : plan.demotes ≡ true
   pub group : plan.group ≡ k.end.group
@@ -47,3 +52,7 @@ abbrev pub IsPlanned : KeptView → Plan → Type 0
 IsPlanned k plan =
     IsDemotion k plan
     ⊎ ((move : Move) × ((IsPlugOf k (Some move) × IsMoveBy move false plan) ⊎ (IsCleanOf k (Some move) × IsMoveBy move true plan)))
+
+-- there is no plug, and no clean
+abbrev pub IsDone : KeptView → Type 0
+IsDone k = IsPlugOf k None × IsCleanOf k None

@@ -1,7 +1,6 @@
 // What a worker moves next, and into which slot.
 ghost use Rattle.std.specs.Prelude.{◌≡◌, ◌<◌, MatchOption, true, false, Some, None};
-ghost use Rattle.migrator.specs.Ages.{IsOldest, IsMarked};
-ghost use Rattle.array_book.specs.Planned.{IsPlanned, IsFirstBehind, IsPlugOf, IsCleanOf, IsMoveBy, turn_of};
+ghost use Rattle.array_book.specs.Planned.{IsPlanned, IsDone, IsOldestMirrored, IsFirstBehind, IsPlugOf, IsCleanOf, IsMoveBy, turn_of};
 
 use crate::asks::Running;
 use crate::claim::Sizes;
@@ -80,15 +79,15 @@ fn turn_of(group: Option<u16>, slot: u16) -> u32
     }
 }
 
-// What is moved next: a demotion where fewer mirrored slots are free than `low`, else a plug, else a clean. The block's number
-// is below `blocks`.
+// What is moved next: a demotion where fewer mirrored slots are free than `low`, else a plug, else a clean. There is nothing only
+// where there is neither a plug nor a clean.
 pub(crate) fn plan_in<D: Drive, N: Naming + Sizes>(
     kept: &mut Kept<D, N>,
     mirrors: &[u16],
     low: u32,
 ) -> Option<Plan>
     ensures block { MatchOption result (Unit {0}) (λ plan. plan.block < N.blocks) }
-    ensures planned { MatchOption result (Unit {0}) (IsPlanned kept.old) }
+    ensures planned { MatchOption result (IsDone kept.old) (IsPlanned kept.old) }
     ensures same { kept.new ≡ kept.old }
 {
     if wants_demotion(kept, mirrors, low) {
@@ -96,11 +95,12 @@ pub(crate) fn plan_in<D: Drive, N: Naming + Sizes>(
             return Some(demotion(kept, block));
         }
     }
+    kept.stands();
     if let Some(plan) = plug_of(kept) {
-        return moved(kept, plan, false);
+        return Some(moved(plan, false));
     }
     match clean_of(kept) {
-        Some(plan) => moved(kept, plan, true),
+        Some(plan) => Some(moved(plan, true)),
         None => None,
     }
 }
@@ -120,22 +120,17 @@ fn demotion<D: Drive, N: Naming + Sizes>(kept: &Kept<D, N>, block: u32) -> Plan
     }
 }
 
-// The plan of a move, where its block is one of the array.
-fn moved<D: Drive, N: Naming + Sizes>(kept: &Kept<D, N>, plan: Move, appends: bool) -> Option<Plan>
-    ensures block { MatchOption result (Unit {0}) (λ plan. plan.block < N.blocks) }
-    ensures moves { MatchOption result (Unit {0}) (IsMoveBy plan appends) }
+// The plan of a move.
+fn moved(plan: Move, appends: bool) -> Plan
+    ensures { IsMoveBy plan appends result }
 {
-    kept.stands();
-    if plan.block >= kept.array().shape().blocks {
-        return None;
-    }
-    Some(Plan {
+    Plan {
         block: plan.block,
         slot: Some(plan.to),
         demotes: false,
         group: None,
         appends,
-    })
+    }
 }
 
 // Whether the array keeps nothing of fewer of these slots than `low`. It looks no further where too many are kept.
@@ -161,15 +156,10 @@ fn wants_demotion<D: Drive, N: Naming + Sizes>(
 // The block in a mirrored group that was written longest ago.
 fn oldest_mirrored<D: Drive, N: Naming + Sizes>(kept: &mut Kept<D, N>) -> Option<u32>
     ensures block { MatchOption result (Unit {0}) (λ block. block < N.blocks) }
-    ensures oldest { MatchOption result (Unit {0}) (λ block. IsOldest kept.old.ages.order (IsMarked kept.old.ages.marks) (Some block)) }
+    ensures oldest { IsOldestMirrored kept.old result }
     ensures same { kept.new ≡ kept.old }
 {
-    kept.stands();
-    let blocks = kept.array.shape().blocks;
-    match kept.ages.oldest_marked() {
-        Some(block) if block < blocks => Some(block),
-        _ => None,
-    }
+    kept.ages.oldest_marked()
 }
 
 // A hole that can be plugged.
