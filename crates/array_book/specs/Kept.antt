@@ -1,5 +1,5 @@
 -- What is seen of an array under a lock, with its order of last writes and the end of its write log; and what is always true of it.
-use Rattle.std.specs.Prelude.{◌≡◌, ℕ, ◌<◌, ◌==◌, if◌then◌else◌, List, length}
+use Rattle.std.specs.Prelude.{◌≡◌, ℕ, ◌<◌, ◌==◌, if◌then◌else◌, List, length, slice_set, Some}
 use Rattle.map_join.specs.declared.records.Record.{Record}
 use Rattle.map_join.specs.Maps.{IsMapOf, IsSame}
 use Rattle.map_join.specs.Record.{record_of}
@@ -9,8 +9,8 @@ use Rattle.flat_machine.specs.Scanned.{IsScanned}
 use Rattle.array_model.specs.Views.{ArrayView, key_at}
 use Rattle.array_model.specs.Represents.{ShowsArray}
 use Rattle.migrator.specs.Ages.{Marked, written}
-use Rattle.migrator.specs.Slots.{End}
-use Rattle.tiering.specs.Marking.{AreMarked}
+use Rattle.migrator.specs.Slots.{End, class_at}
+use Rattle.tiering.specs.Marking.{AreMarked, is_mirrors}
 use Rattle.step_core.specs.Headline.{bytes_of}
 
 -- the array, the order of last writes with marks on the blocks in mirrored groups, and the end of the write log
@@ -47,3 +47,9 @@ OnlyArray before after = (after.ages ≡ before.ages) × (after.end ≡ before.e
 -- the order of last writes after a commit: a fresh payload, whose record has no hop, is noted
 abbrev pub order_after : List ℕ → Record → List ℕ
 order_after order r = if r.hop == 0 then written order r.block else order
+
+-- the commit of a record is noted: by the order of last writes, and by its block's mark
+abbrev pub HasNoted : KeptView → KeptView → Record → Type 0
+HasNoted before after r =
+    (after.ages.order ≡ order_after before.ages.order r)
+    × (after.ages.marks ≡ slice_set before.ages.marks r.block (is_mirrors (class_at after.array.parts.groups (Some r))))

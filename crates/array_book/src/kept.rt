@@ -13,7 +13,7 @@ ghost use Rattle.array_model.specs.Represents.{ShowsArray};
 ghost use Rattle.migrator.specs.Slots.{class_at, end_at};
 ghost use Rattle.step_core.specs.Refused.{IsRefused};
 ghost use Rattle.tiering.specs.Marking.{is_mirrors};
-ghost use Rattle.array_book.specs.Kept.{Agrees, OnlyArray, order_after};
+ghost use Rattle.array_book.specs.Kept.{Agrees, HasNoted, OnlyArray, order_after};
 
 use crate::claim::{Claim, Sizes};
 use extent_groups::GroupTable;
@@ -121,9 +121,7 @@ pub fn commit_in<D: Drive, N: Naming + Sizes>(
     requires { block < N.blocks }
     ensures record { IfOk result (λ done. done.emitted ≡ commit_record kept.old.array ticket block (record_at block (key_at kept.old.array block))) }
     ensures written { IfOk result (λ done. 0 < done.emitted.version) }
-    ensures noted { IfOk result (λ done. kept.new.ages.order ≡ order_after kept.old.ages.order done.emitted) }
-    ensures marked { IfOk result (λ done. kept.new.ages.marks
-        ≡ slice_set kept.old.ages.marks block (is_mirrors (class_at kept.new.array.parts.groups (Some done.emitted)))) }
+    ensures noted { IfOk result (λ done. HasNoted kept.old kept.new done.emitted) }
     ensures err { IfErr result (λ e. (e.1 ≡ ticket) × IsRefused kept.old.array kept.new.array e.0 × (kept.new.ages ≡ kept.old.ages)) }
     ensures end { kept.new.end ≡ kept.old.end }
     ensures flat { (F : Flat) (w : ℕ) → ShowsArray kept.old.array F → (F.tickets ticket ≢ None → F.held ticket (ticket_of w) ≡ true)
@@ -165,6 +163,9 @@ pub(crate) fn commit_fresh_in<D: Drive, N: Naming + Sizes>(
 ) -> Result<Done<Claim<N>>, (Refusal, Ticket)>
     requires { block < N.blocks }
     ensures ok { IfOk result (λ done. (done.emitted.block ≡ block) × (0 < done.emitted.version) × (done.emitted.hop ≡ 0)) }
+    ensures noted { IfOk result (λ done. HasNoted kept.old kept.new done.emitted) }
+    ensures err { IfErr result (λ e. (e.1 ≡ ticket) × (kept.new.ages ≡ kept.old.ages)) }
+    ensures end { kept.new.end ≡ kept.old.end }
 {
     if !kept.array.is_fresh(&ticket) {
         return Err((Refusal::NoTicket, ticket));

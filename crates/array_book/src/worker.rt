@@ -6,6 +6,7 @@ ghost use Rattle.map_words.specs.Answers.{HasFound, IsNewest, key_in};
 ghost use Rattle.flat_machine.specs.declared.refusal.Refusal.TheVariants as refusal;
 ghost use Rattle.migrator.specs.Slots.{end_at};
 ghost use Rattle.slot_words.specs.Places.{slots_of};
+ghost use Rattle.array_book.specs.Kept.{HasNoted};
 ghost use Rattle.array_book.specs.Takes.{controller_of, taker_of, other_of, AreSame, HasAsked, HasMigrated, HasRead, Took, Learnt, IsTold};
 ghost use Rattle.array_book.specs.declared.fault.WorkFault.TheVariants.{Core};
 
@@ -469,7 +470,8 @@ fn commit_and_append<D: Drive, N: slot_words::Naming + Sizes>(
     ensures ok { IfOk result (λ done. (done.emitted.block ≡ plan.now.block) × (0 < done.emitted.version)) }
     ensures appended { IfOk result (λ done. plan.now.appends ≡ true → kept.new.end ≡ end_at done.emitted.place) }
     ensures stays { plan.now.appends ≡ false → kept.new.end ≡ kept.old.end }
-    ensures err { OnErr result (kept.new.end ≡ kept.old.end) }
+    ensures noted { IfOk result (λ done. HasNoted kept.old kept.new done.emitted) }
+    ensures err { OnErr result ((kept.new.end ≡ kept.old.end) × (kept.new.ages ≡ kept.old.ages)) }
 {
     let done = commit_in(kept, alloc, ticket, plan.block)?;
     if plan.appends {
