@@ -39,6 +39,29 @@ pub(crate) struct Bench<N: slot_words::Naming, A: map_words::Naming, B: map_word
     pub(crate) hands: Ended<N, A, B>,
 }
 
+/// The words and the Pass that a Book left, with new maps under their names.
+pub(crate) fn renewed<N: slot_words::Naming, A: map_words::Naming, B: map_words::Naming>(
+    words: SlotWords<N>,
+    pass: Pass<N>,
+    even: map_words::Unnamed,
+    odd: map_words::Unnamed,
+) -> Bench<N, A, B>
+    requires maps { (even ≡ A.table) × (odd ≡ B.table) }
+{
+    let (even, one) = even.named::<A>();
+    let (odd, other) = odd.named::<B>();
+    Bench {
+        words,
+        even,
+        odd,
+        hands: Ended {
+            pass,
+            even: one,
+            odd: other,
+        },
+    }
+}
+
 /// What workers do while a Book lives.
 pub(crate) trait Story {
     /// How many segments an extent of the Book's drives has.

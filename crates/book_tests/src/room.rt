@@ -4,8 +4,8 @@ ghost use Rattle.map_words.specs.Places.{blocks_of};
 ghost use Rattle.slot_words.specs.Places.{slots_of};
 
 use crate::calls::{moved, reads, record, write};
-use crate::rig::{Bench, Story, Tables, named, new_map, new_tables, play, released, two_of_each};
-use array_book::{Controller, Ended, NoGate, Settled, Sizes, WorkFault, Worker};
+use crate::rig::{Story, Tables, named, new_map, new_tables, play, released, renewed, two_of_each};
+use array_book::{Controller, NoGate, Settled, Sizes, WorkFault, Worker};
 use slot_words::{Claim, Pass, SlotWords};
 use std::alloc::Global;
 use std::marker::Brand;
@@ -107,18 +107,7 @@ fn fills_up<
     release_last(&words, &mut spare, &mut claims);
     let shape = array.shape();
     assert!(rt; shape.blocks == 16 && shape.payload == 8);
-    let (even, one) = even.named::<C>();
-    let (odd, other) = odd.named::<D>();
-    let bench = Bench {
-        words,
-        even,
-        odd,
-        hands: Ended {
-            pass,
-            even: one,
-            odd: other,
-        },
-    };
+    let bench = renewed::<N, C, D>(words, pass, even, odd);
     let (settled, left) = play(rt, alloc, array, bench, &[0], &FindsOne);
     assert!(rt; settled == Ok(()));
     let Settled {
