@@ -1,6 +1,6 @@
 -- An array that is put together from parts, a map and claims is what the map says.
-use Rattle.std.proofs.Common.{◌≡◌, ℕ, ◌<◌, ◌≤◌, Bool, List, length, map, get_or, refl, sym, ◌∙◌, subst, arith, ◌⊎◌, inl, inr, Vec}
-use Rattle.std.proofs.lemmas.List.{length-map}
+use Rattle.std.proofs.Common.{◌≡◌, vec_len, ℕ, ◌<◌, ◌≤◌, Bool, List, length, map, get_or, refl, sym, ◌∙◌, subst, arith, ◌⊎◌, inl, inr, Vec}
+use Rattle.std.proofs.lemmas.List.{get_or_past, length-map}
 use Rattle.std.specs.Global.{Global}
 use Rattle.std.specs.Prelude.{slice_index}
 use Rattle.array_parts.specs.declared.parts.Parts.{Parts}
@@ -17,11 +17,12 @@ use Rattle.slot_tables.specs.declared.ready.Ready.{Ready}
 use Rattle.slot_tables.specs.declared.place.Place.{Place}
 use Rattle.slot_tables.specs.declared.place.Place.TheVariants as place
 use Rattle.array_core.specs.Inside.{seen, IsReady}
-use Rattle.slot_tables.specs.Kept.{kept_of, kepts_of, IsOf, AreOf}
+use Rattle.slot_tables.specs.Kept.{kepts_of, IsOf, AreOf}
 use Rattle.slot_tables.specs.Counted.{AreCounts}
 use Rattle.slot_tables.specs.Adopted.{AreReady, AreKeys, kept_for, wanted_at}
+use Rattle.array_core.proofs.Ready.{as_many}
 use Rattle.slot_tables.proofs.Adoptions.{all_keys, wants_placed}
-use Rattle.slot_tables.proofs.Places.{get_or_past}
+use Rattle.slot_tables.proofs.Places.{kepts_many}
 
 -- parts that fit stand by themselves
 pub fit_parts : {D : Type 0} (units : D → List (List ℕ)) (lost : D → Bool) (failures : D → ℕ) (p : Parts D) → IsFit units p → ArePartsOf (view_of units lost failures p)
@@ -80,15 +81,16 @@ is_adopted units lost failures names parts M claims ready places live has is kep
 
 -- it keeps what every array keeps
 pub is_whole : {D C : Type 0} (units : D → List (List ℕ)) (lost : D → Bool) (failures : D → ℕ) (names : C → ℕ) (parts : Parts D) (M : ℕ → ℕ) (claims : List C) (ready : Ready C) (places : Vec (Place C) Global) (live : List ℕ)
-    → HasPlaces parts.groups M → AreReady names parts.groups M claims ready → IsFit units parts → length places.items ≡ 65536
+    → HasPlaces parts.groups M → AreReady names parts.groups M claims ready → IsFit units parts → length places.items ≤ 65536
     → IsAdopted (view_of units lost failures parts) M (seen units lost failures (adopted parts ready places live))
     → IsWhole (seen units lost failures (adopted parts ready places live))
-is_whole units lost failures names parts M claims ready places live has is fit many adopts =
+is_whole units lost failures names parts M claims ready places live has is fit most adopts =
     adopted_whole (view_of units lost failures parts) M (seen units lost failures (adopted parts ready places live)) adopts
     (let keys = all_keys parts.groups M ready.keys.items has is.keys in record { least = λ b. (keys b).least; most = λ b. (keys b).most })
-    has (fit_parts units lost failures parts fit) (record { kept = length-map places.items kept_of ∙ many; keys = is.keys.many })
+    has (fit_parts units lost failures parts fit) (record { kept = kepts_many places.items most; keys = is.keys.many })
 
 -- and is ready for the calls of its drives
 pub is_ready_too : {D C : Type 0} (units : D → List (List ℕ)) (names : C → ℕ) (parts : Parts D) (M : ℕ → ℕ) (claims : List C) (ready : Ready C) (places : Vec (Place C) Global) (live : List ℕ)
-    → AreReady names parts.groups M claims ready → IsFit units parts → AreCounts (kepts_of places.items) live → IsReady units (adopted parts ready places live)
-is_ready_too units names parts M claims ready places live is fit counts = record { fit = fit; unit = is.room.unit; scratch = is.room.scratch; live = counts }
+    → AreReady names parts.groups M claims ready → IsFit units parts → vec_len places ≡ vec_len ready.room.places → AreCounts (kepts_of places.items) live → IsReady units (adopted parts ready places live)
+is_ready_too units names parts M claims ready places live is fit same counts =
+    record { fit = fit; unit = is.room.unit; scratch = is.room.scratch; places = as_many parts.groups _ _ same is.places; live = counts }

@@ -9,3 +9,4 @@ pub mod Losings
 pub mod Beginnings
 pub mod Closing
 pub mod Regrouping
+pub mod Entering

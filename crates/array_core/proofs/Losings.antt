@@ -1,5 +1,5 @@
 -- Drives in memory: new ones, and what a loss or a fuse leaves of an array's.
-use Rattle.std.proofs.Common.{◌≡◌, ℕ, zero, suc, ◌*◌, ◌<◌, true, List, [], ◌∷◌, ◌++◌, length, map, refl, sym, ap, ◌∙◌, subst, Some}
+use Rattle.std.proofs.Common.{◌≡◌, ℕ, zero, suc, ◌<◌, true, List, [], ◌∷◌, ◌++◌, length, map, refl, sym, ap, ◌∙◌, subst, Some}
 use Rattle.std.specs.Prelude.{slice_get, slice_set}
 use Rattle.std.specs.Option.{option_map}
 use Rattle.std.proofs.Math.Seq.{map-set_same}
@@ -9,8 +9,7 @@ use Rattle.extents.specs.Condition.{Held, after_loss, after_fuse}
 use Rattle.extents.specs.declared.mem_drive.Condition.{Condition}
 use Rattle.extents.specs.declared.mem_drive.Condition.TheVariants.{Present, Fused, Lost, Burnt}
 use Rattle.extents.specs.Units.{zero_units}
-use Rattle.extent_groups.specs.Groups.{Groups}
-use Rattle.extent_groups.specs.Stores.{AreSound, KeepsUnits, unit_bytes}
+use Rattle.extent_groups.specs.Stores.{AreSound, KeepsUnits}
 use Rattle.flat_machine.specs.Flat.{put}
 use Rattle.array_parts.specs.declared.parts.Parts.{Parts}
 use Rattle.array_parts.specs.Fit.{IsFit}
@@ -26,7 +25,7 @@ use Rattle.array_core.specs.declared.array.Array.TheInside.{Inside}
 use Rattle.array_core.specs.Inside.{seen, IsReady}
 use Rattle.slot_tables.specs.Kept.{AreOf}
 use Rattle.array_core.specs.Losing.{WasLost}
-use Rattle.array_core.proofs.Ready.{Keeps, still_whole}
+use Rattle.array_core.proofs.Ready.{Keeps, parts_ready, still_whole}
 
 -- a drive in memory, and the parts that have such, as plain data
 abbrev pub held_view : Held → DriveView
@@ -131,9 +130,8 @@ one_new bytes count (y ∷ ds) m new is (suc d) x at = one_new bytes count ds m 
 pub still_stands : {C : Type 0} (names : C → ℕ) (a : Inside Held C) (p : Parts Held) → Keeps (held_parts a.parts) (held_parts p) → IsFit held_units p
     → IsWhole (seen held_units held_lost held_failures a) × AreOf names a.places.items × IsReady held_units a
     → IsWhole (seen held_units held_lost held_failures (record a { parts = p })) × AreOf names a.places.items × IsReady held_units (record a { parts = p })
-still_stands names a p same fit stands =
-    let groups = ap (λ (z : Groups). unit_bytes z) (sym same.tables.groups) in (
-      still_whole held_units held_lost held_failures a p same fit stands.0,
-      stands.1,
-      record { fit = fit; unit = stands.2.unit ∙ groups; scratch = stands.2.scratch ∙ ap (λ n. 2 * n) groups; live = stands.2.live },
-    )
+still_stands names a p same fit stands = (
+  still_whole held_units held_lost held_failures a p same fit stands.0,
+  stands.1,
+  parts_ready held_units a p same.tables.groups fit stands.2,
+)

@@ -1,6 +1,5 @@
 -- What an array is put together of, and that nothing has happened to it.
-use Rattle.std.proofs.Common.{◌≡◌, ℕ, ◌*◌, ◌+◌, ◌≤◌, Bool, List, [], length, map, get_or, sym, ap, ◌∙◌, subst, Vec}
-use Rattle.std.proofs.Math.ListN.{get_or-map}
+use Rattle.std.proofs.Common.{◌≡◌, ℕ, ◌*◌, ◌+◌, ◌≤◌, Bool, List, [], length, map, get_or, sym, ap, ◌∙◌, subst, arith, Vec}
 use Rattle.std.proofs.lemmas.List.{length-map, length-replicate}
 use Rattle.std.specs.Global.{Global}
 use Rattle.std.specs.Prelude.{slice_index}
@@ -16,16 +15,19 @@ use Rattle.extent_groups.specs.Stores.{AreDrives}
 use Rattle.array_parts.specs.Views.{drive_view, drive_units}
 use Rattle.array_model.specs.Views.{Nothing, IsNew}
 use Rattle.array_core.specs.declared.array.Array.TheInside.{Inside}
-use Rattle.slot_tables.specs.declared.place.Place.{Place}
-use Rattle.slot_tables.specs.declared.place.Place.TheVariants as place
 use Rattle.slot_tables.specs.declared.tables.Tables.{Tables}
 use Rattle.array_core.specs.Inside.{seen, IsReady}
-use Rattle.slot_tables.specs.Kept.{kept_of, kepts_of, AreOf}
+use Rattle.slot_tables.specs.Kept.{kepts_of, AreOf}
 use Rattle.slot_tables.specs.New.{AreNew}
 use Rattle.slot_tables.proofs.Counts.{none_below}
+use Rattle.slot_tables.proofs.Places.{kept_past, kepts_many}
 
-pub none_kept : {C : Type 0} (places : List (Place C)) → ((s : ℕ) → get_or places s place.Free ≡ place.Free) → (s : ℕ) → get_or (kepts_of places) s Nothing ≡ Nothing
-none_kept places all s = get_or-map kept_of places s place.Free ∙ ap kept_of (all s)
+-- there are no places yet
+no_places : {C : Type 0} (shape : Shape) (n : ℕ) (t : Tables C) → AreNew shape n t → length t.places.items ≡ 0
+no_places shape n t new = sym t.places.ok.0 ∙ new.places
+
+nothing_kept : {C : Type 0} (shape : Shape) (n : ℕ) (t : Tables C) → AreNew shape n t → (s : ℕ) → get_or (kepts_of t.places.items) s Nothing ≡ Nothing
+nothing_kept shape n t new s = kept_past t.places.items s (let none = no_places shape n t new in omega (arith, none))
 
 -- an array of these tables and drives
 abbrev pub of_tables : {D C : Type 0} → Shape → Tables C → Vec D Global → Vec Record Global → List ℕ → Inside D C
@@ -49,8 +51,8 @@ is_new units lost failures shape t drives log live n count none are new = record
   drives = are;
   log = none;
   keys = new.zero;
-  kept = none_kept t.places.items new.free;
-  room = record { kept = length-map t.places.items kept_of ∙ new.places; keys = new.keys ∙ new.sizes.of_blocks };
+  kept = nothing_kept shape n t new;
+  room = record { kept = kepts_many t.places.items (let none = no_places shape n t new in omega (arith, none)); keys = new.keys ∙ new.sizes.of_blocks };
 }
 
 pub is_ready : {D C : Type 0} (units : D → List (List ℕ)) (shape : Shape) (t : Tables C) (drives : Vec D Global) (log : Vec Record Global) (live : List ℕ) (n : ℕ)
@@ -74,8 +76,9 @@ is_ready units shape t drives log live n count least most many sized new numbers
       };
       unit = new.unit ∙ bytes;
       scratch = new.scratch ∙ ap (λ b. 2 * b) bytes;
-      live = record { many = numbers; each = λ group low. zero group ∙ sym (none_below (kepts_of t.places.items) group 128 (none_kept t.places.items new.free)) };
+      places = record { made = λ g is. absurd (is (new.empty.free g)); most = let none = new.places in omega (arith, none) };
+      live = record { many = numbers; each = λ group low. zero group ∙ sym (none_below (kepts_of t.places.items) group 128 (nothing_kept shape n t new)) };
     }
 
 pub are_of : {C : Type 0} (names : C → ℕ) (shape : Shape) (n : ℕ) (t : Tables C) → AreNew shape n t → AreOf names t.places.items
-are_of names shape n t new = λ slot inside. rw (new.free slot) tt
+are_of names shape n t new = λ slot inside. let none = no_places shape n t new in absurd (omega (arith, none, inside))

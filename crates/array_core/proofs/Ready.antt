@@ -1,5 +1,5 @@
 -- What an array keeps by itself, with other drives.
-use Rattle.std.proofs.Common.{◌≡◌, ℕ, ◌*◌, ◌<◌, Bool, false, ap, inl, inr, List, length, get_or, sym, subst, ◌∙◌, arith, Vec, Result, Ok, Err, IfOk, IfErr}
+use Rattle.std.proofs.Common.{◌≡◌, ℕ, ◌*◌, ◌+◌, ◌<◌, ◌≤◌, Bool, false, vec_len, None, ap, inl, inr, List, length, get_or, sym, subst, ◌∙◌, arith, Vec, Result, Ok, Err, IfOk, IfErr}
 use Rattle.std.proofs.Math.ListN.{set}
 use Rattle.std.specs.Global.{Global}
 use Rattle.std.specs.List.{length_refill}
@@ -16,9 +16,11 @@ use Rattle.array_model.proofs.Wholes.{whole_parts}
 use Rattle.array_core.specs.declared.array.Array.TheInside.{Inside}
 use Rattle.slot_tables.specs.declared.place.Place.{Place}
 use Rattle.array_core.specs.Inside.{seen, IsReady}
+use Rattle.slot_tables.specs.Kept.{HavePlaces}
 use Rattle.slot_tables.specs.Kept.{kepts_of}
 use Rattle.slot_tables.specs.Counted.{is_newest, AreCounts}
 use Rattle.slot_tables.proofs.Counts.{counts_same}
+use Rattle.slot_tables.proofs.Placing.{placed_with}
 use Rattle.array_parts.proofs.Views.{view_drives}
 use Rattle.array_parts.specs.Views.{view_of, PartsView, SameTables, DrivesFare, Loses, FoundGone, WasNotCarried, WasTaken}
 use Rattle.flat_machine.specs.declared.refusal.Refusal.{Refusal}
@@ -66,6 +68,7 @@ still_ready units lost failures a p unit scratch same fit ready =
       fit = fit;
       unit = length_again a.unit unit ∙ ready.unit ∙ groups;
       scratch = length_again a.scratch scratch ∙ ready.scratch ∙ ap (λ n. 2 * n) groups;
+      places = subst (λ (z : Groups). HavePlaces z (vec_len a.places)) (sym same.tables.groups) ready.places;
       live = ready.live;
     }
 
@@ -80,16 +83,21 @@ still_stands units lost failures a p unit scratch same fit stands = (
   still_ready units lost failures a p unit scratch same fit stands.2,
 )
 
--- with other places, of which as many are newest places, it is ready still
-pub places_ready : {D C : Type 0} (units : D → List (List ℕ)) (a : Inside D C) (places : Vec (Place C) Global) → AreCounts (kepts_of places.items) a.live → IsReady units a → IsReady units (record a { places = places })
-places_ready units a places counts ready = record { fit = ready.fit; unit = ready.unit; scratch = ready.scratch; live = counts }
+-- as many places are enough
+pub as_many : (groups : Groups) (m n : ℕ) → n ≡ m → HavePlaces groups m → HavePlaces groups n
+as_many groups m n is have = subst (HavePlaces groups) (sym is) have
+
+-- with as many other places, of which as many are newest places, it is ready still
+pub places_ready : {D C : Type 0} (units : D → List (List ℕ)) (a : Inside D C) (places : Vec (Place C) Global) → vec_len places ≡ vec_len a.places → AreCounts (kepts_of places.items) a.live → IsReady units a → IsReady units (record a { places = places })
+places_ready units a places same counts ready =
+    record { fit = ready.fit; unit = ready.unit; scratch = ready.scratch; places = as_many a.parts.groups _ _ same ready.places; live = counts }
 
 -- so with one slot changed, which wasn't a newest place and isn't one
 pub slot_ready : {D C : Type 0} (units : D → List (List ℕ)) (a : Inside D C) (places : Vec (Place C) Global) (slot : ℕ) (k : Kept)
-    → kepts_of places.items ≡ set (kepts_of a.places.items) slot k → length (kepts_of a.places.items) ≡ 65536 → slot < 65536
+    → vec_len places ≡ vec_len a.places → kepts_of places.items ≡ set (kepts_of a.places.items) slot k → length (kepts_of a.places.items) ≡ 65536 → slot < 65536
     → is_newest (get_or (kepts_of a.places.items) slot Nothing) ≡ false → is_newest k ≡ false → IsReady units a → IsReady units (record a { places = places })
-slot_ready units a places slot k is many low was isnt ready =
-    places_ready units a places (rw (is) (counts_same (kepts_of a.places.items) a.live slot k (omega (arith, many, low)) was isnt ready.live)) ready
+slot_ready units a places slot k same is many low was isnt ready =
+    places_ready units a places same (rw (is) (counts_same (kepts_of a.places.items) a.live slot k (omega (arith, many, low)) was isnt ready.live)) ready
 
 -- what a refusal leaves of one array it leaves of an equal one
 pub as_refused : (q : Refusal) (W : Type 0) (P : Flat → Type 0) (b a : ArrayView) → b ≡ a → MayRefuse q W ((G : Flat) × P G × ShowsArray a G)
@@ -105,18 +113,18 @@ carried_gone a b slot q (inr gone) = gone.1
 pub parts_ready : {D C : Type 0} (units : D → List (List ℕ)) (a : Inside D C) (p : Parts D) → p.groups ≡ a.parts.groups → IsFit units p → IsReady units a
     → IsReady units (record a { parts = p })
 parts_ready units a p same fit ready = let groups = ap (λ (z : Groups). unit_bytes z) (sym same) in
-    record { fit = fit; unit = ready.unit ∙ groups; scratch = ready.scratch ∙ ap (λ n. 2 * n) groups; live = ready.live }
+    record { fit = fit; unit = ready.unit ∙ groups; scratch = ready.scratch ∙ ap (λ n. 2 * n) groups; places = subst (λ (z : Groups). HavePlaces z (vec_len a.places)) (sym same) ready.places; live = ready.live }
 
 -- with a group fewer, and other places
 pub taken_ready : {D C : Type 0} (units : D → List (List ℕ)) (lost : D → Bool) (failures : D → ℕ) (a : Inside D C) (p : Parts D) (places : Vec (Place C) Global) (g : ℕ)
-    → WasTaken (view_of units lost failures a.parts) g (view_of units lost failures p) → IsFit units p → AreCounts (kepts_of places.items) a.live → IsReady units a
+    → WasTaken (view_of units lost failures a.parts) g (view_of units lost failures p) → 128 * g + 128 ≤ vec_len a.places → vec_len places ≡ vec_len a.places → IsFit units p → AreCounts (kepts_of places.items) a.live → IsReady units a
     → IsReady units (record a { parts = p; places = places })
-taken_ready units lost failures a p places g taken fit counts ready = let groups = ap (λ (z : Groups). unit_bytes z) (sym taken.groups) in
-    record { fit = fit; unit = ready.unit ∙ groups; scratch = ready.scratch ∙ ap (λ n. 2 * n) groups; live = counts }
+taken_ready units lost failures a p places g taken enough same fit counts ready = let groups = ap (λ (z : Groups). unit_bytes z) (sym taken.groups) in
+    record { fit = fit; unit = ready.unit ∙ groups; scratch = ready.scratch ∙ ap (λ n. 2 * n) groups; places = as_many p.groups _ _ same (subst (λ (z : Groups). HavePlaces z (vec_len a.places)) (sym taken.groups) (placed_with a.parts.groups g (vec_len a.places) None enough ready.places)); live = counts }
 
 -- with groups of the same sizes, other places, and the buffer of a unit written over
 pub grown_ready : {D C : Type 0} (units : D → List (List ℕ)) (a : Inside D C) (p : Parts D) (places : Vec (Place C) Global) (unit : List ℕ)
-    → unit_bytes a.parts.groups ≡ unit_bytes p.groups → IsFit units p → AreCounts (kepts_of places.items) a.live → IsReady units a
+    → unit_bytes a.parts.groups ≡ unit_bytes p.groups → HavePlaces p.groups (vec_len places) → IsFit units p → AreCounts (kepts_of places.items) a.live → IsReady units a
     → IsReady units (record a { parts = p; places = places; unit = with_items a.unit unit })
-grown_ready units a p places unit same fit counts ready =
-    record { fit = fit; unit = length_again a.unit unit ∙ ready.unit ∙ same; scratch = ready.scratch ∙ ap (λ n. 2 * n) same; live = counts }
+grown_ready units a p places unit same have fit counts ready =
+    record { fit = fit; unit = length_again a.unit unit ∙ ready.unit ∙ same; scratch = ready.scratch ∙ ap (λ n. 2 * n) same; places = have; live = counts }

@@ -16,7 +16,7 @@ use array_parts::Parts;
 use extents::Drive;
 use flat_machine::Refusal;
 use map_join::BlockMap;
-use slot_tables::{Hold, NotAdopted, Ready, Room, SLOTS, prepare, seat_all, unseat_all};
+use slot_tables::{Hold, NotAdopted, Ready, Room, prepare, seat_all, unseat_all};
 use std::alloc::Global;
 
 impl<D: Drive, C: Hold> Array<D, C> {
@@ -29,7 +29,7 @@ impl<D: Drive, C: Hold> Array<D, C> {
         ensures rests { IfOk result (λ r. (F : Flat) → ShowsArray self F → ((s : ℕ) → F.tickets s ≡ None) → ((s g : ℕ) → F.held s (Shut g) ≡ false) → AreOfPlaces C.names (key_at self) r.1.items) }
         ensures err { IfErr result (λ array. array ≡ self) }
     {
-        let Ok(mut claims) = Vec::with_capacity(alloc, SLOTS) else {
+        let Ok(mut claims) = Vec::with_capacity(alloc, self.places.len()) else {
             return Err(self);
         };
         unseat_all(self.places, &mut claims);

@@ -32,13 +32,16 @@ impl<D: Drive, C: Hold> Array<D, C> {
 }
 
 // Where a claim is kept at the place, it and the other are of different slots; so none is.
+#[tactic(auto, using(slot_tables::proofs::Places::kept_past))]
 fn apart_at<C: Hold, W: Apart<C>>(places: &mut Vec<Place<C>>, words: &W, slot: u16, claim: &mut C)
-    requires inside { slot < vec_len places.old }
     requires of { C.names claim.old ≡ slot }
     requires claims { AreOf C.names places.old.items }
     ensures free { slice_index_or (kepts_of places.old.items) slot Nothing ≡ Nothing }
     ensures same { (places.new.items ≡ places.old.items) × (claim.new ≡ claim.old) }
 {
+    if usize::from(slot) >= places.len() {
+        return;
+    }
     match &mut places[usize::from(slot)] {
         Place::Free => {}
         Place::Pending(kept) => {

@@ -20,7 +20,7 @@ use extent_groups::{GROUPS, GroupTable, SLOTS as SLOTS_OF_A_GROUP};
 use extents::{Drive, ExtentTable, Shape};
 use flat_machine::{Class, Refusal};
 use map_join::{BlockMap, MapRefusal, Record};
-use slot_tables::{Hold, Place, new_tables};
+use slot_tables::{Hold, Place, new_tables, place_at};
 use std::alloc::Global;
 use std::marker::Model;
 
@@ -31,6 +31,7 @@ pub struct Array<D: Drive, C: Hold> {
     pub(crate) log: Vec<Record>,
     /// The key of each block, 0 where it was never written.
     pub(crate) keys: Vec<u64>,
+    /// What is kept of each slot, as far as groups were made: past its end nothing is.
     pub(crate) places: Vec<Place<C>>,
     /// Of each group, how many of its slots are newest places.
     pub(crate) live: [u16; GROUPS],
@@ -153,12 +154,13 @@ impl<D: Drive, C: Hold> Array<D, C> {
     pub(crate) fn keeps(&self, slot: u16) -> bool
         ensures { result ≡ is_kept (kept_at self.now slot) }
     {
-        match &self.places[usize::from(slot)] {
-            Place::Free => false,
-            Place::Pending(_) => true,
-            Place::Moving(_, _) => true,
-            Place::Newest(_, _) => true,
-            Place::Unmade(_) => true,
+        match place_at(&self.places, slot) {
+            Some(Place::Free) => false,
+            Some(Place::Pending(_)) => true,
+            Some(Place::Moving(_, _)) => true,
+            Some(Place::Newest(_, _)) => true,
+            Some(Place::Unmade(_)) => true,
+            None => false,
         }
     }
 
@@ -166,12 +168,13 @@ impl<D: Drive, C: Hold> Array<D, C> {
     pub(crate) fn waits(&self, slot: u16) -> bool
         ensures { result ≡ is_waiting (kept_at self.now slot) }
     {
-        match &self.places[usize::from(slot)] {
-            Place::Free => false,
-            Place::Pending(_) => true,
-            Place::Moving(_, _) => true,
-            Place::Newest(_, _) => false,
-            Place::Unmade(_) => false,
+        match place_at(&self.places, slot) {
+            Some(Place::Free) => false,
+            Some(Place::Pending(_)) => true,
+            Some(Place::Moving(_, _)) => true,
+            Some(Place::Newest(_, _)) => false,
+            Some(Place::Unmade(_)) => false,
+            None => false,
         }
     }
 
@@ -195,12 +198,13 @@ impl<D: Drive, C: Hold> Array<D, C> {
         ensures value { result ≡ block_in (kept_at self.now slot) }
         ensures whole { IsWhole self.now }
     {
-        match &self.places[usize::from(slot)] {
-            Place::Free => None,
-            Place::Pending(_) => None,
-            Place::Moving(_, _) => None,
-            Place::Newest(block, _) => Some(*block),
-            Place::Unmade(_) => None,
+        match place_at(&self.places, slot) {
+            Some(Place::Free) => None,
+            Some(Place::Pending(_)) => None,
+            Some(Place::Moving(_, _)) => None,
+            Some(Place::Newest(block, _)) => Some(*block),
+            Some(Place::Unmade(_)) => None,
+            None => None,
         }
     }
 

@@ -22,7 +22,7 @@ use extent_groups::GROUPS;
 use extents::{Drive, Header};
 use flat_machine::Refusal;
 use map_join::Record;
-use slot_tables::{Hold, Place, put_in, take_out, take_waiting};
+use slot_tables::{Hold, Place, place_at, put_in, take_out, take_waiting};
 use std::alloc::Global;
 use std::marker::Model;
 
@@ -121,12 +121,13 @@ impl<D: Drive, C: Hold> Array<D, C> {
         ensures ok { IfOk result (λ next. (commit_reason self.now slot block found ≡ None) × (next ≡ commit_record self.now slot block found)) }
         ensures err { IfErr result (λ refusal. commit_reason self.now slot block found ≡ Some refusal) }
     {
-        let next = match &self.places[usize::from(slot)] {
-            Place::Pending(_) => written(block, slot, found),
-            Place::Moving(source, _) => moved(*source, block, slot, found),
-            Place::Free => Err(Refusal::NoTicket),
-            Place::Newest(_, _) => Err(Refusal::NoTicket),
-            Place::Unmade(_) => Err(Refusal::NoTicket),
+        let next = match place_at(&self.places, slot) {
+            Some(Place::Pending(_)) => written(block, slot, found),
+            Some(Place::Moving(source, _)) => moved(*source, block, slot, found),
+            Some(Place::Free) => Err(Refusal::NoTicket),
+            Some(Place::Newest(_, _)) => Err(Refusal::NoTicket),
+            Some(Place::Unmade(_)) => Err(Refusal::NoTicket),
+            None => Err(Refusal::NoTicket),
         };
         if next.is_ok() && self.log.len() >= LONGEST_LOG {
             return Err(Refusal::LogFull);
@@ -142,7 +143,6 @@ fn let_go<C: Hold>(
     block: u32,
     found: Option<Record>,
 ) -> Option<C>
-    requires inside { 65536 ≤ vec_len places.old }
     requires newest { ForSome found (λ r. slice_index_or (kepts_of places.old.items) r.place Nothing ≡ Newest block) }
     requires claims { AreOf C.names places.old.items }
     requires counts { AreCounts (kepts_of places.old.items) live.old }
@@ -168,11 +168,11 @@ fn let_go<C: Hold>(
 // The claim that waited is kept for the block.
 #[tactic(auto, using(slot_tables::proofs::Places::set_twice))]
 fn keep_newest<C: Hold>(places: &mut Vec<Place<C>>, live: &mut [u16; GROUPS], slot: u16, block: u32)
-    requires inside { slot < vec_len places.old }
     requires waits { is_waiting (slice_index_or (kepts_of places.old.items) slot Nothing) ≡ true }
     requires claims { AreOf C.names places.old.items }
     requires counts { AreCounts (kepts_of places.old.items) live.old }
     ensures kept { kepts_of places.new.items ≡ slice_set (kepts_of places.old.items) slot (Newest block) }
+    ensures room { vec_len places.new ≡ vec_len places.old }
     ensures claims { AreOf C.names places.new.items }
     ensures counts { AreCounts (kepts_of places.new.items) live.new }
 {

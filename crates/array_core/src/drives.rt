@@ -1,5 +1,5 @@
 // What an array has its drives do for a slot. All but its parts stay as they were.
-ghost use Rattle.std.specs.Prelude.{◌≡◌, ◌*◌, ◌≤◌, length, vec_len, vec_capacity, OnOk, OnErr, IfOk, IfErr, Some, None};
+ghost use Rattle.std.specs.Prelude.{◌≡◌, ◌⊎◌, ◌*◌, ◌≤◌, length, vec_len, vec_capacity, OnOk, OnErr, IfOk, IfErr, Some, None};
 ghost use Rattle.extents.specs.Header.{IsHeader};
 ghost use Rattle.extents.specs.declared.shape.TheConstants.{HEADER_BYTES};
 ghost use Rattle.extent_groups.specs.Faults.{put_fault};
@@ -21,7 +21,7 @@ use extent_groups::{Class, Member};
 use extents::{Drive, Header};
 use flat_machine::Refusal;
 use map_join::Record;
-use slot_tables::{Hold, open_number};
+use slot_tables::{Hold, grow_to, open_number};
 
 impl<D: Drive, C: Hold> Array<D, C> {
     // Writes a payload under a blank header.
@@ -82,7 +82,7 @@ impl<D: Drive, C: Hold> Array<D, C> {
     }
 
     // Makes a group under a free number, of members that pass every check, and takes out the claims that were
-    // kept of that number.
+    // kept of that number. Where there is no memory for its places, all is as it was.
     pub(crate) fn enter(
         &mut self,
         number: u16,
@@ -98,10 +98,13 @@ impl<D: Drive, C: Hold> Array<D, C> {
         requires room { 128 ≤ vec_capacity claims.old }
         ensures ok { OnOk result (Entered self.old.parts number class members.items self.new.parts) }
         ensures opened { OnOk result ((self.new ≡ opened_view self.old self.new.parts self.new.kept) × IsOpened number self.old.kept self.new.kept × AreShutOf C.names self.old number claims.new.items) }
-        ensures err { IfErr result (FoundLost self.old.parts members.items self.new.parts) }
+        ensures err { IfErr result (λ refusal. ((refusal ≡ Refusal.Memory) × (self.new.parts ≡ self.old.parts)) ⊎ (FoundLost self.old.parts members.items self.new.parts refusal)) }
         ensures rest { OnErr result ((self.new ≡ with_parts self.old self.new.parts) × (claims.new ≡ claims.old)) }
         ensures whole { IsWhole self.old }
     {
+        let Ok(()) = grow_to(&mut self.places, number) else {
+            return Err(Refusal::Memory);
+        };
         match self.parts.enter(number, class, members, &mut self.unit) {
             Ok(()) => {
                 open_number(&mut self.places, number, claims);

@@ -1,15 +1,15 @@
 // How many of each group's slots are newest places of blocks.
-ghost use Rattle.std.specs.Prelude.{◌≡◌, ℕ, ◌+◌, ◌-◌, ◌/◌, ◌<◌, ◌≤◌, length, slice_index, slice_set};
+ghost use Rattle.std.specs.Prelude.{◌≡◌, ℕ, ◌+◌, ◌-◌, ◌/◌, ◌<◌, ◌≤◌, length, slice_index, slice_index_or, slice_set};
 ghost use Rattle.map_join.specs.Live.{IsLiveCount};
 ghost use Rattle.extent_groups.specs.Groups.{group_at, slots_in};
-ghost use Rattle.array_model.specs.Views.{key_at};
-ghost use Rattle.slot_tables.specs.Kept.{kept_of, kepts_of};
+ghost use Rattle.array_model.specs.Views.{Nothing, key_at};
+ghost use Rattle.slot_tables.specs.Kept.{kepts_of};
 ghost use Rattle.slot_tables.specs.Counted.{is_newest, newest_below, AreCounts};
 
 use crate::array::Array;
 use extent_groups::{GROUPS, SLOTS};
 use extents::Drive;
-use slot_tables::{Hold, Place};
+use slot_tables::{Hold, Place, place_at};
 
 impl<D: Drive, C: Hold> Array<D, C> {
     /// How many of a group's slots are newest places of blocks; no slot is looked at.
@@ -56,7 +56,6 @@ pub(crate) fn none_live() -> [u16; GROUPS]
 
 // The counts of these places.
 pub(crate) fn counted<C: Hold>(places: &[Place<C>]) -> [u16; GROUPS]
-    requires { length places.now ≡ 65536 }
     ensures { AreCounts (kepts_of places.now) result }
 {
     let mut live = none_live();
@@ -68,13 +67,12 @@ pub(crate) fn counted<C: Hold>(places: &[Place<C>]) -> [u16; GROUPS]
 
 // How many of a group's slots are newest places.
 fn count_newest<C: Hold>(places: &[Place<C>], group: u16) -> u16
-    requires group { group < 512 }
-    requires many { length places.now ≡ 65536 }
+    requires { group < 512 }
     ensures { result ≡ newest_below (kepts_of places.now) group 128 }
 {
     let mut count = 0;
     for index in 0..SLOTS {
-        if is_live(&places[usize::from(SLOTS * group + index)]) {
+        if is_live(places, SLOTS * group + index) {
             count += 1;
         }
     }
@@ -82,14 +80,15 @@ fn count_newest<C: Hold>(places: &[Place<C>], group: u16) -> u16
 }
 
 // Whether a slot is kept as a block's newest place.
-fn is_live<C: Hold>(place: &Place<C>) -> bool
-    ensures { result ≡ is_newest (kept_of place.now) }
+fn is_live<C: Hold>(places: &[Place<C>], slot: u16) -> bool
+    ensures { result ≡ is_newest (slice_index_or (kepts_of places.now) slot Nothing) }
 {
-    match place {
-        Place::Free => false,
-        Place::Pending(_) => false,
-        Place::Moving(_, _) => false,
-        Place::Newest(_, _) => true,
-        Place::Unmade(_) => false,
+    match place_at(places, slot) {
+        Some(Place::Free) => false,
+        Some(Place::Pending(_)) => false,
+        Some(Place::Moving(_, _)) => false,
+        Some(Place::Newest(_, _)) => true,
+        Some(Place::Unmade(_)) => false,
+        None => false,
     }
 }

@@ -1,5 +1,5 @@
 -- What a map says of slots and claims, told of its list of records and of the table of slots that are wanted.
-use Rattle.std.proofs.Common.{◌≡◌, ℕ, ◌+◌, ◌^◌, ◌<◌, ◌≤◌, nat_lt, Bool, true, false, List, [], ◌∷◌, length, refl, sym, ap, ◌∙◌, subst, arith, ◌⊎◌, inl, inr, Option, Some, None}
+use Rattle.std.proofs.Common.{◌≡◌, ◌≢◌, ℕ, ◌+◌, ◌^◌, ◌<◌, ◌≤◌, nat_lt, Bool, true, false, List, [], ◌∷◌, length, refl, sym, ap, ◌∙◌, subst, arith, ◌⊎◌, inl, inr, Option, Some, None}
 use Rattle.std.specs.Prelude.{Contains}
 use Rattle.std.proofs.lemmas.Bool.Decides.{nat_tests}
 use Rattle.std.proofs.lemmas.Option.{same_Some}
@@ -7,9 +7,12 @@ use Rattle.map_join.specs.declared.records.Record.{Record}
 use Rattle.map_join.specs.Record.{record_of, record_at}
 use Rattle.map_join.specs.Maps.{IsListOf}
 use Rattle.extent_groups.specs.Groups.{Groups}
+use Rattle.flat_machine.specs.Groups.{class_at}
 use Rattle.flat_machine.specs.Restarted.{HasPlaces}
 use Rattle.array_model.specs.Views.{Kept, Nothing, Pending, Moving, Newest, Unmade, ArrayView, kept_at}
 use Rattle.array_model.specs.Adopted.{IsPlaced}
+use Rattle.slot_tables.specs.Kept.{HavePlaces}
+use Rattle.slot_tables.proofs.Placing.{placed_slot}
 use Rattle.slot_tables.proofs.Seated.{some_here}
 use Rattle.slot_tables.specs.Adopted.{how_many, claims_in, AreKeys, AreShared, AreOfPlaces, IsKey, IsWanted, AreWanted, wanted_at, kept_for, IsLowestUnclaimed, IsUnclaimed}
 
@@ -59,6 +62,13 @@ wants_placed M records wanted list keys are s = go (wanted_at wanted s) (are.eac
     go (Some b) some =
         let told = of_list M records list some.0 some.1 in
         subst (λ n. (0 < M n) × ((record_of n (M n)).place ≡ s)) some.2 (told.0, ap (λ (r : Record). r.place) told.1 ∙ some.3)
+
+-- so a slot that is wanted is of a group that is made, and has a place
+pub wanted_inside : (groups : Groups) (M : ℕ → ℕ) (records : List Record) (wanted : List (Option ℕ)) (n : ℕ) → IsListOf M records → ((b : ℕ) → IsKey (M b)) → AreWanted records wanted
+    → HasPlaces groups M → HavePlaces groups n → (slot b : ℕ) → wanted_at wanted slot ≡ Some b → slot < n
+wanted_inside groups M records wanted n list keys are places have slot b is =
+    let placed = subst (λ o. IsPlaced M slot (kept_for o)) is (wants_placed M records wanted list keys are slot) in
+    placed_slot groups slot n (subst (λ s. class_at groups s ≢ None) placed.1 (places.slots b placed.0)) have
 
 -- the place of a block that has a key is wanted
 pub place_wanted : (M : ℕ → ℕ) (records : List Record) (wanted : List (Option ℕ)) → IsListOf M records → ((b : ℕ) → IsKey (M b)) → AreWanted records wanted

@@ -1,4 +1,5 @@
 pub mod Places
+pub mod Placing
 pub mod Seated
 pub mod Adoptions
 pub mod Counts

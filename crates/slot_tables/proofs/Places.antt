@@ -1,22 +1,118 @@
 -- Tables with one place changed.
-use Rattle.std.proofs.Common.{◌≡◌, ℕ, zero, suc, ◌<◌, ◌≤◌, List, [], ◌∷◌, ◌++◌, length, get_or, refl, sym, ap, ◌∙◌, arith, ◌⊎◌, inl, inr}
+use Rattle.std.proofs.Common.{◌≡◌, ℕ, zero, suc, ◌-◌, ◌<◌, ◌≤◌, List, [], ◌∷◌, ◌++◌, length, map, replicate, Vec, vec_len, get_or, refl, sym, ap, ◌∙◌, arith, ◌⊎◌, inl, inr}
 use Rattle.std.proofs.Math.ListN.{set}
-use Rattle.std.proofs.lemmas.List.{map-set, length-set, get_or-map, get_or-set_same, get_or-set_other}
-use Rattle.std.proofs.lemmas.Bool.{cases_eq}
+use Rattle.std.specs.Global.{Global}
+use Rattle.std.proofs.lemmas.List.{map-set, map-append, append_assoc, length-append, length-map, length-replicate, length-set, set-append_left, get_or-map, get_or_append_left, get_or-append_right, get_or_past, get_or_push, get_or-set_same, get_or-set_other}
+use Rattle.std.proofs.lemmas.Bool.{cases_eq, cases_lt}
 use Rattle.std.proofs.lemmas.Option.{same_Some, slice_get-get_or}
 use Rattle.slot_tables.specs.declared.place.Place.{Place}
 use Rattle.slot_tables.specs.declared.place.Place.TheVariants as place
 use Rattle.slot_tables.specs.Kept.{kept_of, kepts_of, IsOf, AreOf}
-use Rattle.array_model.specs.Views.{Nothing}
+use Rattle.array_model.specs.Views.{Kept, Nothing}
 
 -- what is kept at a place
 pub kept_there : {C : Type 0} (places : List (Place C)) (s : ℕ) (d : Place C) → s < length places
     → kept_of (get_or places s d) ≡ get_or (kepts_of places) s Nothing
-kept_there places s d h = sym (get_or-map kept_of places s d Nothing h)
+unfolding kepts_of
+kept_there places s d h =
+    let long = length-map places kept_of in
+    sym (get_or_append_left (map kept_of places) (replicate (65536 - length places) Nothing) Nothing s (omega (arith, long, h)) ∙ get_or-map kept_of places s d Nothing h)
+
+-- what a place holds of a slot of which nothing is kept
+pub free_there : {C : Type 0} (places : List (Place C)) (s : ℕ) (p : Place C) → s < length places → p ≡ get_or places s p → get_or (kepts_of places) s Nothing ≡ Nothing
+    → kept_of p ≡ Nothing
+free_there places s p inside is free = ap kept_of is ∙ kept_there places s p inside ∙ free
+
+-- and a free place's slot is one of which nothing is kept
+pub nothing_there : {C : Type 0} (places : List (Place C)) (s : ℕ) (p : Place C) → s < length places → p ≡ get_or places s p → p ≡ place.Free
+    → get_or (kepts_of places) s Nothing ≡ Nothing
+nothing_there places s p inside is free = sym (kept_there places s p inside) ∙ ap kept_of (sym is ∙ free)
 
 -- tables as plain data, with one place changed
-pub kepts_set : {C : Type 0} (places : List (Place C)) (s : ℕ) (p : Place C) → kepts_of (set places s p) ≡ set (kepts_of places) s (kept_of p)
-kepts_set places s p = map-set kept_of places s p
+pub kepts_set : {C : Type 0} (places : List (Place C)) (s : ℕ) (p : Place C) → s < length places → kepts_of (set places s p) ≡ set (kepts_of places) s (kept_of p)
+unfolding kepts_of
+kepts_set places s p h =
+    let long = length-map places kept_of in
+    ap (λ n. map kept_of (set places s p) ++ replicate (65536 - n) Nothing) (length-set places s p)
+    ∙ ap (λ (ks : List Kept). ks ++ replicate (65536 - length places) Nothing) (map-set kept_of places s p)
+    ∙ sym (set-append_left (map kept_of places) (replicate (65536 - length places) Nothing) s (kept_of p) (omega (arith, long, h)))
+
+-- there are as many as slots
+pub kepts_many : {C : Type 0} (places : List (Place C)) → length places ≤ 65536 → length (kepts_of places) ≡ 65536
+unfolding kepts_of
+kepts_many places most =
+    let long = length-map places kept_of in
+    let both = length-append (map kept_of places) (replicate (65536 - length places) Nothing) in
+    let past = length-replicate (65536 - length places) Nothing in
+    omega (arith, long, both, past, most)
+
+pub places_many : {C : Type 0} (places : Vec (Place C) Global) → vec_len places ≤ 65536 → length (kepts_of places.items) ≡ 65536
+places_many places most = kepts_many places.items (let own = places.ok.0 in omega (arith, own, most))
+
+-- and no fewer than places
+pub kepts_longer : {C : Type 0} (places : List (Place C)) → length places ≤ length (kepts_of places)
+unfolding kepts_of
+kepts_longer places =
+    let long = length-map places kept_of in
+    let both = length-append (map kept_of places) (replicate (65536 - length places) Nothing) in
+    omega (arith, long, both)
+
+-- nothing is kept past the table's end
+pub kept_past : {C : Type 0} (places : List (Place C)) (s : ℕ) → length places ≤ s → get_or (kepts_of places) s Nothing ≡ Nothing
+unfolding kepts_of
+kept_past places s past =
+    let long = length-map places kept_of in
+    get_or-append_right (map kept_of places) (replicate (65536 - length places) Nothing) (length places) s Nothing long past
+    ∙ all_nothing (65536 - length places) (s - length places)
+  where
+    all_nothing : (n i : ℕ) → get_or (replicate n Nothing) i Nothing ≡ Nothing
+    all_nothing zero zero = refl
+    all_nothing zero (suc i) = refl
+    all_nothing (suc n) zero = refl
+    all_nothing (suc n) (suc i) = all_nothing n i
+
+-- a slot of which something is kept is one of them
+pub kept_inside : (ks : List Kept) (s : ℕ) → (get_or ks s Nothing ≡ Nothing → ⊥) → s < length ks
+kept_inside ks s some = by (cases_lt s (length ks))
+  where
+    by : (s < length ks) ⊎ (length ks ≤ s) → s < length ks
+    by (inl inside) = inside
+    by (inr past) = absurd (some (get_or_past ks s Nothing past))
+
+-- and lies before the table's end
+pub kept_before : {C : Type 0} (places : List (Place C)) (s : ℕ) → (get_or (kepts_of places) s Nothing ≡ Nothing → ⊥) → s < length places
+kept_before places s some = by (cases_lt s (length places))
+  where
+    by : (s < length places) ⊎ (length places ≤ s) → s < length places
+    by (inl inside) = inside
+    by (inr past) = absurd (some (kept_past places s past))
+
+-- nothing kept of a slot past the end, all is as it was
+pub kepts_past : {C : Type 0} (places : List (Place C)) (s : ℕ) → length places ≤ s → set (kepts_of places) s Nothing ≡ kepts_of places
+kepts_past places s past = same (kepts_of places) s (kept_past places s past)
+  where
+    same : (ks : List Kept) (i : ℕ) → get_or ks i Nothing ≡ Nothing → set ks i Nothing ≡ ks
+    same [] i e = refl
+    same (k ∷ ks) zero e = ap (λ j. j ∷ ks) (sym e)
+    same (k ∷ ks) (suc i) e = ap (λ js. k ∷ js) (same ks i e)
+
+-- nothing is kept where all places are free
+pub none_kept : {C : Type 0} (places : List (Place C)) → ((s : ℕ) → get_or places s place.Free ≡ place.Free) → (s : ℕ) → get_or (kepts_of places) s Nothing ≡ Nothing
+none_kept {C} places all s = by (cases_lt s (length places))
+  where
+    by : (s < length places) ⊎ (length places ≤ s) → get_or (kepts_of places) s Nothing ≡ Nothing
+    by (inl inside) = sym (kept_there places s place.Free inside) ∙ ap kept_of (all s)
+    by (inr past) = kept_past places s past
+
+-- a free place more changes nothing
+pub kepts_push : {C : Type 0} (places : List (Place C)) → length places < 65536 → kepts_of (places ++ place.Free ∷ []) ≡ kepts_of places
+unfolding kepts_of
+kepts_push {C} places fewer =
+    let more = length-append places (place.Free ∷ []) in
+    let one : 65536 - length places ≡ suc (65536 - length (places ++ place.Free ∷ [])) = omega (arith, more, fewer) in
+    ap (λ (ks : List Kept). ks ++ replicate (65536 - length (places ++ place.Free ∷ [])) Nothing) (map-append kept_of places (place.Free ∷ []))
+    ∙ append_assoc (map kept_of places) (Nothing ∷ []) (replicate (65536 - length (places ++ place.Free ∷ [])) Nothing)
+    ∙ ap (λ n. map kept_of places ++ replicate n Nothing) (sym one)
 
 -- one place with a claim of its slot put in, each place has a claim of its slot
 pub claims_put : {C : Type 0} (names : C → ℕ) (places : List (Place C)) (s : ℕ) (p : Place C)
@@ -31,6 +127,14 @@ claims_put {C} names places s p all of slot inside = go (cases_eq slot s)
     go (inr ne) =
         let long = length-set places s p in
         rw (get_or-set_other places s slot p place.Free ne) (all slot (omega arith))
+
+-- a free place more has no claim of another slot
+pub claims_push : {C : Type 0} (names : C → ℕ) (places : List (Place C)) → AreOf names places → AreOf names (places ++ place.Free ∷ [])
+claims_push {C} names places all slot inside = by (cases_lt slot (length places))
+  where
+    by : (slot < length places) ⊎ (length places ≤ slot) → IsOf names slot (get_or (places ++ place.Free ∷ []) slot place.Free)
+    by (inl low) = rw (get_or_append_left places (place.Free ∷ []) place.Free slot low) (all slot low)
+    by (inr past) = rw (get_or_push places place.Free place.Free slot (let more = length-append places (place.Free ∷ []) in omega (arith, more, inside, past))) tt
 
 -- a list that has d at each place has it still with one more d
 pub all_same_more : {X : Type 0} (xs : List X) (d : X) → ((k : ℕ) → get_or xs k d ≡ d) → (k : ℕ) → get_or (xs ++ d ∷ []) k d ≡ d
@@ -48,9 +152,3 @@ set_twice (z ∷ xs) (suc s) x y = ap (λ t. z ∷ t) (set_twice xs s x y)
 -- a place of a list is the same whatever stands past its end
 pub get_or_any : {X : Type 0} (xs : List X) (i : ℕ) (d e : X) → i < length xs → get_or xs i d ≡ get_or xs i e
 get_or_any xs i d e inside = same_Some _ _ (sym (slice_get-get_or xs i d inside) ∙ slice_get-get_or xs i e inside)
-
-pub get_or_past : {X : Type 0} (xs : List X) (i : ℕ) (d : X) → length xs ≤ i → get_or xs i d ≡ d
-get_or_past [] zero d past = refl
-get_or_past [] (suc i) d past = refl
-get_or_past (x ∷ xs) zero d past = absurd (omega arith)
-get_or_past (x ∷ xs) (suc i) d past = get_or_past xs i d (omega arith)

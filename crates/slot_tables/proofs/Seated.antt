@@ -4,7 +4,7 @@ use Rattle.std.specs.Prelude.{Contains, nat_lt, if◌then◌else◌}
 use Rattle.std.proofs.Math.ListN.{set}
 use Rattle.std.proofs.Math.ListN.{get_or-append}
 use Rattle.std.proofs.Math.Seq.{get_or-append_seam, take-suc, take-length}
-use Rattle.std.proofs.lemmas.List.{get_or-set_same, get_or-set_other, length-set, length-append, length-map, get_or-map, get_or-replicate, length-replicate}
+use Rattle.std.proofs.lemmas.List.{get_or_past, get_or-set_same, get_or-set_other, length-set, length-append, get_or-replicate, length-replicate}
 use Rattle.std.proofs.lemmas.List.Elements.{Contains-append_left, Contains-push_cases, Contains-push}
 use Rattle.std.proofs.lemmas.List.Sums.{sum_by-append}
 use Rattle.std.proofs.lemmas.Bool.{cases_eq}
@@ -15,7 +15,7 @@ use Rattle.array_model.specs.Views.{Kept, Nothing, Newest}
 use Rattle.slot_tables.specs.declared.place.Place.{Place}
 use Rattle.slot_tables.specs.declared.place.Place.TheVariants as place
 use Rattle.slot_tables.specs.Kept.{kept_of, kepts_of, IsOf, AreOf}
-use Rattle.slot_tables.proofs.Places.{get_or_past}
+use Rattle.slot_tables.proofs.Places.{kept_past, kept_there}
 use Rattle.slot_tables.specs.Adopted.{how_many, claims_in, IsWanted, AreWanted, wanted_at, kept_for, IsClaimed}
 
 -- one more record: its slot is its block's
@@ -79,6 +79,10 @@ pub record AreSeated {C : Type 0} (names : C → ℕ) (all : List C) (wanted : L
 seat_taken : (was : Option ℕ) (b : ℕ) (kept : Kept) → IsSeat was (Some b) kept → (was ≡ Some b) × (kept ≡ Nothing)
 seat_taken was b kept (waits e k) = (sym e, k)
 seat_taken was b kept (has e k) = absurd (cc)
+
+-- what is wanted still was wanted
+pub still_wanted : (wanted now : List (Option ℕ)) (slot b : ℕ) (kept : Kept) → wanted_at now slot ≡ Some b → IsSeat (wanted_at wanted slot) (wanted_at now slot) kept → wanted_at wanted slot ≡ Some b
+still_wanted wanted now slot b kept is seat = (seat_taken (wanted_at wanted slot) b kept (subst (λ o. IsSeat (wanted_at wanted slot) o kept) is seat)).0
 
 -- a claim that a place wants
 pub seated_more : {C : Type 0} (names : C → ℕ) (all : List C) (wanted : List (Option ℕ)) (left : List C) (claim : C) (now : List (Option ℕ)) (kept : List Kept) (others : List C) (b : ℕ)
@@ -229,7 +233,7 @@ out_more {C} names all left p claims now before more = record {
         let f = before.fewer in
         let inside : slot < length all = omega (arith, e, f, long) in
         let at : get_or all slot place.Free ≡ p = sym (before.same slot (omega (arith, long, e))) ∙ ap (λ s. get_or (left ++ p ∷ []) s place.Free) e ∙ get_or-append_seam left p [] place.Free in
-        let is : claims_in (kept_of p) ≡ claims_in (get_or (kepts_of all) slot Nothing) = ap (λ q. claims_in (kept_of q)) (sym at) ∙ ap claims_in (sym (get_or-map kept_of all slot place.Free Nothing inside)) in
+        let is : claims_in (kept_of p) ≡ claims_in (get_or (kepts_of all) slot Nothing) = ap (λ q. claims_in (kept_of q)) (sym at) ∙ ap claims_in (kept_there all slot place.Free inside) in
         omega (arith, m, o, h, is)
     rest slot from (inr ne) =
         let m = more slot in
@@ -271,7 +275,7 @@ none_out {C} names all [] none of = record {
   fewer = omega arith;
   same = λ slot inside. refl;
   out = λ slot inside. refl;
-  rest = λ slot past. sym (ap claims_in (get_or_past (kepts_of all) slot Nothing (let l = length-map all kept_of in omega (arith, l, past))));
+  rest = λ slot past. sym (ap claims_in (kept_past all slot past));
 }
 
 -- the claim's place among those that are left, of places from the last on

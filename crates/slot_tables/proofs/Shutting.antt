@@ -1,8 +1,8 @@
 -- Claims and hands of a group's first slots, one slot more in each turn of a loop.
-use Rattle.std.proofs.Common.{◌≡◌, ◌≢◌, ℕ, zero, suc, ◌+◌, ◌*◌, ◌<◌, ◌≤◌, ◌/◌, ◌%◌, ◌==◌, ◌&&◌, Bool, true, false, cond, nat_lt, List, [], ◌∷◌, ◌++◌, length, take, drop, get_or, replicate, refl, sym, ap, ◌∙◌, subst, arith, ◌⊎◌, inl, inr, Option, Some, None, Vec, vec_len}
+use Rattle.std.proofs.Common.{◌≡◌, ◌≢◌, ℕ, zero, suc, ◌+◌, ◌*◌, ◌<◌, ◌≤◌, ◌/◌, ◌%◌, ◌==◌, ◌&&◌, Bool, true, false, cond, nat_lt, List, [], ◌∷◌, ◌++◌, length, take, drop, get_or, replicate, refl, sym, ap, ◌∙◌, subst, arith, ◌⊎◌, inl, inr, Option, Some, None}
 use Rattle.std.proofs.Math.ListN.{set}
 use Rattle.std.proofs.Math.Seq.{take-length}
-use Rattle.std.proofs.lemmas.List.{get_or-set_same, get_or-set_other, length-set, length-map, take-append-drop, get_or-replicate}
+use Rattle.std.proofs.lemmas.List.{get_or-set_same, get_or-set_other, length-set, take-append-drop, get_or-replicate}
 use Rattle.std.proofs.lemmas.List.Sums.{sum_by-append}
 use Rattle.std.proofs.lemmas.Bool.{cases_eq}
 use Rattle.std.proofs.lemmas.Bool.Decides.{nat_tests}
@@ -14,11 +14,8 @@ use Rattle.array_model.specs.declared.hand.Hand.TheVariants.{Empty}
 use Rattle.array_model.specs.Changes.{opened_of, IsOpened, IsClosed}
 use Rattle.array_model.specs.Represents.{is_claim}
 use Rattle.array_model.specs.Views.{Kept, Nothing, Pending, Moving, Newest, Unmade, ArrayView, hand_at, is_kept, kept_at}
-use Rattle.std.specs.Global.{Global}
 use Rattle.slot_tables.specs.Adopted.{how_many}
-use Rattle.slot_tables.specs.declared.place.Place.{Place}
 use Rattle.slot_tables.specs.Counted.{is_newest, AreCounts}
-use Rattle.slot_tables.specs.Kept.{kept_of, kepts_of}
 use Rattle.slot_tables.specs.Shut.{one_of, count_in, shut_of, closed_of, emptied, CanUnmake, IsGiven, IsFirstUngiven, IsFirstNotHeld}
 use Rattle.slot_tables.proofs.Counts.{counts_alike}
 use Rattle.slot_tables.proofs.Seated.{one_at, counted_more, one_here, one_else, take_next}
@@ -352,6 +349,12 @@ all_closed names all old now done slot = go (how_many names all slot) refl
     go zero e = done.same slot (sym e)
     go (suc n) e = done.in_it slot (omega (arith, e))
 
+-- a claim that is still to be taken in is one of all
+pub closing_inside : {C : Type 0} (names : C → ℕ) (all left : List C) (claim : C) (old now : List Kept) (n : ℕ) → ((slot : ℕ) → 0 < how_many names all slot → slot < n)
+    → AreClosing names all (left ++ claim ∷ []) old now → names claim < n
+closing_inside names all left claim old now n inside before = inside (names claim)
+    (let most = before.most (names claim) in let more = counted_more names left claim (names claim) in let one = one_here (names claim) in omega (arith, most, more, one))
+
 -- marks of a group's first slots that have a claim
 pub record AreMarks {C : Type 0} (names : C → ℕ) (g count : ℕ) (claims : List C) (marks : List Bool) : Type 0 where
   pub many : length marks ≡ 128
@@ -569,10 +572,6 @@ at_most_one names a g claims can slot = let all = can.all slot in let most = mos
 
 pub free_kept : {C : Type 0} (names : C → ℕ) (a : ArrayView) (g : ℕ) (claims : List C) → CanUnmake names a g claims → (slot : ℕ) → slot / 128 ≡ g → slot % 128 < count_in a g → kept_at a slot ≡ Nothing
 free_kept names a g claims can slot e low = can.free slot (let one = one_first g (count_in a g) slot (first_of g (count_in a g) slot e low) in omega (arith, one))
-
--- as many places
-pub places_many : {C : Type 0} (places : Vec (Place C) Global) → vec_len places ≡ 65536 → length (kepts_of places.items) ≡ 65536
-places_many {C} places many = length-map places.items kept_of ∙ sym places.ok.0 ∙ many
 
 -- no newest place is among the slots of which claims were taken in
 pub counts_closed : {C : Type 0} (names : C → ℕ) (a : ArrayView) (g : ℕ) (claims : List C) (new : List Kept) (live : List ℕ) → CanUnmake names a g claims

@@ -9,6 +9,7 @@ use Rattle.flat_machine.specs.Flat.{Flat, Worker, Ticket}
 use Rattle.flat_machine.specs.Restarted.{restarted}
 use Rattle.array_model.specs.Views.{Kept, Nothing, Newest, ArrayView, WorldView, is_kept, kept_at}
 use Rattle.array_model.specs.Represents.{Represents}
+use Rattle.slot_tables.specs.Kept.{HavePlaces}
 use Rattle.slot_tables.specs.declared.place.Place.TheVariants as place
 use Rattle.slot_tables.specs.declared.ready.NotAdopted.{NotAdopted}
 use Rattle.slot_tables.specs.declared.ready.NotAdopted.TheVariants.{Memory, NoClaim}
@@ -82,13 +83,13 @@ pub record AreKeys (blocks : ℕ) (M : ℕ → ℕ) (keys : List ℕ) : Type 0 w
   pub same : (b : ℕ) → b < blocks → slice_index keys b ≡ M b
   pub told : (b : ℕ) → b < blocks → IsKey (M b)
 
--- buffers for units of that many bytes, places that are free, and room for so many claims
-pub record HasRoom {C : Type 0} (bytes count : ℕ) (room : Room C) : Type 0 where
+-- buffers for units of that many bytes, so many places that are free, and room for so many claims
+pub record HasRoom {C : Type 0} (bytes slots count : ℕ) (room : Room C) : Type 0 where
   pub unit : length room.unit.items ≡ bytes
   pub scratch : length room.scratch.items ≡ 2 * bytes
   pub none : vec_len room.others ≡ 0
   pub others : count ≤ vec_capacity room.others
-  pub places : length room.places.items ≡ 65536
+  pub places : vec_len room.places ≡ slots
   pub free : (s : ℕ) → slice_index_or room.places.items s place.Free ≡ place.Free
 
 -- why no array was put together
@@ -97,13 +98,14 @@ IsNotAdopted names claims M Memory = Unit {0}
 IsNotAdopted names claims M (NoClaim slot) = IsUnclaimed names claims M slot
 
 -- all is ready for an array of these groups and this map: its log, what each slot is wanted for, of which there are claims, its
--- keys and buffers, places that are free, and room for the claims that are left over
+-- keys and buffers, places that are free for the slots of its groups, and room for the claims that are left over
 pub record AreReady {C : Type 0} (names : C → ℕ) (groups : Groups) (M : ℕ → ℕ) (claims : List C) (ready : Ready C) : Type 0 where
   pub log : IsListOf M ready.log.items
   pub wanted : AreWanted ready.log.items ready.wanted.items
   pub claimed : (slot : ℕ) → IsClaimed names claims ready.wanted.items slot
   pub keys : AreKeys groups.blocks M ready.keys.items
-  pub room : HasRoom (unit_bytes groups) (length claims) ready.room
+  pub room : HasRoom (unit_bytes groups) (vec_len ready.room.places) (length claims) ready.room
+  pub places : HavePlaces groups (vec_len ready.room.places)
 
 -- no worker holds a slot, or has a ticket of one
 abbrev pub IsIdle : Flat → Type 0

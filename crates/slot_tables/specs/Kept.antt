@@ -1,5 +1,6 @@
 -- What contracts see of the places of an array: what is kept of each slot, without the claims.
-use Rattle.std.specs.Prelude.{◌≡◌, ℕ, ◌<◌, List, slice_index_or, length, map}
+use Rattle.std.specs.Prelude.{◌≡◌, ◌≢◌, ℕ, ◌+◌, ◌*◌, ◌-◌, ◌<◌, ◌≤◌, None, List, ◌++◌, slice_index_or, length, map, replicate}
+use Rattle.extent_groups.specs.Groups.{Groups, group_at}
 use Rattle.array_model.specs.Views.{Kept, Nothing, Pending, Moving, Newest, Unmade}
 use Rattle.slot_tables.specs.declared.place.Place.{Place}
 use Rattle.slot_tables.specs.declared.place.Place.TheVariants as place
@@ -24,6 +25,11 @@ IsOf names slot (place.Unmade claim) = names claim ≡ slot
 abbrev pub AreOf : {C : Type 0} → (C → ℕ) → List (Place C) → Type 0
 AreOf names places = (slot : ℕ) → slot < length places → IsOf names slot (slice_index_or places slot place.Free)
 
--- the places as plain data
-abbrev pub kepts_of : {C : Type 0} → List (Place C) → List Kept
-kepts_of places = map kept_of places
+-- what is kept of each of the 65,536 slots: of those past the table's end nothing
+unfoldable pub kepts_of : {C : Type 0} → List (Place C) → List Kept
+kepts_of places = map kept_of places ++ replicate (65536 - length places) Nothing
+
+-- so many places are enough for the slots of each group that is made, and no more than there are slots
+pub record HavePlaces (groups : Groups) (places : ℕ) : Type 0 where
+  pub made : (group : ℕ) → group_at groups group ≢ None → 128 * group + 128 ≤ places
+  pub most : places ≤ 65536

@@ -9,7 +9,7 @@ mod shut;
 mod tables;
 
 pub use hold::{Hold, Plain};
-pub use place::{Place, put_in, take_out, take_waiting};
+pub use place::{Place, grow_to, place_at, put_in, take_out, take_waiting};
 pub use ready::{NotAdopted, Ready, Room, prepare};
 pub use seats::{seat_all, unseat_all};
 pub use shut::{close_all, marked, open_number};

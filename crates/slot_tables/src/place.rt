@@ -1,11 +1,13 @@
 // What the array keeps of a slot, claims included. No claim can be lost: it goes in by `put_in`, and
 // comes out by `take_out`.
-ghost use Rattle.std.specs.Prelude.{◌≡◌, ℕ, ◌<◌, vec_len, slice_index_or, slice_set, true};
+ghost use Rattle.std.specs.Prelude.{◌≡◌, ℕ, ◌+◌, ◌*◌, ◌<◌, ◌≤◌, vec_len, slice_index_or, slice_set, true, MatchOption, OnOk};
 ghost use Rattle.slot_tables.specs.Kept.{kept_of, kepts_of, IsOf, AreOf};
 ghost use Rattle.array_model.specs.Views.{Nothing, is_waiting};
 
 use crate::hold::Hold;
+use extent_groups::SLOTS;
 use map_join::Record;
+use std::alloc::AllocError;
 use std::mem;
 
 /// Nothing, the claim of a slot that waits with a fresh payload or with a copy of a record's, the claim of
@@ -19,10 +21,22 @@ pub enum Place<C: Hold> {
     Unmade(C),
 }
 
+// The place of a slot; past the table's end there is none, and nothing is kept.
+#[tactic(auto, using(crate::proofs::Places::kept_there, crate::proofs::Places::kept_past))]
+pub fn place_at<C: Hold>(places: &[Place<C>], slot: u16) -> Option<&Place<C>>
+    ensures { MatchOption result (slice_index_or (kepts_of places.now) slot Nothing ≡ Nothing) (λ place. slice_index_or (kepts_of places.now) slot Nothing ≡ kept_of place.now) }
+{
+    let at = usize::from(slot);
+    if at < places.len() {
+        Some(&places[at])
+    } else {
+        None
+    }
+}
+
 // What is kept of a slot, which is free then.
-#[tactic(auto, using(crate::proofs::Places::kepts_set))]
+#[tactic(auto, using(crate::proofs::Places::kepts_set, crate::proofs::Places::kept_there, crate::proofs::Places::kept_past, crate::proofs::Places::kepts_past))]
 pub fn take_out<C: Hold>(places: &mut Vec<Place<C>>, slot: u16) -> Place<C>
-    requires inside { slot < vec_len places.old }
     requires claims { AreOf C.names places.old.items }
     ensures taken { kept_of result ≡ slice_index_or (kepts_of places.old.items) slot Nothing }
     ensures of { IsOf C.names slot result }
@@ -30,11 +44,14 @@ pub fn take_out<C: Hold>(places: &mut Vec<Place<C>>, slot: u16) -> Place<C>
     ensures claims { AreOf C.names places.new.items }
     ensures room { vec_len places.new ≡ vec_len places.old }
 {
+    if usize::from(slot) >= places.len() {
+        return Place::Free;
+    }
     mem::replace(&mut places[usize::from(slot)], Place::Free)
 }
 
 // Keeps something of a slot of which nothing is kept.
-#[tactic(auto, using(crate::proofs::Places::kepts_set))]
+#[tactic(auto, using(crate::proofs::Places::kepts_set, crate::proofs::Places::free_there))]
 pub fn put_in<C: Hold>(places: &mut Vec<Place<C>>, slot: u16, place: Place<C>)
     requires inside { slot < vec_len places.old }
     requires free { slice_index_or (kepts_of places.old.items) slot Nothing ≡ Nothing }
@@ -44,7 +61,14 @@ pub fn put_in<C: Hold>(places: &mut Vec<Place<C>>, slot: u16, place: Place<C>)
     ensures claims { AreOf C.names places.new.items }
     ensures room { vec_len places.new ≡ vec_len places.old }
 {
-    match mem::replace(&mut places[usize::from(slot)], place) {
+    spent(mem::replace(&mut places[usize::from(slot)], place));
+}
+
+// Ends a place that holds nothing.
+fn spent<C: Hold>(place: Place<C>)
+    requires { kept_of place ≡ Nothing }
+{
+    match place {
         Place::Free => {}
         Place::Pending(_claim) => unreachable!(),
         Place::Moving(_, _claim) => unreachable!(),
@@ -55,7 +79,6 @@ pub fn put_in<C: Hold>(places: &mut Vec<Place<C>>, slot: u16, place: Place<C>)
 
 // The claim of a slot that waits, of which nothing is kept then.
 pub fn take_waiting<C: Hold>(places: &mut Vec<Place<C>>, slot: u16) -> C
-    requires inside { slot < vec_len places.old }
     requires waits { is_waiting (slice_index_or (kepts_of places.old.items) slot Nothing) ≡ true }
     requires claims { AreOf C.names places.old.items }
     ensures of { C.names result ≡ slot }
@@ -70,4 +93,23 @@ pub fn take_waiting<C: Hold>(places: &mut Vec<Place<C>>, slot: u16) -> C
         Place::Newest(_, _claim) => unreachable!(),
         Place::Unmade(_claim) => unreachable!(),
     }
+}
+
+// Makes places for the slots of all groups up to this one. Where memory is refused, those that there were stand.
+pub fn grow_to<C: Hold>(places: &mut Vec<Place<C>>, group: u16) -> Result<(), AllocError>
+    requires group { group < 512 }
+    requires most { vec_len places.old ≤ 65536 }
+    requires claims { AreOf C.names places.old.items }
+    ensures ok { OnOk result (128 * group + 128 ≤ vec_len places.new) }
+    ensures kept { kepts_of places.new.items ≡ kepts_of places.old.items }
+    ensures longer { vec_len places.old ≤ vec_len places.new }
+    ensures most { vec_len places.new ≤ 65536 }
+    ensures claims { AreOf C.names places.new.items }
+{
+    let count = usize::from(SLOTS) * (usize::from(group) + 1);
+    places.reserve(count.saturating_sub(places.len()))?;
+    for _made in places.len()..count {
+        places.push_reserved(Place::Free);
+    }
+    Ok(())
 }

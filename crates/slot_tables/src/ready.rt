@@ -5,13 +5,15 @@ ghost use Rattle.extents.specs.declared.shape.TheConstants.{HEADER_BYTES};
 ghost use Rattle.array_parts.specs.Fit.{IsFit};
 ghost use Rattle.flat_machine.specs.Restarted.{HasPlaces};
 ghost use Rattle.slot_tables.specs.declared.place.Place.TheVariants as place;
+ghost use Rattle.slot_tables.specs.Kept.{HavePlaces};
 ghost use Rattle.slot_tables.specs.Adopted.{AreReady, AreKeys, HasRoom, IsNotAdopted};
 
 use crate::hold::Hold;
 use crate::place::Place;
 use crate::seats::{blocks_by_slot, first_unclaimed};
-use crate::tables::{SLOTS, free_places};
+use crate::tables::free_places;
 use array_parts::Parts;
+use extent_groups::{GROUPS, GroupTable, SLOTS};
 use extents::{Drive, Shape};
 use map_join::{BlockMap, Record};
 use std::alloc::{AllocError, Global};
@@ -55,14 +57,33 @@ fn keys_of(alloc: Global, blocks: u32, map: &BlockMap) -> Result<Vec<u64>, Alloc
     Ok(keys)
 }
 
-fn new_room<C: Hold>(alloc: Global, shape: &Shape, count: usize) -> Result<Room<C>, AllocError>
-    ensures { IfOk result (HasRoom (HEADER_BYTES + shape.now.payload) count) }
+// How many places are enough for the slots of the groups that are made.
+fn places_for(groups: &GroupTable) -> usize
+    ensures { HavePlaces groups.now result }
+{
+    let _members = groups.members(0);
+    let mut places = 0;
+    for group in 0..GROUPS as u16 {
+        if !groups.is_free(group) {
+            places = usize::from(SLOTS) * (usize::from(group) + 1);
+        }
+    }
+    places
+}
+
+fn new_room<C: Hold>(
+    alloc: Global,
+    shape: &Shape,
+    slots: usize,
+    count: usize,
+) -> Result<Room<C>, AllocError>
+    ensures { IfOk result (HasRoom (HEADER_BYTES + shape.now.payload) slots count) }
 {
     let size = shape.unit_bytes();
     let unit = vec![in alloc; 0; size]?;
     let scratch = vec![in alloc; 0; 2 * size]?;
     let others = Vec::with_capacity(alloc, count)?;
-    match free_places(alloc, SLOTS) {
+    match free_places(alloc, slots) {
         Ok(places) => Ok(Room {
             unit,
             scratch,
@@ -102,7 +123,7 @@ pub fn prepare<D: Drive, C: Hold>(
         Ok(Some(slot)) => return Err(NotAdopted::NoClaim(slot)),
         Err(_) => return Err(NotAdopted::Memory),
     }
-    match new_room(alloc, &parts.shape, claims.len()) {
+    match new_room(alloc, &parts.shape, places_for(&parts.groups), claims.len()) {
         Ok(room) => Ok(Ready {
             log,
             wanted,

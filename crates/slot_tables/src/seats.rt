@@ -70,14 +70,14 @@ pub(crate) fn first_unclaimed<C: Hold>(
 // Takes a claim into the place that wants it, or gives it back.
 fn seat<C: Hold>(wanted: &mut Vec<Option<u32>>, places: &mut Vec<Place<C>>, claim: C) -> Option<C>
     requires many { vec_len wanted.old ≡ 65536 }
-    requires room { vec_len places.old ≡ 65536 }
+    requires inside { (b : ℕ) → wanted_at wanted.old.items (C.names claim) ≡ Some b → C.names claim < vec_len places.old }
     requires claims { AreOf C.names places.old.items }
     requires free { (b : ℕ) → wanted_at wanted.old.items (C.names claim) ≡ Some b → slice_index_or (kepts_of places.old.items) (C.names claim) Nothing ≡ Nothing }
     ensures seated { (b : ℕ) → wanted_at wanted.old.items (C.names claim) ≡ Some b
         → (result ≡ None) × (wanted.new.items ≡ slice_set wanted.old.items (C.names claim) None) × (kepts_of places.new.items ≡ slice_set (kepts_of places.old.items) (C.names claim) (Newest b)) }
     ensures left { wanted_at wanted.old.items (C.names claim) ≡ None → (result ≡ Some claim) × (wanted.new.items ≡ wanted.old.items) × (kepts_of places.new.items ≡ kepts_of places.old.items) }
     ensures claims { AreOf C.names places.new.items }
-    ensures room { vec_len places.new ≡ 65536 }
+    ensures room { vec_len places.new ≡ vec_len places.old }
     ensures slot { C.names claim < 65536 }
 {
     let slot = claim.slot();
@@ -101,14 +101,15 @@ pub fn seat_all<C: Hold>(
     requires many { vec_len wanted ≡ 65536 }
     requires all { (slot : ℕ) → IsClaimed C.names claims.items wanted.items slot }
     requires free { (slot : ℕ) → slice_index_or (kepts_of places.old.items) slot Nothing ≡ Nothing }
-    requires places { vec_len places.old ≡ 65536 }
+    requires inside { (slot b : ℕ) → wanted_at wanted.items slot ≡ Some b → slot < vec_len places.old }
+    requires most { vec_len places.old ≤ 65536 }
     requires claims { AreOf C.names places.old.items }
     requires none { vec_len others.old ≡ 0 }
     requires room { vec_len claims ≤ vec_capacity others.old }
     ensures kept { (slot : ℕ) → slice_index_or (kepts_of places.new.items) slot Nothing ≡ kept_for (wanted_at wanted.items slot) }
     ensures shared { (slot : ℕ) → how_many C.names claims.items slot ≡ claims_in (slice_index_or (kepts_of places.new.items) slot Nothing) + how_many C.names others.new.items slot }
     ensures claims { AreOf C.names places.new.items }
-    ensures places { vec_len places.new ≡ 65536 }
+    ensures places { vec_len places.new ≡ vec_len places.old }
 {
     while let Some(claim) = claims.pop() {
         match seat(&mut wanted, places, claim) {
@@ -134,10 +135,9 @@ fn unseated<C: Hold>(place: Place<C>) -> Option<C>
 
 // Takes the claims out of all places, from the last slot to the first.
 pub fn unseat_all<C: Hold>(mut places: Vec<Place<C>>, claims: &mut Vec<C>)
-    requires many { vec_len places ≡ 65536 }
     requires of { AreOf C.names places.items }
     requires none { vec_len claims.old ≡ 0 }
-    requires room { 65536 ≤ vec_capacity claims.old }
+    requires room { vec_len places ≤ vec_capacity claims.old }
     ensures { (slot : ℕ) → how_many C.names claims.new.items slot ≡ claims_in (slice_index_or (kepts_of places.items) slot Nothing) }
 {
     while let Some(place) = places.pop() {

@@ -7,24 +7,24 @@ ghost use Rattle.slot_tables.specs.Kept.{kepts_of, AreOf};
 ghost use Rattle.slot_tables.specs.Shut.{one_of, shut_of, closed_of};
 
 use crate::hold::Hold;
-use crate::place::{Place, put_in, take_out};
+use crate::place::{Place, place_at, put_in, take_out};
 use extent_groups::SLOTS;
 
 // The claim that is kept of a slot for an unmade group, if there is one.
 fn open_slot<C: Hold>(places: &mut Vec<Place<C>>, slot: u16) -> Option<C>
-    requires inside { slot < vec_len places.old }
     requires claims { AreOf C.names places.old.items }
     ensures opened { kepts_of places.new.items ≡ slice_set (kepts_of places.old.items) slot (opened_of (slice_index_or (kepts_of places.old.items) slot Nothing)) }
     ensures claim { MatchOption result (slice_index_or (kepts_of places.old.items) slot Nothing ≢ Unmade) (λ claim. (C.names claim ≡ slot) × (slice_index_or (kepts_of places.old.items) slot Nothing ≡ Unmade)) }
     ensures claims { AreOf C.names places.new.items }
     ensures room { vec_len places.new ≡ vec_len places.old }
 {
-    match &places[usize::from(slot)] {
-        Place::Unmade(_) => {}
-        Place::Free => return None,
-        Place::Pending(_) => return None,
-        Place::Moving(_, _) => return None,
-        Place::Newest(_, _) => return None,
+    match place_at(places, slot) {
+        Some(Place::Unmade(_)) => {}
+        Some(Place::Free) => return None,
+        Some(Place::Pending(_)) => return None,
+        Some(Place::Moving(_, _)) => return None,
+        Some(Place::Newest(_, _)) => return None,
+        None => return None,
     }
     match take_out(places, slot) {
         Place::Unmade(claim) => Some(claim),
@@ -38,14 +38,14 @@ fn open_slot<C: Hold>(places: &mut Vec<Place<C>>, slot: u16) -> Option<C>
 // Takes out the claims that are kept of a group's number, by rising slots.
 pub fn open_number<C: Hold>(places: &mut Vec<Place<C>>, group: u16, claims: &mut Vec<C>)
     requires group { group < 512 }
-    requires many { vec_len places.old ≡ 65536 }
+    requires most { vec_len places.old ≤ 65536 }
     requires of { AreOf C.names places.old.items }
     requires none { vec_len claims.old ≡ 0 }
     requires room { 128 ≤ vec_capacity claims.old }
     ensures opened { IsOpened group (kepts_of places.old.items) (kepts_of places.new.items) }
     ensures taken { (slot : ℕ) → how_many C.names claims.new.items slot ≡ shut_of group slot (slice_index_or (kepts_of places.old.items) slot Nothing) }
     ensures of { AreOf C.names places.new.items }
-    ensures many { vec_len places.new ≡ 65536 }
+    ensures room { vec_len places.new ≡ vec_len places.old }
 {
     for index in 0..SLOTS {
         if let Some(claim) = open_slot(places, SLOTS * group + index) {
@@ -56,13 +56,13 @@ pub fn open_number<C: Hold>(places: &mut Vec<Place<C>>, group: u16, claims: &mut
 
 // Takes claims of free slots into their places.
 pub fn close_all<C: Hold>(places: &mut Vec<Place<C>>, mut claims: Vec<C>)
-    requires many { vec_len places.old ≡ 65536 }
+    requires inside { (slot : ℕ) → 0 < how_many C.names claims.items slot → slot < vec_len places.old }
     requires of { AreOf C.names places.old.items }
     requires once { (slot : ℕ) → how_many C.names claims.items slot ≤ 1 }
     requires free { (slot : ℕ) → 0 < how_many C.names claims.items slot → slice_index_or (kepts_of places.old.items) slot Nothing ≡ Nothing }
     ensures closed { (slot : ℕ) → slice_index_or (kepts_of places.new.items) slot Nothing ≡ closed_of (how_many C.names claims.items slot) (slice_index_or (kepts_of places.old.items) slot Nothing) }
     ensures of { AreOf C.names places.new.items }
-    ensures many { vec_len places.new ≡ 65536 }
+    ensures room { vec_len places.new ≡ vec_len places.old }
 {
     while let Some(claim) = claims.pop() {
         let slot = claim.slot();

@@ -32,7 +32,7 @@ pub fn new_tables<C: Hold>(alloc: Global, shape: Shape, drives: u8) -> Result<Ta
     let size = shape.unit_bytes();
     let unit = vec![in alloc; 0; size]?;
     let scratch = vec![in alloc; 0; 2 * size]?;
-    let places = free_places(alloc, SLOTS)?;
+    let places = Vec::new(alloc);
     Ok(Tables {
         groups,
         extents,

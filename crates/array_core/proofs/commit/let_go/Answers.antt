@@ -1,7 +1,7 @@
-use Rattle.std.proofs.Common.{◌≡◌, ◌<◌, true, length, get_or, ap, arith, rules}
-use Rattle.std.proofs.lemmas.List.{length-map}
+use Rattle.std.proofs.Common.{◌≡◌, ◌<◌, ◌∙◌, true, length, get_or, sym, ap, rules}
 use Rattle.array_model.specs.Views.{Nothing, Newest}
-use Rattle.slot_tables.specs.Kept.{kept_of, kepts_of}
+use Rattle.slot_tables.specs.Kept.{kepts_of}
+use Rattle.slot_tables.proofs.Places.{kept_inside}
 use Rattle.slot_tables.specs.Counted.{is_newest}
 use Rattle.slot_tables.proofs.Counts.{counted_there, counts_fewer}
 use Rattle.array_core.proofs.commit.let_go.Given as given
@@ -12,12 +12,9 @@ use Rattle.array_core.proofs.commit.let_go.Goals.{In-Some}
 there : (g : given.Over) (c : In-Some g)
     → (c.in-Some.record.place < length (kepts_of c.args.places.now.items)) × (c.in-Some.record.place < 65536) × (is_newest (get_or (kepts_of c.args.places.now.items) c.in-Some.record.place Nothing) ≡ true)
 there g c =
-    let many = length-map c.args.places.now.items kept_of in
-    let own = c.args.places.now.ok.0 in
-    let room = c.requires.inside in
     let low : c.in-Some.record.place < 65536 = search rules in
     let was : get_or (kepts_of c.args.places.now.items) c.in-Some.record.place Nothing ≡ Newest c.args.block = search rules in
-    (omega (arith, many, own, room, low), low, ap is_newest was)
+    (kept_inside (kepts_of c.args.places.now.items) c.in-Some.record.place (λ none. let bad = sym was ∙ none in absurd (cc)), low, ap is_newest was)
 
 pub one_fewer-requires : goal.one_fewer-requires
 one_fewer-requires g c =

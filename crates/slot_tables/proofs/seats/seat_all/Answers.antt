@@ -1,17 +1,25 @@
-use Rattle.std.proofs.Common.{sym, ◌∙◌, arith}
-use Rattle.std.proofs.lemmas.List.{length-map}
-use Rattle.slot_tables.specs.Kept.{kept_of, kepts_of}
-use Rattle.slot_tables.proofs.Seated.{none_seated, seated_one, left_one, all_seated, seats_end}
+use Rattle.std.proofs.Common.{get_or, refl, sym, ◌∙◌, arith}
+use Rattle.array_model.specs.Views.{Nothing}
+use Rattle.slot_tables.specs.Kept.{kepts_of}
+use Rattle.slot_tables.proofs.Places.{kepts_many}
+use Rattle.slot_tables.proofs.Seated.{still_wanted, none_seated, seated_one, left_one, all_seated, seats_end}
 use Rattle.slot_tables.proofs.seats.seat_all.Goals as goal
 
 pub loop-claim-init : goal.loop-claim-init
 loop-claim-init g c = record {
   seated = none_seated g.C.Hold.names c.args.claims.items c.args.wanted.items (kepts_of c.args.places.now.items) c.args.others.now.items
-      (sym c.args.wanted.ok.0 ∙ c.requires.many) (length-map c.args.places.now.items kept_of ∙ sym c.args.places.now.ok.0 ∙ c.requires.places) c.requires.free c.requires.all (sym c.args.others.now.ok.0 ∙ c.requires.none);
+      (sym c.args.wanted.ok.0 ∙ c.requires.many) (kepts_many c.args.places.now.items (let m = c.requires.most in let l = c.args.places.now.ok.0 in omega (arith, m, l))) c.requires.free c.requires.all (sym c.args.others.now.ok.0 ∙ c.requires.none);
   of = c.requires.claims;
-  places = c.requires.places;
+  places = refl;
   room = let n = c.requires.none in let r = c.requires.room in omega (arith, n, r);
 }
+
+pub seat-requires-clause-inside : goal.seat-requires-clause-inside
+seat-requires-clause-inside g c b is =
+    let seats = c.loop-claim.invariant.seated.seats (g.C.Hold.names c.in-Some.claim) in
+    let low = c.requires.inside (g.C.Hold.names c.in-Some.claim) b (still_wanted c.args.wanted.items c.loop-claim.wanted.items (g.C.Hold.names c.in-Some.claim) b (get_or (kepts_of c.loop-claim.places.items) (g.C.Hold.names c.in-Some.claim) Nothing) is seats) in
+    let same = c.loop-claim.invariant.places in
+    omega (arith, low, same)
 
 pub loop-claim-preserved-in-None : goal.loop-claim-preserved-in-None
 loop-claim-preserved-in-None g c = record {
@@ -19,7 +27,7 @@ loop-claim-preserved-in-None g c = record {
       c.in-None.ensures.slot (record { seated = c.in-None.ensures.seated; left = c.in-None.ensures.left })
       (rw (sym c.in-Some.ensures.items) c.loop-claim.invariant.seated);
   of = c.in-None.ensures.claims;
-  places = c.in-None.ensures.room;
+  places = c.in-None.ensures.room ∙ c.loop-claim.invariant.places;
   room = let l = c.in-Some.ensures.len in let r = c.loop-claim.invariant.room in omega (arith, l, r);
 }
 
@@ -29,7 +37,7 @@ loop-claim-preserved g c = record {
       (record { seated = c.in-Some-seat.ensures.seated; left = c.in-Some-seat.ensures.left })
       (rw (sym c.in-Some.ensures.items) c.loop-claim.invariant.seated));
   of = c.in-Some-seat.ensures.claims;
-  places = c.in-Some-seat.ensures.room;
+  places = c.in-Some-seat.ensures.room ∙ c.loop-claim.invariant.places;
   room = let l = c.in-Some.ensures.len in let r = c.loop-claim.invariant.room in let p = c.push_reserved.ensures.len in let q = c.push_reserved.ensures.capacity in omega (arith, l, r, p, q);
 }
 

@@ -7,7 +7,7 @@ abbrev pub invariant-loop-claim : goal.invariant-loop-claim
 invariant-loop-claim g l = record {
   seated : AreSeated g.C.Hold.names l.fn.claims.items l.fn.wanted.items l.claims.items l.wanted.items (kepts_of l.places.items) l.others.items;
   of : AreOf g.C.Hold.names l.places.items;
-  places : vec_len l.places ≡ 65536;
+  places : vec_len l.places ≡ vec_len l.fn.places;
   room : vec_len l.claims + vec_len l.others ≤ vec_capacity l.others;
 }
 

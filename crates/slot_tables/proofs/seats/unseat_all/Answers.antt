@@ -5,7 +5,7 @@ use Rattle.slot_tables.proofs.seats.unseat_all.Goals as goal
 pub loop-place-init : goal.loop-place-init
 loop-place-init g c = record {
   out = none_out g.C.Hold.names c.args.places.items c.args.claims.now.items (sym c.args.claims.now.ok.0 ∙ c.requires.none) c.requires.of;
-  room = let n = c.requires.none in let m = c.requires.many in let r = c.requires.room in omega (arith, n, m, r);
+  room = let n = c.requires.none in let r = c.requires.room in omega (arith, n, r);
 }
 
 pub loop-place-preserved-in-Some-unseated : goal.loop-place-preserved-in-Some-unseated

@@ -7,7 +7,7 @@ abbrev pub invariant-loop-claim : goal.invariant-loop-claim
 invariant-loop-claim g l = record {
   closing : AreClosing g.C.Hold.names l.fn.claims.items l.claims.items (kepts_of l.fn.places.items) (kepts_of l.places.items);
   of : AreOf g.C.Hold.names l.places.items;
-  many : vec_len l.places ≡ 65536;
+  same : vec_len l.places ≡ vec_len l.fn.places;
 }
 
 abbrev pub decreases-loop-claim : goal.decreases-loop-claim

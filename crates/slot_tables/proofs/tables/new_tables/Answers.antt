@@ -11,8 +11,7 @@ returns g c = record {
   owners = c.in_ok-extents.ensures;
   keys = c.in_ok-keys.ensures.len;
   zero = c.in_ok-keys.ensures.zero;
-  places = c.in_ok-places.ensures.len;
-  free = c.in_ok-places.ensures.free;
+  places = search rules;
   unit = search rules;
   scratch = search rules;
 }

@@ -15,7 +15,7 @@ use Rattle.array_model.proofs.Fills.{as_whole, as_shown}
 use Rattle.array_model.proofs.Commits.{commit_whole, old_found, passed_apart}
 use Rattle.array_model.proofs.Committing.{commit_case, commit_gone, commit_refused, commit_slot, commit_waits, commit_wants, commit_ok}
 use Rattle.array_core.specs.Inside.{seen}
-use Rattle.array_core.proofs.Ready.{either_way, Keeps, keeps, uncarried_keeps, carried_gone, still_whole, still_ready, as_refused}
+use Rattle.array_core.proofs.Ready.{as_many, either_way, Keeps, keeps, uncarried_keeps, carried_gone, still_whole, still_ready, as_refused}
 use Rattle.array_core.proofs.array.Array.commit.Goals as goal
 
 pub returns-in-Err-clause-flat : goal.returns-in-Err-clause-flat
@@ -50,7 +50,7 @@ invariant_of-self-in-Err-carry g c =
       as_whole _ _ (ap (λ l. record now { parts = b; log = l }) c.reserve.ensures.items) (still_whole d.units d.lost d.failures c.self.inside c.carry.new.self same c.carry.ensures.fit c.self.invariant.0),
       c.self.invariant.1,
       (let ready = still_ready d.units d.lost d.failures c.self.inside c.carry.new.self c.carry.new.unit c.carry.new.scratch same c.carry.ensures.fit c.self.invariant.2 in
-          record { fit = ready.fit; unit = ready.unit; scratch = ready.scratch; live = ready.live }),
+          record { fit = ready.fit; unit = ready.unit; scratch = ready.scratch; places = ready.places; live = ready.live }),
     )
 
 pub returns-in-Err-carry-clause-flat : goal.returns-in-Err-carry-clause-flat
@@ -111,7 +111,13 @@ invariant_of-self-2 g c =
           (commit_ok old c.slot-slot.result c.args.block whole (search rules) (search rules) none))),
       c.keep_newest.ensures.claims,
       (let ready = still_ready d.units d.lost d.failures c.self.inside c.carry.new.self c.carry.new.unit c.carry.new.scratch same c.carry.ensures.fit c.self.invariant.2 in
-          record { fit = ready.fit; unit = ready.unit; scratch = ready.scratch; live = c.keep_newest.ensures.counts }),
+          record {
+            fit = ready.fit;
+            unit = ready.unit;
+            scratch = ready.scratch;
+            places = as_many _ _ _ (c.keep_newest.ensures.room ∙ c.let_go-old.ensures.room) ready.places;
+            live = c.keep_newest.ensures.counts;
+          }),
     )
 
 pub returns-clause-flat : goal.returns-clause-flat

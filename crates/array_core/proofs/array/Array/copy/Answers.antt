@@ -44,7 +44,7 @@ invariant_of-self g c =
       as_whole _ _ (ap (λ k. record now { kept = k }) c.put_in.ensures.kept ∙ ap (λ (z : ArrayView). copy_view z s c.in-Ok.source) (c.self.view_is ∙ c.carry.ensures.rest))
           (copy_whole c.args.self.now c.carry.new.self.parts s c.in-Ok.source (search rules) c.in_default.ensures.ok (search rules) (subst (λ (v : ArrayView). AreDrives drive_units v.parts.groups v.parts.drives) c.self.view_is c.self.invariant.0.drives) c.told.ensures.whole),
       c.put_in.ensures.claims,
-      slot_ready g.D.Drive.units c.self.inside c.put_in.new.places s (Moving c.in-Ok.source) c.put_in.ensures.kept c.self.invariant.0.room.kept (search rules) (ap is_newest free) refl c.self.invariant.2,
+      slot_ready g.D.Drive.units c.self.inside c.put_in.new.places s (Moving c.in-Ok.source) c.put_in.ensures.room c.put_in.ensures.kept c.self.invariant.0.room.kept (search rules) (ap is_newest free) refl c.self.invariant.2,
     )
 
 pub returns-clause-flat : goal.returns-clause-flat

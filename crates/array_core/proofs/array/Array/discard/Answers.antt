@@ -14,7 +14,7 @@ invariant_of-self g c = (
   as_whole _ (discard_view c.args.self.now c.slot-slot.result) (search rules)
       (discard_whole c.args.self.now c.slot-slot.result (search rules) (search rules) (subst IsWhole c.self.view_is c.self.invariant.0)),
   c.take_waiting.ensures.claims,
-  slot_ready g.D.Drive.units c.self.inside c.take_waiting.new.places c.slot-slot.result Nothing (search rules) c.self.invariant.0.room.kept (search rules) (search rules) refl c.self.invariant.2,
+  slot_ready g.D.Drive.units c.self.inside c.take_waiting.new.places c.slot-slot.result Nothing c.take_waiting.ensures.room (search rules) c.self.invariant.0.room.kept (search rules) (search rules) refl c.self.invariant.2,
 )
 
 pub returns-clause-flat : goal.returns-clause-flat

@@ -32,7 +32,7 @@ invariant_of-self g c =
       as_whole _ _ (ap (λ k. record now { kept = k }) c.put_in.ensures.kept ∙ ap (λ (z : ArrayView). fill_view z s) (c.self.view_is ∙ c.put.ensures.rest))
           (fill_whole c.args.self.now c.put.new.self.parts s (waiting_unit c.args.self.now.parts.groups.payload (Payload c.args.payload.now)) (search rules) (search rules) (search rules) (subst (λ (v : ArrayView). AreDrives drive_units v.parts.groups v.parts.drives) c.self.view_is c.self.invariant.0.drives) c.put.ensures.whole),
       c.put_in.ensures.claims,
-      slot_ready g.D.Drive.units c.self.inside c.put_in.new.places c.slot-slot.result Pending (search rules) c.self.invariant.0.room.kept (search rules) (search rules) refl c.self.invariant.2,
+      slot_ready g.D.Drive.units c.self.inside c.put_in.new.places c.slot-slot.result Pending c.put_in.ensures.room (search rules) c.self.invariant.0.room.kept (search rules) (search rules) refl c.self.invariant.2,
     )
 
 pub returns-clause-flat : goal.returns-clause-flat

@@ -1,15 +1,16 @@
-use Rattle.std.proofs.Common.{◌≡◌, List, subst, sym, rules, None}
+use Rattle.std.proofs.Common.{◌≡◌, ◌⊎◌, List, subst, sym, rules, None}
 use Rattle.extent_groups.specs.declared.class.Member.{Member}
 use Rattle.extent_groups.specs.Groups.{AreThere}
 use Rattle.flat_machine.specs.Groups.{IsLowestFree, IsFull}
-use Rattle.flat_machine.specs.Steps.{Make, MadeGroup, Refused}
-use Rattle.flat_machine.specs.Cases.{MakeCase, IsWanted}
+use Rattle.flat_machine.specs.declared.refusal.Refusal.TheVariants.{Memory}
+use Rattle.flat_machine.specs.Steps.{MadeGroup}
+use Rattle.flat_machine.specs.Cases.{MakeCase}
 use Rattle.array_parts.specs.Views.{Entered, FoundLost}
 use Rattle.array_model.specs.Making.{IsMakeReason}
 use Rattle.array_model.specs.Views.{ArrayView}
 use Rattle.array_model.proofs.Fills.{as_shown}
-use Rattle.array_model.proofs.Makings.{make_refused, make_full, make_case, make_lost, make_passes}
-use Rattle.array_core.proofs.Ready.{as_refused}
+use Rattle.array_model.proofs.Makings.{make_refused, make_full, make_case, make_passes}
+use Rattle.array_core.proofs.Entering.{not_made}
 use Rattle.array_core.proofs.array.Array.make_group.Goals as goal
 
 pub returns-in-Some-clause-flat : goal.returns-in-Some-clause-flat
@@ -67,7 +68,6 @@ returns-in-Err-enter-clause-flat g c F shows =
     let old = c.args.self.now in
     let q = c.in-Err-enter.refusal in
     let items : c.in-Ok.members.items ≡ c.args.members.now = search rules in
-    as_refused q (IsWanted F (Make class c.args.members.now)) (λ G. MakeCase F class c.args.members.now (Refused q) G) c.enter.new.self _ c.in-Err-enter.ensures.rest.0
-    (make_lost old c.enter.new.self.parts F class c.args.members.now number q (subst (IsMakeReason old c.args.members.now) c.in_default.is c.make_fault.ensures.reason)
-    (subst (λ (v : ArrayView). IsLowestFree v.parts.groups number) c.self.view_is c.in-Some-lowest_free.ensures.some)
-    (subst (λ (ms : List Member). FoundLost old.parts ms c.enter.new.self.parts q) items c.in-Err-enter.ensures.err) shows)
+    not_made old c.enter.new.self F class c.args.members.now number q (subst (IsMakeReason old c.args.members.now) c.in_default.is c.make_fault.ensures.reason)
+    (subst (λ (v : ArrayView). IsLowestFree v.parts.groups number) c.self.view_is c.in-Some-lowest_free.ensures.some) c.in-Err-enter.ensures.rest.0
+    (subst (λ (ms : List Member). ((q ≡ Memory) × (c.enter.new.self.parts ≡ old.parts)) ⊎ (FoundLost old.parts ms c.enter.new.self.parts q)) items c.in-Err-enter.ensures.err) shows
