@@ -186,15 +186,16 @@ impl Array {
     fn new(payload: usize) -> Array {
         let unit = HEADER + payload;
         let drive = || Drive { bytes: vec![0; EXTENTS * 2 * SEGMENTS * unit], lost: false };
+        let groups = vec![
+            Group::new(Class::Mirrored, [(0, 0), (1, 0), (2, 0)]),
+            Group::new(Class::Mirrored, [(1, 1), (2, 1), (3, 1)]),
+            Group::new(Class::Parity, [(0, 2), (1, 2), (3, 2)]),
+            Group::new(Class::Parity, [(0, 3), (2, 3), (3, 3)]),
+        ];
         Array {
             drives: (0..DRIVES).map(|_| drive()).collect(),
-            groups: vec![
-                Group::new(Class::Mirrored, [(0, 0), (1, 0), (2, 0)]),
-                Group::new(Class::Mirrored, [(1, 1), (2, 1), (3, 1)]),
-                Group::new(Class::Parity, [(0, 2), (1, 2), (3, 2)]),
-                Group::new(Class::Parity, [(0, 3), (2, 3), (3, 3)]),
-            ],
-            places: vec![Place { kept: Kept::Free, claim: None }; ALL_SLOTS],
+            places: vec![Place { kept: Kept::Free, claim: None }; groups.len() * SLOTS],
+            groups,
             keys: vec![0; BLOCKS as usize],
             log: Vec::new(),
             payload,

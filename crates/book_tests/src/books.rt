@@ -1,0 +1,122 @@
+// Two Books round one array, one after the other.
+ghost use Rattle.std.specs.Prelude.{◌≡◌, ◌≤◌};
+ghost use Rattle.map_words.specs.Places.{blocks_of};
+ghost use Rattle.slot_words.specs.Places.{slots_of};
+
+use crate::rig::{Story, Tables, named, new_map, new_tables, play, released, renewed, two_of_each};
+use array_book::{Settled, Sizes};
+use slot_words::{Claim, Pass, SlotWords};
+use std::alloc::Global;
+use std::marker::Brand;
+use std::process::Abort;
+use std::sync::Wait;
+use std::thread::Threads;
+
+// Claims of so many mirrored slots, of 48 that there are; the last is of slot 151.
+fn claimed<N: slot_words::Naming, R: Abort>(
+    rt: &R,
+    alloc: Global,
+    words: &SlotWords<N>,
+    pass: &mut Pass<N>,
+    count: u16,
+) -> Vec<Claim<N>>
+    requires slots { slots_of N.table ≡ 65536 }
+    requires count { count ≤ 48 }
+{
+    let mut claims = Vec::new(alloc);
+    for index in 0..count {
+        let slot = 128 * (index / 24) + index % 24;
+        let Ok(claim) = words.claim(pass, slot) else {
+            panic!(rt; "slot {slot} is free")
+        };
+        if let Err(_kept) = claims.push(claim) {
+            panic!(rt; "no memory")
+        }
+    }
+    claims
+}
+
+// Releases the last of these claims, if there is one.
+fn release_last<N: slot_words::Naming>(
+    words: &SlotWords<N>,
+    pass: &mut Pass<N>,
+    claims: &mut Vec<Claim<N>>,
+) {
+    if let Some(claim) = claims.pop() {
+        words.release(pass, claim);
+    }
+}
+
+/// Tells a story of a Book's only worker, and one of the next Book's; so many mirrored slots, of 48, are claimed before both, and
+/// the last of these is given back between them. How many claims the array has at the end.
+pub(crate) fn one_after_other<F: Story + Sync, S: Story + Sync, R: Abort + Threads + Wait + Sync>(
+    rt: &R,
+    alloc: Global,
+    count: u16,
+    first: &F,
+    second: &S,
+) -> u32
+    requires { count ≤ 48 }
+{
+    let tables = new_tables(rt, alloc);
+    let (even, odd) = (new_map(rt, alloc), new_map(rt, alloc));
+    both::<Brand, Brand, Brand, Brand, Brand, F, S, R>(
+        rt,
+        alloc,
+        tables,
+        (even, odd),
+        count,
+        (first, second),
+    )
+}
+
+fn both<
+    N: slot_words::Naming + Sizes + Send + Sync,
+    A: map_words::Naming + Send + Sync,
+    B: map_words::Naming + Send + Sync,
+    C: map_words::Naming + Send + Sync,
+    D: map_words::Naming + Send + Sync,
+    F: Story + Sync,
+    S: Story + Sync,
+    R: Abort + Threads + Wait + Sync,
+>(
+    rt: &R,
+    alloc: Global,
+    tables: Tables,
+    maps: (map_words::Unnamed, map_words::Unnamed),
+    count: u16,
+    stories: (&F, &S),
+) -> u32
+    requires names { (tables.slots ≡ N.table) × (tables.even ≡ A.table) × (tables.odd ≡ B.table) }
+    requires maps { (maps.0 ≡ C.table) × (maps.1 ≡ D.table) }
+    requires blocks { (blocks_of maps.0 ≡ 16) × (blocks_of maps.1 ≡ 16) }
+    requires sizes { (N.blocks ≡ 16) × (N.payload ≡ 8) }
+    requires count { count ≤ 48 }
+{
+    let mut bench = named::<N, A, B>(tables);
+    let mut spare = bench.words.split(&mut bench.hands.pass);
+    let mut claims = claimed(rt, alloc, &bench.words, &mut spare, count);
+    let array = two_of_each(rt, alloc, 8);
+    let (settled, left) = play(rt, alloc, array, bench, &[0], stories.0);
+    assert!(rt; settled == Ok(()));
+    let Settled { array, words, pass } = left;
+    let Some(pass) = pass else {
+        panic!(rt; "no Pass came back")
+    };
+    release_last(&words, &mut spare, &mut claims);
+    let shape = array.shape();
+    assert!(rt; shape.blocks == 16 && shape.payload == 8);
+    let bench = renewed::<N, C, D>(words, pass, maps.0, maps.1);
+    let (settled, left) = play(rt, alloc, array, bench, &[0], stories.1);
+    assert!(rt; settled == Ok(()));
+    let Settled {
+        array,
+        words,
+        pass: _,
+    } = left;
+    while let Some(claim) = claims.pop() {
+        words.release(&mut spare, claim);
+    }
+    claims.destroy_empty();
+    released(rt, &words, &mut spare, array)
+}
