@@ -16,8 +16,8 @@ seen units lost failures a = record {
   kept = kepts_of a.places.items;
 }
 
--- the drives are those of the tables, and there is a buffer of a unit's length and one of two units'; there are places, and the
--- counts are theirs
+-- the drives are those of the tables, and there is a buffer of a unit's length and one of two units'; there are places for
+-- the slots of each made group, and the counts are those of the places
 pub record IsReady {D C : Type 0} (units : D → List (List ℕ)) (a : Inside D C) : Type 0 where
   pub fit : IsFit units a.parts
   pub unit : length a.unit.items ≡ unit_bytes a.parts.groups

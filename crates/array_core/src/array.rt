@@ -31,7 +31,7 @@ pub struct Array<D: Drive, C: Hold> {
     pub(crate) log: Vec<Record>,
     /// The key of each block, 0 where it was never written.
     pub(crate) keys: Vec<u64>,
-    /// What is kept of each slot, as far as groups were made: past its end nothing is.
+    /// What is kept of each slot of the group numbers up to the greatest that was made: past its end nothing is.
     pub(crate) places: Vec<Place<C>>,
     /// Of each group, how many of its slots are newest places.
     pub(crate) live: [u16; GROUPS],

@@ -1,4 +1,5 @@
-// What an array has its drives do for a slot. All but its parts stay as they were.
+// What an array has its drives do for a slot, and for a group that is made. All but its parts stays as it was, and what it keeps of
+// a group's number that is made.
 ghost use Rattle.std.specs.Prelude.{◌≡◌, ◌⊎◌, ◌*◌, ◌≤◌, length, vec_len, vec_capacity, OnOk, OnErr, IfOk, IfErr, Some, None};
 ghost use Rattle.extents.specs.Header.{IsHeader};
 ghost use Rattle.extents.specs.declared.shape.TheConstants.{HEADER_BYTES};

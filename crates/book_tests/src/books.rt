@@ -12,7 +12,7 @@ use std::process::Abort;
 use std::sync::Wait;
 use std::thread::Threads;
 
-// Claims of so many mirrored slots, of 48 that there are; the last is of slot 151.
+// Claims of the first so many mirrored slots, of 48 that there are; the last of all is slot 151.
 fn claimed<N: slot_words::Naming, R: Abort>(
     rt: &R,
     alloc: Global,

@@ -1,10 +1,11 @@
 // What the array keeps of a slot, claims included. No claim can be lost: it goes in by `put_in`, and
 // comes out by `take_out`.
-ghost use Rattle.std.specs.Prelude.{◌≡◌, ℕ, ◌+◌, ◌*◌, ◌<◌, ◌≤◌, vec_len, slice_index_or, slice_set, true, MatchOption, OnOk};
+ghost use Rattle.std.specs.Prelude.{◌≡◌, ℕ, ◌+◌, ◌*◌, ◌<◌, ◌≤◌, vec_len, vec_capacity, slice_index_or, slice_set, true, MatchOption, IsOk, OnOk};
 ghost use Rattle.slot_tables.specs.Kept.{kept_of, kepts_of, IsOf, AreOf};
 ghost use Rattle.array_model.specs.Views.{Nothing, is_waiting};
 
 use crate::hold::Hold;
+use crate::tables::SLOTS as ALL_SLOTS;
 use extent_groups::SLOTS;
 use map_join::Record;
 use std::alloc::AllocError;
@@ -95,21 +96,38 @@ pub fn take_waiting<C: Hold>(places: &mut Vec<Place<C>>, slot: u16) -> C
     }
 }
 
-// Makes places for the slots of all groups up to this one. Where memory is refused, those that there were stand.
+// Makes places for the slots of all groups up to this one. Where memory is refused, those that there were stand. Room is made for
+// twice as many as there are, but for no more than there are slots.
 pub fn grow_to<C: Hold>(places: &mut Vec<Place<C>>, group: u16) -> Result<(), AllocError>
     requires group { group < 512 }
     requires most { vec_len places.old ≤ 65536 }
     requires claims { AreOf C.names places.old.items }
     ensures ok { OnOk result (128 * group + 128 ≤ vec_len places.new) }
+    ensures there { 128 * group + 128 ≤ vec_len places.old → IsOk result }
+    ensures room { vec_capacity places.old ≤ 65536 → vec_capacity places.new ≤ 65536 }
     ensures kept { kepts_of places.new.items ≡ kepts_of places.old.items }
     ensures longer { vec_len places.old ≤ vec_len places.new }
     ensures most { vec_len places.new ≤ 65536 }
     ensures claims { AreOf C.names places.new.items }
 {
     let count = usize::from(SLOTS) * (usize::from(group) + 1);
-    places.reserve(count.saturating_sub(places.len()))?;
+    if places.capacity() < count {
+        places.reserve_exact(room_for(count, places.len()).saturating_sub(places.len()))?;
+    }
     for _made in places.len()..count {
         places.push_reserved(Place::Free);
     }
     Ok(())
+}
+
+// For how many places room is made where there are some and so many are wanted.
+fn room_for(count: usize, there: usize) -> usize
+    requires { count ≤ 65536 }
+    ensures enough { count ≤ result }
+    ensures most { result ≤ 65536 }
+{
+    if there >= ALL_SLOTS / 2 {
+        return ALL_SLOTS;
+    }
+    if count > 2 * there { count } else { 2 * there }
 }

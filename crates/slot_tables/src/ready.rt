@@ -61,6 +61,7 @@ fn keys_of(alloc: Global, blocks: u32, map: &BlockMap) -> Result<Vec<u64>, Alloc
 fn places_for(groups: &GroupTable) -> usize
     ensures { HavePlaces groups.now result }
 {
+    // That the table has 512 numbers is told with the members of any.
     let _members = groups.members(0);
     let mut places = 0;
     for group in 0..GROUPS as u16 {

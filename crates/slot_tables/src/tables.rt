@@ -1,4 +1,4 @@
-// The tables and buffers of a new array, all the memory that it takes.
+// The tables and buffers of a new array, all the memory that making it takes.
 ghost use Rattle.std.specs.Prelude.{◌≡◌, ℕ, ◌≤◌, length, slice_index, slice_index_or, IfOk};
 ghost use Rattle.slot_tables.specs.New.{AreNew};
 

@@ -19,6 +19,7 @@ loop-made-preserved g c =
       made = search rules;
       most = omega (arith, own, fewer, more);
       room = search rules;
+      no_more = λ small. let most = before.no_more small in let same = c.push_reserved.ensures.capacity in omega (arith, most, same);
       kept = rw (c.push_reserved.ensures.items) (kepts_push places.items fewer ∙ before.kept);
       longer = omega (arith, more, longer);
       of = rw (c.push_reserved.ensures.items) (claims_push g.C.Hold.names places.items before.of);

@@ -8,6 +8,7 @@ invariant-loop-made g l = record {
   made : vec_len l.places ≡ l._made;
   most : vec_len l.places ≤ 65536;
   room : l.count ≤ vec_capacity l.places;
+  no_more : vec_capacity l.fn.places ≤ 65536 → vec_capacity l.places ≤ 65536;
   kept : kepts_of l.places.items ≡ kepts_of l.fn.places.items;
   longer : vec_len l.fn.places ≤ vec_len l.places;
   of : AreOf g.C.Hold.names l.places.items;
