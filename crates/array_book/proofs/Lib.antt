@@ -2,3 +2,5 @@ pub mod Halves
 pub mod Shown
 pub mod Telling
 pub mod Planning
+pub mod Fresh
+pub mod Answering

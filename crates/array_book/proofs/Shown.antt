@@ -8,13 +8,13 @@ use Rattle.map_join.specs.Record.{key_of}
 use Rattle.extent_groups.specs.Groups.{Groups}
 use Rattle.flat_machine.specs.declared.refusal.Refusal.{Refusal}
 use Rattle.flat_machine.specs.declared.refusal.Refusal.TheVariants.{Memory, InUse, Gone, DriveLost}
-use Rattle.flat_machine.specs.Flat.{Flat, Content, Payload, Stored, Ticket, Waiting, IsKept}
+use Rattle.flat_machine.specs.Flat.{Flat, Content, Stored, Ticket, Waiting, IsKept}
 use Rattle.flat_machine.specs.Steps.{Seen, Data, Stale}
 use Rattle.flat_machine.specs.Steps as say
 use Rattle.flat_machine.specs.Learning.{LearnedCase, UnlearnedCase}
 use Rattle.flat_machine.specs.Cases.{IsBehind, IsLearned, FillCase, FillPasses, CopyCase, CopyPasses, CommitCase, DiscardCase}
-use Rattle.extents.specs.declared.header.Header.TheVariants.{Blank}
-use Rattle.array_parts.specs.Views.{WasPut, WasCarried}
+use Rattle.extents.specs.declared.header.Kind.{Kind}
+use Rattle.array_parts.specs.Views.{WasPut, WasCopied}
 use Rattle.array_model.specs.Changes.{MayRefuse, fill_view, copy_view, discard_view}
 use Rattle.array_model.specs.Represents.{ShowsArray}
 use Rattle.array_model.specs.Views.{ArrayView, IsWhole, key_at, with_parts}
@@ -134,10 +134,10 @@ pub fill_shown : {C : Type 0} (r : Result ℕ (Refusal × C)) (claim : C) (a b :
 fill_shown (Ok t) claim a b F w s x shows err tells = (tells.0, tells.2)
 fill_shown (Err e) claim a b F w s x shows err tells = refused_shown e.0 (FillPasses F w s) (λ G. FillCase F w s x (say.Refused e.0) G) a b F shows err.1 tells
 
-pub fill_still : {C : Type 0} (A : ℕ → Type 0) (u : Stored) (r : Result ℕ (Refusal × C)) (claim : C) (a b : ArrayView)
-    → IfOk r (λ t. A t × (b ≡ fill_view (with_parts a b.parts) t) × WasPut a.parts b.parts t u) → IfErr r (λ e. (e.1 ≡ claim) × IsRefused a b e.0) → IsStill a b
-fill_still A u (Ok t) claim a b ok err = record { groups = ok.2.rest.groups; keys = ap (λ (x : ArrayView). x.keys) ok.1 }
-fill_still A u (Err e) claim a b ok err = refused_still a b e.0 err.1
+pub fill_still : {C : Type 0} (k : Kind) (A : ℕ → Type 0) (u : Stored) (r : Result ℕ (Refusal × C)) (claim : C) (a b : ArrayView)
+    → IfOk r (λ t. A t × (b ≡ fill_view (with_parts a b.parts) t k) × WasPut a.parts b.parts t u) → IfErr r (λ e. (e.1 ≡ claim) × IsRefused a b e.0) → IsStill a b
+fill_still k A u (Ok t) claim a b ok err = record { groups = ok.2.rest.groups; keys = ap (λ (x : ArrayView). x.keys) ok.1 }
+fill_still k A u (Err e) claim a b ok err = refused_still a b e.0 err.1
 
 -- a slot of which the array keeps nothing isn't in use
 pub fill_not_used : {C : Type 0} (r : Result ℕ (Refusal × C)) (claim : C) (a b : ArrayView) (F : Flat) (w s : ℕ) (x : Content) → (IsKept F s → ⊥)
@@ -161,9 +161,9 @@ copy_shown (Err e) claim a b F w s block shows err tells =
     refused_shown e.0 ((q : Record) × CopyPasses F w s block q) (λ G. CopyCase F w s block (say.Refused e.0) G) a b F shows err.1 tells
 
 pub copy_still : {C : Type 0} (A : ℕ → Type 0) (B : Record → Type 0) (r : Result ℕ (Refusal × C)) (claim : C) (a b : ArrayView)
-    → IfOk r (λ t. A t × ((q : Record) × B q × (b ≡ copy_view (with_parts a b.parts) t q) × WasCarried a.parts b.parts q.place t Blank))
+    → IfOk r (λ t. A t × ((q : Record) × (k : Kind) × B q × (b ≡ copy_view (with_parts a b.parts) t q k) × WasCopied a.parts b.parts q.place t k))
     → IfErr r (λ e. (e.1 ≡ claim) × IsRefused a b e.0) → IsStill a b
-copy_still A B (Ok t) claim a b ok err = record { groups = ok.1.3.rest.groups; keys = ap (λ (x : ArrayView). x.keys) ok.1.2 }
+copy_still A B (Ok t) claim a b ok err = record { groups = ok.1.4.rest.groups; keys = ap (λ (x : ArrayView). x.keys) ok.1.3 }
 copy_still A B (Err e) claim a b ok err = refused_still a b e.0 err.1
 
 pub copy_not_used : {C : Type 0} (r : Result ℕ (Refusal × C)) (claim : C) (a b : ArrayView) (F : Flat) (w s block : ℕ) → (IsKept F s → ⊥)
@@ -192,7 +192,7 @@ discard_still A E D (Err e) a b s ok err = record { groups = ap (λ (x : ArrayVi
 
 abbrev pub LearnTells : Result Lesson Refusal → Flat → Record → ArrayView → Type 0
 LearnTells r F asked b = MatchResult r
-    (λ l. (G : Flat) × LearnedCase F asked l.told (Payload l.payload) G × ShowsArray b G)
+    (λ l. (G : Flat) × LearnedCase F asked l.told l.content G × ShowsArray b G)
     (λ q. MayRefuse q (IsBehind F asked) ((G : Flat) × UnlearnedCase F asked q G × ShowsArray b G))
 
 pub learn_shown : (r : Result Lesson Refusal) (a b : ArrayView) (F : Flat) (asked : Record) → ShowsArray a F
@@ -210,15 +210,15 @@ learn_still (Err q) a b F asked rest shows err tells = refused_still a b q err
 
 -- what was learned of a record
 pub learned_told : (r : Result Lesson Refusal) (a b : ArrayView) (F : Flat) (asked : Record) (E : Refusal → Type 0) → ShowsArray a F
-    → MatchResult r (λ l. (G : Flat) × LearnedCase F asked l.told (Payload l.payload) G × ShowsArray b G) E
+    → MatchResult r (λ l. (G : Flat) × LearnedCase F asked l.told l.content G × ShowsArray b G) E
     → IfOk r (λ l. (l.told.block ≡ asked.block) × (key_of asked ≤ key_of l.told))
-learned_told (Ok l) a b F asked E shows tells = learned_above F tells.0 asked l.told (Payload l.payload) tells.1
+learned_told (Ok l) a b F asked E shows tells = learned_above F tells.0 asked l.told l.content tells.1
 learned_told (Err e) a b F asked E shows tells = tt
 
 pub learned_version : (r : Result Lesson Refusal) (a b : ArrayView) (F : Flat) (asked : Record) (E : Refusal → Type 0) → ShowsArray a F
-    → MatchResult r (λ l. (G : Flat) × LearnedCase F asked l.told (Payload l.payload) G × ShowsArray b G) E
+    → MatchResult r (λ l. (G : Flat) × LearnedCase F asked l.told l.content G × ShowsArray b G) E
     → IfOk r (λ l. 0 < asked.version → 0 < l.told.version)
-learned_version (Ok l) a b F asked E shows tells = learned_written a F tells.0 asked l.told (Payload l.payload) shows tells.1
+learned_version (Ok l) a b F asked E shows tells = learned_written a F tells.0 asked l.told l.content shows tells.1
 learned_version (Err e) a b F asked E shows tells = tt
 
 -- the map of an array that shows a state

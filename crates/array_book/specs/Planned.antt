@@ -1,6 +1,6 @@
 -- What a worker moves next: what the definitions of demotions, plugs and cleans choose of what lies under the lock.
-use Rattle.std.specs.Prelude.{◌≡◌, ◌⊎◌, ℕ, ◌+◌, ◌/◌, ◌%◌, ◌==◌, if◌then◌else◌, Option, Some, None, Bool, true, false}
-use Rattle.array_model.specs.Views.{key_at}
+use Rattle.std.specs.Prelude.{◌≡◌, ◌⊎◌, ℕ, ◌+◌, ◌/◌, ◌%◌, ◌<◌, ◌==◌, if◌then◌else◌, Option, Some, None, Bool, true, false, List, length, count_by}
+use Rattle.array_model.specs.Views.{key_at, kept_at, is_kept}
 use Rattle.cleaner.specs.declared.moves.Move.{Move}
 use Rattle.cleaner.specs.Plans.{IsPlugPlan, IsCleanPlan}
 use Rattle.migrator.specs.Ages.{IsOldest}
@@ -32,6 +32,10 @@ IsFirstBehind k free slot = IsFirstAppend k.end k.array.parts.groups (key_at k.a
 abbrev pub IsOldestMirrored : KeptView → Option ℕ → Type 0
 IsOldestMirrored k block = IsOldest k.ages.order (IsMirrored k.array.parts.groups (key_at k.array)) block
 
+-- fewer than `low` of these slots are free: with so many that the array holds there is no room for `low` free ones
+abbrev pub WantsDemotion : KeptView → List ℕ → ℕ → Type 0
+WantsDemotion k mirrors low = length mirrors < count_by (λ slot. is_kept (kept_at k.array slot)) mirrors + low
+
 -- that block goes to where the log goes on
 pub record IsDemotion (k : KeptView) (plan : Plan) : Type 0 where
   pub oldest : IsOldestMirrored k (Some plan.block)
@@ -40,19 +44,33 @@ pub record IsDemotion (k : KeptView) (plan : Plan) : Type 0 where
   pub group : plan.group ≡ k.end.group
   pub appends : plan.appends ≡ true
 
--- the move's block goes to the move's slot, behind which the log goes on or doesn't
-pub record IsMoveBy (move : Move) (behind : Bool) (plan : Plan) : Type 0 where
+-- the move's block goes to the move's slot, and the log goes on after it or doesn't
+pub record IsMoveBy (move : Move) (after : Bool) (plan : Plan) : Type 0 where
   pub block : plan.block ≡ move.block
   pub slot : plan.slot ≡ Some move.to
   pub demotes : plan.demotes ≡ false
-  pub appends : plan.appends ≡ behind
+  pub appends : plan.appends ≡ after
 
--- a demotion, a plug or a clean; the log goes on behind the slot of all but a plug
-abbrev pub IsPlanned : KeptView → Plan → Type 0
-IsPlanned k plan =
-    IsDemotion k plan
-    ⊎ ((move : Move) × ((IsPlugOf k (Some move) × IsMoveBy move false plan) ⊎ (IsCleanOf k (Some move) × IsMoveBy move true plan)))
+-- no demotion is due: there are enough free slots, or no block is in a mirrored group
+abbrev pub NoDemotion : KeptView → List ℕ → ℕ → Type 0
+NoDemotion k mirrors low = WantsDemotion k mirrors low → IsOldestMirrored k None
 
--- there is no plug, and no clean
-abbrev pub IsDone : KeptView → Type 0
-IsDone k = IsPlugOf k None × IsCleanOf k None
+-- a plug, after which the log goes on where it did before it, or a clean
+abbrev pub IsRegrouped : KeptView → Plan → Type 0
+IsRegrouped k plan =
+    (move : Move) × ((IsPlugOf k (Some move) × IsMoveBy move false plan) ⊎ (IsCleanOf k (Some move) × IsMoveBy move true plan))
+
+-- a demotion where one is due, also where there is no slot for it, and else a plug or a clean
+abbrev pub IsPlanned : List ℕ → ℕ → KeptView → Plan → Type 0
+IsPlanned mirrors low k plan = (WantsDemotion k mirrors low × IsDemotion k plan) ⊎ (NoDemotion k mirrors low × IsRegrouped k plan)
+
+-- no demotion is due, and there is no plug and no clean
+pub record IsDone (mirrors : List ℕ) (low : ℕ) (k : KeptView) : Type 0 where
+  pub demotion : NoDemotion k mirrors low
+  pub plug : IsPlugOf k None
+  pub clean : IsCleanOf k None
+
+-- the next slot of a plan is that one where the log goes on, of those whose turn comes later; none of a plug or a clean
+abbrev pub IsNext : KeptView → Plan → ℕ → Option ℕ → Type 0
+IsNext k plan slot next = (plan.demotes ≡ true → IsFirstBehind k (λ other. turn_of plan.group slot < turn_of plan.group other) next)
+    × (plan.demotes ≡ false → next ≡ None)

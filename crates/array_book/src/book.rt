@@ -1,4 +1,4 @@
-// The array behind its lock, beside the words that need none.
+// An array behind a lock, next to the words that need none.
 ghost use Rattle.std.specs.Prelude.{◌≡◌, ◌⊎◌, ℕ, ◌≤◌, length, IfOk, IfErr, IfSome, IfNone};
 ghost use Rattle.array_model.specs.Represents.{ShowsArray};
 ghost use Rattle.flat_machine.specs.Flat.{Flat};
@@ -47,7 +47,7 @@ impl<D: Drive, N: slot_words::Naming + Sizes, A: map_words::Naming, B: map_words
     A,
     B,
 > {
-    /// A Book round an array, with a word for each slot and two for each block. For want of memory all comes back.
+    /// A Book around an array, with a word for each slot and two for each block. Out of memory returns all of it.
     pub fn new(
         alloc: Global,
         array: Array<D, Claim<N>>,
@@ -86,8 +86,8 @@ impl<D: Drive, N: slot_words::Naming + Sizes, A: map_words::Naming, B: map_words
         })
     }
 
-    /// Parts what these hands have, for one worker more: half of each share goes to the new hands. There are none where a
-    /// Taker has no share left to give, and these hands have theirs again.
+    /// Splits what these hands have, for one worker more: half of each share goes to the new hands. None where a Taker has no
+    /// share left to split, and these hands keep theirs.
     #[tactic(auto, using(crate::proofs::Halves::together_again))]
     pub fn split(&self, hands: &mut Ended<N, A, B>) -> Option<Ended<N, A, B>>
         ensures given { IfSome result (λ new. (new.pass ≡ right_given hands.old.pass) × (new.even ≡ share_given hands.old.even) × (new.odd ≡ share_given hands.old.odd)) }

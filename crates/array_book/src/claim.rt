@@ -5,7 +5,7 @@ use slot_words::{Naming, SlotWords};
 use std::marker::Brand;
 use step_core::{Apart, Hold};
 
-/// Names the sizes of one array, so that they are known behind its lock.
+/// Names the sizes of one array, so that they are known under its lock.
 pub trait Sizes {
     // How many blocks the array has, and how many bytes a payload.
     ghost blocks: { ℕ };

@@ -1,4 +1,4 @@
-// Where a worker's call can be held up.
+// Where a worker's call can be made to wait.
 use std::sync::Wait;
 
 /// How far a call of a worker has come.
@@ -13,7 +13,7 @@ pub enum Point {
     Taken = 4,
 }
 
-/// Is told of each point that a call reaches, and may wait there. No lock is held then.
+/// Is called at each point that a call reaches, and may wait there. No lock is held then.
 pub trait Gate {
     fn reach<R: Wait>(&self, point: Point, rt: &R);
 }

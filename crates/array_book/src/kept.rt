@@ -1,8 +1,8 @@
-// What lies under a Book's lock, and the calls that are lent it.
+// What lies under a Book's lock, and the calls that borrow it.
 ghost use Rattle.std.specs.Prelude.{◌≡◌, ◌≢◌, ℕ, ◌<◌, ◌≤◌, length, slice_set, IfOk, IfErr, MatchResult, true, Some, None};
 ghost use Rattle.map_join.specs.Record.{key_of, record_at};
 ghost use Rattle.flat_machine.specs.Steps as say;
-ghost use Rattle.flat_machine.specs.Flat.{Flat, Payload, Worker, Ticket as ticket_of};
+ghost use Rattle.flat_machine.specs.Flat.{Flat, Payload, Trim, Worker, Ticket as ticket_of};
 ghost use Rattle.flat_machine.specs.Cases.{FillCase, FillPasses, CopyCase, CopyPasses, CommitCase, DiscardCase, IsWanted, IsBehind};
 ghost use Rattle.flat_machine.specs.Learning.{LearnedCase, UnlearnedCase};
 ghost use Rattle.flat_machine.specs.declared.refusal.Refusal.TheVariants as refusal;
@@ -13,7 +13,8 @@ ghost use Rattle.array_model.specs.Represents.{ShowsArray};
 ghost use Rattle.migrator.specs.Slots.{class_at, end_at};
 ghost use Rattle.step_core.specs.Refused.{IsRefused};
 ghost use Rattle.tiering.specs.Marking.{is_mirrors};
-ghost use Rattle.array_book.specs.Kept.{Agrees, HasNoted, OnlyArray, order_after};
+ghost use Rattle.array_book.specs.Kept.{IsKept, Agrees, HasNoted, OnlyArray, order_after};
+ghost use Rattle.array_book.specs.Outcomes.{WasFilled, WasCopied, WasCommitted, WasRefused, WasGivenUp, WasLearned, WasUnlearned};
 
 use crate::claim::{Claim, Sizes};
 use extent_groups::GroupTable;
@@ -52,9 +53,10 @@ impl<D: Drive, N: Naming + Sizes> Kept<D, N> {
         &self.array
     }
 
-    /// What is true whenever the lock is free, as a law: nothing is done. The array shows some flat state; its map is that of
-    /// its log; and where no newest place is gone it is the map that the headers tell.
+    /// What is true whenever the lock is free, as a law: the call does nothing. The array shows some flat state; its map is that of
+    /// its log; and where no newest place is gone it is the map of the headers.
     pub fn stands(&self)
+        ensures kept { IsKept N.blocks N.payload self.now }
         ensures shows { (F : Flat) × ShowsArray self.now.array F }
         ensures sizes { (self.now.array.parts.groups.blocks ≡ N.blocks) × (self.now.array.parts.groups.payload ≡ N.payload) }
         ensures agrees { Agrees self.now.array }
@@ -75,6 +77,7 @@ pub fn fill_in<D: Drive, N: Naming + Sizes>(
     ensures ticket { IfOk result (λ ticket. ticket ≡ claim.0.slot) }
     ensures err { IfErr result (λ e. (e.1 ≡ claim) × (e.0 ≢ refusal.InUse) × IsRefused kept.old.array kept.new.array e.0) }
     ensures rest { OnlyArray kept.old kept.new }
+    ensures filled { IfOk result (λ ticket. WasFilled N.blocks N.payload ticket (Payload payload.now)) }
     ensures flat { (F : Flat) (w : ℕ) → ShowsArray kept.old.array F → F.held claim.0.slot (Worker w) ≡ true
         → MatchResult result
         (λ ticket. (G : Flat) × FillCase F w ticket (Payload payload.now) (say.Filled ticket) G × ShowsArray kept.new.array G)
@@ -87,7 +90,30 @@ pub fn fill_in<D: Drive, N: Naming + Sizes>(
     kept.array.fill(alloc, claim, payload)
 }
 
-/// Copies a block's newest payload into a slot, as the array does; that its slot is in use it never answers.
+/// Fills a mirrored slot with a trim, as the array does; that its slot is in use it never answers.
+pub fn trim_in<D: Drive, N: Naming + Sizes>(
+    kept: &mut Kept<D, N>,
+    words: &SlotWords<N>,
+    alloc: Global,
+    claim: Claim<N>,
+) -> Result<Ticket, (Refusal, Claim<N>)>
+    ensures ticket { IfOk result (λ ticket. ticket ≡ claim.0.slot) }
+    ensures err { IfErr result (λ e. (e.1 ≡ claim) × (e.0 ≢ refusal.InUse) × IsRefused kept.old.array kept.new.array e.0) }
+    ensures rest { OnlyArray kept.old kept.new }
+    ensures filled { IfOk result (λ ticket. WasFilled N.blocks N.payload ticket Trim) }
+    ensures flat { (F : Flat) (w : ℕ) → ShowsArray kept.old.array F → F.held claim.0.slot (Worker w) ≡ true
+        → MatchResult result
+        (λ ticket. (G : Flat) × FillCase F w ticket Trim (say.Filled ticket) G × ShowsArray kept.new.array G)
+        (λ e. MayRefuse e.0
+        (FillPasses F w claim.0.slot)
+        ((G : Flat) × FillCase F w claim.0.slot Trim (say.Refused e.0) G × ShowsArray kept.new.array G)) }
+{
+    let mut claim = claim;
+    kept.array.apart_from(words, &mut claim);
+    kept.array.trim(alloc, claim)
+}
+
+/// Copies what a block holds into a slot, as the array does; that its slot is in use it never answers.
 pub fn copy_in<D: Drive, N: Naming + Sizes>(
     kept: &mut Kept<D, N>,
     words: &SlotWords<N>,
@@ -99,6 +125,7 @@ pub fn copy_in<D: Drive, N: Naming + Sizes>(
     ensures ticket { IfOk result (λ ticket. ticket ≡ claim.0.slot) }
     ensures err { IfErr result (λ e. (e.1 ≡ claim) × (e.0 ≢ refusal.InUse) × IsRefused kept.old.array kept.new.array e.0) }
     ensures rest { OnlyArray kept.old kept.new }
+    ensures copied { IfOk result (λ ticket. WasCopied N.blocks N.payload ticket block) }
     ensures flat { (F : Flat) (w : ℕ) → ShowsArray kept.old.array F → F.held claim.0.slot (Worker w) ≡ true
         → MatchResult result
         (λ ticket. (G : Flat) × CopyCase F w ticket block (say.Copied ticket) G × ShowsArray kept.new.array G)
@@ -124,6 +151,8 @@ pub fn commit_in<D: Drive, N: Naming + Sizes>(
     ensures noted { IfOk result (λ done. HasNoted kept.old kept.new done.emitted) }
     ensures err { IfErr result (λ e. (e.1 ≡ ticket) × IsRefused kept.old.array kept.new.array e.0 × (kept.new.ages ≡ kept.old.ages)) }
     ensures end { kept.new.end ≡ kept.old.end }
+    ensures answered { MatchResult result (λ done. WasCommitted N.blocks N.payload ticket block done.emitted)
+        (λ e. e.0 ≢ refusal.Memory → WasRefused N.blocks N.payload ticket block e.0) }
     ensures flat { (F : Flat) (w : ℕ) → ShowsArray kept.old.array F → (F.tickets ticket ≢ None → F.held ticket (ticket_of w) ≡ true)
         → MatchResult result
         (λ done. (G : Flat) × CommitCase F w ticket block (say.Committed done.emitted) G × ShowsArray kept.new.array G)
@@ -141,7 +170,7 @@ pub fn commit_in<D: Drive, N: Naming + Sizes>(
     }
 }
 
-// Notes a write, and marks its block by the group where it lies now.
+// Notes a write, and marks its block by the group where it lies.
 fn note(ages: &mut MarkedAges, groups: &GroupTable, told: Record)
     requires { «told».block < length ages.old.order }
     ensures order { ages.new.order ≡ order_after ages.old.order «told» }
@@ -154,7 +183,8 @@ fn note(ages: &mut MarkedAges, groups: &GroupTable, told: Record)
     ages.mark(told.block, is_mirrored(groups, Some(told)));
 }
 
-/// Commits a ticket under which a fresh payload waits. Where none does it is refused, as there is no such ticket.
+/// Commits a ticket under which a fresh payload or trim waits. Where none does it is refused, as there is no such ticket.
+#[tactic(auto, using(crate::proofs::Fresh::no_hop))]
 pub(crate) fn commit_fresh_in<D: Drive, N: Naming + Sizes>(
     kept: &mut Kept<D, N>,
     alloc: Global,
@@ -163,6 +193,7 @@ pub(crate) fn commit_fresh_in<D: Drive, N: Naming + Sizes>(
 ) -> Result<Done<Claim<N>>, (Refusal, Ticket)>
     requires { block < N.blocks }
     ensures ok { IfOk result (λ done. (done.emitted.block ≡ block) × (0 < done.emitted.version) × (done.emitted.hop ≡ 0)) }
+    ensures committed { IfOk result (λ done. WasCommitted N.blocks N.payload ticket block done.emitted) }
     ensures noted { IfOk result (λ done. HasNoted kept.old kept.new done.emitted) }
     ensures err { IfErr result (λ e. (e.1 ≡ ticket) × (kept.new.ages ≡ kept.old.ages)) }
     ensures end { kept.new.end ≡ kept.old.end }
@@ -181,6 +212,7 @@ pub fn discard_in<D: Drive, N: Naming + Sizes>(
     ensures claim { IfOk result (λ claim. claim.0.slot ≡ ticket) }
     ensures err { IfErr result (λ e. (e.1 ≡ ticket) × (kept.new ≡ kept.old)) }
     ensures rest { OnlyArray kept.old kept.new }
+    ensures given_up { WasGivenUp N.blocks N.payload ticket }
     ensures flat { (F : Flat) (w : ℕ) → ShowsArray kept.old.array F → (F.tickets ticket ≢ None → F.held ticket (ticket_of w) ≡ true)
         → MatchResult result
         (λ claim. (G : Flat) × DiscardCase F w ticket (say.Discarded ticket) G × ShowsArray kept.new.array G)
@@ -189,7 +221,7 @@ pub fn discard_in<D: Drive, N: Naming + Sizes>(
     kept.array.discard(ticket)
 }
 
-/// Tells a record with its payload, or where it is stale the newest of its block, as the array does.
+/// Reads a record with its payload, or with none of a trim, or where it is stale the newest record of its block, as the array does.
 pub fn read_in<D: Drive, N: Naming + Sizes>(
     kept: &mut Kept<D, N>,
     alloc: Global,
@@ -200,8 +232,10 @@ pub fn read_in<D: Drive, N: Naming + Sizes>(
     ensures written { IfOk result (λ reading. 0 < «asked».version → 0 < reading.told.version) }
     ensures err { IfErr result (IsRefused kept.old.array kept.new.array) }
     ensures rest { OnlyArray kept.old kept.new }
+    ensures answered { MatchResult result (WasLearned N.blocks N.payload «asked»)
+        (λ q. q ≢ refusal.Memory → WasUnlearned N.blocks N.payload «asked» q) }
     ensures flat { (F : Flat) → ShowsArray kept.old.array F → MatchResult result
-        (λ reading. (G : Flat) × LearnedCase F «asked» reading.told (Payload reading.payload) G × ShowsArray kept.new.array G)
+        (λ reading. (G : Flat) × LearnedCase F «asked» reading.told reading.content G × ShowsArray kept.new.array G)
         (λ refusal. MayRefuse refusal
         (IsBehind F «asked»)
         ((G : Flat) × UnlearnedCase F «asked» refusal G × ShowsArray kept.new.array G)) }
@@ -209,7 +243,7 @@ pub fn read_in<D: Drive, N: Naming + Sizes>(
     kept.array.read_or_learn(alloc, asked)
 }
 
-/// A slot was appended: the write log goes on behind it.
+/// Notes that a slot was appended: the write log goes on after it.
 pub fn appended_in<D: Drive, N: Naming + Sizes>(kept: &mut Kept<D, N>, slot: u16)
     ensures end { kept.new.end ≡ end_at slot }
     ensures rest { (kept.new.array ≡ kept.old.array) × (kept.new.ages ≡ kept.old.ages) }

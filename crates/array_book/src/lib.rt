@@ -1,4 +1,4 @@
-//! An array behind a lock, and words beside it that need none: workers in threads, and two controllers' maps that settle.
+//! An array behind a lock, next to words that need none: workers in threads, and two controllers' maps that settle.
 #![tactic(auto)]
 
 mod asks;
@@ -7,6 +7,7 @@ mod claim;
 mod controller;
 mod fault;
 mod gate;
+mod given;
 mod kept;
 mod plan;
 mod run;
@@ -18,7 +19,7 @@ pub use claim::{Claim, Sizes};
 pub use controller::Controller;
 pub use fault::WorkFault;
 pub use gate::{Gate, NoGate, Point};
-pub use kept::{Kept, appended_in, commit_in, copy_in, discard_in, fill_in, read_in};
+pub use kept::{Kept, appended_in, commit_in, copy_in, discard_in, fill_in, read_in, trim_in};
 pub use run::{Job, RunFault, run_workers};
 pub use settled::{Settled, settle};
 pub use settling::{Ended, SettleFault, compare};

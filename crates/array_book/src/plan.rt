@@ -1,6 +1,7 @@
 // What a worker moves next, and into which slot.
-ghost use Rattle.std.specs.Prelude.{◌≡◌, ◌<◌, MatchOption, true, false, Some, None};
-ghost use Rattle.array_book.specs.Planned.{IsPlanned, IsDone, IsOldestMirrored, IsFirstBehind, IsPlugOf, IsCleanOf, IsMoveBy, turn_of};
+ghost use Rattle.std.specs.Prelude.{◌≡◌, ◌↔◌, ◌<◌, MatchOption, IsTrue, true, false, Some, None};
+ghost use Rattle.array_book.specs.Planned.{IsPlanned, IsDone, IsOldestMirrored, IsFirstBehind, IsPlugOf, IsCleanOf, IsMoveBy, IsNext, IsRegrouped, WantsDemotion, NoDemotion, turn_of};
+ghost use Rattle.array_book.specs.Outcomes.{State, WasPlanned};
 
 use crate::asks::Running;
 use crate::claim::Sizes;
@@ -18,23 +19,25 @@ pub(crate) struct Plan {
     pub(crate) block: u32,
     // The slot that it goes into, if there is one.
     pub(crate) slot: Option<u16>,
-    // Whether it goes into the next slot where the write log goes on, where that one can't be claimed.
+    // Whether it tries the next slot where the write log goes on, where that one can't be claimed.
     pub(crate) demotes: bool,
     // The write group, whose slots come first.
     pub(crate) group: Option<u16>,
-    // Whether the write log goes on behind the slot.
+    // Whether the write log goes on after the slot.
     pub(crate) appends: bool,
 }
 
-// The slot that a plan tries where it can't have this one: of a demotion the next where the write log goes on by now.
+// The slot that a plan tries where it can't have this one: of a demotion the next where the write log goes on.
 pub(crate) fn slot_after<D: Drive, N: Naming + Sizes>(
     kept: &Kept<D, N>,
     plan: &Plan,
     slot: u16,
 ) -> Option<u16>
-    ensures next { plan.now.demotes ≡ true → IsFirstBehind kept.now (λ other. turn_of plan.now.group slot < turn_of plan.now.group other) result }
-    ensures none { plan.now.demotes ≡ false → result ≡ None }
+    ensures next { IsNext kept.now plan.now slot result }
+    ensures seen { (state : State N.blocks N.payload) × IsNext state.view plan.now slot result }
+    ensures later { MatchOption result (Unit {0}) (λ next. turn_of plan.now.group slot < turn_of plan.now.group next) }
 {
+    kept.stands();
     if !plan.demotes {
         return None;
     }
@@ -79,22 +82,47 @@ fn turn_of(group: Option<u16>, slot: u16) -> u32
     }
 }
 
-// What is moved next: a demotion where fewer mirrored slots are free than `low`, else a plug, else a clean. There is nothing only
-// where there is neither a plug nor a clean.
+// What is moved next: where fewer than `low` of the mirrored slots are free a demotion, if a block is in a mirrored group, even if
+// there is no slot for it; else a plug, else a clean.
 pub(crate) fn plan_in<D: Drive, N: Naming + Sizes>(
     kept: &mut Kept<D, N>,
     mirrors: &[u16],
     low: u32,
 ) -> Option<Plan>
     ensures block { MatchOption result (Unit {0}) (λ plan. plan.block < N.blocks) }
-    ensures planned { MatchOption result (IsDone kept.old) (IsPlanned kept.old) }
+    ensures planned { MatchOption result (IsDone mirrors.now low kept.old) (IsPlanned mirrors.now low kept.old) }
+    ensures seen { WasPlanned N.blocks N.payload mirrors.now low result }
+    ensures same { kept.new ≡ kept.old }
+{
+    kept.stands();
+    match due_demotion(kept, mirrors, low) {
+        Some(block) => Some(demotion(kept, block)),
+        None => regrouped(kept),
+    }
+}
+
+// The block that is to be demoted, if a demotion is due.
+fn due_demotion<D: Drive, N: Naming + Sizes>(
+    kept: &mut Kept<D, N>,
+    mirrors: &[u16],
+    low: u32,
+) -> Option<u32>
+    ensures block { MatchOption result (Unit {0}) (λ block. block < N.blocks) }
+    ensures due { MatchOption result (NoDemotion kept.old mirrors.now low) (λ block. WantsDemotion kept.old mirrors.now low × IsOldestMirrored kept.old (Some block)) }
     ensures same { kept.new ≡ kept.old }
 {
     if wants_demotion(kept, mirrors, low) {
-        if let Some(block) = oldest_mirrored(kept) {
-            return Some(demotion(kept, block));
-        }
+        oldest_mirrored(kept)
+    } else {
+        None
     }
+}
+
+// A plug, or where there is none a clean.
+fn regrouped<D: Drive, N: Naming + Sizes>(kept: &Kept<D, N>) -> Option<Plan>
+    ensures block { MatchOption result (Unit {0}) (λ plan. plan.block < N.blocks) }
+    ensures moves { MatchOption result (IsPlugOf kept.now None × IsCleanOf kept.now None) (IsRegrouped kept.now) }
+{
     kept.stands();
     if let Some(plan) = plug_of(kept) {
         return Some(moved(plan, false));
@@ -133,12 +161,10 @@ fn moved(plan: Move, appends: bool) -> Plan
     }
 }
 
-// Whether the array keeps nothing of fewer of these slots than `low`. It looks no further where too many are kept.
-fn wants_demotion<D: Drive, N: Naming + Sizes>(
-    kept: &Kept<D, N>,
-    mirrors: &[u16],
-    low: u32,
-) -> bool {
+// Whether fewer than `low` of these slots are free. The rest aren't looked at once the array holds too many.
+fn wants_demotion<D: Drive, N: Naming + Sizes>(kept: &Kept<D, N>, mirrors: &[u16], low: u32) -> bool
+    ensures { IsTrue result ↔ WantsDemotion kept.now mirrors.now low }
+{
     let Some(mut spare) = mirrors.len().checked_sub(low as usize) else {
         return true;
     };

@@ -1,5 +1,8 @@
 // Workers in threads of their own.
+ghost use Rattle.std.specs.Prelude.{◌≡◌};
 ghost use Rattle.std.specs.Thread.{IsSend};
+ghost use Rattle.array_book.specs.Numbers.{run_number};
+ghost use Rattle.array_book.specs.Running.{lowest_of};
 
 use crate::claim::Sizes;
 use crate::fault::WorkFault;
@@ -27,6 +30,18 @@ pub enum RunFault {
     Memory,
     /// The lowest number of a worker whose job failed, and the fault.
     Job(u8, WorkFault),
+}
+
+impl RunFault {
+    /// The fault's number, 1 or 2 in the order above.
+    pub fn number(&self) -> u8
+        ensures { result ≡ run_number self.now }
+    {
+        match self {
+            RunFault::Memory => 1,
+            RunFault::Job(_, _) => 2,
+        }
+    }
 }
 
 /// Starts one thread for each worker, and joins all.
@@ -88,7 +103,7 @@ fn start<
     }
 }
 
-// Joins all threads, and tells the fault of the worker of the lowest number.
+// Joins all threads, and returns the fault of the worker of the lowest number.
 fn join_all<R: Threads>(
     rt: &R,
     handles: Vec<(u8, JoinHandle<Result<(), WorkFault>>)>,
@@ -103,11 +118,13 @@ fn join_all<R: Threads>(
     result
 }
 
-// What is told of a run in which one job more failed.
-fn lowest(told: Result<(), RunFault>, number: u8, fault: WorkFault) -> Result<(), RunFault> {
-    match told {
-        Err(RunFault::Memory) => told,
-        Err(RunFault::Job(other, _)) if other <= number => told,
+// What is returned of a run, whose outcome was `before`, in which one job more failed.
+fn lowest(before: Result<(), RunFault>, number: u8, fault: WorkFault) -> Result<(), RunFault>
+    ensures { result ≡ lowest_of before number fault }
+{
+    match before {
+        Err(RunFault::Memory) => before,
+        Err(RunFault::Job(other, _)) if other <= number => before,
         Err(RunFault::Job(_, _)) | Ok(()) => Err(RunFault::Job(number, fault)),
     }
 }

@@ -17,8 +17,8 @@ use slot_words::{Pass, SlotWords};
 use std::alloc::Global;
 use step_core::Array;
 
-/// What is left of a Book: a new one can be made round the array with these words, and claims can be released by the Pass. There
-/// is none where no worker's came.
+/// What is left of a Book: a new one can be made around the array with these words, and claims can be released by the Pass. The
+/// Pass is none where no worker's came.
 pub struct Settled<D: Drive, N: slot_words::Naming> {
     pub array: Array<D, Claim<N>>,
     pub words: SlotWords<N>,
@@ -26,7 +26,7 @@ pub struct Settled<D: Drive, N: slot_words::Naming> {
 }
 
 /// Ends a Book: joins what its workers had, closes both maps of words, and tests whether what was taken, and nothing else, has
-/// made the array's map. The maps end with it, and all else comes back whatever is answered.
+/// made the array's map. The maps end with the Book; all else is returned, also with a fault.
 pub fn settle<D: Drive, N: slot_words::Naming + Sizes, A: map_words::Naming, B: map_words::Naming>(
     alloc: Global,
     book: Book<D, N, A, B>,

@@ -1,13 +1,18 @@
 // One thread's hands on a Book.
-ghost use Rattle.std.specs.Prelude.{◌≡◌, ◌≢◌, ℕ, ◌<◌, length, IfOk, OnErr, MatchOption, Ok, Err, Some, None, true, false};
+ghost use Rattle.std.specs.Prelude.{◌≡◌, ◌≢◌, ℕ, ◌<◌, length, IfOk, IfErr, IfSome, IfNone, OnErr, MatchOption, MatchResult, Ok, Err, Some, None, true, false};
 ghost use Rattle.map_join.specs.declared.records.Record.{Record};
 ghost use Rattle.step_core.specs.Told.{Lesson};
 ghost use Rattle.map_words.specs.Answers.{HasFound, IsNewest, key_in};
+ghost use Rattle.map_join.specs.Record.{key_of};
+ghost use Rattle.flat_machine.specs.Flat.{Payload, Trim};
+ghost use Rattle.flat_machine.specs.declared.refusal.Refusal.{Refusal};
 ghost use Rattle.flat_machine.specs.declared.refusal.Refusal.TheVariants as refusal;
 ghost use Rattle.migrator.specs.Slots.{end_at};
 ghost use Rattle.slot_words.specs.Places.{slots_of};
+ghost use Rattle.array_book.specs.Given.{content_of, IsGivenFor};
 ghost use Rattle.array_book.specs.Kept.{HasNoted};
 ghost use Rattle.array_book.specs.Takes.{controller_of, taker_of, other_of, AreSame, HasAsked, HasMigrated, HasRead, Took, Learnt, IsTold};
+ghost use Rattle.array_book.specs.Outcomes.{WasFilled, WasCopied, WasCommitted, WasRefused, WasGivenUp, WasWritten, WasPlanned, IsTried, HadNoRoom, WentSo, WasLearned, WasUnlearned};
 ghost use Rattle.array_book.specs.declared.fault.WorkFault.TheVariants.{Core};
 
 use crate::book::Book;
@@ -15,8 +20,9 @@ use crate::claim::{Claim, Sizes};
 use crate::controller::Controller;
 use crate::fault::WorkFault;
 use crate::gate::{Gate, Point};
+use crate::given::Given;
 use crate::kept::{
-    Kept, appended_in, commit_fresh_in, commit_in, copy_in, discard_in, fill_in, read_in,
+    Kept, appended_in, commit_fresh_in, commit_in, copy_in, discard_in, fill_in, read_in, trim_in,
 };
 use crate::plan::{Plan, plan_in, slot_after};
 use extents::Drive;
@@ -119,6 +125,49 @@ impl<
         requires block { block < self.old.book.now.blocks }
         requires payload { length payload.now ≡ self.old.book.now.payload }
         ensures record { IfOk result (λ emitted. (emitted.block ≡ block) × (emitted.hop ≡ 0)) }
+        ensures written { IfOk result (WasWritten N.blocks N.payload block (Payload payload.now)) }
+        ensures taken { IfOk result (λ emitted. Took emitted (taker_of (controller_of self.old.number) self.old.even self.old.odd) (taker_of (controller_of self.old.number) self.new.even self.new.odd)) }
+        ensures other { other_of (controller_of self.old.number) self.new.even self.new.odd ≡ other_of (controller_of self.old.number) self.old.even self.old.odd }
+        ensures err { OnErr result (AreSame self.old.even self.old.odd self.new.even self.new.odd) }
+        ensures fault { result ≢ Err (Core refusal.Memory) }
+        ensures rest { (self.new.number ≡ self.old.number) × (self.new.book ≡ self.old.book) }
+    {
+        self.put(rt, alloc, block, Given::Payload(payload), gate)
+    }
+
+    /// Trims a block: a write without a payload, after which the block holds nothing.
+    pub fn trim<R: Wait, G: Gate>(
+        &mut self,
+        rt: &R,
+        alloc: Global,
+        block: u32,
+        gate: &G,
+    ) -> Result<Emitted, WorkFault>
+        requires { block < self.old.book.now.blocks }
+        ensures record { IfOk result (λ emitted. (emitted.block ≡ block) × (emitted.hop ≡ 0)) }
+        ensures written { IfOk result (WasWritten N.blocks N.payload block Trim) }
+        ensures taken { IfOk result (λ emitted. Took emitted (taker_of (controller_of self.old.number) self.old.even self.old.odd) (taker_of (controller_of self.old.number) self.new.even self.new.odd)) }
+        ensures other { other_of (controller_of self.old.number) self.new.even self.new.odd ≡ other_of (controller_of self.old.number) self.old.even self.old.odd }
+        ensures err { OnErr result (AreSame self.old.even self.old.odd self.new.even self.new.odd) }
+        ensures fault { result ≢ Err (Core refusal.Memory) }
+        ensures rest { (self.new.number ≡ self.old.number) × (self.new.book ≡ self.old.book) }
+    {
+        self.put(rt, alloc, block, Given::Trim, gate)
+    }
+
+    // Writes what is given.
+    fn put<R: Wait, G: Gate>(
+        &mut self,
+        rt: &R,
+        alloc: Global,
+        block: u32,
+        given: Given,
+        gate: &G,
+    ) -> Result<Emitted, WorkFault>
+        requires block { block < self.old.book.now.blocks }
+        requires given { IsGivenFor self.old.book.now.payload given }
+        ensures record { IfOk result (λ emitted. (emitted.block ≡ block) × (emitted.hop ≡ 0)) }
+        ensures written { IfOk result (WasWritten N.blocks N.payload block (content_of given.entry)) }
         ensures taken { IfOk result (λ emitted. Took emitted (taker_of (controller_of self.old.number) self.old.even self.old.odd) (taker_of (controller_of self.old.number) self.new.even self.new.odd)) }
         ensures other { other_of (controller_of self.old.number) self.new.even self.new.odd ≡ other_of (controller_of self.old.number) self.old.even self.old.odd }
         ensures err { OnErr result (AreSame self.old.even self.old.odd self.new.even self.new.odd) }
@@ -130,7 +179,7 @@ impl<
             return Err(WorkFault::NoRoom);
         };
         gate.reach(Point::Claimed, rt);
-        let ticket = self.fill(rt, alloc, claim, payload)?;
+        let ticket = self.fill(rt, alloc, claim, given)?;
         gate.reach(Point::Put, rt);
         let done = self.commit_fresh(rt, alloc, ticket, block)?;
         gate.reach(Point::Committed, rt);
@@ -149,27 +198,31 @@ impl<
         }
     }
 
-    // Fills the claimed slot; refused it is released.
+    // Fills the claimed slot with what is given; refused it is released.
     fn fill<R: Wait>(
         &mut self,
         rt: &R,
         alloc: Global,
         claim: slot_words::Claim<N>,
-        payload: &[u8],
+        given: Given,
     ) -> Result<Ticket, WorkFault>
-        requires { length payload.now ≡ self.old.book.now.payload }
+        requires { IsGivenFor self.old.book.now.payload given }
+        ensures filled { IfOk result (λ ticket. WasFilled N.blocks N.payload ticket (content_of given.entry)) }
         ensures fault { result ≢ Err (Core refusal.Memory) }
         ensures rest { (self.new.number ≡ self.old.number) × (self.new.book ≡ self.old.book) × (self.new.even ≡ self.old.even) × (self.new.odd ≡ self.old.odd) }
     {
         let book = self.book;
-        let filled = fill_in(
-            &mut *book.kept.lock(rt),
-            &book.words,
-            alloc,
-            Claim(claim),
-            payload,
-        );
-        self.or_released(filled)
+        let claim = Claim(claim);
+        match given {
+            Given::Payload(payload) => {
+                let filled = fill_in(&mut *book.kept.lock(rt), &book.words, alloc, claim, payload);
+                self.or_released(filled)
+            }
+            Given::Trim => {
+                let trimmed = trim_in(&mut *book.kept.lock(rt), &book.words, alloc, claim);
+                self.or_released(trimmed)
+            }
+        }
     }
 
     // The ticket; or why there is none, and then the slot is released.
@@ -177,6 +230,7 @@ impl<
         &mut self,
         placed: Result<Ticket, (Refusal, Claim<N>)>,
     ) -> Result<Ticket, WorkFault>
+        ensures ok { IfOk result (λ ticket. placed ≡ Ok ticket) }
         ensures fault { result ≢ Err (Core refusal.Memory) }
         ensures rest { (self.new.number ≡ self.old.number) × (self.new.book ≡ self.old.book) × (self.new.even ≡ self.old.even) × (self.new.odd ≡ self.old.odd) }
     {
@@ -199,6 +253,8 @@ impl<
     ) -> Result<Done<Claim<N>>, WorkFault>
         requires { block < self.old.book.now.blocks }
         ensures ok { IfOk result (λ done. (done.emitted.block ≡ block) × (0 < done.emitted.version) × (done.emitted.hop ≡ 0)) }
+        ensures committed { IfOk result (λ done. WasCommitted N.blocks N.payload ticket block done.emitted) }
+        ensures given_up { OnErr result (WasGivenUp N.blocks N.payload ticket) }
         ensures fault { result ≢ Err (Core refusal.Memory) }
         ensures rest { (self.new.number ≡ self.old.number) × (self.new.book ≡ self.old.book) × (self.new.even ≡ self.old.even) × (self.new.odd ≡ self.old.odd) }
     {
@@ -215,6 +271,7 @@ impl<
 
     // Ends a ticket, and releases its slot.
     fn give_up<R: Wait>(&mut self, rt: &R, ticket: Ticket)
+        ensures given_up { WasGivenUp N.blocks N.payload ticket }
         ensures rest { (self.new.number ≡ self.old.number) × (self.new.book ≡ self.old.book) × (self.new.even ≡ self.old.even) × (self.new.odd ≡ self.old.odd) }
     {
         let book = self.book;
@@ -269,7 +326,7 @@ impl<
 > Worker<'a, D, N, A, B> {
     /// Moves one block: where fewer mirrored slots than `low` are free, the one of those in mirrored groups that was written
     /// longest ago to where the write log goes on; else one by a plug, or where there is none by a clean. Its record is taken as
-    /// a write's. A plan that has grown old meanwhile is carried out all the same.
+    /// a write's. A plan is carried out even if other workers have changed the array since it was made.
     pub fn migrate<R: Wait, G: Gate>(
         &mut self,
         rt: &R,
@@ -277,6 +334,7 @@ impl<
         low: u32,
         gate: &G,
     ) -> Result<Migration, WorkFault>
+        ensures went { IfOk result (WentSo N.blocks N.payload self.old.book.now.mirrors.items low) }
         ensures taken { IfOk result (HasMigrated self.old.number self.old.even self.old.odd self.new.even self.new.odd) }
         ensures err { OnErr result (AreSame self.old.even self.old.odd self.new.even self.new.odd) }
         ensures other { other_of (controller_of self.old.number) self.new.even self.new.odd ≡ other_of (controller_of self.old.number) self.old.even self.old.odd }
@@ -307,7 +365,8 @@ impl<
 
     // What is moved next.
     fn plan<R: Wait>(&self, rt: &R, low: u32) -> Option<Plan>
-        ensures { MatchOption result (Unit {0}) (λ plan. plan.block < self.now.book.now.blocks) }
+        ensures block { MatchOption result (Unit {0}) (λ plan. plan.block < self.now.book.now.blocks) }
+        ensures planned { WasPlanned N.blocks N.payload self.now.book.now.mirrors.items low result }
     {
         let book = self.book;
         plan_in(&mut *book.kept.lock(rt), &book.mirrors, low)
@@ -322,6 +381,7 @@ impl<
         block: u32,
     ) -> Result<Ticket, WorkFault>
         requires { block < self.old.book.now.blocks }
+        ensures copied { IfOk result (λ ticket. (ticket ≡ claim.slot) × WasCopied N.blocks N.payload ticket block) }
         ensures fault { result ≢ Err (Core refusal.Memory) }
         ensures rest { (self.new.number ≡ self.old.number) × (self.new.book ≡ self.old.book) × (self.new.even ≡ self.old.even) × (self.new.odd ≡ self.old.odd) }
     {
@@ -347,6 +407,9 @@ impl<
     ) -> Result<Done<Claim<N>>, WorkFault>
         requires { plan.now.block < self.old.book.now.blocks }
         ensures ok { IfOk result (λ done. (done.emitted.block ≡ plan.now.block) × (0 < done.emitted.version)) }
+        ensures committed { IfOk result (λ done. WasCommitted N.blocks N.payload ticket plan.now.block done.emitted) }
+        ensures refused { (q : Refusal) → result ≡ Err (Core q) → WasRefused N.blocks N.payload ticket plan.now.block q }
+        ensures given_up { OnErr result (WasGivenUp N.blocks N.payload ticket) }
         ensures fault { result ≢ Err (Core refusal.Memory) }
         ensures rest { (self.new.number ≡ self.old.number) × (self.new.book ≡ self.old.book) × (self.new.even ≡ self.old.even) × (self.new.odd ≡ self.old.odd) }
     {
@@ -361,8 +424,8 @@ impl<
         }
     }
 
-    /// Tells a block by the newest record of it that the controller's words tell, or where that is stale by the array's newest,
-    /// which is taken into those words. None where they tell none.
+    /// Reads a block by the newest record of it in the controller's words, or where that is stale by the array's newest, which is
+    /// taken into those words. None where they have no record of it.
     pub fn read<R: Wait>(
         &mut self,
         rt: &R,
@@ -378,6 +441,10 @@ impl<
         ensures none { result ≡ Ok None
             → HasAsked (taker_of controller self.old.even self.old.odd) block 0 (taker_of controller self.new.even self.new.odd) }
         ensures err { OnErr result ((key : ℕ) × HasAsked (taker_of controller self.old.even self.old.odd) block key (taker_of controller self.new.even self.new.odd)) }
+        ensures learned { (reading : Lesson) → result ≡ Ok (Some reading) → (found : Record) × (found.block ≡ block) × WasLearned N.blocks N.payload found reading }
+        ensures refused { (q : Refusal) → result ≡ Err (Core q)
+            → (found : Record) × HasAsked (taker_of controller self.old.even self.old.odd) block (key_of found) (taker_of controller self.new.even self.new.odd)
+            × WasUnlearned N.blocks N.payload found q }
         ensures other { other_of controller self.new.even self.new.odd ≡ other_of controller self.old.even self.old.odd }
         ensures fault { result ≢ Err (Core refusal.Memory) }
         ensures rest { (self.new.number ≡ self.old.number) × (self.new.book ≡ self.old.book) }
@@ -395,7 +462,7 @@ impl<
         }
     }
 
-    // The newest record of the block that the controller's words tell.
+    // The newest record of the block in the controller's words.
     fn find(&mut self, controller: Controller, block: u32) -> Option<Record>
         requires { block < self.old.book.now.blocks }
         ensures newest { IsNewest (taker_of controller self.old.even self.old.odd) block (key_in result) }
@@ -410,7 +477,7 @@ impl<
         }
     }
 
-    // Takes what was learnt, where it isn't what was found.
+    // Takes what was learned, where it isn't what was found.
     fn learn(&mut self, controller: Controller, found: Record, told: Record)
         requires block { «told».block < self.old.book.now.blocks }
         requires written { 0 < «told».version }
@@ -438,8 +505,7 @@ impl<
     }
 }
 
-// A claim of a plan's slot, or where that is another's of the next that the plan tries. The lock is taken for each next one
-// alone, and no more are tried than there are slots.
+// A claim of a plan's slot, or where that is another's of the next that the plan tries. The lock is taken for each next one.
 fn claim_planned<R: Wait, D: Drive, N: slot_words::Naming + Sizes>(
     rt: &R,
     words: &SlotWords<N>,
@@ -448,15 +514,16 @@ fn claim_planned<R: Wait, D: Drive, N: slot_words::Naming + Sizes>(
     plan: &Plan,
 ) -> Option<slot_words::Claim<N>>
     requires { slots_of N.table ≡ 65536 }
+    ensures some { IfSome result (λ claim. IsTried N.blocks N.payload plan.now claim.slot) }
+    ensures none { IfNone result (HadNoRoom N.blocks N.payload plan.now) }
 {
     let mut slot = plan.slot?;
-    for _ in 0..65_536u32 {
+    loop {
         match words.claim(pass, slot) {
             Ok(claim) => return Some(claim),
             Err(_) => slot = slot_after(&*kept.lock(rt), plan, slot)?,
         }
     }
-    None
 }
 
 // Commits what a plan placed, and notes where the write log goes on, if the plan appends.
@@ -468,14 +535,21 @@ fn commit_and_append<D: Drive, N: slot_words::Naming + Sizes>(
 ) -> Result<Done<Claim<N>>, (Refusal, Ticket)>
     requires { plan.now.block < N.blocks }
     ensures ok { IfOk result (λ done. (done.emitted.block ≡ plan.now.block) × (0 < done.emitted.version)) }
+    ensures answered { MatchResult result (λ done. WasCommitted N.blocks N.payload ticket plan.now.block done.emitted)
+        (λ e. e.0 ≢ refusal.Memory → WasRefused N.blocks N.payload ticket plan.now.block e.0) }
+    ensures err { OnErr result ((kept.new.end ≡ kept.old.end) × (kept.new.ages ≡ kept.old.ages)) }
+    ensures ticket { IfErr result (λ e. e.1 ≡ ticket) }
     ensures appended { IfOk result (λ done. plan.now.appends ≡ true → kept.new.end ≡ end_at done.emitted.place) }
     ensures stays { plan.now.appends ≡ false → kept.new.end ≡ kept.old.end }
     ensures noted { IfOk result (λ done. HasNoted kept.old kept.new done.emitted) }
-    ensures err { OnErr result ((kept.new.end ≡ kept.old.end) × (kept.new.ages ≡ kept.old.ages)) }
 {
-    let done = commit_in(kept, alloc, ticket, plan.block)?;
-    if plan.appends {
-        appended_in(kept, done.emitted.record().place);
+    match commit_in(kept, alloc, ticket, plan.block) {
+        Ok(done) => {
+            if plan.appends {
+                appended_in(kept, done.emitted.record().place);
+            }
+            Ok(done)
+        }
+        Err(refused) => Err(refused),
     }
-    Ok(done)
 }

@@ -3,6 +3,7 @@ use Rattle.std.proofs.Common.{◌≡◌, vec_len, ℕ, ◌<◌, ◌≤◌, Bool,
 use Rattle.std.proofs.lemmas.List.{get_or_past, length-map}
 use Rattle.std.specs.Global.{Global}
 use Rattle.std.specs.Prelude.{slice_index}
+use Rattle.extents.specs.Failures.{Failures}
 use Rattle.array_parts.specs.declared.parts.Parts.{Parts}
 use Rattle.array_parts.specs.Fit.{IsFit}
 use Rattle.array_parts.specs.Views.{drive_view, view_of}
@@ -25,7 +26,7 @@ use Rattle.slot_tables.proofs.Adoptions.{all_keys, wants_placed}
 use Rattle.slot_tables.proofs.Places.{kepts_many}
 
 -- parts that fit stand by themselves
-pub fit_parts : {D : Type 0} (units : D → List (List ℕ)) (lost : D → Bool) (failures : D → ℕ) (p : Parts D) → IsFit units p → ArePartsOf (view_of units lost failures p)
+pub fit_parts : {D : Type 0} (units : D → List (List ℕ)) (lost : D → Bool) (failures : D → Failures) (p : Parts D) → IsFit units p → ArePartsOf (view_of units lost failures p)
 fit_parts {D} units lost failures p fit = record {
   sizes = shape_sizes p.shape p.groups fit.shape;
   groups = record { table = fit.groups; there = λ g k m at. let t = fit.drives.there g k m at in (subst (λ n. m.drive < n) many t.0, t.1) };
@@ -68,7 +69,7 @@ keys_told blocks M keys inside are b = go (either b)
     go (inl h) = are.same b h
     go (inr h) = get_or_past keys b 0 (let m = are.many in omega (arith, m, h)) ∙ none (M b) (inside b) h
 
-pub is_adopted : {D C : Type 0} (units : D → List (List ℕ)) (lost : D → Bool) (failures : D → ℕ) (names : C → ℕ) (parts : Parts D) (M : ℕ → ℕ) (claims : List C) (ready : Ready C) (places : Vec (Place C) Global) (live : List ℕ)
+pub is_adopted : {D C : Type 0} (units : D → List (List ℕ)) (lost : D → Bool) (failures : D → Failures) (names : C → ℕ) (parts : Parts D) (M : ℕ → ℕ) (claims : List C) (ready : Ready C) (places : Vec (Place C) Global) (live : List ℕ)
     → HasPlaces parts.groups M → AreReady names parts.groups M claims ready
     → ((s : ℕ) → get_or (kepts_of places.items) s Nothing ≡ kept_for (wanted_at ready.wanted.items s))
     → IsAdopted (view_of units lost failures parts) M (seen units lost failures (adopted parts ready places live))
@@ -80,7 +81,7 @@ is_adopted units lost failures names parts M claims ready places live has is kep
 }
 
 -- it keeps what every array keeps
-pub is_whole : {D C : Type 0} (units : D → List (List ℕ)) (lost : D → Bool) (failures : D → ℕ) (names : C → ℕ) (parts : Parts D) (M : ℕ → ℕ) (claims : List C) (ready : Ready C) (places : Vec (Place C) Global) (live : List ℕ)
+pub is_whole : {D C : Type 0} (units : D → List (List ℕ)) (lost : D → Bool) (failures : D → Failures) (names : C → ℕ) (parts : Parts D) (M : ℕ → ℕ) (claims : List C) (ready : Ready C) (places : Vec (Place C) Global) (live : List ℕ)
     → HasPlaces parts.groups M → AreReady names parts.groups M claims ready → IsFit units parts → length places.items ≤ 65536
     → IsAdopted (view_of units lost failures parts) M (seen units lost failures (adopted parts ready places live))
     → IsWhole (seen units lost failures (adopted parts ready places live))

@@ -40,8 +40,8 @@ some_class segments (Some group) i low = λ e. let bad : Some group.class ≡ No
 -- nothing is kept of a slot that the array holds for nobody
 nothing_kept : (kept : Kept) → is_kept kept ≡ false → kept ≡ Nothing
 nothing_kept Nothing e = refl
-nothing_kept Pending e = absurd (cc)
-nothing_kept (Moving r) e = absurd (cc)
+nothing_kept (Pending k) e = absurd (cc)
+nothing_kept (Moving r k) e = absurd (cc)
 nothing_kept (Newest b) e = absurd (cc)
 nothing_kept Unmade e = absurd (cc)
 

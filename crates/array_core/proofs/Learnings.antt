@@ -1,6 +1,7 @@
 -- What is learned of a record that may be stale is the flat machine's.
 use Rattle.std.proofs.Common.{◌≡◌, ◌≤◌, ℕ, refl, sym, ap, ◌∙◌, subst, inl, inr, Option, Some, List, length, Vec}
 use Rattle.std.specs.Global.{Global}
+use Rattle.extents.specs.declared.header.Kind.{Kind}
 use Rattle.std.specs.Vec.{with_items}
 use Rattle.std.proofs.lemmas.List.{with_items_is}
 use Rattle.map_join.specs.declared.records.Record.{Record}
@@ -8,7 +9,7 @@ use Rattle.map_join.specs.Record.{key_of, record_at}
 use Rattle.array_parts.specs.Views.{Loses, WasRead, FoundGone}
 use Rattle.flat_machine.specs.declared.refusal.Refusal.{Refusal}
 use Rattle.flat_machine.specs.declared.refusal.Refusal.TheVariants.{Ahead}
-use Rattle.flat_machine.specs.Flat.{Flat, Payload, last_write}
+use Rattle.flat_machine.specs.Flat.{Flat, Content, content_under, last_write}
 use Rattle.flat_machine.specs.Steps.{Seen, Data, Stale}
 use Rattle.flat_machine.specs.Cases.{IsAhead, IsBehind}
 use Rattle.flat_machine.specs.Learning.{LearnedCase, UnlearnedCase}
@@ -24,8 +25,9 @@ use Rattle.array_model.proofs.Seeing.{seen_case}
 use Rattle.array_core.specs.Refused.{IsRefused}
 
 -- the payload that was seen is that of a vector that it was written to
-pub data_seen : (a b : ArrayView) (r : Record) (v : Vec ℕ Global) (ws : List ℕ) → length ws ≡ v.len → WasSeen a b r (Data (Payload ws)) → WasSeen a b r (Data (Payload (with_items v ws).items))
-data_seen a b r v ws long seen = subst (λ (l : List ℕ). WasSeen a b r (Data (Payload l))) (sym (with_items_is v ws long)) seen
+pub data_seen : (a b : ArrayView) (r : Record) (k : Kind) (v : Vec ℕ Global) (ws : List ℕ) → length ws ≡ v.len → WasSeen a b r (Data (content_under k ws))
+    → WasSeen a b r (Data (content_under k (with_items v ws).items))
+data_seen a b r k v ws long seen = subst (λ (l : List ℕ). WasSeen a b r (Data (content_under k l))) (sym (with_items_is v ws long)) seen
 
 -- the array tells this as the newest record of the block, and the one asked for isn't greater
 pub record Tells (a : ArrayView) (r n : Record) : Type 0 where
@@ -40,17 +42,17 @@ told_again : (a m : ArrayView) (r n : Record) → m ≡ with_parts a m.parts →
 told_again a m r n rest tells = subst (λ (v : ArrayView). record_at r.block (key_at v r.block) ≡ Some n) (sym rest) tells.told
 
 -- the record lies at its place
-pub learned_here : (a b : ArrayView) (F : Flat) (r n : Record) (payload : List ℕ) → ShowsArray a F → Tells a r n → b ≡ with_parts a b.parts → WasSeen a b r (Data (Payload payload))
-    → (G : Flat) × LearnedCase F r r (Payload payload) G × ShowsArray b G
-learned_here a b F r n payload shows tells rest was =
-    let y = seen_case a b F r n (Data (Payload payload)) shows tells.told tells.most rest was in
-    (y.0, (y.1.0, (λ gone. y.1.1 (gone_stays F y.0 r.place y.1.3 gone)), (Data (Payload payload), y.1.2, (refl, refl)), y.1.1, y.1.3), y.2)
+pub learned_here : (a b : ArrayView) (F : Flat) (r n : Record) (x : Content) → ShowsArray a F → Tells a r n → b ≡ with_parts a b.parts → WasSeen a b r (Data x)
+    → (G : Flat) × LearnedCase F r r x G × ShowsArray b G
+learned_here a b F r n x shows tells rest was =
+    let y = seen_case a b F r n (Data x) shows tells.told tells.most rest was in
+    (y.0, (y.1.0, (λ gone. y.1.1 (gone_stays F y.0 r.place y.1.3 gone)), (Data x, y.1.2, (refl, refl)), y.1.1, y.1.3), y.2)
 
 -- another does, and the newest place was read
-pub learned_there : (a m b : ArrayView) (F : Flat) (r n : Record) (found : Option Record) (payload : List ℕ) → ShowsArray a F → Tells a r n
-    → m ≡ with_parts a m.parts → WasSeen a m r (Stale found) → b ≡ with_parts m b.parts → WasRead m.parts b.parts n.place payload
-    → (G : Flat) × LearnedCase F r n (Payload payload) G × ShowsArray b G
-learned_there a m b F r n found payload shows tells rest was last read =
+pub learned_there : (a m b : ArrayView) (F : Flat) (r n : Record) (found : Option Record) (x : Content) → ShowsArray a F → Tells a r n
+    → m ≡ with_parts a m.parts → WasSeen a m r (Stale found) → b ≡ with_parts m b.parts → WasRead m.parts b.parts n.place x
+    → (G : Flat) × LearnedCase F r n x G × ShowsArray b G
+learned_there a m b F r n found x shows tells rest was last read =
     let y = seen_case a m F r n (Stale found) shows tells.told tells.most rest was in
     let M : Flat = y.0 in
     let u = read.unit M.units y.2.units in
@@ -60,7 +62,7 @@ learned_there a m b F r n found payload shows tells rest was last read =
       (
         behind a F r n shows tells,
         (λ gone. y.1.1 (gone_stays F M r.place y.1.3 gone)),
-        (Stale found, y.1.2, (newest_is a F r.block (Some n) shows tells.told, (w.0, writes, ap (λ p. Payload p) u.2 ∙ w.2 u.0 u.1))),
+        (Stale found, y.1.2, (newest_is a F r.block (Some n) shows tells.told, (w.0, writes, u.2 ∙ w.2 u.0 u.1))),
         (λ gone. read.there (gone_back M m.parts b.parts n.place y.2.tables.groups read.loses.rest gone)),
         leaves_more F M (fared M b.parts) y.1.3 (lost_leaves m M b.parts y.2 read.loses),
       ),

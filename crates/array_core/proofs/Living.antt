@@ -55,8 +55,8 @@ lists_so a group (suc index) whole few = go (lists_so a group index whole (omega
 
     go : ListsSo a group index → (k : Kept) → kept_at a slot ≡ k → ListsSo a group (suc index)
     go h Nothing e = skip (ap is_newest e) (ap block_in e) h
-    go h Pending e = skip (ap is_newest e) (ap block_in e) h
-    go h (Moving r) e = skip (ap is_newest e) (ap block_in e) h
+    go h (Pending k) e = skip (ap is_newest e) (ap block_in e) h
+    go h (Moving r k) e = skip (ap is_newest e) (ap block_in e) h
     go h (Newest b) e = more b e h
     go h Unmade e = skip (ap is_newest e) (ap block_in e) h
 

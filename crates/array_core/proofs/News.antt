@@ -3,6 +3,7 @@ use Rattle.std.proofs.Common.{◌≡◌, ℕ, ◌*◌, ◌+◌, ◌≤◌, Bool,
 use Rattle.std.proofs.lemmas.List.{length-map, length-replicate}
 use Rattle.std.specs.Global.{Global}
 use Rattle.std.specs.Prelude.{slice_index}
+use Rattle.extents.specs.Failures.{Failures}
 use Rattle.map_join.specs.declared.records.Record.{Record}
 use Rattle.extents.specs.Owners.{Owners}
 use Rattle.extents.specs.Sizes.{extent_units}
@@ -41,7 +42,7 @@ of_tables shape t drives log live = record {
   scratch = t.scratch;
 }
 
-pub is_new : {D C : Type 0} (units : D → List (List ℕ)) (lost : D → Bool) (failures : D → ℕ) (shape : Shape) (t : Tables C) (drives : Vec D Global) (log : Vec Record Global) (live : List ℕ) (n : ℕ)
+pub is_new : {D C : Type 0} (units : D → List (List ℕ)) (lost : D → Bool) (failures : D → Failures) (shape : Shape) (t : Tables C) (drives : Vec D Global) (log : Vec Record Global) (live : List ℕ) (n : ℕ)
     → n ≡ length drives.items → log.items ≡ [] → AreDrives drive_units t.groups (map (drive_view units lost failures) drives.items) → AreNew shape n t → IsNew (seen units lost failures (of_tables shape t drives log live))
 is_new units lost failures shape t drives log live n count none are new = record {
   empty = new.empty;

@@ -4,6 +4,7 @@ use Rattle.std.proofs.Math.ListN.{set}
 use Rattle.std.specs.Global.{Global}
 use Rattle.std.specs.List.{length_refill}
 use Rattle.std.specs.Vec.{with_items}
+use Rattle.extents.specs.Failures.{Failures}
 use Rattle.extent_groups.specs.Groups.{Groups}
 use Rattle.extent_groups.specs.Stores.{unit_bytes}
 use Rattle.array_parts.specs.declared.parts.Parts.{Parts}
@@ -53,14 +54,14 @@ uncarried_keeps a b from to q (inl gone) = loses_keeps a b gone.loses
 uncarried_keeps a b from to q (inr gone) = loses_keeps a b gone.1.loses
 
 -- an array is whole with other drives of the same tables
-pub still_whole : {D C : Type 0} (units : D → List (List ℕ)) (lost : D → Bool) (failures : D → ℕ) (a : Inside D C) (p : Parts D)
+pub still_whole : {D C : Type 0} (units : D → List (List ℕ)) (lost : D → Bool) (failures : D → Failures) (a : Inside D C) (p : Parts D)
     → Keeps (view_of units lost failures a.parts) (view_of units lost failures p) → IsFit units p → IsWhole (seen units lost failures a)
     → IsWhole (seen units lost failures (record a { parts = p }))
 still_whole units lost failures a p same fit whole =
     whole_parts (seen units lost failures a) (view_of units lost failures p) same.tables same.many (view_drives units lost failures p fit.drives) whole
 
 -- and ready, its buffers written over
-pub still_ready : {D C : Type 0} (units : D → List (List ℕ)) (lost : D → Bool) (failures : D → ℕ) (a : Inside D C) (p : Parts D) (unit scratch : List ℕ)
+pub still_ready : {D C : Type 0} (units : D → List (List ℕ)) (lost : D → Bool) (failures : D → Failures) (a : Inside D C) (p : Parts D) (unit scratch : List ℕ)
     → Keeps (view_of units lost failures a.parts) (view_of units lost failures p) → IsFit units p → IsReady units a
     → IsReady units (record a { parts = p; unit = with_items a.unit unit; scratch = with_items a.scratch scratch })
 still_ready units lost failures a p unit scratch same fit ready =
@@ -73,7 +74,7 @@ still_ready units lost failures a p unit scratch same fit ready =
     }
 
 -- so all of it stands that is always true of an array
-pub still_stands : {D C Claims : Type 0} (units : D → List (List ℕ)) (lost : D → Bool) (failures : D → ℕ) (a : Inside D C) (p : Parts D) (unit scratch : List ℕ)
+pub still_stands : {D C Claims : Type 0} (units : D → List (List ℕ)) (lost : D → Bool) (failures : D → Failures) (a : Inside D C) (p : Parts D) (unit scratch : List ℕ)
     → Keeps (view_of units lost failures a.parts) (view_of units lost failures p) → IsFit units p → IsWhole (seen units lost failures a) × Claims × IsReady units a
     → IsWhole (seen units lost failures (record a { parts = p })) × Claims
     × IsReady units (record a { parts = p; unit = with_items a.unit unit; scratch = with_items a.scratch scratch })
@@ -116,7 +117,7 @@ parts_ready units a p same fit ready = let groups = ap (λ (z : Groups). unit_by
     record { fit = fit; unit = ready.unit ∙ groups; scratch = ready.scratch ∙ ap (λ n. 2 * n) groups; places = subst (λ (z : Groups). HavePlaces z (vec_len a.places)) (sym same) ready.places; live = ready.live }
 
 -- with a group fewer, and other places
-pub taken_ready : {D C : Type 0} (units : D → List (List ℕ)) (lost : D → Bool) (failures : D → ℕ) (a : Inside D C) (p : Parts D) (places : Vec (Place C) Global) (g : ℕ)
+pub taken_ready : {D C : Type 0} (units : D → List (List ℕ)) (lost : D → Bool) (failures : D → Failures) (a : Inside D C) (p : Parts D) (places : Vec (Place C) Global) (g : ℕ)
     → WasTaken (view_of units lost failures a.parts) g (view_of units lost failures p) → 128 * g + 128 ≤ vec_len a.places → vec_len places ≡ vec_len a.places → IsFit units p → AreCounts (kepts_of places.items) a.live → IsReady units a
     → IsReady units (record a { parts = p; places = places })
 taken_ready units lost failures a p places g taken enough same fit counts ready = let groups = ap (λ (z : Groups). unit_bytes z) (sym taken.groups) in

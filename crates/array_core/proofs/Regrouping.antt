@@ -1,5 +1,6 @@
 -- What an array keeps by itself, with a drive more or a member on another extent; and what comes of a move.
 use Rattle.std.proofs.Common.{◌≡◌, ℕ, Bool, false, ap, sym, subst, None, Result, Ok, Err, IfOk, OnErr, OnOk, IfErr, MatchResult}
+use Rattle.extents.specs.Failures.{Failures}
 use Rattle.extent_groups.specs.declared.class.Member.{Member}
 use Rattle.std.specs.Prelude.{length}
 use Rattle.extent_groups.specs.Stores.{AreDrives}
@@ -17,12 +18,12 @@ use Rattle.array_model.proofs.Regroups.{added_whole, move_case, move_passes, mov
 use Rattle.array_core.proofs.Ready.{as_refused}
 
 -- whether a drive was added or not, the array is whole, and its groups are as they were
-pub grown_whole : {T E : Type 0} (a : ArrayView) (v : PartsView) (lost : Bool) (failures : ℕ) (r : Result T E) → IsWhole a → IfOk r (λ x. WasAdded a.parts lost failures v)
+pub grown_whole : {T E : Type 0} (a : ArrayView) (v : PartsView) (lost : Bool) (failures : Failures) (r : Result T E) → IsWhole a → IfOk r (λ x. WasAdded a.parts lost failures v)
     → OnErr r (v ≡ a.parts) → AreDrives drive_units v.groups v.drives → IsWhole (with_parts a v)
 grown_whole a v lost failures (Ok x) whole added same drives = added_whole a v lost failures whole added drives
 grown_whole a v lost failures (Err e) whole added same drives = subst (λ p. IsWhole (with_parts a p)) (sym same) whole
 
-pub grown_groups : {T E : Type 0} (a v : PartsView) (lost : Bool) (failures : ℕ) (r : Result T E) → IfOk r (λ x. WasAdded a lost failures v) → OnErr r (v ≡ a) → v.groups ≡ a.groups
+pub grown_groups : {T E : Type 0} (a v : PartsView) (lost : Bool) (failures : Failures) (r : Result T E) → IfOk r (λ x. WasAdded a lost failures v) → OnErr r (v ≡ a) → v.groups ≡ a.groups
 grown_groups a v lost failures (Ok x) added same = added.groups
 grown_groups a v lost failures (Err e) added same = ap (λ (p : PartsView). p.groups) same
 

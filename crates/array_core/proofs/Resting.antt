@@ -20,8 +20,8 @@ claims_rest {C} names claims a F shows rests open_all are = record {
 
     single : (kept : Kept) (b : ℕ) → is_newest kept b ≡ true → claims_in kept ≡ 1
     single Nothing b e = absurd (let n = e in cc)
-    single Pending b e = refl
-    single (Moving r) b e = refl
+    single (Pending k) b e = refl
+    single (Moving r k) b e = refl
     single (Newest c) b e = refl
     single Unmade b e = refl
 
@@ -31,7 +31,7 @@ claims_rest {C} names claims a F shows rests open_all are = record {
     found : (slot : ℕ) → 0 < how_many names claims slot → (kept : Kept) → ArraySlot slot kept (F.held slot) (F.tickets slot) → how_many names claims slot ≡ claims_in kept
         → (b : ℕ) × (0 < key_at a b) × ((record_of b (key_at a b)).place ≡ slot)
     found slot some Nothing tells e = absurd (omega (arith, some, e))
-    found slot some Pending tells e = absurd (let w = tells.waits.1 in let n = rests slot in cc)
-    found slot some (Moving r) tells e = absurd (let w = tells.waits.1 in let n = rests slot in cc)
+    found slot some (Pending k) tells e = absurd (let w = tells.waits.1 in let n = rests slot in cc)
+    found slot some (Moving r k) tells e = absurd (let w = tells.waits.1 in let n = rests slot in cc)
     found slot some (Newest b) tells e = let h = (shows.history.holders slot).block b (tells.blocks b ∙ same b) in (b, h.0, h.1)
     found slot some Unmade tells e = absurd (let n = sym (open_all slot (slot / 128)) ∙ tells.shut (slot / 128) ∙ same (slot / 128) in cc)

@@ -1,5 +1,6 @@
 -- An array as plain data, and what it keeps by itself for the calls of its drives.
 use Rattle.std.specs.Prelude.{◌≡◌, ℕ, ◌*◌, Bool, List, length, vec_len}
+use Rattle.extents.specs.Failures.{Failures}
 use Rattle.extent_groups.specs.Stores.{unit_bytes}
 use Rattle.array_parts.specs.Fit.{IsFit}
 use Rattle.array_parts.specs.Views.{view_of}
@@ -8,7 +9,7 @@ use Rattle.array_core.specs.declared.array.Array.TheInside.{Inside}
 use Rattle.slot_tables.specs.Kept.{kepts_of, HavePlaces}
 use Rattle.slot_tables.specs.Counted.{AreCounts}
 
-abbrev pub seen : {D C : Type 0} → (D → List (List ℕ)) → (D → Bool) → (D → ℕ) → Inside D C → ArrayView
+abbrev pub seen : {D C : Type 0} → (D → List (List ℕ)) → (D → Bool) → (D → Failures) → Inside D C → ArrayView
 seen units lost failures a = record {
   parts = view_of units lost failures a.parts;
   log = a.log.items;

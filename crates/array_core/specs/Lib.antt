@@ -5,3 +5,4 @@ pub mod Reads
 pub mod Losing
 pub mod Claimed
 pub mod Shifting
+pub mod Waits

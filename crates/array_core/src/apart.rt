@@ -44,11 +44,11 @@ fn apart_at<C: Hold, W: Apart<C>>(places: &mut Vec<Place<C>>, words: &W, slot: u
     }
     match &mut places[usize::from(slot)] {
         Place::Free => {}
-        Place::Pending(kept) => {
+        Place::Pending(_, kept) => {
             words.apart(kept, claim);
             unreachable!()
         }
-        Place::Moving(_, kept) => {
+        Place::Moving(_, _, kept) => {
             words.apart(kept, claim);
             unreachable!()
         }

@@ -156,8 +156,8 @@ impl<D: Drive, C: Hold> Array<D, C> {
     {
         match place_at(&self.places, slot) {
             Some(Place::Free) => false,
-            Some(Place::Pending(_)) => true,
-            Some(Place::Moving(_, _)) => true,
+            Some(Place::Pending(_, _)) => true,
+            Some(Place::Moving(_, _, _)) => true,
             Some(Place::Newest(_, _)) => true,
             Some(Place::Unmade(_)) => true,
             None => false,
@@ -170,8 +170,8 @@ impl<D: Drive, C: Hold> Array<D, C> {
     {
         match place_at(&self.places, slot) {
             Some(Place::Free) => false,
-            Some(Place::Pending(_)) => true,
-            Some(Place::Moving(_, _)) => true,
+            Some(Place::Pending(_, _)) => true,
+            Some(Place::Moving(_, _, _)) => true,
             Some(Place::Newest(_, _)) => false,
             Some(Place::Unmade(_)) => false,
             None => false,
@@ -200,8 +200,8 @@ impl<D: Drive, C: Hold> Array<D, C> {
     {
         match place_at(&self.places, slot) {
             Some(Place::Free) => None,
-            Some(Place::Pending(_)) => None,
-            Some(Place::Moving(_, _)) => None,
+            Some(Place::Pending(_, _)) => None,
+            Some(Place::Moving(_, _, _)) => None,
             Some(Place::Newest(block, _)) => Some(*block),
             Some(Place::Unmade(_)) => None,
             None => None,

@@ -7,19 +7,19 @@ ghost use Rattle.extents.specs.declared.header.Header.TheVariants.{Is};
 ghost use Rattle.flat_machine.specs.Steps as say;
 ghost use Rattle.flat_machine.specs.Flat.{Flat, Ticket as ticket_of, IsNewest};
 ghost use Rattle.flat_machine.specs.Cases.{CommitCase, IsWanted, next_version};
-ghost use Rattle.array_model.specs.Views.{Nothing, Newest, is_waiting, key_at, with_parts};
+ghost use Rattle.array_model.specs.Views.{Nothing, Newest, is_waiting, kept_at, key_at, with_parts};
 ghost use Rattle.array_parts.specs.Views.{WasCarried};
 ghost use Rattle.slot_tables.specs.Kept.{kepts_of, AreOf};
 ghost use Rattle.slot_tables.specs.Counted.{AreCounts};
 ghost use Rattle.array_core.specs.Refused.{IsRefused};
-ghost use Rattle.array_model.specs.Changes.{commit_view, commit_reason, commit_record, version_reason, stamp_reason, passed, IsPlaceOf, MayRefuse};
+ghost use Rattle.array_model.specs.Changes.{commit_view, commit_reason, commit_record, kind_given, version_reason, stamp_reason, passed, IsPlaceOf, MayRefuse};
 ghost use Rattle.array_model.specs.Represents.{ShowsArray};
 
 use crate::array::Array;
 use crate::live::{one_fewer, one_more};
 use crate::ticket::Ticket;
 use extent_groups::GROUPS;
-use extents::{Drive, Header};
+use extents::{Drive, Header, Kind};
 use flat_machine::Refusal;
 use map_join::Record;
 use slot_tables::{Hold, Place, place_at, put_in, take_out, take_waiting};
@@ -68,8 +68,8 @@ pub struct Done<C: Hold> {
 }
 
 impl<D: Drive, C: Hold> Array<D, C> {
-    /// Commits a slot that waits: it becomes the newest place of the block, a fresh payload under the
-    /// next version, a copy under the same version one hop on. A copy that a newer record outran stays
+    /// Commits a slot that waits: it becomes the newest place of the block, a fresh payload or trim under
+    /// the next version, a copy under the same version one hop on. A copy that a newer record outran stays
     /// a ticket, to be discarded; so does one whose slot is gone.
     pub fn commit(
         &mut self,
@@ -82,7 +82,7 @@ impl<D: Drive, C: Hold> Array<D, C> {
             (self.new ≡ commit_view (with_parts self.old self.new.parts) ticket block (record_at block (key_at self.old block)) done.emitted)
             × (done.emitted ≡ commit_record self.old ticket block (record_at block (key_at self.old block)))
             × IsPlaceOf C.names done.old (record_at block (key_at self.old block))
-            × WasCarried self.old.parts self.new.parts ticket ticket (Is done.emitted)) }
+            × WasCarried self.old.parts self.new.parts ticket ticket (Is done.emitted (kind_given (kept_at self.old ticket)))) }
         ensures err { IfErr result (λ e. (e.1 ≡ ticket) × IsRefused self.old self.new e.0) }
         ensures flat { (F : Flat) (w : ℕ) → ShowsArray self.old F → (F.tickets ticket ≢ None → F.held ticket (ticket_of w) ≡ true)
             → MatchResult result
@@ -97,12 +97,13 @@ impl<D: Drive, C: Hold> Array<D, C> {
             Ok(record) => record,
             Err(refusal) => return Err((refusal, ticket)),
         };
+        let kind = self.waiting_kind(slot);
         if self.log.reserve(1).is_err() {
             return Err((Refusal::Memory, ticket));
         }
         let unit: &mut [u8] = &mut self.unit;
         let scratch: &mut [u8] = &mut self.scratch;
-        let header = Header::Is(record);
+        let header = Header::Is(record, kind);
         if let Err(refusal) = self.parts.carry(slot, slot, &header, unit, scratch) {
             return Err((refusal, ticket));
         }
@@ -122,8 +123,8 @@ impl<D: Drive, C: Hold> Array<D, C> {
         ensures err { IfErr result (λ refusal. commit_reason self.now slot block found ≡ Some refusal) }
     {
         let next = match place_at(&self.places, slot) {
-            Some(Place::Pending(_)) => written(block, slot, found),
-            Some(Place::Moving(source, _)) => moved(*source, block, slot, found),
+            Some(Place::Pending(_, _)) => written(block, slot, found),
+            Some(Place::Moving(source, _, _)) => moved(*source, block, slot, found),
             Some(Place::Free) => Err(Refusal::NoTicket),
             Some(Place::Newest(_, _)) => Err(Refusal::NoTicket),
             Some(Place::Unmade(_)) => Err(Refusal::NoTicket),
@@ -133,6 +134,20 @@ impl<D: Drive, C: Hold> Array<D, C> {
             return Err(Refusal::LogFull);
         }
         next
+    }
+
+    // The kind of what waits at the slot.
+    fn waiting_kind(&self, slot: u16) -> Kind
+        ensures { result ≡ kind_given (kept_at self.now slot) }
+    {
+        match place_at(&self.places, slot) {
+            Some(Place::Pending(kind, _)) => *kind,
+            Some(Place::Moving(_, kind, _)) => *kind,
+            Some(Place::Free) => Kind::Data,
+            Some(Place::Newest(_, _)) => Kind::Data,
+            Some(Place::Unmade(_)) => Kind::Data,
+            None => Kind::Data,
+        }
     }
 }
 
@@ -159,8 +174,8 @@ fn let_go<C: Hold>(
     match take_out(places, record.place) {
         Place::Newest(_, claim) => Some(claim),
         Place::Free => unreachable!(),
-        Place::Pending(_claim) => unreachable!(),
-        Place::Moving(_, _claim) => unreachable!(),
+        Place::Pending(_, _claim) => unreachable!(),
+        Place::Moving(_, _, _claim) => unreachable!(),
         Place::Unmade(_claim) => unreachable!(),
     }
 }

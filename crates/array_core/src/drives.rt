@@ -1,16 +1,15 @@
 // What an array has its drives do for a slot, and for a group that is made. All but its parts stays as it was, and what it keeps of
 // a group's number that is made.
 ghost use Rattle.std.specs.Prelude.{◌≡◌, ◌⊎◌, ◌*◌, ◌≤◌, length, vec_len, vec_capacity, OnOk, OnErr, IfOk, IfErr, Some, None};
-ghost use Rattle.extents.specs.Header.{IsHeader};
 ghost use Rattle.extents.specs.declared.shape.TheConstants.{HEADER_BYTES};
 ghost use Rattle.extent_groups.specs.Faults.{put_fault};
 ghost use Rattle.extent_groups.specs.Groups.{AreThere};
 ghost use Rattle.extent_groups.specs.Stores.{unit_of, header_of, AreSound, KeepsUnits};
-ghost use Rattle.flat_machine.specs.Flat.{Payload, waiting_unit};
+ghost use Rattle.flat_machine.specs.Flat.{Payload, Trim, content_under, waiting_unit};
 ghost use Rattle.flat_machine.specs.Groups.{IsLowestFree};
 ghost use Rattle.array_parts.specs.Slots.{IsSlot};
 ghost use Rattle.array_core.specs.Refused.{OnlyLoses};
-ghost use Rattle.array_parts.specs.Views.{cells_of, seen_of, FoundGone, WasPut, WasCarried, WasNotCarried, WasRead, SawUnit, Entered, FoundLost};
+ghost use Rattle.array_parts.specs.Views.{cells_of, seen_of, FoundGone, WasPut, WasCopied, WasNotCarried, WasRead, SawUnit, Entered, FoundLost};
 ghost use Rattle.array_model.specs.Views.{with_parts, IsWhole};
 ghost use Rattle.array_model.specs.Making.{IsMakeReason};
 ghost use Rattle.array_model.specs.Changes.{opened_view, IsOpened};
@@ -19,7 +18,7 @@ ghost use Rattle.slot_tables.specs.Shut.{AreShutOf};
 use crate::array::Array;
 use array_parts::Sight;
 use extent_groups::{Class, Member};
-use extents::{Drive, Header};
+use extents::{Drive, Kind};
 use flat_machine::Refusal;
 use map_join::Record;
 use slot_tables::{Hold, grow_to, open_number};
@@ -39,26 +38,38 @@ impl<D: Drive, C: Hold> Array<D, C> {
         self.parts.put(slot, payload, unit, scratch)
     }
 
-    // Writes what a slot holds into a slot, under another header.
-    pub(crate) fn carry(&mut self, from: u16, to: u16, header: &Header) -> Result<(), Refusal>
+    // Writes a unit that waits to be a trim.
+    pub(crate) fn put_trim(&mut self, slot: u16) -> Result<(), Refusal>
+        requires { IsSlot self.old.parts.groups slot }
+        ensures ok { OnOk result (WasPut self.old.parts self.new.parts slot (waiting_unit self.old.parts.groups.payload Trim)) }
+        ensures err { IfErr result (FoundGone self.old.parts self.new.parts slot) }
+        ensures rest { self.new ≡ with_parts self.old self.new.parts }
+        ensures whole { IsWhole self.old }
+    {
+        let unit: &mut [u8] = &mut self.unit;
+        let scratch: &mut [u8] = &mut self.scratch;
+        self.parts.put_trim(slot, unit, scratch)
+    }
+
+    // Writes what a slot holds into a slot where it waits, and tells its kind.
+    pub(crate) fn carry(&mut self, from: u16, to: u16) -> Result<Kind, Refusal>
         requires from { IsSlot self.old.parts.groups from }
         requires to { IsSlot self.old.parts.groups to }
-        requires header { IsHeader header.now }
-        ensures ok { OnOk result (WasCarried self.old.parts self.new.parts from to header.now) }
+        ensures ok { IfOk result (WasCopied self.old.parts self.new.parts from to) }
         ensures err { IfErr result (WasNotCarried self.old.parts self.new.parts from to) }
         ensures rest { self.new ≡ with_parts self.old self.new.parts }
         ensures whole { IsWhole self.old }
     {
         let unit: &mut [u8] = &mut self.unit;
         let scratch: &mut [u8] = &mut self.scratch;
-        self.parts.carry(from, to, header, unit, scratch)
+        self.parts.copy(from, to, unit, scratch)
     }
 
-    // Reads the payload of a slot.
-    pub(crate) fn payload_at(&mut self, slot: u16, payload: &mut [u8]) -> Result<(), Refusal>
+    // Reads what a slot holds: its kind, and the payload.
+    pub(crate) fn payload_at(&mut self, slot: u16, payload: &mut [u8]) -> Result<Kind, Refusal>
         requires slot { IsSlot self.old.parts.groups slot }
         requires payload { length payload.old ≡ self.old.parts.groups.payload }
-        ensures ok { OnOk result (WasRead self.old.parts self.new.parts slot payload.new) }
+        ensures ok { IfOk result (λ kind. WasRead self.old.parts self.new.parts slot (content_under kind payload.new)) }
         ensures err { IfErr result (FoundGone self.old.parts self.new.parts slot) }
         ensures rest { self.new ≡ with_parts self.old self.new.parts }
         ensures whole { IsWhole self.old }

@@ -28,8 +28,8 @@ fn hand_over<C: Hold, T: TakeBack<C>>(mut places: Vec<Place<C>>, to: &mut T) {
     while let Some(place) = places.pop() {
         match place {
             Place::Free => {}
-            Place::Pending(claim) => to.take_back(claim),
-            Place::Moving(_, claim) => to.take_back(claim),
+            Place::Pending(_, claim) => to.take_back(claim),
+            Place::Moving(_, _, claim) => to.take_back(claim),
             Place::Newest(_, claim) => to.take_back(claim),
             Place::Unmade(claim) => to.take_back(claim),
         }

@@ -3,6 +3,7 @@ ghost use Rattle.std.specs.Prelude.{◌≡◌, ℕ, length, MatchResult, IfOk, I
 ghost use Rattle.flat_machine.specs.Steps as say;
 ghost use Rattle.flat_machine.specs.Flat.{Flat, Worker, Payload, waiting_unit};
 ghost use Rattle.flat_machine.specs.Cases.{FillCase, FillPasses};
+ghost use Rattle.extents.specs.declared.header.Kind.TheVariants as kind;
 ghost use Rattle.array_parts.specs.Views.{WasPut};
 ghost use Rattle.array_model.specs.Changes.{fill_view, fill_reason, MayRefuse};
 ghost use Rattle.array_model.specs.Represents.{ShowsArray};
@@ -11,7 +12,7 @@ ghost use Rattle.array_core.specs.Refused.{IsRefused};
 
 use crate::array::Array;
 use crate::ticket::Ticket;
-use extents::Drive;
+use extents::{Drive, Kind};
 use flat_machine::{Class, Refusal};
 use slot_tables::{Hold, Place, put_in};
 use std::alloc::Global;
@@ -21,7 +22,7 @@ impl<D: Drive, C: Hold> Array<D, C> {
     /// gone where neither copy can be written, and then other slots are as they were.
     pub fn fill(&mut self, _alloc: Global, claim: C, payload: &[u8]) -> Result<Ticket, (Refusal, C)>
         requires { length payload.now ≡ self.old.parts.groups.payload }
-        ensures ticket { IfOk result (λ ticket. (ticket ≡ C.names claim) × (self.new ≡ fill_view (with_parts self.old self.new.parts) ticket)
+        ensures ticket { IfOk result (λ ticket. (ticket ≡ C.names claim) × (self.new ≡ fill_view (with_parts self.old self.new.parts) ticket kind.Data)
             × WasPut self.old.parts self.new.parts ticket (waiting_unit self.old.parts.groups.payload (Payload payload.now))) }
         ensures err { IfErr result (λ e. (e.1 ≡ claim) × IsRefused self.old self.new e.0) }
         ensures flat { (F : Flat) (w : ℕ) → ShowsArray self.old F → F.held (C.names claim) (Worker w) ≡ true
@@ -38,12 +39,12 @@ impl<D: Drive, C: Hold> Array<D, C> {
         if let Err(refusal) = self.put(slot, payload) {
             return Err((refusal, claim));
         }
-        put_in(&mut self.places, slot, Place::Pending(claim));
+        put_in(&mut self.places, slot, Place::Pending(Kind::Data, claim));
         Ok(Ticket::of(slot))
     }
 
-    // Why a fresh payload can't go into the slot.
-    fn fill_fault(&self, slot: u16) -> Option<Refusal>
+    // Why a fresh content can't go into the slot.
+    pub(crate) fn fill_fault(&self, slot: u16) -> Option<Refusal>
         ensures { result ≡ fill_reason self.now slot }
     {
         match self.class_of(slot) {

@@ -20,6 +20,7 @@ mod read;
 mod reading;
 mod relocate;
 mod ticket;
+mod trim;
 mod units;
 mod unmake;
 

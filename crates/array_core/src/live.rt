@@ -85,8 +85,8 @@ fn is_live<C: Hold>(places: &[Place<C>], slot: u16) -> bool
 {
     match place_at(places, slot) {
         Some(Place::Free) => false,
-        Some(Place::Pending(_)) => false,
-        Some(Place::Moving(_, _)) => false,
+        Some(Place::Pending(_, _)) => false,
+        Some(Place::Moving(_, _, _)) => false,
         Some(Place::Newest(_, _)) => true,
         Some(Place::Unmade(_)) => false,
         None => false,

@@ -1,18 +1,20 @@
 // Arrays of drives in memory.
 ghost use Rattle.std.specs.Prelude.{◌≡◌, ℕ, ◌+◌, ◌*◌, ◌<◌, ◌≤◌, length, nat_le, slice_get, Some, IfOk, IfErr};
 ghost use Rattle.extents.specs.Condition.{Held};
+ghost use Rattle.extents.specs.Failures.{no_failures};
 ghost use Rattle.extents.specs.Shapes.{IsShapeOf};
 ghost use Rattle.extents.specs.Sizes.{extent_units};
 ghost use Rattle.extents.specs.declared.mem_drive.Condition.TheVariants.{Present};
 ghost use Rattle.extents.specs.declared.shape.TheConstants.{HEADER_BYTES};
 ghost use Rattle.extent_groups.specs.Calls.{AreSized};
-ghost use Rattle.flat_machine.specs.Flat.{new_flat};
+ghost use Rattle.flat_machine.specs.Flat.{Flat, new_flat};
 ghost use Rattle.flat_machine.specs.Groups.{IsEmpty};
+ghost use Rattle.flat_machine.specs.Moves.{with_fuse};
 ghost use Rattle.array_parts.specs.Fit.{HaveUnits};
 ghost use Rattle.array_parts.specs.Memory.{held_units};
 ghost use Rattle.array_model.specs.Represents.{ShowsArray};
 ghost use Rattle.array_model.specs.Views.{with_parts};
-ghost use Rattle.array_core.specs.Losing.{WasLost};
+ghost use Rattle.array_core.specs.Losing.{WasLost, WasFused};
 
 use crate::array::Array;
 use extents::{MemDrive, Shape};
@@ -40,7 +42,7 @@ impl<C: Hold> Array<MemDrive, C> {
         requires { (3 ≤ drives) × (drives ≤ 16) }
         ensures sizes { IfOk result (λ array. IsShapeOf shape array.parts.groups.extents array.parts.groups.segments array.parts.groups.payload array.parts.groups.blocks) }
         ensures empty { IfOk result (λ array. IsEmpty array.parts.groups) }
-        ensures ok { IfOk result (λ array. ShowsArray array (new_flat array.parts.groups drives (nat_le drives) (λ _. 0))) }
+        ensures ok { IfOk result (λ array. ShowsArray array (new_flat array.parts.groups drives (nat_le drives) (λ _. no_failures))) }
         ensures err { IfErr result (λ refusal. refusal ≡ Refusal.Memory) }
     {
         let Ok(units) = new_drives(alloc, &shape, drives) else {
@@ -61,12 +63,14 @@ impl<C: Hold> Array<MemDrive, C> {
         self.parts.lose(drive);
     }
 
-    /// Loses a drive at the given read or write of it from now on, counted from 1, and for all later ones:
-    /// until then nothing is seen of it.
+    /// Makes a drive fail at its `calls`-th read or write from now (1 = the next) and at all later ones.
+    /// Until then the drive isn't steady and answers as before.
     pub fn fuse(&mut self, drive: u8, calls: u64)
         requires drive { drive < length self.old.parts.drives }
         requires calls { 1 ≤ calls }
-        ensures { self.new ≡ self.old }
+        ensures fused { WasFused self.old.parts self.new.parts drive }
+        ensures rest { self.new ≡ with_parts self.old self.new.parts }
+        ensures flat { (F : Flat) → ShowsArray self.old F → ShowsArray self.new (with_fuse F drive) }
     {
         self.parts.fuse(drive, calls);
     }

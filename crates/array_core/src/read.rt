@@ -15,22 +15,23 @@ ghost use Rattle.array_core.specs.Refused.{IsRefused};
 
 use crate::array::Array;
 use array_parts::Sight;
-use extents::Drive;
+use extents::{Drive, Kind};
 use flat_machine::Refusal;
 use map_join::Record;
 use slot_tables::Hold;
 use std::alloc::{AllocError, Global};
 
-/// What lies at a record's place: the payload under exactly that record, or in its stead the header
-/// found, none where it is blank or the place is in no group.
+/// What lies at a record's place: the payload or the trim under exactly that record, or in its stead the
+/// header found, none where it is blank or the place is in no group.
 #[derive(Debug, Drop)]
 pub enum At {
     Data(Vec<u8>),
+    Trimmed,
     Stale(Option<Record>),
 }
 
 impl<D: Drive, C: Hold> Array<D, C> {
-    /// The version and the payload of a block's last acknowledged write. Refused as gone with the slot of
+    /// The version and the payload of a block's last acknowledged write, none where that was a trim. Refused as gone with the slot of
     /// its newest record, where that can't be had.
     pub fn read(&mut self, alloc: Global, block: u32) -> Result<Option<(u32, Vec<u8>)>, Refusal>
         requires { block < self.old.parts.groups.blocks }
@@ -51,13 +52,14 @@ impl<D: Drive, C: Hold> Array<D, C> {
             Err(_) => return Err(Refusal::Memory),
         };
         match self.payload_at(record.place, &mut payload) {
-            Ok(()) => Ok(Some((record.version, payload))),
+            Ok(Kind::Data) => Ok(Some((record.version, payload))),
+            Ok(Kind::Trim) => Ok(None),
             Err(refusal) => Err(refusal),
         }
     }
 
     /// The version of a block's last acknowledged write, with its payload put into the buffer, which needs no
-    /// memory. Refused as gone with the slot of its newest record, where that can't be had. Where no version
+    /// memory; none where that was a trim. Refused as gone with the slot of its newest record, where that can't be had. Where no version
     /// is told, nothing is said of what the buffer holds.
     pub fn read_into(&mut self, block: u32, payload: &mut [u8]) -> Result<Option<u32>, Refusal>
         requires block { block < self.old.parts.groups.blocks }
@@ -73,7 +75,8 @@ impl<D: Drive, C: Hold> Array<D, C> {
             return Ok(None);
         };
         match self.payload_at(record.place, payload) {
-            Ok(()) => Ok(Some(record.version)),
+            Ok(Kind::Data) => Ok(Some(record.version)),
+            Ok(Kind::Trim) => Ok(None),
             Err(refusal) => Err(refusal),
         }
     }
@@ -99,7 +102,8 @@ impl<D: Drive, C: Hold> Array<D, C> {
             Err(_) => return Err(Refusal::Memory),
         };
         match self.look(&asked, &mut payload) {
-            Ok(Sight::Data) => Ok(At::Data(payload)),
+            Ok(Sight::Here(Kind::Data)) => Ok(At::Data(payload)),
+            Ok(Sight::Here(Kind::Trim)) => Ok(At::Trimmed),
             Ok(Sight::Stale(found)) => Ok(At::Stale(found)),
             Err(refusal) => Err(refusal),
         }

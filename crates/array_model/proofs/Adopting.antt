@@ -32,9 +32,9 @@ pub record ArePartsOf (v : PartsView) : Type 0 where
 -- the newest place of a block is kept for it, and for no other
 kept_newest : (groups : Groups) (keys : ℕ → ℕ) (b s : ℕ) (kept : Kept) → HasPlaces groups keys → 0 < keys b → (record_of b (keys b)).place ≡ s → IsPlaced keys s kept → kept ≡ Newest b
 kept_newest groups keys b s Nothing places some at placed = absurd (placed b some at)
-kept_newest groups keys b s Pending places some at placed = absurd placed
+kept_newest groups keys b s (Pending k) places some at placed = absurd placed
 kept_newest groups keys b s Unmade places some at placed = absurd placed
-kept_newest groups keys b s (Moving r) places some at placed = absurd placed
+kept_newest groups keys b s (Moving r k) places some at placed = absurd placed
 kept_newest groups keys b s (Newest c) places some at placed = ap Newest (places.apart c b placed.0 some (placed.1 ∙ sym at))
 
 pub adopted_whole : (v : PartsView) (keys : ℕ → ℕ) (a : ArrayView) → IsAdopted v keys a → AreKeysOf keys → HasPlaces v.groups keys → ArePartsOf v → IsRoomy a → IsWhole a
@@ -47,7 +47,7 @@ adopted_whole v keys a is of places parts room = record {
       let has : 0 < keys b = rw (sym (is.keys_are b)) some in
       kept_newest v.groups keys b (record_of b (keys b)).place (kept_at a (record_of b (keys b)).place) places has refl (is.kept (record_of b (keys b)).place));
   only = λ s b kept. rw (is.keys_are b) (subst (IsPlaced keys s) kept (is.kept s));
-  moving = λ s r kept. absurd (subst (IsPlaced keys s) kept (is.kept s));
+  moving = λ s r k kept. absurd (subst (IsPlaced keys s) kept (is.kept s));
   there = λ s some made. rw (is.parts_are) (there s (kept_at a s) (is.kept s) some);
   unmade = λ s kept. absurd (subst (IsPlaced keys s) kept (is.kept s));
   groups = subst (λ (w : PartsView). GroupsStand w.groups (length w.drives)) (sym is.parts_are) parts.groups;
@@ -59,9 +59,9 @@ adopted_whole v keys a is of places parts room = record {
   where
     there : (s : ℕ) (kept : Kept) → IsPlaced keys s kept → kept ≢ Nothing → class_at v.groups s ≢ None
     there s Nothing placed some = absurd (some refl)
-    there s Pending placed some = absurd placed
+    there s (Pending k) placed some = absurd placed
     there s Unmade placed some = absurd placed
-    there s (Moving r) placed some = absurd placed
+    there s (Moving r k) placed some = absurd placed
     there s (Newest b) placed some = subst (λ n. class_at v.groups n ≢ None) placed.1 (places.slots b placed.0)
 
 -- what the tables say of a slot
@@ -70,16 +70,16 @@ slot_says groups keys s kept places placed = record { blocks = λ b. blocks b ke
   where
     not_shut : (k : Kept) → IsPlaced keys s k → (g : ℕ) → false ≡ is_shut k s g
     not_shut Nothing p g = refl
-    not_shut Pending p g = refl
-    not_shut (Moving r) p g = refl
+    not_shut (Pending k) p g = refl
+    not_shut (Moving r k) p g = refl
     not_shut (Newest b) p g = refl
     not_shut Unmade p g = absurd p
 
     waits : (k : Kept) → IsPlaced keys s k → IsTicketOf k None
     waits Unmade p = absurd p
     waits Nothing p = refl
-    waits Pending p = absurd p
-    waits (Moving r) p = absurd p
+    waits (Pending k) p = absurd p
+    waits (Moving r k) p = absurd p
     waits (Newest b) p = refl
 
     both : (m n t : ℕ) → (0 < m → n ≡ t → ⊥) → (nat_lt 0 m && n == t) ≡ false
@@ -104,9 +104,9 @@ slot_says groups keys s kept places placed = record { blocks = λ b. blocks b ke
 
     blocks : (b : ℕ) (k : Kept) → IsPlaced keys s k → newest_places keys s (Block b) ≡ is_newest k b
     blocks b Nothing p = both (keys b) (record_of b (keys b)).place s (p b)
-    blocks b Pending p = absurd p
+    blocks b (Pending k) p = absurd p
     blocks b Unmade p = absurd p
-    blocks b (Moving r) p = absurd p
+    blocks b (Moving r k) p = absurd p
     blocks b (Newest c) p = go (cases_eq c b)
       where
         go : (c ≡ b) ⊎ (c ≡ b → ⊥) → newest_places keys s (Block b) ≡ (c == b)

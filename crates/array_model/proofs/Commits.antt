@@ -8,10 +8,9 @@ use Rattle.map_join.specs.declared.records.Record.{Record}
 use Rattle.map_join.specs.Record.{key_of, record_of, record_at, IsRecord}
 use Rattle.map_join.specs.Maps.{IsSame, IsMapOf, join, only}
 use Rattle.map_join.proofs.Joins.{took, only_here, only_else}
-use Rattle.extents.specs.declared.header.Header.TheVariants.{Is}
 use Rattle.array_parts.specs.Views.{PartsView, Shows, SameTables, DrivesFare}
 use Rattle.flat_machine.specs.Groups.{class_at}
-use Rattle.flat_machine.specs.Flat.{Flat, Write, Content, Stored, put, IsArrays}
+use Rattle.flat_machine.specs.Flat.{Flat, Write, Content, Stored, put, IsArrays, header_for}
 use Rattle.flat_machine.specs.Cases.{committed, stamped}
 use Rattle.flat_machine.proofs.Pairs.{put_here, put_else}
 use Rattle.flat_machine.proofs.Newest.{told_again, told_at, untold_at, key_least, place_small}
@@ -86,7 +85,7 @@ commit_whole a s b v h whole inside block waits ok = record {
   fit = λ c. fit c (cases_eq c b);
   newest = λ c. newest c (cases_eq c b);
   only = λ t c is. only t c is (cases_eq t s);
-  moving = λ t q is. whole.moving t q (kept_same t (Moving q) is (λ e. cc) (λ e. cc) (cases_eq t s));
+  moving = λ t q k is. whole.moving t q k (kept_same t (Moving q k) is (λ e. cc) (λ e. cc) (cases_eq t s));
   there = λ t kept made. there t kept made (cases_eq t s);
   unmade = λ t is. whole.unmade t (kept_same t Unmade is (λ e. cc) (λ e. cc) (cases_eq t s));
   groups = whole.groups;
@@ -300,8 +299,8 @@ commit_tables a p F w s b writes x r inside waits same fares whole shows passes 
 
 -- and the units, the slot's stamped
 pub commit_units : (p : PartsView) (F : Flat) (w s b : ℕ) (found : Option Record) (writes : List Write) (x : Content) (r : Record) (u : Stored) → F.units s ≡ Some u
-    → Shows p (put F.units s (Some (record u { header = Is r }))) → Shows p (committed F w s b found writes x r).units
-commit_units p F w s b found writes x r u is shows = subst (λ o. Shows p (put F.units s o)) (sym (ap (λ o. stamped o (Is r)) is)) shows
+    → Shows p (put F.units s (Some (record u { header = header_for r x }))) → Shows p (committed F w s b found writes x r).units
+commit_units p F w s b found writes x r u is shows = subst (λ o. Shows p (put F.units s o)) (sym (ap (λ o. stamped o (header_for r x)) is)) shows
 
 -- a slot other than the old place is kept as before
 pub passed_apart : (kept : List Kept) (s : ℕ) (found : Option Record) → ((q : Record) → found ≡ Some q → q.place ≡ s → ⊥)

@@ -3,13 +3,14 @@ use Rattle.std.proofs.Common.{◌≡◌, ◌≢◌, ℕ, ◌+◌, ◌/◌, ◌^�
 use Rattle.std.proofs.lemmas.Bool.Decides.{nat_tests}
 use Rattle.std.proofs.lemmas.Option.{same_Some}
 use Rattle.map_join.specs.declared.records.Record.{Record}
+use Rattle.extents.specs.declared.header.Kind.{Kind}
 use Rattle.map_join.specs.Record.{key_of, record_of, record_at, IsRecord}
 use Rattle.flat_machine.specs.declared.refusal.Refusal.{Refusal}
 use Rattle.flat_machine.specs.declared.refusal.Refusal.TheVariants.{NoTicket, Outrun, VersionSpent, LogFull}
 use Rattle.extents.specs.declared.header.Header.TheVariants.{Is}
 use Rattle.extent_groups.specs.Groups.{Groups}
 use Rattle.array_parts.specs.Views.{PartsView, Shows, WasCarried, FoundGone}
-use Rattle.flat_machine.specs.Flat.{Flat, Write, Content, Stored, put, Ticket, Waiting, Fresh, Moved, or_else, IsNewest, IsArrays, for_ticket, for_block}
+use Rattle.flat_machine.specs.Flat.{Flat, Write, Content, Stored, put, Ticket, Waiting, Fresh, Moved, or_else, IsNewest, IsArrays, for_ticket, for_block, kind_of, header_for}
 use Rattle.flat_machine.specs.Steps.{Commit, Committed, Refused}
 use Rattle.flat_machine.specs.Cases.{CommitCase, CommitWith, CommitPasses, IsGoneIn, Leaves, IsFor, HasStamp, IsWanted, committed, next_version, last_version, longest_log}
 use Rattle.flat_machine.proofs.Pairs.{equal, equal_back}
@@ -17,7 +18,7 @@ use Rattle.flat_machine.proofs.Newest.{told_at, untold_at, told_key}
 use Rattle.flat_machine.proofs.Commits.{emitted_by, IsReady}
 use Rattle.flat_machine.proofs.Keeps.{fresh_ready, moved_ready}
 use Rattle.flat_machine.proofs.Passing.{passed}
-use Rattle.array_model.specs.Changes.{commit_view, commit_record, commit_reason, commit_reason_of, version_reason, stamp_reason, full_reason, version_given, hop_given, MayRefuse}
+use Rattle.array_model.specs.Changes.{commit_view, commit_record, commit_reason, commit_reason_of, version_reason, stamp_reason, full_reason, version_given, hop_given, MayRefuse, kind_given}
 use Rattle.array_model.specs.Views.{Kept, Nothing, Pending, Moving, Newest, Unmade, is_waiting, ArrayView, with_parts, kept_at, key_at, IsWhole}
 use Rattle.array_model.specs.Represents.{ShowsArray, IsTicketOf}
 use Rattle.array_model.proofs.Newest.{newest_told}
@@ -74,8 +75,8 @@ stamp_left q b (Some n) none = go (q.block == b) refl (n.version == q.version) r
     go true is_x true is_y false is_z e = absurd (cc)
 
 reason_waits : (a : ArrayView) (k : Kept) (b : ℕ) (found : Option Record) → commit_reason_of a k b found ≡ None → is_waiting k ≡ true
-reason_waits a Pending b found e = refl
-reason_waits a (Moving q) b found e = refl
+reason_waits a (Pending k) b found e = refl
+reason_waits a (Moving q k) b found e = refl
 reason_waits a Nothing b found e = absurd (cc)
 reason_waits a Unmade b found e = absurd (cc)
 reason_waits a (Newest c) b found e = absurd (cc)
@@ -117,15 +118,15 @@ fresh_ok a s b whole inside block none =
     one None = omega arith
     one (Some q) = omega arith
 
-moved_ok : (a : ArrayView) (s b : ℕ) (q : Record) → IsWhole a → s < 65536 → b < a.parts.groups.blocks → kept_at a s ≡ Moving q
+moved_ok : (a : ArrayView) (s b : ℕ) (q : Record) (k : Kind) → IsWhole a → s < 65536 → b < a.parts.groups.blocks → kept_at a s ≡ Moving q k
     → IsStamped q b (record_at b (key_at a b)) → IsRecord (emitted_by b s q.version (q.hop + 1))
-moved_ok a s b q whole inside block is now =
+moved_ok a s b q k whole inside block is now =
     let n = whole.blocks in
     let told = told_key b (key_at a b) now.newest now.found_is in
     let big = told.0 in
     let version : key_at a b / 2 ^ 32 ≡ q.version = ap (λ (r : Record). r.version) told.1 ∙ now.version in
     let fit = whole.fit b in
-    let moves = whole.moving s q is in
+    let moves = whole.moving s q k is in
     record { block = omega arith; written = omega arith; version = omega arith; hop = omega arith; place = omega arith }
 
 pub commit_ok : (a : ArrayView) (s b : ℕ) → IsWhole a → s < 65536 → b < a.parts.groups.blocks → commit_reason a s b (record_at b (key_at a b)) ≡ None
@@ -134,8 +135,8 @@ commit_ok a s b whole inside block none = go (kept_at a s) refl none
   where
     go : (k : Kept) → kept_at a s ≡ k → commit_reason_of a k b (record_at b (key_at a b)) ≡ None
         → IsRecord (emitted_by b s (version_given k (record_at b (key_at a b))) (hop_given k))
-    go Pending is e = fresh_ok a s b whole inside block (or_none _ _ e).0
-    go (Moving q) is e = moved_ok a s b q whole inside block is (stamp_left q b (record_at b (key_at a b)) (or_none _ _ e).0)
+    go (Pending k) is e = fresh_ok a s b whole inside block (or_none _ _ e).0
+    go (Moving q k) is e = moved_ok a s b q k whole inside block is (stamp_left q b (record_at b (key_at a b)) (or_none _ _ e).0)
     go Nothing is e = absurd (cc)
     go Unmade is e = absurd (cc)
     go (Newest c) is e = absurd (cc)
@@ -151,8 +152,8 @@ IsCommit a p F w s b v h =
     × (ShowsArray (commit_view (with_parts a p) s b (record_at b (key_at a b)) (emitted_by b s v h)) G)
 
 -- the slot's unit was stamped with the record of that version and hop
-abbrev IsStampedTo : ArrayView → PartsView → ℕ → ℕ → ℕ → ℕ → Type 0
-IsStampedTo a p s b v h = WasCarried a.parts p s s (Is (emitted_by b s v h))
+abbrev IsStampedTo : ArrayView → PartsView → ℕ → ℕ → ℕ → ℕ → Kind → Type 0
+IsStampedTo a p s b v h k = WasCarried a.parts p s s (Is (emitted_by b s v h) k)
 
 short : (a : ArrayView) (F : Flat) → ShowsArray a F → full_reason a ≡ None → length F.emitted < longest_log
 short a F shows none = subst (λ (l : List Record). length l < longest_log) (sym shows.tables.log) (room_left a none)
@@ -162,7 +163,7 @@ in_blocks a F b shows block = subst (λ (z : Groups). b < z.blocks) (sym shows.t
 
 -- what is ready to be committed, and is the flat machine's case, is
 carried : (a : ArrayView) (p : PartsView) (F : Flat) (w s b : ℕ) (c : Waiting) (x : Content) (v h : ℕ) (writes : List Write) → IsWhole a → s < 65536 → b < a.parts.groups.blocks
-    → is_waiting (kept_at a s) ≡ true → IsStampedTo a p s b v h → ShowsArray a F → IsReady F (key_at a) w s b (record_at b (key_at a b)) c v h writes
+    → is_waiting (kept_at a s) ≡ true → IsStampedTo a p s b v h (kind_of x) → ShowsArray a F → IsReady F (key_at a) w s b (record_at b (key_at a b)) c v h writes
     → CommitCase F w s b (Committed (emitted_by b s v h)) (fared (committed F w s b (record_at b (key_at a b)) writes x (emitted_by b s v h)) p)
     → IsCommit a p F w s b v h
 carried a p F w s b c x v h writes whole inside block waits was shows ready case = (
@@ -177,22 +178,22 @@ carried a p F w s b c x v h writes whole inside block waits was shows ready case
       (passed IsArrays F (key_at a) w s b (record_at b (key_at a b)) (λ t. (shows.history.holders t).once) (for_ticket w) (for_block b) shows.history (newest_told a F b shows) ready.mine)),
 )
   where
-    u : (u : Stored) × (F.units s ≡ Some u) × Shows p (put F.units s (Some (record u { header = Is (emitted_by b s v h) })))
+    u : (u : Stored) × (F.units s ≡ Some u) × Shows p (put F.units s (Some (record u { header = header_for (emitted_by b s v h) x })))
     u = was.shows F.units shows.units
 
     above : key_at a b < key_of (emitted_by b s v h)
     above = let e = ready.above in omega arith
 
 -- the slot isn't gone then, and the state is left with the drives of the parts
-there : (a : ArrayView) (p : PartsView) (F : Flat) (s b v h : ℕ) → ShowsArray a F → IsStampedTo a p s b v h → (x : Flat) → x.groups ≡ F.groups → IsGoneIn (fared x p) s → ⊥
-there a p F s b v h shows was x same gone = was.target (gone_back x a.parts p s (same ∙ shows.tables.groups) was.rest gone)
+there : (a : ArrayView) (p : PartsView) (F : Flat) (s b v h : ℕ) (k : Kind) → ShowsArray a F → IsStampedTo a p s b v h k → (x : Flat) → x.groups ≡ F.groups → IsGoneIn (fared x p) s → ⊥
+there a p F s b v h k shows was x same gone = was.target (gone_back x a.parts p s (same ∙ shows.tables.groups) was.rest gone)
 
-commit_fresh : (a : ArrayView) (p : PartsView) (F : Flat) (w s b : ℕ) (x : Content) → IsWhole a → s < 65536 → b < a.parts.groups.blocks → kept_at a s ≡ Pending → F.tickets s ≡ Some (Fresh x)
-    → F.held s (Ticket w) ≡ true → version_reason (record_at b (key_at a b)) ≡ None → full_reason a ≡ None → IsStampedTo a p s b (next_version (record_at b (key_at a b))) 0 → ShowsArray a F
+commit_fresh : (a : ArrayView) (p : PartsView) (F : Flat) (w s b : ℕ) (x : Content) → IsWhole a → s < 65536 → b < a.parts.groups.blocks → is_waiting (kept_at a s) ≡ true → F.tickets s ≡ Some (Fresh x)
+    → F.held s (Ticket w) ≡ true → version_reason (record_at b (key_at a b)) ≡ None → full_reason a ≡ None → IsStampedTo a p s b (next_version (record_at b (key_at a b))) 0 (kind_of x) → ShowsArray a F
     → IsCommit a p F w s b (next_version (record_at b (key_at a b))) 0
 commit_fresh a p F w s b x whole inside block waits ticket mine left room was shows =
     carried a p F w s b (Fresh x) x (next_version (record_at b (key_at a b))) 0
-    (F.writes ++ record { block = b; version = next_version (record_at b (key_at a b)); content = x } ∷ []) whole inside block (ap is_waiting waits) was shows
+    (F.writes ++ record { block = b; version = next_version (record_at b (key_at a b)); content = x } ∷ []) whole inside block waits was shows
     (fresh_ready F (key_at a) w s b (record_at b (key_at a b)) x shows.history (newest_told a F b shows) ticket mine (in_blocks a F b shows block)
     (version_most a b whole left) (short a F shows room)) (
       mine,
@@ -203,7 +204,7 @@ commit_fresh a p F w s b x whole inside block waits ticket mine left room was sh
         subst (λ c. CommitWith F w s b (record_at b (key_at a b)) c (Committed (emitted_by b s (next_version (record_at b (key_at a b))) 0)) G) (sym ticket) (
           version_most a b whole left,
           short a F shows room,
-          there a p F s b (next_version (record_at b (key_at a b))) 0 shows was x_left refl,
+          there a p F s b (next_version (record_at b (key_at a b))) 0 (kind_of x) shows was x_left refl,
           refl,
           leaves x_left a.parts p shows.tables.lost shows.tables.failures was.fares,
         ),
@@ -218,11 +219,11 @@ commit_fresh a p F w s b x whole inside block waits ticket mine left room was sh
     G = fared (committed F w s b (record_at b (key_at a b)) (F.writes ++ record { block = b; version = next_version (record_at b (key_at a b)); content = x } ∷ []) x
         (emitted_by b s (next_version (record_at b (key_at a b))) 0)) p
 
-commit_moved : (a : ArrayView) (p : PartsView) (F : Flat) (w s b : ℕ) (q : Record) (x : Content) → IsWhole a → s < 65536 → b < a.parts.groups.blocks → kept_at a s ≡ Moving q
+commit_moved : (a : ArrayView) (p : PartsView) (F : Flat) (w s b : ℕ) (q : Record) (x : Content) → IsWhole a → s < 65536 → b < a.parts.groups.blocks → is_waiting (kept_at a s) ≡ true
     → F.tickets s ≡ Some (Moved q.block q.version q.hop x) → F.held s (Ticket w) ≡ true → IsStamped q b (record_at b (key_at a b)) → full_reason a ≡ None
-    → IsStampedTo a p s b q.version (q.hop + 1) → ShowsArray a F → IsCommit a p F w s b q.version (q.hop + 1)
+    → IsStampedTo a p s b q.version (q.hop + 1) (kind_of x) → ShowsArray a F → IsCommit a p F w s b q.version (q.hop + 1)
 commit_moved a p F w s b q x whole inside block waits ticket mine now room was shows =
-    carried a p F w s b (Moved q.block q.version q.hop x) x q.version (q.hop + 1) F.writes whole inside block (ap is_waiting waits) was shows
+    carried a p F w s b (Moved q.block q.version q.hop x) x q.version (q.hop + 1) F.writes whole inside block waits was shows
     (moved_ready F (key_at a) w s b (record_at b (key_at a b)) q.block q.version q.hop x shows.history (newest_told a F b shows) ticket mine now.block (in_blocks a F b shows block)
     stamps (short a F shows room)) (
       mine,
@@ -233,7 +234,7 @@ commit_moved a p F w s b q x whole inside block waits ticket mine now room was s
         subst (λ c. CommitWith F w s b (record_at b (key_at a b)) c (Committed (emitted_by b s q.version (q.hop + 1))) G) (sym ticket) (
           stamps,
           short a F shows room,
-          there a p F s b q.version (q.hop + 1) shows was x_left refl,
+          there a p F s b q.version (q.hop + 1) (kind_of x) shows was x_left refl,
           refl,
           leaves x_left a.parts p shows.tables.lost shows.tables.failures was.fares,
         ),
@@ -251,24 +252,25 @@ commit_moved a p F w s b q x whole inside block waits ticket mine now room was s
 
 -- where nothing speaks against it, and the slot was stamped, the commit is the flat machine's
 pub commit_case : (a : ArrayView) (p : PartsView) (F : Flat) (w s b : ℕ) → IsWhole a → s < 65536 → b < a.parts.groups.blocks
-    → commit_reason a s b (record_at b (key_at a b)) ≡ None → WasCarried a.parts p s s (Is (commit_record a s b (record_at b (key_at a b)))) → ShowsArray a F
+    → commit_reason a s b (record_at b (key_at a b)) ≡ None → WasCarried a.parts p s s (Is (commit_record a s b (record_at b (key_at a b))) (kind_given (kept_at a s))) → ShowsArray a F
     → (F.tickets s ≢ None → F.held s (Ticket w) ≡ true)
     → (G : Flat) × (CommitCase F w s b (Committed (commit_record a s b (record_at b (key_at a b)))) G)
     × (ShowsArray (commit_view (with_parts a p) s b (record_at b (key_at a b)) (commit_record a s b (record_at b (key_at a b)))) G)
 commit_case a p F w s b whole inside block none was shows mine = go (kept_at a s) refl none was
   where
     go : (k : Kept) → kept_at a s ≡ k → commit_reason_of a k b (record_at b (key_at a b)) ≡ None
-        → IsStampedTo a p s b (version_given k (record_at b (key_at a b))) (hop_given k)
+        → IsStampedTo a p s b (version_given k (record_at b (key_at a b))) (hop_given k) (kind_given k)
         → IsCommit a p F w s b (version_given k (record_at b (key_at a b))) (hop_given k)
-    go Pending is e stamp =
+    go (Pending k) is e stamp =
         let reasons = or_none _ _ e in
-        let t = kept_ticket a F s Pending shows is in
-        commit_fresh a p F w s b t.0 whole inside block is t.1 (ticket_held a F w s (ap is_waiting is) shows mine) reasons.0 reasons.1 stamp shows
-    go (Moving q) is e stamp =
+        let t = kept_ticket a F s (Pending k) shows is in
+        commit_fresh a p F w s b t.0 whole inside block (ap is_waiting is) t.1 (ticket_held a F w s (ap is_waiting is) shows mine) reasons.0 reasons.1
+        (subst (IsStampedTo a p s b (next_version (record_at b (key_at a b))) 0) t.2 stamp) shows
+    go (Moving q k) is e stamp =
         let reasons = or_none _ _ e in
-        let t = kept_ticket a F s (Moving q) shows is in
-        commit_moved a p F w s b q t.0 whole inside block is t.1 (ticket_held a F w s (ap is_waiting is) shows mine)
-        (stamp_left q b (record_at b (key_at a b)) reasons.0) reasons.1 stamp shows
+        let t = kept_ticket a F s (Moving q k) shows is in
+        commit_moved a p F w s b q t.0 whole inside block (ap is_waiting is) t.1 (ticket_held a F w s (ap is_waiting is) shows mine)
+        (stamp_left q b (record_at b (key_at a b)) reasons.0) reasons.1 (subst (IsStampedTo a p s b q.version (q.hop + 1)) t.2 stamp) shows
     go Nothing is e stamp = absurd (cc)
     go Unmade is e stamp = absurd (cc)
     go (Newest c) is e stamp = absurd (cc)
@@ -300,13 +302,13 @@ commit_gone a p F w s b q whole none found shows mine =
     )
 
     go : (k : Kept) → kept_at a s ≡ k → commit_reason_of a k b (record_at b (key_at a b)) ≡ None → CommitCase F w s b (Refused (Refusal.Gone s)) (fared F p)
-    go Pending is e =
+    go (Pending k) is e =
         let reasons = or_none _ _ e in
-        let t = kept_ticket a F s Pending shows is in
+        let t = kept_ticket a F s (Pending k) shows is in
         told (Fresh t.0) t.1 (ticket_held a F w s (ap is_waiting is) shows mine) tt (version_most a b whole reasons.0, short a F shows reasons.1, refl, gone, left)
-    go (Moving m) is e =
+    go (Moving m k) is e =
         let reasons = or_none _ _ e in
-        let t = kept_ticket a F s (Moving m) shows is in
+        let t = kept_ticket a F s (Moving m k) shows is in
         let now = stamp_left m b (record_at b (key_at a b)) reasons.0 in
         told (Moved m.block m.version m.hop t.0) t.1 (ticket_held a F w s (ap is_waiting is) shows mine) now.block
         (subst (λ o. HasStamp o m.version m.hop) (sym now.found_is) (now.version, now.hop), short a F shows reasons.1, refl, gone, left)
@@ -327,13 +329,13 @@ commit_wants a F w s b whole none shows mine = go (kept_at a s) refl none
     )
 
     go : (k : Kept) → kept_at a s ≡ k → commit_reason_of a k b (record_at b (key_at a b)) ≡ None → IsWanted F (Commit w s b)
-    go Pending is e =
+    go (Pending k) is e =
         let reasons = or_none _ _ e in
-        let t = kept_ticket a F s Pending shows is in
+        let t = kept_ticket a F s (Pending k) shows is in
         told (Fresh t.0) t.1 (ticket_held a F w s (ap is_waiting is) shows mine) tt (version_most a b whole reasons.0, short a F shows reasons.1)
-    go (Moving q) is e =
+    go (Moving q k) is e =
         let reasons = or_none _ _ e in
-        let t = kept_ticket a F s (Moving q) shows is in
+        let t = kept_ticket a F s (Moving q k) shows is in
         let now = stamp_left q b (record_at b (key_at a b)) reasons.0 in
         told (Moved q.block q.version q.hop t.0) t.1 (ticket_held a F w s (ap is_waiting is) shows mine) now.block
         (subst (λ o. HasStamp o q.version q.hop) (sym now.found_is) (now.version, now.hop), short a F shows reasons.1)
@@ -417,9 +419,9 @@ commit_refused a F w s b q whole some shows mine = go (kept_at a s) refl some
     go Nothing is e = no_ticket (ap is_waiting is) e
     go Unmade is e = no_ticket (ap is_waiting is) e
     go (Newest c) is e = no_ticket (ap is_waiting is) e
-    go Pending is e =
-        let t = kept_ticket a F s Pending shows is in
+    go (Pending k) is e =
+        let t = kept_ticket a F s (Pending k) shows is in
         fresh t.0 t.1 (ticket_held a F w s (ap is_waiting is) shows mine) _ refl e
-    go (Moving m) is e =
-        let t = kept_ticket a F s (Moving m) shows is in
+    go (Moving m k) is e =
+        let t = kept_ticket a F s (Moving m k) shows is in
         copy m t.0 t.1 (ticket_held a F w s (ap is_waiting is) shows mine) (record_at b (key_at a b)) refl e

@@ -4,15 +4,17 @@ use Rattle.std.proofs.lemmas.Bool.Decides.{nat_tests}
 use Rattle.std.proofs.lemmas.Option.{same_Some}
 use Rattle.map_join.specs.declared.records.Record.{Record}
 use Rattle.map_join.specs.Record.{record_at}
-use Rattle.extents.specs.declared.header.Header.TheVariants.{Blank}
+use Rattle.extents.specs.declared.header.Kind.{Kind}
+use Rattle.extents.specs.declared.header.Kind.TheVariants as kind
+use Rattle.extents.specs.Header.{kind_in}
 use Rattle.extent_groups.specs.declared.class.Class.{Class}
 use Rattle.extent_groups.specs.Groups.{Groups}
 use Rattle.array_parts.specs.Slots.{IsSlot}
 use Rattle.extent_groups.specs.Stores.{AreDrives}
-use Rattle.array_parts.specs.Views.{PartsView, Shows, WasCarried, WasNotCarried, drive_units}
+use Rattle.array_parts.specs.Views.{PartsView, Shows, WasCopied, WasNotCarried, drive_units}
 use Rattle.flat_machine.specs.declared.refusal.Refusal.{Refusal}
 use Rattle.flat_machine.specs.Groups.{class_at}
-use Rattle.flat_machine.specs.Flat.{Flat, Write, Worker, Moved, Stored, content_in, waiting_unit, put, IsNewest, class_of, last_write}
+use Rattle.flat_machine.specs.Flat.{Flat, Write, Worker, Moved, Stored, content_under, content_in, kind_of, waiting_unit, put, IsNewest, class_of, last_write}
 use Rattle.flat_machine.specs.Steps.{Copy, Copied, Refused}
 use Rattle.flat_machine.specs.Cases.{CopyCase, CopyPasses, ticketed, last_hop}
 use Rattle.array_model.specs.Changes.{copy_view, copy_reason, copy_reason_of, MayRefuse}
@@ -42,27 +44,35 @@ can_copy a s r none = go (class_at a.parts.groups s) refl (kept_at a s) refl non
     go : (c : Option Class) → class_at a.parts.groups s ≡ c → (k : Kept) → kept_at a s ≡ k → copy_reason_of c k (Some r) ≡ None → CanCopy a s r
     go (Some c) is_c Nothing is_k e =
         record { class = λ no. let bad : Some c ≡ None = sym is_c ∙ no in cc; free = is_k; hop = under _ refl e }
-    go (Some c) is_c Pending is_k e = absurd (cc)
-    go (Some c) is_c (Moving m) is_k e = absurd (cc)
+    go (Some c) is_c (Pending k) is_k e = absurd (cc)
+    go (Some c) is_c (Moving m k) is_k e = absurd (cc)
     go (Some c) is_c (Newest b) is_k e = absurd (cc)
     go (Some c) is_c Unmade is_k e = absurd (cc)
     go None is_c k is_k e = absurd (cc)
 
 -- an array is whole after a copy
-pub copy_whole : (a : ArrayView) (v : PartsView) (s : ℕ) (r : Record) → s < 65536 → WasCarried a.parts v r.place s Blank → copy_reason a s (Some r) ≡ None
-    → AreDrives drive_units v.groups v.drives → IsWhole a → IsWhole (copy_view (with_parts a v) s r)
-copy_whole a v s r inside was none drives whole =
-    wait_whole (with_parts a v) s (Moving r) inside can.free refl moves (subst (λ (g : Groups). class_at g s ≢ None) (sym was.rest.groups) can.class)
+pub copy_whole : (a : ArrayView) (v : PartsView) (s : ℕ) (r : Record) (k : Kind) → s < 65536 → WasCopied a.parts v r.place s k → copy_reason a s (Some r) ≡ None
+    → AreDrives drive_units v.groups v.drives → IsWhole a → IsWhole (copy_view (with_parts a v) s r k)
+copy_whole a v s r k inside was none drives whole =
+    wait_whole (with_parts a v) s (Moving r k) inside can.free refl moves (subst (λ (g : Groups). class_at g s ≢ None) (sym was.rest.groups) can.class)
     (whole_parts a v was.rest was.fares.many drives whole)
   where
     can : CanCopy a s r
     can = can_copy a s r none
 
-    moves : (q : Record) → Moving r ≡ Moving q → q.hop < 65535
-    moves q e = let hop : r.hop ≡ q.hop = cc in let small = can.hop in omega arith
+    moves : (q : Record) (l : Kind) → Moving r k ≡ Moving q l → q.hop < 65535
+    moves q l e = let hop : r.hop ≡ q.hop = cc in let small = can.hop in omega arith
 
 pub copy_slot : (a : ArrayView) (s : ℕ) (r : Record) → copy_reason a s (Some r) ≡ None → IsSlot a.parts.groups s
 copy_slot a s r none = slot_of_class a.parts.groups s (can_copy a s r none).class
+
+-- the kind of what a unit holds
+kind_told : (u : Stored) → kind_in u.header ≡ kind_of (content_in u)
+kind_told u = go (kind_in u.header)
+  where
+    go : (k : Kind) → k ≡ kind_of (content_under k u.payload)
+    go kind.Data = refl
+    go kind.Trim = refl
 
 -- where nothing speaks against it, the copy is the flat machine's
 pub copy_passes : (a : ArrayView) (F : Flat) (w s b : ℕ) (r : Record) → record_at b (key_at a b) ≡ Some r → copy_reason a s (Some r) ≡ None → ShowsArray a F
@@ -71,23 +81,23 @@ copy_passes a F w s b r found none shows held =
     let can = can_copy a s r none in
     (held, (λ e. can.class (sym (class_seen a F s shows) ∙ e)), unkept a F s can.free shows, newest_is a F b (Some r) shows found, can.hop)
 
-pub copy_case : (a : ArrayView) (v : PartsView) (F : Flat) (w s b : ℕ) (r : Record) → s < 65536 → b < a.parts.groups.blocks → record_at b (key_at a b) ≡ Some r
-    → WasCarried a.parts v r.place s Blank → copy_reason a s (Some r) ≡ None → IsWhole a → ShowsArray a F → F.held s (Worker w) ≡ true
-    → (G : Flat) × (CopyCase F w s b (Copied s) G) × (ShowsArray (copy_view (with_parts a v) s r) G)
-copy_case a v F w s b r inside block found was none whole shows held = (
+pub copy_case : (a : ArrayView) (v : PartsView) (F : Flat) (w s b : ℕ) (r : Record) (k : Kind) → s < 65536 → b < a.parts.groups.blocks → record_at b (key_at a b) ≡ Some r
+    → WasCopied a.parts v r.place s k → copy_reason a s (Some r) ≡ None → IsWhole a → ShowsArray a F → F.held s (Worker w) ≡ true
+    → (G : Flat) × (CopyCase F w s b (Copied s) G) × (ShowsArray (copy_view (with_parts a v) s r k) G)
+copy_case a v F w s b r k inside block found was none whole shows held = (
   fared (ticketed F w s (Moved b r.version r.hop y.0.content)) v,
   case,
-  shows_after a (copy_view (with_parts a v) s r) F (fared (ticketed F w s (Moved b r.version r.hop y.0.content)) v) (Copy w s b) (Copied s) shows
+  shows_after a (copy_view (with_parts a v) s r k) F (fared (ticketed F w s (Moved b r.version r.hop y.0.content)) v) (Copy w s b) (Copied s) shows
       (inside, subst (λ (z : Groups). b < z.blocks) (sym shows.tables.groups) block) case shows.history.map
-      (wait_units F w s (Moved b r.version r.hop y.0.content) v (record u.0 { header = Blank }) (ap (waiting_unit F.groups.payload) (sym (y.2 u.0 u.1))) u.2)
-      (wait_tables a v F w s (Moving r) (Moved b r.version r.hop y.0.content) inside refl (y.0.content, ap (λ n. Some (Moved n r.version r.hop y.0.content)) at)
+      (wait_units F w s (Moved b r.version r.hop y.0.content) v (waiting_unit a.parts.groups.payload (content_in u.0)) (ap (waiting_unit F.groups.payload) (sym (y.2 u.0 u.1)) ∙ ap (λ (z : Groups). waiting_unit z.payload (content_in u.0)) shows.tables.groups) u.3)
+      (wait_tables a v F w s (Moving r k) (Moved b r.version r.hop y.0.content) inside refl (y.0.content, ap (λ n. Some (Moved n r.version r.hop y.0.content)) at, u.2 ∙ kind_told u.0 ∙ ap kind_of (y.2 u.0 u.1))
       was.rest was.fares whole shows (copy_passes a F w s b r found none shows held).2),
 )
   where
     y : (x : Write) × (last_write F.writes b ≡ Some x) × ((u : Stored) → F.units r.place ≡ Some u → content_in u ≡ x.content) × (x.version ≡ r.version)
     y = newest_write a F b r shows found
 
-    u : (u : Stored) × (F.units r.place ≡ Some u) × Shows v (put F.units s (Some (record u { header = Blank })))
+    u : (u : Stored) × (F.units r.place ≡ Some u) × (k ≡ kind_in u.header) × Shows v (put F.units s (Some (waiting_unit a.parts.groups.payload (content_in u))))
     u = was.shows F.units shows.units
 
     at : b ≡ r.block
@@ -166,7 +176,7 @@ copy_refused a F w s b q some shows held = go (class_at a.parts.groups s) refl (
     go (Some c) is_c Nothing is_k None is_o e =
         subst P (same_Some _ _ e) (F, (held, classed c is_c, unkept a F s is_k shows, newest None is_o, itself F), shows)
     go (Some c) is_c Nothing is_k (Some r) is_o e = spent c is_c is_k r is_o _ refl e
-    go (Some c) is_c Pending is_k o is_o e = in_use c is_c (ap is_kept is_k) e
-    go (Some c) is_c (Moving m) is_k o is_o e = in_use c is_c (ap is_kept is_k) e
+    go (Some c) is_c (Pending k) is_k o is_o e = in_use c is_c (ap is_kept is_k) e
+    go (Some c) is_c (Moving m k) is_k o is_o e = in_use c is_c (ap is_kept is_k) e
     go (Some c) is_c (Newest d) is_k o is_o e = in_use c is_c (ap is_kept is_k) e
     go (Some c) is_c Unmade is_k o is_o e = in_use c is_c (ap is_kept is_k) e

@@ -1,6 +1,7 @@
 -- A flat state whose drives fared as an array's did: what it leaves, and which of its slots are gone.
-use Rattle.std.proofs.Common.{◌≡◌, ℕ, ◌+◌, Bool, true, false, length, refl, sym, ap, ◌∙◌, subst, arith}
-use Rattle.extents.specs.Units.{loss}
+use Rattle.std.proofs.Common.{◌≡◌, ℕ, Bool, length, refl, sym, ap, ◌∙◌, subst}
+use Rattle.extents.specs.Failures.{Failures}
+use Rattle.extents.proofs.Failures.{counts_same, steady_same, counts_more, steady_more}
 use Rattle.extent_groups.specs.Groups.{Groups}
 use Rattle.extent_groups.specs.Missing.{IsGone}
 use Rattle.array_parts.specs.Views.{PartsView, IsLost, Loses, SameTables, DrivesFare, lost_of, failed_of}
@@ -14,10 +15,6 @@ use Rattle.array_model.specs.Represents.{ShowsArray}
 abbrev pub fared : Flat → PartsView → Flat
 fared F v = record F { lost = lost_of v; failures = failed_of v }
 
-no_loss : (n : ℕ) (b : Bool) → n ≡ n + loss b b
-no_loss n true = omega arith
-no_loss n false = omega arith
-
 -- a state is what it leaves where nothing happens
 pub itself : (x : Flat) → Leaves x x
 itself x = flat.itself x
@@ -27,7 +24,7 @@ pub leaves : (x : Flat) (a b : PartsView) → x.lost ≡ lost_of a → x.failure
 leaves x a b lost failures fares = record {
   same = refl;
   drives = λ d. subst (λ (l : ℕ → Bool). Fares (l d) (lost_of b d) (x.failures d) (failed_of b d)) (sym lost)
-      (subst (λ (n : ℕ → ℕ). Fares (lost_of a d) (lost_of b d) (n d) (failed_of b d)) (sym failures) (fares.each d));
+      (subst (λ (n : ℕ → Failures). Fares (lost_of a d) (lost_of b d) (n d) (failed_of b d)) (sym failures) (fares.each d));
 }
 
 -- which slots are gone then
@@ -63,19 +60,11 @@ pub lost_leaves : (a : ArrayView) (F : Flat) (v : PartsView) → ShowsArray a F 
 lost_leaves a F v shows loses = leaves F a.parts v shows.tables.lost shows.tables.failures loses.fares
 
 -- losses one after another are losses
-more_losses : (a b c : Bool) → (a ≡ true → b ≡ true) → (b ≡ true → c ≡ true) → loss a b + loss b c ≡ loss a c
-more_losses true true true f g = refl
-more_losses true true false f g = let bad : false ≡ true = g refl in cc
-more_losses true false c f g = let bad : false ≡ true = f refl in cc
-more_losses false true true f g = refl
-more_losses false true false f g = let bad : false ≡ true = g refl in cc
-more_losses false false true f g = refl
-more_losses false false false f g = refl
-
-fares_more : (a b c : Bool) (x y z : ℕ) → Fares a b x y → Fares b c y z → Fares a c x z
+fares_more : (a b c : Bool) (x y z : Failures) → Fares a b x y → Fares b c y z → Fares a c x z
 fares_more a b c x y z one two = record {
   stays = λ e. two.stays (one.stays e);
-  count = let first = one.count in let second = two.count in let both = more_losses a b c one.stays two.stays in omega arith;
+  count = counts_more a b c x y z one.stays two.stays one.count two.count;
+  steady = steady_more a b c x y z one.steady two.steady;
 }
 
 pub leaves_more : (F M G : Flat) → Leaves F M → Leaves M G → Leaves F G
@@ -86,13 +75,15 @@ leaves_more F M G one two = record {
 
 pub loses_itself : (a : PartsView) → Loses a a
 loses_itself a = record {
-  fares = record { many = refl; each = λ d. record { stays = λ e. e; count = no_loss (failed_of a d) (lost_of a d) } };
+  bytes = λ units shows slot v e. e;
+  fares = record { many = refl; each = λ d. record { stays = λ e. e; count = counts_same (lost_of a d) (failed_of a d); steady = steady_same (lost_of a d) (failed_of a d) } };
   shows = λ units shown. shown;
   rest = record { groups = refl; owners = refl };
 }
 
 pub loses_more : (a m b : PartsView) → Loses a m → Loses m b → Loses a b
 loses_more a m b one two = record {
+  bytes = λ units shows slot v e. one.bytes units shows slot v (two.bytes units (one.shows units shows) slot v e);
   fares = record {
     many = two.fares.many ∙ one.fares.many;
     each = λ d. fares_more (lost_of a d) (lost_of m d) (lost_of b d) (failed_of a d) (failed_of m d) (failed_of b d) (one.fares.each d) (two.fares.each d);

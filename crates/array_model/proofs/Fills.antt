@@ -1,9 +1,10 @@
 -- A slot is made to wait, and a fill of what is seen of an array is the flat machine's case.
-use Rattle.std.proofs.Common.{◌≡◌, ◌≢◌, ℕ, ◌/◌, ◌<◌, true, List, length, refl, sym, ap, ◌∙◌, subst, arith, ◌⊎◌, inl, inr, Option, Some, None}
+use Rattle.std.proofs.Common.{◌≡◌, ◌≢◌, ℕ, ◌/◌, ◌<◌, true, length, refl, sym, ap, ◌∙◌, subst, arith, ◌⊎◌, inl, inr, Option, Some, None}
 use Rattle.std.proofs.lemmas.List.{length-set, get_or-set_same, get_or-set_other}
 use Rattle.std.proofs.lemmas.Bool.{cases_eq}
 use Rattle.std.proofs.lemmas.Option.{same_Some}
 use Rattle.map_join.specs.declared.records.Record.{Record}
+use Rattle.extents.specs.declared.header.Kind.{Kind}
 use Rattle.map_join.specs.Record.{record_of}
 use Rattle.extent_groups.specs.declared.class.Class.{Class}
 use Rattle.extent_groups.specs.declared.class.Class.TheVariants.{Mirrored, Parity}
@@ -14,7 +15,7 @@ use Rattle.array_parts.specs.Views.{PartsView, Shows, SameTables, WasPut, FoundG
 use Rattle.flat_machine.specs.declared.refusal.Refusal.{Refusal}
 use Rattle.extent_groups.specs.Groups.{group_at}
 use Rattle.flat_machine.specs.Groups.{class_at}
-use Rattle.flat_machine.specs.Flat.{Flat, Content, Payload, Worker, Ticket, Waiting, Fresh, content_of, Stored, waiting_unit, put, turned, class_of, IsArrays, IsKept}
+use Rattle.flat_machine.specs.Flat.{Flat, Content, IsSized, kind_of, Worker, Ticket, Waiting, Fresh, content_of, Stored, waiting_unit, put, turned, class_of, IsArrays, IsKept}
 use Rattle.flat_machine.specs.Steps.{Fill, Filled, Refused}
 use Rattle.flat_machine.specs.Cases.{FillCase, FillPasses, ticketed}
 use Rattle.flat_machine.proofs.Pairs.{put_here, put_else, turned_else, IsJust, turned_free}
@@ -33,7 +34,7 @@ class_seen a F s shows = ap (λ z. class_at z s) shows.tables.groups
 
 -- an array is whole after a slot was made to wait
 pub wait_whole : (a : ArrayView) (s : ℕ) (kept : Kept) → s < 65536 → kept_at a s ≡ Nothing
-    → is_waiting kept ≡ true → ((r : Record) → kept ≡ Moving r → r.hop < 65535) → class_at a.parts.groups s ≢ None → IsWhole a → IsWhole (wait_view a s kept)
+    → is_waiting kept ≡ true → ((r : Record) (k : Kind) → kept ≡ Moving r k → r.hop < 65535) → class_at a.parts.groups s ≢ None → IsWhole a → IsWhole (wait_view a s kept)
 wait_whole a s kept inside free waits moves class whole = record {
   room = record { kept = length-set a.kept s kept ∙ whole.room.kept; keys = whole.room.keys };
   blocks = whole.blocks;
@@ -41,7 +42,7 @@ wait_whole a s kept inside free waits moves class whole = record {
   fit = whole.fit;
   newest = newest;
   only = λ t b is. only t b is (cases_eq t s);
-  moving = λ t r is. moving t r is (cases_eq t s);
+  moving = λ t r k is. moving t r k is (cases_eq t s);
   there = λ t kept made. there t kept made (cases_eq t s);
   unmade = λ t is. unmade t is (cases_eq t s);
   groups = whole.groups;
@@ -66,9 +67,9 @@ wait_whole a s kept inside free waits moves class whole = record {
     only t b is (inl e) = absurd (waiting_newest kept b waits (sym (ap (kept_at (wait_view a s kept)) e ∙ kept_here) ∙ is))
     only t b is (inr ne) = whole.only t b (sym (get_or-set_other a.kept s t kept Nothing ne) ∙ is)
 
-    moving : (t : ℕ) (r : Record) → kept_at (wait_view a s kept) t ≡ Moving r → (t ≡ s) ⊎ (t ≡ s → ⊥) → r.hop < 65535
-    moving t r is (inl e) = moves r (sym (ap (kept_at (wait_view a s kept)) e ∙ kept_here) ∙ is)
-    moving t r is (inr ne) = whole.moving t r (sym (get_or-set_other a.kept s t kept Nothing ne) ∙ is)
+    moving : (t : ℕ) (r : Record) (k : Kind) → kept_at (wait_view a s kept) t ≡ Moving r k → (t ≡ s) ⊎ (t ≡ s → ⊥) → r.hop < 65535
+    moving t r k is (inl e) = moves r k (sym (ap (kept_at (wait_view a s kept)) e ∙ kept_here) ∙ is)
+    moving t r k is (inr ne) = whole.moving t r k (sym (get_or-set_other a.kept s t kept Nothing ne) ∙ is)
 
     there : (t : ℕ) → kept_at (wait_view a s kept) t ≢ Nothing → kept_at (wait_view a s kept) t ≢ Unmade → (t ≡ s) ⊎ (t ≡ s → ⊥) → class_at a.parts.groups t ≢ None
     there t some made (inl e) = subst (λ n. class_at a.parts.groups n ≢ None) (sym e) class
@@ -127,8 +128,8 @@ can_fill a s none = go (class_at a.parts.groups s) refl (kept_at a s) refl none
   where
     go : (c : Option Class) → class_at a.parts.groups s ≡ c → (k : Kept) → kept_at a s ≡ k → fill_reason_of c k ≡ None → CanFill a s
     go (Some Mirrored) is_c Nothing is_k e = record { class = is_c; free = is_k }
-    go (Some Mirrored) is_c Pending is_k e = absurd (cc)
-    go (Some Mirrored) is_c (Moving r) is_k e = absurd (cc)
+    go (Some Mirrored) is_c (Pending k) is_k e = absurd (cc)
+    go (Some Mirrored) is_c (Moving r k) is_k e = absurd (cc)
     go (Some Mirrored) is_c (Newest b) is_k e = absurd (cc)
     go (Some Mirrored) is_c Unmade is_k e = absurd (cc)
     go (Some Parity) is_c k is_k e = absurd (cc)
@@ -136,10 +137,10 @@ can_fill a s none = go (class_at a.parts.groups s) refl (kept_at a s) refl none
 
 -- and whole after a fill
 pub fill_whole : (a : ArrayView) (v : PartsView) (s : ℕ) (u : Stored) → s < 65536 → fill_reason a s ≡ None → WasPut a.parts v s u → AreDrives drive_units v.groups v.drives
-    → IsWhole a → IsWhole (fill_view (with_parts a v) s)
-fill_whole a v s u inside none was drives whole =
+    → (k : Kind) → IsWhole a → IsWhole (fill_view (with_parts a v) s k)
+fill_whole a v s u inside none was drives k whole =
     let can = can_fill a s none in
-    wait_whole (with_parts a v) s Pending inside can.free refl (λ r e. absurd (cc))
+    wait_whole (with_parts a v) s (Pending k) inside can.free refl (λ r l e. absurd (cc))
     (subst (λ (g : Groups). class_at g s ≢ None) (sym was.rest.groups) (λ e. let bad : Some Mirrored ≡ None = sym can.class ∙ e in cc))
     (whole_parts a v was.rest was.fares.many drives whole)
 
@@ -150,26 +151,24 @@ fill_passes a F w s none shows held = let can = can_fill a s none in (held, clas
 pub fill_slot : (a : ArrayView) (s : ℕ) → fill_reason a s ≡ None → IsSlot a.parts.groups s
 fill_slot a s none = slot_of_class a.parts.groups s (λ e. let bad : Some Mirrored ≡ None = sym (can_fill a s none).class ∙ e in cc)
 
-pub fill_case : (a : ArrayView) (v : PartsView) (F : Flat) (w s : ℕ) (x : List ℕ) → s < 65536 → fill_reason a s ≡ None → length x ≡ a.parts.groups.payload
-    → WasPut a.parts v s (waiting_unit a.parts.groups.payload (Payload x)) → IsWhole a → ShowsArray a F → F.held s (Worker w) ≡ true
-    → (G : Flat) × (FillCase F w s (Payload x) (Filled s) G) × (ShowsArray (fill_view (with_parts a v) s) G)
+pub fill_case : (a : ArrayView) (v : PartsView) (F : Flat) (w s : ℕ) (x : Content) → s < 65536 → fill_reason a s ≡ None → IsSized a.parts.groups.payload x
+    → WasPut a.parts v s (waiting_unit a.parts.groups.payload x) → IsWhole a → ShowsArray a F → F.held s (Worker w) ≡ true
+    → (G : Flat) × (FillCase F w s x (Filled s) G) × (ShowsArray (fill_view (with_parts a v) s (kind_of x)) G)
 fill_case a v F w s x inside none long was whole shows held =
-    let c : Waiting = Fresh (Payload x) in
-    let G : Flat = fared (ticketed F w s c) v in
     let passes = fill_passes a F w s none shows held in
-    let case : FillCase F w s (Payload x) (Filled s) (fared (ticketed F w s (Fresh (Payload x))) v) = (
+    let case : FillCase F w s x (Filled s) (fared (ticketed F w s (Fresh x)) v) = (
       refl,
       passes,
       λ gone. was.there (gone_back F a.parts v s shows.tables.groups was.rest gone),
-      leaves (ticketed F w s (Fresh (Payload x))) a.parts v shows.tables.lost shows.tables.failures was.fares,
+      leaves (ticketed F w s (Fresh x)) a.parts v shows.tables.lost shows.tables.failures was.fares,
     ) in (
-      fared (ticketed F w s (Fresh (Payload x))) v,
+      fared (ticketed F w s (Fresh x)) v,
       case,
-      shows_after a (fill_view (with_parts a v) s) F (fared (ticketed F w s (Fresh (Payload x))) v) (Fill w s (Payload x)) (Filled s) shows
-          (inside, long ∙ ap (λ (z : Groups). z.payload) (sym shows.tables.groups)) case shows.history.map
-          (wait_units F w s (Fresh (Payload x)) v (waiting_unit a.parts.groups.payload (Payload x))
-          (ap (λ (z : Groups). waiting_unit z.payload (Payload x)) shows.tables.groups) (was.shows F.units shows.units))
-          (wait_tables a v F w s Pending (Fresh (Payload x)) inside refl (Payload x, refl) was.rest was.fares whole shows passes.2),
+      shows_after a (fill_view (with_parts a v) s (kind_of x)) F (fared (ticketed F w s (Fresh x)) v) (Fill w s x) (Filled s) shows
+          (inside, subst (λ (z : Groups). IsSized z.payload x) (sym shows.tables.groups) long) case shows.history.map
+          (wait_units F w s (Fresh x) v (waiting_unit a.parts.groups.payload x)
+          (ap (λ (z : Groups). waiting_unit z.payload x) shows.tables.groups) (was.shows F.units shows.units))
+          (wait_tables a v F w s (Pending (kind_of x)) (Fresh x) inside refl (x, refl, refl) was.rest was.fares whole shows passes.2),
     )
 
 -- the slot is gone
@@ -194,8 +193,8 @@ fill_refused a F w s x r some shows held = go (class_at a.parts.groups s) refl (
     by_cases None is_c k is_k e = subst P (same_Some _ _ e) (F, (held, is_c, itself F), shows)
     by_cases (Some Parity) is_c k is_k e = subst P (same_Some _ _ e) (F, (held, is_c, itself F), shows)
     by_cases (Some Mirrored) is_c Nothing is_k e = absurd (cc)
-    by_cases (Some Mirrored) is_c Pending is_k e = subst P (same_Some _ _ e) (F, (held, is_c, (kept_iff a F s shows).0 (ap is_kept is_k), itself F), shows)
-    by_cases (Some Mirrored) is_c (Moving m) is_k e = subst P (same_Some _ _ e) (F, (held, is_c, (kept_iff a F s shows).0 (ap is_kept is_k), itself F), shows)
+    by_cases (Some Mirrored) is_c (Pending k) is_k e = subst P (same_Some _ _ e) (F, (held, is_c, (kept_iff a F s shows).0 (ap is_kept is_k), itself F), shows)
+    by_cases (Some Mirrored) is_c (Moving m k) is_k e = subst P (same_Some _ _ e) (F, (held, is_c, (kept_iff a F s shows).0 (ap is_kept is_k), itself F), shows)
     by_cases (Some Mirrored) is_c Unmade is_k e = subst P (same_Some _ _ e) (F, (held, is_c, (kept_iff a F s shows).0 (ap is_kept is_k), itself F), shows)
     by_cases (Some Mirrored) is_c (Newest b) is_k e = subst P (same_Some _ _ e) (F, (held, is_c, (kept_iff a F s shows).0 (ap is_kept is_k), itself F), shows)
 

@@ -4,7 +4,7 @@ use Rattle.std.proofs.lemmas.Option.{same_Some}
 use Rattle.map_join.specs.declared.records.Record.{Record}
 use Rattle.map_join.specs.Record.{record_of, record_at}
 use Rattle.flat_machine.specs.Flat.{Flat, Write, Stored, content_in, last_write}
-use Rattle.flat_machine.specs.Cases.{found_of}
+use Rattle.flat_machine.specs.Cases.{found_in, found_of}
 use Rattle.flat_machine.proofs.Newest.{told_at, untold_at, told_key}
 use Rattle.array_parts.specs.Slots.{IsSlot}
 use Rattle.flat_machine.specs.Groups.{class_at}
@@ -45,10 +45,10 @@ newest_write a F b r shows found =
 
 -- a block with a record holds what its unit does
 pub read_some : (a : ArrayView) (F : Flat) (b : ℕ) (r : Record) (u : Stored) → ShowsArray a F → record_at b (key_at a b) ≡ Some r → F.units r.place ≡ Some u
-    → Some (record { version = r.version; content = content_in u }) ≡ found_of (last_write F.writes b)
+    → found_in r.version (content_in u) ≡ found_of (last_write F.writes b)
 read_some a F b r u shows is unit =
     let x = newest_write a F b r shows is in
-    sym (ap found_of x.1 ∙ λ i. Some (record { version = x.3 i; content = (sym (x.2 u unit)) i }))
+    sym (ap found_of x.1 ∙ λ i. found_in (x.3 i) ((sym (x.2 u unit)) i))
 
 -- the newest place is a slot of a group
 pub read_there : (a : ArrayView) (b : ℕ) (r : Record) → IsWhole a → record_at b (key_at a b) ≡ Some r → class_at a.parts.groups r.place ≢ None

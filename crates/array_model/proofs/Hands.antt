@@ -50,8 +50,8 @@ one_hand v F G s h inside old rest here = one_slot (λ t. HandSlot (hand_at (set
 -- nothing is kept of a slot without holder, and no hand has it
 nothing_of : (k : Kept) → not (is_kept k) ≡ true → k ≡ Nothing
 nothing_of Nothing e = refl
-nothing_of Pending e = absurd (cc)
-nothing_of (Moving r) e = absurd (cc)
+nothing_of (Pending k) e = absurd (cc)
+nothing_of (Moving r k) e = absurd (cc)
 nothing_of (Newest b) e = absurd (cc)
 nothing_of Unmade e = absurd (cc)
 
@@ -105,8 +105,8 @@ taken_case v F w s held rep = (refl, holder (hand_at v.hands s) refl, itself F)
   where
     kept_of_not : (k : Kept) → not (is_kept k) ≡ false → is_kept k ≡ true
     kept_of_not Nothing e = absurd (cc)
-    kept_of_not Pending e = refl
-    kept_of_not (Moving r) e = refl
+    kept_of_not (Pending k) e = refl
+    kept_of_not (Moving r k) e = refl
     kept_of_not (Newest b) e = refl
     kept_of_not Unmade e = refl
 

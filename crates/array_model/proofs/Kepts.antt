@@ -17,13 +17,13 @@ pub not_waiting : (k : Kept) (t : Option Waiting) → is_waiting k ≡ false →
 not_waiting Nothing t e is = is
 not_waiting Unmade t e is = is
 not_waiting (Newest b) t e is = is
-not_waiting Pending t e is = absurd (cc)
-not_waiting (Moving r) t e is = absurd (cc)
+not_waiting (Pending k) t e is = absurd (cc)
+not_waiting (Moving r k) t e is = absurd (cc)
 
 -- something waits where one is
 pub ticket_there : (k : Kept) (t : Option Waiting) → is_waiting k ≡ true → IsTicketOf k t → (c : Waiting) × (t ≡ Some c)
-ticket_there Pending t e is = (Fresh is.0, is.1)
-ticket_there (Moving r) t e is = (Moved r.block r.version r.hop is.0, is.1)
+ticket_there (Pending k) t e is = (Fresh is.0, is.1)
+ticket_there (Moving r k) t e is = (Moved r.block r.version r.hop is.0, is.1)
 ticket_there Nothing t e is = absurd (cc)
 ticket_there Unmade t e is = absurd (cc)
 ticket_there (Newest b) t e is = absurd (cc)
@@ -32,8 +32,8 @@ ticket_there (Newest b) t e is = absurd (cc)
 kept_holder : (groups : Groups) (keys : ℕ → ℕ) (s : ℕ) (kept : Kept) (held : Holder → Bool) (t : Option Waiting)
     → HoldersStand groups keys s held t → ArraySlot s kept held t → IsTrue (is_kept kept) → (k : Holder) × (IsArrays k) × (held k ≡ true)
 kept_holder groups keys s Nothing held t is slot e = absurd (cc)
-kept_holder groups keys s Pending held t is slot e = let w = is.waits (Fresh slot.waits.0) slot.waits.1 in (Ticket w.0, for_ticket w.0, w.1)
-kept_holder groups keys s (Moving r) held t is slot e = let w = is.waits (Moved r.block r.version r.hop slot.waits.0) slot.waits.1 in (Ticket w.0, for_ticket w.0, w.1)
+kept_holder groups keys s (Pending k) held t is slot e = let w = is.waits (Fresh slot.waits.0) slot.waits.1 in (Ticket w.0, for_ticket w.0, w.1)
+kept_holder groups keys s (Moving r k) held t is slot e = let w = is.waits (Moved r.block r.version r.hop slot.waits.0) slot.waits.1 in (Ticket w.0, for_ticket w.0, w.1)
 kept_holder groups keys s (Newest b) held t is slot e = (Block b, for_block b, slot.blocks b ∙ equal b b refl)
 kept_holder groups keys s Unmade held t is slot e = (Shut (s / 128), for_shut (s / 128), slot.shut (s / 128) ∙ equal (s / 128) (s / 128) refl)
 
@@ -46,8 +46,8 @@ nothing_kept groups keys s held t is slot _ (for_shut g) = slot.shut g
 holder_kept : (groups : Groups) (keys : ℕ → ℕ) (s : ℕ) (kept : Kept) (held : Holder → Bool) (t : Option Waiting)
     → HoldersStand groups keys s held t → ArraySlot s kept held t → (k : Holder) → IsArrays k → held k ≡ true → IsTrue (is_kept kept)
 holder_kept groups keys s Nothing held t is slot k of e = let bad : true ≡ false = sym e ∙ nothing_kept groups keys s held t is slot k of in absurd (cc)
-holder_kept groups keys s Pending held t is slot k of e = refl
-holder_kept groups keys s (Moving r) held t is slot k of e = refl
+holder_kept groups keys s (Pending l) held t is slot k of e = refl
+holder_kept groups keys s (Moving r l) held t is slot k of e = refl
 holder_kept groups keys s (Newest b) held t is slot k of e = refl
 holder_kept groups keys s Unmade held t is slot k of e = refl
 

@@ -33,22 +33,22 @@ more groups g class members = with_group groups g (Some (record { class = class;
 -- what goes out is a claim of an unmade group, and nothing else
 opened_same : (k : Kept) → (k ≡ Unmade → ⊥) → opened_of k ≡ k
 opened_same Nothing made = refl
-opened_same Pending made = refl
-opened_same (Moving r) made = refl
+opened_same (Pending k) made = refl
+opened_same (Moving r k) made = refl
 opened_same (Newest b) made = refl
 opened_same Unmade made = absurd (made refl)
 
 opened_back : (j k : Kept) → (k ≡ Nothing → ⊥) → opened_of j ≡ k → j ≡ k
 opened_back Nothing k some e = e
-opened_back Pending k some e = e
-opened_back (Moving r) k some e = e
+opened_back (Pending l) k some e = e
+opened_back (Moving r l) k some e = e
 opened_back (Newest b) k some e = e
 opened_back Unmade k some e = absurd (some (sym e))
 
 opened_never : (j : Kept) → opened_of j ≡ Unmade → ⊥
 opened_never Nothing e = cc
-opened_never Pending e = cc
-opened_never (Moving r) e = cc
+opened_never (Pending k) e = cc
+opened_never (Moving r k) e = cc
 opened_never (Newest b) e = cc
 opened_never Unmade e = cc
 
@@ -61,7 +61,7 @@ entered_whole a v kept g class members whole lowest reason e opened drives = rec
   fit = whole.fit;
   newest = λ b some. seated (record_of b (key_at a b)).place (Newest b) (λ e. cc) (whole.newest b some);
   only = λ s b is. whole.only s b (was s (Newest b) (λ e. cc) is);
-  moving = λ s r is. whole.moving s r (was s (Moving r) (λ e. cc) is);
+  moving = λ s r k is. whole.moving s r k (was s (Moving r k) (λ e. cc) is);
   there = λ s some made. subst (λ (z : Groups). class_at z s ≢ None) (sym e.groups)
       (class_kept a.parts.groups g (record { class = class; members = members }) s lowest.free (there s some made (cases_eq (s / 128) g)));
   unmade = λ s is. subst (λ (z : Groups). group_at z (s / 128) ≡ None) (sym e.groups) (unmade s is (cases_eq (s / 128) g));
@@ -106,15 +106,15 @@ and_true false = refl
 
 opened_newest : (k : Kept) (c : ℕ) → is_newest k c ≡ is_newest (opened_of k) c
 opened_newest Nothing c = refl
-opened_newest Pending c = refl
-opened_newest (Moving r) c = refl
+opened_newest (Pending k) c = refl
+opened_newest (Moving r k) c = refl
 opened_newest (Newest b) c = refl
 opened_newest Unmade c = refl
 
 opened_ticket : (k : Kept) (t : Option Waiting) → IsTicketOf k t → IsTicketOf (opened_of k) t
 opened_ticket Nothing t is = is
-opened_ticket Pending t is = is
-opened_ticket (Moving r) t is = is
+opened_ticket (Pending k) t is = is
+opened_ticket (Moving r k) t is = is
 opened_ticket (Newest b) t is = is
 opened_ticket Unmade t is = is
 
@@ -140,8 +140,8 @@ entered_tables a v kept F g class members e opened shows = record {
       where
         gone : (k : Kept) → (is_shut k s h && not (h == g)) ≡ is_shut (opened_of k) s h
         gone Nothing = refl
-        gone Pending = refl
-        gone (Moving r) = refl
+        gone (Pending k) = refl
+        gone (Moving r k) = refl
         gone (Newest b) = refl
         gone Unmade = ap (λ n. (h == n) && not (h == g)) same ∙ never (h == g)
           where
@@ -152,8 +152,8 @@ entered_tables a v kept F g class members e opened shows = record {
       where
         stays : (k : Kept) → (is_shut k s h && not (h == g)) ≡ is_shut k s h
         stays Nothing = refl
-        stays Pending = refl
-        stays (Moving r) = refl
+        stays (Pending k) = refl
+        stays (Moving r k) = refl
         stays (Newest b) = refl
         stays Unmade = go (cases_eq h g)
           where

@@ -48,9 +48,9 @@ lies_at a s whole = go (kept_at a s) refl
 
     go : (k : Kept) → kept_at a s ≡ k → IsBlockAt (key_at a) s (block_in k)
     go Nothing e = other Nothing e (λ b is. cc)
-    go Pending e = other Pending e (λ b is. cc)
+    go (Pending k) e = other (Pending k) e (λ b is. cc)
     go Unmade e = other Unmade e (λ b is. cc)
-    go (Moving r) e = other (Moving r) e (λ b is. cc)
+    go (Moving r k) e = other (Moving r k) e (λ b is. cc)
     go (Newest b) e =
         let only = whole.only s b e in
         (record_of b (key_at a b), flat.told_at b (key_at a b) (whole.keys b only.0), only.1)

@@ -22,7 +22,7 @@ new_whole a new sizes = record {
   keys = λ b some. let e = new.keys b in absurd (omega arith);
   newest = λ b some. let e = new.keys b in absurd (omega arith);
   only = λ s b is. let bad : Nothing ≡ Newest b = sym (new.kept s) ∙ is in absurd (cc);
-  moving = λ s r is. let bad : Nothing ≡ Moving r = sym (new.kept s) ∙ is in absurd (cc);
+  moving = λ s r k is. let bad : Nothing ≡ Moving r k = sym (new.kept s) ∙ is in absurd (cc);
   there = λ s kept made. absurd (kept (new.kept s));
   unmade = λ s is. let bad : Nothing ≡ Unmade = sym (new.kept s) ∙ is in absurd (cc);
   groups = record {

@@ -2,6 +2,7 @@
 use Rattle.std.proofs.Common.{◌≡◌, ◌≢◌, ℕ, ◌+◌, ◌/◌, ◌<◌, ◌≤◌, Bool, true, false, [], ◌∷◌, length, refl, sym, ap, ◌∙◌, subst, arith, inl, inr, Option, Some, None}
 use Rattle.std.specs.Prelude.{slice_get}
 use Rattle.std.proofs.lemmas.List.{length-append}
+use Rattle.extents.specs.Failures.{Failures, no_failures}
 use Rattle.extents.specs.Owners.{Owners, with_owner}
 use Rattle.extent_groups.specs.declared.class.Member.{Member}
 use Rattle.extent_groups.specs.Groups.{Groups, group_at, members_of, with_group, swapped_in, Agree}
@@ -23,7 +24,7 @@ use Rattle.array_model.specs.Represents.{InTables, ShowsArray}
 use Rattle.array_model.proofs.Fares.{fared, itself, leaves, lost_shows, lost_leaves}
 use Rattle.array_model.proofs.Slots.{shows_after}
 
-pub added_whole : (a : ArrayView) (v : PartsView) (lost : Bool) (failures : ℕ) → IsWhole a → WasAdded a.parts lost failures v → AreDrives drive_units v.groups v.drives
+pub added_whole : (a : ArrayView) (v : PartsView) (lost : Bool) (failures : Failures) → IsWhole a → WasAdded a.parts lost failures v → AreDrives drive_units v.groups v.drives
     → IsWhole (with_parts a v)
 added_whole a v lost failures whole e drives = record {
   room = record { kept = whole.room.kept; keys = whole.room.keys ∙ ap (λ (z : Groups). z.blocks) (sym e.groups) };
@@ -46,7 +47,7 @@ added_whole a v lost failures whole e drives = record {
 }
 
 -- the array with a drive more stands for the state with one
-pub added_shows : (a : ArrayView) (v : PartsView) (F : Flat) (lost : Bool) (failures : ℕ) → ShowsArray a F → WasAdded a.parts lost failures v → length a.parts.drives < 16
+pub added_shows : (a : ArrayView) (v : PartsView) (F : Flat) (lost : Bool) (failures : Failures) → ShowsArray a F → WasAdded a.parts lost failures v → length a.parts.drives < 16
     → ShowsArray (with_parts a v) (with_new_drive F lost failures)
 added_shows a v F lost failures shows e room = record {
   history = add_keeps F (key_at a) lost failures shows.history (subst (λ n. n < 16) (sym shows.tables.drives) room);
@@ -67,7 +68,7 @@ added_shows a v F lost failures shows e room = record {
     failures_same : (d : ℕ) → put F.failures F.drives failures d ≡ failed_of v d
     failures_same d = ap (λ n. put F.failures n failures d) shows.tables.drives ∙ ap (λ f. put f (length a.parts.drives) failures d) shows.tables.failures ∙ sym (e.failures_are d)
 
-pub add_case : (F : Flat) (a : ArrayView) → ShowsArray a F → length a.parts.drives < 16 → AddCase F (AddedDrive (length a.parts.drives)) (with_new_drive F false 0)
+pub add_case : (F : Flat) (a : ArrayView) → ShowsArray a F → length a.parts.drives < 16 → AddCase F (AddedDrive (length a.parts.drives)) (with_new_drive F false no_failures)
 add_case F a shows room = (sym shows.tables.drives, subst (λ n. n < 16) (sym shows.tables.drives) room, refl)
 
 pub add_full : (F : Flat) (a : ArrayView) → ShowsArray a F → 16 ≤ length a.parts.drives → AddCase F (Refused Full) F

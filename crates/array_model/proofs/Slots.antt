@@ -15,16 +15,16 @@ use Rattle.array_model.specs.Represents.{ArraySlot, InTables, ShowsArray, HandSl
 
 -- a slot that waits is no block's newest place
 waiting_none : (k : Kept) → is_waiting k ≡ true → (b : ℕ) → is_newest k b ≡ false
-waiting_none Pending e b = refl
-waiting_none (Moving r) e b = refl
+waiting_none (Pending k) e b = refl
+waiting_none (Moving r k) e b = refl
 waiting_none Nothing e b = absurd (cc)
 waiting_none Unmade e b = absurd (cc)
 waiting_none (Newest c) e b = absurd (cc)
 
 -- nor of an unmade group
 waiting_open : (k : Kept) → is_waiting k ≡ true → (s g : ℕ) → is_shut k s g ≡ false
-waiting_open Pending e s g = refl
-waiting_open (Moving r) e s g = refl
+waiting_open (Pending k) e s g = refl
+waiting_open (Moving r k) e s g = refl
 waiting_open Nothing e s g = absurd (cc)
 waiting_open (Newest c) e s g = absurd (cc)
 waiting_open Unmade e s g = absurd (cc)

@@ -84,7 +84,7 @@ module _ (a : ArrayView) (v : PartsView) (kept : List Kept) (g : ℕ) (whole : I
     fit = whole.fit;
     newest = λ b some. seated (record_of b (key_at a b)).place (Newest b) (λ q. cc) (whole.newest b some);
     only = λ s b is. whole.only s b (was s (Newest b) (λ q. cc) is);
-    moving = λ s r is. whole.moving s r (was s (Moving r) (λ q. cc) is);
+    moving = λ s r k is. whole.moving s r k (was s (Moving r k) (λ q. cc) is);
     there = λ s some other. subst (λ (z : Groups). class_at z s ≢ None) (sym e.groups) (there s some other);
     unmade = λ s is. subst (λ (z : Groups). group_at z (s / 128) ≡ None) (sym e.groups) (open_number s is);
     groups = subst (λ (z : Groups). GroupsStand z (length v.drives)) (sym e.groups)

@@ -11,8 +11,8 @@ abbrev pub IsPlaced : (ℕ → ℕ) → ℕ → Kept → Type 0
 IsPlaced keys slot Unmade = ⊥
 IsPlaced keys slot Nothing = (b : ℕ) → 0 < keys b → (record_of b (keys b)).place ≡ slot → ⊥
 IsPlaced keys slot (Newest b) = (0 < keys b) × ((record_of b (keys b)).place ≡ slot)
-IsPlaced keys slot Pending = ⊥
-IsPlaced keys slot (Moving r) = ⊥
+IsPlaced keys slot (Pending k) = ⊥
+IsPlaced keys slot (Moving r k) = ⊥
 
 -- an array of these parts with this map: the map's list is its log, it keeps the newest places, and nothing is pending
 pub record IsAdopted (v : PartsView) (keys : ℕ → ℕ) (a : ArrayView) : Type 0 where

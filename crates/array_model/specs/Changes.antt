@@ -2,6 +2,8 @@
 use Rattle.std.specs.Prelude.{◌≡◌, ℕ, ◌+◌, ◌/◌, ◌%◌, ◌<◌, ◌==◌, ◌&&◌, Bool, nat_le, List, [], ◌∷◌, ◌++◌, length, slice_index_or, slice_set, if◌then◌else◌, Option, Some, None}
 use Rattle.map_join.specs.declared.records.Record.{Record}
 use Rattle.map_join.specs.Record.{key_of}
+use Rattle.extents.specs.declared.header.Kind.{Kind}
+use Rattle.extents.specs.declared.header.Kind.TheVariants as kind
 use Rattle.extent_groups.specs.declared.class.Class.{Class}
 use Rattle.extent_groups.specs.declared.class.Class.TheVariants.{Mirrored, Parity}
 use Rattle.flat_machine.specs.declared.refusal.Refusal.{Refusal}
@@ -23,14 +25,14 @@ MayRefuse _ wanted p = p
 abbrev pub wait_view : ArrayView → ℕ → Kept → ArrayView
 wait_view a slot kept = record a { kept = slice_set a.kept slot kept }
 
--- the array after a fill, and after a copy of a record's payload
-abbrev pub fill_view : ArrayView → ℕ → ArrayView
-fill_view a slot = wait_view a slot Pending
+-- the array after a fill of this kind, and after a copy of a record of this kind
+abbrev pub fill_view : ArrayView → ℕ → Kind → ArrayView
+fill_view a slot k = wait_view a slot (Pending k)
 
-abbrev pub copy_view : ArrayView → ℕ → Record → ArrayView
-copy_view a slot r = wait_view a slot (Moving r)
+abbrev pub copy_view : ArrayView → ℕ → Record → Kind → ArrayView
+copy_view a slot r k = wait_view a slot (Moving r k)
 
--- why a fresh payload can't go into the slot
+-- why no fresh content, a payload or a trim, can go into the slot
 abbrev pub fill_reason_of : Option Class → Kept → Option Refusal
 fill_reason_of None _ = Some NoGroup
 fill_reason_of (Some Parity) _ = Some WrongClass
@@ -40,7 +42,7 @@ fill_reason_of (Some Mirrored) _ = Some InUse
 abbrev pub fill_reason : ArrayView → ℕ → Option Refusal
 fill_reason a slot = fill_reason_of (class_at a.parts.groups slot) (kept_at a slot)
 
--- why a block's newest payload can't be copied into the slot
+-- why a block's newest content can't be copied into the slot
 abbrev pub copy_reason_of : Option Class → Kept → Option Record → Option Refusal
 copy_reason_of None _ _ = Some NoGroup
 copy_reason_of (Some class) Nothing None = Some Unwritten
@@ -92,7 +94,7 @@ commit_view a slot block found r = record a {
 abbrev pub full_reason : ArrayView → Option Refusal
 full_reason a = if nat_le longest_log (length a.log) then Some LogFull else None
 
--- a fresh payload: the block's versions are spent
+-- a fresh content: the block's versions are spent
 abbrev pub version_reason : Option Record → Option Refusal
 version_reason found = if next_version found == last_version + 1 then Some VersionSpent else None
 
@@ -105,8 +107,8 @@ stamp_reason r block None = Some NoTicket
 stamp_reason r block (Some n) = if r.block == block then (if has_stamp n r then None else Some (Outrun n)) else Some NoTicket
 
 abbrev pub ticket_reason : Kept → ℕ → Option Record → Option Refusal
-ticket_reason Pending block found = version_reason found
-ticket_reason (Moving r) block found = stamp_reason r block found
+ticket_reason (Pending k) block found = version_reason found
+ticket_reason (Moving r k) block found = stamp_reason r block found
 ticket_reason _ block found = Some NoTicket
 
 abbrev pub commit_reason_of : ArrayView → Kept → ℕ → Option Record → Option Refusal
@@ -117,12 +119,18 @@ commit_reason a slot block found = commit_reason_of a (kept_at a slot) block fou
 
 -- the version and the hop that a commit of what is kept gives
 abbrev pub version_given : Kept → Option Record → ℕ
-version_given (Moving r) found = r.version
+version_given (Moving r k) found = r.version
 version_given _ found = next_version found
 
 abbrev pub hop_given : Kept → ℕ
-hop_given (Moving r) = r.hop + 1
+hop_given (Moving r k) = r.hop + 1
 hop_given _ = 0
+
+-- the kind of what waits, which goes into its header
+abbrev pub kind_given : Kept → Kind
+kind_given (Pending k) = k
+kind_given (Moving r k) = k
+kind_given _ = kind.Data
 
 -- the record that a commit emits
 abbrev pub commit_record : ArrayView → ℕ → ℕ → Option Record → Record

@@ -1,7 +1,7 @@
 -- When an array or a world stands for a flat state: what is true of that state by itself, and what their tables have to do
 -- with it.
 use Rattle.std.specs.Prelude.{◌≡◌, ℕ, length, ◌==◌, ◌/◌, Bool, false, Option, Some, None}
-use Rattle.flat_machine.specs.Flat.{Flat, Content, Holder, Worker, Ticket, Block, Shut, Waiting, Fresh, Moved}
+use Rattle.flat_machine.specs.Flat.{Flat, Content, Holder, Worker, Ticket, Block, Shut, Waiting, Fresh, Moved, kind_of}
 use Rattle.array_parts.specs.Views.{Shows, lost_of, failed_of}
 use Rattle.flat_machine.specs.History.{IsHistory, AreHeld}
 use Rattle.array_model.specs.declared.hand.Hand.{Hand}
@@ -18,10 +18,10 @@ abbrev pub is_shut : Kept → ℕ → ℕ → Bool
 is_shut Unmade s g = g == s / 128
 is_shut _ s g = false
 
--- what waits at a slot, told from what is kept of it; its content is told by its unit
+-- what waits at a slot, told from what is kept of it; of its content the kind, and the rest is told by its unit
 abbrev pub IsTicketOf : Kept → Option Waiting → Type 0
-IsTicketOf Pending ticket = (x : Content) × (ticket ≡ Some (Fresh x))
-IsTicketOf (Moving r) ticket = (x : Content) × (ticket ≡ Some (Moved r.block r.version r.hop x))
+IsTicketOf (Pending k) ticket = (x : Content) × (ticket ≡ Some (Fresh x)) × (k ≡ kind_of x)
+IsTicketOf (Moving r k) ticket = (x : Content) × (ticket ≡ Some (Moved r.block r.version r.hop x)) × (k ≡ kind_of x)
 IsTicketOf _ ticket = ticket ≡ None
 
 -- what the array's tables say of one slot: the block whose newest place it is, the unmade group of which its claim is kept, and

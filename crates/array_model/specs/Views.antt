@@ -2,6 +2,7 @@
 use Rattle.std.specs.Prelude.{◌≡◌, ◌≢◌, ℕ, ◌<◌, ◌≤◌, ◌/◌, ◌^◌, Bool, true, false, not, List, [], slice_index, slice_index_or, length, Option, Some, None}
 use Rattle.map_join.specs.declared.records.Record.{Record}
 use Rattle.map_join.specs.Record.{record_of}
+use Rattle.extents.specs.declared.header.Kind.{Kind}
 use Rattle.extent_groups.specs.Groups.{Agree, group_at}
 use Rattle.extent_groups.specs.Stores.{AreDrives}
 use Rattle.array_parts.specs.Views.{PartsView, drive_units}
@@ -9,36 +10,36 @@ use Rattle.flat_machine.specs.Groups.{IsEmpty, GroupsStand, class_at}
 use Rattle.array_model.specs.declared.hand.Hand.{Hand}
 use Rattle.array_model.specs.declared.hand.Hand.TheVariants.{Empty, Holds, Waits}
 
--- what the array itself keeps of a slot: nothing, the claim of a ticket with a fresh payload or with a copy of a record's,
--- the claim of a block's newest place, or that of a slot of an unmade group
+-- what the array itself keeps of a slot: nothing, the claim of a ticket with a fresh content of a kind or with a copy of a
+-- record's content and its kind, the claim of a block's newest place, or that of a slot of an unmade group
 pub data Kept : Type 0 where
   Nothing : Kept
-  Pending : Kept
-  Moving : Record → Kept
+  Pending : Kind → Kept
+  Moving : Record → Kind → Kept
   Newest : ℕ → Kept
   Unmade : Kept
 
 -- the array keeps the slot
 abbrev pub is_kept : Kept → Bool
 is_kept Nothing = false
-is_kept Pending = true
-is_kept (Moving r) = true
+is_kept (Pending k) = true
+is_kept (Moving r k) = true
 is_kept (Newest block) = true
 is_kept Unmade = true
 
 -- the block whose newest place the slot is, if any
 abbrev pub block_in : Kept → Option ℕ
 block_in Nothing = None
-block_in Pending = None
-block_in (Moving r) = None
+block_in (Pending k) = None
+block_in (Moving r k) = None
 block_in (Newest block) = Some block
 block_in Unmade = None
 
 -- a ticket waits at the slot
 abbrev pub is_waiting : Kept → Bool
 is_waiting Nothing = false
-is_waiting Pending = true
-is_waiting (Moving r) = true
+is_waiting (Pending k) = true
+is_waiting (Moving r k) = true
 is_waiting (Newest block) = false
 is_waiting Unmade = false
 
@@ -86,7 +87,7 @@ pub record IsWhole (a : ArrayView) : Type 0 where
   pub fit : (b : ℕ) → key_at a b < 2 ^ 64
   pub newest : (b : ℕ) → 0 < key_at a b → kept_at a (record_of b (key_at a b)).place ≡ Newest b
   pub only : (s b : ℕ) → kept_at a s ≡ Newest b → (0 < key_at a b) × ((record_of b (key_at a b)).place ≡ s)
-  pub moving : (s : ℕ) (r : Record) → kept_at a s ≡ Moving r → r.hop < 65535
+  pub moving : (s : ℕ) (r : Record) (k : Kind) → kept_at a s ≡ Moving r k → r.hop < 65535
   pub there : (s : ℕ) → kept_at a s ≢ Nothing → kept_at a s ≢ Unmade → class_at a.parts.groups s ≢ None
   pub unmade : (s : ℕ) → kept_at a s ≡ Unmade → group_at a.parts.groups (s / 128) ≡ None
   pub groups : GroupsStand a.parts.groups (length a.parts.drives)

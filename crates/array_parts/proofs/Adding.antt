@@ -3,6 +3,7 @@ use Rattle.std.proofs.Common.{◌≡◌, ℕ, zero, suc, ◌+◌, ◌*◌, ◌<�
 use Rattle.std.specs.Prelude.{slice_get}
 use Rattle.std.proofs.lemmas.List.{length-append}
 use Rattle.std.proofs.lemmas.Bool.{cases_eq}
+use Rattle.extents.specs.Failures.{Failures}
 use Rattle.extents.specs.Owners.{Owners, with_drive}
 use Rattle.extents.specs.Sizes.{extent_units}
 use Rattle.extents.specs.Units.{IsSized}
@@ -19,7 +20,7 @@ use Rattle.array_parts.specs.Losses.{failures_at, failures_of}
 use Rattle.array_parts.specs.Shows.{ShowsUnits}
 use Rattle.array_parts.specs.Slots.{cells_in, missing_in}
 use Rattle.array_parts.specs.Views.{view_of, WasAdded}
-use Rattle.array_parts.proofs.Calls.{shows_in, shows_out}
+use Rattle.array_parts.proofs.Calls.{shows_in, shows_out, all_kept}
 use Rattle.array_parts.proofs.Shows.{shows_kept}
 use Rattle.array_parts.proofs.Views.{view_lost, view_failures, view_length}
 
@@ -50,7 +51,7 @@ pub record IsOneMore {D : Type 0} (p q : Parts D) (y : D) : Type 0 where
   pub extents : q.extents ≡ with_drive p.extents
   pub drives : q.drives.items ≡ p.drives.items ++ y ∷ []
 
-module _ {D : Type 0} (units : D → List (List ℕ)) (lost : D → Bool) (failures : D → ℕ) (p q : Parts D) (y : D) (fit : IsFit units p) (more : IsOneMore p q y)
+module _ {D : Type 0} (units : D → List (List ℕ)) (lost : D → Bool) (failures : D → Failures) (p q : Parts D) (y : D) (fit : IsFit units p) (more : IsOneMore p q y)
     (many : length (units y) ≡ p.groups.extents * extent_units p.groups.segments) (sized : IsSized (unit_bytes p.groups) (units y)) where
   abbrev all : AreDrives units p.groups (p.drives.items ++ y ∷ [])
       × ((slot : ℕ) → unit_of p.groups (cells units lost (p.drives.items ++ y ∷ [])) slot ≡ unit_of p.groups (cells units lost p.drives.items) slot)
@@ -76,8 +77,12 @@ module _ {D : Type 0} (units : D → List (List ℕ)) (lost : D → Bool) (failu
   shown f was = rw (more.groups, more.drives) (shows_kept p.groups (cells_in units lost p) (cells units lost (p.drives.items ++ y ∷ [])) f was
       (λ slot v at. sym (all.1 slot) ∙ at) (all.2 was.sound))
 
+  kept : AreSound p.groups (cells_in units lost p) → (slot : ℕ) (v : List ℕ) → unit_of q.groups (cells_in units lost q) slot ≡ Some v → unit_of p.groups (cells_in units lost p) slot ≡ Some v
+  kept sound slot v = rw (more.groups, more.drives) (λ at. sym (all.1 slot) ∙ at)
+
   pub was_added : WasAdded (view_of units lost failures p) (lost y) (failures y) (view_of units lost failures q)
   was_added = record {
+    bytes = all_kept units lost failures p q kept;
     many = view_length units lost failures q ∙ count ∙ sym (ap (λ n. n + 1) (view_length units lost failures p));
     lost_are = λ d. ap (λ f. f d) (view_lost units lost failures q) ∙ ap (λ ds. is_missing lost (slice_get ds d)) more.drives ∙ told_pushed (is_missing lost) p.drives.items y d
         ∙ ap (λ n. put (missing_in lost p) n (lost y) d) (sym (view_length units lost failures p))

@@ -1,11 +1,17 @@
 -- What calls of the drives leave, told of the parts as plain data.
-use Rattle.std.proofs.Common.{◌≡◌, ℕ, Bool, Option, Some, None, List, ◌++◌, ◌-◌, length, take, drop, inl, inr, refl, sym, ◌∙◌, ap, subst, arith, ◌+◌, true, false}
+use Rattle.std.proofs.Common.{◌≡◌, ◌≢◌, ℕ, Bool, Option, Some, None, List, ◌++◌, ◌-◌, length, take, drop, inl, inr, sym, ◌∙◌, ap, subst, ◌+◌, true}
+use Rattle.std.specs.Prelude.{replicate}
 use Rattle.std.proofs.Math.Seq.{take-length}
-use Rattle.std.proofs.lemmas.List.{length-drop}
+use Rattle.std.proofs.lemmas.List.{length-drop, take_at}
 use Rattle.std.proofs.lemmas.Option.{none-some}
+use Rattle.extents.specs.Failures.{Failures}
+use Rattle.extents.proofs.Failures.{counts_more, steady_more}
 use Rattle.extents.specs.declared.header.Header.{Header}
-use Rattle.extents.specs.Header.{header_bytes, record_in, IsHeader}
-use Rattle.extents.specs.Units.{loss}
+use Rattle.extents.specs.declared.header.Header.TheVariants.{Blank}
+use Rattle.extents.specs.declared.header.Kind.{Kind}
+use Rattle.extents.specs.declared.header.Kind.TheVariants as kind
+use Rattle.extents.specs.Header.{header_bytes, record_in, kind_in, IsHeader}
+use Rattle.extents.proofs.Headers.{length-header_bytes}
 use Rattle.extent_groups.specs.Groups.{Groups}
 use Rattle.extent_groups.specs.Cells.{Cells}
 use Rattle.extent_groups.specs.Missing.{IsGone, IsGoneAt}
@@ -13,7 +19,7 @@ use Rattle.extent_groups.specs.Units.{Site, Pair, InStripe}
 use Rattle.extent_groups.specs.Stores.{unit_of, AreSound, KeepsUnits, Wrote}
 use Rattle.extent_groups.proofs.Places.{same_or_not}
 use Rattle.flat_machine.specs.declared.refusal.Refusal.{Refusal}
-use Rattle.flat_machine.specs.Flat.{Stored, Payload, put}
+use Rattle.flat_machine.specs.Flat.{Stored, Trim, content_under, content_in, waiting_unit, put}
 use Rattle.flat_machine.specs.Steps.{Seen, Data, Stale}
 use Rattle.flat_machine.specs.Cases.{Fares, IsSeen}
 use Rattle.map_join.specs.declared.records.Record.{Record}
@@ -21,31 +27,31 @@ use Rattle.array_parts.specs.declared.parts.Parts.{Parts}
 use Rattle.array_parts.specs.Losses.{AllFare, KeepsTables}
 use Rattle.array_parts.specs.Shows.{IsUnit, ShowsUnits}
 use Rattle.array_parts.specs.Slots.{cells_in, missing_in, TellsGone}
-use Rattle.array_parts.specs.Views.{PartsView, view_of, lost_of, Shows, IsLost, DrivesFare, SameTables, Loses, FoundGone, WasPut, WasCarried, WasNotCarried, WasRead, SawUnit}
-use Rattle.array_parts.proofs.Shows.{shows_kept, shows_wrote, unit_of_header}
+use Rattle.array_parts.specs.Views.{PartsView, view_of, lost_of, Shows, IsLost, DrivesFare, SameTables, KeepsBytes, KeepsOtherBytes, bytes_at, Loses, FoundGone, WasPut, WasCopied, WasCarried, WasNotCarried, WasRead, SawUnit}
+use Rattle.array_parts.proofs.Shows.{shows_kept, shows_wrote, unit_of_header, zero_unit}
 use Rattle.array_parts.proofs.Views.{view_cells, view_lost, view_fares}
 
 -- what the drives of the parts show
-pub shows_in : {D : Type 0} (units : D → List (List ℕ)) (lost : D → Bool) (failures : D → ℕ) (p : Parts D) (f : ℕ → Option Stored) → Shows (view_of units lost failures p) f
+pub shows_in : {D : Type 0} (units : D → List (List ℕ)) (lost : D → Bool) (failures : D → Failures) (p : Parts D) (f : ℕ → Option Stored) → Shows (view_of units lost failures p) f
     → ShowsUnits p.groups (cells_in units lost p) f
 shows_in units lost failures p f shows = subst (λ c. ShowsUnits p.groups c f) (view_cells units lost failures p) shows
 
-pub shows_out : {D : Type 0} (units : D → List (List ℕ)) (lost : D → Bool) (failures : D → ℕ) (p : Parts D) (f : ℕ → Option Stored) → ShowsUnits p.groups (cells_in units lost p) f
+pub shows_out : {D : Type 0} (units : D → List (List ℕ)) (lost : D → Bool) (failures : D → Failures) (p : Parts D) (f : ℕ → Option Stored) → ShowsUnits p.groups (cells_in units lost p) f
     → Shows (view_of units lost failures p) f
 shows_out units lost failures p f shows = subst (λ c. ShowsUnits p.groups c f) (sym (view_cells units lost failures p)) shows
 
 -- which of their slots are gone
-pub lost_in : {D : Type 0} (units : D → List (List ℕ)) (lost : D → Bool) (failures : D → ℕ) (p : Parts D) (slot : ℕ) → IsLost (view_of units lost failures p) slot → IsGone p.groups (missing_in lost p) slot
+pub lost_in : {D : Type 0} (units : D → List (List ℕ)) (lost : D → Bool) (failures : D → Failures) (p : Parts D) (slot : ℕ) → IsLost (view_of units lost failures p) slot → IsGone p.groups (missing_in lost p) slot
 lost_in units lost failures p slot gone = subst (λ m. IsGone p.groups m slot) (view_lost units lost failures p) gone
 
-pub lost_out : {D : Type 0} (units : D → List (List ℕ)) (lost : D → Bool) (failures : D → ℕ) (p : Parts D) (slot : ℕ) → IsGone p.groups (missing_in lost p) slot → IsLost (view_of units lost failures p) slot
+pub lost_out : {D : Type 0} (units : D → List (List ℕ)) (lost : D → Bool) (failures : D → Failures) (p : Parts D) (slot : ℕ) → IsGone p.groups (missing_in lost p) slot → IsLost (view_of units lost failures p) slot
 lost_out units lost failures p slot gone = subst (λ m. IsGone p.groups m slot) (sym (view_lost units lost failures p)) gone
 
-pub same_tables : {D : Type 0} (units : D → List (List ℕ)) (lost : D → Bool) (failures : D → ℕ) (p q : Parts D) → KeepsTables p q → SameTables (view_of units lost failures p) (view_of units lost failures q)
+pub same_tables : {D : Type 0} (units : D → List (List ℕ)) (lost : D → Bool) (failures : D → Failures) (p q : Parts D) → KeepsTables p q → SameTables (view_of units lost failures p) (view_of units lost failures q)
 same_tables units lost failures p q tables = record { groups = tables.groups; owners = tables.extents }
 
 -- units that are kept are shown
-pub kept_shows : {D : Type 0} (units : D → List (List ℕ)) (lost : D → Bool) (failures : D → ℕ) (p q : Parts D) → KeepsTables p q
+pub kept_shows : {D : Type 0} (units : D → List (List ℕ)) (lost : D → Bool) (failures : D → Failures) (p q : Parts D) → KeepsTables p q
     → (AreSound p.groups (cells_in units lost p) → KeepsUnits p.groups (cells_in units lost p) (cells_in units lost q))
     → (AreSound p.groups (cells_in units lost p) → AreSound p.groups (cells_in units lost q))
     → (f : ℕ → Option Stored) → Shows (view_of units lost failures p) f → Shows (view_of units lost failures q) f
@@ -54,19 +60,49 @@ kept_shows units lost failures p q tables keeps sound f shows =
     shows_out units lost failures q f (subst (λ t. ShowsUnits t (cells_in units lost q) f) (sym tables.groups)
     (shows_kept p.groups (cells_in units lost p) (cells_in units lost q) f was (keeps was.sound) (sound was.sound)))
 
+-- the bytes of a slot's unit, as the parts have it and as their view does
+bytes_in : {D : Type 0} (units : D → List (List ℕ)) (lost : D → Bool) (failures : D → Failures) (p : Parts D) (slot : ℕ) (bytes : List ℕ) → bytes_at (view_of units lost failures p) slot ≡ Some bytes
+    → unit_of p.groups (cells_in units lost p) slot ≡ Some bytes
+bytes_in units lost failures p slot bytes e = subst (λ c. unit_of p.groups c slot ≡ Some bytes) (view_cells units lost failures p) e
+
+bytes_out : {D : Type 0} (units : D → List (List ℕ)) (lost : D → Bool) (failures : D → Failures) (p : Parts D) (slot : ℕ) (bytes : List ℕ) → unit_of p.groups (cells_in units lost p) slot ≡ Some bytes
+    → bytes_at (view_of units lost failures p) slot ≡ Some bytes
+bytes_out units lost failures p slot bytes e = subst (λ c. unit_of p.groups c slot ≡ Some bytes) (sym (view_cells units lost failures p)) e
+
+-- units of some slots that are kept are kept byte for byte, however the tables changed
+pub some_kept : {D : Type 0} (units : D → List (List ℕ)) (lost : D → Bool) (failures : D → Failures) (p q : Parts D) (which : ℕ → Type 0)
+    → (AreSound p.groups (cells_in units lost p) → (slot : ℕ) (v : List ℕ) → which slot → unit_of q.groups (cells_in units lost q) slot ≡ Some v → unit_of p.groups (cells_in units lost p) slot ≡ Some v)
+    → (f : ℕ → Option Stored) → Shows (view_of units lost failures p) f → (slot : ℕ) (v : List ℕ) → which slot → bytes_at (view_of units lost failures q) slot ≡ Some v
+    → bytes_at (view_of units lost failures p) slot ≡ Some v
+some_kept units lost failures p q which keeps f shows slot v is e =
+    bytes_out units lost failures p slot v (keeps (shows_in units lost failures p f shows).sound slot v is (bytes_in units lost failures q slot v e))
+
+pub all_kept : {D : Type 0} (units : D → List (List ℕ)) (lost : D → Bool) (failures : D → Failures) (p q : Parts D)
+    → (AreSound p.groups (cells_in units lost p) → (slot : ℕ) (v : List ℕ) → unit_of q.groups (cells_in units lost q) slot ≡ Some v → unit_of p.groups (cells_in units lost p) slot ≡ Some v)
+    → KeepsBytes (view_of units lost failures p) (view_of units lost failures q)
+all_kept units lost failures p q keeps f shows slot v e = some_kept units lost failures p q (λ s. Unit {0}) (λ sound s w is. keeps sound s w) f shows slot v tt e
+
+-- the same where the tables are as they were
+pub kept_bytes : {D : Type 0} (units : D → List (List ℕ)) (lost : D → Bool) (failures : D → Failures) (p q : Parts D) → KeepsTables p q
+    → (AreSound p.groups (cells_in units lost p) → KeepsUnits p.groups (cells_in units lost p) (cells_in units lost q))
+    → KeepsBytes (view_of units lost failures p) (view_of units lost failures q)
+kept_bytes units lost failures p q tables keeps =
+    all_kept units lost failures p q (λ sound slot v e. keeps sound slot v (subst (λ t. unit_of t (cells_in units lost q) slot ≡ Some v) tables.groups e))
+
 -- drives that were read may be lost
-pub loses_view : {D : Type 0} (units : D → List (List ℕ)) (lost : D → Bool) (failures : D → ℕ) (p q : Parts D) → KeepsTables p q → AllFare lost failures p.drives.items q.drives.items
+pub loses_view : {D : Type 0} (units : D → List (List ℕ)) (lost : D → Bool) (failures : D → Failures) (p q : Parts D) → KeepsTables p q → AllFare lost failures p.drives.items q.drives.items
     → (AreSound p.groups (cells_in units lost p) → KeepsUnits p.groups (cells_in units lost p) (cells_in units lost q))
     → (AreSound p.groups (cells_in units lost p) → AreSound q.groups (cells_in units lost q))
     → Loses (view_of units lost failures p) (view_of units lost failures q)
 loses_view units lost failures p q tables fares keeps sound = record {
+  bytes = kept_bytes units lost failures p q tables keeps;
   fares = view_fares units lost failures p q fares;
   shows = kept_shows units lost failures p q tables keeps (λ s. subst (λ t. AreSound t (cells_in units lost q)) tables.groups (sound s));
   rest = same_tables units lost failures p q tables;
 }
 
 -- a slot that was found gone
-pub found_gone : {D : Type 0} (units : D → List (List ℕ)) (lost : D → Bool) (failures : D → ℕ) (p q : Parts D) (slot : ℕ) (refusal : Refusal)
+pub found_gone : {D : Type 0} (units : D → List (List ℕ)) (lost : D → Bool) (failures : D → Failures) (p q : Parts D) (slot : ℕ) (refusal : Refusal)
     → Loses (view_of units lost failures p) (view_of units lost failures q) → TellsGone units lost q slot refusal
     → FoundGone (view_of units lost failures p) (view_of units lost failures q) slot refusal
 found_gone units lost failures p q slot refusal loses tells = record { loses = loses; told = tells.told; gone = lost_out units lost failures q slot tells.gone }
@@ -79,13 +115,14 @@ wrote_none t c new slot bytes wrote none sound other v e = elim (same_or_not oth
 ]
 
 -- so drives may have been lost, and nothing else happened
-pub wrote_gone : {D : Type 0} (units : D → List (List ℕ)) (lost : D → Bool) (failures : D → ℕ) (p q : Parts D) (slot : ℕ) (bytes : List ℕ) (refusal : Refusal)
+pub wrote_gone : {D : Type 0} (units : D → List (List ℕ)) (lost : D → Bool) (failures : D → Failures) (p q : Parts D) (slot : ℕ) (bytes : List ℕ) (refusal : Refusal)
     → KeepsTables p q → AllFare lost failures p.drives.items q.drives.items → Wrote p.groups (cells_in units lost p) (cells_in units lost q) slot bytes → TellsGone units lost q slot refusal
     → FoundGone (view_of units lost failures p) (view_of units lost failures q) slot refusal
 wrote_gone units lost failures p q slot bytes refusal tables fares wrote tells =
     let none = subst (λ t. unit_of t (cells_in units lost q) slot ≡ None) tables.groups tells.none in
     found_gone units lost failures p q slot refusal
     (record {
+      bytes = kept_bytes units lost failures p q tables (wrote_none p.groups (cells_in units lost p) (cells_in units lost q) slot bytes wrote none);
       fares = view_fares units lost failures p q fares;
       shows = kept_shows units lost failures p q tables (wrote_none p.groups (cells_in units lost p) (cells_in units lost q) slot bytes wrote none) wrote.sound;
       rest = same_tables units lost failures p q tables;
@@ -93,38 +130,53 @@ wrote_gone units lost failures p q slot bytes refusal tables fares wrote tells =
     tells
 
 -- what the drives show once a slot was written
-wrote_shows : {D : Type 0} (units : D → List (List ℕ)) (lost : D → Bool) (failures : D → ℕ) (p q : Parts D) (slot : ℕ) (bytes : List ℕ) (u : Stored) (f : ℕ → Option Stored)
+wrote_shows : {D : Type 0} (units : D → List (List ℕ)) (lost : D → Bool) (failures : D → Failures) (p q : Parts D) (slot : ℕ) (bytes : List ℕ) (u : Stored) (f : ℕ → Option Stored)
     → KeepsTables p q → Wrote p.groups (cells_in units lost p) (cells_in units lost q) slot bytes → IsUnit bytes u → Shows (view_of units lost failures p) f
     → Shows (view_of units lost failures q) (put f slot (Some u))
 wrote_shows units lost failures p q slot bytes u f tables wrote is shows =
     shows_out units lost failures q (put f slot (Some u)) (subst (λ t. ShowsUnits t (cells_in units lost q) (put f slot (Some u))) (sym tables.groups)
     (shows_wrote p.groups (cells_in units lost p) (cells_in units lost q) f slot bytes u (shows_in units lost failures p f shows) wrote is))
 
+-- the bytes of all other slots are kept
+wrote_others : {D : Type 0} (units : D → List (List ℕ)) (lost : D → Bool) (failures : D → Failures) (p q : Parts D) (slot : ℕ) (bytes : List ℕ)
+    → KeepsTables p q → Wrote p.groups (cells_in units lost p) (cells_in units lost q) slot bytes → KeepsOtherBytes (view_of units lost failures p) (view_of units lost failures q) slot
+wrote_others units lost failures p q slot bytes tables wrote f shows other v ne e =
+    some_kept units lost failures p q (λ s. s ≢ slot)
+    (λ sound s w is at. wrote.others sound s w is (subst (λ t. unit_of t (cells_in units lost q) s ≡ Some w) tables.groups at)) f shows other v ne e
+
+-- also where drives were read before
+read_others : {D : Type 0} (units : D → List (List ℕ)) (lost : D → Bool) (failures : D → Failures) (p m q : Parts D) (slot : ℕ) (bytes : List ℕ)
+    → Loses (view_of units lost failures p) (view_of units lost failures m) → KeepsTables m q → Wrote m.groups (cells_in units lost m) (cells_in units lost q) slot bytes
+    → KeepsOtherBytes (view_of units lost failures p) (view_of units lost failures q) slot
+read_others units lost failures p m q slot bytes loses tables wrote f shows other v ne e =
+    loses.bytes f shows other v (wrote_others units lost failures m q slot bytes tables wrote f (loses.shows f shows) other v ne e)
+
+-- the header's bytes are those that were written
+wrote_header : {D : Type 0} (units : D → List (List ℕ)) (lost : D → Bool) (failures : D → Failures) (p q : Parts D) (slot : ℕ) (bytes rest : List ℕ) (header : Header)
+    → KeepsTables p q → Wrote p.groups (cells_in units lost p) (cells_in units lost q) slot bytes → bytes ≡ header_bytes header ++ rest
+    → (v : List ℕ) → bytes_at (view_of units lost failures q) slot ≡ Some v → take 32 v ≡ header_bytes header
+wrote_header units lost failures p q slot bytes rest header tables wrote made v e =
+    ap (take 32) (wrote.unit v (subst (λ t. unit_of t (cells_in units lost q) slot ≡ Some v) tables.groups (bytes_in units lost failures q slot v e)) ∙ made)
+    ∙ take_at (header_bytes header) rest 32 (length-header_bytes header)
+
 -- a slot that was written
-pub was_put : {D : Type 0} (units : D → List (List ℕ)) (lost : D → Bool) (failures : D → ℕ) (p q : Parts D) (slot : ℕ) (bytes : List ℕ) (u : Stored)
+pub was_put : {D : Type 0} (units : D → List (List ℕ)) (lost : D → Bool) (failures : D → Failures) (p q : Parts D) (slot : ℕ) (bytes : List ℕ) (u : Stored)
     → KeepsTables p q → AllFare lost failures p.drives.items q.drives.items → Wrote p.groups (cells_in units lost p) (cells_in units lost q) slot bytes → IsUnit bytes u
     → (IsGone q.groups (missing_in lost q) slot → ⊥) → WasPut (view_of units lost failures p) (view_of units lost failures q) slot u
 was_put units lost failures p q slot bytes u tables fares wrote is there = record {
+  others = wrote_others units lost failures p q slot bytes tables wrote;
   fares = view_fares units lost failures p q fares;
   there = λ gone. there (lost_in units lost failures q slot gone);
   shows = λ f shows. wrote_shows units lost failures p q slot bytes u f tables wrote is shows;
   rest = same_tables units lost failures p q tables;
 }
 
-loss_more : (a b c : Bool) → (a ≡ true → b ≡ true) → (b ≡ true → c ≡ true) → loss a b + loss b c ≡ loss a c
-loss_more true true true one two = refl
-loss_more true true false one two = absurd (let bad = two refl in cc)
-loss_more true false c one two = absurd (let bad = one refl in cc)
-loss_more false true true one two = refl
-loss_more false true false one two = absurd (let bad = two refl in cc)
-loss_more false false true one two = refl
-loss_more false false false one two = refl
-
 -- losses add up
-fare_more : (was mid is : Bool) (a b c : ℕ) → Fares was mid a b → Fares mid is b c → Fares was is a c
+fare_more : (was mid is : Bool) (a b c : Failures) → Fares was mid a b → Fares mid is b c → Fares was is a c
 fare_more was mid is a b c one two = record {
   stays = λ h. two.stays (one.stays h);
-  count = omega (arith, one.count, two.count, loss_more was mid is one.stays two.stays);
+  count = counts_more was mid is a b c one.stays two.stays one.count two.count;
+  steady = steady_more was mid is a b c one.steady two.steady;
 }
 
 pub fares_more : (a b c : PartsView) → DrivesFare a b → DrivesFare b c → DrivesFare a c
@@ -135,6 +187,7 @@ tables_more a b c one two = record { groups = two.groups ∙ one.groups; owners 
 
 pub loses_more : (a b c : PartsView) → Loses a b → Loses b c → Loses a c
 loses_more a b c one two = record {
+  bytes = λ f shows slot v e. one.bytes f shows slot v (two.bytes f (one.shows f shows) slot v e);
   fares = fares_more a b c one.fares two.fares;
   shows = λ f shows. two.shows f (one.shows f shows);
   rest = tables_more a b c one.rest two.rest;
@@ -151,12 +204,12 @@ lost_more a b slot fares rest gone =
     subst (λ t. IsGone t (lost_of b) slot) (sym rest.groups) (gone.0, gone.1, gone_more (lost_of a) (lost_of b) (λ d h. (fares.each d).stays h) gone.0 gone.2)
 
 -- the unit that was read is one that the drives show
-pub read_shows : {D : Type 0} (units : D → List (List ℕ)) (lost : D → Bool) (failures : D → ℕ) (p : Parts D) (slot : ℕ) (bytes : List ℕ) → unit_of p.groups (cells_in units lost p) slot ≡ Some bytes
+pub read_shows : {D : Type 0} (units : D → List (List ℕ)) (lost : D → Bool) (failures : D → Failures) (p : Parts D) (slot : ℕ) (bytes : List ℕ) → unit_of p.groups (cells_in units lost p) slot ≡ Some bytes
     → (f : ℕ → Option Stored) → Shows (view_of units lost failures p) f → (u : Stored) × (f slot ≡ Some u) × IsUnit bytes u
 read_shows units lost failures p slot bytes e f shows = (shows_in units lost failures p f shows).shown slot bytes e
 
 -- a slot that was read, and then isn't gone, wasn't
-pub source_there : {D : Type 0} (units : D → List (List ℕ)) (lost : D → Bool) (failures : D → ℕ) (p q : Parts D) (slot : ℕ) → Loses (view_of units lost failures p) (view_of units lost failures q)
+pub source_there : {D : Type 0} (units : D → List (List ℕ)) (lost : D → Bool) (failures : D → Failures) (p q : Parts D) (slot : ℕ) → Loses (view_of units lost failures p) (view_of units lost failures q)
     → (IsGone q.groups (missing_in lost q) slot → ⊥) → IsLost (view_of units lost failures p) slot → ⊥
 source_there units lost failures p q slot loses there gone = there (lost_in units lost failures q slot (lost_more (view_of units lost failures p) (view_of units lost failures q) slot loses.fares loses.rest gone))
 
@@ -165,12 +218,14 @@ restamped : (bytes : List ℕ) (u : Stored) (h : Header) → IsHeader h → IsUn
 restamped bytes u h is unit = subst (λ x. IsUnit (header_bytes h ++ drop 32 bytes) (record { header = h; payload = x })) unit.1 (unit_of_header h (drop 32 bytes) is)
 
 -- a slot was read, and then one was written under another header
-pub was_carried : {D : Type 0} (units : D → List (List ℕ)) (lost : D → Bool) (failures : D → ℕ) (p m q : Parts D) (from to : ℕ) (header : Header) (read written : List ℕ)
+pub was_carried : {D : Type 0} (units : D → List (List ℕ)) (lost : D → Bool) (failures : D → Failures) (p m q : Parts D) (from to : ℕ) (header : Header) (read written : List ℕ)
     → Loses (view_of units lost failures p) (view_of units lost failures m) → unit_of m.groups (cells_in units lost m) from ≡ Some read → (IsGone m.groups (missing_in lost m) from → ⊥)
     → IsHeader header → written ≡ header_bytes header ++ drop 32 read
     → KeepsTables m q → AllFare lost failures m.drives.items q.drives.items → Wrote m.groups (cells_in units lost m) (cells_in units lost q) to written → (IsGone q.groups (missing_in lost q) to → ⊥)
     → WasCarried (view_of units lost failures p) (view_of units lost failures q) from to header
 was_carried units lost failures p m q from to header read written loses e there is bytes tables fares wrote target = record {
+  others = read_others units lost failures p m q to written loses tables wrote;
+  written = wrote_header units lost failures m q to written (drop 32 read) header tables wrote bytes;
   fares = fares_more (view_of units lost failures p) (view_of units lost failures m) (view_of units lost failures q) loses.fares (view_fares units lost failures m q fares);
   source = source_there units lost failures p m from loses there;
   target = λ gone. target (lost_in units lost failures q to gone);
@@ -182,7 +237,7 @@ was_carried units lost failures p m q from to header read written loses e there 
 }
 
 -- or none was: the second is gone
-pub not_carried : {D : Type 0} (units : D → List (List ℕ)) (lost : D → Bool) (failures : D → ℕ) (p m q : Parts D) (from to : ℕ) (written : List ℕ) (refusal : Refusal)
+pub not_carried : {D : Type 0} (units : D → List (List ℕ)) (lost : D → Bool) (failures : D → Failures) (p m q : Parts D) (from to : ℕ) (written : List ℕ) (refusal : Refusal)
     → Loses (view_of units lost failures p) (view_of units lost failures m) → (IsGone m.groups (missing_in lost m) from → ⊥)
     → KeepsTables m q → AllFare lost failures m.drives.items q.drives.items → Wrote m.groups (cells_in units lost m) (cells_in units lost q) to written → TellsGone units lost q to refusal
     → WasNotCarried (view_of units lost failures p) (view_of units lost failures q) from to refusal
@@ -194,18 +249,23 @@ not_carried units lost failures p m q from to written refusal loses there tables
 pub behind : (bytes : List ℕ) → take (length bytes - 32) (drop 32 bytes) ≡ drop 32 bytes
 behind bytes = ap (λ n. take n (drop 32 bytes)) (sym (length-drop 32 bytes)) ∙ take-length (drop 32 bytes)
 
+-- what a unit of this kind holds
+content_told : (u : Stored) (told : Kind) (payload : List ℕ) → told ≡ kind_in u.header → payload ≡ u.payload → content_under told payload ≡ content_in u
+content_told u told payload kind is = ap (λ k. content_under k payload) kind ∙ ap (content_under (kind_in u.header)) is
+
 -- a slot was read
-pub was_read : {D : Type 0} (units : D → List (List ℕ)) (lost : D → Bool) (failures : D → ℕ) (p q : Parts D) (slot : ℕ) (bytes payload : List ℕ)
+pub was_read : {D : Type 0} (units : D → List (List ℕ)) (lost : D → Bool) (failures : D → Failures) (p q : Parts D) (slot : ℕ) (bytes payload : List ℕ) (told : Kind)
     → Loses (view_of units lost failures p) (view_of units lost failures q) → unit_of q.groups (cells_in units lost q) slot ≡ Some bytes → (IsGone q.groups (missing_in lost q) slot → ⊥)
-    → payload ≡ drop 32 bytes → WasRead (view_of units lost failures p) (view_of units lost failures q) slot payload
-was_read units lost failures p q slot bytes payload loses e there is = record {
+    → ((u : Stored) → IsUnit bytes u → told ≡ kind_in u.header) → payload ≡ drop 32 bytes
+    → WasRead (view_of units lost failures p) (view_of units lost failures q) slot (content_under told payload)
+was_read units lost failures p q slot bytes payload told loses e there kind is = record {
   loses = loses;
   there = λ gone. there (lost_in units lost failures q slot gone);
-  unit = λ f shows. (let u = read_shows units lost failures q slot bytes e f (loses.shows f shows) in (u.0, u.1, is ∙ u.2.1));
+  unit = λ f shows. (let u = read_shows units lost failures q slot bytes e f (loses.shows f shows) in (u.0, u.1, content_told u.0 told payload (kind u.0 u.2) (is ∙ u.2.1)));
 }
 
 -- and what its unit tells of a record was seen
-saw_unit : {D : Type 0} (units : D → List (List ℕ)) (lost : D → Bool) (failures : D → ℕ) (p q : Parts D) (r : Record) (bytes : List ℕ) (seen : Seen)
+saw_unit : {D : Type 0} (units : D → List (List ℕ)) (lost : D → Bool) (failures : D → Failures) (p q : Parts D) (r : Record) (bytes : List ℕ) (seen : Seen)
     → Loses (view_of units lost failures p) (view_of units lost failures q) → unit_of q.groups (cells_in units lost q) r.place ≡ Some bytes → (IsGone q.groups (missing_in lost q) r.place → ⊥)
     → ((u : Stored) → IsUnit bytes u → IsSeen (Some u) r seen) → SawUnit (view_of units lost failures p) (view_of units lost failures q) r seen
 saw_unit units lost failures p q r bytes seen loses e there says = record {
@@ -214,16 +274,50 @@ saw_unit units lost failures p q r bytes seen loses e there says = record {
   unit = λ f shows. (let u = read_shows units lost failures q r.place bytes e f (loses.shows f shows) in (u.0, u.1, says u.0 u.2));
 }
 
-pub saw_data : {D : Type 0} (units : D → List (List ℕ)) (lost : D → Bool) (failures : D → ℕ) (p q : Parts D) (r : Record) (bytes payload : List ℕ) (found : Option Record)
+pub saw_data : {D : Type 0} (units : D → List (List ℕ)) (lost : D → Bool) (failures : D → Failures) (p q : Parts D) (r : Record) (bytes payload : List ℕ) (header : Header)
     → Loses (view_of units lost failures p) (view_of units lost failures q) → unit_of q.groups (cells_in units lost q) r.place ≡ Some bytes → (IsGone q.groups (missing_in lost q) r.place → ⊥)
-    → ((u : Stored) → IsUnit bytes u → found ≡ record_in u.header) → found ≡ Some r → payload ≡ drop 32 bytes
-    → SawUnit (view_of units lost failures p) (view_of units lost failures q) r (Data (Payload payload))
-saw_data units lost failures p q r bytes payload found loses e there told same is =
-    saw_unit units lost failures p q r bytes (Data (Payload payload)) loses e there (λ u unit. (sym (told u unit) ∙ same, ap Payload (is ∙ unit.1)))
+    → ((u : Stored) → IsUnit bytes u → header ≡ u.header) → record_in header ≡ Some r → payload ≡ drop 32 bytes
+    → SawUnit (view_of units lost failures p) (view_of units lost failures q) r (Data (content_under (kind_in header) payload))
+saw_data units lost failures p q r bytes payload header loses e there told same is =
+    saw_unit units lost failures p q r bytes (Data (content_under (kind_in header) payload)) loses e there
+    (λ u unit. (ap record_in (sym (told u unit)) ∙ same, content_told u (kind_in header) payload (ap kind_in (told u unit)) (is ∙ unit.1)))
 
-pub saw_stale : {D : Type 0} (units : D → List (List ℕ)) (lost : D → Bool) (failures : D → ℕ) (p q : Parts D) (r : Record) (bytes : List ℕ) (found : Option Record)
+pub saw_stale : {D : Type 0} (units : D → List (List ℕ)) (lost : D → Bool) (failures : D → Failures) (p q : Parts D) (r : Record) (bytes : List ℕ) (header : Header)
     → Loses (view_of units lost failures p) (view_of units lost failures q) → unit_of q.groups (cells_in units lost q) r.place ≡ Some bytes → (IsGone q.groups (missing_in lost q) r.place → ⊥)
-    → ((u : Stored) → IsUnit bytes u → found ≡ record_in u.header) → (found ≡ Some r → ⊥)
-    → SawUnit (view_of units lost failures p) (view_of units lost failures q) r (Stale found)
-saw_stale units lost failures p q r bytes found loses e there told other =
-    saw_unit units lost failures p q r bytes (Stale found) loses e there (λ u unit. (λ h. other (told u unit ∙ h), told u unit))
+    → ((u : Stored) → IsUnit bytes u → header ≡ u.header) → (record_in header ≡ Some r → ⊥)
+    → SawUnit (view_of units lost failures p) (view_of units lost failures q) r (Stale (record_in header))
+saw_stale units lost failures p q r bytes header loses e there told other =
+    saw_unit units lost failures p q r bytes (Stale (record_in header)) loses e there (λ u unit. (λ h. other (ap record_in (told u unit) ∙ h), ap record_in (told u unit)))
+
+-- the bytes of a unit that waits: behind a blank header those of its payload, and zeros of a trim
+pub waits_data : (bytes : List ℕ) (size : ℕ) (u : Stored) → IsUnit bytes u → kind.Data ≡ kind_in u.header → IsUnit (header_bytes Blank ++ drop 32 bytes) (waiting_unit size (content_in u))
+waits_data bytes size u is told =
+    subst (λ k. IsUnit (header_bytes Blank ++ drop 32 bytes) (waiting_unit size (content_under k u.payload))) told (restamped bytes u Blank tt is)
+
+pub waits_trim : (bytes : List ℕ) (size : ℕ) (u : Stored) → length bytes ≡ 32 + size → kind.Trim ≡ kind_in u.header → IsUnit (replicate (length bytes) 0) (waiting_unit size (content_in u))
+waits_trim bytes size u long told =
+    subst (λ k. IsUnit (replicate (length bytes) 0) (waiting_unit size (content_under k u.payload))) told (subst (λ n. IsUnit (replicate n 0) (waiting_unit size Trim)) (sym long) (zero_unit size))
+
+-- a slot was read, and what it holds was written where it waits
+pub was_copied : {D : Type 0} (units : D → List (List ℕ)) (lost : D → Bool) (failures : D → Failures) (p m q : Parts D) (from to size : ℕ) (told : Kind) (read written : List ℕ)
+    → Loses (view_of units lost failures p) (view_of units lost failures m) → unit_of m.groups (cells_in units lost m) from ≡ Some read → (IsGone m.groups (missing_in lost m) from → ⊥)
+    → size ≡ p.groups.payload → ((u : Stored) → IsUnit read u → (told ≡ kind_in u.header) × IsUnit written (waiting_unit size (content_in u)))
+    → KeepsTables m q → AllFare lost failures m.drives.items q.drives.items → Wrote m.groups (cells_in units lost m) (cells_in units lost q) to written → (IsGone q.groups (missing_in lost q) to → ⊥)
+    → WasCopied (view_of units lost failures p) (view_of units lost failures q) from to told
+was_copied units lost failures p m q from to size told read written loses e there long waits tables fares wrote target = record {
+  others = read_others units lost failures p m q to written loses tables wrote;
+  fares = fares_more (view_of units lost failures p) (view_of units lost failures m) (view_of units lost failures q) loses.fares (view_fares units lost failures m q fares);
+  source = source_there units lost failures p m from loses there;
+  target = λ gone. target (lost_in units lost failures q to gone);
+  shows = λ f shows.
+      (let mid = loses.shows f shows in
+      let u = read_shows units lost failures m from read e f mid in
+      let w = waits u.0 u.2 in (
+        u.0,
+        u.1,
+        w.0,
+        wrote_shows units lost failures m q to written (waiting_unit p.groups.payload (content_in u.0)) f tables wrote
+            (subst (λ n. IsUnit written (waiting_unit n (content_in u.0))) long w.1) mid,
+      ));
+  rest = tables_more (view_of units lost failures p) (view_of units lost failures m) (view_of units lost failures q) loses.rest (same_tables units lost failures m q tables);
+}

@@ -2,6 +2,7 @@
 use Rattle.std.proofs.Common.{◌≡◌, ◌≢◌, ℕ, ◌/◌, ◌%◌, ◌<◌, Bool, false, Option, Some, None, List, length, inl, inr, sym, ◌∙◌, ap, subst}
 use Rattle.std.specs.Prelude.{slice_get, replicate, Result, Ok, Err, OnOk, OnErr, IfErr}
 use Rattle.std.proofs.lemmas.Option.{none-some}
+use Rattle.extents.specs.Failures.{Failures}
 use Rattle.extent_groups.specs.declared.class.Class.{Class}
 use Rattle.extent_groups.specs.declared.class.Member.{Member}
 use Rattle.extent_groups.specs.Geometry.{slot_count}
@@ -23,10 +24,10 @@ use Rattle.array_parts.specs.Slots.{cells_in, missing_in}
 use Rattle.array_parts.specs.Views.{view_of, Entered, FoundLost}
 use Rattle.array_parts.proofs.Shows.{shows_made}
 use Rattle.array_parts.proofs.Views.{view_lost, view_fares}
-use Rattle.array_parts.proofs.Calls.{shows_in, shows_out, loses_view}
+use Rattle.array_parts.proofs.Calls.{shows_in, shows_out, some_kept, loses_view}
 
 -- a group of wiped extents is in the tables
-pub entered : {D : Type 0} (units : D → List (List ℕ)) (lost : D → Bool) (failures : D → ℕ) (p q : Parts D) (g : ℕ) (class : Class) (ms : List Member) (zeros : List ℕ)
+pub entered : {D : Type 0} (units : D → List (List ℕ)) (lost : D → Bool) (failures : D → Failures) (p q : Parts D) (g : ℕ) (class : Class) (ms : List Member) (zeros : List ℕ)
     → IsFree p.groups g → zeros ≡ replicate (unit_bytes p.groups) 0
     → q.groups ≡ with_group p.groups g (Some (record { class = class; members = ms })) → q.extents ≡ with_owners p.extents ms (Some g)
     → ArePresent (missing_in lost q) ms → AllFare lost failures p.drives.items q.drives.items → IsFit units q
@@ -35,6 +36,7 @@ pub entered : {D : Type 0} (units : D → List (List ℕ)) (lost : D → Bool) (
     → ((slot : ℕ) (v : List ℕ) → slot / 128 ≡ g → unit_of q.groups (cells_in units lost q) slot ≡ Some v → v ≡ zeros)
     → Entered (view_of units lost failures p) g class ms (view_of units lost failures q)
 entered units lost failures p q g class ms zeros free zero groups owners present fares fit sound others blank = record {
+  others = some_kept units lost failures p q (λ slot. slot / 128 ≢ g) others;
   fares = view_fares units lost failures p q fares;
   present = subst (λ m. ArePresent m ms) (sym (view_lost units lost failures q)) present;
   shows = λ f shows. shows_out units lost failures q (wiped f p.groups.payload g (slot_count class (length ms) p.groups.segments)) (shown f (shows_in units lost failures p f shows));
@@ -58,7 +60,7 @@ free_none t c g slot v free q e =
     none-some v (sym none ∙ e)
 
 -- no group is, and drives may have been lost
-pub found_lost : {D : Type 0} (units : D → List (List ℕ)) (lost : D → Bool) (failures : D → ℕ) (p q : Parts D) (g : ℕ) (ms : List Member) (refusal : Refusal)
+pub found_lost : {D : Type 0} (units : D → List (List ℕ)) (lost : D → Bool) (failures : D → Failures) (p q : Parts D) (g : ℕ) (ms : List Member) (refusal : Refusal)
     → IsFree p.groups g → KeepsTables p q → AllFare lost failures p.drives.items q.drives.items
     → (AreSound p.groups (cells_in units lost p) → AreSound q.groups (cells_in units lost q))
     → (AreSound p.groups (cells_in units lost p) → (slot : ℕ) (v : List ℕ) → slot / 128 ≢ g → unit_of q.groups (cells_in units lost q) slot ≡ Some v → unit_of p.groups (cells_in units lost p) slot ≡ Some v)

@@ -15,3 +15,4 @@ pub mod Shifting
 pub mod GoneSlots
 pub mod Shifts
 pub mod Taking
+pub mod Stopped

@@ -2,6 +2,7 @@
 use Rattle.std.proofs.Common.{◌≡◌, ◌≢◌, ℕ, ◌/◌, ◌%◌, ◌<◌, ◌≤◌, Some, None, List, length, refl, sym, ◌∙◌, ap, subst, arith}
 use Rattle.std.specs.Prelude.{slice_get, replicate, Bool}
 use Rattle.std.proofs.lemmas.Option.{same_Some, slice_get_within}
+use Rattle.extents.specs.Failures.{Failures}
 use Rattle.extents.specs.Shapes.{IsShapeOf}
 use Rattle.extents.specs.Owners.{Owners}
 use Rattle.extent_groups.specs.declared.class.Class.{Class}
@@ -45,14 +46,14 @@ extents_there units p ms fit there k m at =
     extent_there units p.groups p.drives.items m fit.drives (omega (arith, is.within, fit.rows)) (omega (arith, is.inside, fit.wide))
 
 -- what lies on no owned extent is what the slots don't use
-sites_fade : {D : Type 0} {units : D → List (List ℕ)} {lost : D → Bool} {failures : D → ℕ} (t : Groups) (o : Owners) (ms : List Member) (old new : List D) → AreGroups t → Agree t o → put_fault o ms ≡ None
+sites_fade : {D : Type 0} {units : D → List (List ℕ)} {lost : D → Bool} {failures : D → Failures} (t : Groups) (o : Owners) (ms : List Member) (old new : List D) → AreGroups t → Agree t o → put_fault o ms ≡ None
     → KeepsDrives units lost failures (IsInOne t.segments ms) old new → (slot : ℕ) (site : Site) (x : Place) → site_of t slot ≡ Some site → IsOf site x → FadesAt (cells units lost old) (cells units lost new) x
 sites_fade t o ms old new are agree fine keeps slot site x at of =
     untouched_fades keeps x
     (λ is. free_apart t o is.1 is.3.0 slot site are agree ((passed o ms fine).free is.0 is.1 is.2) is.3.1 at (subst (IsOf site) is.3.2 of))
 
 -- slots keep their units while extents are wiped that no group owns
-pub wiping_keeps : {D : Type 0} {units : D → List (List ℕ)} {lost : D → Bool} {failures : D → ℕ} (t : Groups) (o : Owners) (ms : List Member) (old new : List D) → AreGroups t → Agree t o → AreDrives units t old
+pub wiping_keeps : {D : Type 0} {units : D → List (List ℕ)} {lost : D → Bool} {failures : D → Failures} (t : Groups) (o : Owners) (ms : List Member) (old new : List D) → AreGroups t → Agree t o → AreDrives units t old
     → put_fault o ms ≡ None → KeepsDrives units lost failures (IsInOne t.segments ms) old new → AreSound t (cells units lost old)
     → KeepsUnits t (cells units lost old) (cells units lost new) × AreSound t (cells units lost new)
 wiping_keeps {units = units} {lost = lost} t o ms old new are agree drives fine keeps sound =
@@ -80,7 +81,7 @@ made_blank t g class ms zeros c within two zero wiped slot v q e =
     ∙ sym zero
 
 -- the others keep their units, and all is sound
-pub made_keeps : {D : Type 0} {units : D → List (List ℕ)} {lost : D → Bool} {failures : D → ℕ} (t : Groups) (o : Owners) (g : ℕ) (class : Class) (ms : List Member) (zeros : List ℕ) (old new : List D)
+pub made_keeps : {D : Type 0} {units : D → List (List ℕ)} {lost : D → Bool} {failures : D → Failures} (t : Groups) (o : Owners) (g : ℕ) (class : Class) (ms : List Member) (zeros : List ℕ) (old new : List D)
     → AreGroups t → Agree t o → AreDrives units t old → g < length t.table → put_fault o ms ≡ None → zeros ≡ replicate (unit_bytes t) 0
     → KeepsDrives units lost failures (IsInOne t.segments ms) old new → AreWiped t.segments ms zeros (length ms) (cells units lost new) → AreSound t (cells units lost old)
     → ((slot : ℕ) (v : List ℕ) → slot / 128 ≢ g → unit_of (with_group t g (Some (new_group class ms))) (cells units lost new) slot ≡ Some v → unit_of t (cells units lost old) slot ≡ Some v)
@@ -96,7 +97,7 @@ made_keeps {units = units} {lost = lost} t o g class ms zeros old new are agree 
     )
 
 -- the parts fit, with the drives as calls left them
-pub still_fit : {D : Type 0} {units : D → List (List ℕ)} {lost : D → Bool} {failures : D → ℕ} {touched : Place → Type 0} (p q : Parts D) (ds : List D) → IsFit units p → q.shape ≡ p.shape → q.groups ≡ p.groups
+pub still_fit : {D : Type 0} {units : D → List (List ℕ)} {lost : D → Bool} {failures : D → Failures} {touched : Place → Type 0} (p q : Parts D) (ds : List D) → IsFit units p → q.shape ≡ p.shape → q.groups ≡ p.groups
     → q.extents ≡ p.extents → q.drives.items ≡ ds → KeepsDrives units lost failures touched p.drives.items ds → IsFit units q
 still_fit {units = units} p q ds fit shape groups extents drives keeps =
     let many : length q.drives.items ≡ length p.drives.items = ap length drives ∙ keeps.many in
@@ -113,7 +114,7 @@ still_fit {units = units} p q ds fit shape groups extents drives keeps =
     }
 
 -- the parts fit, with a group more
-pub made_fit : {D : Type 0} {units : D → List (List ℕ)} {lost : D → Bool} {failures : D → ℕ} {touched : Place → Type 0} (p q : Parts D) (ds : List D) (g : ℕ) (class : Class) (ms : List Member)
+pub made_fit : {D : Type 0} {units : D → List (List ℕ)} {lost : D → Bool} {failures : D → Failures} {touched : Place → Type 0} (p q : Parts D) (ds : List D) (g : ℕ) (class : Class) (ms : List Member)
     → IsFit units p → g < length p.groups.table → AreThere p.extents ms → put_fault p.extents ms ≡ None → q.shape ≡ p.shape → q.groups ≡ with_group p.groups g (Some (new_group class ms))
     → q.extents ≡ with_owners p.extents ms (Some g) → q.drives.items ≡ ds → KeepsDrives units lost failures touched p.drives.items ds → Agree q.groups q.extents → IsFit units q
 made_fit {units = units} p q ds g class ms fit within there fine shape groups extents drives keeps agree =
@@ -137,13 +138,13 @@ made_fit {units = units} p q ds g class ms fit within there fine shape groups ex
     }
 
 -- what is left where a drive was lost while extents were wiped
-pub record IsUnmade {D : Type 0} (units : D → List (List ℕ)) (lost : D → Bool) (failures : D → ℕ) (p w : Parts D) : Type 0 where
+pub record IsUnmade {D : Type 0} (units : D → List (List ℕ)) (lost : D → Bool) (failures : D → Failures) (p w : Parts D) : Type 0 where
   pub keeps : AreSound p.groups (cells_in units lost p) → (slot : ℕ) (v : List ℕ) → unit_of w.groups (cells_in units lost w) slot ≡ Some v → unit_of p.groups (cells_in units lost p) slot ≡ Some v
   pub sound : AreSound p.groups (cells_in units lost p) → AreSound w.groups (cells_in units lost w)
   pub fares : AllFare lost failures p.drives.items w.drives.items
   pub fit : IsFit units w
 
-pub unmade : {D : Type 0} (units : D → List (List ℕ)) (lost : D → Bool) (failures : D → ℕ) (p w : Parts D) (ms seen : List Member) → IsFit units p → put_fault p.extents ms ≡ None → KeepsTables p w → seen ≡ ms
+pub unmade : {D : Type 0} (units : D → List (List ℕ)) (lost : D → Bool) (failures : D → Failures) (p w : Parts D) (ms seen : List Member) → IsFit units p → put_fault p.extents ms ≡ None → KeepsTables p w → seen ≡ ms
     → KeepsDrives units lost failures (IsInOne p.groups.segments seen) p.drives.items w.drives.items → IsUnmade units lost failures p w
 unmade units lost failures p w ms seen fit fine tables same keeps =
     let touched = subst (λ l. KeepsDrives units lost failures (IsInOne p.groups.segments l) p.drives.items w.drives.items) same keeps in
@@ -156,7 +157,7 @@ unmade units lost failures p w ms seen fit fine tables same keeps =
     }
 
 -- what is left where a group was made
-pub record IsMade {D : Type 0} (units : D → List (List ℕ)) (lost : D → Bool) (failures : D → ℕ) (p q : Parts D) (g : ℕ) (ms : List Member) (zeros : List ℕ) : Type 0 where
+pub record IsMade {D : Type 0} (units : D → List (List ℕ)) (lost : D → Bool) (failures : D → Failures) (p q : Parts D) (g : ℕ) (ms : List Member) (zeros : List ℕ) : Type 0 where
   pub present : ArePresent (missing_in lost q) ms
   pub blank : (slot : ℕ) (v : List ℕ) → slot / 128 ≡ g → unit_of q.groups (cells_in units lost q) slot ≡ Some v → v ≡ zeros
   pub keeps : AreSound p.groups (cells_in units lost p) → (slot : ℕ) (v : List ℕ) → slot / 128 ≢ g → unit_of q.groups (cells_in units lost q) slot ≡ Some v → unit_of p.groups (cells_in units lost p) slot ≡ Some v
@@ -164,7 +165,7 @@ pub record IsMade {D : Type 0} (units : D → List (List ℕ)) (lost : D → Boo
   pub fares : AllFare lost failures p.drives.items q.drives.items
   pub fit : IsFit units q
 
-pub made : {D : Type 0} (units : D → List (List ℕ)) (lost : D → Bool) (failures : D → ℕ) (p w : Parts D) (t : Groups) (o : Owners) (g : ℕ) (class : Class) (ms seen : List Member) (zeros : List ℕ)
+pub made : {D : Type 0} (units : D → List (List ℕ)) (lost : D → Bool) (failures : D → Failures) (p w : Parts D) (t : Groups) (o : Owners) (g : ℕ) (class : Class) (ms seen : List Member) (zeros : List ℕ)
     → IsFit units p → IsFree p.groups g → AreThere p.extents ms → put_fault p.extents ms ≡ None → zeros ≡ replicate (unit_bytes p.groups) 0 → KeepsTables p w
     → t ≡ with_group w.groups g (Some (new_group class ms)) → o ≡ with_owners w.extents ms (Some g) → Agree t o → seen ≡ ms
     → KeepsDrives units lost failures (IsInOne p.groups.segments seen) p.drives.items w.drives.items

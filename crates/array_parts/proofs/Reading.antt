@@ -6,6 +6,7 @@ use Rattle.std.specs.Vec.{with_items}
 use Rattle.std.proofs.lemmas.List.{with_items_is}
 use Rattle.std.proofs.lemmas.Bool.Decides.{nat_tests}
 use Rattle.std.proofs.lemmas.Option.{none-some, slice_get-get_or, slice_get_within}
+use Rattle.extents.specs.Failures.{Failures}
 use Rattle.flat_machine.specs.declared.refusal.Refusal.{Refusal}
 use Rattle.flat_machine.specs.declared.refusal.Refusal.TheVariants.{Gone}
 use Rattle.flat_machine.specs.Cases.{Fares}
@@ -30,19 +31,19 @@ pub written_back : {X Z : Type 0} (v : Vec X Z) (lent new : List X) → lent ≡
 written_back v lent new e l = with_items_is v new (l ∙ ap length e ∙ sym v.ok.0)
 
 -- a drive that calls used fares so
-drive_fares : {D : Type 0} (units : D → List (List ℕ)) (lost : D → Bool) (failures : D → ℕ) (touched : Place → Type 0) (old new : List D) (d : ℕ) (a b : Option D)
+drive_fares : {D : Type 0} (units : D → List (List ℕ)) (lost : D → Bool) (failures : D → Failures) (touched : Place → Type 0) (old new : List D) (d : ℕ) (a b : Option D)
     → KeepsDrives units lost failures touched old new → slice_get old d ≡ a → slice_get new d ≡ b
     → Fares (is_missing lost a) (is_missing lost b) (failures_at failures a) (failures_at failures b)
-drive_fares units lost failures touched old new d None None keeps ea eb = record { stays = λ h. refl; count = refl }
+drive_fares units lost failures touched old new d None None keeps ea eb = record { stays = λ h. refl; count = refl; steady = λ h. (h, refl) }
 drive_fares units lost failures touched old new d None (Some y) keeps ea eb =
     absurd (none-some _ (sym ea ∙ slice_get-get_or old d y (omega (arith, slice_get_within new d y eb, keeps.many))))
 drive_fares units lost failures touched old new d (Some x) None keeps ea eb =
     absurd (none-some _ (sym eb ∙ slice_get-get_or new d x (omega (arith, slice_get_within old d x ea, keeps.many))))
 drive_fares units lost failures touched old new d (Some x) (Some y) keeps ea eb =
-    let k = keeps.each d x y ea eb in record { stays = k.stays; count = k.count }
+    let k = keeps.each d x y ea eb in record { stays = k.stays; count = k.count; steady = k.steady }
 
 -- how drives fare that calls used
-pub keeps_fare : {D : Type 0} {units : D → List (List ℕ)} {lost : D → Bool} {failures : D → ℕ} {touched : Place → Type 0} (old new : List D)
+pub keeps_fare : {D : Type 0} {units : D → List (List ℕ)} {lost : D → Bool} {failures : D → Failures} {touched : Place → Type 0} (old new : List D)
     → KeepsDrives units lost failures touched old new → AllFare lost failures old new
 keeps_fare {units = units} {lost = lost} {failures = failures} {touched = touched} old new keeps = record {
   many = keeps.many;
@@ -116,7 +117,7 @@ header_told units lost p lent new slot header (Err refusal) answer told e many i
     slot_told units lost p lent new slot header (Err refusal) answer told e many is groups are there names
 
 -- what is left of the drives, told of the parts that were lent them
-pub fares_back : {D : Type 0} {units : D → List (List ℕ)} {lost : D → Bool} {failures : D → ℕ} {touched : Place → Type 0} {Z : Type 0} (v : Vec D Z) (lent new : List D) → lent ≡ v.items
+pub fares_back : {D : Type 0} {units : D → List (List ℕ)} {lost : D → Bool} {failures : D → Failures} {touched : Place → Type 0} {Z : Type 0} (v : Vec D Z) (lent new : List D) → lent ≡ v.items
     → KeepsDrives units lost failures touched lent new → AllFare lost failures v.items (with_items v new).items
 fares_back {lost = lost} {failures = failures} v lent new e keeps =
     subst (λ xs. AllFare lost failures v.items xs) (sym (written_back v lent new e keeps.many)) (subst (λ ds. AllFare lost failures ds new) e (keeps_fare lent new keeps))

@@ -3,6 +3,7 @@ use Rattle.std.proofs.Common.{◌≡◌, ◌≢◌, ℕ, ◌+◌, ◌*◌, ◌%�
 use Rattle.std.specs.Prelude.{slice_get}
 use Rattle.std.proofs.lemmas.List.{length-map}
 use Rattle.std.proofs.lemmas.Option.{none-some, slice_get_within}
+use Rattle.extents.specs.Failures.{Failures}
 use Rattle.extents.specs.Sizes.{extent_units}
 use Rattle.extent_groups.specs.declared.class.Class.{Class}
 use Rattle.extent_groups.specs.declared.class.Class.TheVariants.{Mirrored, Parity}
@@ -67,12 +68,12 @@ earlier units t ds g k o was to c new before mid now after u route sized fades h
     }
 
 -- lost drives stay lost
-stay_lost : {D : Type 0} {units : D → List (List ℕ)} {lost : D → Bool} {failures : D → ℕ} {touched : Place → Type 0} (old new : List D) → KeepsDrives units lost failures touched old new
+stay_lost : {D : Type 0} {units : D → List (List ℕ)} {lost : D → Bool} {failures : D → Failures} {touched : Place → Type 0} (old new : List D) → KeepsDrives units lost failures touched old new
     → (d : ℕ) → missing_of lost old d ≡ true → missing_of lost new d ≡ true
 stay_lost old new keeps d gone = ((keeps_fare old new keeps).each d).stays gone
 
 -- the member may go onto the extent still
-pub route_kept : {D : Type 0} {units : D → List (List ℕ)} {lost : D → Bool} {failures : D → ℕ} {touched : Place → Type 0} (t : Groups) (g k : ℕ) (was to : Member) (old new : List D)
+pub route_kept : {D : Type 0} {units : D → List (List ℕ)} {lost : D → Bool} {failures : D → Failures} {touched : Place → Type 0} (t : Groups) (g k : ℕ) (was to : Member) (old new : List D)
     → KeepsDrives units lost failures touched old new → IsRoute units t g k was to old → IsRoute units t g k was to new
 route_kept t g k was to old new keeps route = record {
   groups_are = route.groups_are;
@@ -84,7 +85,7 @@ route_kept t g k was to old new keeps route = record {
 }
 
 -- a unit that was had is on the other extent
-pub on_target : {D : Type 0} (units : D → List (List ℕ)) (lost : D → Bool) (failures : D → ℕ) (t : Groups) (g k o : ℕ) (was to : Member) (old mid new : List D) (u : List ℕ)
+pub on_target : {D : Type 0} (units : D → List (List ℕ)) (lost : D → Bool) (failures : D → Failures) (t : Groups) (g k o : ℕ) (was to : Member) (old mid new : List D) (u : List ℕ)
     → IsRoute units t g k was to old → KeepsDrives units lost failures NoPlace old mid → IsUnitFor t g k was o (cells units lost mid) (missing_of lost mid) (missing_of lost mid) u
     → DidWrite (cells units lost mid) (cells units lost new) (place_of t.segments o to) u true → KeepsDrives units lost failures (Only (place_of t.segments o to)) mid new
     → IsOnTarget units lost t g k was to o old new
@@ -96,28 +97,28 @@ on_target units lost failures t g k o was to old mid new u route read is did wro
 }
 
 -- a write that failed: the extent's drive is lost
-pub target_lost : {D : Type 0} (units : D → List (List ℕ)) (lost : D → Bool) (failures : D → ℕ) (t : Groups) (g k o : ℕ) (was to : Member) (old mid new : List D)
+pub target_lost : {D : Type 0} (units : D → List (List ℕ)) (lost : D → Bool) (failures : D → Failures) (t : Groups) (g k o : ℕ) (was to : Member) (old mid new : List D)
     → IsRoute units t g k was to old → o < 2 * t.segments → KeepsDrives units lost failures NoPlace old mid → KeepsDrives units lost failures (Only (place_of t.segments o to)) mid new
     → held (cells units lost new) (place_of t.segments o to) ≡ None → missing_of lost new to.drive ≡ true
 target_lost units lost failures t g k o was to old mid new route low read wrote gone =
     missing_if units lost new (place_of t.segments o to) (keeps_place wrote (keeps_place read (route.there o low))) gone
 
 -- reads and the write touched one place
-pub one_touched : {D : Type 0} (units : D → List (List ℕ)) (lost : D → Bool) (failures : D → ℕ) (p : Place) (old mid new : List D) → KeepsDrives units lost failures NoPlace old mid
+pub one_touched : {D : Type 0} (units : D → List (List ℕ)) (lost : D → Bool) (failures : D → Failures) (p : Place) (old mid new : List D) → KeepsDrives units lost failures NoPlace old mid
     → KeepsDrives units lost failures (Only p) mid new → KeepsDrives units lost failures (Only p) old new
 one_touched units lost failures p old mid new read wrote = keeps_trans (keeps_more (λ x never. absurd never) read) wrote
 
 -- at first no unit is there
-pub none_on_target : {D : Type 0} (units : D → List (List ℕ)) (lost : D → Bool) (failures : D → ℕ) (t : Groups) (g k : ℕ) (was to : Member) (ds : List D) → AreOnTarget units lost failures t g k was to 0 ds ds
+pub none_on_target : {D : Type 0} (units : D → List (List ℕ)) (lost : D → Bool) (failures : D → Failures) (t : Groups) (g k : ℕ) (was to : Member) (ds : List D) → AreOnTarget units lost failures t g k was to 0 ds ds
 none_on_target units lost failures t g k was to ds = record { each = λ o low. absurd (omega arith); touched = keeps_none ds; elsewhere = λ d apart. refl }
 
 -- what one more offset touches
-pub more_in : {D : Type 0} (units : D → List (List ℕ)) (lost : D → Bool) (failures : D → ℕ) (s o : ℕ) (to : Member) (old mid new : List D) → o < extent_units s
+pub more_in : {D : Type 0} (units : D → List (List ℕ)) (lost : D → Bool) (failures : D → Failures) (s o : ℕ) (to : Member) (old mid new : List D) → o < extent_units s
     → KeepsDrives units lost failures (IsIn s to) old mid → KeepsDrives units lost failures (Only (place_of s o to)) mid new → KeepsDrives units lost failures (IsIn s to) old new
 more_in units lost failures s o to old mid new low before one = keeps_trans before (keeps_more (λ x e. (o, low, e)) one)
 
 -- a unit that is on the other extent stays there, while another is put there
-still_there : {D : Type 0} (units : D → List (List ℕ)) (lost : D → Bool) (failures : D → ℕ) (t : Groups) (g k o p : ℕ) (was to : Member) (old mid new : List D) (u v : List ℕ)
+still_there : {D : Type 0} (units : D → List (List ℕ)) (lost : D → Bool) (failures : D → Failures) (t : Groups) (g k o p : ℕ) (was to : Member) (old mid new : List D) (u v : List ℕ)
     → IsRoute units t g k was to mid → o < extent_units t.segments → p < o → KeepsDrives units lost failures (Only (place_of t.segments o to)) mid new
     → held (cells units lost new) (place_of t.segments o to) ≡ Some v → held (cells units lost mid) (place_of t.segments p to) ≡ Some u → held (cells units lost new) (place_of t.segments p to) ≡ Some u
 still_there units lost failures t g k o p was to old mid new u v route low less one there e =
@@ -131,7 +132,7 @@ still_there units lost failures t g k o p was to old mid new u v route low less 
     ]
 
 -- one more unit is there
-pub more_on_target : {D : Type 0} (units : D → List (List ℕ)) (lost : D → Bool) (failures : D → ℕ) (t : Groups) (g k o : ℕ) (was to : Member) (old mid new : List D)
+pub more_on_target : {D : Type 0} (units : D → List (List ℕ)) (lost : D → Bool) (failures : D → Failures) (t : Groups) (g k o : ℕ) (was to : Member) (old mid new : List D)
     → IsRoute units t g k was to old → o < extent_units t.segments → AreOnTarget units lost failures t g k was to o old mid → IsOnTarget units lost t g k was to o mid new
     → KeepsDrives units lost failures (Only (place_of t.segments o to)) mid new → SameBut (IsUsed t g to) mid new → AreOnTarget units lost failures t g k was to (o + 1) old new
 more_on_target units lost failures t g k o was to old mid new route low before next one same =

@@ -2,6 +2,7 @@
 use Rattle.std.proofs.Common.{◌≡◌, ℕ, ◌%◌, ◌<◌, ◌≤◌, inl, inr, Bool, true, false, Option, Some, None, List, [], ◌∷◌, length, refl, sym, ◌∙◌, ap, subst, arith, get_or}
 use Rattle.std.specs.Prelude.{slice_get, slice_set, Result, Ok, Err, OnOk, OnErr, IfErr}
 use Rattle.std.proofs.lemmas.Option.{same_Some, none-some, slice_get-get_or, slice_get_within}
+use Rattle.extents.specs.Failures.{Failures}
 use Rattle.extents.specs.Owners.{Owners, owner_of, with_owner, IsExtent}
 use Rattle.extents.specs.Shapes.{IsShapeOf}
 use Rattle.extents.specs.Sizes.{extent_units}
@@ -42,7 +43,7 @@ use Rattle.array_parts.specs.Losses.{AllFare, KeepsTables}
 use Rattle.array_parts.specs.Shifting.{IsRoute, AreOnTarget, KeepsUnused, IsWhyUnmoved}
 use Rattle.array_parts.specs.Slots.{cells_in, missing_in}
 use Rattle.array_parts.specs.Views.{view_of, Shows, Shifted, NotShifted}
-use Rattle.array_parts.proofs.Calls.{shows_in, shows_out, same_tables}
+use Rattle.array_parts.proofs.Calls.{shows_in, shows_out, same_tables, all_kept}
 use Rattle.array_parts.proofs.Making.{still_fit}
 use Rattle.array_parts.proofs.Offsets.{index_of}
 use Rattle.array_parts.proofs.Outcomes.{group_there, group_below}
@@ -87,13 +88,13 @@ route_by units p g k members to fit same inside there fine =
     route_of units p g k _ to fit (number_of p.groups g k members (record { drive = 0; extent = 0 }) same inside) there fine
 
 -- what calls that touched the other extent alone leave of the slots, whose tables are as they were
-pub record IsUnmoved {D : Type 0} (units : D → List (List ℕ)) (lost : D → Bool) (failures : D → ℕ) (p w : Parts D) : Type 0 where
+pub record IsUnmoved {D : Type 0} (units : D → List (List ℕ)) (lost : D → Bool) (failures : D → Failures) (p w : Parts D) : Type 0 where
   pub keeps : AreSound p.groups (cells_in units lost p) → (slot : ℕ) (v : List ℕ) → unit_of w.groups (cells_in units lost w) slot ≡ Some v → unit_of p.groups (cells_in units lost p) slot ≡ Some v
   pub sound : AreSound p.groups (cells_in units lost p) → AreSound w.groups (cells_in units lost w)
   pub fares : AllFare lost failures p.drives.items w.drives.items
   pub fit : IsFit units w
 
-pub unmoved : {D : Type 0} (units : D → List (List ℕ)) (lost : D → Bool) (failures : D → ℕ) (p w : Parts D) (g k : ℕ) (was to : Member) → IsFit units p → IsRoute units p.groups g k was to p.drives.items
+pub unmoved : {D : Type 0} (units : D → List (List ℕ)) (lost : D → Bool) (failures : D → Failures) (p w : Parts D) (g k : ℕ) (was to : Member) → IsFit units p → IsRoute units p.groups g k was to p.drives.items
     → KeepsTables p w → KeepsDrives units lost failures (IsIn p.groups.segments to) p.drives.items w.drives.items → IsUnmoved units lost failures p w
 unmoved units lost failures p w g k was to fit route tables keeps =
     let fades : (slot : ℕ) (site : Site) (x : Place) → site_of p.groups slot ≡ Some site → IsOf site x → FadesAt (cells_in units lost p) (cells_in units lost w) x =
@@ -118,7 +119,7 @@ pub record AreAllOn {D : Type 0} (units : D → List (List ℕ)) (lost : D → B
   pub copied : AreSound t (cells units lost old) → IsCopied t g k was to (cells units lost old) (cells units lost new)
   pub unused : KeepsUnused t g k was to (cells units lost old) (cells units lost new) (missing_of lost new)
 
-pub all_on : {D : Type 0} (units : D → List (List ℕ)) (lost : D → Bool) (failures : D → ℕ) (t : Groups) (g k : ℕ) (was to : Member) (old new : List D) → IsRoute units t g k was to old
+pub all_on : {D : Type 0} (units : D → List (List ℕ)) (lost : D → Bool) (failures : D → Failures) (t : Groups) (g k : ℕ) (was to : Member) (old new : List D) → IsRoute units t g k was to old
     → AreOnTarget units lost failures t g k was to (extent_units t.segments) old new → AreAllOn units lost t g k was to old new
 all_on units lost failures t g k was to old new route all =
     let group = group_there (group_at t g) k was route.member in
@@ -153,7 +154,7 @@ all_on units lost failures t g k was to old new route all =
     }
 
 -- the parts fit, with the member swapped
-swapped_fit : {D : Type 0} {units : D → List (List ℕ)} {lost : D → Bool} {failures : D → ℕ} {touched : Place → Type 0} (p q : Parts D) (g k : ℕ) (group : Group) (was to : Member) → IsFit units p
+swapped_fit : {D : Type 0} {units : D → List (List ℕ)} {lost : D → Bool} {failures : D → Failures} {touched : Place → Type 0} (p q : Parts D) (g k : ℕ) (group : Group) (was to : Member) → IsFit units p
     → group_at p.groups g ≡ Some group → slice_get group.members k ≡ Some was → IsExtent p.extents to.drive to.extent → is_on to.drive group.members ≡ false → q.shape ≡ p.shape
     → q.groups ≡ with_group p.groups g (Some (with_member group k to)) → q.extents ≡ with_owner (with_owner p.extents was.drive was.extent None) to.drive to.extent (Some g)
     → KeepsDrives units lost failures touched p.drives.items q.drives.items → Agree q.groups q.extents → IsFit units q
@@ -189,7 +190,7 @@ swapped_fit {units = units} p q g k group was to fit made at there away shape gr
     }
 
 -- what is left where the member was moved
-pub record IsMoved {D : Type 0} (units : D → List (List ℕ)) (lost : D → Bool) (failures : D → ℕ) (p q : Parts D) (g k : ℕ) (to : Member) : Type 0 where
+pub record IsMoved {D : Type 0} (units : D → List (List ℕ)) (lost : D → Bool) (failures : D → Failures) (p q : Parts D) (g k : ℕ) (to : Member) : Type 0 where
   pub had : IsBeyondOf p.groups (missing_in lost p) g k → ⊥
   pub present : missing_in lost q to.drive ≡ false
   pub copied : (was : Member) → slice_get (members_of p.groups g) k ≡ Some was → AreSound p.groups (cells_in units lost p) → IsCopied p.groups g k was to (cells_in units lost p) (cells_in units lost q)
@@ -199,7 +200,7 @@ pub record IsMoved {D : Type 0} (units : D → List (List ℕ)) (lost : D → Bo
   pub fares : AllFare lost failures p.drives.items q.drives.items
   pub fit : IsFit units q
 
-pub moved : {D : Type 0} (units : D → List (List ℕ)) (lost : D → Bool) (failures : D → ℕ) (p q : Parts D) (g k : ℕ) (was to : Member) → IsFit units p → IsExtent p.extents to.drive to.extent
+pub moved : {D : Type 0} (units : D → List (List ℕ)) (lost : D → Bool) (failures : D → Failures) (p q : Parts D) (g k : ℕ) (was to : Member) → IsFit units p → IsExtent p.extents to.drive to.extent
     → swap_fault p.extents (group_at p.groups g) to ≡ None → IsRoute units p.groups g k was to p.drives.items
     → AreOnTarget units lost failures p.groups g k was to (extent_units p.groups.segments) p.drives.items q.drives.items
     → q.shape ≡ p.shape → IsSwap p.groups q.groups g k to → IsMove p.groups p.extents q.extents g k to → Agree q.groups q.extents → IsMoved units lost failures p q g k to
@@ -231,7 +232,7 @@ ok_of (Ok x) f p refused fine = p
 ok_of (Err e) f p refused fine = absurd (none-some e (sym fine ∙ refused))
 
 -- the units were put on the other extent, and then the tables changed
-pub moved_on : {D : Type 0} (units : D → List (List ℕ)) (lost : D → Bool) (failures : D → ℕ) (p w : Parts D) (t : Groups) (o : Owners) (g k : ℕ) (was to : Member) {T : Type 0} (r : Result T GroupRefusal)
+pub moved_on : {D : Type 0} (units : D → List (List ℕ)) (lost : D → Bool) (failures : D → Failures) (p w : Parts D) (t : Groups) (o : Owners) (g k : ℕ) (was to : Member) {T : Type 0} (r : Result T GroupRefusal)
     → IsFit units p → IsExtent p.extents to.drive to.extent → swap_fault p.extents (group_at p.groups g) to ≡ None → IsRoute units p.groups g k was to p.drives.items → KeepsTables p w
     → AreOnTarget units lost failures p.groups g k was to (extent_units p.groups.segments) p.drives.items w.drives.items
     → OnOk r (IsSwap w.groups t g k to) → OnOk r (IsMove w.groups w.extents o g k to) → IfErr r (λ e. swap_fault w.extents (group_at w.groups g) to ≡ Some e) → Agree t o
@@ -245,7 +246,7 @@ moved_on {D = D} units lost failures p w t o g k was to r fit there fine route t
     agree
 
 -- units that are kept are shown, however the tables changed
-still_shown : {D : Type 0} (units : D → List (List ℕ)) (lost : D → Bool) (failures : D → ℕ) (p q : Parts D) (f : ℕ → Option Stored)
+still_shown : {D : Type 0} (units : D → List (List ℕ)) (lost : D → Bool) (failures : D → Failures) (p q : Parts D) (f : ℕ → Option Stored)
     → (AreSound p.groups (cells_in units lost p) → (slot : ℕ) (v : List ℕ) → unit_of q.groups (cells_in units lost q) slot ≡ Some v → unit_of p.groups (cells_in units lost p) slot ≡ Some v)
     → (AreSound p.groups (cells_in units lost p) → AreSound q.groups (cells_in units lost q)) → Shows (view_of units lost failures p) f → Shows (view_of units lost failures q) f
 still_shown units lost failures p q f keeps sound shows =
@@ -253,12 +254,13 @@ still_shown units lost failures p q f keeps sound shows =
     shows_out units lost failures q f (record { sound = sound was.sound; shown = λ slot bytes e. was.shown slot bytes (keeps was.sound slot bytes e) })
 
 -- where the member was moved, told of the parts as plain data
-pub shifted : {D : Type 0} (units : D → List (List ℕ)) (lost : D → Bool) (failures : D → ℕ) (p q : Parts D) (g k : ℕ) (to : Member)
+pub shifted : {D : Type 0} (units : D → List (List ℕ)) (lost : D → Bool) (failures : D → Failures) (p q : Parts D) (g k : ℕ) (to : Member)
     → AllFare lost failures p.drives.items q.drives.items → (IsBeyondOf p.groups (missing_in lost p) g k → ⊥) → missing_in lost q to.drive ≡ false
     → (AreSound p.groups (cells_in units lost p) → (slot : ℕ) (v : List ℕ) → unit_of q.groups (cells_in units lost q) slot ≡ Some v → unit_of p.groups (cells_in units lost p) slot ≡ Some v)
     → (AreSound p.groups (cells_in units lost p) → AreSound q.groups (cells_in units lost q)) → IsSwap p.groups q.groups g k to → IsMove p.groups p.extents q.extents g k to → IsFit units q
     → Shifted (view_of units lost failures p) g k to (view_of units lost failures q)
 shifted units lost failures p q g k to fares had present keeps sound swap move fit = record {
+  bytes = all_kept units lost failures p q keeps;
   fares = view_fares units lost failures p q fares;
   had = λ beyond. had (subst (λ m. IsBeyondOf p.groups m g k) (view_lost units lost failures p) beyond);
   present = ap (λ m. m to.drive) (view_lost units lost failures q) ∙ present;
@@ -269,13 +271,14 @@ shifted units lost failures p q g k to fares had present keeps sound swap move f
 }
 
 -- and where it wasn't
-pub not_shifted : {D : Type 0} (units : D → List (List ℕ)) (lost : D → Bool) (failures : D → ℕ) (p q : Parts D) (g k : ℕ) (to : Member) (refusal : Refusal)
+pub not_shifted : {D : Type 0} (units : D → List (List ℕ)) (lost : D → Bool) (failures : D → Failures) (p q : Parts D) (g k : ℕ) (to : Member) (refusal : Refusal)
     → KeepsTables p q → AllFare lost failures p.drives.items q.drives.items
     → (AreSound p.groups (cells_in units lost p) → (slot : ℕ) (v : List ℕ) → unit_of q.groups (cells_in units lost q) slot ≡ Some v → unit_of p.groups (cells_in units lost p) slot ≡ Some v)
     → (AreSound p.groups (cells_in units lost p) → AreSound q.groups (cells_in units lost q)) → IsWhyUnmoved q.groups (missing_in lost q) g k to refusal
     → NotShifted (view_of units lost failures p) g k to (view_of units lost failures q) refusal
 not_shifted units lost failures p q g k to refusal tables fares keeps sound why = record {
   loses = record {
+    bytes = all_kept units lost failures p q keeps;
     fares = view_fares units lost failures p q fares;
     shows = λ f shows. still_shown units lost failures p q f keeps sound shows;
     rest = same_tables units lost failures p q tables;
@@ -284,7 +287,7 @@ not_shifted units lost failures p q g k to refusal tables fares keeps sound why 
 }
 
 -- both, by the answer
-pub if_shifted : {D : Type 0} (units : D → List (List ℕ)) (lost : D → Bool) (failures : D → ℕ) (p q : Parts D) (g k : ℕ) (to : Member) {T : Type 0} (r : Result T Refusal)
+pub if_shifted : {D : Type 0} (units : D → List (List ℕ)) (lost : D → Bool) (failures : D → Failures) (p q : Parts D) (g k : ℕ) (to : Member) {T : Type 0} (r : Result T Refusal)
     → AllFare lost failures p.drives.items q.drives.items → OnOk r (IsBeyondOf p.groups (missing_in lost p) g k → ⊥) → OnOk r (missing_in lost q to.drive ≡ false)
     → (AreSound p.groups (cells_in units lost p) → (slot : ℕ) (v : List ℕ) → unit_of q.groups (cells_in units lost q) slot ≡ Some v → unit_of p.groups (cells_in units lost p) slot ≡ Some v)
     → (AreSound p.groups (cells_in units lost p) → AreSound q.groups (cells_in units lost q)) → OnOk r (IsSwap p.groups q.groups g k to) → OnOk r (IsMove p.groups p.extents q.extents g k to) → IsFit units q
@@ -292,7 +295,7 @@ pub if_shifted : {D : Type 0} (units : D → List (List ℕ)) (lost : D → Bool
 if_shifted units lost failures p q g k to (Ok x) fares had present keeps sound swap move fit = shifted units lost failures p q g k to fares had present keeps sound swap move fit
 if_shifted units lost failures p q g k to (Err e) fares had present keeps sound swap move fit = tt
 
-pub if_not : {D : Type 0} (units : D → List (List ℕ)) (lost : D → Bool) (failures : D → ℕ) (p q : Parts D) (g k : ℕ) (to : Member) {T : Type 0} (r : Result T Refusal)
+pub if_not : {D : Type 0} (units : D → List (List ℕ)) (lost : D → Bool) (failures : D → Failures) (p q : Parts D) (g k : ℕ) (to : Member) {T : Type 0} (r : Result T Refusal)
     → OnErr r (KeepsTables p q) → AllFare lost failures p.drives.items q.drives.items
     → (AreSound p.groups (cells_in units lost p) → (slot : ℕ) (v : List ℕ) → unit_of q.groups (cells_in units lost q) slot ≡ Some v → unit_of p.groups (cells_in units lost p) slot ≡ Some v)
     → (AreSound p.groups (cells_in units lost p) → AreSound q.groups (cells_in units lost q)) → IfErr r (IsWhyUnmoved q.groups (missing_in lost q) g k to)

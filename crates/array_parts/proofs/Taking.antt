@@ -1,6 +1,7 @@
 -- A group that is unmade, told of the parts as plain data.
 use Rattle.std.proofs.Common.{◌≡◌, ℕ, ◌/◌, ◌<◌, Bool, true, false, is_some, List, Vec, length, sym, ◌∙◌, ap, subst, inl, inr, cond, Option, None, Result, Ok, Err, OnOk, IfErr}
 use Rattle.std.proofs.lemmas.Option.{none-some}
+use Rattle.extents.specs.Failures.{Failures}
 use Rattle.extents.specs.Owners.{Owners}
 use Rattle.extent_groups.specs.Cells.{Cells}
 use Rattle.extent_groups.specs.Groups.{Groups, group_at, AreGroups, Agree, members_in, members_of, with_group, with_owners}
@@ -47,7 +48,7 @@ pub record IsWithout {D : Type 0} (p q : Parts D) (g : ℕ) : Type 0 where
   pub agree : Agree q.groups q.extents
   pub are : AreGroups q.groups
 
-module _ {D : Type 0} (units : D → List (List ℕ)) (lost : D → Bool) (failures : D → ℕ) (p q : Parts D) (g : ℕ) (fit : IsFit units p) (within : g < length p.groups.table) (is : IsWithout p q g) where
+module _ {D : Type 0} (units : D → List (List ℕ)) (lost : D → Bool) (failures : D → Failures) (p q : Parts D) (g : ℕ) (fit : IsFit units p) (within : g < length p.groups.table) (is : IsWithout p q g) where
   pub taken_fit : IsFit units q
   taken_fit = record {
     shape = rw (is.shape, is.groups) fit.shape;

@@ -4,6 +4,7 @@ use Rattle.std.specs.Prelude.{slice_get}
 use Rattle.std.specs.Option.{option_map}
 use Rattle.std.proofs.lemmas.List.{length-map}
 use Rattle.std.proofs.lemmas.Option.{same_Some, slice_get-map}
+use Rattle.extents.specs.Failures.{Failures}
 use Rattle.extents.specs.Sizes.{extent_units}
 use Rattle.extents.specs.Units.{IsSized}
 use Rattle.extent_groups.specs.Stores.{AreDrives, unit_bytes}
@@ -15,23 +16,23 @@ use Rattle.array_parts.specs.Losses.{AllFare, failures_at, failures_of}
 use Rattle.array_parts.specs.Slots.{cells_in, missing_in}
 use Rattle.array_parts.specs.Views.{DriveView, drive_units, drive_lost, drive_failures, drive_view, view_of, cells_of, lost_of, failed_of, DrivesFare}
 
-cell_same : {D : Type 0} (units : D → List (List ℕ)) (lost : D → Bool) (failures : D → ℕ) (o : Option D) (at : ℕ)
+cell_same : {D : Type 0} (units : D → List (List ℕ)) (lost : D → Bool) (failures : D → Failures) (o : Option D) (at : ℕ)
     → cell drive_units drive_lost (option_map (drive_view units lost failures) o) at ≡ cell units lost o at
 cell_same units lost failures None at = refl
 cell_same units lost failures (Some d) at = refl
 
-missing_same : {D : Type 0} (units : D → List (List ℕ)) (lost : D → Bool) (failures : D → ℕ) (o : Option D)
+missing_same : {D : Type 0} (units : D → List (List ℕ)) (lost : D → Bool) (failures : D → Failures) (o : Option D)
     → is_missing drive_lost (option_map (drive_view units lost failures) o) ≡ is_missing lost o
 missing_same units lost failures None = refl
 missing_same units lost failures (Some d) = refl
 
-failures_same : {D : Type 0} (units : D → List (List ℕ)) (lost : D → Bool) (failures : D → ℕ) (o : Option D)
+failures_same : {D : Type 0} (units : D → List (List ℕ)) (lost : D → Bool) (failures : D → Failures) (o : Option D)
     → failures_at drive_failures (option_map (drive_view units lost failures) o) ≡ failures_at failures o
 failures_same units lost failures None = refl
 failures_same units lost failures (Some d) = refl
 
 -- what the drives hold
-pub view_cells : {D : Type 0} (units : D → List (List ℕ)) (lost : D → Bool) (failures : D → ℕ) (p : Parts D) → cells_of (view_of units lost failures p) ≡ cells_in units lost p
+pub view_cells : {D : Type 0} (units : D → List (List ℕ)) (lost : D → Bool) (failures : D → Failures) (p : Parts D) → cells_of (view_of units lost failures p) ≡ cells_in units lost p
 view_cells units lost failures p = λ i d at. same d at i
   where
     same : (d at : ℕ) → cells_of (view_of units lost failures p) d at ≡ cells_in units lost p d at
@@ -39,25 +40,25 @@ view_cells units lost failures p = λ i d at. same d at i
         ∙ cell_same units lost failures (slice_get p.drives.items d) at
 
 -- which are lost
-pub view_lost : {D : Type 0} (units : D → List (List ℕ)) (lost : D → Bool) (failures : D → ℕ) (p : Parts D) → lost_of (view_of units lost failures p) ≡ missing_in lost p
+pub view_lost : {D : Type 0} (units : D → List (List ℕ)) (lost : D → Bool) (failures : D → Failures) (p : Parts D) → lost_of (view_of units lost failures p) ≡ missing_in lost p
 view_lost units lost failures p = λ i d. same d i
   where
     same : (d : ℕ) → lost_of (view_of units lost failures p) d ≡ missing_in lost p d
     same d = ap (is_missing drive_lost) (slice_get-map (drive_view units lost failures) p.drives.items d) ∙ missing_same units lost failures (slice_get p.drives.items d)
 
 -- how often each failed by itself
-pub view_failures : {D : Type 0} (units : D → List (List ℕ)) (lost : D → Bool) (failures : D → ℕ) (p : Parts D) → failed_of (view_of units lost failures p) ≡ failures_of failures p.drives.items
+pub view_failures : {D : Type 0} (units : D → List (List ℕ)) (lost : D → Bool) (failures : D → Failures) (p : Parts D) → failed_of (view_of units lost failures p) ≡ failures_of failures p.drives.items
 view_failures units lost failures p = λ i d. same d i
   where
     same : (d : ℕ) → failed_of (view_of units lost failures p) d ≡ failures_of failures p.drives.items d
     same d = ap (failures_at drive_failures) (slice_get-map (drive_view units lost failures) p.drives.items d) ∙ failures_same units lost failures (slice_get p.drives.items d)
 
 -- how many there are
-pub view_length : {D : Type 0} (units : D → List (List ℕ)) (lost : D → Bool) (failures : D → ℕ) (p : Parts D) → length (view_of units lost failures p).drives ≡ length p.drives.items
+pub view_length : {D : Type 0} (units : D → List (List ℕ)) (lost : D → Bool) (failures : D → Failures) (p : Parts D) → length (view_of units lost failures p).drives ≡ length p.drives.items
 view_length units lost failures p = length-map p.drives.items (drive_view units lost failures)
 
 -- and how all fare
-pub view_fares : {D : Type 0} (units : D → List (List ℕ)) (lost : D → Bool) (failures : D → ℕ) (p q : Parts D) → AllFare lost failures p.drives.items q.drives.items
+pub view_fares : {D : Type 0} (units : D → List (List ℕ)) (lost : D → Bool) (failures : D → Failures) (p q : Parts D) → AllFare lost failures p.drives.items q.drives.items
     → DrivesFare (view_of units lost failures p) (view_of units lost failures q)
 view_fares units lost failures p q fares = record {
   many = view_length units lost failures q ∙ fares.many ∙ sym (view_length units lost failures p);
@@ -76,12 +77,12 @@ view_fares units lost failures p q fares = record {
 }
 
 -- and they have the units of the sizes
-view_drive : {D : Type 0} (units : D → List (List ℕ)) (lost : D → Bool) (failures : D → ℕ) (o : Option D) (x : DriveView) (P : List (List ℕ) → Type 0)
+view_drive : {D : Type 0} (units : D → List (List ℕ)) (lost : D → Bool) (failures : D → Failures) (o : Option D) (x : DriveView) (P : List (List ℕ) → Type 0)
     → ((y : D) → o ≡ Some y → P (units y)) → option_map (drive_view units lost failures) o ≡ Some x → P x.units
 view_drive units lost failures None x P all is = absurd (cc)
 view_drive units lost failures (Some y) x P all is = subst (λ (z : DriveView). P z.units) (same_Some _ _ is) (all y refl)
 
-pub view_drives : {D : Type 0} (units : D → List (List ℕ)) (lost : D → Bool) (failures : D → ℕ) (p : Parts D) → AreDrives units p.groups p.drives.items
+pub view_drives : {D : Type 0} (units : D → List (List ℕ)) (lost : D → Bool) (failures : D → Failures) (p : Parts D) → AreDrives units p.groups p.drives.items
     → AreDrives drive_units p.groups (view_of units lost failures p).drives
 view_drives units lost failures p are = record {
   many = λ d x at. view_drive units lost failures (slice_get p.drives.items d) x (λ us. length us ≡ p.groups.extents * extent_units p.groups.segments) (are.many d) (found d x at);

@@ -2,6 +2,7 @@
 use Rattle.std.proofs.Common.{◌≡◌, ◌≢◌, ℕ, ◌+◌, ◌<◌, ◌≤◌, inl, inr, Bool, true, false, Some, List, refl, sym, ◌∙◌, ap, subst, arith}
 use Rattle.std.specs.Prelude.{slice_get}
 use Rattle.std.proofs.lemmas.Option.{none-some, same_Some}
+use Rattle.extents.specs.Failures.{Failures}
 use Rattle.extents.specs.Sizes.{extent_units}
 use Rattle.flat_machine.specs.Groups.{AreApart, IsFirstLost}
 use Rattle.extent_groups.specs.declared.class.Member.{Member}
@@ -17,11 +18,11 @@ use Rattle.extent_groups.proofs.Missing.{cell_missing}
 use Rattle.array_parts.specs.Making.{AreWipedTo}
 
 -- at first nothing is wiped
-pub none_wiped : {D : Type 0} (units : D → List (List ℕ)) (lost : D → Bool) (failures : D → ℕ) (s : ℕ) (ms : List Member) (bytes : List ℕ) (ds : List D) → AreWipedTo units lost failures s ms bytes 0 ds ds
+pub none_wiped : {D : Type 0} (units : D → List (List ℕ)) (lost : D → Bool) (failures : D → Failures) (s : ℕ) (ms : List Member) (bytes : List ℕ) (ds : List D) → AreWipedTo units lost failures s ms bytes 0 ds ds
 none_wiped units lost failures s ms bytes ds = record { wiped = λ k m low. absurd (omega arith); others = λ d no. refl; touched = keeps_none ds }
 
 -- the drives have the extents still
-pub extent_kept : {D : Type 0} {units : D → List (List ℕ)} {lost : D → Bool} {failures : D → ℕ} {touched : Place → Type 0} {old new : List D} (s : ℕ) (m : Member)
+pub extent_kept : {D : Type 0} {units : D → List (List ℕ)} {lost : D → Bool} {failures : D → Failures} {touched : Place → Type 0} {old new : List D} (s : ℕ) (m : Member)
     → KeepsDrives units lost failures touched old new → HasExtent units s old m → HasExtent units s new m
 extent_kept s m keeps has o low = keeps_place keeps (has o low)
 
@@ -44,7 +45,7 @@ wiped_present units lost s m bytes ds some wiped =
     (λ gone. none-some bytes (sym (cell_missing units lost (slice_get ds m.drive) (place_of s 0 m).address gone) ∙ wiped 0 (omega arith)))
 
 -- one member's extent more is wiped, or its drive is lost
-pub more_touched : {D : Type 0} (units : D → List (List ℕ)) (lost : D → Bool) (failures : D → ℕ) (s i : ℕ) (m : Member) (ms : List Member) (bytes : List ℕ) (old mid new : List D) → AreApart ms
+pub more_touched : {D : Type 0} (units : D → List (List ℕ)) (lost : D → Bool) (failures : D → Failures) (s i : ℕ) (m : Member) (ms : List Member) (bytes : List ℕ) (old mid new : List D) → AreApart ms
     → slice_get ms i ≡ Some m → AreWipedTo units lost failures s ms bytes i old mid → SameBut (λ d. d ≡ m.drive) mid new → KeepsDrives units lost failures (IsIn s m) mid new
     → AreWipedTo units lost failures s ms bytes i old new
 more_touched units lost failures s i m ms bytes old mid new apart at before same keeps = record {
@@ -53,7 +54,7 @@ more_touched units lost failures s i m ms bytes old mid new apart at before same
   touched = keeps_trans before.touched (keeps_more (λ x is. (i, m, at, is)) keeps);
 }
 
-pub more_wiped : {D : Type 0} (units : D → List (List ℕ)) (lost : D → Bool) (failures : D → ℕ) (s i : ℕ) (m : Member) (ms : List Member) (bytes : List ℕ) (old mid new : List D) → AreApart ms
+pub more_wiped : {D : Type 0} (units : D → List (List ℕ)) (lost : D → Bool) (failures : D → Failures) (s i : ℕ) (m : Member) (ms : List Member) (bytes : List ℕ) (old mid new : List D) → AreApart ms
     → slice_get ms i ≡ Some m → AreWipedTo units lost failures s ms bytes i old mid → SameBut (λ d. d ≡ m.drive) mid new → KeepsDrives units lost failures (IsIn s m) mid new
     → HoldBelow s m bytes (extent_units s) (cells units lost new) → AreWipedTo units lost failures s ms bytes (i + 1) old new
 more_wiped units lost failures s i m ms bytes old mid new apart at before same keeps wiped =
@@ -68,7 +69,7 @@ more_wiped units lost failures s i m ms bytes old mid new apart at before same k
     }
 
 -- the first member whose drive is lost: all before it were wiped
-pub first_lost : {D : Type 0} (units : D → List (List ℕ)) (lost : D → Bool) (failures : D → ℕ) (s i : ℕ) (m : Member) (ms : List Member) (bytes : List ℕ) (old new : List D) → 1 ≤ s
+pub first_lost : {D : Type 0} (units : D → List (List ℕ)) (lost : D → Bool) (failures : D → Failures) (s i : ℕ) (m : Member) (ms : List Member) (bytes : List ℕ) (old new : List D) → 1 ≤ s
     → slice_get ms i ≡ Some m → AreWipedTo units lost failures s ms bytes i old new → missing_of lost new m.drive ≡ true → IsFirstLost (missing_of lost new) ms m.drive
 first_lost units lost failures s i m ms bytes old new some at before gone = record {
   number = i;

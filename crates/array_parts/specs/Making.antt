@@ -1,5 +1,6 @@
 -- Extents wiped one after another, for a group that is to be made of them.
 use Rattle.std.specs.Prelude.{◌≡◌, ℕ, ◌<◌, Bool, Some, List, slice_get}
+use Rattle.extents.specs.Failures.{Failures}
 use Rattle.flat_machine.specs.declared.refusal.Refusal.{Refusal}
 use Rattle.flat_machine.specs.declared.refusal.Refusal.TheVariants.{DriveLost}
 use Rattle.flat_machine.specs.Groups.{IsFirstLost}
@@ -31,7 +32,7 @@ abbrev pub TellsLost : (ℕ → Bool) → List Member → Refusal → Type 0
 TellsLost missing members refusal = (d : ℕ) × (refusal ≡ DriveLost d) × IsFirstLost missing members d
 
 -- the extents of the members below a number were wiped with these bytes, one after another
-pub record AreWipedTo {D : Type 0} (units : D → List (List ℕ)) (lost : D → Bool) (failures : D → ℕ) (segments : ℕ) (members : List Member) (bytes : List ℕ) (bound : ℕ) (old new : List D) : Type 0 where
+pub record AreWipedTo {D : Type 0} (units : D → List (List ℕ)) (lost : D → Bool) (failures : D → Failures) (segments : ℕ) (members : List Member) (bytes : List ℕ) (bound : ℕ) (old new : List D) : Type 0 where
   pub wiped : AreWiped segments members bytes bound (cells units lost new)
   pub others : SameBut (HasOn members) old new
   pub touched : KeepsDrives units lost failures (IsInOne segments members) old new

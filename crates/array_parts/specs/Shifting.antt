@@ -1,5 +1,6 @@
 -- A member of a group moved onto another extent: what is to lie at each of its offsets, and why it can't be.
 use Rattle.std.specs.Prelude.{◌≡◌, ◌≢◌, ◌⊎◌, ℕ, ◌/◌, ◌<◌, Bool, true, Some, List, replicate, slice_get}
+use Rattle.extents.specs.Failures.{Failures}
 use Rattle.extents.specs.Sizes.{extent_units}
 use Rattle.flat_machine.specs.declared.refusal.Refusal.{Refusal}
 use Rattle.flat_machine.specs.declared.refusal.Refusal.TheVariants.{Gone, DriveLost}
@@ -60,7 +61,7 @@ abbrev pub IsUsed : Groups → ℕ → Member → ℕ → Type 0
 IsUsed groups g to d = HasMemberOn groups g d ⊎ (d ≡ to.drive)
 
 -- the units for the offsets below a number were put on the other extent, one after another
-pub record AreOnTarget {D : Type 0} (units : D → List (List ℕ)) (lost : D → Bool) (failures : D → ℕ) (groups : Groups) (g k : ℕ) (was to : Member) (bound : ℕ) (old new : List D) : Type 0 where
+pub record AreOnTarget {D : Type 0} (units : D → List (List ℕ)) (lost : D → Bool) (failures : D → Failures) (groups : Groups) (g k : ℕ) (was to : Member) (bound : ℕ) (old new : List D) : Type 0 where
   pub each : (offset : ℕ) → offset < bound → IsOnTarget units lost groups g k was to offset old new
   pub touched : KeepsDrives units lost failures (IsIn groups.segments to) old new
   pub elsewhere : SameBut (IsUsed groups g to) old new

@@ -1,15 +1,15 @@
 // What the drives do for a slot: its unit is written, or another's is written there under a header of its own.
-ghost use Rattle.std.specs.Prelude.{◌≡◌, ◌*◌, length, OnOk, IfErr};
+ghost use Rattle.std.specs.Prelude.{◌≡◌, ◌*◌, length, OnOk, IfOk, IfErr};
 ghost use Rattle.extents.specs.Header.{IsHeader};
 ghost use Rattle.extent_groups.specs.Stores.{unit_bytes};
-ghost use Rattle.flat_machine.specs.Flat.{Payload, waiting_unit};
+ghost use Rattle.flat_machine.specs.Flat.{Payload, Trim, waiting_unit};
 ghost use Rattle.array_parts.specs.Fit.{IsFit};
 ghost use Rattle.array_parts.specs.Slots.{IsSlot};
-ghost use Rattle.array_parts.specs.Views.{view_of, FoundGone, WasPut, WasCarried, WasNotCarried};
+ghost use Rattle.array_parts.specs.Views.{view_of, FoundGone, WasPut, WasCopied, WasCarried, WasNotCarried};
 
 use crate::Parts;
-use crate::unit::put_header;
-use extents::{Drive, Header};
+use crate::unit::{clear, make_wait, put_header};
+use extents::{Drive, Header, Kind};
 use flat_machine::Refusal;
 
 impl<D: Drive> Parts<D> {
@@ -31,6 +31,54 @@ impl<D: Drive> Parts<D> {
         ensures fit { IsFit D.units self.new }
     {
         self.write_gathered(slot, &Header::Blank.encode(), payload, unit, scratch)
+    }
+
+    /// Writes a unit that waits to be a trim: a blank header and a payload of zeros. Takes a buffer of a unit's length and one
+    /// of two units'.
+    pub fn put_trim(
+        &mut self,
+        slot: u16,
+        unit: &mut [u8],
+        scratch: &mut [u8],
+    ) -> Result<(), Refusal>
+        requires fit { IsFit D.units self.old }
+        requires slot { IsSlot self.old.groups slot }
+        requires unit { length unit.old ≡ unit_bytes self.old.groups }
+        requires scratch { length scratch.old ≡ 2 * unit_bytes self.old.groups }
+        ensures ok { OnOk result (WasPut (view_of D.units D.lost D.failures self.old) (view_of D.units D.lost D.failures self.new) slot (waiting_unit self.old.groups.payload Trim)) }
+        ensures err { IfErr result (FoundGone (view_of D.units D.lost D.failures self.old) (view_of D.units D.lost D.failures self.new) slot) }
+        ensures fit { IsFit D.units self.new }
+    {
+        clear(unit);
+        self.write(slot, unit, scratch)
+    }
+
+    /// Writes what a slot holds into another slot, where it waits under a blank header, and returns its kind. Takes a buffer
+    /// of a unit's length and one of two units'.
+    pub fn copy(
+        &mut self,
+        from: u16,
+        to: u16,
+        unit: &mut [u8],
+        scratch: &mut [u8],
+    ) -> Result<Kind, Refusal>
+        requires fit { IsFit D.units self.old }
+        requires from { IsSlot self.old.groups from }
+        requires to { IsSlot self.old.groups to }
+        requires unit { length unit.old ≡ unit_bytes self.old.groups }
+        requires scratch { length scratch.old ≡ 2 * unit_bytes self.old.groups }
+        ensures ok { IfOk result (WasCopied (view_of D.units D.lost D.failures self.old) (view_of D.units D.lost D.failures self.new) from to) }
+        ensures err { IfErr result (WasNotCarried (view_of D.units D.lost D.failures self.old) (view_of D.units D.lost D.failures self.new) from to) }
+        ensures fit { IsFit D.units self.new }
+    {
+        if let Err(refusal) = self.read(from, unit, scratch) {
+            return Err(refusal);
+        }
+        let kind = make_wait(unit);
+        match self.write(to, unit, scratch) {
+            Ok(()) => Ok(kind),
+            Err(refusal) => Err(refusal),
+        }
     }
 
     /// Writes what a slot holds into a slot, under another header, with a buffer of a unit's length and

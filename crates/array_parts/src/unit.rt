@@ -1,12 +1,11 @@
 // The bytes of a unit: a header of 32 bytes, and the payload behind it.
-ghost use Rattle.std.specs.Prelude.{◌≡◌, ◌+◌, ◌≤◌, ◌++◌, length, drop, replicate};
-ghost use Rattle.extents.specs.Header.{header_bytes, record_in};
+ghost use Rattle.std.specs.Prelude.{◌≡◌, ◌+◌, ◌-◌, ◌≤◌, ◌++◌, length, drop, replicate};
+ghost use Rattle.extents.specs.Header.{header_bytes, kind_in};
 ghost use Rattle.extents.specs.declared.shape.TheConstants.{HEADER_BYTES};
 ghost use Rattle.array_parts.specs.Shows.{IsUnit};
-ghost use Rattle.flat_machine.specs.Flat.{Stored};
+ghost use Rattle.flat_machine.specs.Flat.{Stored, content_in, waiting_unit};
 
-use extents::{HEADER_BYTES, Header};
-use map_join::Record;
+use extents::{HEADER_BYTES, Header, Kind};
 
 // Puts a header before the payload that is there.
 pub(crate) fn put_header(unit: &mut [u8], header: &Header)
@@ -25,17 +24,30 @@ pub(crate) fn join(unit: &mut [u8], front: &[u8], rest: &[u8])
     unit[front.len()..].copy_from_slice(rest);
 }
 
-// The record in the header, none where it is blank, or no header.
-pub(crate) fn record_of(unit: &[u8]) -> Option<Record>
+// The header of the unit, a blank one where the bytes spell none.
+pub(crate) fn header_in(unit: &[u8]) -> Header
     requires { HEADER_BYTES ≤ length unit.now }
-    ensures { (u : Stored) → IsUnit unit.now u → result ≡ record_in u.header }
+    ensures { (u : Stored) → IsUnit unit.now u → result ≡ u.header }
 {
     let mut header = [0; HEADER_BYTES];
     header.copy_from_slice(&unit[..HEADER_BYTES]);
     match Header::decode(&header) {
-        Ok(header) => header.record(),
-        Err(_) => None,
+        Ok(header) => header,
+        Err(_) => Header::Blank,
     }
+}
+
+// Makes the unit one that waits, with a blank header and, of a trim, a payload of zeros; returns the kind that it was of.
+pub(crate) fn make_wait(unit: &mut [u8]) -> Kind
+    requires { HEADER_BYTES ≤ length unit.old }
+    ensures { (u : Stored) → IsUnit unit.old u → (result ≡ kind_in u.header) × IsUnit unit.new (waiting_unit (length unit.old - HEADER_BYTES) (content_in u)) }
+{
+    let kind = Header::kind_at_front(unit);
+    match kind {
+        Kind::Data => put_header(unit, &Header::Blank),
+        Kind::Trim => clear(unit),
+    }
+    kind
 }
 
 // Makes all bytes zero.

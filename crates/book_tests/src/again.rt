@@ -1,14 +1,14 @@
-// A Book round an array that another Book has left: its order of last writes and its log begin anew.
+// A Book around an array that another Book has left: its order of last writes and its write log start over.
 use crate::books::one_after_other;
-use crate::calls::{moved, record, write};
+use crate::calls::{moved, reads, record, write};
 use crate::rig::Story;
-use array_book::{Migration, NoGate, Sizes, Worker};
+use array_book::{Controller, Migration, NoGate, Sizes, Worker};
 use std::alloc::Global;
 use std::process::Abort;
 use std::sync::Wait;
 use step_core::MemDrive;
 
-// Block 1 is written before block 0.
+// Block 9 is written before block 5.
 struct WritesBoth;
 
 impl Story for WritesBoth {
@@ -18,12 +18,12 @@ impl Story for WritesBoth {
         B: map_words::Naming,
         R: Abort + Wait,
     >(&self, rt: &R, alloc: Global, worker: &mut Worker<'_, MemDrive, N, A, B>) {
-        assert!(rt; write(rt, alloc, worker, 1, 7) == Ok(record(1, 1, 0, 0)));
-        assert!(rt; write(rt, alloc, worker, 0, 7) == Ok(record(0, 1, 0, 1)));
+        assert!(rt; write(rt, alloc, worker, 9, 7) == Ok(record(9, 1, 0, 0)));
+        assert!(rt; write(rt, alloc, worker, 5, 8) == Ok(record(5, 1, 0, 1)));
     }
 }
 
-// Nobody wrote in this Book, so the lower number goes first, to the first slot with parity; and then the other.
+// Nothing was written in this Book, so the lower block goes first, to the first parity slot.
 struct MovesBoth;
 
 impl Story for MovesBoth {
@@ -34,14 +34,15 @@ impl Story for MovesBoth {
         R: Abort + Wait,
     >(&self, rt: &R, alloc: Global, worker: &mut Worker<'_, MemDrive, N, A, B>) {
         let first = moved(worker.migrate(rt, alloc, 48, &NoGate));
-        assert!(rt; first == Some(record(0, 1, 1, 256)));
+        assert!(rt; first == Some(record(5, 1, 1, 256)));
         let second = moved(worker.migrate(rt, alloc, 48, &NoGate));
-        assert!(rt; second == Some(record(1, 1, 1, 257)));
+        assert!(rt; second == Some(record(9, 1, 1, 257)));
         assert!(rt; matches!(worker.migrate(rt, alloc, 48, &NoGate), Ok(Migration::Idle)));
+        assert!(rt; reads(rt, alloc, worker, Controller::Even, record(9, 1, 1, 257), 7));
     }
 }
 
 #[test]
-fn another_book_round_an_array_begins_anew(rt: HostRuntime) {
+fn another_book_around_an_array_starts_over(rt: HostRuntime) {
     assert!(rt; one_after_other(&rt, rt.alloc(), 0, &WritesBoth, &MovesBoth) == 2);
 }

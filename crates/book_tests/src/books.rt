@@ -1,9 +1,11 @@
-// Two Books round one array, one after the other.
+// Two Books around one array, one after the other.
 ghost use Rattle.std.specs.Prelude.{◌≡◌, ◌≤◌};
 ghost use Rattle.map_words.specs.Places.{blocks_of};
 ghost use Rattle.slot_words.specs.Places.{slots_of};
 
-use crate::rig::{Story, Tables, named, new_map, new_tables, play, released, renewed, two_of_each};
+use crate::rig::{
+    Layout, Story, Tables, laid_out, named, new_map, new_tables, play, released, renewed,
+};
 use array_book::{Settled, Sizes};
 use slot_words::{Claim, Pass, SlotWords};
 use std::alloc::Global;
@@ -12,7 +14,7 @@ use std::process::Abort;
 use std::sync::Wait;
 use std::thread::Threads;
 
-// Claims of the first so many mirrored slots, of 48 that there are; the last of all is slot 151.
+// Claims of the first `count` of the 48 mirrored slots. The last of all is slot 151.
 fn claimed<N: slot_words::Naming, R: Abort>(
     rt: &R,
     alloc: Global,
@@ -47,8 +49,8 @@ fn release_last<N: slot_words::Naming>(
     }
 }
 
-/// Tells a story of a Book's only worker, and one of the next Book's; so many mirrored slots, of 48, are claimed before both, and
-/// the last of these is given back between them. How many claims the array has at the end.
+/// How many claims an array keeps after two Books, whose only worker, of number 4, plays the first story and then the second.
+/// The first `count` of its 48 mirrored slots are claimed before the first Book; the last of these is released before the second.
 pub(crate) fn one_after_other<F: Story + Sync, S: Story + Sync, R: Abort + Threads + Wait + Sync>(
     rt: &R,
     alloc: Global,
@@ -90,14 +92,14 @@ fn both<
     requires names { (tables.slots ≡ N.table) × (tables.even ≡ A.table) × (tables.odd ≡ B.table) }
     requires maps { (maps.0 ≡ C.table) × (maps.1 ≡ D.table) }
     requires blocks { (blocks_of maps.0 ≡ 16) × (blocks_of maps.1 ≡ 16) }
-    requires sizes { (N.blocks ≡ 16) × (N.payload ≡ 8) }
+    requires sizes { (N.blocks ≡ 16) × (N.payload ≡ 40) }
     requires count { count ≤ 48 }
 {
     let mut bench = named::<N, A, B>(tables);
     let mut spare = bench.words.split(&mut bench.hands.pass);
     let mut claims = claimed(rt, alloc, &bench.words, &mut spare, count);
-    let array = two_of_each(rt, alloc, 8);
-    let (settled, left) = play(rt, alloc, array, bench, &[0], stories.0);
+    let array = laid_out(rt, alloc, Layout::Storm);
+    let (settled, left) = play(rt, alloc, array, bench, &[4], stories.0);
     assert!(rt; settled == Ok(()));
     let Settled { array, words, pass } = left;
     let Some(pass) = pass else {
@@ -105,9 +107,9 @@ fn both<
     };
     release_last(&words, &mut spare, &mut claims);
     let shape = array.shape();
-    assert!(rt; shape.blocks == 16 && shape.payload == 8);
+    assert!(rt; shape.blocks == 16 && shape.payload == 40);
     let bench = renewed::<N, C, D>(words, pass, maps.0, maps.1);
-    let (settled, left) = play(rt, alloc, array, bench, &[0], stories.1);
+    let (settled, left) = play(rt, alloc, array, bench, &[4], stories.1);
     assert!(rt; settled == Ok(()));
     let Settled {
         array,

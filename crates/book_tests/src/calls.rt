@@ -1,5 +1,5 @@
-// Calls of a worker with no clause: what a call needs is looked at when it is made.
-ghost use Rattle.std.specs.Prelude.{◌≡◌, IsTrue};
+// Calls of a worker that need no proof from the caller: what a call requires is tested when it is made.
+ghost use Rattle.std.specs.Prelude.{◌≡◌, ◌<◌, length, IsTrue};
 
 use array_book::{Controller, Gate, Migration, NoGate, Sizes, WorkFault, Worker};
 use map_join::Record;
@@ -19,16 +19,28 @@ pub(crate) fn record(block: u32, version: u32, hop: u16, place: u16) -> Record {
     }
 }
 
-// Whether the worker's Book has sixteen blocks and payloads of eight bytes.
-fn is_sized<N: slot_words::Naming + Sizes, A: map_words::Naming, B: map_words::Naming>(
-    worker: &Worker<'_, MemDrive, N, A, B>,
-) -> bool
-    ensures { IsTrue result → (worker.now.book.now.blocks ≡ 16) × (worker.now.book.now.payload ≡ 8) }
+/// A payload of 40 bytes, all different, that begins with this one.
+pub(crate) fn payload(first: u8) -> [u8; 40]
+    ensures { length result ≡ 40 }
 {
-    worker.blocks() == 16 && worker.payload() == 8
+    let mut bytes = [0; 40];
+    for at in 0..40u8 {
+        bytes[usize::from(at)] = first.wrapping_add(at);
+    }
+    bytes
 }
 
-/// Writes eight of a byte; a block that isn't there is told as want of memory.
+// Whether the worker's Book has this block, and payloads of 40 bytes.
+fn has<N: slot_words::Naming + Sizes, A: map_words::Naming, B: map_words::Naming>(
+    worker: &Worker<'_, MemDrive, N, A, B>,
+    block: u32,
+) -> bool
+    ensures { IsTrue result → (block < worker.now.book.now.blocks) × (worker.now.book.now.payload ≡ 40) }
+{
+    block < worker.blocks() && worker.payload() == 40
+}
+
+/// Writes the payload that begins with this byte. Memory where the Book has no such block.
 pub(crate) fn write_by<
     N: slot_words::Naming + Sizes,
     A: map_words::Naming,
@@ -40,17 +52,17 @@ pub(crate) fn write_by<
     alloc: Global,
     worker: &mut Worker<'_, MemDrive, N, A, B>,
     block: u32,
-    byte: u8,
+    first: u8,
     gate: &G,
 ) -> Result<Record, WorkFault> {
-    if !is_sized(worker) || block >= 16 {
+    if !has(worker, block) {
         return Err(WorkFault::Memory);
     }
-    let emitted = worker.write(rt, alloc, block, &[byte; 8], gate)?;
+    let emitted = worker.write(rt, alloc, block, &payload(first), gate)?;
     Ok(emitted.record())
 }
 
-/// The same, waiting nowhere.
+/// Writes the payload that begins with this byte, without waiting at a gate.
 pub(crate) fn write<
     N: slot_words::Naming + Sizes,
     A: map_words::Naming,
@@ -61,20 +73,56 @@ pub(crate) fn write<
     alloc: Global,
     worker: &mut Worker<'_, MemDrive, N, A, B>,
     block: u32,
-    byte: u8,
+    first: u8,
 ) -> Result<Record, WorkFault> {
-    write_by(rt, alloc, worker, block, byte, &NoGate)
+    write_by(rt, alloc, worker, block, first, &NoGate)
+}
+
+/// Trims a block. Memory where the Book has no such block.
+pub(crate) fn trim_by<
+    N: slot_words::Naming + Sizes,
+    A: map_words::Naming,
+    B: map_words::Naming,
+    G: Gate,
+    R: Wait,
+>(
+    rt: &R,
+    alloc: Global,
+    worker: &mut Worker<'_, MemDrive, N, A, B>,
+    block: u32,
+    gate: &G,
+) -> Result<Record, WorkFault> {
+    if !has(worker, block) {
+        return Err(WorkFault::Memory);
+    }
+    let emitted = worker.trim(rt, alloc, block, gate)?;
+    Ok(emitted.record())
+}
+
+/// Trims a block, without waiting at a gate.
+pub(crate) fn trim<
+    N: slot_words::Naming + Sizes,
+    A: map_words::Naming,
+    B: map_words::Naming,
+    R: Wait,
+>(
+    rt: &R,
+    alloc: Global,
+    worker: &mut Worker<'_, MemDrive, N, A, B>,
+    block: u32,
+) -> Result<Record, WorkFault> {
+    trim_by(rt, alloc, worker, block, &NoGate)
 }
 
 /// The record with which a block was moved, if one was.
-pub(crate) fn moved(told: Result<Migration, WorkFault>) -> Option<Record> {
-    match told {
+pub(crate) fn moved(migrated: Result<Migration, WorkFault>) -> Option<Record> {
+    match migrated {
         Ok(Migration::Moved(emitted)) => Some(emitted.record()),
         _ => None,
     }
 }
 
-/// What a controller tells of a block; one that isn't there is told as want of memory.
+/// What a controller reads of a block. Memory where the Book has no such block.
 pub(crate) fn read<
     N: slot_words::Naming + Sizes,
     A: map_words::Naming,
@@ -87,13 +135,13 @@ pub(crate) fn read<
     controller: Controller,
     block: u32,
 ) -> Result<Option<Reading>, WorkFault> {
-    if !is_sized(worker) || block >= 16 {
+    if !has(worker, block) {
         return Err(WorkFault::Memory);
     }
     worker.read(rt, alloc, controller, block)
 }
 
-/// Whether a controller tells a block by this record, with a payload of this byte.
+/// Whether a controller reads the block of this record as exactly this record, with the payload that begins with this byte.
 pub(crate) fn reads<
     N: slot_words::Naming + Sizes,
     A: map_words::Naming,
@@ -104,16 +152,53 @@ pub(crate) fn reads<
     alloc: Global,
     worker: &mut Worker<'_, MemDrive, N, A, B>,
     controller: Controller,
-    told: Record,
-    byte: u8,
+    newest: Record,
+    first: u8,
 ) -> bool {
-    match read(rt, alloc, worker, controller, told.block) {
-        Ok(Some(reading)) => reading.record() == told && reading.payload() == [byte; 8].as_slice(),
+    match read(rt, alloc, worker, controller, newest.block) {
+        Ok(Some(reading)) => {
+            reading.record() == newest && reading.payload() == Some(payload(first).as_slice())
+        }
         _ => false,
     }
 }
 
-/// Looks until the number is at least this, or a billion times: whether it has come to it.
+/// Whether a controller reads the block of this record as exactly this record, which is of a trim.
+pub(crate) fn reads_trim<
+    N: slot_words::Naming + Sizes,
+    A: map_words::Naming,
+    B: map_words::Naming,
+    R: Wait,
+>(
+    rt: &R,
+    alloc: Global,
+    worker: &mut Worker<'_, MemDrive, N, A, B>,
+    controller: Controller,
+    newest: Record,
+) -> bool {
+    match read(rt, alloc, worker, controller, newest.block) {
+        Ok(Some(reading)) => reading.record() == newest && reading.payload().is_none(),
+        _ => false,
+    }
+}
+
+/// Whether a controller has no record of a block.
+pub(crate) fn reads_none<
+    N: slot_words::Naming + Sizes,
+    A: map_words::Naming,
+    B: map_words::Naming,
+    R: Wait,
+>(
+    rt: &R,
+    alloc: Global,
+    worker: &mut Worker<'_, MemDrive, N, A, B>,
+    controller: Controller,
+    block: u32,
+) -> bool {
+    matches!(read(rt, alloc, worker, controller, block), Ok(None))
+}
+
+/// Waits until the number is at least this, for a billion looks at most. Whether it is.
 pub(crate) fn comes_to(number: &AtomicU64, wanted: u64) -> bool {
     for _look in 0..1_000_000_000u32 {
         if number.load(SeqCst) >= wanted {

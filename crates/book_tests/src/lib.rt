@@ -10,18 +10,28 @@ mod calls;
 #[cfg(test)]
 mod controllers;
 #[cfg(test)]
+mod jobs;
+#[cfg(test)]
 mod moves;
 #[cfg(test)]
+mod numbers;
+#[cfg(test)]
+mod outruns;
+#[cfg(test)]
 mod points;
+#[cfg(test)]
+mod refused;
 #[cfg(test)]
 mod rig;
 #[cfg(test)]
 mod room;
 #[cfg(test)]
-mod spent;
+mod rounds;
 #[cfg(test)]
 mod storms;
 #[cfg(test)]
 mod told;
+#[cfg(test)]
+mod trims;
 #[cfg(test)]
 mod turns;

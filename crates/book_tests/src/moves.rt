@@ -1,6 +1,6 @@
-// One worker alone: what it writes and moves.
+// One worker alone: what it moves, and where it finds no slot or nothing to move.
 use crate::calls::{moved, reads, record, write};
-use crate::rig::{Story, lived};
+use crate::rig::{Layout, Story, lived};
 use array_book::{Controller, Migration, NoGate, Sizes, Worker};
 use std::alloc::Global;
 use std::process::Abort;
@@ -17,24 +17,26 @@ impl Story for MovesOne {
         B: map_words::Naming,
         R: Abort + Wait,
     >(&self, rt: &R, alloc: Global, worker: &mut Worker<'_, MemDrive, N, A, B>) {
-        for block in 0..5u16 {
-            let told = write(rt, alloc, worker, u32::from(block), 7);
-            assert!(rt; told == Ok(record(u32::from(block), 1, 0, block)));
+        for block in 0..5u8 {
+            let written = write(rt, alloc, worker, u32::from(block), block);
+            assert!(rt; written == Ok(record(u32::from(block), 1, 0, u16::from(block))));
         }
-        let told = moved(worker.migrate(rt, alloc, 44, &NoGate));
-        assert!(rt; told == Some(record(0, 1, 1, 256)));
+        assert!(rt; matches!(worker.migrate(rt, alloc, 43, &NoGate), Ok(Migration::Idle)));
+        let demoted = moved(worker.migrate(rt, alloc, 44, &NoGate));
+        assert!(rt; demoted == Some(record(0, 1, 1, 256)));
         assert!(rt; matches!(worker.migrate(rt, alloc, 44, &NoGate), Ok(Migration::Idle)));
-        assert!(rt; reads(rt, alloc, worker, Controller::Even, record(0, 1, 1, 256), 7));
+        assert!(rt; reads(rt, alloc, worker, Controller::Even, record(0, 1, 1, 256), 0));
+        assert!(rt; reads(rt, alloc, worker, Controller::Even, record(4, 1, 0, 4), 4));
     }
 }
 
-// With one segment four blocks fill the first parity group, and the fifth goes to the second. Behind a plug the log goes on where
-// it did before, and behind a clean at the next slot.
+// Four blocks fill the first parity group, and the fifth goes to the second. After a plug the write log goes on where it did
+// before the plug, and after a clean at the next slot.
 struct GathersThem;
 
 impl Story for GathersThem {
-    fn segments(&self) -> u32 {
-        1
+    fn layout(&self) -> Layout {
+        Layout::Short
     }
 
     fn tell<
@@ -45,34 +47,80 @@ impl Story for GathersThem {
     >(&self, rt: &R, alloc: Global, worker: &mut Worker<'_, MemDrive, N, A, B>) {
         for (block, place) in [(0, 256), (1, 257), (2, 258), (3, 259), (4, 384)] {
             assert!(rt; write(rt, alloc, worker, block, 7) == Ok(record(block, 1, 0, 0)));
-            let told = moved(worker.migrate(rt, alloc, 4, &NoGate));
-            assert!(rt; told == Some(record(block, 1, 1, place)));
+            let demoted = moved(worker.migrate(rt, alloc, 4, &NoGate));
+            assert!(rt; demoted == Some(record(block, 1, 1, place)));
         }
         assert!(rt; write(rt, alloc, worker, 1, 8) == Ok(record(1, 2, 0, 0)));
         let plugged = moved(worker.migrate(rt, alloc, 0, &NoGate));
         assert!(rt; plugged == Some(record(4, 1, 2, 257)));
-        let appended = moved(worker.migrate(rt, alloc, 4, &NoGate));
-        assert!(rt; appended == Some(record(1, 2, 1, 385)));
+        let demoted = moved(worker.migrate(rt, alloc, 4, &NoGate));
+        assert!(rt; demoted == Some(record(1, 2, 1, 385)));
         assert!(rt; matches!(worker.migrate(rt, alloc, 0, &NoGate), Ok(Migration::Idle)));
         assert!(rt; write(rt, alloc, worker, 0, 9) == Ok(record(0, 2, 0, 0)));
         assert!(rt; write(rt, alloc, worker, 1, 9) == Ok(record(1, 3, 0, 1)));
         let cleaned = moved(worker.migrate(rt, alloc, 0, &NoGate));
         assert!(rt; cleaned == Some(record(4, 1, 3, 386)));
         assert!(rt; write(rt, alloc, worker, 4, 9) == Ok(record(4, 2, 0, 128)));
-        let appended = moved(worker.migrate(rt, alloc, 4, &NoGate));
-        assert!(rt; appended == Some(record(0, 2, 1, 387)));
+        let demoted = moved(worker.migrate(rt, alloc, 4, &NoGate));
+        assert!(rt; demoted == Some(record(0, 2, 1, 387)));
         assert!(rt; reads(rt, alloc, worker, Controller::Even, record(2, 1, 1, 258), 7));
+    }
+}
+
+// Eight blocks fill both parity groups. One block of each is written again, which leaves a hole. There is a plug then, but no slot
+// for a demotion.
+struct RunsOut;
+
+impl Story for RunsOut {
+    fn layout(&self) -> Layout {
+        Layout::Short
+    }
+
+    fn tell<
+        N: slot_words::Naming + Sizes,
+        A: map_words::Naming,
+        B: map_words::Naming,
+        R: Abort + Wait,
+    >(&self, rt: &R, alloc: Global, worker: &mut Worker<'_, MemDrive, N, A, B>) {
+        for index in 0..8u8 {
+            let block = u32::from(index) + 6;
+            let place = 256 + 128 * u16::from(index / 4) + u16::from(index % 4);
+            assert!(rt; write(rt, alloc, worker, block, index) == Ok(record(block, 1, 0, 0)));
+            let demoted = moved(worker.migrate(rt, alloc, 4, &NoGate));
+            assert!(rt; demoted == Some(record(block, 1, 1, place)));
+        }
+        assert!(rt; write(rt, alloc, worker, 7, 21) == Ok(record(7, 2, 0, 0)));
+        assert!(rt; write(rt, alloc, worker, 12, 22) == Ok(record(12, 2, 0, 1)));
+        assert!(rt; matches!(worker.migrate(rt, alloc, 3, &NoGate), Ok(Migration::NoRoom)));
+        let plugged = moved(worker.migrate(rt, alloc, 2, &NoGate));
+        assert!(rt; plugged == Some(record(10, 1, 2, 257)));
+        assert!(rt;
+            reads(
+                rt,
+                alloc,
+                worker,
+                Controller::Even,
+                record(10, 1, 2, 257),
+                4
+            )
+        );
     }
 }
 
 #[test]
 fn the_block_written_longest_ago_is_moved_where_slots_are_few(rt: HostRuntime) {
-    let told = lived(&rt, rt.alloc(), &[0], &MovesOne);
-    assert!(rt; told == (Ok(()), 5));
+    let settled = lived(&rt, rt.alloc(), &[4], &MovesOne);
+    assert!(rt; settled == (Ok(()), 5));
 }
 
 #[test]
 fn holes_are_plugged_and_groups_cleaned(rt: HostRuntime) {
-    let told = lived(&rt, rt.alloc(), &[0], &GathersThem);
-    assert!(rt; told == (Ok(()), 5));
+    let settled = lived(&rt, rt.alloc(), &[4], &GathersThem);
+    assert!(rt; settled == (Ok(()), 5));
+}
+
+#[test]
+fn a_demotion_without_a_slot_goes_on_to_no_plug(rt: HostRuntime) {
+    let settled = lived(&rt, rt.alloc(), &[4], &RunsOut);
+    assert!(rt; settled == (Ok(()), 8));
 }

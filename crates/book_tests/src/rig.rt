@@ -1,5 +1,5 @@
-// The life of a Book over an array of sixteen blocks and payloads of eight bytes: its tables, the workers of whom a story is
-// told, and how it is settled.
+// The life of a Book over an array of 16 blocks and payloads of 40 bytes: its tables, its workers, who play a story, and how it
+// is settled.
 ghost use Rattle.std.specs.Prelude.{◌≡◌};
 ghost use Rattle.array_model.specs.Represents.{ShowsArray};
 ghost use Rattle.flat_machine.specs.Flat.{Flat};
@@ -7,7 +7,8 @@ ghost use Rattle.map_words.specs.Places.{blocks_of};
 ghost use Rattle.slot_words.specs.Places.{slots_of};
 
 use array_book::{
-    Book, Claim, Ended, Job, SettleFault, Settled, Sizes, WorkFault, Worker, run_workers, settle,
+    Book, Claim, Ended, Job, RunFault, SettleFault, Settled, Sizes, WorkFault, Worker, run_workers,
+    settle,
 };
 use map_join::Record;
 use map_words::MapWords;
@@ -19,7 +20,7 @@ use std::sync::Wait;
 use std::thread::Threads;
 use step_core::{Array, Class, Hold, MemDrive, Member, Shape, TakeBack};
 
-/// The tables of a Book of sixteen blocks, without names.
+/// The tables of a Book of 16 blocks, without names.
 #[derive(Drop)]
 pub(crate) struct Tables {
     pub(crate) slots: slot_words::Unnamed,
@@ -62,11 +63,26 @@ pub(crate) fn renewed<N: slot_words::Naming, A: map_words::Naming, B: map_words:
     }
 }
 
+/// The groups of a Book's array.
+#[derive(Clone, Copy, Debug, PartialEq, Eq)]
+pub(crate) enum Layout {
+    /// Mirrored groups of 24 slots from 0 and from 128, parity groups of 32 slots from 256 and from 384.
+    Storm,
+    /// The groups of a storm, of one segment each: mirrored ones of 2 slots, parity ones of 4.
+    Short,
+    /// A mirrored group of slots 0 and 1, and a parity group of slots 128 to 131.
+    Small,
+}
+
 /// What workers do while a Book lives.
 pub(crate) trait Story {
-    /// How many segments an extent of the Book's drives has.
-    fn segments(&self) -> u32 {
-        8
+    fn layout(&self) -> Layout {
+        Layout::Storm
+    }
+
+    /// What the run of the workers in threads returns.
+    fn ran(&self) -> Result<(), RunFault> {
+        Ok(())
     }
 
     /// What each does in a thread of its own.
@@ -85,10 +101,22 @@ pub(crate) trait Story {
         A: map_words::Naming,
         B: map_words::Naming,
         R: Abort + Wait,
-    >(&self, rt: &R, alloc: Global, worker: &mut Worker<'_, MemDrive, N, A, B>);
+    >(&self, _rt: &R, _alloc: Global, _worker: &mut Worker<'_, MemDrive, N, A, B>) {}
+
+    /// What all do, in one thread, when all threads have ended.
+    fn tell_all<
+        N: slot_words::Naming + Sizes,
+        A: map_words::Naming,
+        B: map_words::Naming,
+        R: Abort + Wait,
+    >(&self, rt: &R, alloc: Global, workers: &mut [Worker<'_, MemDrive, N, A, B>]) {
+        if let Some(first) = workers.first_mut() {
+            self.tell(rt, alloc, first);
+        }
+    }
 }
 
-// What a story has of work in threads.
+// The work of a story that is done in threads.
 #[derive(Drop)]
 struct Works<'a, S> {
     story: &'a S,
@@ -110,7 +138,7 @@ impl<'a, S: Story, N: slot_words::Naming + Sizes, A: map_words::Naming, B: map_w
     }
 }
 
-// Releases the claims that an array hands over, and counts them.
+// Releases the claims that an array returns, and counts them.
 #[derive(Drop)]
 struct Releases<'a, N: slot_words::Naming> {
     words: &'a SlotWords<N>,
@@ -125,7 +153,7 @@ impl<'a, N: slot_words::Naming> TakeBack<Claim<N>> for Releases<'a, N> {
     }
 }
 
-/// The words of one controller, all at nothing.
+/// The words of one controller, without any record.
 pub(crate) fn new_map(rt: &impl Abort, alloc: Global) -> map_words::Unnamed
     ensures { blocks_of result ≡ 16 }
 {
@@ -171,8 +199,8 @@ pub(crate) fn named<N: slot_words::Naming, A: map_words::Naming, B: map_words::N
     }
 }
 
-/// Four drives in memory of eight extents of so many segments, with these groups: each of an extent of its number on each of
-/// its drives.
+/// An array of four drives in memory, of 8 extents with this many segments, and of these groups: a class, the number of the
+/// extent on each drive, and the drives.
 pub(crate) fn grouped<C: Hold, R: Abort>(
     rt: &R,
     alloc: Global,
@@ -180,9 +208,9 @@ pub(crate) fn grouped<C: Hold, R: Abort>(
     groups: &[(Class, u16, [u8; 3])],
 ) -> Array<MemDrive, C>
     ensures shows { (F : Flat) × ShowsArray result F }
-    ensures sizes { (result.parts.groups.blocks ≡ 16) × (result.parts.groups.payload ≡ 8) }
+    ensures sizes { (result.parts.groups.blocks ≡ 16) × (result.parts.groups.payload ≡ 40) }
 {
-    let Ok(shape) = Shape::new(8, segments, 8, 16) else {
+    let Ok(shape) = Shape::new(8, segments, 40, 16) else {
         panic!(rt; "no shape")
     };
     let Ok(mut array) = Array::in_memory(alloc, shape, 4) else {
@@ -214,26 +242,37 @@ fn make_group<C: Hold, R: Abort>(
     claims.destroy_empty();
 }
 
-/// An array with two mirrored groups, of slots from 0 and 128 on, and two with parity, of slots from 256 and 384 on. With eight
-/// segments a mirrored group has 24 slots and a parity group 32; with one they have two and four.
-pub(crate) fn two_of_each<C: Hold, R: Abort>(
+// The groups of a storm's array.
+const TWO_OF_EACH: [(Class, u16, [u8; 3]); 4] = [
+    (Class::Mirrored, 0, [0, 1, 2]),
+    (Class::Mirrored, 1, [1, 2, 3]),
+    (Class::Parity, 2, [0, 1, 3]),
+    (Class::Parity, 3, [0, 2, 3]),
+];
+
+// One group of each class, on three of four drives.
+const ONE_OF_EACH: [(Class, u16, [u8; 3]); 2] = [
+    (Class::Mirrored, 0, [0, 1, 2]),
+    (Class::Parity, 1, [0, 1, 2]),
+];
+
+/// An array of these groups.
+pub(crate) fn laid_out<C: Hold, R: Abort>(
     rt: &R,
     alloc: Global,
-    segments: u32,
+    layout: Layout,
 ) -> Array<MemDrive, C>
     ensures shows { (F : Flat) × ShowsArray result F }
-    ensures sizes { (result.parts.groups.blocks ≡ 16) × (result.parts.groups.payload ≡ 8) }
+    ensures sizes { (result.parts.groups.blocks ≡ 16) × (result.parts.groups.payload ≡ 40) }
 {
-    let groups = [
-        (Class::Mirrored, 0, [0, 1, 2]),
-        (Class::Mirrored, 1, [1, 2, 3]),
-        (Class::Parity, 2, [0, 1, 3]),
-        (Class::Parity, 3, [0, 2, 3]),
-    ];
-    grouped(rt, alloc, segments, &groups)
+    match layout {
+        Layout::Storm => grouped(rt, alloc, 8, &TWO_OF_EACH),
+        Layout::Short => grouped(rt, alloc, 1, &TWO_OF_EACH),
+        Layout::Small => grouped(rt, alloc, 1, &ONE_OF_EACH),
+    }
 }
 
-// Hands for so many workers, or for one where there is none.
+// Hands for this many workers, or for one where there is none.
 fn parted<N: slot_words::Naming, A: map_words::Naming, B: map_words::Naming, R: Abort>(
     rt: &R,
     alloc: Global,
@@ -259,8 +298,8 @@ fn parted<N: slot_words::Naming, A: map_words::Naming, B: map_words::Naming, R: 
     all
 }
 
-// Has workers of these numbers work in threads, tells their story, and takes back what they had.
-fn told<
+// Has workers of these numbers play a story, and takes back what they had.
+fn played<
     N: slot_words::Naming + Sizes + Send + Sync,
     A: map_words::Naming + Send + Sync,
     B: map_words::Naming + Send + Sync,
@@ -284,10 +323,8 @@ fn told<
         assert!(rt; workers.push(worker).is_ok());
     }
     let works = Works { story };
-    assert!(rt; run_workers(rt, alloc, &mut workers, &works) == Ok(()));
-    if let Some(first) = workers.first_mut() {
-        story.tell(rt, alloc, first);
-    }
+    assert!(rt; run_workers(rt, alloc, &mut workers, &works) == story.ran());
+    story.tell_all(rt, alloc, &mut workers);
     let mut ended = Vec::new(alloc);
     for worker in workers {
         assert!(rt; ended.push(worker.end()).is_ok());
@@ -295,7 +332,7 @@ fn told<
     ended
 }
 
-/// A Book round an array, with workers of these numbers, of whom a story is told; and what is left of it.
+/// How a Book around an array is settled whose workers, of these numbers, played a story, and what is left of it.
 pub(crate) fn play<
     N: slot_words::Naming + Sizes + Send + Sync,
     A: map_words::Naming + Send + Sync,
@@ -311,8 +348,8 @@ pub(crate) fn play<
     story: &S,
 ) -> (Result<(), SettleFault>, Settled<MemDrive, N>)
     requires shows { (F : Flat) × ShowsArray array F }
-    requires sizes { (array.parts.groups.blocks ≡ 16) × (array.parts.groups.payload ≡ 8) }
-    requires named { (N.blocks ≡ 16) × (N.payload ≡ 8) }
+    requires sizes { (array.parts.groups.blocks ≡ 16) × (array.parts.groups.payload ≡ 40) }
+    requires named { (N.blocks ≡ 16) × (N.payload ≡ 40) }
     requires many { slots_of N.table ≡ 65536 }
     requires blocks { (blocks_of A.table ≡ 16) × (blocks_of B.table ≡ 16) }
     ensures shows { (F : Flat) × ShowsArray result.1.array F }
@@ -328,14 +365,14 @@ pub(crate) fn play<
         Ok(book) => book,
         Err(_back) => panic!(rt; "no book"),
     };
-    let ended = told(rt, alloc, &book, hands, numbers, story);
+    let ended = played(rt, alloc, &book, hands, numbers, story);
     match settle(alloc, book, ended) {
         Ok(settled) => (Ok(()), settled),
         Err((fault, settled)) => (Err(fault), settled),
     }
 }
 
-/// Ends an array, releases the claims that it kept, and tells how many there were. Then every slot is free.
+/// Ends an array, releases the claims that it kept, and returns how many there were. Every slot can be claimed then.
 pub(crate) fn released<N: slot_words::Naming, R: Abort>(
     rt: &R,
     words: &SlotWords<N>,
@@ -360,7 +397,7 @@ pub(crate) fn released<N: slot_words::Naming, R: Abort>(
     count
 }
 
-/// How a Book over two groups of each class is settled, whose workers have these numbers, and how many claims its array kept.
+/// How a Book is settled whose workers, of these numbers, played a story, and how many claims its array kept.
 pub(crate) fn lived<S: Story + Sync, R: Abort + Threads + Wait + Sync>(
     rt: &R,
     alloc: Global,
@@ -370,7 +407,7 @@ pub(crate) fn lived<S: Story + Sync, R: Abort + Threads + Wait + Sync>(
     lived_after(rt, alloc, None, numbers, story)
 }
 
-/// The same, where the even controller has taken a record before.
+/// How a Book is settled, and how many claims its array kept, where the even controller took a record before its workers did.
 pub(crate) fn lived_after<S: Story + Sync, R: Abort + Threads + Wait + Sync>(
     rt: &R,
     alloc: Global,
@@ -397,7 +434,7 @@ fn live<
     story: &S,
 ) -> (Result<(), SettleFault>, u32)
     requires names { (tables.slots ≡ N.table) × (tables.even ≡ A.table) × (tables.odd ≡ B.table) }
-    requires sizes { (N.blocks ≡ 16) × (N.payload ≡ 8) }
+    requires sizes { (N.blocks ≡ 16) × (N.payload ≡ 40) }
 {
     let mut bench = named::<N, A, B>(tables);
     let mut spare = bench.words.split(&mut bench.hands.pass);
@@ -405,7 +442,7 @@ fn live<
         assert!(rt; record.block < 16 && record.version > 0);
         bench.even.take(&mut bench.hands.even, record);
     }
-    let array = two_of_each(rt, alloc, story.segments());
+    let array = laid_out(rt, alloc, story.layout());
     let (settled, left) = play(rt, alloc, array, bench, numbers, story);
     let Settled {
         array,

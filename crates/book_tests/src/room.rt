@@ -1,6 +1,6 @@
-// Mirrored slots that are all claimed, and what a write finds when one is given back.
+// Mirrored slots that are all claimed, and what a write and a trim find when one is given back.
 use crate::books::one_after_other;
-use crate::calls::{moved, reads, record, write};
+use crate::calls::{moved, reads, record, trim, write};
 use crate::rig::Story;
 use array_book::{Controller, NoGate, Sizes, WorkFault, Worker};
 use std::alloc::Global;
@@ -8,7 +8,7 @@ use std::process::Abort;
 use std::sync::Wait;
 use step_core::MemDrive;
 
-// No slot is left for a write.
+// No slot is left.
 struct FindsNone;
 
 impl Story for FindsNone {
@@ -19,6 +19,7 @@ impl Story for FindsNone {
         R: Abort + Wait,
     >(&self, rt: &R, alloc: Global, worker: &mut Worker<'_, MemDrive, N, A, B>) {
         assert!(rt; write(rt, alloc, worker, 3, 7) == Err(WorkFault::NoRoom));
+        assert!(rt; trim(rt, alloc, worker, 3) == Err(WorkFault::NoRoom));
     }
 }
 
@@ -34,8 +35,9 @@ impl Story for FindsOne {
     >(&self, rt: &R, alloc: Global, worker: &mut Worker<'_, MemDrive, N, A, B>) {
         assert!(rt; write(rt, alloc, worker, 3, 7) == Ok(record(3, 1, 0, 151)));
         assert!(rt; write(rt, alloc, worker, 3, 8) == Err(WorkFault::NoRoom));
-        let told = moved(worker.migrate(rt, alloc, 48, &NoGate));
-        assert!(rt; told == Some(record(3, 1, 1, 256)));
+        assert!(rt; trim(rt, alloc, worker, 3) == Err(WorkFault::NoRoom));
+        let demoted = moved(worker.migrate(rt, alloc, 48, &NoGate));
+        assert!(rt; demoted == Some(record(3, 1, 1, 256)));
         assert!(rt; write(rt, alloc, worker, 3, 8) == Ok(record(3, 2, 0, 151)));
         assert!(rt; reads(rt, alloc, worker, Controller::Even, record(3, 2, 0, 151), 8));
     }

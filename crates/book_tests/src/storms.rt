@@ -1,8 +1,8 @@
-// Storms of workers, all of which agree, and what the workers had carried out.
+// Storms of workers, all of which agree, and what the workers carried out.
 use step_core::Refusal;
 use storm::{Fuse, Orders, Storm, StormFault, Tally, run_orders, run_storm};
 
-// What was carried out, where the workers agreed.
+// What was carried out, where the maps agree.
 fn tally(told: Result<Storm, StormFault>) -> Option<Tally> {
     match told {
         Ok(Storm::Agreed(tally)) => Some(tally),
@@ -10,7 +10,7 @@ fn tally(told: Result<Storm, StormFault>) -> Option<Tally> {
     }
 }
 
-// From the fifth round on five blocks lie in mirrored groups behind each write, and one of them is moved. Nobody takes records of
+// From the fifth round on five blocks lie in mirrored groups after each write, and one of them is moved. No worker takes records of
 // the controller at which worker 0 reads.
 #[test]
 fn a_worker_alone_writes_and_reads_each_round_and_moves_from_the_fifth_on(rt: HostRuntime) {
@@ -91,7 +91,7 @@ fn storms_of_long_payloads_agree_and_of_odd_ones_there_are_none(rt: HostRuntime)
     }
 }
 
-// Three workers of twenty rounds, with payloads of so many bytes.
+// Three workers of twenty rounds, with payloads of this many bytes.
 fn of_payload(payload: u32) -> Orders {
     Orders {
         workers: 3,

@@ -1,4 +1,4 @@
-// What is told of a storm, however it ended, and of a line that can't be written.
+// The line that is written of a storm, for each end, and a line that can't be written.
 use step_core::Refusal;
 use storm::{Storm, StormFault, Tally, Told, end_storm, tell_storm};
 
@@ -13,7 +13,7 @@ fn agreed() -> Result<Storm, StormFault> {
     }))
 }
 
-// Each line goes behind what was written before.
+// Each line is appended to what was written before.
 #[test]
 fn each_end_of_a_storm_is_told_in_its_line(rt: HostRuntime) {
     let mut lines = Vec::new(rt.alloc());
@@ -24,13 +24,13 @@ fn each_end_of_a_storm_is_told_in_its_line(rt: HostRuntime) {
     assert!(rt; lines.as_slice() == b"agreed\ndiffers 70\n".as_slice());
 }
 
-// What is told where a line has so much room.
+// What is written into a buffer of this size.
 fn told_in(room: &mut [u8], ended: Result<Storm, StormFault>) -> Told {
     let mut left = room;
     tell_storm(&mut left, ended)
 }
 
-// A line that has no room for all of it is told as unwritten.
+// A line that doesn't fit into the buffer is unwritten.
 #[test]
 fn a_line_without_room_for_its_end_is_unwritten(rt: HostRuntime) {
     let mut six = [0; 6];
@@ -43,7 +43,7 @@ fn a_line_without_room_for_its_end_is_unwritten(rt: HostRuntime) {
     assert!(rt; ten == *b"differs 9\n");
 }
 
-// No storm that is run ends with maps that differ, so this end is told by hand.
+// No storm that is run ends with maps that differ, so this end is made up.
 #[test]
 fn maps_that_differ_end_with_their_own_status(rt: HostRuntime) {
     let mut line = Vec::new(rt.alloc());

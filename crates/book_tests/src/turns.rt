@@ -1,5 +1,5 @@
 // Two workers in threads that write one block: each has claimed before either commits, and worker 2's write is acknowledged
-// before worker 1's goes on.
+// before worker 1 goes on.
 use crate::calls::{comes_to, reads, record, write, write_by};
 use crate::rig::{Story, lived};
 use array_book::{Controller, Gate, Point, Sizes, WorkFault, Worker};
@@ -11,7 +11,7 @@ use std::sync::atomic::AtomicU64;
 use std::sync::atomic::Ordering::SeqCst;
 use step_core::MemDrive;
 
-// Worker 1 has claimed; then worker 2's write is acknowledged, with this key; then worker 1's. And how many waited in vain.
+// Worker 1 has claimed; then worker 2's write is acknowledged, with this key; then worker 1's. And how many waits ended too soon.
 #[derive(Drop)]
 struct Turns {
     claimed: AtomicU64,
@@ -56,12 +56,12 @@ impl<'a> Gate for Turn<'a> {
     }
 }
 
-// The record of block 3 that this key tells.
-fn told<R: Abort>(rt: &R, key: &AtomicU64) -> Record {
-    let Some(told) = Record::of_key(3, key.load(SeqCst)) else {
+// The record of block 3 with this key.
+fn record_of<R: Abort>(rt: &R, key: &AtomicU64) -> Record {
+    let Some(record) = Record::of_key(3, key.load(SeqCst)) else {
         panic!(rt; "not written")
     };
-    told
+    record
 }
 
 impl Story for Turns {
@@ -76,13 +76,13 @@ impl Story for Turns {
             number,
             turns: self,
         };
-        let told = write_by(rt, alloc, worker, 3, number, &turn)?;
+        let written = write_by(rt, alloc, worker, 3, number, &turn)?;
         let key = if number == 1 {
             &self.first
         } else {
             &self.second
         };
-        key.store(told.key(), SeqCst);
+        key.store(written.key(), SeqCst);
         Ok(())
     }
 
@@ -93,8 +93,8 @@ impl Story for Turns {
         R: Abort + Wait,
     >(&self, rt: &R, alloc: Global, worker: &mut Worker<'_, MemDrive, N, A, B>) {
         assert!(rt; self.late.load(SeqCst) == 0);
-        let older = told(rt, &self.second);
-        let last = told(rt, &self.first);
+        let older = record_of(rt, &self.second);
+        let last = record_of(rt, &self.first);
         assert!(rt; older.place < 2 && last.place < 2 && older.place != last.place);
         assert!(rt; older == record(3, 1, 0, older.place));
         assert!(rt; last == record(3, 2, 0, last.place));
@@ -107,6 +107,6 @@ impl Story for Turns {
 
 #[test]
 fn the_last_commit_of_two_is_read_once_the_older_place_is_written_over(rt: HostRuntime) {
-    let told = lived(&rt, rt.alloc(), &[1, 2], &Turns::new());
-    assert!(rt; told == (Ok(()), 2));
+    let settled = lived(&rt, rt.alloc(), &[1, 2], &Turns::new());
+    assert!(rt; settled == (Ok(()), 2));
 }

@@ -18,15 +18,15 @@ claims_of_places {C} names claims a M placed are = record {
 
     single : (b : ℕ) → 0 < M b → (kept : Kept) → IsPlaced M (place b) kept → claims_in kept ≡ 1
     single b some Nothing none = absurd (none b some refl)
-    single b some Pending e = absurd e
+    single b some (Pending k) e = absurd e
     single b some Unmade e = absurd e
-    single b some (Moving r) e = absurd e
+    single b some (Moving r k) e = absurd e
     single b some (Newest c) e = refl
 
     found : (slot : ℕ) → 0 < how_many names claims slot → (kept : Kept) → IsPlaced M slot kept → how_many names claims slot ≡ claims_in kept
         → (b : ℕ) × (0 < M b) × ((record_of b (M b)).place ≡ slot)
     found slot some Nothing none e = absurd (omega (arith, some, e))
-    found slot some Pending tells e = absurd tells
+    found slot some (Pending k) tells e = absurd tells
     found slot some Unmade tells e = absurd tells
-    found slot some (Moving r) tells e = absurd tells
+    found slot some (Moving r k) tells e = absurd tells
     found slot some (Newest b) tells e = (b, tells.0, tells.1)

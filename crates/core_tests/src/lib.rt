@@ -14,4 +14,6 @@ mod restarts;
 #[cfg(test)]
 mod rig;
 #[cfg(test)]
+mod trims;
+#[cfg(test)]
 mod unmakes;

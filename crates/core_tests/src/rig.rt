@@ -6,7 +6,7 @@ use step_core::{Array, At, Class, Done, MemDrive, Member, Plain, Reading, Refusa
 
 pub(crate) type Memory = Array<MemDrive, Plain>;
 
-/// Payloads of eight bytes, each of one byte throughout, and sixteen blocks.
+/// Payloads of eight bytes, each named by its first one, and sixteen blocks.
 #[derive(Drop)]
 pub(crate) struct Rig {
     pub(crate) array: Memory,
@@ -41,9 +41,20 @@ pub(crate) fn members_on(drives: [u8; 3], extent: u16) -> [Member; 3] {
     ]
 }
 
-// Whether a payload is of this byte.
-fn is_all(payload: &[u8], byte: u8) -> bool {
-    payload == [byte; 8].as_slice()
+// Eight bytes that are all different, of which this is the first.
+fn payload_of(byte: u8) -> [u8; 8] {
+    let mut payload = [0; 8];
+    let mut next = byte;
+    for slot in payload.iter_mut() {
+        *slot = next;
+        next = next.wrapping_add(29);
+    }
+    payload
+}
+
+// Whether this byte names the payload.
+fn is_of(payload: &[u8], byte: u8) -> bool {
+    payload == payload_of(byte).as_slice()
 }
 
 /// Whether a call was refused so, with the claim of its slot back.
@@ -102,7 +113,12 @@ impl Rig {
         byte: u8,
     ) -> Result<Ticket, (Refusal, Plain)> {
         assert!(rt; self.array.shape().payload == 8);
-        self.array.fill(self.alloc, Plain { slot }, &[byte; 8])
+        self.array
+            .fill(self.alloc, Plain { slot }, &payload_of(byte))
+    }
+
+    pub(crate) fn trim(&mut self, slot: u16) -> Result<Ticket, (Refusal, Plain)> {
+        self.array.trim(self.alloc, Plain { slot })
     }
 
     pub(crate) fn copy(
@@ -137,6 +153,14 @@ impl Rig {
         self.put(rt, slot, block, byte).emitted.record()
     }
 
+    /// Trims a block at a slot, and returns the record.
+    pub(crate) fn drop_block(&mut self, rt: &impl Abort, slot: u16, block: u32) -> Record {
+        let Ok(ticket) = self.trim(slot) else {
+            panic!(rt; "not trimmed")
+        };
+        self.commit(rt, ticket, block).emitted.record()
+    }
+
     /// Copies a block to a slot, and tells the record.
     pub(crate) fn carry(&mut self, rt: &impl Abort, slot: u16, block: u32) -> Record {
         let Ok(ticket) = self.copy(rt, slot, block) else {
@@ -157,7 +181,7 @@ impl Rig {
     /// Whether a block reads as this version of this byte.
     pub(crate) fn reads(&mut self, rt: &impl Abort, block: u32, version: u32, byte: u8) -> bool {
         match self.read(rt, block) {
-            Ok(Some((told, payload))) => told == version && is_all(&payload, byte),
+            Ok(Some((told, payload))) => told == version && is_of(&payload, byte),
             _ => false,
         }
     }
@@ -170,7 +194,7 @@ impl Rig {
     /// Whether exactly this record lies at its place, with a payload of this byte.
     pub(crate) fn finds(&mut self, rt: &impl Abort, asked: Record, byte: u8) -> bool {
         match self.read_at(rt, asked) {
-            Ok(At::Data(payload)) => is_all(&payload, byte),
+            Ok(At::Data(payload)) => is_of(&payload, byte),
             _ => false,
         }
     }
@@ -189,7 +213,10 @@ impl Rig {
         byte: u8,
     ) -> bool {
         match self.learn(rt, asked) {
-            Ok(reading) => reading.record() == told && is_all(reading.payload(), byte),
+            Ok(reading) => reading.record() == told
+                && reading
+                    .payload()
+                    .is_some_and(|payload| is_of(payload, byte)),
             Err(_) => false,
         }
     }

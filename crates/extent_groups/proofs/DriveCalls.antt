@@ -1,9 +1,11 @@
 -- A read and a write of one drive, as what all drives hold; and that what calls leave adds up.
-use Rattle.std.proofs.Common.{◌≡◌, ◌≢◌, ℕ, ◌+◌, ◌<◌, ◌⊎◌, inl, inr, Bool, true, false, not, Option, Some, None, List, [], ◌∷◌, length, refl, sym, ◌∙◌, ap, subst, arith, get_or, if◌then◌else◌}
+use Rattle.std.proofs.Common.{◌≡◌, ◌≢◌, ℕ, ◌<◌, ◌⊎◌, inl, inr, Bool, true, false, not, Option, Some, None, List, [], ◌∷◌, length, refl, sym, ◌∙◌, ap, subst, arith, get_or, if◌then◌else◌}
 use Rattle.std.specs.Prelude.{slice_get, slice_set, Result, Ok, Err, OnOk, OnErr, is_ok, is_err}
 use Rattle.std.proofs.lemmas.List.{length-set}
 use Rattle.std.proofs.lemmas.Option.{same_Some, none-some, slice_get-get_or, slice_get_within}
-use Rattle.extents.specs.Units.{IsSized, loss}
+use Rattle.extents.specs.Failures.{Failures, Counts, StaysSteady}
+use Rattle.extents.proofs.Failures.{counts_same, steady_same, counts_more, steady_more}
+use Rattle.extents.specs.Units.{IsSized}
 use Rattle.extent_groups.specs.declared.place.Place.{Place}
 use Rattle.extent_groups.specs.Cells.{cell, cells, held}
 use Rattle.extent_groups.specs.Calls.{AreSized, IsPlace, DidRead, DidWrite, NoPlace, Only, KeepsDrive, KeepsDrives}
@@ -30,12 +32,13 @@ is_err-not (Ok a) = refl
 is_err-not (Err f) = refl
 
 -- a call of a drive: the drive is lost afterwards just where the call wasn't Ok
-pub record Called {D : Type 0} (lost : D → Bool) (failures : D → ℕ) (x y : D) (ok : Bool) : Type 0 where
+pub record Called {D : Type 0} (lost : D → Bool) (failures : D → Failures) (x y : D) (ok : Bool) : Type 0 where
   pub lost_is : lost y ≡ not ok
   pub stays : lost x ≡ true → lost y ≡ true
-  pub count : failures y ≡ failures x + loss (lost x) (lost y)
+  pub count : Counts (lost x) (lost y) (failures x) (failures y)
+  pub steady : StaysSteady (lost x) (lost y) (failures x) (failures y)
 
-was_present : {D : Type 0} (lost : D → Bool) (failures : D → ℕ) (x y : D) → Called lost failures x y true → lost x ≡ false
+was_present : {D : Type 0} (lost : D → Bool) (failures : D → Failures) (x y : D) → Called lost failures x y true → lost x ≡ false
 was_present lost failures x y call = elim (either (lost x)) [
   | inl t ↦ absurd (not_both (lost y) (call.stays t) call.lost_is)
   | inr f ↦ f
@@ -63,7 +66,7 @@ other_address : (p x : Place) → x ≢ p → x.drive ≡ p.drive → x.address 
 other_address p x ne d a =
     ne (ap (λ e. let q : Place = record { drive = e; address = x.address } in q) d ∙ ap (λ e. let q : Place = record { drive = p.drive; address = e } in q) a)
 
-pub did_read : {D : Type 0} (units : D → List (List ℕ)) (lost : D → Bool) (failures : D → ℕ) (ds : List D) (p : Place) (x y : D) (u : List ℕ) (ok : Bool)
+pub did_read : {D : Type 0} (units : D → List (List ℕ)) (lost : D → Bool) (failures : D → Failures) (ds : List D) (p : Place) (x y : D) (u : List ℕ) (ok : Bool)
     → p.drive < length ds → slice_get ds p.drive ≡ Some x → Called lost failures x y ok
     → units y ≡ units x → (ok ≡ true → slice_get (units x) p.address ≡ Some u)
     → DidRead (cells units lost ds) (cells units lost (slice_set ds p.drive y)) p u ok
@@ -98,7 +101,7 @@ did_read units lost failures ds p x y u false inside there call same read =
       elsewhere = λ z ne. cell_other units lost ds p.drive z.drive z.address y ne;
     }
 
-pub did_write : {D : Type 0} (units : D → List (List ℕ)) (lost : D → Bool) (failures : D → ℕ) (ds : List D) (p : Place) (x y : D) (u : List ℕ) (ok : Bool)
+pub did_write : {D : Type 0} (units : D → List (List ℕ)) (lost : D → Bool) (failures : D → Failures) (ds : List D) (p : Place) (x y : D) (u : List ℕ) (ok : Bool)
     → p.drive < length ds → slice_get ds p.drive ≡ Some x → p.address < length (units x) → Called lost failures x y ok
     → (ok ≡ true → units y ≡ slice_set (units x) p.address u)
     → DidWrite (cells units lost ds) (cells units lost (slice_set ds p.drive y)) p u ok
@@ -134,31 +137,18 @@ did_write units lost failures ds p x y u false inside there low call written =
       elsewhere = λ z ne. cell_other units lost ds p.drive z.drive z.address y ne;
     }
 
-loss-same : (b : Bool) → loss b b ≡ 0
-loss-same true = refl
-loss-same false = refl
-
--- losses add up
-loss-more : (a b c : Bool) → (a ≡ true → b ≡ true) → (b ≡ true → c ≡ true) → loss a b + loss b c ≡ loss a c
-loss-more true true true h k = refl
-loss-more true true false h k = absurd (let both : false ≡ true = k refl in cc)
-loss-more true false c h k = absurd (let both : false ≡ true = h refl in cc)
-loss-more false true true h k = refl
-loss-more false true false h k = absurd (let both : false ≡ true = k refl in cc)
-loss-more false false true h k = refl
-loss-more false false false h k = refl
-
-keeps_same : {D : Type 0} (units : D → List (List ℕ)) (lost : D → Bool) (failures : D → ℕ) (touched : ℕ → Type 0) (x : D) → KeepsDrive units lost failures touched x x
+keeps_same : {D : Type 0} (units : D → List (List ℕ)) (lost : D → Bool) (failures : D → Failures) (touched : ℕ → Type 0) (x : D) → KeepsDrive units lost failures touched x x
 keeps_same units lost failures touched x = record {
   room = refl;
   sizes = λ n h. h;
   elsewhere = λ at h. refl;
   stays = λ h. h;
-  count = omega (arith, loss-same (lost x));
+  count = counts_same (lost x) (failures x);
+  steady = steady_same (lost x) (failures x);
 }
 
 -- a read of a drive
-pub kept_read : {D : Type 0} (units : D → List (List ℕ)) (lost : D → Bool) (failures : D → ℕ) (p : Place) (x y : D) (ok : Bool)
+pub kept_read : {D : Type 0} (units : D → List (List ℕ)) (lost : D → Bool) (failures : D → Failures) (p : Place) (x y : D) (ok : Bool)
     → Called lost failures x y ok → units y ≡ units x → KeepsDrive units lost failures (λ at. NoPlace (record { drive = p.drive; address = at })) x y
 kept_read units lost failures p x y ok call same = record {
   room = ap length same;
@@ -166,6 +156,7 @@ kept_read units lost failures p x y ok call same = record {
   elsewhere = λ at no. ap (λ us. slice_get us at) same;
   stays = call.stays;
   count = call.count;
+  steady = call.steady;
 }
 
 -- the units with one written have the size of all
@@ -188,7 +179,7 @@ written_units units x y at u true w n = inl (w refl)
 written_units units x y at u false w n = inr (n refl)
 
 -- a write of a drive
-pub kept_write : {D : Type 0} (units : D → List (List ℕ)) (lost : D → Bool) (failures : D → ℕ) (p : Place) (x y : D) (u : List ℕ) (ok : Bool)
+pub kept_write : {D : Type 0} (units : D → List (List ℕ)) (lost : D → Bool) (failures : D → Failures) (p : Place) (x y : D) (u : List ℕ) (ok : Bool)
     → IsSized (length u) (units x) → Called lost failures x y ok
     → (ok ≡ true → units y ≡ slice_set (units x) p.address u) → (ok ≡ false → units y ≡ units x)
     → KeepsDrive units lost failures (λ at. Only p (record { drive = p.drive; address = at })) x y
@@ -200,6 +191,7 @@ kept_write units lost failures p x y u ok sized call w n = elim (written_units u
         (λ q. no (ap (λ a. let z : Place = record { drive = p.drive; address = a } in z) q));
     stays = call.stays;
     count = call.count;
+    steady = call.steady;
   }
   | inr e ↦ record {
     room = ap length e;
@@ -207,11 +199,12 @@ kept_write units lost failures p x y u ok sized call w n = elim (written_units u
     elsewhere = λ at no. ap (λ us. slice_get us at) e;
     stays = call.stays;
     count = call.count;
+    steady = call.steady;
   }
 ]
 
 -- one drive called
-pub keeps_one : {D : Type 0} (units : D → List (List ℕ)) (lost : D → Bool) (failures : D → ℕ) (touched : Place → Type 0) (ds : List D) (d : ℕ) (x y : D)
+pub keeps_one : {D : Type 0} (units : D → List (List ℕ)) (lost : D → Bool) (failures : D → Failures) (touched : Place → Type 0) (ds : List D) (d : ℕ) (x y : D)
     → d < length ds → slice_get ds d ≡ Some x → KeepsDrive units lost failures (λ at. touched (record { drive = d; address = at })) x y
     → KeepsDrives units lost failures touched ds (slice_set ds d y)
 keeps_one units lost failures touched ds d x y inside there keeps = record {
@@ -230,9 +223,9 @@ keeps_one units lost failures touched ds d x y inside there keeps = record {
   ];
 }
 
-pub keeps_trans : {D : Type 0} {units : D → List (List ℕ)} {lost : D → Bool} {failures : D → ℕ} {touched : Place → Type 0} {a b c : List D}
+pub keeps_trans : {D : Type 0} {units : D → List (List ℕ)} {lost : D → Bool} {failures : D → Failures} {touched : Place → Type 0} {a b c : List D}
     → KeepsDrives units lost failures touched a b → KeepsDrives units lost failures touched b c → KeepsDrives units lost failures touched a c
-keeps_trans {D = D} {lost = lost} {b = b} h k = record {
+keeps_trans {D = D} {lost = lost} {failures = failures} {b = b} h k = record {
   many = k.many ∙ h.many;
   each = λ d x z ex ez.
       (let within : d < length b = omega (arith, slice_get_within _ d z ez, k.many) in
@@ -244,11 +237,12 @@ keeps_trans {D = D} {lost = lost} {b = b} h k = record {
         sizes = λ n s. second.sizes n (first.sizes n s);
         elsewhere = λ at no. second.elsewhere at no ∙ first.elsewhere at no;
         stays = λ t. second.stays (first.stays t);
-        count = omega (arith, first.count, second.count, loss-more (lost x) (lost y) (lost z) first.stays second.stays);
+        count = counts_more (lost x) (lost y) (lost z) (failures x) (failures y) (failures z) first.stays second.stays first.count second.count;
+        steady = steady_more (lost x) (lost y) (lost z) (failures x) (failures y) (failures z) first.steady second.steady;
       });
 }
 
-pub keeps_none : {D : Type 0} {units : D → List (List ℕ)} {lost : D → Bool} {failures : D → ℕ} {touched : Place → Type 0} (a : List D) → KeepsDrives units lost failures touched a a
+pub keeps_none : {D : Type 0} {units : D → List (List ℕ)} {lost : D → Bool} {failures : D → Failures} {touched : Place → Type 0} (a : List D) → KeepsDrives units lost failures touched a a
 keeps_none {units = units} {lost = lost} {failures = failures} {touched = touched} a = record {
   many = refl;
   each = λ d x y ex ey.
@@ -258,17 +252,17 @@ keeps_none {units = units} {lost = lost} {failures = failures} {touched = touche
 }
 
 -- more may be touched
-pub keeps_more : {D : Type 0} {units : D → List (List ℕ)} {lost : D → Bool} {failures : D → ℕ} {touched more : Place → Type 0} {a b : List D}
+pub keeps_more : {D : Type 0} {units : D → List (List ℕ)} {lost : D → Bool} {failures : D → Failures} {touched more : Place → Type 0} {a b : List D}
     → ((x : Place) → touched x → more x) → KeepsDrives units lost failures touched a b → KeepsDrives units lost failures more a b
 keeps_more into h = record {
   many = h.many;
   each = λ d x y ex ey.
       (let k = h.each d x y ex ey in
-      record { room = k.room; sizes = k.sizes; elsewhere = λ at no. k.elsewhere at (λ t. no (into (record { drive = d; address = at }) t)); stays = k.stays; count = k.count });
+      record { room = k.room; sizes = k.sizes; elsewhere = λ at no. k.elsewhere at (λ t. no (into (record { drive = d; address = at }) t)); stays = k.stays; count = k.count; steady = k.steady });
 }
 
 -- places and sizes stay
-pub keeps_place : {D : Type 0} {units : D → List (List ℕ)} {lost : D → Bool} {failures : D → ℕ} {touched : Place → Type 0} {a b : List D} {p : Place}
+pub keeps_place : {D : Type 0} {units : D → List (List ℕ)} {lost : D → Bool} {failures : D → Failures} {touched : Place → Type 0} {a b : List D} {p : Place}
     → KeepsDrives units lost failures touched a b → IsPlace units a p → IsPlace units b p
 keeps_place {a = a} {p = p} h at = record {
   inside = omega (arith, at.inside, h.many);
@@ -278,7 +272,7 @@ keeps_place {a = a} {p = p} h at = record {
       omega (arith, at.low x ex, (h.each p.drive x y ex ey).room));
 }
 
-pub keeps_sizes : {D : Type 0} {units : D → List (List ℕ)} {lost : D → Bool} {failures : D → ℕ} {touched : Place → Type 0} {a b : List D} {n : ℕ}
+pub keeps_sizes : {D : Type 0} {units : D → List (List ℕ)} {lost : D → Bool} {failures : D → Failures} {touched : Place → Type 0} {a b : List D} {n : ℕ}
     → KeepsDrives units lost failures touched a b → AreSized units n a → AreSized units n b
 keeps_sizes {a = a} {n = n} h sized d y ey =
     let within : d < length a = omega (arith, slice_get_within _ d y ey, h.many) in

@@ -3,6 +3,7 @@ use Rattle.std.proofs.Common.{◌≡◌, ℕ, zero, suc, ◌≤◌, ◌<◌, inl
 use Rattle.std.specs.Prelude.{slice_get}
 use Rattle.std.proofs.lemmas.List.{take-replicate, take_all}
 use Rattle.std.proofs.lemmas.Option.{slice_get-map, slice_get-get_or, slice_get_within, same_Some, none-some}
+use Rattle.extents.specs.Failures.{Failures}
 use Rattle.extents.specs.Units.{fronts}
 use Rattle.extents.specs.declared.shape.TheConstants.{HEADER_BYTES}
 use Rattle.extent_groups.specs.declared.place.Place.{Place}
@@ -152,7 +153,7 @@ pub have_fronts : {D : Type 0} (units : D → List (List ℕ)) (n m : ℕ) (ds :
 have_fronts units n m ds h sized d x there at u is = omega (arith, h, sized d x there at u is)
 
 -- reads leave them
-pub keeps_fronts : {D : Type 0} {units : D → List (List ℕ)} {lost : D → Bool} {failures : D → ℕ} {a b : List D} {n : ℕ}
+pub keeps_fronts : {D : Type 0} {units : D → List (List ℕ)} {lost : D → Bool} {failures : D → Failures} {a b : List D} {n : ℕ}
     → KeepsDrives units lost failures NoPlace a b → HaveFronts units n a → HaveFronts units n b
 keeps_fronts {D = D} {a = a} keeps have d y there at u is =
     let within : d < length a = omega (arith, slice_get_within _ d y there, keeps.many) in

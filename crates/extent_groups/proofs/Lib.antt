@@ -29,3 +29,4 @@ pub mod Agreeing
 pub mod Moving
 pub mod Roles
 pub mod Elsewhere
+pub mod Finishing

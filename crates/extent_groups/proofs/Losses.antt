@@ -2,6 +2,7 @@
 use Rattle.std.proofs.Common.{◌≡◌, ℕ, ◌<◌, ◌⊎◌, inl, inr, Bool, true, false, Option, Some, None, List, [], length, refl, sym, ◌∙◌, ap, subst, arith, get_or, if◌then◌else◌}
 use Rattle.std.specs.Prelude.{slice_get, slice_set, replicate}
 use Rattle.std.proofs.lemmas.Option.{none-some, slice_get-get_or, slice_get_within}
+use Rattle.extents.specs.Failures.{Failures}
 use Rattle.extent_groups.specs.declared.place.Place.{Place}
 use Rattle.extent_groups.specs.Cells.{Cells, cell, cells, held}
 use Rattle.extent_groups.specs.Units.{Site, Pair, InStripe, others, or_else, held_in, row_of, unit_at, unit_in, IsSoundAt}
@@ -25,7 +26,7 @@ one_fades units lost x y at same stays = elim (bool_is (lost y)) [
 ]
 
 -- calls leave what a place that they don't touch holds, or lose it
-pub untouched_fades : {D : Type 0} {units : D → List (List ℕ)} {lost : D → Bool} {failures : D → ℕ} {touched : Place → Type 0} {a b : List D} → KeepsDrives units lost failures touched a b
+pub untouched_fades : {D : Type 0} {units : D → List (List ℕ)} {lost : D → Bool} {failures : D → Failures} {touched : Place → Type 0} {a b : List D} → KeepsDrives units lost failures touched a b
     → (x : Place) → (touched x → ⊥) → FadesAt (cells units lost a) (cells units lost b) x
 untouched_fades {D = D} {units = units} {lost = lost} {a = a} {b = b} h x untouched = at (slice_get b x.drive) refl where
   at : (o : Option D) → slice_get b x.drive ≡ o → FadesAt (cells units lost a) (cells units lost b) x
@@ -39,7 +40,7 @@ untouched_fades {D = D} {units = units} {lost = lost} {a = a} {b = b} h x untouc
       (one_fades units lost (get_or a x.drive y) y x.address (k.elsewhere x.address untouched) k.stays))
 
 -- calls that touch nothing leave what is there, or lose it
-pub kept_fades : {D : Type 0} {units : D → List (List ℕ)} {lost : D → Bool} {failures : D → ℕ} {a b : List D} → KeepsDrives units lost failures NoPlace a b
+pub kept_fades : {D : Type 0} {units : D → List (List ℕ)} {lost : D → Bool} {failures : D → Failures} {a b : List D} → KeepsDrives units lost failures NoPlace a b
     → (x : Place) → FadesAt (cells units lost a) (cells units lost b) x
 kept_fades h x = untouched_fades h x (λ t. t)
 

@@ -1,6 +1,7 @@
 -- What both stores promise, from what a read or a write of the slot's site leaves.
 use Rattle.std.proofs.Common.{◌≡◌, ℕ, ◌<◌, Bool, Option, Some, List, length, sym, ◌∙◌, ap, subst, arith, get_or}
 use Rattle.std.proofs.lemmas.Option.{slice_get-get_or, slice_get_within}
+use Rattle.extents.specs.Failures.{Failures}
 use Rattle.extent_groups.specs.declared.place.Place.{Place}
 use Rattle.extent_groups.specs.Groups.{Groups, AreGroups}
 use Rattle.extent_groups.specs.Cells.{Cells, cells}
@@ -13,7 +14,7 @@ use Rattle.extent_groups.proofs.DriveCalls.{keeps_sizes, cells_sized}
 use Rattle.extent_groups.proofs.SlotWrites.{AreSizedCells, ok_is, slots_fade, slot_leaves, unit_at_site}
 
 -- the drives are those of the groups afterwards too
-pub drives_kept : {D : Type 0} {units : D → List (List ℕ)} {lost : D → Bool} {failures : D → ℕ} {touched : Place → Type 0} {a b : List D} (t : Groups)
+pub drives_kept : {D : Type 0} {units : D → List (List ℕ)} {lost : D → Bool} {failures : D → Failures} {touched : Place → Type 0} {a b : List D} (t : Groups)
     → KeepsDrives units lost failures touched a b → AreDrives units t a → AreDrives units t b
 drives_kept {D = D} {units = units} {a = a} t keeps are = record {
   many = λ d y ey.
@@ -42,7 +43,7 @@ pub record ReadKeeps {D : Type 0} (units : D → List (List ℕ)) (lost : D → 
   pub sound : AreSound t (cells units lost new)
   pub drives : AreDrives units t new
 
-pub read_keeps : {D : Type 0} {units : D → List (List ℕ)} {lost : D → Bool} {failures : D → ℕ} (t : Groups) (old new : List D) → AreGroups t → AreDrives units t old
+pub read_keeps : {D : Type 0} {units : D → List (List ℕ)} {lost : D → Bool} {failures : D → Failures} (t : Groups) (old new : List D) → AreGroups t → AreDrives units t old
     → AreSound t (cells units lost old) → ((x : Place) → FadesAt (cells units lost old) (cells units lost new) x) → KeepsDrives units lost failures NoPlace old new
     → ReadKeeps units lost t old new
 read_keeps {units = units} {lost = lost} t old new are drives sound fades keeps =

@@ -2,6 +2,7 @@
 use Rattle.std.proofs.Common.{◌≡◌, ◌≢◌, ℕ, ◌+◌, ◌<◌, inl, inr, Bool, true, Some, None, List, refl, sym, ◌∙◌, ap, subst, arith}
 use Rattle.std.specs.Prelude.{slice_get}
 use Rattle.std.proofs.lemmas.Option.{none-some}
+use Rattle.extents.specs.Failures.{Failures}
 use Rattle.extents.specs.Sizes.{extent_units}
 use Rattle.extent_groups.specs.declared.class.Member.{Member}
 use Rattle.extent_groups.specs.declared.place.Place.{Place}
@@ -15,18 +16,18 @@ use Rattle.extent_groups.proofs.DriveCalls.{keeps_trans, keeps_more, keeps_none,
 use Rattle.extent_groups.proofs.Missing.{missing_if, cell_missing}
 
 -- at first nothing is wiped
-pub wiped_none : {D : Type 0} (units : D → List (List ℕ)) (lost : D → Bool) (failures : D → ℕ) (s : ℕ) (m : Member) (bytes : List ℕ) (ds : List D) → IsWipedTo units lost failures s m bytes 0 ds ds
+pub wiped_none : {D : Type 0} (units : D → List (List ℕ)) (lost : D → Bool) (failures : D → Failures) (s : ℕ) (m : Member) (bytes : List ℕ) (ds : List D) → IsWipedTo units lost failures s m bytes 0 ds ds
 wiped_none units lost failures s m bytes ds = record { wiped = λ o low. absurd (omega arith); others = λ d no. refl; touched = keeps_none ds }
 
 -- a write that failed lost the drive
-pub wipe_failed : {D : Type 0} (units : D → List (List ℕ)) (lost : D → Bool) (failures : D → ℕ) (s o : ℕ) (m : Member) (bytes : List ℕ) (old mid new : List D) → HasExtent units s old m → o < extent_units s
+pub wipe_failed : {D : Type 0} (units : D → List (List ℕ)) (lost : D → Bool) (failures : D → Failures) (s o : ℕ) (m : Member) (bytes : List ℕ) (old mid new : List D) → HasExtent units s old m → o < extent_units s
     → IsWipedTo units lost failures s m bytes o old mid → KeepsDrives units lost failures (Only (place_of s o m)) mid new → held (cells units lost new) (place_of s o m) ≡ None
     → missing_of lost new m.drive ≡ true
 wipe_failed units lost failures s o m bytes old mid new has low before keeps gone =
     missing_if units lost new (place_of s o m) (keeps_place keeps (keeps_place before.touched (has o low))) gone
 
 -- what calls touch and use when one more place of the extent is written
-pub wipe_touched : {D : Type 0} (units : D → List (List ℕ)) (lost : D → Bool) (failures : D → ℕ) (s o : ℕ) (m : Member) (bytes : List ℕ) (old mid new : List D) → o < extent_units s
+pub wipe_touched : {D : Type 0} (units : D → List (List ℕ)) (lost : D → Bool) (failures : D → Failures) (s o : ℕ) (m : Member) (bytes : List ℕ) (old mid new : List D) → o < extent_units s
     → IsWipedTo units lost failures s m bytes o old mid → KeepsDrives units lost failures (Only (place_of s o m)) mid new → SameBut (λ d. d ≡ m.drive) mid new
     → IsWipedTo units lost failures s m bytes 0 old new
 wipe_touched units lost failures s o m bytes old mid new low before keeps same = record {
@@ -35,7 +36,7 @@ wipe_touched units lost failures s o m bytes old mid new low before keeps same =
   touched = keeps_trans before.touched (keeps_more (λ x e. (o, low, e)) keeps);
 }
 
-pub wiped_more : {D : Type 0} (units : D → List (List ℕ)) (lost : D → Bool) (failures : D → ℕ) (s o : ℕ) (m : Member) (bytes : List ℕ) (old mid new : List D) → HasExtent units s old m → o < extent_units s
+pub wiped_more : {D : Type 0} (units : D → List (List ℕ)) (lost : D → Bool) (failures : D → Failures) (s o : ℕ) (m : Member) (bytes : List ℕ) (old mid new : List D) → HasExtent units s old m → o < extent_units s
     → IsWipedTo units lost failures s m bytes o old mid → DidWrite (cells units lost mid) (cells units lost new) (place_of s o m) bytes true → KeepsDrives units lost failures (Only (place_of s o m)) mid new
     → SameBut (λ d. d ≡ m.drive) mid new → IsWipedTo units lost failures s m bytes (o + 1) old new
 wiped_more units lost failures s o m bytes old mid new has low before did keeps same =

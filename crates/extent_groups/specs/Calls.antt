@@ -1,6 +1,7 @@
 -- One call of a drive, and what any number of them leaves: every unit that is still there is what it was or what was written.
-use Rattle.std.specs.Prelude.{◌≡◌, ◌≢◌, ℕ, ◌+◌, ◌<◌, ◌⊎◌, Bool, true, Option, Some, None, List, length, slice_get, if◌then◌else◌}
-use Rattle.extents.specs.Units.{IsSized, HaveFront, loss}
+use Rattle.std.specs.Prelude.{◌≡◌, ◌≢◌, ℕ, ◌<◌, ◌⊎◌, Bool, true, Option, Some, None, List, length, slice_get, if◌then◌else◌}
+use Rattle.extents.specs.Failures.{Failures, Counts, StaysSteady}
+use Rattle.extents.specs.Units.{IsSized, HaveFront}
 use Rattle.extent_groups.specs.declared.place.Place.{Place}
 use Rattle.extent_groups.specs.Cells.{Cells, held}
 
@@ -55,16 +56,18 @@ Only p x = x ≡ p
 abbrev pub SameBut : {D : Type 0} → (ℕ → Type 0) → List D → List D → Type 0
 SameBut used old new = (d : ℕ) → (used d → ⊥) → slice_get new d ≡ slice_get old d
 
--- what calls leave of a drive: as many units as before and as long, those untouched as they were; lost stays lost, and the drive's own failures rose by one where it is lost now, and else not
-pub record KeepsDrive {D : Type 0} (units : D → List (List ℕ)) (lost : D → Bool) (failures : D → ℕ) (touched : ℕ → Type 0) (x y : D) : Type 0 where
+-- what calls leave of a drive: as many units as before and as long, those untouched as they were. Lost stays lost. The count of
+-- its own failures rose by one where it is lost now and wasn't, and else not. A steady drive isn't lost by it, and stays steady.
+pub record KeepsDrive {D : Type 0} (units : D → List (List ℕ)) (lost : D → Bool) (failures : D → Failures) (touched : ℕ → Type 0) (x y : D) : Type 0 where
   pub room : length (units y) ≡ length (units x)
   pub sizes : (bytes : ℕ) → IsSized bytes (units x) → IsSized bytes (units y)
   pub elsewhere : (at : ℕ) → (touched at → ⊥) → slice_get (units y) at ≡ slice_get (units x) at
   pub stays : lost x ≡ true → lost y ≡ true
-  pub count : failures y ≡ failures x + loss (lost x) (lost y)
+  pub count : Counts (lost x) (lost y) (failures x) (failures y)
+  pub steady : StaysSteady (lost x) (lost y) (failures x) (failures y)
 
 -- what calls leave of all drives
-pub record KeepsDrives {D : Type 0} (units : D → List (List ℕ)) (lost : D → Bool) (failures : D → ℕ) (touched : Place → Type 0) (old new : List D) : Type 0 where
+pub record KeepsDrives {D : Type 0} (units : D → List (List ℕ)) (lost : D → Bool) (failures : D → Failures) (touched : Place → Type 0) (old new : List D) : Type 0 where
   pub many : length new ≡ length old
   pub each : (d : ℕ) (x y : D) → slice_get old d ≡ Some x → slice_get new d ≡ Some y
       → KeepsDrive units lost failures (λ at. touched (record { drive = d; address = at })) x y

@@ -8,6 +8,9 @@ pub mod Layout
 pub mod Calls
 pub mod Stores
 pub mod Missing
+pub mod Planned
+pub mod PlanLists
+pub mod Numbers
 pub mod Wiping
 pub mod Moving
 pub mod Roles

@@ -1,5 +1,6 @@
 -- A whole extent written with the same bytes.
 use Rattle.std.specs.Prelude.{◌≡◌, ℕ, ◌<◌, Bool, Some, List}
+use Rattle.extents.specs.Failures.{Failures}
 use Rattle.extents.specs.Sizes.{extent_units}
 use Rattle.extent_groups.specs.declared.class.Member.{Member}
 use Rattle.extent_groups.specs.declared.place.Place.{Place}
@@ -20,7 +21,7 @@ abbrev pub HoldBelow : ℕ → Member → List ℕ → ℕ → Cells → Type 0
 HoldBelow segments member bytes bound c = (offset : ℕ) → offset < bound → held c (place_of segments offset member) ≡ Some bytes
 
 -- the extent's places below an offset were written with these bytes
-pub record IsWipedTo {D : Type 0} (units : D → List (List ℕ)) (lost : D → Bool) (failures : D → ℕ) (segments : ℕ) (member : Member) (bytes : List ℕ) (bound : ℕ) (old new : List D) : Type 0 where
+pub record IsWipedTo {D : Type 0} (units : D → List (List ℕ)) (lost : D → Bool) (failures : D → Failures) (segments : ℕ) (member : Member) (bytes : List ℕ) (bound : ℕ) (old new : List D) : Type 0 where
   pub wiped : HoldBelow segments member bytes bound (cells units lost new)
   pub others : SameBut (λ d. d ≡ member.drive) old new
   pub touched : KeepsDrives units lost failures (IsIn segments member) old new

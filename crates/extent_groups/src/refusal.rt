@@ -1,8 +1,11 @@
-// Why a change of the groups is refused.
-/// Why a group wasn't made, unmade or changed; nothing was changed then.
+// Why a change of the groups, or a read or write of a slot, is refused.
+ghost use Rattle.std.specs.Prelude.{◌≡◌};
+ghost use Rattle.extent_groups.specs.Numbers.{group_number, store_number};
+
+/// Why a group isn't made, dissolved or changed. The table is then as it was.
 #[derive(Clone, Copy, Debug, PartialEq, Eq)]
 pub enum GroupRefusal {
-    /// There is no such group.
+    /// The group or member number isn't there.
     NoGroup = 1,
     /// Fewer than three members.
     TooFew = 2,
@@ -10,15 +13,35 @@ pub enum GroupRefusal {
     SameDrive = 3,
     /// A group owns the extent already.
     ExtentTaken = 4,
-    /// Memory is out.
+    /// Out of memory.
     Memory = 5,
     /// More than eight members.
     TooMany = 6,
 }
 
-/// Why a store couldn't read or write a slot.
+impl GroupRefusal {
+    /// The refusal's number, 1 to 6.
+    pub fn number(self) -> u8
+        ensures { result ≡ group_number self }
+    {
+        self as u8
+    }
+}
+
+/// Why a store can't read or write a slot.
 #[derive(Clone, Copy, Debug, PartialEq, Eq)]
 pub enum StoreRefusal {
-    /// The slot's unit can't be had or kept: too many drives of its group are lost.
+    /// The unit of this slot can't be had or kept: too many drives of its group are lost.
     Gone(u16),
+}
+
+impl StoreRefusal {
+    /// The refusal's number, 1.
+    pub fn number(self) -> u8
+        ensures { result ≡ store_number self }
+    {
+        match self {
+            StoreRefusal::Gone(_) => 1,
+        }
+    }
 }

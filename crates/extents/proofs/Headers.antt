@@ -1,34 +1,58 @@
 -- Laws of headers, for callers that speak of bytes: how many there are, that they spell the header, and that they spell no other.
-use Rattle.std.proofs.Common.{◌≡◌, ℕ, ◌<◌, List, take, length, refl, sym, ◌∙◌, ap}
-use Rattle.std.specs.Prelude.{replicate}
+use Rattle.std.proofs.Common.{◌≡◌, ℕ, ◌<◌, List, take, length, refl, sym, ◌∙◌, ap, arith, inl, inr}
+use Rattle.std.specs.Prelude.{replicate, slice_index, slice_range}
 use Rattle.map_join.specs.declared.records.Record.{Record}
+use Rattle.map_join.specs.declared.records.RecordFault.{RecordFault}
 use Rattle.map_join.specs.Record.{bytes_of}
+use Rattle.map_join.specs.Faults.{IsNoRecord}
 use Rattle.map_join.proofs.Spelling.{spells}
 use Rattle.extents.specs.declared.header.Header.{Header}
 use Rattle.extents.specs.declared.header.Header.TheVariants.{Blank, Is}
-use Rattle.extents.specs.Stamp.{SpellsRecord, magic}
+use Rattle.extents.specs.declared.header.Kind.{Kind}
+use Rattle.extents.specs.declared.header.Kind.TheVariants.{Data, Trim}
+use Rattle.extents.specs.Stamp.{SpellsRecord, TellsKind, first_mark, second_mark, kind_byte}
 use Rattle.extents.specs.Header.{Spells, header_bytes, IsHeader}
-use Rattle.extents.proofs.Stamps.{spells_made}
+use Rattle.extents.proofs.Stamps.{spells_made, none_within}
 
 -- a header has 32 bytes
 pub length-header_bytes : (h : Header) → length (header_bytes h) ≡ 32
 length-header_bytes Blank = refl
-length-header_bytes (Is r) = refl
+length-header_bytes (Is r kind) = refl
 
 -- what spells a header has 32 bytes
 pub spelled_length : (bytes : List ℕ) (h : Header) → Spells bytes h → length bytes ≡ 32
 spelled_length bytes Blank told = ap length told
-spelled_length bytes (Is r) told = told.whole
+spelled_length bytes (Is r kind) told = told.0.whole
 
 -- the bytes of a header spell it
 pub header_spelled : (h : Header) → IsHeader h → Spells (header_bytes h) h
 header_spelled Blank is = refl
-header_spelled (Is r) is = spells_made _ (bytes_of r) r refl (spells r is.block is.version is.hop is.place) is.written
+header_spelled (Is r kind) is = spells_made _ (bytes_of r) r kind refl (spells r is.block is.version is.hop is.place) is.written
 
--- a record's bytes aren't blank
-not_blank : (bytes : List ℕ) (r : Record) → bytes ≡ replicate 32 0 → SpellsRecord bytes r → ⊥
-not_blank bytes r blank told =
-    let both : replicate 4 0 ≡ magic = sym (ap (take 4) blank) ∙ told.marked in cc
+-- what tells a kind isn't blank
+not_blank : (bytes : List ℕ) (kind : Kind) → bytes ≡ replicate 32 0 → TellsKind bytes kind → ⊥
+not_blank bytes kind blank (inl told) =
+    let both : replicate 4 0 ≡ first_mark = sym (ap (take 4) blank) ∙ told.0 in cc
+not_blank bytes kind blank (inr told) =
+    let both : replicate 4 0 ≡ second_mark = sym (ap (take 4) blank) ∙ told.0 in cc
+
+-- one layout's mark isn't the other's
+not_both : (bytes : List ℕ) → take 4 bytes ≡ first_mark → take 4 bytes ≡ second_mark → ⊥
+not_both bytes first second = let both : 49 ≡ 50 = ap (λ b. slice_index b 3) (sym first ∙ second) in absurd (omega (arith, both))
+
+-- a kind's byte is no other's
+one_byte : (j k : Kind) → kind_byte j ≡ kind_byte k → j ≡ k
+one_byte Data Data same = refl
+one_byte Data Trim same = absurd (omega (arith, same))
+one_byte Trim Data same = absurd (omega (arith, same))
+one_byte Trim Trim same = refl
+
+-- the same bytes tell one kind
+pub one_kind : (bytes : List ℕ) (j k : Kind) → TellsKind bytes j → TellsKind bytes k → j ≡ k
+one_kind bytes j k (inl one) (inl other) = one.2 ∙ sym other.2
+one_kind bytes j k (inl one) (inr other) = absurd (not_both bytes one.0 other.0)
+one_kind bytes j k (inr one) (inl other) = absurd (not_both bytes other.0 one.0)
+one_kind bytes j k (inr one) (inr other) = one_byte j k (ap (λ b. slice_index b 0) (sym one.1 ∙ other.1))
 
 -- one record is spelled
 one_record : (bytes : List ℕ) (r s : Record) → SpellsRecord bytes r → SpellsRecord bytes s → r ≡ s
@@ -45,10 +69,21 @@ one_record bytes r s told also =
 -- the same bytes spell one header
 pub one_header : (bytes : List ℕ) (h k : Header) → Spells bytes h → Spells bytes k → h ≡ k
 one_header bytes Blank Blank told also = refl
-one_header bytes Blank (Is s) told also = absurd (not_blank bytes s told also)
-one_header bytes (Is r) Blank told also = absurd (not_blank bytes r also told)
-one_header bytes (Is r) (Is s) told also = ap (λ x. Is x) (one_record bytes r s told also)
+one_header bytes Blank (Is s m) told also = absurd (not_blank bytes m told also.1)
+one_header bytes (Is r l) Blank told also = absurd (not_blank bytes l also told.1)
+one_header bytes (Is r l) (Is s m) told also =
+    ap (λ x. Is x l) (one_record bytes r s told.0 also.0) ∙ ap (λ x. Is s x) (one_kind bytes l m told.1 also.1)
+
+-- bytes that tell a kind, and no record, spell no header
+pub no_header : (bytes : List ℕ) (kind : Kind) (fault : RecordFault) (h : Header) → length bytes ≡ 32 → TellsKind bytes kind → IsNoRecord (slice_range bytes 4 16) fault → Spells bytes h → ⊥
+no_header bytes kind fault Blank whole tells fails told = not_blank bytes kind told tells
+no_header bytes kind fault (Is r k) whole tells fails told = none_within bytes fault r whole fails told.0
+
+-- nor do bytes that aren't blank and tell no kind
+pub no_kind : (bytes : List ℕ) (h : Header) → (bytes ≡ replicate 32 0 → ⊥) → ((kind : Kind) → TellsKind bytes kind → ⊥) → Spells bytes h → ⊥
+no_kind bytes Blank filled none told = filled told
+no_kind bytes (Is r kind) filled none told = none kind told.1
 
 -- a record that bytes spell was written: it has a version
-pub spelled_written : (bytes : List ℕ) (r : Record) → Spells bytes (Is r) → 0 < r.version
-spelled_written bytes r told = told.written
+pub spelled_written : (bytes : List ℕ) (r : Record) (kind : Kind) → Spells bytes (Is r kind) → 0 < r.version
+spelled_written bytes r kind told = told.0.written

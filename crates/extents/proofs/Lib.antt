@@ -5,3 +5,4 @@ pub mod Setting
 pub mod Stamps
 pub mod Headers
 pub mod Zeros
+pub mod Failures

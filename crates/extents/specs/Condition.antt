@@ -1,5 +1,6 @@
 -- What a drive in memory does with its next call.
 use Rattle.std.specs.Prelude.{ℕ, ◌-◌, Bool, true, false, List, nat_le, if◌then◌else◌}
+use Rattle.extents.specs.Failures.{Failures, no_failures, unsteady}
 use Rattle.extents.specs.declared.mem_drive.Condition.{Condition}
 use Rattle.extents.specs.declared.mem_drive.Condition.TheVariants.{Present, Fused, Lost, Burnt}
 
@@ -15,10 +16,12 @@ is_gone (Fused _) = false
 is_gone Lost = true
 is_gone Burnt = true
 
--- how often the drive failed by itself: once, where its fuse burnt
-abbrev pub failures_of : Condition → ℕ
-failures_of Burnt = 1
-failures_of _ = 0
+-- how often the drive failed by itself: once, where its fuse burnt; it is steady where no fuse is set
+abbrev pub failures_of : Condition → Failures
+failures_of Present = no_failures
+failures_of (Fused _) = unsteady 0
+failures_of Lost = no_failures
+failures_of Burnt = record { count = 1; steady = true }
 
 -- what a read or a write makes of it: the fuse has one call less, and burns at its last one
 abbrev pub after_call : Condition → Condition

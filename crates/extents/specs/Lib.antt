@@ -1,6 +1,7 @@
 pub mod Shapes
 pub mod Sizes
 pub mod Units
+pub mod Failures
 pub mod Thin
 pub mod Condition
 pub mod Owners

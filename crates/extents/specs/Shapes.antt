@@ -14,3 +14,7 @@ pub record IsShapeOf (shape : Shape) (extents segments payload blocks : ℕ) : T
 -- the number of the field that was refused
 abbrev pub refused_field : ShapeRefusal → ℕ
 refused_field (Range field) = field
+
+-- the number of a refusal
+abbrev pub refusal_number : ShapeRefusal → ℕ
+refusal_number (Range field) = 1

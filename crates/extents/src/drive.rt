@@ -1,6 +1,7 @@
 // What a drive promises.
 ghost use Rattle.std.specs.Prelude.{◌≡◌, ℕ, ◌+◌, ◌<◌, Bool, true, List, length, slice_get, slice_set, Some, ◌++◌, OnOk, OnErr, is_err};
-ghost use Rattle.extents.specs.Units.{IsSized, HaveFront, fronts, loss};
+ghost use Rattle.extents.specs.Failures.{Failures, Counts, StaysSteady};
+ghost use Rattle.extents.specs.Units.{IsSized, HaveFront, fronts};
 
 /// The drive answers no more, and never will again.
 #[derive(Clone, Copy, Debug, PartialEq, Eq)]
@@ -14,8 +15,8 @@ pub trait Drive {
     /// Whether the drive answers no more.
     ghost lost: { Self → Bool };
 
-    /// How often the drive failed by itself.
-    ghost failures: { Self → ℕ };
+    /// How often the drive failed by itself, and whether it is steady: no failure of its own lies ahead.
+    ghost failures: { Self → Failures };
 
     /// How many units the drive has.
     fn units(&self) -> u32
@@ -33,7 +34,8 @@ pub trait Drive {
         ensures units { units self.new ≡ units self.old }
         ensures lost { lost self.new ≡ is_err result }
         ensures stays { lost self.old ≡ true → lost self.new ≡ true }
-        ensures count { failures self.new ≡ failures self.old + loss (lost self.old) (lost self.new) };
+        ensures count { Counts (lost self.old) (lost self.new) (failures self.old) (failures self.new) }
+        ensures steady { StaysSteady (lost self.old) (lost self.new) (failures self.old) (failures self.new) };
 
     /// Reads the first bytes of the unit at an address, as many as the buffer has, which is at most a unit's length;
     /// else as `read_unit` does, and by one call as well.
@@ -44,7 +46,8 @@ pub trait Drive {
         ensures units { units self.new ≡ units self.old }
         ensures lost { lost self.new ≡ is_err result }
         ensures stays { lost self.old ≡ true → lost self.new ≡ true }
-        ensures count { failures self.new ≡ failures self.old + loss (lost self.old) (lost self.new) };
+        ensures count { Counts (lost self.old) (lost self.new) (failures self.old) (failures self.new) }
+        ensures steady { StaysSteady (lost self.old) (lost self.new) (failures self.old) (failures self.new) };
 
     /// Writes the unit at an address, whole or not at all; refused where the drive is lost or fails now, and then it is lost.
     fn write_unit(&mut self, at: u32, unit: &[u8]) -> Result<(), DriveLost>
@@ -54,7 +57,8 @@ pub trait Drive {
         ensures unwritten { OnErr result (units self.new ≡ units self.old) }
         ensures lost { lost self.new ≡ is_err result }
         ensures stays { lost self.old ≡ true → lost self.new ≡ true }
-        ensures count { failures self.new ≡ failures self.old + loss (lost self.old) (lost self.new) };
+        ensures count { Counts (lost self.old) (lost self.new) (failures self.old) (failures self.new) }
+        ensures steady { StaysSteady (lost self.old) (lost self.new) (failures self.old) (failures self.new) };
 
     /// Writes the unit at an address, given as `front` and, behind it, `rest`, which are together as long as a unit; either
     /// may be empty. Else as `write_unit` does, and by one call as well.
@@ -65,5 +69,6 @@ pub trait Drive {
         ensures unwritten { OnErr result (units self.new ≡ units self.old) }
         ensures lost { lost self.new ≡ is_err result }
         ensures stays { lost self.old ≡ true → lost self.new ≡ true }
-        ensures count { failures self.new ≡ failures self.old + loss (lost self.old) (lost self.new) };
+        ensures count { Counts (lost self.old) (lost self.new) (failures self.old) (failures self.new) }
+        ensures steady { StaysSteady (lost self.old) (lost self.new) (failures self.old) (failures self.new) };
 }

@@ -1,26 +1,61 @@
-// The header of a unit, 32 bytes, numbers with their highest byte first: `RBH1` (0 to 3), block (4 to
-// 7), version (8 to 11), hop (12 and 13), slot number (14 and 15), zero (16 to 31). A blank header is
-// zero throughout.
-ghost use Rattle.std.specs.Prelude.{◌≡◌, ◌<◌, ◌↔◌, IsTrue, IfOk, length, take, drop, replicate};
-ghost use Rattle.extents.specs.Stamp.{magic, stamped_bytes, SpellsRecord};
+// The header of a unit, 32 bytes, numbers with their highest byte first: mark `RBH2` (bytes 0 to 3), block (4 to 7),
+// version (8 to 11), hop (12 and 13), slot number (14 and 15), kind (16: 0 data, 1 trim), zero (17 to 31).
+// A blank header is all zero. Layout 1 is read, and never written: its mark is `RBH1`, bytes 16 to 31 are zero, and
+// each of its records is data.
+ghost use Rattle.std.specs.Prelude.{◌≡◌, ◌-◌, ◌≤◌, ◌<◌, ◌↔◌, IsTrue, IfOk, Some, length, take, drop, replicate};
+ghost use Rattle.extents.specs.declared.shape.TheConstants.{HEADER_BYTES};
+ghost use Rattle.extents.specs.Stamp.{first_mark, second_mark, kind_byte, stamped_bytes, SpellsRecord, TellsKind};
 
 use map_join::Record;
 
-const MAGIC: [u8; 4] = *b"RBH1";
+const FIRST_MARK: [u8; 4] = *b"RBH1";
+
+const SECOND_MARK: [u8; 4] = *b"RBH2";
 
 const ZEROS: [u8; 32] = [0; 32];
 
 const RECORD_AT: usize = 4;
 
-const REST_AT: usize = 16;
+const KIND_AT: usize = 16;
+
+const REST_AT: usize = 17;
+
+/// Whether a committed write put a payload, or trimmed its block.
+#[derive(Clone, Copy, Debug, PartialEq, Eq)]
+pub enum Kind {
+    /// The block holds the unit's payload.
+    Data = 0,
+    /// The block is absent, as after a host's discard.
+    Trim = 1,
+}
+
+impl Kind {
+    /// The kind as byte 16 of a header.
+    fn byte(self) -> u8
+        ensures { result ≡ kind_byte self }
+    {
+        self as u8
+    }
+
+    /// The kind that byte 16 of a header spells; none for a byte above 1.
+    fn of_byte(byte: u8) -> Option<Kind>
+        ensures { (kind : Kind) → (result ≡ Some kind) ↔ (byte ≡ kind_byte kind) }
+    {
+        match byte {
+            0 => Some(Kind::Data),
+            1 => Some(Kind::Trim),
+            _ => None,
+        }
+    }
+}
 
 /// What the header of a unit says.
 #[derive(Clone, Copy, Debug, PartialEq, Eq)]
 pub enum Header {
     /// The unit's payload belongs to no committed record.
     Blank,
-    /// The unit's payload was committed with this record.
-    Is(Record),
+    /// The unit was committed with this record, as a write of this kind.
+    Is(Record, Kind),
 }
 
 /// Why bytes are no header.
@@ -59,72 +94,105 @@ fn is_blank(bytes: &[u8; 32]) -> bool
     are_zero(bytes)
 }
 
-/// Whether the bytes begin with the mark.
-fn is_marked(bytes: &[u8; 32]) -> bool
-    ensures { IsTrue result ↔ (take 4 bytes.now ≡ magic) }
+/// Whether the bytes begin with a mark.
+fn begin_with(bytes: &[u8; 32], mark: &[u8; 4]) -> bool
+    ensures { IsTrue result ↔ (take 4 bytes.now ≡ mark.now) }
 {
-    &bytes[..RECORD_AT] == &MAGIC[..]
+    &bytes[..RECORD_AT] == &mark[..]
 }
 
-/// Whether the bytes behind the record are zero.
-fn ends_in_zeros(bytes: &[u8; 32]) -> bool
-    ensures { IsTrue result ↔ (drop 16 bytes.now ≡ replicate 16 0) }
+/// Whether the bytes from this one on are zero.
+fn end_in_zeros(bytes: &[u8; 32], from: usize) -> bool
+    requires { from ≤ 32 }
+    ensures { IsTrue result ↔ (drop from bytes.now ≡ replicate (32 - from) 0) }
 {
-    are_zero(&bytes[REST_AT..])
+    are_zero(&bytes[from..])
 }
 
-/// The header of a record.
-fn stamped(stamp: &Record) -> [u8; 32]
-    ensures bytes { result ≡ stamped_bytes stamp.now }
-    ensures spelled { 0 < stamp.now.version → SpellsRecord result stamp.now }
+/// The kind that a header's mark and its bytes 16 to 31 spell; none where they are of neither layout.
+fn told_kind(bytes: &[u8; 32]) -> Option<Kind>
+    ensures { (kind : Kind) → (result ≡ Some kind) ↔ TellsKind bytes.now kind }
+{
+    if begin_with(bytes, &SECOND_MARK) && end_in_zeros(bytes, REST_AT) {
+        return Kind::of_byte(bytes[KIND_AT]);
+    }
+    if begin_with(bytes, &FIRST_MARK) && end_in_zeros(bytes, KIND_AT) {
+        return Some(Kind::Data);
+    }
+    None
+}
+
+/// The header of a record and its kind.
+fn stamped(stamp: &Record, kind: Kind) -> [u8; 32]
+    ensures bytes { result ≡ stamped_bytes stamp.now kind }
+    ensures spelled { 0 < stamp.now.version → SpellsRecord result stamp.now × TellsKind result kind }
 {
     let mut bytes = ZEROS;
-    bytes[..RECORD_AT].copy_from_slice(&MAGIC);
-    bytes[RECORD_AT..REST_AT].copy_from_slice(&stamp.to_bytes());
+    bytes[KIND_AT] = kind.byte();
+    bytes[..RECORD_AT].copy_from_slice(&SECOND_MARK);
+    bytes[RECORD_AT..KIND_AT].copy_from_slice(&stamp.to_bytes());
     bytes
 }
 
 impl Header {
-    ghost use Rattle.extents.specs.Header.{Spells, header_bytes, IsWritten, record_in};
+    ghost use Rattle.extents.specs.Header.{Spells, header_bytes, IsWritten, record_in, kind_in};
 
-    /// The record that the unit's payload was committed with, if any.
+    /// The record that the unit was committed with, if any.
     pub fn record(&self) -> Option<Record>
         ensures { result ≡ record_in self.now }
     {
         match self {
             Header::Blank => None,
-            Header::Is(record) => Some(*record),
+            Header::Is(record, _) => Some(*record),
         }
     }
 
-    /// The 32 bytes of the header.
+    /// How the unit's payload is read; data under a blank header.
+    pub fn kind(&self) -> Kind
+        ensures { result ≡ kind_in self.now }
+    {
+        match self {
+            Header::Blank => Kind::Data,
+            Header::Is(_, kind) => *kind,
+        }
+    }
+
+    /// The kind of the header that the first 32 bytes spell, from byte 16 alone: for a reader that knows that they spell one.
+    pub fn kind_at_front(unit: &[u8]) -> Kind
+        requires { HEADER_BYTES ≤ length unit.now }
+        ensures { (header : Header) → Spells (take HEADER_BYTES unit.now) header → result ≡ kind_in header }
+    {
+        match unit[KIND_AT] {
+            1 => Kind::Trim,
+            _ => Kind::Data,
+        }
+    }
+
+    /// The 32 bytes of the header, in layout 2.
     pub fn encode(&self) -> [u8; 32]
         ensures bytes { result ≡ header_bytes self.now }
         ensures spelled { IsWritten self.now → Spells result self.now }
     {
         match self {
             Header::Blank => ZEROS,
-            Header::Is(record) => stamped(record),
+            Header::Is(record, kind) => stamped(record, *kind),
         }
     }
 
-    /// The header that 32 bytes spell; refused where they spell none.
+    /// The header that 32 bytes spell, in either layout; refused where they spell none.
     pub fn decode(bytes: &[u8; 32]) -> Result<Header, HeaderFault>
         ensures ok { IfOk result (Spells bytes.now) }
         ensures only { (header : Header) → Spells bytes.now header → result ≡ Ok header }
     {
-        if !is_marked(bytes) {
+        let Some(kind) = told_kind(bytes) else {
             return if is_blank(bytes) {
                 Ok(Header::Blank)
             } else {
                 Err(HeaderFault::BadHeader)
             };
-        }
-        if !ends_in_zeros(bytes) {
-            return Err(HeaderFault::BadHeader);
-        }
-        match Record::of_bytes(&bytes[RECORD_AT..REST_AT]) {
-            Ok(record) => Ok(Header::Is(record)),
+        };
+        match Record::of_bytes(&bytes[RECORD_AT..KIND_AT]) {
+            Ok(record) => Ok(Header::Is(record, kind)),
             Err(_) => Err(HeaderFault::BadHeader),
         }
     }

@@ -9,7 +9,7 @@ mod table;
 mod thin;
 
 pub use drive::{Drive, DriveLost};
-pub use header::{Header, HeaderFault};
+pub use header::{Header, HeaderFault, Kind};
 pub use mem_drive::MemDrive;
 pub use shape::{HEADER_BYTES, Shape, ShapeRefusal};
 pub use table::{DRIVES, ExtentTable};

@@ -1,6 +1,7 @@
 // A drive in memory, which can be lost from outside or by a fuse.
 ghost use Rattle.std.specs.Prelude.{◌≡◌, ℕ, ◌+◌, ◌*◌, ◌-◌, ◌≤◌, ◌<◌, not, true, List, length, slice_get, slice_set, Some, take, drop, ◌++◌, IfOk, OnOk, OnErr, is_err, vec_len};
-ghost use Rattle.extents.specs.Units.{IsSized, HaveFront, fronts, loss, zero_units};
+ghost use Rattle.extents.specs.Failures.{Counts, StaysSteady};
+ghost use Rattle.extents.specs.Units.{IsSized, HaveFront, fronts, zero_units};
 ghost use Rattle.extents.specs.Condition.{is_gone, failures_of, after_call};
 ghost use Rattle.extents.specs.declared.shape.TheConstants.{HEADER_BYTES};
 
@@ -126,7 +127,8 @@ impl Drive for MemDrive {
         ensures units { self.new.units ≡ self.old.units }
         ensures lost { is_gone self.new.condition ≡ is_err result }
         ensures stays { is_gone self.old.condition ≡ true → is_gone self.new.condition ≡ true }
-        ensures count { failures_of self.new.condition ≡ failures_of self.old.condition + loss (is_gone self.old.condition) (is_gone self.new.condition) }
+        ensures count { Counts (is_gone self.old.condition) (is_gone self.new.condition) (failures_of self.old.condition) (failures_of self.new.condition) }
+        ensures steady { StaysSteady (is_gone self.old.condition) (is_gone self.new.condition) (failures_of self.old.condition) (failures_of self.new.condition) }
         ensures condition { self.new.condition ≡ after_call self.old.condition }
     {
         self.read_front(at, unit)
@@ -139,7 +141,8 @@ impl Drive for MemDrive {
         ensures units { self.new.units ≡ self.old.units }
         ensures lost { is_gone self.new.condition ≡ is_err result }
         ensures stays { is_gone self.old.condition ≡ true → is_gone self.new.condition ≡ true }
-        ensures count { failures_of self.new.condition ≡ failures_of self.old.condition + loss (is_gone self.old.condition) (is_gone self.new.condition) }
+        ensures count { Counts (is_gone self.old.condition) (is_gone self.new.condition) (failures_of self.old.condition) (failures_of self.new.condition) }
+        ensures steady { StaysSteady (is_gone self.old.condition) (is_gone self.new.condition) (failures_of self.old.condition) (failures_of self.new.condition) }
         ensures condition { self.new.condition ≡ after_call self.old.condition }
     {
         if !spend(&mut self.condition) {
@@ -156,7 +159,8 @@ impl Drive for MemDrive {
         ensures unwritten { OnErr result (self.new.units ≡ self.old.units) }
         ensures lost { is_gone self.new.condition ≡ is_err result }
         ensures stays { is_gone self.old.condition ≡ true → is_gone self.new.condition ≡ true }
-        ensures count { failures_of self.new.condition ≡ failures_of self.old.condition + loss (is_gone self.old.condition) (is_gone self.new.condition) }
+        ensures count { Counts (is_gone self.old.condition) (is_gone self.new.condition) (failures_of self.old.condition) (failures_of self.new.condition) }
+        ensures steady { StaysSteady (is_gone self.old.condition) (is_gone self.new.condition) (failures_of self.old.condition) (failures_of self.new.condition) }
         ensures condition { self.new.condition ≡ after_call self.old.condition }
     {
         self.write_gathered(at, unit, &[])
@@ -171,7 +175,8 @@ impl Drive for MemDrive {
         ensures unwritten { OnErr result (self.new.units ≡ self.old.units) }
         ensures lost { is_gone self.new.condition ≡ is_err result }
         ensures stays { is_gone self.old.condition ≡ true → is_gone self.new.condition ≡ true }
-        ensures count { failures_of self.new.condition ≡ failures_of self.old.condition + loss (is_gone self.old.condition) (is_gone self.new.condition) }
+        ensures count { Counts (is_gone self.old.condition) (is_gone self.new.condition) (failures_of self.old.condition) (failures_of self.new.condition) }
+        ensures steady { StaysSteady (is_gone self.old.condition) (is_gone self.new.condition) (failures_of self.old.condition) (failures_of self.new.condition) }
         ensures condition { self.new.condition ≡ after_call self.old.condition }
     {
         if spend(&mut self.condition) {

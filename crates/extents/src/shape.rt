@@ -26,6 +26,19 @@ pub enum ShapeRefusal {
     Range(u8),
 }
 
+impl ShapeRefusal {
+    ghost use Rattle.extents.specs.Shapes.{refusal_number};
+
+    /// The refusal's number, 1.
+    pub fn number(self) -> u8
+        ensures { result ≡ refusal_number self }
+    {
+        match self {
+            ShapeRefusal::Range(_) => 1,
+        }
+    }
+}
+
 impl Shape {
     ghost use Rattle.extents.specs.Shapes.{IsShapeOf, refused_field};
 

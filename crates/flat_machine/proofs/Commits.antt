@@ -10,7 +10,7 @@ use Rattle.map_join.specs.Record.{key_of, record_of, stamp, stamp_of, stamp_in, 
 use Rattle.map_join.specs.Maps.{IsMapOf, join, only}
 use Rattle.map_join.proofs.Joins.{took, only_here, only_else}
 use Rattle.extent_groups.specs.declared.class.Class.{Class}
-use Rattle.flat_machine.specs.Flat.{Flat, IsArrays, for_ticket, for_block, Write, Content, Payload, bytes_of, Holder, Ticket, Block, Waiting, Fresh, Moved, content_of, header_for, Stored, content_in, waiting_unit, class_of, put, last_write, IsNewest}
+use Rattle.flat_machine.specs.Flat.{Flat, IsArrays, for_ticket, for_block, Write, Content, Payload, Trim, bytes_of, Holder, Ticket, Block, Waiting, Fresh, Moved, content_of, header_for, Stored, content_in, waiting_unit, class_of, put, last_write, IsNewest}
 use Rattle.flat_machine.specs.Cases.{committed, stamped, longest_log}
 use Rattle.flat_machine.specs.History.{AreLimits, ComesNext, IsWrite, IsWriteChain, IsWriteOf, IsHeaderOf, HoldersStand, UnitStands, WaitingStands, IsCopy, IsAt, BlockStands, IsHistory}
 use Rattle.flat_machine.proofs.Pairs.{put_here, put_else, just_held}
@@ -26,6 +26,7 @@ emitted_by b s v h = record { block = b; version = v; hop = h; place = s }
 -- a content is what is read of its unit once that has the record
 pub stamped_content : (size : ℕ) (r : Record) (x : Content) → content_in (record { header = header_for r x; payload = bytes_of size x }) ≡ x
 stamped_content size r (Payload x) = refl
+stamped_content size r Trim = refl
 
 pub stamped_record : (r : Record) (x : Content) → record_in (header_for r x) ≡ Some r
 stamped_record r x = refl

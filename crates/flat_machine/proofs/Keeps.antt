@@ -5,7 +5,8 @@ use Rattle.std.proofs.lemmas.Option.{same_Some}
 use Rattle.map_join.specs.declared.records.Record.{Record}
 use Rattle.map_join.specs.Record.{key_of, stamp, stamp_in, IsRecord}
 use Rattle.map_join.specs.Maps.{IsMapOf}
-use Rattle.extents.specs.Units.{loss}
+use Rattle.extents.specs.Failures.{Failures, no_failures}
+use Rattle.extents.proofs.Failures.{counts_same, steady_same}
 use Rattle.extent_groups.specs.declared.class.Class.{Class}
 use Rattle.extent_groups.specs.declared.class.Class.TheVariants.{Mirrored}
 use Rattle.extent_groups.specs.declared.class.Member.{Member}
@@ -13,7 +14,7 @@ use Rattle.flat_machine.specs.declared.refusal.Refusal.TheVariants.{NoGroup, Wro
 use Rattle.extent_groups.specs.Groups.{Groups}
 use Rattle.extent_groups.proofs.Fresh.{free_groups, no_members}
 use Rattle.flat_machine.specs.Groups.{AreSizes, IsEmpty, class_below}
-use Rattle.flat_machine.specs.Flat.{Flat, for_ticket, Write, Content, Payload, bytes_of, IsSized, Ticket, Waiting, Fresh, Moved, waiting_unit, class_of, last_write, IsNewest, new_flat, put}
+use Rattle.flat_machine.specs.Flat.{Flat, for_ticket, Write, Content, Payload, Trim, bytes_of, IsSized, Ticket, Waiting, Fresh, Moved, waiting_unit, class_of, last_write, IsNewest, new_flat, put}
 use Rattle.flat_machine.specs.Steps.{FlatStep, Claim, Release, Fill, Copy, Commit, Discard, Read, ReadAt, Make, Unmake, MoveExtent, AddDrive, Lose, FlatAnswer, Claimed, Taken, Released, NotHeld, Filled, Copied, Committed, Discarded, Found, FoundAt, MadeGroup, UnmadeGroup, MovedExtent, AddedDrive, LostDrive, Refused}
 use Rattle.flat_machine.specs.Cases.{Case, ClaimCase, ReleaseCase, FillCase, CopyCase, CommitCase, CommitWith, DiscardCase, ReadCase, ReadAtCase, MakeCase, UnmakeCase, MoveCase, AddCase, LoseCase, Leaves, WasOrGotLost, IsFor, HasStamp, next_version, last_version, longest_log, committed, CopyPasses}
 use Rattle.flat_machine.specs.History.{IsWrite, IsWriteOf, IsCopy, IsHistory, IsStep}
@@ -30,6 +31,7 @@ use Rattle.flat_machine.proofs.Slots.{history_as}
 -- a content fits where its bytes do
 fits_bytes : (size : ℕ) (x : Content) → length (bytes_of size x) ≡ size → IsSized size x
 fits_bytes size (Payload x) e = e
+fits_bytes size Trim e = tt
 
 next_positive : (o : Option Record) → 0 < next_version o
 next_positive None = omega arith
@@ -162,16 +164,12 @@ moved_ready F keys w s b (Some q) c v h x is newest ticket mine same block stamp
         (most.newest, most.last, sym version, ap (λ (z : Write). z.content) (sym (most.same version)))
 
 -- drives that failed change nothing of it
-pub fared : (F : Flat) (lost : ℕ → Bool) (failures : ℕ → ℕ) (keys : ℕ → ℕ) → IsHistory F keys → IsHistory (record F { lost = lost; failures = failures }) keys
+pub fared : (F : Flat) (lost : ℕ → Bool) (failures : ℕ → Failures) (keys : ℕ → ℕ) → IsHistory F keys → IsHistory (record F { lost = lost; failures = failures }) keys
 fared F lost failures keys is = history_as F keys is is.limits.least is.limits.most is.groups is.holders is.units (λ b has. (refl, has))
 
 -- a state is what it leaves where nothing happens
-no_loss : (n : ℕ) (b : Bool) → n ≡ n + loss b b
-no_loss n true = omega arith
-no_loss n false = omega arith
-
 pub itself : (x : Flat) → Leaves x x
-itself x = record { same = refl; drives = λ d. record { stays = λ e. e; count = no_loss (x.failures d) (x.lost d) } }
+itself x = record { same = refl; drives = λ d. record { stays = λ e. e; count = counts_same (x.lost d) (x.failures d); steady = steady_same (x.lost d) (x.failures d) } }
 
 pub same_leaves : (F G : Flat) → G ≡ F → Leaves F G
 same_leaves F G same = subst (Leaves F) (sym same) (itself F)
@@ -326,7 +324,7 @@ moves F G keys M g k to _ is case map = absurd case
 
 adds : (F G : Flat) (keys M : ℕ → ℕ) (answer : FlatAnswer) → IsHistory F keys → AddCase F answer G → IsMapOf G.emitted M → IsHistory G M
 adds F G keys M (Refused Full) is case map = stays F G keys M is (same_leaves F G case.1) map
-adds F G keys M (AddedDrive d) is case map = stays _ G keys M (add_keeps F keys false 0 is case.1) (same_leaves _ G case.2) map
+adds F G keys M (AddedDrive d) is case map = stays _ G keys M (add_keeps F keys false no_failures is case.1) (same_leaves _ G case.2) map
 adds F G keys M _ is case map = absurd case
 
 -- a step of numbers that there are, whatever its answer
@@ -346,7 +344,7 @@ step_keeps F G keys M AddDrive answer is fits case map = adds F G keys M answer 
 step_keeps F G keys M (Lose d) answer is fits case map = loses F G keys M d answer is case map
 
 -- a new array's state
-pub new_history : (groups : Groups) (drives : ℕ) (lost : ℕ → Bool) (failures : ℕ → ℕ) → AreSizes groups → IsEmpty groups → 3 ≤ drives → drives ≤ 16
+pub new_history : (groups : Groups) (drives : ℕ) (lost : ℕ → Bool) (failures : ℕ → Failures) → AreSizes groups → IsEmpty groups → 3 ≤ drives → drives ≤ 16
     → IsHistory (new_flat groups drives lost failures) (λ _. 0)
 new_history groups drives lost failures are empty least most = record {
   limits = record { sizes = are; least = least; most = most; log = omega arith };

@@ -5,6 +5,7 @@ use Rattle.std.proofs.lemmas.List.{length-set}
 use Rattle.std.proofs.lemmas.List.Folds.{list_any_none}
 use Rattle.std.proofs.lemmas.Bool.{cases_eq}
 use Rattle.std.proofs.lemmas.Option.{same_Some, slice_get_within, slice_get-get_or}
+use Rattle.extents.specs.Failures.{Failures}
 use Rattle.extent_groups.specs.declared.class.Member.{Member}
 use Rattle.extent_groups.specs.Faults.{is_on}
 use Rattle.extent_groups.specs.Geometry.{slot_count}
@@ -144,7 +145,7 @@ move_keeps F keys g k to is passes =
     }
 
 -- a drive more
-pub add_keeps : (F : Flat) (keys : ℕ → ℕ) (lost : Bool) (failures : ℕ) → IsHistory F keys → F.drives < 16 → IsHistory (with_new_drive F lost failures) keys
+pub add_keeps : (F : Flat) (keys : ℕ → ℕ) (lost : Bool) (failures : Failures) → IsHistory F keys → F.drives < 16 → IsHistory (with_new_drive F lost failures) keys
 add_keeps F keys lost failures is room =
     let groups : GroupsStand F.groups (F.drives + 1) = record { table = is.groups.table; there = λ g k m at. let y = is.groups.there g k m at in let low = y.0 in (omega arith, y.1) } in
     history_as F keys is (omega (arith, is.limits.least)) (omega arith) groups is.holders is.units (λ b has. (refl, has))

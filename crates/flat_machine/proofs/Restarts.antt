@@ -6,10 +6,12 @@ use Rattle.std.proofs.lemmas.Option.{same_Some}
 use Rattle.map_join.specs.declared.records.Record.{Record}
 use Rattle.map_join.specs.Record.{key_of, record_of, stamp_of, stamp_in, IsRecord}
 use Rattle.map_join.specs.Maps.{IsSame, IsMapOf, IsListOf}
-use Rattle.extents.specs.Header.{record_in}
+use Rattle.extents.specs.declared.header.Kind.{Kind}
+use Rattle.extents.specs.declared.header.Kind.TheVariants as kind
+use Rattle.extents.specs.Header.{record_in, kind_in}
 use Rattle.extent_groups.specs.Groups.{Groups}
 use Rattle.flat_machine.specs.Groups.{AreSizes, GroupsStand}
-use Rattle.flat_machine.specs.Flat.{Flat, Write, Content, IsSized, Holder, Worker, Ticket, Block, Shut, Stored, content_in, class_of, last_write}
+use Rattle.flat_machine.specs.Flat.{Flat, Write, Content, IsSized, Holder, Worker, Ticket, Block, Shut, Stored, content_under, content_in, class_of, last_write}
 use Rattle.flat_machine.specs.History.{AreLimits, IsWrite, IsWriteOf, IsHeaderOf, HoldersStand, UnitStands, IsAt, BlockStands, IsHistory, AreHeld}
 use Rattle.flat_machine.specs.Restarted.{TellMap, content_at, write_at, newest_places, restarted}
 use Rattle.flat_machine.proofs.Newest.{told_at, told_key, key_least}
@@ -85,7 +87,11 @@ places keys b some = by (keys b) (newest keys b).place some
 -- a write that is told of a record's unit fits
 sized_at : (size : ℕ) (o : Option Stored) (u : Stored) → o ≡ Some u → length u.payload ≡ size → IsSized size (content_at o)
 sized_at size None u is long = absurd (cc)
-sized_at size (Some x) u is long = ap (λ (y : Stored). length y.payload) (same_Some x u is) ∙ long
+sized_at size (Some x) u is long = sized_in size (kind_in x.header) x.payload (ap (λ (y : Stored). length y.payload) (same_Some x u is) ∙ long)
+  where
+    sized_in : (size : ℕ) (k : Kind) (payload : List ℕ) → length payload ≡ size → IsSized size (content_under k payload)
+    sized_in size kind.Data payload long = long
+    sized_in size kind.Trim payload long = tt
 
 -- what the unit at a record's place holds is told as its content
 told_content : (units : ℕ → Option Stored) (r : Record) (x : Content) → IsAt units r x → content_at (units r.place) ≡ x

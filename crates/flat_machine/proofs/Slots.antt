@@ -1,5 +1,6 @@
 -- What is true of one slot, told from who holds it now, and what stays where nothing changed.
 use Rattle.std.proofs.Common.{◌≡◌, ℕ, ◌<◌, ◌≤◌, Bool, true, false, List, refl, sym, ◌∙◌, subst, Option, Some, None}
+use Rattle.extents.specs.Failures.{Failures}
 use Rattle.map_join.specs.declared.records.Record.{Record}
 use Rattle.map_join.specs.Record.{record_of}
 use Rattle.extent_groups.specs.declared.class.Class.{Class}
@@ -126,7 +127,7 @@ pub apart : (held : ℕ → Holder → Bool) (p s b : ℕ) → held p (Block b) 
 apart held p s b is not same = not (subst (λ n. held n (Block b) ≡ true) same is)
 
 -- a state keeps what is true of another with the same records and writes, where its groups stand, each slot's holders and unit do, and no place of a block is touched
-pub history_as : {table : List (Option Group)} {drives : ℕ} {lost : ℕ → Bool} {failures : ℕ → ℕ} {held : ℕ → Holder → Bool} {tickets : ℕ → Option Waiting} {units : ℕ → Option Stored}
+pub history_as : {table : List (Option Group)} {drives : ℕ} {lost : ℕ → Bool} {failures : ℕ → Failures} {held : ℕ → Holder → Bool} {tickets : ℕ → Option Waiting} {units : ℕ → Option Stored}
     (F : Flat) (keys : ℕ → ℕ) → IsHistory F keys → 3 ≤ drives → drives ≤ 16 → GroupsStand (record F.groups { table = table }) drives
     → ((s : ℕ) → HoldersStand (record F.groups { table = table }) keys s (held s) (tickets s))
     → ((s : ℕ) → UnitStands F.groups.payload F.emitted F.writes keys s (class_at (record F.groups { table = table }) s) (tickets s) (units s))

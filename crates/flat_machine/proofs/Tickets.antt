@@ -1,11 +1,12 @@
 -- A slot that is made to wait, and one whose ticket is given up, keep what is true of every state.
 use Rattle.std.proofs.Common.{◌≡◌, ◌≢◌, ℕ, ◌<◌, Bool, true, false, is_some, length, refl, sym, ap, ◌∙◌, subst, ◌⊎◌, inl, inr, Option, Some, None}
 use Rattle.std.proofs.lemmas.Bool.{cases_eq}
+use Rattle.std.proofs.lemmas.List.{length-replicate}
 use Rattle.std.proofs.lemmas.Option.{same_Some}
 use Rattle.map_join.specs.Record.{record_of}
 use Rattle.extents.specs.Header.{record_in}
 use Rattle.extent_groups.specs.declared.class.Class.{Class}
-use Rattle.flat_machine.specs.Flat.{Flat, IsArrays, for_ticket, for_block, IsKept, Content, Payload, IsSized, Holder, Worker, Ticket, Block, Waiting, content_of, Stored, waiting_unit, class_of, put, turned}
+use Rattle.flat_machine.specs.Flat.{Flat, IsArrays, for_ticket, for_block, IsKept, Content, Payload, Trim, IsSized, Holder, Worker, Ticket, Block, Waiting, content_of, Stored, waiting_unit, class_of, put, turned}
 use Rattle.flat_machine.specs.Cases.{ticketed, discarded}
 use Rattle.flat_machine.specs.History.{HoldersStand, UnitStands, WaitingStands, IsHistory}
 use Rattle.flat_machine.proofs.Pairs.{put_here, put_else, turned_else, just_one, turned_just, turned_free, IsJust}
@@ -39,6 +40,7 @@ unheld false never = refl
 -- bytes of a content that fits are as long as a payload
 sized_bytes : (size : ℕ) (x : Content) → IsSized size x → length (waiting_unit size x).payload ≡ size
 sized_bytes size (Payload x) e = e
+sized_bytes size Trim e = length-replicate size 0
 
 there_is : (class : Option Class) → class ≢ None → true ≡ is_some class
 there_is (Some c) some = refl

@@ -2,7 +2,7 @@
 -- case; what never comes is impossible.
 use Rattle.std.specs.Prelude.{◌≡◌, ◌≢◌, ◌⊎◌, ℕ, ◌+◌, ◌/◌, ◌%◌, ◌<◌, ◌≤◌, ◌==◌, ◌&&◌, not, nat_lt, Bool, true, false, if◌then◌else◌, List, [], ◌∷◌, ◌++◌, length, replicate, Option, Some, None}
 use Rattle.map_join.specs.declared.records.Record.{Record}
-use Rattle.extents.specs.Units.{loss}
+use Rattle.extents.specs.Failures.{Failures, no_failures, Counts, StaysSteady}
 use Rattle.extents.specs.declared.header.Header.{Header}
 use Rattle.extents.specs.Header.{record_in}
 use Rattle.extent_groups.specs.declared.class.Class.{Class}
@@ -13,15 +13,17 @@ use Rattle.extent_groups.specs.Groups.{group_at, with_group}
 use Rattle.extent_groups.specs.Missing.{IsGone, MissAtMostOne}
 use Rattle.flat_machine.specs.declared.refusal.Refusal.TheVariants.{NoGroup, WrongClass, InUse, NoTicket, Outrun, VersionSpent, HopsSpent, Unwritten, Gone, SlotsHeld, DriveLost, Ahead, ExtentTaken, SameDrive, LogFull, Full, BadMember}
 use Rattle.flat_machine.specs.Groups.{AreMembers, AreApart, AreUnowned, ArePresent, IsFirstLost, IsLowestFree, IsFull}
-use Rattle.flat_machine.specs.Flat.{Flat, Write, Holder, Worker, Ticket, Block, Shut, Content, Waiting, Fresh, Moved, content_of, blank_header, header_for, Stored, content_in, waiting_unit, put, with_pair, without_pair, turned, same_holder, IsFree, IsKept, class_of, last_write, IsNewest}
+use Rattle.flat_machine.specs.Flat.{Flat, Write, Holder, Worker, Ticket, Block, Shut, Content, Payload, Trim, Waiting, Fresh, Moved, content_of, blank_header, header_for, Stored, content_in, waiting_unit, put, with_pair, without_pair, turned, same_holder, IsFree, IsKept, class_of, last_write, IsNewest}
 use Rattle.map_join.specs.Record.{key_of}
 use Rattle.flat_machine.specs.Moves.{IsIn, HasClaim, IsFirstStray, unmade, IsMoveReason, MovePasses, IsBeyondOf, IsFirstGone, moved_to, with_new_drive}
 use Rattle.flat_machine.specs.Steps.{FlatStep, Claim, Release, Fill, Copy, Commit, Discard, Read, ReadAt, Make, Unmake, MoveExtent, AddDrive, Lose, Version, Seen, Data, Stale, FlatAnswer, Claimed, Taken, Released, NotHeld, Filled, Copied, Committed, Discarded, Found, FoundAt, MadeGroup, UnmadeGroup, MovedExtent, AddedDrive, LostDrive, Refused}
 
--- how a drive fares: once lost it stays lost, and its own failures rose by one where it is lost now and wasn't, and else not
-pub record Fares (was is : Bool) (before after : ℕ) : Type 0 where
+-- how a drive fares: once lost it stays lost, and its own failures rose by one where it is lost now and wasn't, and else not;
+-- a steady one is lost now only if it was, and stays steady
+pub record Fares (was is : Bool) (before after : Failures) : Type 0 where
   pub stays : was ≡ true → is ≡ true
-  pub count : after ≡ before + loss was is
+  pub count : Counts was is before after
+  pub steady : StaysSteady was is before after
 
 -- G is the state x, but for drives that failed
 pub record Leaves (x G : Flat) : Type 0 where
@@ -179,10 +181,14 @@ DiscardCase F w s (Refused NoTicket) G = (F.held s (Ticket w) ≡ false) × (Lea
 DiscardCase F w s (Discarded t) G = (t ≡ s) × (F.held s (Ticket w) ≡ true) × (Leaves (discarded F w s) G)
 DiscardCase F w s _ G = ⊥
 
--- what a read finds
+-- what a read finds of a write: its payload, and nothing where it trimmed the block
+abbrev pub found_in : ℕ → Content → Option Version
+found_in version (Payload x) = Some (record { version = version; payload = x })
+found_in version Trim = None
+
 abbrev pub found_of : Option Write → Option Version
 found_of None = None
-found_of (Some w) = Some (record { version = w.version; content = w.content })
+found_of (Some w) = found_in w.version w.content
 
 -- read: the last acknowledged write of the block, where the unit at its newest place isn't gone
 abbrev pub ReadCase : Flat → ℕ → FlatAnswer → Flat → Type 0
@@ -287,10 +293,10 @@ MoveCase F g k to MovedExtent G =
     (MovePasses F g k to) × (IsBeyondOf F.groups F.lost g k → ⊥) × (G.lost to.drive ≡ false) × (Leaves (moved_to F g k to) G)
 MoveCase F g k to _ G = ⊥
 
--- add a drive: it has the next number, is present, and hasn't failed; no drive is called
+-- add a drive: it has the next number, is present and steady, and hasn't failed; no drive is called
 abbrev pub AddCase : Flat → FlatAnswer → Flat → Type 0
 AddCase F (Refused Full) G = (most_drives ≤ F.drives) × (G ≡ F)
-AddCase F (AddedDrive d) G = (d ≡ F.drives) × (F.drives < most_drives) × (G ≡ with_new_drive F false 0)
+AddCase F (AddedDrive d) G = (d ≡ F.drives) × (F.drives < most_drives) × (G ≡ with_new_drive F false no_failures)
 AddCase F _ G = ⊥
 
 -- lose: the drive is lost from outside, which is no failure of its own

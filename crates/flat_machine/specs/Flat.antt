@@ -1,25 +1,41 @@
 -- The flat state: a list of acknowledged writes, a list of emitted records, a set of (slot, holder) pairs, and one unit
 -- for each slot. It has no running map, no free list and no parity.
-use Rattle.std.specs.Prelude.{◌≡◌, ℕ, ◌≤◌, ◌==◌, ◌||◌, ◌&&◌, not, Bool, true, false, if◌then◌else◌, List, [], ◌∷◌, length, Contains, Option, Some, None}
+use Rattle.std.specs.Prelude.{◌≡◌, ℕ, ◌≤◌, ◌==◌, ◌||◌, ◌&&◌, not, Bool, true, false, if◌then◌else◌, List, [], ◌∷◌, length, replicate, Contains, Option, Some, None}
 use Rattle.map_join.specs.declared.records.Record.{Record}
 use Rattle.map_join.specs.Record.{key_of}
+use Rattle.extents.specs.Failures.{Failures}
 use Rattle.extents.specs.declared.header.Header.{Header}
 use Rattle.extents.specs.declared.header.Header.TheVariants.{Blank, Is}
+use Rattle.extents.specs.declared.header.Kind.{Kind}
+use Rattle.extents.specs.declared.header.Kind.TheVariants as kind
+use Rattle.extents.specs.Header.{kind_in}
 use Rattle.extent_groups.specs.declared.class.Class.{Class}
 use Rattle.extent_groups.specs.Groups.{Groups}
 use Rattle.flat_machine.specs.Groups.{class_at}
 
--- what a block holds: a payload
+-- what a write gives a block: a payload, or nothing, where the block is trimmed
 pub data Content : Type 0 where
   Payload : List ℕ → Content
+  Trim : Content
 
--- the bytes that lie in a unit for a content, given how many a unit has
+-- the bytes that lie in a unit for a content, given how many a payload has: zeros for a trim
 abbrev pub bytes_of : ℕ → Content → List ℕ
 bytes_of size (Payload x) = x
+bytes_of size Trim = replicate size 0
 
 -- a content that fits into units of that many bytes
 abbrev pub IsSized : ℕ → Content → Type 0
 IsSized size (Payload x) = length x ≡ size
+IsSized size Trim = Unit {0}
+
+-- the kind in the header of a content's unit, and the content that a unit of a kind and a payload holds
+abbrev pub kind_of : Content → Kind
+kind_of (Payload x) = kind.Data
+kind_of Trim = kind.Trim
+
+abbrev pub content_under : Kind → List ℕ → Content
+content_under kind.Data payload = Payload payload
+content_under kind.Trim payload = Trim
 
 -- an acknowledged write: a version of a block, and what it holds
 pub record Write : Type 0 where
@@ -49,28 +65,28 @@ abbrev pub blank_header : Header
 blank_header = Blank
 
 abbrev pub header_for : Record → Content → Header
-header_for r content = Is r
+header_for r content = Is r (kind_of content)
 
 -- a unit: its header and its payload
 pub record Stored : Type 0 where
   pub header : Header
   pub payload : List ℕ
 
--- what a unit with a record in its header holds
+-- what a unit holds: nothing where its header says so, else its payload
 abbrev pub content_in : Stored → Content
-content_in u = Payload u.payload
+content_in u = content_under (kind_in u.header) u.payload
 
 -- the unit in which a content waits under a blank header
 abbrev pub waiting_unit : ℕ → Content → Stored
 waiting_unit size content = record { header = blank_header; payload = bytes_of size content }
 
 -- the flat state: the groups, with the sizes of the array; how many drives there are, which of these numbers are of a lost drive
--- or of none, and how often each failed by itself; and what was written, emitted, held and stored
+-- or of none, and how often each failed by itself and whether it is steady; and what was written, emitted, held and stored
 pub record Flat : Type 0 where
   pub groups : Groups
   pub drives : ℕ
   pub lost : ℕ → Bool
-  pub failures : ℕ → ℕ
+  pub failures : ℕ → Failures
   pub writes : List Write
   pub emitted : List Record
   pub held : ℕ → Holder → Bool
@@ -78,7 +94,7 @@ pub record Flat : Type 0 where
   pub units : ℕ → Option Stored
 
 -- a new array: nothing written, nothing held, and no unit, as no group is made
-abbrev pub new_flat : Groups → ℕ → (ℕ → Bool) → (ℕ → ℕ) → Flat
+abbrev pub new_flat : Groups → ℕ → (ℕ → Bool) → (ℕ → Failures) → Flat
 new_flat groups drives lost failures = record {
   groups = groups;
   drives = drives;

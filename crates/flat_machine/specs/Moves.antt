@@ -1,6 +1,7 @@
 -- Groups that are unmade, members that go onto other extents, and drives that come to an array: when that may be, and the
 -- state that it leaves.
 use Rattle.std.specs.Prelude.{◌≡◌, ◌≢◌, ℕ, ◌+◌, ◌/◌, ◌%◌, ◌<◌, ◌==◌, ◌&&◌, nat_lt, Bool, true, false, if◌then◌else◌, slice_get, Option, Some, None}
+use Rattle.extents.specs.Failures.{Failures, fused}
 use Rattle.extent_groups.specs.declared.class.Member.{Member}
 use Rattle.flat_machine.specs.declared.refusal.Refusal.{Refusal}
 use Rattle.flat_machine.specs.declared.refusal.Refusal.TheVariants.{NoGroup, BadMember, SameDrive, ExtentTaken}
@@ -90,10 +91,14 @@ IsBeyondOf groups missing g k = (was : Member) × (slice_get (members_of groups 
 abbrev pub moved_to : Flat → ℕ → ℕ → Member → Flat
 moved_to F g k to = record F { groups = with_group F.groups g (swapped_in (group_at F.groups g) k to) }
 
--- the state with one drive more, which is lost or not and has failed so often
-abbrev pub with_new_drive : Flat → Bool → ℕ → Flat
+-- the state with one drive more, which is lost or not, has failed so often, and is steady or not
+abbrev pub with_new_drive : Flat → Bool → Failures → Flat
 with_new_drive F lost failures = record F {
   drives = F.drives + 1;
   lost = put F.lost F.drives lost;
   failures = put F.failures F.drives failures;
 }
+
+-- the state in which a drive has a fuse: it may fail from now on, unless it is lost; nothing else differs
+abbrev pub with_fuse : Flat → ℕ → Flat
+with_fuse F drive = record F { failures = put F.failures drive (fused (F.lost drive) (F.failures drive)) }

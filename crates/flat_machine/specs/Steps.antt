@@ -22,10 +22,10 @@ pub data FlatStep : Type 0 where
   AddDrive : FlatStep
   Lose : ℕ → FlatStep
 
--- what is read of a block: its version and content
+-- what is read of a block: its version and payload
 pub record Version : Type 0 where
   pub version : ℕ
-  pub content : Content
+  pub payload : List ℕ
 
 -- what is seen at a record's place: the content that lies there under exactly that record, or the record found in its stead,
 -- none where the header is blank or the place is in no group

@@ -1,9 +1,8 @@
 -- What the header of a slot tells, by the slot's unit.
-use Rattle.std.proofs.Common.{◌≡◌, ℕ, Option, Some, None, List, take, subst}
+use Rattle.std.proofs.Common.{◌≡◌, ℕ, Option, Some, List, take, subst}
 use Rattle.std.specs.Prelude.{Result, Ok, Err, IfOk, IfErr}
 use Rattle.map_join.specs.declared.records.Record.{Record}
 use Rattle.extents.specs.declared.header.Header.{Header}
-use Rattle.extents.specs.declared.header.Header.TheVariants.{Blank, Is}
 use Rattle.extents.specs.declared.header.HeaderFault.{HeaderFault}
 use Rattle.extents.specs.Header.{Spells, record_in}
 use Rattle.header_scan.specs.declared.fault.ScanFault.{ScanFault}
@@ -20,18 +19,13 @@ tells blocks slot bytes unit told (Ok o) at header ranges fine =
     (unit, at, subst (λ t. IfOk t (Told unit)) fine.0 header, fine.1, subst (λ t. IfOk t IsRanged) fine.0 ranges)
 tells blocks slot bytes unit told (Err e) at header ranges fine = tt
 
--- a header that tells a record is that record's
-is_record : (bytes : List ℕ) (h : Header) (r : Record) → Spells bytes h → record_in h ≡ Some r → Spells bytes (Is r)
-is_record bytes Blank r told e = absurd (let both : None ≡ Some r = e in cc)
-is_record bytes (Is q) r told e = let same : q ≡ r = cc in subst (λ x. Spells bytes (Is x)) same told
-
 misfit : (blocks slot : ℕ) (bytes left : Bytes) (unit : List ℕ) (told : Result (Option Record) HeaderFault) (fault : ScanFault) → bytes slot ≡ Some unit → IfOk told (Told unit)
     → ((h : Header) → Spells (take 32 unit) h → told ≡ Ok (record_in h)) → IsMisfit told blocks slot fault → IsFaultAt blocks bytes left slot fault
 misfit blocks slot bytes left unit (Err f) (BadHeader s) at header only is = (is, (unit, at, λ h spells. absurd (let both : Err f ≡ Ok (record_in h) = only h spells in cc)))
 misfit blocks slot bytes left unit (Ok (Some r)) (BadHeader s) at header only is =
     (is.0, (unit, at, λ h spells. (r, (let both : Ok (Some r) ≡ Ok (record_in h) = only h spells in cc), is.1)))
 misfit blocks slot bytes left unit (Ok (Some r)) (WrongSlot s t) at header only is =
-    (is.0, is.1, (r, (unit, at, is_record (take 32 unit) header.0 r header.1 header.2), is.2, is.3))
+    (is.0, is.1, (r, (unit, at, header), is.2, is.3))
 misfit blocks slot bytes left unit told fault at header only is = absurd is
 
 pub misfits : (blocks slot : ℕ) (bytes left : Bytes) (unit : List ℕ) (told : Result (Option Record) HeaderFault) (result : Result (Option Record) ScanFault) → bytes slot ≡ Some unit → IfOk told (Told unit)

@@ -1,5 +1,6 @@
 -- An array that is put together of what a scan left of parts stands for the state made anew.
 use Rattle.std.proofs.Common.{◌≡◌, ℕ, ◌^◌, Bool, false, List, [], length, is_some, refl, sym, ap, ◌∙◌, subst, Option, None}
+use Rattle.extents.specs.Failures.{Failures}
 use Rattle.map_join.specs.Maps.{IsListOf}
 use Rattle.extent_groups.specs.Cells.{Cells}
 use Rattle.extent_groups.specs.Stores.{unit_of, AreSound}
@@ -29,7 +30,7 @@ use Rattle.header_scan.proofs.Telling.{scan_tells, scan_units}
 abbrev fared : Flat → PartsView → Flat
 fared F v = record F { lost = lost_of v; failures = failed_of v }
 
-module _ {D : Type 0} (units : D → List (List ℕ)) (lost : D → Bool) (failures : D → ℕ) (p q : Parts D) (fit : IsFit units p) where
+module _ {D : Type 0} (units : D → List (List ℕ)) (lost : D → Bool) (failures : D → Failures) (p q : Parts D) (fit : IsFit units p) where
   abbrev v : PartsView
   v = view_of units lost failures p
 

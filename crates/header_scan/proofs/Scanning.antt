@@ -81,19 +81,21 @@ pub told_record : (blocks : ℕ) (bytes : Bytes) (slot : ℕ) (told : Option Rec
 told_record blocks bytes slot told r tells h =
     let same : tells.0 ≡ h.0 = same_Some _ _ (sym tells.1 ∙ h.1) in
     let spelled : Spells (take 32 h.0) tells.2.0 = subst (λ u. Spells (take 32 u) tells.2.0) same tells.2.1 in
-    sym tells.2.2 ∙ ap record_in (one_header (take 32 h.0) tells.2.0 (Is r) spelled h.2)
+    sym tells.2.2 ∙ ap record_in (one_header (take 32 h.0) tells.2.0 h.2.0 spelled h.2.1) ∙ h.2.2
 
 -- and where it tells a record, it has that header
 pub told_header : (blocks : ℕ) (bytes : Bytes) (slot : ℕ) (r : Record) → Tells blocks bytes slot (Some r) → HasHeader bytes slot r
-told_header blocks bytes slot r tells = (tells.0, tells.1, is_record (take 32 tells.0) tells.2.0 r tells.2.1 tells.2.2) where
-  is_record : (b : List ℕ) (h : Header) (r : Record) → Spells b h → record_in h ≡ Some r → Spells b (Is r)
-  is_record b Blank r told e = absurd (let both : None ≡ Some r = e in cc)
-  is_record b (Is q) r told e = let same : q ≡ r = cc in subst (λ x. Spells b (Is x)) same told
+told_header blocks bytes slot r tells = (tells.0, tells.1, (tells.2.0, tells.2.1, tells.2.2))
+
+-- a record that a header tells was written: it has a version
+told_written : (b : List ℕ) (h : Header) (r : Record) → Spells b h → record_in h ≡ Some r → 0 < r.version
+told_written b Blank r told e = absurd (let both : None ≡ Some r = e in cc)
+told_written b (Is q k) r told e = subst (λ (x : Record). 0 < x.version) (same_Some q r e) told.0.written
 
 -- a stamp of a header has a version
 pub great_stamp : (bytes : Bytes) (block slot st : ℕ) → HasStamp bytes block slot st → 2 ^ 16 ≤ st
 great_stamp bytes block slot st h =
-    let written = h.1.2.written in
+    let written = told_written (take 32 h.1.0) h.1.2.0 h.0 h.1.2.1 h.1.2.2 in
     let is = h.3 in
     omega (arith, written, is)
 

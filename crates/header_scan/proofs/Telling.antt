@@ -6,7 +6,6 @@ use Rattle.std.proofs.lemmas.List.{length-drop}
 use Rattle.std.proofs.lemmas.Option.{same_Some, none-some, slice_get_past}
 use Rattle.map_join.specs.declared.records.Record.{Record}
 use Rattle.map_join.specs.Record.{key_of, record_of, stamp_of, stamp_in}
-use Rattle.extents.specs.declared.header.Header.TheVariants.{Is}
 use Rattle.extents.specs.Header.{Spells, record_in}
 use Rattle.extents.proofs.Headers.{one_header}
 use Rattle.extent_groups.specs.declared.place.Place.{Place}
@@ -121,7 +120,7 @@ module _ (v : PartsView) (groups : AreGroups v.groups) (drives : AreDrives drive
         let told = own_told v.groups (cells_of v) 0 (2 ^ 16) slot r fine h in
         let w = told_header v.groups.blocks (bytes_of v) slot r told in
         let shown = shows.shown slot w.0 w.1 in
-        (shown.0, ap units told.3.1 ∙ shown.1, ap record_in (shown_header w.0 shown.0 (Is r) shown.2 w.2))
+        (shown.0, ap units told.3.1 ∙ shown.1, ap record_in (shown_header w.0 shown.0 w.2.0 shown.2 w.2.1) ∙ w.2.2)
 
     -- a key's record stands in the header of its place
     key_there : (b : ℕ) → 0 < M b → (x : Content) × IsAt units (record_of b (M b)) x

@@ -6,7 +6,6 @@ use Rattle.map_join.specs.declared.records.Record.{Record}
 use Rattle.map_join.specs.Record.{key_of, record_of, stamp_of, stamp_in}
 use Rattle.map_join.specs.Maps.{Entries, at, IsMapOf}
 use Rattle.extents.specs.declared.header.Header.{Header}
-use Rattle.extents.specs.declared.header.Header.TheVariants.{Is}
 use Rattle.extents.specs.Header.{Spells, record_in}
 use Rattle.extent_groups.specs.Groups.{Groups}
 use Rattle.extent_groups.specs.Stores.{unit_of, AreSound}
@@ -70,7 +69,7 @@ module _ (a : ArrayView) (F : Flat) (whole : IsWhole a) (shows : ShowsArray a F)
   header_stands : (s : ℕ) (r : Record) → HasHeader (bytes_of a.parts) s r → IsHeaderOf (key_at a) s r × (r.block < a.parts.groups.blocks)
   header_stands s r h =
       let u = shows.units.shown s h.0 h.1 in
-      let header = ap record_in (shown_header h.0 u.0 (Is r) u.2 h.2) in
+      let header = ap record_in (shown_header h.0 u.0 h.2.0 u.2 h.2.1) ∙ h.2.2 in
       (own_map.header s u.0 r u.1 header, own_map.blocks s u.0 r u.1 header)
 
   -- no header is of a block past the last

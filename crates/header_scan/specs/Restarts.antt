@@ -1,5 +1,6 @@
 -- What a restart makes of parts and claims, and why it makes nothing of them.
 use Rattle.std.specs.Prelude.{◌≡◌, ℕ, ◌^◌, is_some, Bool, List}
+use Rattle.extents.specs.Failures.{Failures}
 use Rattle.extent_groups.specs.Stores.{unit_of, AreSound}
 use Rattle.array_parts.specs.declared.parts.Parts.{Parts}
 use Rattle.array_parts.specs.Losses.{LosesOnly}
@@ -36,7 +37,7 @@ pub record TellAll {D : Type 0} (units : D → List (List ℕ)) (lost : D → Bo
 
 -- an array was put together of what the scan left of parts, with the map that their headers tell; for every state whose groups,
 -- drives and units the parts are, it stands for that state made anew
-pub record WasMade {D : Type 0} (units : D → List (List ℕ)) (lost : D → Bool) (failures : D → ℕ) (parts : Parts D) (a : ArrayView) : Type 0 where
+pub record WasMade {D : Type 0} (units : D → List (List ℕ)) (lost : D → Bool) (failures : D → Failures) (parts : Parts D) (a : ArrayView) : Type 0 where
   pub left : Parts D
   pub keys : ℕ → ℕ
   pub loses : LosesOnly units lost failures parts left
@@ -46,7 +47,7 @@ pub record WasMade {D : Type 0} (units : D → List (List ℕ)) (lost : D → Bo
       → (G : Flat) × (H : Flat) × Leaves F G × IsRestarted G keys H × ShowsArray a H
 
 -- there is a state whose groups, drives and units the parts are, and the array stands for one in which nobody works
-pub record StandsForOne {D : Type 0} (units : D → List (List ℕ)) (lost : D → Bool) (failures : D → ℕ) (parts : Parts D) (a : ArrayView) : Type 0 where
+pub record StandsForOne {D : Type 0} (units : D → List (List ℕ)) (lost : D → Bool) (failures : D → Failures) (parts : Parts D) (a : ArrayView) : Type 0 where
   pub before : Flat
   pub has : HasParts (view_of units lost failures parts) before
   pub there : HasUnits before

@@ -1,10 +1,11 @@
 // Answers of a world as lines.
+use crate::payloads::payload_of;
 use crate::words::{NUMBERS, Words};
 use map_join::Record;
 use step_core::{Answer, At, Refusal};
 
-/// More than any byte: what a payload is told by whose bytes aren't all one.
-const MIXED: u32 = 256;
+/// Above all bytes: stands for a payload that no number names.
+const NO_NUMBER: u32 = 256;
 
 /// Whether an answer is the one that a line spells.
 pub(crate) fn is_answer(wanted: &Words<'_>, answer: &Answer) -> bool {
@@ -34,9 +35,10 @@ fn told(answer: &Answer) -> (&'static str, [u32; NUMBERS]) {
         Answer::Committed(record) => ("record", numbers_of(*record)),
         Answer::Read(None) => ("none", [0; NUMBERS]),
         Answer::Read(Some((version, payload))) => {
-            ("data", [*version, byte_of(payload), 0, 0, 0, 0, 0, 0])
+            ("data", [*version, number_of(payload), 0, 0, 0, 0, 0, 0])
         }
-        Answer::Found(At::Data(payload)) => ("data", [byte_of(payload), 0, 0, 0, 0, 0, 0, 0]),
+        Answer::Found(At::Data(payload)) => ("data", [number_of(payload), 0, 0, 0, 0, 0, 0, 0]),
+        Answer::Found(At::Trimmed) => ("trimmed", [0; NUMBERS]),
         Answer::Found(At::Stale(None)) => ("stale", [0; NUMBERS]),
         Answer::Found(At::Stale(Some(record))) => ("stale", numbers_of(*record)),
         Answer::Made(group) => ("made", one(*group)),
@@ -76,10 +78,10 @@ fn refused(refusal: &Refusal) -> [u32; NUMBERS] {
     [number, block, version, hop, place, 0, 0, 0]
 }
 
-// The byte that all eight are.
-fn byte_of(payload: &[u8]) -> u32 {
+// The number that names the payload.
+fn number_of(payload: &[u8]) -> u32 {
     match payload.first() {
-        Some(first) if payload == [*first; 8].as_slice() => u32::from(*first),
-        _ => MIXED,
+        Some(first) if payload == payload_of(*first).as_slice() => u32::from(*first),
+        _ => NO_NUMBER,
     }
 }

@@ -28,18 +28,24 @@ pub(crate) fn read_case(alloc: Global, text: &str) -> Result<Case<'_>, Trouble> 
     let (before, behind) = lines.split_once("--\n").unwrap_or(("", lines));
     Ok(Case {
         sizes: words_of(sizes)?,
-        before: part_of(alloc, before)?,
-        behind: part_of(alloc, behind)?,
+        before: steps_of(alloc, before.lines())?,
+        behind: steps_of(alloc, behind.lines())?,
     })
 }
 
-fn part_of(alloc: Global, lines: &str) -> Result<Part<'_>, Trouble> {
+/// The steps of some lines, each with its answer; a line without a character is none.
+pub(crate) fn steps_of<'a, L: Iterator<Item = &'a str>>(
+    alloc: Global,
+    lines: L,
+) -> Result<Part<'a>, Trouble> {
     let mut part = Part {
         steps: Vec::new(alloc),
         wanted: Vec::new(alloc),
     };
-    for line in lines.lines() {
-        push(alloc, &mut part, line)?;
+    for line in lines {
+        if line != "" {
+            push(alloc, &mut part, line)?;
+        }
     }
     Ok(part)
 }

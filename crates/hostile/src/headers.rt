@@ -1,5 +1,6 @@
-// Units of bytes by chance, and of a header with a bit that is wrong, as a scan tells them and as a plain walk does.
+// Units of random bytes, and of headers with one bit flipped: what a scan answers is what a plain walk over bytes does.
 use crate::noise::Noise;
+use crate::payloads::payload_of;
 use crate::slots::Slots;
 use crate::trouble::Trouble;
 use crate::walk::walk;
@@ -13,6 +14,10 @@ const PLACES: u32 = 14;
 const BLOCKS: u32 = 16;
 
 const BITS: usize = 256;
+
+/// The mark's last byte and the kind's byte of a header: of the layout that is read alone, and of data and a trim in the
+/// other.
+const FORMS: [[u8; 2]; 3] = [[0x31, 0], [0x32, 0], [0x32, 1]];
 
 /// How many scans there were, and how many of them told a map and each fault.
 #[derive(Drop)]
@@ -62,7 +67,7 @@ fn scan_once(
     put(alloc, slots, counts, at, header, payload(noise))
 }
 
-/// Each bit of a header in each slot is the other way once.
+/// Flips each bit of a header of each form in each slot.
 pub(crate) fn flips(alloc: Global) -> Result<Headers, Trouble> {
     let mut slots = Slots::new(alloc)?;
     let mut counts = no_scans();
@@ -78,9 +83,11 @@ fn flip_each(
     counts: &mut Headers,
     at: usize,
 ) -> Result<(), Trouble> {
-    let sound = spell(3, 1, 0, slot_at(slots, at));
-    for bit in 0..BITS {
-        put(alloc, slots, counts, at, flipped(sound, bit), [7; 8])?;
+    for form in FORMS {
+        let sound = spell(form, 3, 1, 0, slot_at(slots, at));
+        for bit in 0..BITS {
+            put(alloc, slots, counts, at, flipped(sound, bit), payload_of(7))?;
+        }
     }
     slots.put(at, [0; 32], [0; 8])
 }
@@ -156,7 +163,7 @@ fn bytes(noise: &mut Noise) -> [u8; 32] {
 }
 
 fn payload(noise: &mut Noise) -> [u8; 8] {
-    [noise.byte(); 8]
+    payload_of(noise.byte())
 }
 
 // A header of a record of the slot; one of three is blank, and one of some twenty of another slot or of a block too many.
@@ -166,17 +173,19 @@ fn header(noise: &mut Noise, slot: u16) -> [u8; 32] {
     }
     let version = noise.below(6).saturating_add(1);
     let hop = u16::from(noise.byte() % 2);
+    let form = FORMS[noise.below(3) as usize % FORMS.len()];
     match noise.below(40) {
-        0 => spell(BLOCKS, version, hop, slot),
-        1 => spell(3, version, hop, slot ^ 1),
-        _ => spell(noise.below(BLOCKS), version, hop, slot),
+        0 => spell(form, BLOCKS, version, hop, slot),
+        1 => spell(form, 3, version, hop, slot ^ 1),
+        _ => spell(form, noise.below(BLOCKS), version, hop, slot),
     }
 }
 
-// A record's header: four fixed bytes, the record's numbers with the highest byte first, and sixteen zeros.
-fn spell(block: u32, version: u32, hop: u16, slot: u16) -> [u8; 32] {
+// A record's header: the mark, the record's numbers with the highest byte first, the kind's byte and fifteen zeros.
+fn spell(form: [u8; 2], block: u32, version: u32, hop: u16, slot: u16) -> [u8; 32] {
     let mut header = [0; 32];
-    header[..4].copy_from_slice(&[0x52, 0x42, 0x48, 0x31]);
+    header[..4].copy_from_slice(&[0x52, 0x42, 0x48, form[0]]);
+    header[16] = form[1];
     header[4..8].copy_from_slice(&block.to_be_bytes());
     header[8..12].copy_from_slice(&version.to_be_bytes());
     header[12..14].copy_from_slice(&hop.to_be_bytes());

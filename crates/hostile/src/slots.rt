@@ -12,10 +12,10 @@ use crate::trouble::Trouble;
 use crate::walk::Placed;
 use array_parts::Parts;
 use extent_groups::{GroupTable, SLOTS};
-use header_scan::{ScanFault, scan};
+use header_scan::{ScanFault, restart, scan};
 use map_join::BlockMap;
 use std::alloc::{AllocError, Global};
-use step_core::{MemDrive, World};
+use step_core::{MemDrive, Plain, World};
 
 /// Slots 0 to 5 are mirrored, slots 128 to 135 have parity.
 const GROUPS: &str =
@@ -83,13 +83,7 @@ fn unit_of(header: [u8; 32], payload: [u8; 8]) -> [u8; UNIT] {
 impl Slots {
     /// Blank slots.
     pub(crate) fn new(alloc: Global) -> Result<Slots, Trouble> {
-        let Ok((parts, _claims)) = grouped(alloc)?.into_array().into_parts(alloc) else {
-            return Err(Trouble::Memory);
-        };
-        Ok(Slots {
-            parts,
-            placed: blank(alloc)?,
-        })
+        Slots::of(alloc, grouped(alloc)?)
     }
 
     // Whether the parts fit, and units have their length.
@@ -105,6 +99,70 @@ impl Slots {
         let place = self.placed.get_mut(at)?;
         place.1 = header;
         Some(place.0)
+    }
+
+    /// The drives of a world that has the two groups.
+    pub(crate) fn of(alloc: Global, world: World) -> Result<Slots, Trouble> {
+        let Ok((parts, _claims)) = world.into_array().into_parts(alloc) else {
+            return Err(Trouble::Memory);
+        };
+        Ok(Slots {
+            parts,
+            placed: blank(alloc)?,
+        })
+    }
+
+    /// Loses a drive.
+    pub(crate) fn lose(&mut self, drive: u8) -> Result<(), Trouble> {
+        if usize::from(drive) >= self.parts.drives.len() {
+            return Err(Trouble::Input);
+        }
+        self.parts.lose(drive);
+        Ok(())
+    }
+
+    /// Writes a header and a payload to a slot.
+    pub(crate) fn put_at(
+        &mut self,
+        slot: u16,
+        header: [u8; 32],
+        payload: [u8; 8],
+    ) -> Result<(), Trouble> {
+        match self.placed.iter().position(|placed| placed.0 == slot) {
+            Some(at) => self.put(at, header, payload),
+            None => Err(Trouble::Input),
+        }
+    }
+
+    /// The unit of a slot.
+    pub(crate) fn unit(&mut self, slot: u16) -> Result<[u8; UNIT], Trouble> {
+        if !self.is_ready() || !is_slot(&self.parts.groups, slot) {
+            return Err(Trouble::Input);
+        }
+        let mut unit = [0; UNIT];
+        match self.parts.read(slot, &mut unit, &mut [0; TWO_UNITS]) {
+            Ok(()) => Ok(unit),
+            Err(_) => Err(Trouble::Wrong),
+        }
+    }
+
+    /// A world of the array that is restarted over these drives, with a claim of each slot; or the restart's fault.
+    pub(crate) fn restart(self, alloc: Global) -> Result<Result<World, ScanFault>, Trouble> {
+        let mut claims = Vec::new(alloc);
+        for placed in &self.placed {
+            claims.push(Plain { slot: placed.0 })?;
+        }
+        if !are_fit(&self.parts) {
+            return Err(Trouble::Input);
+        }
+        match restart(alloc, self.parts, claims) {
+            Ok((array, _others)) => match World::of(alloc, array) {
+                Ok(world) => Ok(Ok(world)),
+                Err(_) => Err(Trouble::Memory),
+            },
+            Err((ScanFault::Memory, _, _)) => Err(Trouble::Memory),
+            Err((fault, _, _)) => Ok(Err(fault)),
+        }
     }
 
     /// Writes a header and a payload to one of the slots, counted from 0.

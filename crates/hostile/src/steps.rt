@@ -1,4 +1,5 @@
-// Steps of a world as lines. A payload has eight bytes, and is told by the one that they all are.
+// Steps of a world as lines. A payload has eight bytes, and is named by a number.
+use crate::payloads::payload_of;
 use crate::trouble::Trouble;
 use crate::words::{Words, byte, short};
 use map_join::Record;
@@ -8,7 +9,7 @@ use step_core::{Class, Member, Step};
 /// The step that a line spells.
 pub(crate) fn step(alloc: Global, line: &Words<'_>) -> Result<Step, Trouble> {
     match line.verb {
-        "claim" | "release" | "fill" | "copy" | "commit" | "discard" | "unmake" => work(
+        "claim" | "release" | "fill" | "trim" | "copy" | "commit" | "discard" | "unmake" => work(
             alloc, line,
         ),
         "read" => Ok(Step::Read {
@@ -37,6 +38,7 @@ fn work(alloc: Global, line: &Words<'_>) -> Result<Step, Trouble> {
             slot,
             payload: payload(alloc, byte(block)?)?,
         }),
+        "trim" => Ok(Step::Trim { worker, slot }),
         "copy" => Ok(Step::Copy {
             worker,
             slot,
@@ -55,8 +57,8 @@ fn work(alloc: Global, line: &Words<'_>) -> Result<Step, Trouble> {
     }
 }
 
-fn payload(alloc: Global, byte: u8) -> Result<Vec<u8>, AllocError> {
-    [byte; 8].to_vec(alloc)
+fn payload(alloc: Global, number: u8) -> Result<Vec<u8>, AllocError> {
+    payload_of(number).to_vec(alloc)
 }
 
 fn found(line: &Words<'_>) -> Result<Step, Trouble> {

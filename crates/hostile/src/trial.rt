@@ -5,6 +5,8 @@ use crate::fuses::fuse_all;
 use crate::growths::run_case;
 use crate::headers::{Headers, flips, scan_noise};
 use crate::mutants::{mutant, run_mutants};
+use crate::rows::restart_all;
+use crate::spellings::spell_all;
 use crate::trouble::Trouble;
 use std::fs;
 use std::io::Write;
@@ -30,6 +32,8 @@ pub(crate) fn answer(rt: &HostRuntime, line: &str) -> Result<(), Trouble> {
             print_mutant(rt, seed, number(words.next())?, words.next())
         }
         "edges" => answer_edges(rt, words.next(), words.next()),
+        "spellings" => answer_spellings(rt, words.next()),
+        "restarts" => answer_restarts(rt, words.next()),
         _ => Err(Trouble::Input),
     }
 }
@@ -95,6 +99,28 @@ fn print_mutant(
     let script = fs::read(rt, named(file)?)?;
     let changed = mutant(rt.alloc(), seed, count, &script)?;
     rt.stdout().write_all(&changed)?;
+    Ok(())
+}
+
+fn answer_spellings(rt: &HostRuntime, file: Option<&str>) -> Result<(), Trouble> {
+    let file = named(file)?;
+    let text = fs::read_to_string(rt, file)?;
+    let counts = spell_all(text.as_str())?;
+    let (headers, bad) = (counts.headers, counts.bad);
+    println!(rt; "spellings {file}: {headers} headers, {bad} bad")?;
+    Ok(())
+}
+
+fn answer_restarts(rt: &HostRuntime, file: Option<&str>) -> Result<(), Trouble> {
+    let file = named(file)?;
+    let text = fs::read_to_string(rt, file)?;
+    let counts = restart_all(rt.alloc(), text.as_str())?;
+    let (rows, faults) = (counts.rows, counts.faults);
+    println!(rt; "restarts {file}: {rows} restarts, {faults} faults")?;
+    if let Some(row) = counts.differs {
+        println!(rt; "restarts {file}: row {row} differs")?;
+        return Err(Trouble::Wrong);
+    }
     Ok(())
 }
 

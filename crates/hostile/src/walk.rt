@@ -54,9 +54,11 @@ fn told(slot: u16, header: &[u8; 32], blocks: u32) -> Result<Option<Record>, Sca
     Ok(Some(record))
 }
 
-// The record that a header spells: four fixed bytes, the record's numbers, and sixteen zeros.
+// The record that a header spells: a mark, the record's numbers, in the second layout a kind, and zeros.
 fn spelled(header: &[u8; 32]) -> Option<Record> {
-    let is_ours = header[..4] == [0x52, 0x42, 0x48, 0x31] && header[16..] == [0; 16];
+    let is_first = header[..4] == [0x52, 0x42, 0x48, 0x31] && header[16] == 0;
+    let is_second = header[..4] == [0x52, 0x42, 0x48, 0x32] && header[16] <= 1;
+    let is_ours = (is_first || is_second) && header[17..] == [0; 15];
     let version = u32::from_be_bytes([header[8], header[9], header[10], header[11]]);
     if !is_ours || version == 0 {
         return None;

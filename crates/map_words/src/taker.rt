@@ -33,6 +33,15 @@ pub enum SplitRefusal {
     NoShare = 1,
 }
 
+impl SplitRefusal {
+    /// The refusal's number, 1.
+    pub fn number(self) -> u8
+        ensures { result ≡ 1 }
+    {
+        self as u8
+    }
+}
+
 /// Why a table was not closed.
 #[derive(Clone, Copy, Debug, PartialEq, Eq)]
 pub enum CloseRefusal {

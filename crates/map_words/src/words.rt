@@ -59,6 +59,15 @@ pub enum TableRefusal {
     Memory = 1,
 }
 
+impl TableRefusal {
+    /// The refusal's number, 1.
+    pub fn number(self) -> u8
+        ensures { result ≡ 1 }
+    {
+        self as u8
+    }
+}
+
 impl MapWords<Brand> {
     /// A table of so many blocks, of which nothing is taken, without a name.
     pub fn new(alloc: Global, blocks: u32) -> Result<Unnamed, TableRefusal>

@@ -1,6 +1,8 @@
 //! Reads and writes of mirrored slots: each lies in two copies, on two drives.
 #![tactic(auto)]
 
+mod planning;
+
 ghost use Rattle.std.specs.Prelude.{◌≡◌, ◌≢◌, ◌≤◌, ◌⊎◌, ◌+◌, ◌*◌, ◌/◌, ◌++◌, length, Some, OnOk, IfErr};
 ghost use Rattle.extent_groups.specs.declared.class.Class.TheVariants.{Mirrored};
 ghost use Rattle.extents.specs.declared.shape.TheConstants.{HEADER_BYTES};
@@ -11,6 +13,7 @@ ghost use Rattle.extent_groups.specs.Stores.{unit_bytes, unit_of, header_of, Are
 
 use extent_groups::{GroupTable, Place, StoreRefusal, read_front};
 use extents::Drive;
+pub use planning::plan;
 
 /// Reads the first bytes of a slot's effective unit, as many as the buffer has: of the first copy that is there; false
 /// where both are lost.

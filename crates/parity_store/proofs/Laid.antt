@@ -1,5 +1,6 @@
 -- Stripes that can be read and written.
 use Rattle.std.proofs.Common.{◌≡◌, ℕ, ◌<◌, ◌≤◌, Bool, List, length, sym, subst, arith}
+use Rattle.extents.specs.Failures.{Failures}
 use Rattle.extents.specs.Sizes.{extent_units}
 use Rattle.extent_groups.specs.declared.place.Place.{Place}
 use Rattle.extent_groups.specs.Groups.{Groups, members_of}
@@ -21,7 +22,7 @@ laid units groups drives group offset bytes are same inside = record {
 }
 
 -- and after a call
-pub still_laid : {D : Type 0} {units : D → List (List ℕ)} {lost : D → Bool} {failures : D → ℕ} {touched : Place → Type 0} {a b : List D} {groups : Groups} {group offset m n : ℕ}
+pub still_laid : {D : Type 0} {units : D → List (List ℕ)} {lost : D → Bool} {failures : D → Failures} {touched : Place → Type 0} {a b : List D} {groups : Groups} {group offset m n : ℕ}
     → KeepsDrives units lost failures touched a b → m ≡ n → IsLaid units groups group offset n a → IsLaid units groups group offset m b
 still_laid {units = units} {b = b} keeps same h = record {
   few = h.few;
@@ -46,7 +47,7 @@ pub laid_readable : {D : Type 0} {units : D → List (List ℕ)} {drives : List 
 laid_readable {units = units} {drives = drives} {m = m} {n = n} same h = record { few = h.few; low = h.low; row = h.row; fronts = have_fronts units m n drives (omega (arith, same)) h.size }
 
 -- and after reads
-pub still_readable : {D : Type 0} {units : D → List (List ℕ)} {lost : D → Bool} {failures : D → ℕ} {a b : List D} {groups : Groups} {group offset m n : ℕ}
+pub still_readable : {D : Type 0} {units : D → List (List ℕ)} {lost : D → Bool} {failures : D → Failures} {a b : List D} {groups : Groups} {group offset m n : ℕ}
     → KeepsDrives units lost failures NoPlace a b → m ≡ n → IsReadable units groups group offset n a → IsReadable units groups group offset m b
 still_readable {units = units} {b = b} keeps same h = record {
   few = h.few;

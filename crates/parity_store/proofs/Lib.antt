@@ -4,3 +4,4 @@ pub mod Laid
 pub mod Sums
 pub mod Whole
 pub mod Stripes
+pub mod Planning

@@ -53,7 +53,7 @@ row_beside : (c new : Cells) (row : List Place) (p i : ℕ) (home parity : Place
 row_beside c new row p i home parity h fades k ni np = member_beside c new row p i k home parity h ni np fades (slice_get row k) refl
 
 -- both written, or the unit alone
-differs_row : (c new : Cells) (row : List Place) (p i : ℕ) (home parity : Place) (u : List ℕ) → IsHome row p i home parity → Differs c new home parity u
+pub differs_row : (c new : Cells) (row : List Place) (p i : ℕ) (home parity : Place) (u : List ℕ) → IsHome row p i home parity → Differs c new home parity u
     → WritesRow (length u) (length row) (row_of c row) (row_of new row) i p u
 differs_row c new row p i home parity u h d = elim d.there [
   | inl gone ↦ data_alone (length u) (length row) i p (row_of c row) (row_of new row) u h.whole.0 h.whole.1 (λ e. h.whole.2 (sym e))
@@ -92,7 +92,7 @@ alone_leaves c one two row p i home parity u h sized sound undone w =
     (λ x never. fades_trans (held c x) (held one x) (held two x) (undone.fades x) (w.beside x (not_own row p i home parity x h never).0))
 
 -- what is gone stays gone
-stays_gone : (a b : Option (List ℕ)) → Fades a b → a ≡ None → b ≡ None
+pub stays_gone : (a b : Option (List ℕ)) → Fades a b → a ≡ None → b ≡ None
 stays_gone a b (inl same) e = same ∙ e
 stays_gone a b (inr gone) e = gone
 

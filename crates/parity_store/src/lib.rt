@@ -6,6 +6,7 @@ mod exclusive_or;
 mod others;
 mod parity;
 mod stripe;
+mod way;
 
 ghost use Rattle.std.specs.Prelude.{◌≡◌, ◌≤◌, ◌*◌, ◌/◌, length, Some, OnOk, IfErr};
 ghost use Rattle.extents.specs.declared.shape.TheConstants.{HEADER_BYTES};
@@ -18,6 +19,7 @@ pub use exclusive_or::xor_into;
 use extent_groups::{GroupTable, SLOTS, StoreRefusal};
 use extents::Drive;
 pub use parity::read_parity;
+pub use way::Way;
 
 // Reads the first bytes of a slot's effective unit, as many as the buffer has, with another buffer for each member's; false where the unit's drive and another member's are lost.
 fn read_fronts<D: Drive>(

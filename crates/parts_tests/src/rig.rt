@@ -11,7 +11,7 @@ ghost use Rattle.array_parts.specs.Slots.{IsSlot};
 
 use array_parts::{Parts, Sight};
 use extent_groups::{Class, GroupTable, Member, SLOTS, are_there, put_check};
-use extents::{Drive, ExtentTable, Header, MemDrive, Shape};
+use extents::{Drive, ExtentTable, Header, Kind, MemDrive, Shape};
 use flat_machine::Refusal;
 use header_scan::{ScanFault, restart, scan, scan_groups};
 use map_join::{BlockMap, Record};
@@ -224,7 +224,7 @@ impl Rig {
         assert!(rt; is_slot(&self.parts.groups, from));
         assert!(rt; is_slot(&self.parts.groups, to));
         assert!(rt; record.version > 0);
-        let header = Header::Is(record);
+        let header = Header::Is(record, Kind::Data);
         let carried = self
             .parts
             .carry(from, to, &header, &mut self.unit, &mut self.scratch);

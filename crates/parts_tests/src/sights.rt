@@ -1,6 +1,7 @@
 // What is seen at the places of records, and payloads read, in both classes: with all drives there, one lost, and two.
 use crate::rig::{Rig, is_all, record};
 use array_parts::Sight;
+use extents::Kind;
 use flat_machine::Refusal;
 use map_join::Record;
 use std::alloc::Global;
@@ -28,7 +29,7 @@ fn filled(rt: &impl Abort, alloc: Global) -> Rig {
 /// Whether exactly this record lies at its place, with a payload of this byte.
 fn sees(rt: &impl Abort, rig: &mut Rig, asked: Record, byte: u8) -> bool {
     rig.payload = [0; 8];
-    rig.see(rt, asked) == Ok(Sight::Data) && is_all(&rig.payload, byte)
+    rig.see(rt, asked) == Ok(Sight::Here(Kind::Data)) && is_all(&rig.payload, byte)
 }
 
 /// Whether another record lies at its place, or none.

@@ -1,11 +1,12 @@
 -- What each command answers, and the state after it.
 use Rattle.std.specs.Prelude.{◌≡◌, ℕ, nat_le, List, [], ◌∷◌, ◌++◌, codes, decimal, Option, Some, None}
+use Rattle.extents.specs.Failures.{no_failures}
 use Rattle.map_join.specs.declared.records.Record.{Record}
 use Rattle.map_join.specs.Record.{record_at}
 use Rattle.map_join.specs.Maps.{IsMapOf, IsListOf, IsDifference}
 use Rattle.extent_groups.specs.Groups.{Groups}
 use Rattle.flat_machine.specs.Groups.{IsEmpty}
-use Rattle.flat_machine.specs.Flat.{Flat, Payload, new_flat, put}
+use Rattle.flat_machine.specs.Flat.{Flat, Payload, Trim, new_flat, put}
 use Rattle.flat_machine.specs.Steps.{FlatStep, FlatAnswer}
 use Rattle.flat_machine.specs.Steps as s
 use Rattle.flat_machine.specs.Cases.{Case}
@@ -140,12 +141,12 @@ pub record AreNoGroups (groups : Groups) (extents segments payload blocks : ℕ)
   pub of_blocks : groups.blocks ≡ blocks
   pub empty : IsEmpty groups
 
--- a new array: none of its drives is lost, and none has failed
+-- a new array: none of its drives is lost, none has failed, and all are steady
 pub record Begins (drives extents segments payload blocks : ℕ) (text : List ℕ) (t : State) : Type 0 where
   pub groups : Groups
   pub none : AreNoGroups groups extents segments payload blocks
   pub text_is : text ≡ codes "array"
-  pub state_is : t ≡ Some (record { tiers = begun (new_flat groups drives (nat_le drives) (λ _. 0)); taken = nothing_taken })
+  pub state_is : t ≡ Some (record { tiers = begun (new_flat groups drives (nat_le drives) (λ _. no_failures)); taken = nothing_taken })
 
 -- the members that a command names
 abbrev pub members_named : List Named → List Member
@@ -176,6 +177,7 @@ Answers (Some P) o.Log text t = ShowsLog P.tiers.flat text × (t ≡ Some P)
 Answers (Some P) o.Scan text t = Scans P text t
 Answers (Some P) o.Restart text t = Restarts P text t
 Answers (Some P) (o.Write worker block payload) text t = TierSteps P (tier.Write worker block (Payload payload)) text t
+Answers (Some P) (o.Trim worker block) text t = TierSteps P (tier.Write worker block Trim) text t
 Answers (Some P) (o.Demote worker) text t = TierSteps P (tier.Demote worker) text t
 Answers (Some P) (o.Plug worker) text t = TierSteps P (tier.Plug worker) text t
 Answers (Some P) (o.Clean worker) text t = TierSteps P (tier.Clean worker) text t

@@ -3,7 +3,7 @@ use Rattle.std.specs.Prelude.{ℕ, List, [], ◌∷◌, ◌++◌, length, codes,
 use Rattle.hex.specs.Hex.{encode_lower}
 use Rattle.map_join.specs.declared.records.Record.{Record}
 use Rattle.map_join.specs.Record.{bytes_of}
-use Rattle.flat_machine.specs.Flat.{Content, Payload}
+use Rattle.flat_machine.specs.Flat.{Content, Payload, Trim}
 use Rattle.flat_machine.specs.Steps.{Version, Seen, FlatStep, FlatAnswer}
 use Rattle.flat_machine.specs.Steps as s
 use Rattle.flat_machine.specs.Numbers.{number_of}
@@ -41,13 +41,14 @@ detail _ = []
 abbrev pub data_text : ℕ → List ℕ → List ℕ
 data_text version payload = codes "data " ++ (decimal version ++ (codes " " ++ encode_lower payload))
 
--- a version and its content
+-- a version and its content, or that it trimmed the block
 abbrev pub content_text : ℕ → Content → List ℕ
 content_text version (Payload payload) = data_text version payload
+content_text version Trim = codes "trimmed " ++ decimal version
 
 -- what is read of a block
 abbrev pub found_text : Option Version → List ℕ
-found_text (Some found) = content_text found.version found.content
+found_text (Some found) = data_text found.version found.payload
 found_text None = codes "none"
 
 -- a header in decimal numbers: block, version, hop and slot

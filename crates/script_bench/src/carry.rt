@@ -45,7 +45,7 @@ pub fn is_in_range(command: &Command, blocks: u32) -> bool
         }
         Verb::Read => first < u64::from(blocks),
         Verb::At => command.record.block < blocks,
-        Verb::Write => first <= LAST_WORKER && second < u64::from(blocks),
+        Verb::Write | Verb::Trim => first <= LAST_WORKER && second < u64::from(blocks),
         Verb::Demote | Verb::Plug | Verb::Clean => first <= LAST_WORKER,
         Verb::Take => first <= LAST_MAP && command.record.block < blocks,
         Verb::Merge | Verb::Same => first <= LAST_MAP && second <= LAST_MAP,
@@ -97,6 +97,7 @@ pub fn carry_out(
         Verb::Log => log(alloc, bench, out),
         Verb::Scan => scan(alloc, bench, out),
         Verb::Write => write(alloc, bench, first as u8, second as u32, payload, out),
+        Verb::Trim => trim(alloc, bench, first as u8, second as u32, out),
         Verb::Demote => demote(alloc, bench, first as u8, out),
         Verb::Plug => plug(alloc, bench, first as u8, out),
         Verb::Clean => clean(alloc, bench, first as u8, out),
@@ -291,6 +292,21 @@ fn write(
     ensures kept { IsPrefix out.old.items out.new.items }
 {
     let outcome = bench.tiers.write(alloc, worker, block, payload)?;
+    put_outcome(out, outcome)
+}
+
+fn trim(
+    alloc: Global,
+    bench: &mut Bench,
+    worker: u8,
+    block: u32,
+    out: &mut Vec<u8>,
+) -> Result<(), AllocError>
+    requires { block < bench.old.tiers.world.array.parts.groups.blocks }
+    ensures carried { OnOk result (Carries bench.old bench.new (o.Trim worker block) out.old.items out.new.items) }
+    ensures kept { IsPrefix out.old.items out.new.items }
+{
+    let outcome = bench.tiers.trim(alloc, worker, block)?;
     put_outcome(out, outcome)
 }
 

@@ -145,6 +145,7 @@ fn put_seen(out: &mut Vec<u8>, version: u32, seen: &At) -> Result<(), AllocError
 {
     match seen {
         At::Data(payload) => put_data(out, version, payload),
+        At::Trimmed => put_numbered(out, b"trimmed ", u64::from(version)),
         At::Stale(Some(header)) => put_header(out, header),
         At::Stale(None) => put(out, b"stale none"),
     }

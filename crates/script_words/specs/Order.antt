@@ -26,6 +26,7 @@ pub data Order : Type 0 where
   Read : ℕ → Order
   At : Record → Order
   Write : ℕ → ℕ → List ℕ → Order
+  Trim : ℕ → ℕ → Order
   Demote : ℕ → Order
   Plug : ℕ → Order
   Clean : ℕ → Order
@@ -99,6 +100,7 @@ word_of verb.Discard = codes "discard"
 word_of verb.Read = codes "read"
 word_of verb.At = codes "at"
 word_of verb.Write = codes "write"
+word_of verb.Trim = codes "trim"
 word_of verb.Demote = codes "demote"
 word_of verb.Plug = codes "plug"
 word_of verb.Clean = codes "clean"
@@ -117,7 +119,7 @@ word_of verb.Lose = codes "lose"
 
 -- every verb
 abbrev pub all_verbs : List Verb
-all_verbs = verb.Array ∷ verb.Make ∷ verb.Unmake ∷ verb.Claim ∷ verb.Release ∷ verb.Fill ∷ verb.Copy ∷ verb.Commit ∷ verb.Discard ∷ verb.Read ∷ verb.At ∷ verb.Write ∷ verb.Demote ∷ verb.Plug ∷ verb.Clean ∷ verb.Take ∷ verb.Merge ∷ verb.Same ∷ verb.Show ∷ verb.Map ∷ verb.Log ∷ verb.Scan ∷ verb.Restart ∷ verb.Add ∷ verb.Balance ∷ verb.Rebuild ∷ verb.Lose ∷ []
+all_verbs = verb.Array ∷ verb.Make ∷ verb.Unmake ∷ verb.Claim ∷ verb.Release ∷ verb.Fill ∷ verb.Copy ∷ verb.Commit ∷ verb.Discard ∷ verb.Read ∷ verb.At ∷ verb.Write ∷ verb.Trim ∷ verb.Demote ∷ verb.Plug ∷ verb.Clean ∷ verb.Take ∷ verb.Merge ∷ verb.Same ∷ verb.Show ∷ verb.Map ∷ verb.Log ∷ verb.Scan ∷ verb.Restart ∷ verb.Add ∷ verb.Balance ∷ verb.Rebuild ∷ verb.Lose ∷ []
 
 -- how each command is written: a row of the table
 abbrev pub shape : Order → Shape
@@ -134,6 +136,7 @@ shape (Discard w s) = form verb.Discard (worker w ∷ slot s ∷ []) Nothing
 shape (Read b) = form verb.Read (block b ∷ []) Nothing
 shape (At r) = form verb.At [] (Told r)
 shape (Write w b payload) = form verb.Write (worker w ∷ block b ∷ []) (Content payload)
+shape (Trim w b) = form verb.Trim (worker w ∷ block b ∷ []) Nothing
 shape (Demote w) = form verb.Demote (worker w ∷ []) Nothing
 shape (Plug w) = form verb.Plug (worker w ∷ []) Nothing
 shape (Clean w) = form verb.Clean (worker w ∷ []) Nothing
@@ -177,6 +180,7 @@ ordered verb.Discard n r payload level members = Discard (n 0) (n 1)
 ordered verb.Read n r payload level members = Read (n 0)
 ordered verb.At n r payload level members = At r
 ordered verb.Write n r payload level members = Write (n 0) (n 1) payload
+ordered verb.Trim n r payload level members = Trim (n 0) (n 1)
 ordered verb.Demote n r payload level members = Demote (n 0)
 ordered verb.Plug n r payload level members = Plug (n 0)
 ordered verb.Clean n r payload level members = Clean (n 0)

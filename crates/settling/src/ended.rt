@@ -1,4 +1,4 @@
-// What workers give back when they have ended, and all of it joined.
+// What workers return when they have ended, and all of it joined.
 ghost use Rattle.std.specs.Prelude.{◌≡◌, ◌+◌, ◌++◌, ◌∷◌, [], IfSome, IfNone, map};
 ghost use Rattle.settling.specs.Settling.{taken_by, shares_of};
 ghost use Rattle.settling.specs.Passes.{joined};
@@ -6,7 +6,7 @@ ghost use Rattle.settling.specs.Passes.{joined};
 use map_words::{MapWords, Taker};
 use slot_words::{Pass, SlotWords};
 
-/// What a worker gives back.
+/// What a worker returns.
 #[derive(Drop)]
 pub struct Ended<N: slot_words::Naming, A: map_words::Naming, B: map_words::Naming> {
     pub pass: Pass<N>,

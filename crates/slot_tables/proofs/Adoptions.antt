@@ -105,7 +105,7 @@ none_left {C} names claims M a (c ∷ left) of placed shared = absurd (go (kept_
 
     go : (kept : Kept) → IsPlaced M (names c) kept → how_many names claims (names c) ≡ claims_in kept + how_many names (c ∷ left) (names c) → ⊥
     go Nothing none e = let o = of.only (names c) (let h = here in omega (arith, h, e)) in none o.0 o.1 o.2
-    go Pending no_place e = no_place
-    go (Moving r) no_place e = no_place
+    go (Pending k) no_place e = no_place
+    go (Moving r k) no_place e = no_place
     go (Newest b) at e = let one = subst (λ n. how_many names claims n ≡ 1) at.1 (of.one b at.0) in let h = here in omega (arith, h, e, one)
     go Unmade no_place e = no_place

@@ -177,8 +177,8 @@ more_below kept group index count k is before =
 -- a slot that waits is no newest place
 pub waiting_other : (kept : Kept) → is_waiting kept ≡ true → is_newest kept ≡ false
 waiting_other Nothing waits = refl
-waiting_other Pending waits = refl
-waiting_other (Moving r) waits = refl
+waiting_other (Pending k) waits = refl
+waiting_other (Moving r k) waits = refl
 waiting_other (Newest b) waits = sym waits
 waiting_other Unmade waits = refl
 
@@ -203,8 +203,8 @@ counts_opened group kept after live opened = counts_alike kept after live (λ sl
   where
     alike : (k : Kept) → is_newest (opened_of k) ≡ is_newest k
     alike Nothing = refl
-    alike Pending = refl
-    alike (Moving r) = refl
+    alike (Pending k) = refl
+    alike (Moving r k) = refl
     alike (Newest b) = refl
     alike Unmade = refl
 

@@ -152,15 +152,15 @@ none_open {C} names g old (c ∷ claims) none = absurd (omega (arith, none))
 -- what a number's slot gives away
 shut_opened : (g slot : ℕ) (kept : Kept) → shut_of g slot (opened_of kept) ≡ 0
 shut_opened g slot Nothing = refl
-shut_opened g slot Pending = refl
-shut_opened g slot (Moving r) = refl
+shut_opened g slot (Pending k) = refl
+shut_opened g slot (Moving r k) = refl
 shut_opened g slot (Newest b) = refl
 shut_opened g slot Unmade = refl
 
 shut_else : (g slot : ℕ) (kept : Kept) → (kept ≡ Unmade → ⊥) → shut_of g slot kept ≡ 0
 shut_else g slot Nothing other = refl
-shut_else g slot Pending other = refl
-shut_else g slot (Moving r) other = refl
+shut_else g slot (Pending k) other = refl
+shut_else g slot (Moving r k) other = refl
 shut_else g slot (Newest b) other = refl
 shut_else g slot Unmade other = absurd (other refl)
 
@@ -263,8 +263,8 @@ all_taken names g old now claims done slot = go (is_first g 128 slot) refl
   where
     none_shut : (kept : Kept) → (slot / 128 ≡ g → ⊥) → shut_of g slot kept ≡ 0
     none_shut Nothing ne = refl
-    none_shut Pending ne = refl
-    none_shut (Moving r) ne = refl
+    none_shut (Pending k) ne = refl
+    none_shut (Moving r k) ne = refl
     none_shut (Newest b) ne = refl
     none_shut Unmade ne = ap (λ b. cond b 1 0) (unequal g (slot / 128) (λ e. ne (sym e)))
       where
@@ -478,8 +478,8 @@ given_of {C} names a g count i claims marks low each marked free = (above (how_m
 
     unkept : (kept : Kept) → is_kept kept ≡ false → kept ≡ Nothing
     unkept Nothing e = refl
-    unkept Pending e = absurd (cc)
-    unkept (Moving r) e = absurd (cc)
+    unkept (Pending k) e = absurd (cc)
+    unkept (Moving r k) e = absurd (cc)
     unkept (Newest b) e = absurd (cc)
     unkept Unmade e = absurd (cc)
 

@@ -5,8 +5,8 @@ use Rattle.array_model.specs.Views.{Kept, Nothing, Pending, Moving, Newest, Unma
 -- a slot of which this is kept is a block's newest place
 abbrev pub is_newest : Kept → Bool
 is_newest Nothing = false
-is_newest Pending = false
-is_newest (Moving r) = false
+is_newest (Pending k) = false
+is_newest (Moving r k) = false
 is_newest (Newest block) = true
 is_newest Unmade = false
 

@@ -8,16 +8,16 @@ use Rattle.slot_tables.specs.declared.place.Place.TheVariants as place
 -- a place without its claim
 abbrev pub kept_of : {C : Type 0} → Place C → Kept
 kept_of place.Free = Nothing
-kept_of (place.Pending claim) = Pending
-kept_of (place.Moving r claim) = Moving r
+kept_of (place.Pending k claim) = Pending k
+kept_of (place.Moving r k claim) = Moving r k
 kept_of (place.Newest block claim) = Newest block
 kept_of (place.Unmade claim) = Unmade
 
 -- the claim of a place, if it has one, is of that slot
 abbrev pub IsOf : {C : Type 0} → (C → ℕ) → ℕ → Place C → Type 0
 IsOf names slot place.Free = (Unit {0})
-IsOf names slot (place.Pending claim) = names claim ≡ slot
-IsOf names slot (place.Moving r claim) = names claim ≡ slot
+IsOf names slot (place.Pending k claim) = names claim ≡ slot
+IsOf names slot (place.Moving r k claim) = names claim ≡ slot
 IsOf names slot (place.Newest block claim) = names claim ≡ slot
 IsOf names slot (place.Unmade claim) = names claim ≡ slot
 

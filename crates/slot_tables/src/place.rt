@@ -7,17 +7,18 @@ ghost use Rattle.array_model.specs.Views.{Nothing, is_waiting};
 use crate::hold::Hold;
 use crate::tables::SLOTS as ALL_SLOTS;
 use extent_groups::SLOTS;
+use extents::Kind;
 use map_join::Record;
 use std::alloc::AllocError;
 use std::mem;
 
-/// Nothing, the claim of a slot that waits with a fresh payload or with a copy of a record's, the claim of
-/// a block's newest place, or that of a slot of an unmade group.
+/// What an array keeps of a slot: nothing; the claim of a slot that waits to be committed, with fresh content of a kind or
+/// with a copy of a record of a kind; the claim of a block's newest place; or that of a slot of a dissolved group.
 #[derive(Drop)]
 pub enum Place<C: Hold> {
     Free,
-    Pending(C),
-    Moving(Record, C),
+    Pending(Kind, C),
+    Moving(Record, Kind, C),
     Newest(u32, C),
     Unmade(C),
 }
@@ -71,8 +72,8 @@ fn spent<C: Hold>(place: Place<C>)
 {
     match place {
         Place::Free => {}
-        Place::Pending(_claim) => unreachable!(),
-        Place::Moving(_, _claim) => unreachable!(),
+        Place::Pending(_, _claim) => unreachable!(),
+        Place::Moving(_, _, _claim) => unreachable!(),
         Place::Newest(_, _claim) => unreachable!(),
         Place::Unmade(_claim) => unreachable!(),
     }
@@ -88,8 +89,8 @@ pub fn take_waiting<C: Hold>(places: &mut Vec<Place<C>>, slot: u16) -> C
     ensures room { vec_len places.new ≡ vec_len places.old }
 {
     match take_out(places, slot) {
-        Place::Pending(claim) => claim,
-        Place::Moving(_, claim) => claim,
+        Place::Pending(_, claim) => claim,
+        Place::Moving(_, _, claim) => claim,
         Place::Free => unreachable!(),
         Place::Newest(_, _claim) => unreachable!(),
         Place::Unmade(_claim) => unreachable!(),

@@ -126,8 +126,8 @@ fn unseated<C: Hold>(place: Place<C>) -> Option<C>
 {
     match place {
         Place::Free => None,
-        Place::Pending(claim) => Some(claim),
-        Place::Moving(_, claim) => Some(claim),
+        Place::Pending(_, claim) => Some(claim),
+        Place::Moving(_, _, claim) => Some(claim),
         Place::Newest(_, claim) => Some(claim),
         Place::Unmade(claim) => Some(claim),
     }

@@ -21,16 +21,16 @@ fn open_slot<C: Hold>(places: &mut Vec<Place<C>>, slot: u16) -> Option<C>
     match place_at(places, slot) {
         Some(Place::Unmade(_)) => {}
         Some(Place::Free) => return None,
-        Some(Place::Pending(_)) => return None,
-        Some(Place::Moving(_, _)) => return None,
+        Some(Place::Pending(_, _)) => return None,
+        Some(Place::Moving(_, _, _)) => return None,
         Some(Place::Newest(_, _)) => return None,
         None => return None,
     }
     match take_out(places, slot) {
         Place::Unmade(claim) => Some(claim),
         Place::Free => unreachable!(),
-        Place::Pending(_claim) => unreachable!(),
-        Place::Moving(_, _claim) => unreachable!(),
+        Place::Pending(_, _claim) => unreachable!(),
+        Place::Moving(_, _, _claim) => unreachable!(),
         Place::Newest(_, _claim) => unreachable!(),
     }
 }

@@ -59,6 +59,15 @@ pub enum TableRefusal {
     Memory = 1,
 }
 
+impl TableRefusal {
+    /// The refusal's number, 1.
+    pub fn number(self) -> u8
+        ensures { result ≡ 1 }
+    {
+        self as u8
+    }
+}
+
 impl SlotWords<Brand> {
     /// A table of so many slots, all free at generation 0, without a name. It alone takes memory.
     pub fn new(alloc: Global, slots: u32) -> Result<Unnamed, TableRefusal>

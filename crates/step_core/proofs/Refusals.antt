@@ -116,7 +116,8 @@ made_sizes a b g class members e = record { payload = ap (λ (z : Groups). z.pay
 
 -- and where a block is read, or isn't
 found_in_sizes : (a b : ArrayView) (block : ℕ) (found : Option ℕ) (bytes : List ℕ) → WasFoundIn a b block found bytes → SameSizes a b
-found_in_sizes a b block None bytes is = same_sizes a b (ap (λ (x : ArrayView). x.parts.groups) is.1)
+found_in_sizes a b block None bytes (inl is) = same_sizes a b (ap (λ (x : ArrayView). x.parts.groups) is.1)
+found_in_sizes a b block None bytes (inr is) = same_sizes a b is.2.loses.rest.groups
 found_in_sizes a b block (Some version) bytes is = same_sizes a b is.3.loses.rest.groups
 
 pub found_sizes : (a b : ArrayView) (block : ℕ) (found : Option (ℕ × Vec ℕ Global)) → WasFound a b block found → SameSizes a b

@@ -73,8 +73,8 @@ none_unclaimed {C} names claims a F M (NoClaim slot) shows map are is = absurd (
 
     go : (kept : Kept) → how_many names claims slot ≡ claims_in kept → is_newest kept is.block ≡ true → ⊥
     go Nothing e n = absurd (cc)
-    go Pending e n = absurd (cc)
-    go (Moving r) e n = absurd (cc)
+    go (Pending k) e n = absurd (cc)
+    go (Moving r k) e n = absurd (cc)
     go (Newest b) e n = let z = is.none in omega (arith, e, z)
     go Unmade e n = absurd (cc)
 

@@ -38,6 +38,7 @@ fits_same : (a b : ArrayView) (step : Step) → SameSizes a b → FitsStep a.par
 fits_same a b (step.Claim w s) same fits = fits
 fits_same a b (step.Release w s) same fits = fits
 fits_same a b (step.Fill w s payload) same fits = (fits.0, fits.1 ∙ sym same.payload)
+fits_same a b (step.Trim w s) same fits = fits
 fits_same a b (step.Copy w s c) same fits = (fits.0, subst (λ n. c < n) (sym same.blocks) fits.1)
 fits_same a b (step.Commit w s c) same fits = (fits.0, subst (λ n. c < n) (sym same.blocks) fits.1)
 fits_same a b (step.Discard w s) same fits = fits

@@ -1,12 +1,10 @@
 -- What stands of every world that stands for a flat state.
-use Rattle.std.proofs.Common.{◌≡◌, ◌≢◌, ◌<◌, ◌≤◌, ◌^◌, ◌/◌, ◌%◌, ℕ, Bool, true, false, cond, nat_lt, length, refl, sym, ap, ◌∙◌, subst, arith, ◌⊎◌, inl, inr, List, Option, Some, None}
+use Rattle.std.proofs.Common.{◌≡◌, ◌≢◌, ◌<◌, ◌≤◌, ◌^◌, ◌/◌, ◌%◌, ℕ, Bool, true, false, cond, nat_lt, length, refl, sym, ap, ◌∙◌, arith, ◌⊎◌, inl, inr, List, Option, Some, None}
 use Rattle.std.proofs.lemmas.Option.{same_Some}
 use Rattle.map_join.specs.declared.records.Record.{Record}
 use Rattle.map_join.specs.Record.{key_of, record_of, stamp_of, stamp_in}
 use Rattle.map_join.specs.Maps.{IsSame}
-use Rattle.extents.specs.declared.header.Header.{Header}
-use Rattle.extents.specs.declared.header.Header.TheVariants.{Blank, Is}
-use Rattle.extents.specs.Header.{record_in, Spells}
+use Rattle.extents.specs.Header.{record_in}
 use Rattle.extent_groups.specs.Geometry.{slot_count}
 use Rattle.extent_groups.specs.Groups.{Group, group_at}
 use Rattle.extent_groups.specs.Units.{Site, site_in, site_of_index, site_of}
@@ -41,10 +39,6 @@ unit_here a s whole some here = go (bytes_of a.parts s) refl
     go : (o : Option (List ℕ)) → bytes_of a.parts s ≡ o → (bytes : List ℕ) × (bytes_of a.parts s ≡ Some bytes)
     go None e = absurd (here ((gone_law drive_units drive_lost a.parts.groups a.parts.drives s site.0 whole.groups.table whole.drives site.1).0 e))
     go (Some bytes) e = (bytes, e)
-
-header_is : (h : Header) (r : Record) → record_in h ≡ Some r → h ≡ Is r
-header_is Blank r e = absurd (cc)
-header_is (Is q) r e = ap (λ n. Is n) (same_Some q r e)
 
 -- the drives have the content of a block's last write at its newest place
 lies_at : (a : ArrayView) (F : Flat) (b : ℕ) → IsWhole a → ShowsArray a F → 0 < key_at a b
@@ -82,8 +76,8 @@ key_below r key place less = omega arith
 at_most : (a : ArrayView) (F : Flat) (slot : ℕ) (r : Record) → ShowsArray a F → HasHeader (bytes_of a.parts) slot r → key_of r ≤ key_at a r.block
 at_most a F slot r shows told =
     let u = shows.units.shown slot told.0 told.1 in
-    let header = shown_header told.0 u.0 (Is r) u.2 told.2 in
-    let is = (shows.history.units slot).header u.0 r u.1 (ap record_in header) in
+    let header = shown_header told.0 u.0 told.2.0 u.2 told.2.1 in
+    let is = (shows.history.units slot).header u.0 r u.1 (ap record_in header ∙ told.2.2) in
     go is.ranges.place is.newest
   where
     go : r.place < 2 ^ 16 → (key_of r ≡ key_at a r.block) ⊎ (stamp_of r < stamp_in (key_at a r.block)) → key_of r ≤ key_at a r.block
@@ -97,7 +91,7 @@ headers_tell a F whole shows here = record {
   found = λ b some.
       let r = record_of b (key_at a b) in
       let lies = (lies_at a F b whole shows some).2 (here b some) in
-      (r.place, r, (lies.bytes, lies.there, subst (Spells _) (header_is lies.unit.header r lies.header) lies.is.0), refl, key_again b (key_at a b));
+      (r.place, r, (lies.bytes, lies.there, (lies.unit.header, lies.is.0, lies.header)), refl, key_again b (key_at a b));
   most = λ slot r told. at_most a F slot r shows told;
 }
 

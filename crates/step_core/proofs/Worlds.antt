@@ -1,5 +1,5 @@
 -- A world's steps on its array, with the hands that go with them.
-use Rattle.std.proofs.Common.{◌≡◌, ℕ, ◌<◌, Bool, true, false, ◌&&◌, List, length, refl, sym, ap, ◌∙◌, subst, arith, ◌⊎◌, inl, inr, Option, Some, None, Contains}
+use Rattle.std.proofs.Common.{◌≡◌, ℕ, ◌<◌, ◌==◌, if◌then◌else◌, Bool, true, false, ◌&&◌, List, length, refl, sym, ap, ◌∙◌, subst, arith, ◌⊎◌, inl, inr, Option, Some, None, Contains}
 use Rattle.std.proofs.Math.ListN.{set}
 use Rattle.std.proofs.lemmas.List.{length-set, get_or-set_same, get_or-set_other, set-get_or}
 use Rattle.std.proofs.lemmas.Bool.{cases_eq}
@@ -7,18 +7,20 @@ use Rattle.std.proofs.lemmas.Bool.Decides.{nat_tests}
 use Rattle.std.proofs.lemmas.Option.{same_Some}
 use Rattle.map_join.specs.declared.records.Record.{Record}
 use Rattle.map_join.specs.Record.{record_at, IsRecord}
+use Rattle.extents.specs.Failures.{Failures, settled}
+use Rattle.extents.proofs.Failures.{counts_same, steady_same}
 use Rattle.extent_groups.specs.Groups.{Groups}
 use Rattle.extent_groups.specs.declared.class.Class.{Class}
 use Rattle.extent_groups.specs.declared.class.Member.{Member}
 use Rattle.flat_machine.specs.Flat.{Flat, Write, Content, Worker, Ticket, Waiting, Fresh, Moved, IsNewest, turned, put}
 use Rattle.flat_machine.specs.declared.refusal.Refusal.{Refusal}
 use Rattle.flat_machine.specs.declared.refusal.Refusal.TheVariants.{NoGroup, WrongClass, InUse, NoTicket, Outrun, VersionSpent, HopsSpent, Unwritten, Gone, SlotsHeld, DriveLost, Ahead, ExtentTaken, SameDrive, LogFull, Full, BadMember}
-use Rattle.flat_machine.specs.Moves.{moved_to}
+use Rattle.flat_machine.specs.Moves.{moved_to, with_fuse}
 use Rattle.flat_machine.specs.Steps.{FlatStep, FlatAnswer, Filled, Copied, Committed, Discarded, MadeGroup, MovedExtent, LostDrive, Refused, Fill, Copy, Commit, Discard, Make, Unmake, MoveExtent, AddDrive, Read, ReadAt, Lose}
-use Rattle.flat_machine.specs.Cases.{FillCase, CopyCase, ticketed, CommitCase, CommitWith, committed, DiscardCase, discarded, MakeCase, made, MoveCase, LoseCase, Case, Leaves}
+use Rattle.flat_machine.specs.Cases.{FillCase, CopyCase, ticketed, CommitCase, CommitWith, committed, DiscardCase, discarded, MakeCase, made, MoveCase, LoseCase, Case, Leaves, Fares}
 use Rattle.flat_machine.proofs.Keeps as flat
 use Rattle.flat_machine.proofs.Newest.{newest_unique, place_small}
-use Rattle.flat_machine.proofs.Pairs.{turned_else, turned_just, just_one, Any}
+use Rattle.flat_machine.proofs.Pairs.{turned_else, turned_just, just_one, Any, equal_back}
 use Rattle.flat_machine.proofs.Passing.{Passes, passed, passed_on}
 use Rattle.array_model.specs.declared.hand.Hand.{Hand}
 use Rattle.array_model.specs.declared.hand.Hand.TheVariants.{Empty, Holds, Waits}
@@ -26,7 +28,6 @@ use Rattle.array_model.specs.Changes.{passed_hands}
 use Rattle.array_parts.specs.Views.{PartsView}
 use Rattle.array_model.specs.Views.{ArrayView, WorldView, with_parts, hand_at, key_at}
 use Rattle.array_model.specs.Represents.{HandSlot, InTables, ShowsArray, Represents, is_claim, is_ticket}
-use Rattle.array_model.proofs.Fares.{itself}
 use Rattle.array_model.proofs.Newest.{newest_told}
 use Rattle.array_model.proofs.Hands.{one_hand}
 use Rattle.array_model.proofs.Slots.{worker_hand, ticket_hand, block_hand, one_slot, shows_after}
@@ -300,6 +301,12 @@ pub refused_world : (v : WorldView) (F : Flat) (step : FlatStep) (r : Refusal) (
     → (G : Flat) × (Case F step (Refused r) G) × (Represents (record { array = a; hands = v.hands }) G)
 refused_world v F step r a fits rep y = stays_world v F step (Refused r) a fits rep y (refused_leaves F y.0 step r y.1)
 
+-- a drive of which no failure lies ahead fares as it did
+settles : (lost : Bool) (f g : Failures) (b : Bool) → (b ≡ true → g ≡ f) → Fares lost lost f (if b then settled g else f)
+settles lost f g true same = subst (λ (h : Failures). Fares lost lost f (settled h)) (sym (same refl))
+    (record { stays = λ e. e; count = counts_same lost f; steady = λ e. (refl, refl) })
+settles lost f g false same = record { stays = λ e. e; count = counts_same lost f; steady = steady_same lost f }
+
 -- a world that lost a drive from outside
 pub lose_world : (v : WorldView) (F : Flat) (drive : ℕ) (p : PartsView) → drive < length v.array.parts.drives → Represents v F → WasLost v.array.parts p drive
     → (G : Flat) × (LoseCase F drive (LostDrive drive) G) × (Represents (record { array = with_parts v.array p; hands = v.hands }) G)
@@ -317,17 +324,32 @@ lose_world v F drive p inside rep was = (
     is = rep.array.tables
 
     G : Flat
-    G = record F { lost = put F.lost drive true }
+    G = record F { lost = put F.lost drive true; failures = put F.failures drive (settled (F.failures drive)) }
 
-    case : LoseCase F drive (LostDrive drive) (record F { lost = put F.lost drive true })
-    case = (refl, subst (λ n. drive < n) (sym is.drives) inside, itself (record F { lost = put F.lost drive true }))
+    leaves : Leaves (record F { lost = put F.lost drive true }) G
+    leaves = record {
+      same = refl;
+      drives = λ d. settles (put F.lost drive true d) (F.failures d) (F.failures drive) (d == drive) (λ e. ap F.failures (sym (equal_back d drive e)));
+    }
 
-    tables : InTables (with_parts v.array p) (record F { lost = put F.lost drive true })
+    case : LoseCase F drive (LostDrive drive) G
+    case = (refl, subst (λ n. drive < n) (sym is.drives) inside, leaves)
+
+    tables : InTables (with_parts v.array p) G
     tables = record {
       groups = is.groups ∙ sym was.rest.groups;
       drives = is.drives ∙ sym was.many;
       lost = ap (λ (l : ℕ → Bool). put l drive true) is.lost ∙ (λ i d. sym (was.lost d) i);
-      failures = is.failures ∙ (λ i d. sym (was.failures d) i);
+      failures = ap (λ (f : ℕ → Failures). put f drive (settled (f drive))) is.failures ∙ (λ i d. sym (was.failures d) i);
       log = is.log;
       slots = is.slots;
     }
+
+-- a world one of whose drives was given a fuse
+pub fuse_world : (v : WorldView) (F : Flat) (drive : ℕ) (a : ArrayView) → Represents v F → ShowsArray a (with_fuse F drive)
+    → Represents (record { array = a; hands = v.hands }) (with_fuse F drive)
+fuse_world v F drive a rep shows = record {
+  array = shows;
+  held = record { once = rep.held.once; inside = rep.held.inside };
+  hands = rep.hands;
+}

@@ -6,7 +6,7 @@ use Rattle.step_core.specs.declared.step.Step.{Step}
 use Rattle.step_core.specs.declared.step.Step.TheVariants as step
 use Rattle.extent_groups.specs.Groups.{Groups}
 use Rattle.flat_machine.specs.declared.refusal.Refusal.{Refusal}
-use Rattle.flat_machine.specs.Flat.{Payload}
+use Rattle.flat_machine.specs.Flat.{Payload, Trim}
 pub use Rattle.array_core.specs.Reads.{version_in, version_of, seen_of, Lesson}
 use Rattle.flat_machine.specs.Steps.{FlatStep, Claim, Release, Fill, Copy, Commit, Discard, Read, ReadAt, Make, Unmake, MoveExtent, AddDrive, FlatAnswer, Claimed, Taken, Released, NotHeld, Filled, Copied, Committed, Discarded, Found, FoundAt, MadeGroup, UnmadeGroup, MovedExtent, AddedDrive, Lose, LostDrive, Refused}
 
@@ -39,6 +39,7 @@ abbrev pub flat_step : Step → FlatStep
 flat_step (step.Claim w s) = Claim w s
 flat_step (step.Release w s) = Release w s
 flat_step (step.Fill w s payload) = Fill w s (Payload payload.items)
+flat_step (step.Trim w s) = Fill w s Trim
 flat_step (step.Copy w s b) = Copy w s b
 flat_step (step.Commit w s b) = Commit w s b
 flat_step (step.Discard w s) = Discard w s
@@ -55,6 +56,7 @@ abbrev pub FitsStep : Groups → Step → Type 0
 FitsStep z (step.Claim w s) = w < 8
 FitsStep z (step.Release w s) = w < 8
 FitsStep z (step.Fill w s payload) = (w < 8) × (length payload.items ≡ z.payload)
+FitsStep z (step.Trim w s) = w < 8
 FitsStep z (step.Copy w s b) = (w < 8) × (b < z.blocks)
 FitsStep z (step.Commit w s b) = (w < 8) × (b < z.blocks)
 FitsStep z (step.Discard w s) = w < 8

@@ -55,6 +55,7 @@ impl World {
                 slot: _,
                 payload,
             } => *worker < WORKERS && payload.len() == shape.payload as usize,
+            Step::Trim { worker, slot: _ } => *worker < WORKERS,
             Step::Copy {
                 worker,
                 slot: _,
@@ -100,6 +101,7 @@ impl World {
                 slot,
                 payload,
             } => self.fill(alloc, *worker, *slot, payload),
+            Step::Trim { worker, slot } => self.trim(alloc, *worker, *slot),
             Step::Copy {
                 worker,
                 slot,

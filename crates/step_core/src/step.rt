@@ -19,6 +19,11 @@ pub enum Step {
         slot: u16,
         payload: Vec<u8>,
     },
+    /// What waits at the slot then is a trim.
+    Trim {
+        worker: u8,
+        slot: u16,
+    },
     Copy {
         worker: u8,
         slot: u16,
@@ -75,7 +80,7 @@ pub enum Answer {
     Copied(u16),
     Committed(Record),
     Discarded(u16),
-    /// The version and the payload of the block's last write, none where it was never written.
+    /// The version and the payload of the block's last write, none where it was never written or trimmed last.
     Read(Option<(u32, Vec<u8>)>),
     /// What lies at a record's place.
     Found(At),

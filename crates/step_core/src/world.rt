@@ -1,12 +1,15 @@
 // An array with eight workers, who hold plain claims.
 ghost use Rattle.std.specs.Prelude.{◌≡◌, ◌≢◌, ℕ, ◌<◌, ◌≤◌, List, length, nat_le, IfOk, IfErr, OnErr, ◌*◌, OnOk, Some, None};
 ghost use Rattle.map_join.specs.declared.records.Record.{Record};
+ghost use Rattle.extents.specs.Failures.{no_failures};
 ghost use Rattle.extents.specs.Shapes.{IsShapeOf};
 ghost use Rattle.flat_machine.specs.Groups.{IsEmpty};
 ghost use Rattle.flat_machine.specs.Steps as say;
-ghost use Rattle.flat_machine.specs.Flat.{Flat, Payload, new_flat};
+ghost use Rattle.flat_machine.specs.Flat.{Flat, Payload, Trim, new_flat};
 ghost use Rattle.flat_machine.specs.Cases.{Case, IsWanted};
-ghost use Rattle.array_model.specs.Views.{kept_at, hand_at, has_no_holder, IsWhole, SameSizes};
+ghost use Rattle.flat_machine.specs.Moves.{with_fuse};
+ghost use Rattle.array_model.specs.Views.{kept_at, hand_at, has_no_holder, IsWhole, SameSizes, with_parts};
+ghost use Rattle.array_core.specs.Losing.{WasFused};
 ghost use Rattle.array_model.specs.Represents.{Represents, is_claim};
 ghost use Rattle.step_core.specs.Passed.{given_old};
 ghost use Rattle.step_core.specs.Told.{flat_answer, read_answer};
@@ -43,7 +46,7 @@ impl World {
     /// A new world: a new array of drives whose units are all zero, and empty hands. There are 3 to 16 drives.
     pub fn new(alloc: Global, shape: Shape, drives: u8) -> Result<World, Refusal>
         requires { (3 ≤ drives) × (drives ≤ 16) }
-        ensures ok { IfOk result (λ world. Represents world (new_flat world.array.parts.groups drives (nat_le drives) (λ _. 0))) }
+        ensures ok { IfOk result (λ world. Represents world (new_flat world.array.parts.groups drives (nat_le drives) (λ _. no_failures))) }
         ensures empty { IfOk result (λ world. IsEmpty world.array.parts.groups) }
         ensures sizes { IfOk result (λ world. IsShapeOf shape world.array.parts.groups.extents world.array.parts.groups.segments world.array.parts.groups.payload world.array.parts.groups.blocks) }
         ensures err { IfErr result (λ refusal. refusal ≡ Refusal.Memory) }
@@ -146,7 +149,27 @@ impl World {
         }
     }
 
-    /// Copies a block's newest payload into a slot that the worker holds.
+    /// Fills a slot that the worker holds with a trim.
+    pub fn trim(&mut self, alloc: Global, worker: u8, slot: u16) -> Result<Answer, AllocError>
+        ensures ok { IfOk result (λ answer. (F : Flat) → Represents self.old F
+            → (G : Flat) × Case F (say.Fill worker slot Trim) (flat_answer answer) G × Represents self.new G) }
+        ensures err { OnErr result (self.new ≡ self.old) }
+        ensures wants { OnErr result ((F : Flat) → Represents self.old F → IsWanted F (say.Fill worker slot Trim)) }
+        ensures room { SameSizes self.old.array self.new.array }
+    {
+        if !self.holds(worker, slot) {
+            return Ok(Answer::NotHeld(slot));
+        }
+        match self.array.trim(alloc, Plain { slot }) {
+            Ok(ticket) => {
+                self.hands.keep(worker, ticket);
+                Ok(Answer::Filled(slot))
+            }
+            Err((refusal, _claim)) => refused(refusal),
+        }
+    }
+
+    /// Copies what a block holds into a slot that the worker holds.
     pub fn copy(
         &mut self,
         alloc: Global,
@@ -299,12 +322,14 @@ impl World {
         Answer::Lost(drive)
     }
 
-    /// Loses a drive at the given read or write of it from now on, counted from 1, and for all later ones:
-    /// until then nothing is seen of it.
+    /// Makes a drive fail at its `calls`-th read or write from now (1 = the next) and at all later ones.
+    /// Until then the drive isn't steady and answers as before.
     pub fn fuse(&mut self, drive: u8, calls: u64)
         requires drive { drive < length self.old.array.parts.drives }
         requires calls { 1 ≤ calls }
-        ensures { self.new ≡ self.old }
+        ensures fused { WasFused self.old.array.parts self.new.array.parts drive }
+        ensures rest { self.new ≡ record self.old { array = with_parts self.old.array self.new.array.parts } }
+        ensures flat { (F : Flat) → Represents self.old F → Represents self.new (with_fuse F drive) }
     {
         self.array.fuse(drive, calls);
     }

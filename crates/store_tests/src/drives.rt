@@ -1,6 +1,8 @@
 // Tests of what no clause says, and each public call once.
 use crate::tables::shape_of;
-use extents::{Drive, DriveLost, ExtentTable, Header, HeaderFault, MemDrive, Shape, ShapeRefusal};
+use extents::{
+    Drive, DriveLost, ExtentTable, Header, HeaderFault, Kind, MemDrive, Shape, ShapeRefusal,
+};
 use map_join::Record;
 use std::process::Abort;
 use std::test::Fail;
@@ -42,17 +44,32 @@ fn is_refused_with(rt: &impl Abort, at: usize, byte: u8) -> bool {
 
 #[test]
 fn a_header_is_blank_or_spells_a_record_in_all_its_bytes(rt: HostRuntime) {
-    let is = Header::Is(first_record());
-    assert!(rt; is.encode() == FIRST_HEADER);
+    let is = Header::Is(first_record(), Kind::Data);
+    let mut second = FIRST_HEADER;
+    second[3] = 0x32;
+    assert!(rt; is.encode() == second);
     assert!(rt; Header::decode(&FIRST_HEADER) == Ok(is));
+    assert!(rt; Header::decode(&second) == Ok(is));
     assert!(rt; is.record() == Some(first_record()));
     assert!(rt; Header::Blank.record() == None);
     assert!(rt; HeaderFault::BadHeader.number() == 1);
     assert!(rt; Header::Blank.encode() == [0; 32]);
     assert!(rt; Header::decode(&[0; 32]) == Ok(Header::Blank));
     assert!(rt; is_refused_with(&rt, 20, 1));
+    assert!(rt; is_refused_with(&rt, 16, 1));
     assert!(rt; is_refused_with(&rt, 11, 0));
-    assert!(rt; is_refused_with(&rt, 3, 0x32));
+    assert!(rt; is_refused_with(&rt, 3, 0x33));
+    let trim = Header::Is(first_record(), Kind::Trim);
+    second[16] = 1;
+    assert!(rt; trim.encode() == second);
+    assert!(rt; Header::decode(&second) == Ok(trim));
+    assert!(rt; trim.kind() == Kind::Trim);
+    assert!(rt; Header::Blank.kind() == Kind::Data);
+    second[16] = 2;
+    assert!(rt; Header::decode(&second) == Err(HeaderFault::BadHeader));
+    second[16] = 1;
+    second[17] = 1;
+    assert!(rt; Header::decode(&second) == Err(HeaderFault::BadHeader));
 }
 
 fn read(rt: &impl Abort, drive: &mut MemDrive, at: u32, unit: &mut [u8]) -> Result<(), DriveLost> {

@@ -1,3 +1,4 @@
 pub mod Ended
 pub mod Ending
 pub mod Telling
+pub mod Numbers

@@ -16,8 +16,8 @@ pub(crate) struct Crew {
     pub(crate) payload: u32,
 }
 
-// Runs the workers in threads, each with a part of what these hands have, and tells what all had, the hands first, and what
-// they had carried out.
+// Runs the workers in threads, each with a part of what these hands have. Returns what all had, the hands first, and what they
+// carried out.
 pub(crate) fn run_all<
     N: slot_words::Naming + Sizes + Send + Sync,
     A: map_words::Naming + Send + Sync,
@@ -42,7 +42,7 @@ pub(crate) fn run_all<
     }
 }
 
-// So many workers of the Book, from number 0 on.
+// This many workers of the Book, from number 0 on.
 fn hire<'a, N: slot_words::Naming + Sizes, A: map_words::Naming, B: map_words::Naming>(
     alloc: Global,
     book: &'a Book<MemDrive, N, A, B>,

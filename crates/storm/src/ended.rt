@@ -6,7 +6,7 @@ use crate::outcome::{Storm, StormFault};
 use crate::told::{Told, tell_storm};
 use std::io::Write;
 
-/// Writes the line that a storm ends with, and tells the status to end with.
+/// Writes the line that a storm ends with, and returns the status to end with.
 pub fn end_storm<W: Write>(writer: &mut W, ended: Result<Storm, StormFault>) -> u8
     ensures { IsEnded ended result (W.contents writer.old) (W.contents writer.new) }
 {
@@ -14,7 +14,7 @@ pub fn end_storm<W: Write>(writer: &mut W, ended: Result<Storm, StormFault>) -> 
 }
 
 impl Told {
-    /// The status to end with, once a storm was told: 0 where the maps agree, 3 where they differ, 4 where the storm has no
+    /// The status to end with, once a storm's line was written: 0 where the maps agree, 3 where they differ, 4 where the storm has no
     /// end, and 5 where its line couldn't be written.
     pub fn status(self) -> u8
         ensures { result ≡ storm_status self }

@@ -1,7 +1,9 @@
 // The whole life of a storm's tables.
 ghost use Rattle.std.specs.Prelude.{◌≡◌, ◌≢◌, ℕ, map, IfOk, IfErr};
 ghost use Rattle.settling.specs.declared.fault.SettleFault.TheVariants as settle_fault;
+ghost use Rattle.array_model.specs.Represents.{ShowsArray};
 ghost use Rattle.array_model.specs.Views.{key_at};
+ghost use Rattle.flat_machine.specs.Flat.{Flat};
 ghost use Rattle.map_words.specs.Places.{blocks_of};
 ghost use Rattle.slot_words.specs.Places.{slots_of};
 ghost use Rattle.storm.specs.Ending.{IsEnding};
@@ -27,7 +29,7 @@ pub struct Fuse {
     pub calls: u64,
 }
 
-/// How many workers play how many rounds, and which drive is lost meanwhile. At most 16 workers can be had.
+/// How many workers play how many rounds each, and which drive is lost in mid-run. At most 16 workers can be had.
 #[derive(Clone, Copy, Debug, PartialEq, Eq)]
 pub struct Orders {
     pub workers: u8,
@@ -37,7 +39,7 @@ pub struct Orders {
     pub fuse: Option<Fuse>,
 }
 
-/// Runs so many workers, each with so many rounds, over an array of 16 blocks with payloads of 8 bytes, and settles. It may wait.
+/// Runs `workers` workers, each with `writes` rounds, over an array of 16 blocks with payloads of 8 bytes, and settles. It may wait.
 pub fn run_storm<R: Threads + Wait + Sync>(
     rt: &R,
     alloc: Global,
@@ -56,7 +58,7 @@ pub fn run_storm<R: Threads + Wait + Sync>(
     )
 }
 
-/// The same, with payloads of so many bytes, where a drive may be lost meanwhile.
+/// Runs the workers of these orders over an array of 16 blocks, and settles. It may wait.
 pub fn run_orders<R: Threads + Wait + Sync>(
     rt: &R,
     alloc: Global,
@@ -117,7 +119,7 @@ fn play_out<
     }
 }
 
-// A Book round a storm's array, of which a drive may be lost later.
+// A Book around a storm's array, of which a drive may have a fuse.
 fn open<N: slot_words::Naming + Sizes, A: map_words::Naming, B: map_words::Naming>(
     alloc: Global,
     words: SlotWords<N>,
@@ -164,7 +166,7 @@ fn close<N: slot_words::Naming + Sizes, A: map_words::Naming, B: map_words::Nami
     told
 }
 
-// Settles a Book, and tells whether the map of what its workers took is that of its array.
+// Settles a Book: whether the map of what its workers took is that of its array.
 fn conclude<N: slot_words::Naming + Sizes, A: map_words::Naming, B: map_words::Naming>(
     alloc: Global,
     book: Book<MemDrive, N, A, B>,
@@ -196,12 +198,13 @@ fn count_lost<N: slot_words::Naming>(array: &Array<MemDrive, Claim<N>>) -> u8 {
     lost
 }
 
-// Whether the drive that is to be lost is there, if there is one; it is lost later then.
+// Whether the drive that is to be lost is there, if there is one; then it has its fuse.
 fn is_fused<N: slot_words::Naming>(
     array: &mut Array<MemDrive, Claim<N>>,
     fuse: Option<Fuse>,
 ) -> bool
-    ensures { array.new ≡ array.old }
+    ensures shows { (F : Flat) → ShowsArray array.old F → (G : Flat) × ShowsArray array.new G }
+    ensures sizes { (array.new.parts.groups.blocks ≡ array.old.parts.groups.blocks) × (array.new.parts.groups.payload ≡ array.old.parts.groups.payload) }
 {
     let Some(Fuse { drive, calls }) = fuse else {
         return true;

@@ -1,24 +1,27 @@
 // What comes of a storm.
+ghost use Rattle.std.specs.Prelude.{◌≡◌};
+ghost use Rattle.storm.specs.Numbers.{number_of};
+
 use array_book::{RunFault, SettleFault};
 use flat_machine::Refusal;
 
 /// How often the calls of a storm's workers were carried out.
 #[derive(Clone, Copy, Debug, PartialEq, Eq)]
 pub struct Tally {
-    /// Writes that were committed: one a round, but where no mirrored slot could be claimed.
+    /// Writes that were committed: one a round, except where no mirrored slot could be claimed.
     pub writes: u64,
     /// Blocks that were moved.
     pub moves: u64,
-    /// Reads that told a block.
+    /// Reads that returned a record.
     pub reads: u64,
-    /// Reads of blocks of which the controller's words told nothing.
+    /// Reads of blocks of which the controller's words have no record.
     pub blanks: u64,
     /// Drives that were missing at the end.
     pub lost: u8,
 }
 
 impl Tally {
-    // Nothing was carried out yet, and no drive is missing.
+    // Nothing was carried out, and no drive is missing.
     pub(crate) fn new() -> Tally {
         Tally {
             writes: 0,
@@ -41,10 +44,23 @@ pub enum Storm {
 /// Why a storm has no end.
 #[derive(Clone, Copy, Debug, PartialEq, Eq)]
 pub enum StormFault {
-    /// There is no array, or there are no workers for it: `Full` where more are wanted than hands can be split for, `BadMember`
-    /// where the drive to be lost isn't one of the four, or no payload has so many bytes.
+    /// There is no array, or there are no workers for it: `Full` where the hands can't be split for all workers, `BadMember` where
+    /// the drive to be lost isn't one of the four, or no payload has this size.
     Setup(Refusal),
     Run(RunFault),
     /// Never `Differs`.
     Settle(SettleFault),
+}
+
+impl StormFault {
+    /// The fault's number, 1 to 3 in the order above. A program ends with status 4 for each.
+    pub fn number(&self) -> u8
+        ensures { result ≡ number_of self.now }
+    {
+        match self {
+            StormFault::Setup(_) => 1,
+            StormFault::Run(_) => 2,
+            StormFault::Settle(_) => 3,
+        }
+    }
 }

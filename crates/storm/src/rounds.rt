@@ -9,10 +9,10 @@ use std::sync::Wait;
 use std::sync::atomic::AtomicU64;
 use std::sync::atomic::Ordering::SeqCst;
 
-/// Fewer free mirrored slots than these want a demotion.
+/// With fewer free mirrored slots than these a demotion is due.
 const LOW: u32 = 44;
 
-// As many rounds as it is told, with payloads of so many bytes; and what all workers that are done had carried out.
+// `writes` rounds with payloads of `payload` bytes, and what all workers that are done have carried out.
 #[derive(Drop)]
 pub(crate) struct Rounds {
     writes: u32,
@@ -35,7 +35,7 @@ impl Rounds {
         }
     }
 
-    // What one worker more had carried out.
+    // Adds what one worker more has carried out.
     fn add(&self, tally: &Tally) {
         self.written.fetch_add(tally.writes, SeqCst);
         self.moved.fetch_add(tally.moves, SeqCst);
@@ -43,7 +43,7 @@ impl Rounds {
         self.blank.fetch_add(tally.blanks, SeqCst);
     }
 
-    // What all had carried out, with no drive lost.
+    // What all have carried out, with no drive lost.
     pub(crate) fn tally(&self) -> Tally {
         Tally {
             writes: self.written.load(SeqCst),
@@ -80,7 +80,7 @@ impl<D: Drive, N: slot_words::Naming + Sizes, A: map_words::Naming, B: map_words
 }
 
 // One round: a write, a migration and a read at the other controller. The payload is the worker's number and the round's, with
-// zeros behind them.
+// zeros after them.
 fn play<
     R: Wait,
     D: Drive,
@@ -130,7 +130,7 @@ fn numbers_of(number: u32, round: u32) -> [u8; 8] {
     numbers
 }
 
-// What a call answers; none where no slot was free, or a record was ahead of the array, and a worker goes on.
+// What a call returns; none where no slot was free or a record was ahead of the array, after which a worker goes on.
 fn passed_over<T: Drop>(told: Result<T, WorkFault>) -> Result<Option<T>, WorkFault> {
     match told {
         Ok(answer) => Ok(Some(answer)),

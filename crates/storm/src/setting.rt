@@ -13,13 +13,13 @@ use step_core::{Array, TakeBack};
 /// How many blocks it has.
 pub(crate) const BLOCKS: u32 = 16;
 
-/// Bytes of a payload, where nothing else is said.
+/// Bytes of a payload, by default.
 pub(crate) const PAYLOAD: u32 = 8;
 
 // How many drives it has.
 const DRIVES: u8 = 4;
 
-// Releases the claims that an array hands over.
+// Releases the claims that an array returns.
 #[derive(Drop)]
 struct Releases<'a, N: Naming> {
     words: &'a SlotWords<N>,
@@ -42,7 +42,7 @@ pub(crate) fn release_all<N: Naming>(
     let _parts = array.end(&mut to);
 }
 
-// An array of four drives with two groups of each class, and payloads of so many bytes.
+// An array of four drives with two groups of each class, and payloads of `payload` bytes.
 pub(crate) fn storm_array<N: Naming>(
     alloc: Global,
     words: &SlotWords<N>,

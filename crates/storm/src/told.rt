@@ -1,4 +1,4 @@
-// What is told of a storm.
+// The line that is written of a storm.
 ghost use Rattle.std.specs.Prelude.{◌++◌, codes, OnOk};
 ghost use Rattle.std.specs.Io.KnownBytes.{Appends};
 ghost use Rattle.storm.specs.Telling.{IsTold, IsToldOrNot};
@@ -8,21 +8,21 @@ use itoa::Buffer;
 use std::io;
 use std::io::Write;
 
-/// What is told of a storm.
+/// What was written of a storm.
 #[derive(Clone, Copy, Debug, PartialEq, Eq)]
 pub enum Told {
     /// That the maps agree.
     Agreed,
     /// At which block they differ.
     Differs,
-    /// Nothing, since the storm has no end.
+    /// Nothing, since the storm ended with a fault.
     Nothing,
     /// The line couldn't be written, or not whole.
     Unwritten,
 }
 
-/// Writes the line that a storm ends with: `agreed`, or `differs` with the lowest block of which the maps differ. Of a storm that has
-/// no end nothing is written.
+/// Writes the line that a storm ends with: `agreed`, or `differs` with the lowest block of which the maps differ. Nothing where the
+/// storm ended with a fault.
 pub fn tell_storm<W: Write>(writer: &mut W, ended: Result<Storm, StormFault>) -> Told
     ensures { IsTold ended result (W.contents writer.old) (W.contents writer.new) }
 {
@@ -45,7 +45,7 @@ fn differs<W: Write>(writer: &mut W, digits: &str) -> io::Result<()>
     writer.write_all(b"\n")
 }
 
-// What is told, where the line could be written.
+// What was written, unless the write failed.
 fn told_or_not(line: io::Result<()>, told: Told) -> Told
     ensures { IsToldOrNot line told result }
 {

@@ -1,6 +1,5 @@
 -- What the crate's own calls say of a world's tables, and of parts of a placing.
 use Rattle.std.specs.Prelude.{◌≡◌, ℕ, ◌==◌, if◌then◌else◌, List, [], ◌∷◌, length, true, Option, Some, None}
-use Rattle.std.specs.Borrow.{Bor}
 use Rattle.map_join.specs.declared.records.Record.{Record}
 use Rattle.flat_machine.specs.declared.refusal.Refusal.{Refusal}
 use Rattle.flat_machine.specs.Flat.{Flat, Worker, IsNewest}
@@ -12,6 +11,8 @@ use Rattle.migrator.specs.Ages.{written}
 use Rattle.step_core.specs.declared.step.Answer.{Answer}
 use Rattle.step_core.specs.declared.step.Answer.TheVariants as answer
 use Rattle.tiering.specs.Placing.{Put, put_answer, back_steps, back_answers}
+use Rattle.tiering.specs.declared.place.Given.{Given}
+use Rattle.tiering.specs.declared.place.Given.TheVariants as given
 use Rattle.tiering.specs.declared.outcome.Outcome.{Outcome}
 use Rattle.tiering.specs.declared.outcome.Outcome.TheVariants.{Placed, Refused, Nothing}
 
@@ -66,7 +67,11 @@ abbrev pub HoldsOld : Flat → ℕ → Option Record → Type 0
 HoldsOld F w None = Unit {0}
 HoldsOld F w (Some old) = F.held old.place (Worker w) ≡ true
 
--- a payload that is lent fits the units
-abbrev pub IsSizedFor : ℕ → Option (Bor (List ℕ)) → Type 0
+-- what is given fits the units
+abbrev pub IsGivenFor : ℕ → Given → Type 0
+IsGivenFor size (given.Payload payload) = length payload.now ≡ size
+IsGivenFor size given.Trim = Unit {0}
+
+abbrev pub IsSizedFor : ℕ → Option Given → Type 0
 IsSizedFor size None = Unit {0}
-IsSizedFor size (Some payload) = length payload.now ≡ size
+IsSizedFor size (Some x) = IsGivenFor size x

@@ -1,13 +1,14 @@
 -- A block goes into a slot: the slot is claimed, filled or copied into, and committed; then the block's old place is given back. Where
 -- the array refuses, the slot is given back.
 use Rattle.std.specs.Prelude.{◌⊎◌, ℕ, List, [], ◌∷◌, Option, Some, None}
-use Rattle.std.specs.Borrow.{Bor}
 use Rattle.map_join.specs.declared.records.Record.{Record}
 use Rattle.flat_machine.specs.declared.refusal.Refusal.{Refusal}
-use Rattle.flat_machine.specs.Flat.{Flat, Content, Payload, IsNewest}
+use Rattle.flat_machine.specs.Flat.{Flat, Content, Payload, Trim, IsNewest}
 use Rattle.flat_machine.specs.Steps.{FlatStep, FlatAnswer, Claimed, Taken, Released, Filled, Copied, Committed, Discarded}
 use Rattle.flat_machine.specs.Steps as step
 use Rattle.flat_machine.specs.Cases.{Runs}
+use Rattle.tiering.specs.declared.place.Given.{Given}
+use Rattle.tiering.specs.declared.place.Given.TheVariants as given
 use Rattle.tiering.specs.declared.outcome.Outcome.{Outcome}
 use Rattle.tiering.specs.declared.outcome.Outcome.TheVariants.{Placed, Refused, NoRoom, Nothing}
 
@@ -16,9 +17,14 @@ pub data Put : Type 0 where
   Fresh : Content → Put
   Again : Put
 
--- a payload that is lent, or else a copy
-abbrev pub put_of : Option (Bor (List ℕ)) → Put
-put_of (Some payload) = Fresh (Payload payload.now)
+-- a payload that is lent, or a trim
+abbrev pub content_of : Given → Content
+content_of (given.Payload payload) = Payload payload.now
+content_of given.Trim = Trim
+
+-- what is given, or else a copy
+abbrev pub put_of : Option Given → Put
+put_of (Some x) = Fresh (content_of x)
 put_of None = Again
 
 -- the step that puts it there, and its answer where it isn't refused

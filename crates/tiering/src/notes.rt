@@ -9,6 +9,7 @@ ghost use Rattle.tiering.specs.Placing.{put_of};
 ghost use Rattle.tiering.specs.Steps.{order_after};
 
 use crate::Outcome;
+use crate::place::Given;
 use array_core::{Array, Hold};
 use extent_groups::{Class, GroupTable, SLOTS};
 use extents::Drive;
@@ -30,18 +31,18 @@ pub(crate) fn note_answer(recency: &mut MarkedAges, block: u32, answer: &Answer)
     }
 }
 
-// Notes a placing of a fresh payload, by what came of it.
+// Notes a placing of a fresh payload or trim, by what came of it.
 pub(crate) fn note_put(
     recency: &mut MarkedAges,
     block: u32,
-    payload: Option<&[u8]>,
+    given: Option<Given>,
     outcome: &Outcome,
 )
-    ensures order { block < length recency.old.order → recency.new.order ≡ order_put recency.old.order block (put_of payload.entry) outcome.now }
+    ensures order { block < length recency.old.order → recency.new.order ≡ order_put recency.old.order block (put_of given.entry) outcome.now }
     ensures long { length recency.new.order ≡ length recency.old.order }
     ensures marks { recency.new.marks ≡ recency.old.marks }
 {
-    match payload {
+    match given {
         Some(_) => note_write(recency, block, outcome),
         None => {}
     }

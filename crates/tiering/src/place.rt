@@ -1,19 +1,27 @@
-// A block goes into a slot: claim, fill or copy, commit, and back with its old place.
+// A block goes into a slot: claim, fill, trim or copy, commit, and back with its old place.
 ghost use Rattle.std.specs.Prelude.{◌≡◌, ◌<◌, IfOk, OnErr, true};
+ghost use Rattle.step_core.specs.Told.{flat_answer};
 ghost use Rattle.array_model.specs.Represents.{Represents};
 ghost use Rattle.array_model.specs.Views.{SameSizes};
 ghost use Rattle.flat_machine.specs.Cases.{Case, Runs};
 ghost use Rattle.flat_machine.specs.Flat.{Flat, Ticket, Worker};
 ghost use Rattle.flat_machine.specs.Steps as step;
-ghost use Rattle.tiering.specs.Inside.{CommitsIn, GivesUp, HoldsOld, IsSizedFor, outcome_of, put_told, refusal_of};
-ghost use Rattle.tiering.specs.Placing.{PlaceCase, PlaceStops, back_answers, back_steps, put_of, put_step};
+ghost use Rattle.tiering.specs.Inside.{CommitsIn, GivesUp, HoldsOld, IsGivenFor, IsSizedFor, outcome_of, put_told, refusal_of};
+ghost use Rattle.tiering.specs.Placing.{PlaceCase, PlaceStops, back_answers, back_steps, content_of, put_of, put_step};
 
 use crate::Outcome;
 use map_join::Record;
 use std::alloc::{AllocError, Global};
 use step_core::{Answer, Refusal, World};
 
-/// Puts the block into the slot: the payload where one is given, else a copy of the block's last write. Where memory is wanted
+/// What is given to be written: a payload, or a trim.
+#[derive(Clone, Copy)]
+pub(crate) enum Given<'a> {
+    Payload(&'a [u8]),
+    Trim,
+}
+
+/// Puts the block into the slot: what is given, else a copy of the block's last write. Where memory is wanted
 /// the slot is given back.
 pub(crate) fn place(
     world: &mut World,
@@ -21,20 +29,20 @@ pub(crate) fn place(
     worker: u8,
     slot: u16,
     block: u32,
-    payload: Option<&[u8]>,
+    given: Option<Given>,
 ) -> Result<Outcome, AllocError>
     requires block { block < world.old.array.parts.groups.blocks }
-    requires payload { IsSizedFor world.old.array.parts.groups.payload payload }
+    requires given { IsSizedFor world.old.array.parts.groups.payload given }
     ensures ok { IfOk result (λ outcome. (F : Flat) → Represents world.old F
-        → (G : Flat) × PlaceCase F worker slot block (put_of payload.entry) outcome G × Represents world.new G) }
+        → (G : Flat) × PlaceCase F worker slot block (put_of given.entry) outcome G × Represents world.new G) }
     ensures err { OnErr result ((F : Flat) → Represents world.old F
-        → (G : Flat) × PlaceStops F worker slot block (put_of payload.entry) G × Represents world.new G) }
+        → (G : Flat) × PlaceStops F worker slot block (put_of given.entry) G × Represents world.new G) }
     ensures room { SameSizes world.old.array world.new.array }
 {
     let Answer::Claimed(_) = world.claim(worker, slot) else {
         return Ok(Outcome::NoRoom)
     };
-    match put_in(world, alloc, worker, slot, block, payload) {
+    match put_in(world, alloc, worker, slot, block, given) {
         Ok(None) => commit_in(world, alloc, worker, slot, block),
         Ok(Some(refusal)) => {
             give(world, worker, slot);
@@ -54,20 +62,40 @@ fn put_in(
     worker: u8,
     slot: u16,
     block: u32,
-    payload: Option<&[u8]>,
+    given: Option<Given>,
 ) -> Result<Option<Refusal>, AllocError>
     requires block { block < world.old.array.parts.groups.blocks }
-    requires payload { IsSizedFor world.old.array.parts.groups.payload payload }
+    requires given { IsSizedFor world.old.array.parts.groups.payload given }
     ensures ok { IfOk result (λ refusal. (F : Flat) → Represents world.old F → F.held slot (Worker worker) ≡ true
-        → (G : Flat) × Case F (put_step (put_of payload.entry) worker slot block) (put_told (put_of payload.entry) slot refusal) G × Represents world.new G) }
+        → (G : Flat) × Case F (put_step (put_of given.entry) worker slot block) (put_told (put_of given.entry) slot refusal) G × Represents world.new G) }
     ensures err { OnErr result (world.new ≡ world.old) }
     ensures room { SameSizes world.old.array world.new.array }
 {
-    let answer = match payload {
-        Some(payload) => world.fill(alloc, worker, slot, payload)?,
+    let answer = match given {
+        Some(given) => fill_in(world, alloc, worker, slot, given)?,
         None => world.copy(alloc, worker, slot, block)?,
     };
     Ok(refusal_in(answer))
+}
+
+// Fills the slot with what is given.
+fn fill_in(
+    world: &mut World,
+    alloc: Global,
+    worker: u8,
+    slot: u16,
+    given: Given,
+) -> Result<Answer, AllocError>
+    requires { IsGivenFor world.old.array.parts.groups.payload given }
+    ensures ok { IfOk result (λ answer. (F : Flat) → Represents world.old F
+        → (G : Flat) × Case F (step.Fill worker slot (content_of given.entry)) (flat_answer answer) G × Represents world.new G) }
+    ensures err { OnErr result (world.new ≡ world.old) }
+    ensures room { SameSizes world.old.array world.new.array }
+{
+    match given {
+        Given::Payload(payload) => world.fill(alloc, worker, slot, payload),
+        Given::Trim => world.trim(alloc, worker, slot),
+    }
 }
 
 // Commits what waits in the slot.

@@ -94,9 +94,20 @@ pub(crate) fn list_on(rt: &impl Abort, alloc: Global, drives: [u8; 3], extent: u
     members
 }
 
-/// A payload of one byte throughout.
+/// Eight bytes that are all different, this one first.
+pub(crate) fn bytes_of(byte: u8) -> [u8; 8] {
+    let mut bytes = [0; 8];
+    let mut next = byte;
+    for place in bytes.iter_mut() {
+        *place = next;
+        next = next.wrapping_add(29);
+    }
+    bytes
+}
+
+/// A payload that this byte names.
 pub(crate) fn payload_of(rt: &impl Abort, alloc: Global, byte: u8) -> Vec<u8> {
-    let Ok(payload) = [byte; 8].to_vec(alloc) else {
+    let Ok(payload) = bytes_of(byte).to_vec(alloc) else {
         panic!(rt; "no memory")
     };
     payload

@@ -3,7 +3,7 @@
 ghost use Rattle.std.specs.Prelude.{◌<◌};
 
 use crate::scans::{running, world_scanned};
-use crate::script::{answer, grouped, is_lost, list_on, payload_of, records_from};
+use crate::script::{answer, bytes_of, grouped, is_lost, list_on, payload_of, records_from};
 use map_join::{BlockMap, Record};
 use std::alloc::Global;
 use std::process::Abort;
@@ -56,8 +56,9 @@ struct Walk {
     /// The records that were emitted, joined.
     emitted: BlockMap,
     listed: usize,
-    /// The byte that was last filled into each slot, by group and place, and the one last written to each block.
-    filled: [[u8; 9]; 4],
+    /// By group and place, the byte that names the payload last filled into the slot, none of a trim; and by block the one of
+    /// its last write, none where there is none.
+    filled: [[Option<u8>; 9]; 4],
     written: [Option<u8>; 16],
     lost: Option<u8>,
     steps: u32,
@@ -72,7 +73,7 @@ impl Walk {
             seed: 1,
             emitted: BlockMap::new(alloc),
             listed: 0,
-            filled: [[0; 9]; 4],
+            filled: [[None; 9]; 4],
             written: [None; 16],
             lost: None,
             steps: 0,
@@ -128,12 +129,12 @@ impl Walk {
         self.note_record(record);
     }
 
-    // A write is of the byte that its slot was filled with.
+    // A write is of what its slot was filled with.
     fn note_record(&mut self, record: &Record) {
         if record.hop == 0 {
             let group = usize::from(record.place / 128) % 4;
             let place = usize::from(record.place % 128) % 9;
-            self.written[record.block as usize % 16] = Some(self.filled[group][place]);
+            self.written[record.block as usize % 16] = self.filled[group][place];
         }
     }
 
@@ -149,7 +150,9 @@ impl Walk {
         let wanted = self.written[block as usize % 16];
         match answer(rt, self.alloc, &mut self.world, &Step::Read { block }) {
             Answer::Read(None) => wanted == None,
-            Answer::Read(Some((_, payload))) => wanted == payload.first().copied(),
+            Answer::Read(Some((_, payload))) => {
+                wanted.is_some_and(|byte| payload.as_slice() == bytes_of(byte).as_slice())
+            }
             _ => false,
         }
     }
@@ -190,11 +193,20 @@ impl Walk {
             payload,
         };
         if let Answer::Filled(_) = self.take(rt, &step) {
-            self.note_fill(slot, byte);
+            self.note_fill(slot, Some(byte));
         }
     }
 
-    fn note_fill(&mut self, slot: u16, byte: u8) {
+    // A trim goes into a slot.
+    fn trim(&mut self, rt: &impl Abort) {
+        let worker = self.worker();
+        let slot = self.slot();
+        if let Answer::Filled(_) = self.take(rt, &Step::Trim { worker, slot }) {
+            self.note_fill(slot, None);
+        }
+    }
+
+    fn note_fill(&mut self, slot: u16, byte: Option<u8>) {
         self.filled[usize::from(slot / 128) % 4][usize::from(slot % 128) % 9] = byte;
     }
 
@@ -369,7 +381,8 @@ impl Walk {
                 self.unmake(rt, group);
             }
             8 => self.read_at(rt),
-            9..=24 => self.fill(rt),
+            9..=11 => self.trim(rt),
+            12..=24 => self.fill(rt),
             _ => self.flow(rt),
         }
     }

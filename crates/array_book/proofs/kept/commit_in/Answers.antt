@@ -1,9 +1,11 @@
 use Rattle.std.proofs.Common.{sym, ap, subst, refl, rules}
+use Rattle.flat_machine.specs.Flat.{Flat}
 use Rattle.flat_machine.specs.Steps as say
 use Rattle.flat_machine.specs.Cases.{CommitCase, IsWanted}
 use Rattle.array_model.specs.Represents.{ShowsArray}
 use Rattle.array_model.specs.Views.{ArrayView}
 use Rattle.array_book.specs.Kept.{KeptView}
+use Rattle.array_book.proofs.Answering.{state_of, may_refused}
 use Rattle.array_book.proofs.Shown.{kept_with, kept_committed, ticket_of_some, refused_shown, refused_still, emitted_written}
 use Rattle.array_book.proofs.kept.commit_in.Goals as goal
 
@@ -34,3 +36,20 @@ returns-in-Ok-clause-written g c =
 pub returns-in-Ok-clause-flat : goal.returns-in-Ok-clause-flat
 returns-in-Ok-clause-flat g c F w shows mine =
     c.in-Ok.ensures.flat F w (subst (λ (k : KeptView). ShowsArray k.array F) (sym c.kept.view_is) shows) mine
+
+pub returns-in-Ok-clause-answered : goal.returns-in-Ok-clause-answered
+returns-in-Ok-clause-answered g c =
+    let k = c.kept.invariant in
+    let w = ticket_of_some k.flat c.kept.inside.array c.args.ticket k.shows in
+    let told = c.in-Ok.ensures.flat k.flat w.0 k.shows w.1 in
+    record { state = state_of _ _ _ k; worker = w.0; after = told.0; case = told.1 }
+
+pub returns-in-Err-clause-answered : goal.returns-in-Err-clause-answered
+returns-in-Err-clause-answered g c = λ other.
+    let k = c.kept.invariant in
+    let q = c.in-Err.refused.0 in
+    let w = ticket_of_some k.flat c.kept.inside.array c.args.ticket k.shows in
+    let told = may_refused q (IsWanted k.flat (say.Commit w.0 c.args.ticket c.args.block))
+    ((G : Flat) × CommitCase k.flat w.0 c.args.ticket c.args.block (say.Refused q) G × ShowsArray c.commit.new.self G)
+    (c.in-Err.ensures.flat k.flat w.0 k.shows w.1) other in
+    record { state = state_of _ _ _ k; worker = w.0; after = told.0; case = told.1 }

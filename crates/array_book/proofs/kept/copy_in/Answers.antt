@@ -5,6 +5,8 @@ use Rattle.array_model.specs.Views.{ArrayView}
 use Rattle.array_model.proofs.OneMore.{shows_one_more, holds_one_more}
 use Rattle.step_core.specs.Claimed.{with_claim}
 use Rattle.array_book.specs.Kept.{KeptView}
+use Rattle.array_book.specs.Kept as book
+use Rattle.array_book.proofs.Answering.{copy_answered}
 use Rattle.array_book.proofs.Shown.{kept_with, still_of, CopyTells, copy_shown, copy_still, copy_not_used, err_as}
 use Rattle.array_book.proofs.kept.copy_in.Goals as goal
 
@@ -38,3 +40,8 @@ returns-clause-err g c =
     let told = copy_not_used c.copy.result c.apart_from.new.claim a c.copy.new.self F 0 s c.args.block (subst (λ (n : ℕ). IsKept F n → ⊥) slot (c.apart_from.ensures.flat F before))
     c.copy.ensures.err (c.copy.ensures.flat F 0 shows (holds_one_more k.flat s 0)) in
     err_as c.copy.result _ _ a c.args.kept.now.array c.copy.new.self c.apart_from.ensures.same.1 (c.apart_from.ensures.same.0 ∙ ap (λ (k : KeptView). k.array) c.kept.view_is) told
+
+pub returns-clause-copied : goal.returns-clause-copied
+returns-clause-copied g c =
+    let is = subst (book.IsKept g.N.Sizes.blocks g.N.Sizes.payload) c.kept.view_is c.kept.invariant in
+    copy_answered _ _ c.copy.result c.args.kept.now c.copy.new.self c.args.claim.0.slot c.args.block is (returns-clause-flat g c)

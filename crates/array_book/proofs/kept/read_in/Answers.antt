@@ -1,4 +1,5 @@
 use Rattle.std.proofs.Common.{refl}
+use Rattle.array_book.proofs.Answering.{learn_answered}
 use Rattle.array_book.proofs.Shown.{kept_with, learn_shown, learn_still, learned_told, learned_version}
 use Rattle.array_book.proofs.kept.read_in.Goals as goal
 
@@ -20,3 +21,7 @@ pub returns-clause-written : goal.returns-clause-written
 returns-clause-written g c =
     let k = c.kept.invariant in
     learned_version c.read_or_learn.result c.kept.inside.array c.read_or_learn.new.self k.flat c.args.asked _ k.shows (c.read_or_learn.ensures.flat k.flat k.shows)
+
+pub returns-clause-answered : goal.returns-clause-answered
+returns-clause-answered g c =
+    learn_answered _ _ c.read_or_learn.result _ c.read_or_learn.new.self c.args.asked c.kept.invariant c.read_or_learn.ensures.flat

@@ -5,7 +5,7 @@ abbrev pub ghosts-live-N-Naming : goal.ghosts-live-N-Naming
 ghosts-live-N-Naming g a = record { table = a.tables.slots }
 
 abbrev pub ghosts-live-N-Sizes : goal.ghosts-live-N-Sizes
-ghosts-live-N-Sizes g a = record { blocks = 16; payload = 8 }
+ghosts-live-N-Sizes g a = record { blocks = 16; payload = 40 }
 
 abbrev pub ghosts-live-A-Naming : goal.ghosts-live-A-Naming
 ghosts-live-A-Naming g a = record { table = a.tables.even }

@@ -11,7 +11,7 @@ pub returns-clause-read : goal.returns-clause-read
 returns-clause-read g c =
     let there = slice_get-get_or c.args.drives.now c.args.place.drive c.index-drives-place.result c.requires.inside in
     did_read (front_units (length c.args.front.now) g.D.Drive.units) g.D.Drive.lost g.D.Drive.failures c.args.drives.now c.args.place _ _ c.read_front.new.front c.is_ok.result c.requires.inside there
-    (record { lost_is = c.read_front.ensures.lost ∙ is_err-not c.read_front.result ∙ ap not (sym c.is_ok.ensures.value); stays = c.read_front.ensures.stays; count = c.read_front.ensures.count })
+    (record { lost_is = c.read_front.ensures.lost ∙ is_err-not c.read_front.result ∙ ap not (sym c.is_ok.ensures.value); stays = c.read_front.ensures.stays; count = c.read_front.ensures.count; steady = c.read_front.ensures.steady })
     (ap (fronts (length c.args.front.now)) c.read_front.ensures.units)
     (λ e. told_ok c.read_front.result c.read_front.ensures.read (sym c.is_ok.ensures.value ∙ e))
 
@@ -20,7 +20,7 @@ returns-clause-drives g c =
     let there = slice_get-get_or c.args.drives.now c.args.place.drive c.index-drives-place.result c.requires.inside in
     keeps_one _ _ _ _ c.args.drives.now c.args.place.drive _ _ c.requires.inside there
     (kept_read g.D.Drive.units g.D.Drive.lost g.D.Drive.failures c.args.place _ _ c.is_ok.result
-    (record { lost_is = c.read_front.ensures.lost ∙ is_err-not c.read_front.result ∙ ap not (sym c.is_ok.ensures.value); stays = c.read_front.ensures.stays; count = c.read_front.ensures.count })
+    (record { lost_is = c.read_front.ensures.lost ∙ is_err-not c.read_front.result ∙ ap not (sym c.is_ok.ensures.value); stays = c.read_front.ensures.stays; count = c.read_front.ensures.count; steady = c.read_front.ensures.steady })
     c.read_front.ensures.units)
 
 pub returns-clause-others : goal.returns-clause-others

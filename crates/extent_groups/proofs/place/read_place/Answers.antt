@@ -9,7 +9,7 @@ pub returns-clause-read : goal.returns-clause-read
 returns-clause-read g c =
     let there = slice_get-get_or c.args.drives.now c.args.place.drive c.index-drives-place.result c.requires.inside in
     did_read g.D.Drive.units g.D.Drive.lost g.D.Drive.failures c.args.drives.now c.args.place _ _ c.read_unit.new.unit c.is_ok.result c.requires.inside there
-    (record { lost_is = c.read_unit.ensures.lost ∙ is_err-not c.read_unit.result ∙ ap not (sym c.is_ok.ensures.value); stays = c.read_unit.ensures.stays; count = c.read_unit.ensures.count })
+    (record { lost_is = c.read_unit.ensures.lost ∙ is_err-not c.read_unit.result ∙ ap not (sym c.is_ok.ensures.value); stays = c.read_unit.ensures.stays; count = c.read_unit.ensures.count; steady = c.read_unit.ensures.steady })
     c.read_unit.ensures.units
     (λ e. told_ok c.read_unit.result c.read_unit.ensures.read (sym c.is_ok.ensures.value ∙ e))
 
@@ -18,7 +18,7 @@ returns-clause-drives g c =
     let there = slice_get-get_or c.args.drives.now c.args.place.drive c.index-drives-place.result c.requires.inside in
     keeps_one _ _ _ _ c.args.drives.now c.args.place.drive _ _ c.requires.inside there
     (kept_read g.D.Drive.units g.D.Drive.lost g.D.Drive.failures c.args.place _ _ c.is_ok.result
-    (record { lost_is = c.read_unit.ensures.lost ∙ is_err-not c.read_unit.result ∙ ap not (sym c.is_ok.ensures.value); stays = c.read_unit.ensures.stays; count = c.read_unit.ensures.count })
+    (record { lost_is = c.read_unit.ensures.lost ∙ is_err-not c.read_unit.result ∙ ap not (sym c.is_ok.ensures.value); stays = c.read_unit.ensures.stays; count = c.read_unit.ensures.count; steady = c.read_unit.ensures.steady })
     c.read_unit.ensures.units)
 
 pub returns-clause-others : goal.returns-clause-others

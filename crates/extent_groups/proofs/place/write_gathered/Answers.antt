@@ -11,7 +11,7 @@ returns-clause-written g c =
     let there = slice_get-get_or c.args.drives.now c.args.place.drive c.index-drives-place.result c.requires.inside in
     did_write g.D.Drive.units g.D.Drive.lost g.D.Drive.failures c.args.drives.now c.args.place _ _ (c.args.front.now ++ c.args.rest.now) c.is_ok.result c.requires.inside there
     (c.requires.place.low _ there)
-    (record { lost_is = c.write_gathered.ensures.lost ∙ is_err-not c.write_gathered.result ∙ ap not (sym c.is_ok.ensures.value); stays = c.write_gathered.ensures.stays; count = c.write_gathered.ensures.count })
+    (record { lost_is = c.write_gathered.ensures.lost ∙ is_err-not c.write_gathered.result ∙ ap not (sym c.is_ok.ensures.value); stays = c.write_gathered.ensures.stays; count = c.write_gathered.ensures.count; steady = c.write_gathered.ensures.steady })
     (λ e. told_ok c.write_gathered.result c.write_gathered.ensures.written (sym c.is_ok.ensures.value ∙ e))
 
 pub returns-clause-drives : goal.returns-clause-drives
@@ -20,7 +20,7 @@ returns-clause-drives g c =
     keeps_one _ _ _ _ c.args.drives.now c.args.place.drive _ _ c.requires.inside there
     (kept_write g.D.Drive.units g.D.Drive.lost g.D.Drive.failures c.args.place _ _ (c.args.front.now ++ c.args.rest.now) c.is_ok.result
     (λ at u is. c.requires.size _ _ there at u is ∙ sym (length-append c.args.front.now c.args.rest.now))
-    (record { lost_is = c.write_gathered.ensures.lost ∙ is_err-not c.write_gathered.result ∙ ap not (sym c.is_ok.ensures.value); stays = c.write_gathered.ensures.stays; count = c.write_gathered.ensures.count })
+    (record { lost_is = c.write_gathered.ensures.lost ∙ is_err-not c.write_gathered.result ∙ ap not (sym c.is_ok.ensures.value); stays = c.write_gathered.ensures.stays; count = c.write_gathered.ensures.count; steady = c.write_gathered.ensures.steady })
     (λ e. told_ok c.write_gathered.result c.write_gathered.ensures.written (sym c.is_ok.ensures.value ∙ e))
     (λ e. told_err c.write_gathered.result c.write_gathered.ensures.unwritten (sym c.is_ok.ensures.value ∙ e)))
 

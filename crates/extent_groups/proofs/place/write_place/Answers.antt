@@ -10,7 +10,7 @@ returns-clause-written g c =
     let there = slice_get-get_or c.args.drives.now c.args.place.drive c.index-drives-place.result c.requires.inside in
     did_write g.D.Drive.units g.D.Drive.lost g.D.Drive.failures c.args.drives.now c.args.place _ _ c.args.unit.now c.is_ok.result c.requires.inside there
     (c.requires.place.low _ there)
-    (record { lost_is = c.write_unit.ensures.lost ∙ is_err-not c.write_unit.result ∙ ap not (sym c.is_ok.ensures.value); stays = c.write_unit.ensures.stays; count = c.write_unit.ensures.count })
+    (record { lost_is = c.write_unit.ensures.lost ∙ is_err-not c.write_unit.result ∙ ap not (sym c.is_ok.ensures.value); stays = c.write_unit.ensures.stays; count = c.write_unit.ensures.count; steady = c.write_unit.ensures.steady })
     (λ e. told_ok c.write_unit.result c.write_unit.ensures.written (sym c.is_ok.ensures.value ∙ e))
 
 pub returns-clause-drives : goal.returns-clause-drives
@@ -19,7 +19,7 @@ returns-clause-drives g c =
     keeps_one _ _ _ _ c.args.drives.now c.args.place.drive _ _ c.requires.inside there
     (kept_write g.D.Drive.units g.D.Drive.lost g.D.Drive.failures c.args.place _ _ c.args.unit.now c.is_ok.result
     (c.requires.size _ _ there)
-    (record { lost_is = c.write_unit.ensures.lost ∙ is_err-not c.write_unit.result ∙ ap not (sym c.is_ok.ensures.value); stays = c.write_unit.ensures.stays; count = c.write_unit.ensures.count })
+    (record { lost_is = c.write_unit.ensures.lost ∙ is_err-not c.write_unit.result ∙ ap not (sym c.is_ok.ensures.value); stays = c.write_unit.ensures.stays; count = c.write_unit.ensures.count; steady = c.write_unit.ensures.steady })
     (λ e. told_ok c.write_unit.result c.write_unit.ensures.written (sym c.is_ok.ensures.value ∙ e))
     (λ e. told_err c.write_unit.result c.write_unit.ensures.unwritten (sym c.is_ok.ensures.value ∙ e)))
 

@@ -1,4 +1,5 @@
 use Rattle.std.proofs.Common.{ℕ, nat_le, codes, refl, sym, ap, subst, ◌∙◌, rules, Some}
+use Rattle.extents.specs.Failures.{no_failures}
 use Rattle.extent_groups.specs.Groups.{Groups}
 use Rattle.flat_machine.specs.Flat.{new_flat}
 use Rattle.tiering.specs.Tiered.{begun}
@@ -9,7 +10,7 @@ use Rattle.script_bench.proofs.replies.begin.Goals as goal
 
 -- where a new array stands
 abbrev begun_state : Groups → ℕ → State
-begun_state groups drives = Some (record { tiers = begun (new_flat groups drives (nat_le drives) (λ _. 0)); taken = nothing_taken })
+begun_state groups drives = Some (record { tiers = begun (new_flat groups drives (nat_le drives) (λ _. no_failures)); taken = nothing_taken })
 
 pub returns-in-Ok-put-clause-replied : goal.returns-in-Ok-put-clause-replied
 returns-in-Ok-put-clause-replied c =
@@ -35,7 +36,7 @@ returns-in-Ok-put-clause-replied c =
           state_is = ap (begun_state groups) some.0;
         };
         stands = record {
-          tiers = subst (λ (t : Tiers). StandsFor t (begun (new_flat groups c.in-Some.drives (nat_le c.in-Some.drives) (λ _. 0)))) (sym c.new-in-Ok-put.ensures.tiers)
+          tiers = subst (λ (t : Tiers). StandsFor t (begun (new_flat groups c.in-Some.drives (nat_le c.in-Some.drives) (λ _. no_failures)))) (sym c.new-in-Ok-put.ensures.tiers)
               (c.in-Ok-new.ensures.ok _ c.in-Ok.ensures.ok);
           maps = c.new-in-Ok-put.ensures.maps;
         };

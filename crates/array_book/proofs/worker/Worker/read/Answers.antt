@@ -1,6 +1,12 @@
-use Rattle.std.proofs.Common.{◌≡◌, rules, subst}
+use Rattle.std.proofs.Common.{◌≡◌, ◌≢◌, ◌<◌, rules, sym, ap, ◌∙◌, subst, Err}
+use Rattle.map_join.specs.Record.{key_of}
+use Rattle.flat_machine.specs.declared.refusal.Refusal.{Refusal}
+use Rattle.flat_machine.specs.declared.refusal.Refusal.TheVariants.{Memory}
+use Rattle.array_book.specs.declared.fault.WorkFault.TheVariants.{Core}
+use Rattle.array_book.specs.Outcomes.{WasLearned, WasUnlearned}
 use Rattle.step_core.specs.Told.{Lesson}
-use Rattle.array_book.specs.Takes.{taker_of, IsTold}
+use Rattle.map_join.specs.declared.records.Record.{Record}
+use Rattle.array_book.specs.Takes.{taker_of, HasAsked, HasRead, IsTold, Learnt}
 use Rattle.array_book.proofs.Telling.{told_is}
 use Rattle.array_book.proofs.worker.Worker.read.Goals as goal
 
@@ -9,7 +15,42 @@ returns-in-Ok-clause-some g c reading is =
     let before = taker_of c.args.controller c.args.self.now.even c.args.self.now.odd in
     let between = taker_of c.args.controller c.find.new.self.even c.find.new.self.odd in
     let after = taker_of c.args.controller c.learn.new.self.even c.learn.new.self.odd in
+    let found = c.in-Some.found in
     let same : c.in-Ok.reading ≡ reading = search rules in
+    let told : c.record.result ≡ c.in-Ok.reading.told = cc in
+    let learned = subst (λ (r : Record). Learnt r found between after) told c.learn.ensures.learnt in
     subst (λ (l : Lesson). IsTold before c.args.block after l.told) same
-    (told_is before between after c.args.block c.in-Some.found c.in-Ok.reading.told (search rules) (search rules) (search rules)
-    (search rules) (search rules) (search rules))
+    (told_is before between after c.args.block found c.in-Ok.reading.told (search rules) (search rules) (search rules)
+    (search rules) (search rules) learned)
+
+pub returns-in-Ok-clause-learned : goal.returns-in-Ok-clause-learned
+returns-in-Ok-clause-learned g c reading is =
+    let found = c.in-Some.found in
+    let same : c.in-Ok.reading ≡ reading = search rules in
+    let of : found.block ≡ c.args.block = search rules in
+    (found, of, subst (λ (l : Lesson). WasLearned g.N.Sizes.blocks g.N.Sizes.payload found l) same c.in-Ok.ensures.answered)
+
+pub returns-in-Err-clause-refused : goal.returns-in-Err-clause-refused
+returns-in-Err-clause-refused g c q is =
+    let found = c.in-Some.found in
+    let before = taker_of c.args.controller c.args.self.now.even c.args.self.now.odd in
+    let after = taker_of c.args.controller c.find.new.self.even c.find.new.self.odd in
+    let asked : HasAsked before c.args.block (key_of found) after = search rules in
+    let told : c.of.result ≡ Core q = cc in
+    let same : c.in-Err.refusal ≡ q = c.of.ensures.core q told in
+    let other : c.in-Err.refusal ≢ Memory = λ m. c.of.ensures.memory (told ∙ ap Core (sym same ∙ m)) in
+    (found, asked, subst (λ (z : Refusal). WasUnlearned g.N.Sizes.blocks g.N.Sizes.payload found z) same (c.in-Err.ensures.answered other))
+
+pub returns-in-Ok-clause-read : goal.returns-in-Ok-clause-read
+returns-in-Ok-clause-read g c reading is =
+    let before = taker_of c.args.controller c.args.self.now.even c.args.self.now.odd in
+    let between = taker_of c.args.controller c.find.new.self.even c.find.new.self.odd in
+    let after = taker_of c.args.controller c.learn.new.self.even c.learn.new.self.odd in
+    let found = c.in-Some.found in
+    let same : c.in-Ok.reading ≡ reading = search rules in
+    let told : c.record.result ≡ c.in-Ok.reading.told = cc in
+    let of : found.block ≡ c.args.block = search rules in
+    let written : 0 < found.version = search rules in
+    let asked : HasAsked before c.args.block (key_of found) between = search rules in
+    let learned = subst (λ (r : Record). Learnt r found between after) told c.learn.ensures.learnt in
+    subst (λ (l : Lesson). HasRead before c.args.block l.told after) same (found, between, of, written, asked, learned)

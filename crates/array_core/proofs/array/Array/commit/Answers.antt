@@ -8,7 +8,7 @@ use Rattle.flat_machine.specs.Steps.{Commit, Committed, Refused}
 use Rattle.flat_machine.specs.Cases.{CommitCase, IsWanted}
 use Rattle.array_parts.specs.Slots.{IsSlot}
 use Rattle.array_parts.specs.Views.{view_of, FoundGone, WasCarried}
-use Rattle.array_model.specs.Changes.{commit_view, commit_record, commit_reason}
+use Rattle.array_model.specs.Changes.{commit_view, commit_record, commit_reason, kind_given}
 use Rattle.array_model.specs.Represents.{ShowsArray}
 use Rattle.array_model.specs.Views.{ArrayView, IsWhole, Nothing, is_waiting, kept_at, key_at, with_parts}
 use Rattle.array_model.proofs.Fills.{as_whole, as_shown}
@@ -37,7 +37,7 @@ carry-requires-clause-to g c = carry-requires-clause-from g c
 pub carry-requires-clause-header : goal.carry-requires-clause-header
 carry-requires-clause-header g c =
     let found = record_at c.args.block (key_at c.args.self.now c.args.block) in
-    subst (λ (r : Record). IsHeader (Is r)) (sym (c.in-Ok.ensures.ok.1 ∙ ap (λ o. commit_record c.args.self.now c.slot-slot.result c.args.block o) c.newest-found.ensures.value))
+    subst (λ (r : Record). IsHeader (Is r c.waiting_kind-kind.result)) (sym (c.in-Ok.ensures.ok.1 ∙ ap (λ o. commit_record c.args.self.now c.slot-slot.result c.args.block o) c.newest-found.ensures.value))
     (commit_ok c.args.self.now c.slot-slot.result c.args.block (subst IsWhole c.self.view_is c.self.invariant.0) (search rules) (search rules)
     (ap (λ o. commit_reason c.args.self.now c.slot-slot.result c.args.block o) (sym c.newest-found.ensures.value) ∙ c.in-Ok.ensures.ok.0))
 
@@ -129,7 +129,7 @@ returns-clause-flat g c F w shows mine =
     let found = record_at c.args.block (key_at old c.args.block) in
     let none : commit_reason old c.args.ticket c.args.block found ≡ None = search rules in
     let is : c.of.result ≡ commit_record old c.args.ticket c.args.block found = search rules in
-    let was : WasCarried old.parts b c.args.ticket c.args.ticket (Is (commit_record old c.args.ticket c.args.block found)) = search rules in
+    let was : WasCarried old.parts b c.args.ticket c.args.ticket (Is (commit_record old c.args.ticket c.args.block found) (kind_given (kept_at old c.args.ticket))) = search rules in
     as_shown (λ G. CommitCase F w c.args.ticket c.args.block (Committed c.of.result) G) _
     (commit_view (with_parts old b) c.args.ticket c.args.block found c.of.result) (search rules)
     (subst (λ (r : Record). (G : Flat) × (CommitCase F w c.args.ticket c.args.block (Committed r) G)

@@ -1,4 +1,5 @@
 use Rattle.std.proofs.Common.{◌≡◌, ◌∙◌, ap, refl, subst, rules}
+use Rattle.extents.specs.declared.header.Kind.TheVariants as kind
 use Rattle.flat_machine.specs.Flat.{Worker, Payload, waiting_unit}
 use Rattle.flat_machine.specs.Steps.{Filled, Refused}
 use Rattle.flat_machine.specs.Cases.{FillCase, FillPasses}
@@ -29,10 +30,10 @@ pub invariant_of-self : goal.invariant_of-self
 invariant_of-self g c =
     let now = seen g.D.Drive.units g.D.Drive.lost g.D.Drive.failures c.self.inside in
     let s = c.slot-slot.result in (
-      as_whole _ _ (ap (λ k. record now { kept = k }) c.put_in.ensures.kept ∙ ap (λ (z : ArrayView). fill_view z s) (c.self.view_is ∙ c.put.ensures.rest))
-          (fill_whole c.args.self.now c.put.new.self.parts s (waiting_unit c.args.self.now.parts.groups.payload (Payload c.args.payload.now)) (search rules) (search rules) (search rules) (subst (λ (v : ArrayView). AreDrives drive_units v.parts.groups v.parts.drives) c.self.view_is c.self.invariant.0.drives) c.put.ensures.whole),
+      as_whole _ _ (ap (λ k. record now { kept = k }) c.put_in.ensures.kept ∙ ap (λ (z : ArrayView). fill_view z s kind.Data) (c.self.view_is ∙ c.put.ensures.rest))
+          (fill_whole c.args.self.now c.put.new.self.parts s (waiting_unit c.args.self.now.parts.groups.payload (Payload c.args.payload.now)) (search rules) (search rules) (search rules) (subst (λ (v : ArrayView). AreDrives drive_units v.parts.groups v.parts.drives) c.self.view_is c.self.invariant.0.drives) kind.Data c.put.ensures.whole),
       c.put_in.ensures.claims,
-      slot_ready g.D.Drive.units c.self.inside c.put_in.new.places c.slot-slot.result Pending c.put_in.ensures.room (search rules) c.self.invariant.0.room.kept (search rules) (search rules) refl c.self.invariant.2,
+      slot_ready g.D.Drive.units c.self.inside c.put_in.new.places c.slot-slot.result (Pending kind.Data) c.put_in.ensures.room (search rules) c.self.invariant.0.room.kept (search rules) (search rules) refl c.self.invariant.2,
     )
 
 pub returns-clause-flat : goal.returns-clause-flat
@@ -40,8 +41,8 @@ returns-clause-flat g c F w shows held =
     let now = seen g.D.Drive.units g.D.Drive.lost g.D.Drive.failures c.self.inside in
     let s = c.of.result in
     let is : s ≡ g.C.Hold.names c.args.claim = c.of.ensures ∙ c.slot-slot.ensures in
-    as_shown (λ G. FillCase F w s (Payload c.args.payload.now) (Filled s) G) _ (fill_view (with_parts c.args.self.now c.put.new.self.parts) s) (search rules)
-    (fill_case c.args.self.now c.put.new.self.parts F w s c.args.payload.now (search rules) (search rules) (search rules) (search rules) c.put.ensures.whole shows
+    as_shown (λ G. FillCase F w s (Payload c.args.payload.now) (Filled s) G) _ (fill_view (with_parts c.args.self.now c.put.new.self.parts) s kind.Data) (search rules)
+    (fill_case c.args.self.now c.put.new.self.parts F w s (Payload c.args.payload.now) (search rules) (search rules) (search rules) (search rules) c.put.ensures.whole shows
     (ap (λ n. F.held n (Worker w)) is ∙ held))
 
 pub returns-clause-ticket : goal.returns-clause-ticket

@@ -1,7 +1,7 @@
 use Rattle.std.proofs.Common.{◌≡◌, subst, sym, rules}
 use Rattle.std.specs.Vec.{with_items}
 use Rattle.std.proofs.lemmas.List.{with_items_is}
-use Rattle.flat_machine.specs.Flat.{Flat, Payload}
+use Rattle.flat_machine.specs.Flat.{Flat, content_under}
 use Rattle.flat_machine.specs.Steps.{Stale}
 use Rattle.flat_machine.specs.Cases.{IsBehind}
 use Rattle.flat_machine.specs.Learning.{LearnedCase}
@@ -21,11 +21,11 @@ pub returns-in-Err-no_payload-clause-flat : goal.returns-in-Err-no_payload-claus
 returns-in-Err-no_payload-clause-flat g c F shows =
     let newest = c.in-Ok.ensures.ok in (c.in-Ok.newest, newest_is c.args.self.now F c.args.asked.block _ shows newest.0, newest.1)
 
-pub returns-in-Ok-Data-clause-flat : goal.returns-in-Ok-Data-clause-flat
-returns-in-Ok-Data-clause-flat g c F shows =
+pub returns-in-Ok-Here-clause-flat : goal.returns-in-Ok-Here-clause-flat
+returns-in-Ok-Here-clause-flat g c F shows =
     let newest = c.in-Ok.ensures.ok in
-    let was = data_seen c.args.self.now c.look.new.self c.args.asked c.in-Ok-no_payload.payload c.look.new.payload (search rules) (search rules) in
-    subst (λ (l : Lesson). (G : Flat) × LearnedCase F c.args.asked l.told (Payload l.payload) G × ShowsArray c.look.new.self G) (sym c.of.ensures)
+    let was = data_seen c.args.self.now c.look.new.self c.args.asked c.in-Ok-Here.kind c.in-Ok-no_payload.payload c.look.new.payload (search rules) (search rules) in
+    subst (λ (l : Lesson). (G : Flat) × LearnedCase F c.args.asked l.told l.content G × ShowsArray c.look.new.self G) (sym c.of.ensures)
     (learned_here c.args.self.now c.look.new.self F c.args.asked c.in-Ok.newest _ shows (record { told = newest.0; most = newest.1 }) c.look.ensures.rest was)
 
 pub returns-in-Ok-payload_at-clause-flat : goal.returns-in-Ok-payload_at-clause-flat
@@ -34,10 +34,11 @@ returns-in-Ok-payload_at-clause-flat g c F shows =
     let was : WasSeen c.args.self.now c.look.new.self c.args.asked (Stale c.in-Ok-Stale._found) = search rules in
     let buffer = with_items c.in-Ok-no_payload.payload c.look.new.payload in
     let items : (with_items buffer c.payload_at.new.payload).items ≡ c.payload_at.new.payload = with_items_is buffer c.payload_at.new.payload (search rules) in
-    let read : WasRead c.look.new.self.parts c.payload_at.new.self.parts c.in-Ok.newest.place (with_items buffer c.payload_at.new.payload).items =
-    subst (WasRead c.look.new.self.parts c.payload_at.new.self.parts c.in-Ok.newest.place) (sym items) c.in-Ok-payload_at.ensures.ok
+    let k = c.in-Ok-payload_at.kind in
+    let read : WasRead c.look.new.self.parts c.payload_at.new.self.parts c.in-Ok.newest.place (content_under k (with_items buffer c.payload_at.new.payload).items) =
+    subst (λ l. WasRead c.look.new.self.parts c.payload_at.new.self.parts c.in-Ok.newest.place (content_under k l)) (sym items) c.in-Ok-payload_at.ensures.ok
     in
-    subst (λ (l : Lesson). (G : Flat) × LearnedCase F c.args.asked l.told (Payload l.payload) G × ShowsArray c.payload_at.new.self G) (sym c.of-in-Ok-payload_at.ensures)
+    subst (λ (l : Lesson). (G : Flat) × LearnedCase F c.args.asked l.told l.content G × ShowsArray c.payload_at.new.self G) (sym c.of-in-Ok-payload_at.ensures)
     (learned_there c.args.self.now c.look.new.self c.payload_at.new.self F c.args.asked c.in-Ok.newest c.in-Ok-Stale._found _ shows (record { told = newest.0; most = newest.1 })
     c.look.ensures.rest was c.payload_at.ensures.rest read)
 

@@ -10,6 +10,6 @@ returns-in-Err-clause-err g c =
 
 pub returns-clause-ok : goal.returns-clause-ok
 returns-clause-ok g c =
-    was_read g.D.Drive.units g.D.Drive.lost g.D.Drive.failures c.args.self.now c.read.new.self c.args.slot c.read.new.unit c.copy_from_slice.new.self
+    was_read g.D.Drive.units g.D.Drive.lost g.D.Drive.failures c.args.self.now c.read.new.self c.args.slot c.read.new.unit c.copy_from_slice.new.self c.kind_at_front.result
     (loses_view g.D.Drive.units g.D.Drive.lost g.D.Drive.failures c.args.self.now c.read.new.self c.read.ensures.only.tables c.read.ensures.fares c.read.ensures.units c.read.ensures.sound)
-    c.in_default.ensures.ok c.in_default.ensures.there (c.copy_from_slice.ensures.after ∙ behind c.read.new.unit)
+    c.in_default.ensures.ok c.in_default.ensures.there (λ u unit. c.kind_at_front.ensures u.header unit.0) (c.copy_from_slice.ensures.after ∙ behind c.read.new.unit)

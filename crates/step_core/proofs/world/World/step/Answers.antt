@@ -4,6 +4,9 @@ use Rattle.step_core.proofs.world.World.step.Goals as goal
 pub returns-in-Fill : goal.returns-in-Fill
 returns-in-Fill c = let e = c.fill.ensures in rw (c.in-Fill.is, sym c.deref.ensures.value) (record { ok = e.ok; err = e.err; wants = e.wants; room = e.room })
 
+pub returns-in-Trim : goal.returns-in-Trim
+returns-in-Trim c = let e = c.trim.ensures in rw (c.in-Trim.is) (record { ok = e.ok; err = e.err; wants = e.wants; room = e.room })
+
 pub returns-in-Copy : goal.returns-in-Copy
 returns-in-Copy c = let e = c.copy.ensures in rw (c.in-Copy.is) (record { ok = e.ok; err = e.err; wants = e.wants; room = e.room })
 

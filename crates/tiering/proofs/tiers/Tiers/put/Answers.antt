@@ -9,7 +9,7 @@ returns-in-Ok-clause-ok c =
     let a = c.args in
     let noted = c.note_put.ensures in
     let marked = c.mark_placed.ensures in
-    puts a.self.now (record { world = c.place.new.world; recency = c.mark_placed.new.recency; end = a.self.now.end; hints = c.hint_left.new.hints }) a.worker a.slot a.block (put_of a.payload)
+    puts a.self.now (record { world = c.place.new.world; recency = c.mark_placed.new.recency; end = a.self.now.end; hints = c.hint_left.new.hints }) a.worker a.slot a.block (put_of a.given)
     c.in-Ok.outcome c.newest-left.result c.in-Ok.ensures.ok c.place.ensures.room (λ there. marked.order ∙ noted.order there) (ap length marked.order ∙ noted.long)
     (marks_noted c.groups.result.now c.array-in-Ok.result.now c.place.new.world.array a.self.now.recency c.note_put.new.recency c.mark_placed.new.recency a.block
     c.in-Ok.outcome c.groups.ensures c.array-in-Ok.ensures noted.long noted.marks marked.marks)
@@ -19,4 +19,4 @@ returns-in-Ok-clause-ok c =
 pub returns-in-Err-clause-err : goal.returns-in-Err-clause-err
 returns-in-Err-clause-err c =
     let a = c.args in
-    puts_stop a.self.now c.place.new.world a.worker a.slot a.block (put_of a.payload) c.in-Err.ensures.err c.place.ensures.room
+    puts_stop a.self.now c.place.new.world a.worker a.slot a.block (put_of a.given) c.in-Err.ensures.err c.place.ensures.room

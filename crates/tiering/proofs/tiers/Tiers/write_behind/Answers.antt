@@ -1,13 +1,13 @@
 use Rattle.tiering.proofs.Standing.{finds_again, finds_none}
 use Rattle.tiering.proofs.tiers.Tiers.write_behind.Goals as goal
-use Rattle.flat_machine.specs.Flat.{Payload}
+use Rattle.tiering.specs.Placing.{content_of}
 
 pub returns-in-Some-clause-ok : goal.returns-in-Some-clause-ok
 returns-in-Some-clause-ok c =
     let a = c.args in
-    finds_again a.self.now c.free_mirror.new.self c.put.new.self a.worker a.block c.in-Some.slot (Payload a.payload.now) c.put.result c.in-Some.ensures.first c.put.ensures.ok
+    finds_again a.self.now c.free_mirror.new.self c.put.new.self a.worker a.block c.in-Some.slot (content_of a.given) c.put.result c.in-Some.ensures.first c.put.ensures.ok
 
 pub returns-in-None-clause-ok : goal.returns-in-None-clause-ok
 returns-in-None-clause-ok c =
     let a = c.args in
-    finds_none a.self.now c.free_mirror.new.self a.worker a.block (Payload a.payload.now) c.in-None.ensures.first
+    finds_none a.self.now c.free_mirror.new.self a.worker a.block (content_of a.given) c.in-None.ensures.first

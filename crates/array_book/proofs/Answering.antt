@@ -1,0 +1,80 @@
+-- What a call under the lock was answered, in some state of the lock's value.
+use Rattle.std.proofs.Common.{◌≡◌, ◌≢◌, ℕ, true, inl, inr, refl, subst, Option, None, Result, Ok, Err, IfOk}
+use Rattle.std.specs.Prelude.{MatchResult}
+use Rattle.map_join.specs.declared.records.Record.{Record}
+use Rattle.flat_machine.specs.declared.refusal.Refusal.{Refusal}
+use Rattle.flat_machine.specs.declared.refusal.Refusal.TheVariants.{Memory, NoTicket}
+use Rattle.flat_machine.specs.Flat.{Flat, Content, Worker, Ticket}
+use Rattle.flat_machine.specs.Steps as say
+use Rattle.flat_machine.specs.Cases.{IsBehind, DiscardCase}
+use Rattle.flat_machine.specs.Learning.{UnlearnedCase}
+use Rattle.array_model.specs.Changes.{MayRefuse}
+use Rattle.array_model.specs.Represents.{ShowsArray}
+use Rattle.array_model.specs.Views.{ArrayView}
+use Rattle.array_model.proofs.OneMore.{shows_one_more, holds_one_more}
+use Rattle.step_core.specs.Claimed.{with_claim}
+use Rattle.step_core.specs.Told.{Lesson}
+use Rattle.array_book.specs.Kept.{KeptView, IsKept}
+use Rattle.array_book.specs.Outcomes.{State, WasFilled, WasCopied, WasGivenUp, WasLearned, WasUnlearned}
+use Rattle.array_book.proofs.Shown.{FillTells, CopyTells, DiscardTells, LearnTells, ticket_of_some}
+
+-- a state of the lock's value, with the flat state of its invariant
+abbrev pub state_of : (blocks payload : ℕ) (k : KeptView) → IsKept blocks payload k → State blocks payload
+state_of blocks payload k is = record { view = k; kept = is; flat = is.flat; shows = is.shows }
+
+-- the same where a worker holds a slot too
+abbrev pub state_with : (blocks payload : ℕ) (k : KeptView) (s : ℕ) → IsKept blocks payload k → State blocks payload
+state_with blocks payload k s is = record {
+  view = k;
+  kept = is;
+  flat = with_claim is.flat s 0;
+  shows = shows_one_more k.array is.flat s 0 is.shows;
+}
+
+-- a refusal other than memory
+pub may_refused : (q : Refusal) (W P : Type 0) → MayRefuse q W P → q ≢ Memory → P
+may_refused Memory W P may other = absurd (other refl)
+may_refused _ W P may other = may
+
+pub fill_answered : {C : Type 0} (blocks payload : ℕ) (r : Result ℕ (Refusal × C)) (k : KeptView) (b : ArrayView) (s : ℕ) (x : Content) → IsKept blocks payload k
+    → ((F : Flat) (w : ℕ) → ShowsArray k.array F → F.held s (Worker w) ≡ true → FillTells r F w x b s) → IfOk r (λ t. WasFilled blocks payload t x)
+fill_answered blocks payload (Err e) k b s x is tells = tt
+fill_answered blocks payload (Ok t) k b s x is tells =
+    let told = tells (with_claim is.flat s 0) 0 (shows_one_more k.array is.flat s 0 is.shows) (holds_one_more is.flat s 0) in
+    record { state = state_with blocks payload k s is; worker = 0; after = told.0; case = told.1 }
+
+pub copy_answered : {C : Type 0} (blocks payload : ℕ) (r : Result ℕ (Refusal × C)) (k : KeptView) (b : ArrayView) (s block : ℕ) → IsKept blocks payload k
+    → ((F : Flat) (w : ℕ) → ShowsArray k.array F → F.held s (Worker w) ≡ true → CopyTells r F w block b s) → IfOk r (λ t. WasCopied blocks payload t block)
+copy_answered blocks payload (Err e) k b s block is tells = tt
+copy_answered blocks payload (Ok t) k b s block is tells =
+    let told = tells (with_claim is.flat s 0) 0 (shows_one_more k.array is.flat s 0 is.shows) (holds_one_more is.flat s 0) in
+    record { state = state_with blocks payload k s is; worker = 0; after = told.0; case = told.1 }
+
+-- a discard is refused only where there is no ticket
+no_ticket : (q : Refusal) (F : Flat) (w s : ℕ) → DiscardCase F w s (say.Refused q) F → DiscardCase F w s (say.Refused NoTicket) F
+no_ticket NoTicket F w s case = case
+no_ticket _ F w s case = absurd case
+
+pub discard_answered : {C : Type 0} (blocks payload : ℕ) (r : Result C (Refusal × ℕ)) (k : KeptView) (b : ArrayView) (s : ℕ) → IsKept blocks payload k
+    → ((F : Flat) (w : ℕ) → ShowsArray k.array F → (F.tickets s ≢ None → F.held s (Ticket w) ≡ true) → DiscardTells r F w b s) → WasGivenUp blocks payload s
+discard_answered blocks payload (Ok t) k b s is tells =
+    let w = ticket_of_some is.flat k.array s is.shows in
+    let told = tells is.flat w.0 is.shows w.1 in
+    inl (record { state = state_of blocks payload k is; worker = w.0; after = told.0; case = told.1 })
+discard_answered blocks payload (Err e) k b s is tells =
+    let w = ticket_of_some is.flat k.array s is.shows in
+    inr (record { state = state_of blocks payload k is; worker = w.0; after = is.flat; case = no_ticket e.0 is.flat w.0 s (tells is.flat w.0 is.shows w.1) })
+
+pub learn_answered : (blocks payload : ℕ) (r : Result Lesson Refusal) (k : KeptView) (b : ArrayView) (asked : Record) → IsKept blocks payload k
+    → ((F : Flat) → ShowsArray k.array F → LearnTells r F asked b)
+    → MatchResult r (WasLearned blocks payload asked) (λ q. q ≢ Memory → WasUnlearned blocks payload asked q)
+learn_answered blocks payload (Ok l) k b asked is tells =
+    let told = tells is.flat is.shows in record { state = state_of blocks payload k is; after = told.0; case = told.1 }
+learn_answered blocks payload (Err q) k b asked is tells = λ other.
+    let told = may_refused q (IsBehind is.flat asked) ((G : Flat) × UnlearnedCase is.flat asked q G × ShowsArray b G) (tells is.flat is.shows) other in
+    record { state = state_of blocks payload k is; after = told.0; case = told.1 }
+
+-- what is so of what was placed is so of what is answered
+pub placed_as : {E Q : Type 0} (r : Result ℕ E) (p : Result ℕ Q) (P : ℕ → Type 0) → IfOk r (λ t. p ≡ Ok t) → IfOk p P → IfOk r P
+placed_as {Q = Q} (Ok t) p P same is = subst (λ (z : Result ℕ Q). IfOk z P) same is
+placed_as (Err e) p P same is = tt

@@ -1,0 +1,27 @@
+-- What drives show after a stop behind any front of a slot's planned writes, and once these were finished.
+use Rattle.std.proofs.Common.{◌≡◌, ℕ, Option, Some, List, length, take}
+use Rattle.extent_groups.specs.declared.place.Place.{Place}
+use Rattle.extent_groups.specs.Groups.{Groups}
+use Rattle.extent_groups.specs.Cells.{Cells}
+use Rattle.extent_groups.specs.Calls.{FadesAt}
+use Rattle.extent_groups.specs.Layout.{IsLayout}
+use Rattle.extent_groups.specs.Planned.{Wanted, after, IsPlanned, IsFinished}
+use Rattle.extent_groups.specs.Stores.{unit_bytes}
+use Rattle.extent_groups.proofs.SlotWrites.{AreSizedCells, slots_fade}
+use Rattle.extent_groups.proofs.Finishing.{finished_wrote}
+use Rattle.flat_machine.specs.Flat.{Stored, put}
+use Rattle.array_parts.specs.Shows.{IsUnit, ShowsUnits}
+use Rattle.array_parts.proofs.Shows.{shows_kept, shows_wrote}
+
+-- no write was made: drives may have been lost
+pub shows_unbegun : (t : Groups) (c d : Cells) (units : ℕ → Option Stored) → IsLayout t → AreSizedCells (unit_bytes t) c → ShowsUnits t c units → ((x : Place) → FadesAt c d x) → ShowsUnits t d units
+shows_unbegun t c d units layout sized shows fades =
+    let kept = slots_fade t c d layout sized shows.sound fades in shows_kept t c d units shows kept.0 kept.1
+
+-- a front of the writes was made, drives were lost, and then all was finished: the slot has its unit, and all others have theirs
+pub shows_finished : (t : Groups) (c d e : Cells) (units : ℕ → Option Stored) (slot : ℕ) (bytes : List ℕ) (u : Stored) (wanted : Place → List ℕ) (writes : List Wanted) (n : ℕ)
+    → IsLayout t → AreSizedCells (unit_bytes t) c → ((x : Place) → length (wanted x) ≡ unit_bytes t) → ShowsUnits t c units → IsUnit bytes u
+    → IsPlanned t c slot bytes wanted writes → ((x : Place) → FadesAt (after c (take n writes)) d x) → IsFinished t d e slot wanted
+    → ShowsUnits t e (put units slot (Some u))
+shows_finished t c d e units slot bytes u wanted writes n layout sized long shows is planned stopped finished =
+    shows_wrote t c e units slot bytes u shows (finished_wrote t c d e slot bytes wanted writes n layout sized long planned stopped finished shows.sound) is

@@ -1,0 +1,22 @@
+use Rattle.std.proofs.Common.{sym, subst, ap, ◌∙◌}
+use Rattle.std.proofs.lemmas.Result.{on_ok_weaker, IfErr-weaker}
+use Rattle.std.specs.Prelude.{replicate}
+use Rattle.flat_machine.specs.Flat.{Trim, waiting_unit}
+use Rattle.array_parts.specs.Shows.{IsUnit}
+use Rattle.array_parts.proofs.Shows.{zero_unit}
+use Rattle.array_parts.proofs.Calls.{was_put, wrote_gone}
+use Rattle.array_parts.proofs.parts.Parts.put_trim.Goals as goal
+
+pub returns-clause-ok : goal.returns-clause-ok
+returns-clause-ok g c =
+    on_ok_weaker c.write.result
+    (λ there. was_put g.D.Drive.units g.D.Drive.lost g.D.Drive.failures c.args.self.now c.write.new.self c.args.slot c.clear.new.unit (waiting_unit c.args.self.now.groups.payload Trim)
+    c.write.ensures.tables c.write.ensures.fares c.write.ensures.wrote
+    (subst (λ b. IsUnit b (waiting_unit c.args.self.now.groups.payload Trim)) (sym (c.clear.ensures ∙ ap (λ n. replicate n 0) c.requires.unit)) (zero_unit c.args.self.now.groups.payload)) there)
+    c.write.ensures.there
+
+pub returns-clause-err : goal.returns-clause-err
+returns-clause-err g c =
+    IfErr-weaker c.write.result _ _
+    (λ e tells. wrote_gone g.D.Drive.units g.D.Drive.lost g.D.Drive.failures c.args.self.now c.write.new.self c.args.slot c.clear.new.unit e c.write.ensures.tables c.write.ensures.fares c.write.ensures.wrote tells)
+    c.write.ensures.gone

@@ -1,0 +1,194 @@
+// Restarts over units that are written by hand, in both layouts.
+use crate::answers::is_answer;
+use crate::case::steps_of;
+use crate::growths::map_of;
+use crate::payloads::payload_of;
+use crate::runs::run;
+use crate::slots::Slots;
+use crate::spellings::header_of;
+use crate::trouble::Trouble;
+use crate::words::{NUMBERS, Words, byte, short, words_of};
+use header_scan::ScanFault;
+use hex::FromHex;
+use map_join::Record;
+use std::alloc::Global;
+use step_core::{Step, World};
+
+/// The number that stands for a trim among contents.
+const TRIMMED: u32 = 999;
+
+/// How many restarts came out as their rows say, how many of them with a fault, and the first row that didn't.
+#[derive(Drop)]
+pub(crate) struct Restarts {
+    pub(crate) rows: u64,
+    pub(crate) faults: u64,
+    pub(crate) differs: Option<u64>,
+}
+
+/// Carries out each row. It has, with commas between: a number; units to write, as slot, header and the payload's number;
+/// drives to lose; `fault` and its numbers, or each block's record and content; steps with their answers; and slots with
+/// the bytes of their units at the end. Several of one are parted by semicolons, none is `-`; the first line names them.
+pub(crate) fn restart_all(alloc: Global, text: &str) -> Result<Restarts, Trouble> {
+    let mut counts = Restarts {
+        rows: 0,
+        faults: 0,
+        differs: None,
+    };
+    for row in text.lines().skip(1) {
+        match restart_row(alloc, row) {
+            Ok(is_fault) => counts.faults = counts.faults.saturating_add(u64::from(is_fault)),
+            Err(Trouble::Wrong) => {
+                counts.differs = Some(counts.rows.saturating_add(1));
+                return Ok(counts);
+            }
+            Err(trouble) => return Err(trouble),
+        }
+        counts.rows = counts.rows.saturating_add(1);
+    }
+    Ok(counts)
+}
+
+// The items of a field, parted by semicolons; none of `-`.
+fn items(field: &str) -> &str {
+    if field == "-" { "" } else { field }
+}
+
+// Whether the row's restart told a fault.
+fn restart_row(alloc: Global, row: &str) -> Result<bool, Trouble> {
+    let mut fields = row.split(',').skip(1);
+    let mut next = || fields.next().ok_or(Trouble::Input);
+    let (units, drives, answer) = (next()?, next()?, next()?);
+    let (steps, left) = (next()?, next()?);
+    match written(alloc, items(units), items(drives))?.restart(alloc)? {
+        Err(fault) if is_fault(fault, answer)? => Ok(true),
+        Err(_) => Err(Trouble::Wrong),
+        Ok(world) => {
+            let world = found(alloc, world, answer)?;
+            let part = steps_of(alloc, items(steps).split(';'))?;
+            let world = run(alloc, world, &part.steps, &part.wanted)?;
+            are_left(alloc, world, items(left))?;
+            Ok(false)
+        }
+    }
+}
+
+// The two groups with these units, and then without these drives.
+fn written(alloc: Global, units: &str, drives: &str) -> Result<Slots, Trouble> {
+    let mut slots = Slots::new(alloc)?;
+    for unit in units.split(';') {
+        write(&mut slots, unit)?;
+    }
+    for drive in drives.split(' ') {
+        if drive != "" {
+            slots.lose(byte(number(drive)?)?)?;
+        }
+    }
+    Ok(slots)
+}
+
+fn write(slots: &mut Slots, unit: &str) -> Result<(), Trouble> {
+    let (slot, rest) = unit.split_once(' ').ok_or(Trouble::Input)?;
+    let (header, content) = rest.split_once(' ').ok_or(Trouble::Input)?;
+    let payload = payload_of(byte(number(content)?)?);
+    slots.put_at(short(number(slot)?)?, header_of(header)?, payload)
+}
+
+fn number(word: &str) -> Result<u32, Trouble> {
+    word.parse::<u32>().ok().ok_or(Trouble::Input)
+}
+
+// Whether the fault is the one that is wanted.
+fn is_fault(fault: ScanFault, wanted: &str) -> Result<bool, Trouble> {
+    let told: [u32; 4] = match fault {
+        ScanFault::BadHeader(slot) => [2, u32::from(slot), 0, 0],
+        ScanFault::WrongSlot(slot, told) => [3, u32::from(slot), u32::from(told), 0],
+        ScanFault::Twice(block, slot, other) => [4, block, u32::from(slot), u32::from(other)],
+        ScanFault::Gone(slot) => [5, u32::from(slot), 0, 0],
+        ScanFault::NoClaim(slot) => [6, u32::from(slot), 0, 0],
+        ScanFault::Memory => return Err(Trouble::Memory),
+    };
+    let words = words_of(wanted)?;
+    Ok(words.verb == "fault" && &words.numbers[..4] == &told[..])
+}
+
+// The world, whose map has these records, and whose blocks read as these contents.
+fn found(alloc: Global, world: World, wanted: &str) -> Result<World, Trouble> {
+    let mut world = world;
+    let mut records = Vec::new(alloc);
+    for block in wanted.split(';') {
+        records.push(read_block(alloc, &mut world, block)?)?;
+    }
+    let list = map_of(alloc, world.array())?.to_list(alloc)?;
+    if list.as_slice() != records.as_slice() {
+        return Err(Trouble::Wrong);
+    }
+    Ok(world)
+}
+
+// The record that a block's numbers spell; the block reads as the content behind them.
+fn read_block(alloc: Global, world: &mut World, wanted: &str) -> Result<Record, Trouble> {
+    let (block, rest) = wanted.split_once(' ').ok_or(Trouble::Input)?;
+    let block = number(block)?;
+    let mut words = rest.split(' ');
+    let mut next = || match words.next() {
+        Some(word) => number(word),
+        None => Err(Trouble::Input),
+    };
+    let record = Record {
+        block,
+        version: next()?,
+        hop: short(next()?)?,
+        place: short(next()?)?,
+    };
+    let step = Step::Read { block };
+    if !world.fits(&step) {
+        return Err(Trouble::Input);
+    }
+    let answer = world.step(alloc, &step)?;
+    if is_answer(&content(record.version, next()?), &answer) {
+        Ok(record)
+    } else {
+        Err(Trouble::Wrong)
+    }
+}
+
+// The answer of a read of a block of this version and content.
+fn content(version: u32, content: u32) -> Words<'static> {
+    if content == TRIMMED {
+        return Words {
+            verb: "none",
+            numbers: [0; NUMBERS],
+        };
+    }
+    Words {
+        verb: "data",
+        numbers: [version, content, 0, 0, 0, 0, 0, 0],
+    }
+}
+
+// Whether the slots have these units: 32 bytes of a header, and the payload that its first byte names, or zeros.
+fn are_left(alloc: Global, world: World, units: &str) -> Result<(), Trouble> {
+    let mut slots = Slots::of(alloc, world)?;
+    for unit in units.split(';') {
+        if unit != "" {
+            is_left(&mut slots, unit)?;
+        }
+    }
+    Ok(())
+}
+
+fn is_left(slots: &mut Slots, unit: &str) -> Result<(), Trouble> {
+    let (slot, digits) = unit.split_once(' ').ok_or(Trouble::Input)?;
+    let mut wanted = <[u8; 40] as FromHex>::from_hex(digits)
+        .ok()
+        .ok_or(Trouble::Input)?;
+    if wanted[32] != 0 {
+        let payload = payload_of(wanted[32]);
+        wanted[32..].copy_from_slice(&payload);
+    }
+    if slots.unit(short(number(slot)?)?)? == wanted {
+        Ok(())
+    } else {
+        Err(Trouble::Wrong)
+    }
+}

@@ -1,0 +1,64 @@
+// The writes of a mirrored slot, planned.
+ghost use Rattle.std.specs.Prelude.{◌≡◌, ◌⊎◌, length, None, IfOk, IfErr};
+ghost use Rattle.extent_groups.specs.declared.class.Class.TheVariants.{Mirrored};
+ghost use Rattle.extent_groups.specs.declared.plan.PlanRefusal.TheVariants as refusal;
+ghost use Rattle.extent_groups.specs.Cells.{cells};
+ghost use Rattle.extent_groups.specs.Planned.{IsPlanned};
+ghost use Rattle.extent_groups.specs.PlanLists.{listed};
+ghost use Rattle.extent_groups.specs.Stores.{unit_bytes, unit_of, IsSlotOf, AreDrives};
+
+use extent_groups::{GroupTable, PlanRefusal, Planned, is_there, write_of};
+use extents::Drive;
+use std::alloc::Global;
+
+/// Plans the writes that give a slot the unit: of each copy whose drive is there, the first before the second. Refused where
+/// both are lost, and before that for want of memory; no drive is called.
+pub fn plan<D: Drive>(
+    alloc: Global,
+    groups: &GroupTable,
+    drives: &mut [D],
+    slot: u16,
+    unit: &[u8],
+) -> Result<Planned, PlanRefusal>
+    requires slot { IsSlotOf Mirrored groups.now slot }
+    requires drives { AreDrives D.units groups.now drives.old }
+    requires unit { length unit.now ≡ unit_bytes groups.now }
+    ensures ok { IfOk result (λ plan. IsPlanned groups.now (cells D.units D.lost drives.new) slot unit.now (λ place. unit.now) (listed plan.writes.items) × (plan.parity ≡ None)) }
+    ensures err { IfErr result (λ e. (e ≡ refusal.Memory) ⊎ ((e ≡ refusal.Gone slot) × (unit_of groups.now (cells D.units D.lost drives.new) slot ≡ None))) }
+    ensures same { drives.new ≡ drives.old }
+{
+    let (first, second) = groups.pair_of(slot);
+    let Ok(mut writes) = Vec::with_capacity(alloc, 2) else {
+        return Err(PlanRefusal::Memory);
+    };
+    let Ok(one) = write_of(alloc, first, unit) else {
+        return Err(PlanRefusal::Memory);
+    };
+    let Ok(two) = write_of(alloc, second, unit) else {
+        return Err(PlanRefusal::Memory);
+    };
+    let here = is_there(drives, first);
+    let there = is_there(drives, second);
+    if here {
+        writes.push_reserved(one);
+        if there {
+            writes.push_reserved(two);
+            return Ok(Planned {
+                writes,
+                parity: None,
+            });
+        }
+        return Ok(Planned {
+            writes,
+            parity: None,
+        });
+    }
+    if there {
+        writes.push_reserved(two);
+        return Ok(Planned {
+            writes,
+            parity: None,
+        });
+    }
+    Err(PlanRefusal::Gone(slot))
+}
