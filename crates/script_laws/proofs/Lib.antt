@@ -1,0 +1,15 @@
+pub mod Trees
+pub mod Quiet
+pub mod Slots
+pub mod Groups
+pub mod Lists
+pub mod Steps
+pub mod Scans
+pub mod Orders
+pub mod Choices
+pub mod Shifts
+pub mod Placings
+pub mod Plans
+pub mod Regroups
+pub mod Answers
+pub mod Scripts
