@@ -1,0 +1,97 @@
+//! A tour of the library: a drive and a claim of one's own, an array over them, a lost drive, a restart, and block maps.
+#![tactic(auto)]
+
+mod counted;
+mod desk;
+mod maps;
+mod restarts;
+mod volume;
+mod watched;
+
+use anyhow::Result;
+use desk::Desk;
+use map_join::Record;
+use maps::{backwards, map_of, merge};
+use std::alloc::Global;
+use std::process::ExitCode;
+use step_core::Class;
+use volume::{Volume, new_drives};
+
+fn main(rt: HostRuntime) -> ExitCode {
+    match tour(&rt, rt.alloc()) {
+        Ok(()) => ExitCode::SUCCESS,
+        Err(error) => {
+            let _ = eprintln!(rt; "tour: {error}");
+            ExitCode::FAILURE
+        }
+    }
+}
+
+fn tour(rt: &impl Print, alloc: Global) -> Result<()> {
+    let (shape, drives) = new_drives(alloc)?;
+    println!(rt; "drives: {} of {} units", drives.len(), shape.drive_units())?;
+    let mut volume = Volume::new(alloc, shape, drives, Desk::new())?;
+    let records = use_all(rt, &mut volume)?;
+    let volume = lose_one(rt, volume)?;
+    let volume = compare(rt, alloc, volume, &records)?;
+    let (desk, calls) = volume.end();
+    println!(rt;
+        "calls of the drives: {calls:?}, all claims are at the desk: {}",
+        desk.is_full()
+    )?;
+    Ok(())
+}
+
+// Two blocks are written, one is copied into the parity group, the other is trimmed: their records.
+fn use_all(rt: &impl Print, volume: &mut Volume) -> Result<Vec<Record>> {
+    let mirrored = volume.make(Class::Mirrored, [0, 1, 2], 0)?;
+    let parity = volume.make(Class::Parity, [1, 2, 3], 1)?;
+    println!(rt; "groups: {mirrored} is mirrored, {parity} has parity")?;
+    tell(rt, "write", volume.write(0, 3, &[3; 8])?)?;
+    tell(rt, "write", volume.write(1, 5, &[5; 8])?)?;
+    tell(rt, "copy", volume.copy(128, 3)?)?;
+    tell(rt, "trim", volume.trim(2, 5)?)?;
+    let free = [0, 1, 2, 128].map(|slot| volume.is_free(slot));
+    println!(rt; "claims of slots 0, 1, 2, 128 are at the desk: {free:?}")?;
+    Ok(volume.array.records_from(volume.alloc, 0)?)
+}
+
+// Prints a record.
+fn tell(rt: &impl Print, what: &str, record: Record) -> Result<()> {
+    println!(rt;
+        "{what}: block {}, version {}, hop {}, slot {}",
+        record.block, record.version, record.hop, record.place
+    )?;
+    Ok(())
+}
+
+// Reads block 3, loses the drive that has its unit, and reads it again.
+fn lose_one(rt: &impl Print, mut volume: Volume) -> Result<Volume> {
+    let before = volume.read(3)?;
+    let mut volume = volume.restart_without(1)?;
+    let after = volume.read(3)?;
+    println!(rt;
+        "block 3 without drive 1: {after:?}, as before: {}",
+        before == after
+    )?;
+    Ok(volume)
+}
+
+// The map of the headers is the array's, and that of the records in any order.
+fn compare(rt: &impl Print, alloc: Global, volume: Volume, records: &[Record]) -> Result<Volume> {
+    let (volume, scanned, headers) = volume.scan()?;
+    let running = volume.array.map(alloc)?;
+    let same = scanned.agrees(&running);
+    println!(rt; "a scan of {headers} headers has the array's map: {same}")?;
+
+    let mut one = map_of(alloc, records)?;
+    let other = map_of(alloc, &backwards(alloc, records)?)?;
+    let same = one.agrees(&other);
+    merge(alloc, &mut one, &other)?;
+    let merged = one.agrees(&scanned);
+    println!(rt;
+        "two maps of {} records agree: {same}, merged with the scan: {merged}",
+        records.len()
+    )?;
+    Ok(volume)
+}

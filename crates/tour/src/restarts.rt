@@ -1,0 +1,76 @@
+// An array taken apart, and restarted from its drives.
+ghost use Rattle.std.specs.Prelude.{◌≡◌, IsTrue};
+ghost use Rattle.array_parts.specs.Fit.{IsFit};
+ghost use Rattle.tour.specs.Counted.{counted_units};
+
+use crate::counted::Counted;
+use crate::desk::Desk;
+use crate::volume::{Volume, are_sized};
+use crate::watched::Watched;
+use anyhow::{Result, bail, ensure};
+use array_parts::Parts;
+use header_scan::{restart, scan};
+use map_join::BlockMap;
+use step_core::{MemDrive, TakeBack};
+
+// Whether the parts fit one another.
+fn are_fit(parts: &Parts<Counted<MemDrive>>) -> bool
+    ensures { IsTrue result → IsFit counted_units parts.now }
+{
+    if !are_sized(&parts.drives, parts.groups.shape().unit_bytes()) {
+        return false;
+    }
+    parts.is_fit()
+}
+
+impl Volume {
+    /// Takes the array apart, loses a drive, and restarts an array over the others.
+    pub(crate) fn restart_without(self, drive: usize) -> Result<Volume> {
+        let Volume {
+            alloc,
+            array,
+            mut desk,
+        } = self;
+        let Ok((mut parts, seats)) = array.into_parts(alloc) else {
+            bail!("no memory");
+        };
+        match parts.drives.get_mut(drive) {
+            Some(drive) => drive.lose(),
+            None => bail!("no such drive"),
+        }
+        ensure!(are_fit(&parts), "the parts don't fit");
+        match restart(alloc, parts, seats) {
+            Ok((array, free)) => {
+                for seat in free {
+                    desk.take_back(seat);
+                }
+                Ok(Volume { alloc, array, desk })
+            }
+            Err((fault, _parts, _seats)) => Err(fault.into()),
+        }
+    }
+
+    /// The map of the headers, and how many headers were read for it.
+    pub(crate) fn scan(self) -> Result<(Volume, BlockMap, u32)> {
+        let Volume { alloc, array, desk } = self;
+        let mut watched = Watched::new(array);
+        let map = scan(alloc, &mut watched)?;
+        let (array, headers) = watched.end();
+        Ok((Volume { alloc, array, desk }, map, headers))
+    }
+
+    /// Ends the array: the desk, and how many calls each of four drives got.
+    pub(crate) fn end(self) -> (Desk, [u64; 4]) {
+        let Volume {
+            alloc: _,
+            array,
+            mut desk,
+        } = self;
+        let parts = array.end(&mut desk);
+        let mut calls = [0; 4];
+        for (count, drive) in calls.iter_mut().zip(parts.drives.iter()) {
+            *count = drive.calls();
+        }
+        (desk, calls)
+    }
+}

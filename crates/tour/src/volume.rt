@@ -1,0 +1,149 @@
+// An array over four counted drives, with claims from a desk.
+ghost use Rattle.std.specs.Prelude.{◌≡◌, IsTrue};
+ghost use Rattle.extent_groups.specs.Calls.{AreSized};
+ghost use Rattle.array_parts.specs.Fit.{HaveUnits};
+ghost use Rattle.tour.specs.Counted.{counted_units};
+
+use crate::counted::Counted;
+use crate::desk::{Desk, Seat};
+use anyhow::{Context, Result, bail, ensure};
+use map_join::Record;
+use std::alloc::Global;
+use step_core::{Array, Class, Drive, MemDrive, Member, Refusal, Shape, TakeBack, Ticket};
+
+/// An array, and the desk that its claims come from.
+#[derive(Drop)]
+pub(crate) struct Volume {
+    pub(crate) alloc: Global,
+    pub(crate) array: Array<Counted<MemDrive>, Seat>,
+    pub(crate) desk: Desk,
+}
+
+/// Four drives of eight extents of two segments, and payloads of eight bytes, for sixteen blocks.
+pub(crate) fn new_drives(alloc: Global) -> Result<(Shape, Vec<Counted<MemDrive>>)> {
+    let Ok(shape) = Shape::new(8, 2, 8, 16) else {
+        bail!("a size is out of range");
+    };
+    let mut drives = Vec::new(alloc);
+    for _made in 0..4 {
+        drives.push(Counted::new(MemDrive::new(alloc, &shape)?))?;
+    }
+    Ok((shape, drives))
+}
+
+/// Whether each unit of the drives has so many bytes.
+pub(crate) fn are_sized(drives: &[Counted<MemDrive>], bytes: usize) -> bool
+    ensures { IsTrue result → AreSized counted_units bytes drives.now }
+{
+    drives.iter().all(|drive| drive.unit_bytes() == bytes)
+}
+
+// Whether each drive has so many units.
+fn have_units(drives: &[Counted<MemDrive>], units: u32) -> bool
+    ensures { IsTrue result → HaveUnits counted_units drives.now units }
+{
+    drives.iter().all(|drive| drive.units() == units)
+}
+
+impl Volume {
+    /// An array over these drives, with no group.
+    pub(crate) fn new(
+        alloc: Global,
+        shape: Shape,
+        drives: Vec<Counted<MemDrive>>,
+        desk: Desk,
+    ) -> Result<Volume> {
+        ensure!(3 <= drives.len() && drives.len() <= 16, "3 to 16 drives");
+        ensure!(
+            are_sized(&drives, shape.unit_bytes()),
+            "units of another size"
+        );
+        ensure!(
+            have_units(&drives, shape.drive_units()),
+            "drives of another size"
+        );
+        match Array::new(alloc, shape, drives) {
+            Ok(array) => Ok(Volume { alloc, array, desk }),
+            Err((refusal, _drives)) => Err(refusal.into()),
+        }
+    }
+
+    /// Makes a group of an extent of this number on each of three drives: its number.
+    pub(crate) fn make(&mut self, class: Class, drives: [u8; 3], extent: u16) -> Result<u16> {
+        let members = drives.map(|drive| Member { drive, extent });
+        let (group, _seats) = self.array.make_group(self.alloc, class, &members)?;
+        Ok(group)
+    }
+
+    /// Writes a block at a slot.
+    pub(crate) fn write(&mut self, slot: u16, block: u32, payload: &[u8; 8]) -> Result<Record> {
+        ensure!(self.array.shape().payload == 8, "another length");
+        let seat = self.desk.take(slot).context("the claim is out")?;
+        let filled = self.array.fill(self.alloc, seat, payload);
+        self.commit(filled, block)
+    }
+
+    /// Copies a block to a slot.
+    pub(crate) fn copy(&mut self, slot: u16, block: u32) -> Result<Record> {
+        ensure!(block < self.array.shape().blocks, "no such block");
+        let seat = self.desk.take(slot).context("the claim is out")?;
+        let copied = self.array.copy(self.alloc, seat, block);
+        self.commit(copied, block)
+    }
+
+    /// Trims a block, with its record at a slot.
+    pub(crate) fn trim(&mut self, slot: u16, block: u32) -> Result<Record> {
+        let seat = self.desk.take(slot).context("the claim is out")?;
+        let trimmed = self.array.trim(self.alloc, seat);
+        self.commit(trimmed, block)
+    }
+
+    // Commits what waits. The claim that is free then goes to the desk.
+    fn commit(&mut self, waits: Result<Ticket, (Refusal, Seat)>, block: u32) -> Result<Record> {
+        let ticket = match waits {
+            Ok(ticket) => ticket,
+            Err((refusal, seat)) => {
+                self.desk.take_back(seat);
+                return Err(refusal.into());
+            }
+        };
+        if block >= self.array.shape().blocks {
+            self.give_up(ticket);
+            bail!("no such block");
+        }
+        match self.array.commit(self.alloc, ticket, block) {
+            Ok(done) => {
+                if let Some(seat) = done.old {
+                    self.desk.take_back(seat);
+                }
+                Ok(done.emitted.record())
+            }
+            Err((refusal, ticket)) => {
+                self.give_up(ticket);
+                Err(refusal.into())
+            }
+        }
+    }
+
+    // Lets go of a slot that waits: its claim goes to the desk.
+    fn give_up(&mut self, ticket: Ticket) {
+        if let Ok(seat) = self.array.discard(ticket) {
+            self.desk.take_back(seat);
+        }
+    }
+
+    /// The payload of a block.
+    pub(crate) fn read(&mut self, block: u32) -> Result<[u8; 8]> {
+        let shape = self.array.shape();
+        ensure!(block < shape.blocks && shape.payload == 8, "no such block");
+        let mut payload = [0; 8];
+        let version = self.array.read_into(block, &mut payload)?;
+        version.context("the block is absent")?;
+        Ok(payload)
+    }
+
+    /// Whether the claim of a slot is at the desk.
+    pub(crate) fn is_free(&self, slot: u16) -> bool {
+        self.desk.has(slot)
+    }
+}

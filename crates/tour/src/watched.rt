@@ -1,0 +1,46 @@
+// Units whose headers are counted as they are read.
+use array_parts::Units;
+use extent_groups::GroupTable;
+use step_core::Refusal;
+
+/// Units, and how many of their headers were asked for.
+#[derive(Drop)]
+pub(crate) struct Watched<U> {
+    units: U,
+    headers: u32,
+}
+
+impl<U: Units> Watched<U> {
+    /// Units of which no header was asked for.
+    pub(crate) fn new(units: U) -> Watched<U> {
+        Watched { units, headers: 0 }
+    }
+
+    /// The units, and how many headers were asked for.
+    pub(crate) fn end(self) -> (U, u32) {
+        (self.units, self.headers)
+    }
+}
+
+impl<U: Units> Units for Watched<U> {
+    ghost groups = { λ w. U.groups w.units };
+
+    ghost cells = { λ w. U.cells w.units };
+
+    ghost fits = { λ w. U.fits w.units };
+
+    ghost leaves = { λ v w. U.leaves v.units w.units };
+
+    fn groups(&self) -> &GroupTable {
+        self.units.groups()
+    }
+
+    fn header(&mut self, slot: u16, header: &mut [u8], scratch: &mut [u8]) -> Result<(), Refusal> {
+        self.headers = self.headers.saturating_add(1);
+        self.units.header(slot, header, scratch)
+    }
+
+    ghost none = { λ w. U.none w.units };
+
+    ghost more = { λ u v w one two. U.more u.units v.units w.units one two };
+}
