@@ -1,22 +1,21 @@
-# `make` proves and builds the program and answers the examples; `make test` is the gate; `make hostile` is its long run of hostile use; `make bench` times it beside plain Rust.
-.PHONY: all run test hostile bench
+# make           builds the program without proof and answers the examples: 2 to 3 minutes on two processors
+# make build     proves and optimises the program, and answers the examples: 20 to 40 minutes on two processors
+# make test      the gate: all proofs, must-fail edits, tests and cases: about 90 minutes on two processors
+# make hostile   the long run of injected faults (docs/FAULTS.md): a minute after `make test`
+# make bench     times against plain Rust programs (bench/README.md): a quarter of an hour after `make test`
+.PHONY: examples build test hostile bench
 
-all: run
+examples:
+	@.ci/examples try
 
-run:
-	@answers=$$(mktemp) && trap 'rm -f "$$answers"' EXIT && \
-	for script in one_write two_workers two_controllers a_copy_outrun a_lost_drive hot_and_cold rebuilt_onto_a_new_drive; do \
-	    echo "== examples/$$script"; \
-	    (cd crates/raid_bench && rt run -- script < ../../examples/$$script 2>/dev/null) > "$$answers"; \
-	    cat "$$answers"; \
-	    cmp "$$answers" examples/$$script.stdout || exit 1; \
-	done
+build:
+	@.ci/examples build
 
 test:
-	bash .ci/run
+	@.ci/run
 
 hostile:
-	bash .ci/hostile_long
+	@.ci/hostile_long
 
 bench:
-	python3 bench/all.py
+	@python3 bench/all.py

@@ -1,7 +1,6 @@
-// Loaded before a program: refuses the N-th growth (REFUSE=N), so that want of memory can be tested on the program as it is built;
-// or each that asks for more bytes than REFUSE_ABOVE says, so that a table that is too long is found.
-// Where a growth was refused the file that REFUSED names is made: some growths can be done without, and then the program
-// goes on, so its status doesn't tell it.
+// Loaded before a program: fails the N-th allocation (REFUSE=N), or each of more bytes than REFUSE_ABOVE.
+// After a failed allocation the file that REFUSED names exists. The status doesn't show it: a program can do without some
+// allocations, and then it goes on.
 #define _GNU_SOURCE
 #include <dlfcn.h>
 #include <errno.h>
