@@ -47,6 +47,21 @@ def writes(count, payload, blocks, drives=16, extents=512, groups=256):
     return lines
 
 
+def trims(count, payload, blocks):
+    """Writes of blocks at random, one in five of them a trim, each read once."""
+    chance = random.Random(4)
+    lines, _, _ = mirrored(256, 16, 8)
+    lines.insert(0, f"array 16 512 8 {payload} {blocks}")
+    for _ in range(count):
+        block, worker = chance.randrange(blocks), chance.randrange(8)
+        if chance.randrange(5) == 0:
+            lines.append(f"trim {worker} {block}")
+        else:
+            lines.append(f"write {worker} {block} {chance.randbytes(payload).hex()}")
+        lines.append(f"read {block}")
+    return lines
+
+
 def copies(count):
     """Blocks that go to and fro between mirrored and parity slots, each read by its record."""
     chance = random.Random(2)
@@ -89,6 +104,7 @@ WORKLOADS = {
     "writes of 1,024 bytes": lambda: writes(30_000, 1024, 4096),
     "writes of 4,096 bytes": lambda: writes(8_000, 4096, 4096),
     "writes of 65,536 bytes": lambda: writes(1_000, 65536, 600, 8, 64, 30),
+    "writes of 64 bytes, one in five a trim": lambda: trims(180_000, 64, 4096),
     "copies": lambda: copies(180_000),
     "maps": lambda: maps(400_000),
 }

@@ -5,7 +5,7 @@ use crate::drives::Drives;
 use crate::groups::{Group, Place};
 use crate::live::{Live, lowest_of};
 use crate::recency::Recency;
-use crate::record::Record;
+use crate::record::{Header, Record};
 use crate::stop::{Stop, Told, reserve, table};
 
 /// What a slot is kept for, and by which worker.
@@ -31,11 +31,13 @@ pub enum Refusal {
 
 pub type Done<T> = Result<T, Refusal>;
 
-/// Whose content a slot has: of a newest place its block, of a copy that waits for its commit also the key that was copied.
+/// Whose content a slot has: of a newest place its block, of a copy that waits for its commit also the key and the kind that
+/// were copied.
 #[derive(Clone, Copy)]
 pub struct Content {
     pub block: u32,
     pub key: u64,
+    pub kind: Header,
 }
 
 #[derive(Clone, Copy)]

@@ -56,7 +56,7 @@ impl Array {
             reserve(&mut self.contents, 128)?;
             self.groups.push(None);
             self.places.resize(128 * (number + 1), Place::Nowhere);
-            self.contents.resize(128 * (number + 1), Content { block: 0, key: 0 });
+            self.contents.resize(128 * (number + 1), Content { block: 0, key: 0, kind: 0 });
         }
         Ok(())
     }

@@ -11,10 +11,13 @@ pub struct Record {
     pub place: u16,
 }
 
-/// The first sixteen bytes of a unit's header, the highest first; the others are always zero. A blank one is 0.
+/// A mark and a record as one number, the highest byte first; the mark of a trim differs in one bit. A blank one is 0.
 pub type Header = u128;
 
-const TAG: Header = 0x5242_4831 << 96;
+const TAG: Header = 0x5242_4832 << 96;
+
+/// The bit of the mark that makes a header one of a trim.
+pub const TRIM: Header = 1 << 96;
 
 impl Record {
     /// Version, hop and place as one number; 0 is the key of no record.
@@ -57,7 +60,7 @@ impl Record {
     /// The record that a header tells; none where it is blank or no header.
     #[inline]
     pub fn of_header(header: Header) -> Option<Record> {
-        if header >> 96 == TAG >> 96 { Record::of_number(header) } else { None }
+        if (header | TRIM) >> 96 == (TAG | TRIM) >> 96 { Record::of_number(header) } else { None }
     }
 }
 

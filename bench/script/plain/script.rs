@@ -105,6 +105,11 @@ fn say_fault(out: &mut Answers, fault: Fault) {
 fn say_at(out: &mut Answers, version: u32, told: Done<At>) {
     match told {
         Ok(At::Data(payload)) => out.data(version, payload),
+        Ok(At::Trimmed) => {
+            out.text(b"trimmed ");
+            out.number(version);
+            out.text(b"\n");
+        }
         Ok(At::Stale(None)) => out.text(b"stale none\n"),
         Ok(At::Stale(Some(header))) => {
             out.text(b"stale ");
@@ -153,6 +158,7 @@ impl Script {
         const AT: u64 = verb(b"at");
         const DISCARD: u64 = verb(b"discard");
         const WRITE: u64 = verb(b"write");
+        const TRIM: u64 = verb(b"trim");
         const DEMOTE: u64 = verb(b"demote");
         const PLUG: u64 = verb(b"plug");
         const CLEAN: u64 = verb(b"clean");
@@ -167,6 +173,7 @@ impl Script {
             AT => self.at(words, out),
             DISCARD => self.discard(words, out),
             WRITE => self.write(words, out),
+            TRIM => self.trim(words, out),
             DEMOTE => self.moves(words, out, Array::demote),
             PLUG => self.moves(words, out, Array::plug),
             CLEAN => self.moves(words, out, Array::clean),
@@ -303,6 +310,16 @@ impl Script {
         let block = self.block(b)?;
         self.array.reserve()?;
         say_move(out, self.array.write(block, &self.payload));
+        Ok(())
+    }
+
+    fn trim(&mut self, words: &mut Words, out: &mut Answers) -> Told {
+        let (w, b) = (words.digit()?, words.number()?);
+        words.end()?;
+        worker(w)?;
+        let block = self.block(b)?;
+        self.array.reserve()?;
+        say_move(out, self.array.trim(block));
         Ok(())
     }
 

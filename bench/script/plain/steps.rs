@@ -2,11 +2,12 @@
 
 use crate::array::{Array, Content, Done, Kept, Refusal};
 use crate::groups::Place;
-use crate::record::{Header, Record, place_of};
+use crate::record::{Header, Record, TRIM, place_of};
 
 /// What is read at a record's place: its payload, or another header.
 pub enum At<'a> {
     Data(&'a [u8]),
+    Trimmed,
     Stale(Option<Record>),
 }
 
@@ -39,10 +40,17 @@ impl Array {
         if newest.hop == u16::MAX {
             return Err(Refusal::Number(8));
         }
+        let kind = self.kind(newest.place)?;
         self.copy_unit(newest.place, slot, 0)?;
         self.kept[usize::from(slot)] = Kept::Moved(worker);
-        self.contents[usize::from(slot)] = Content { block, key: newest.key() };
+        self.contents[usize::from(slot)] = Content { block, key: newest.key(), kind };
         Ok(())
+    }
+
+    /// The bit of a slot's header that tells a trim, or 0.
+    #[inline]
+    pub fn kind(&self, slot: u16) -> Done<Header> {
+        Ok(self.header(slot)? & TRIM)
     }
 
     /// Copies a payload from slot to slot, with this header.
@@ -61,12 +69,12 @@ impl Array {
 
     /// Makes a slot's content its block's newest; the worker has the old place then. For its record there is room in the log.
     pub fn commit(&mut self, worker: u8, slot: u16, block: u32) -> Done<Record> {
-        let record = match self.kept[usize::from(slot)] {
-            Kept::Fresh(holder) if holder == worker => self.fresh(block, slot),
-            Kept::Moved(holder) if holder == worker => self.moved(slot, block)?,
+        let (record, kind) = match self.kept[usize::from(slot)] {
+            Kept::Fresh(holder) if holder == worker => (self.fresh(block, slot), 0),
+            Kept::Moved(holder) if holder == worker => (self.moved(slot, block)?, self.contents[usize::from(slot)].kind),
             _ => return Err(Refusal::Number(5)),
         };
-        self.write_header(slot, record.header())?;
+        self.write_header(slot, record.header() | kind)?;
         self.kept[usize::from(slot)] = Kept::Newest;
         if let Some(old) = self.emit(record) {
             self.kept[usize::from(old)] = Kept::Claimed(worker);
@@ -127,6 +135,7 @@ impl Array {
     pub fn read(&mut self, block: u32) -> Done<Option<(u32, &[u8])>> {
         match self.newest(block) {
             None => Ok(None),
+            Some(newest) if self.kind(newest.place)? != 0 => Ok(None),
             Some(newest) => Ok(Some((newest.version, self.payload(newest.place)?))),
         }
     }
@@ -142,6 +151,9 @@ impl Array {
         let header = self.header(record.place)?;
         if header == record.header() {
             return Ok(At::Data(self.payload(record.place)?));
+        }
+        if header == record.header() | TRIM {
+            return Ok(At::Trimmed);
         }
         Ok(At::Stale(Record::of_header(header)))
     }

@@ -2,7 +2,7 @@
 
 use crate::array::{Array, Done, Kept, Refusal};
 use crate::live::lowest_of;
-use crate::record::Record;
+use crate::record::{Header, Record, TRIM};
 
 /// What comes of a move.
 pub enum Move {
@@ -15,6 +15,21 @@ pub enum Move {
 impl Array {
     /// A fresh payload into the lowest free mirrored slot, for which one block is demoted where there is none.
     pub fn write(&mut self, block: u32, payload: &[u8]) -> Move {
+        self.put(|array, slot| array.write_into(slot, block, 0, payload))
+    }
+
+    /// The same with no payload: the block is absent from then on.
+    pub fn trim(&mut self, block: u32) -> Move {
+        self.put(|array, slot| {
+            let mut spare = std::mem::take(&mut array.spare);
+            spare.fill(0);
+            let told = array.write_into(slot, block, TRIM, &spare);
+            array.spare = spare;
+            told
+        })
+    }
+
+    fn put(&mut self, put: impl FnOnce(&mut Array, u16) -> Done<Record>) -> Move {
         let slot = match self.free_mirrored() {
             Some(slot) => slot,
             None => match self.demote() {
@@ -25,12 +40,12 @@ impl Array {
                 _ => return Move::NoRoom,
             },
         };
-        self.write_into(slot, block, payload).map_or_else(Move::Refused, Move::Moved)
+        put(self, slot).map_or_else(Move::Refused, Move::Moved)
     }
 
-    fn write_into(&mut self, slot: u16, block: u32, payload: &[u8]) -> Done<Record> {
+    fn write_into(&mut self, slot: u16, block: u32, kind: Header, payload: &[u8]) -> Done<Record> {
         let record = self.fresh(block, slot);
-        self.write_unit(slot, record.header(), payload)?;
+        self.write_unit(slot, record.header() | kind, payload)?;
         self.settle(record);
         Ok(record)
     }
@@ -50,7 +65,8 @@ impl Array {
             return Err(Refusal::Number(8));
         }
         let record = Record { hop: newest.hop + 1, place: slot, ..newest };
-        self.copy_unit(newest.place, slot, record.header())?;
+        let kind = self.kind(newest.place)?;
+        self.copy_unit(newest.place, slot, record.header() | kind)?;
         self.settle(record);
         Ok(record)
     }
