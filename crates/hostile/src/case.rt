@@ -28,21 +28,18 @@ pub(crate) fn read_case(alloc: Global, text: &str) -> Result<Case<'_>, Trouble> 
     let (before, behind) = lines.split_once("--\n").unwrap_or(("", lines));
     Ok(Case {
         sizes: words_of(sizes)?,
-        before: steps_of(alloc, before.lines())?,
-        behind: steps_of(alloc, behind.lines())?,
+        before: steps_of(alloc, before, '\n')?,
+        behind: steps_of(alloc, behind, '\n')?,
     })
 }
 
-/// The steps of some lines, each with its answer; a line without a character is none.
-pub(crate) fn steps_of<'a, L: Iterator<Item = &'a str>>(
-    alloc: Global,
-    lines: L,
-) -> Result<Part<'a>, Trouble> {
+/// The steps of a text, each with its answer, and this character after each but the last; empty pieces are none.
+pub(crate) fn steps_of(alloc: Global, text: &str, end: char) -> Result<Part<'_>, Trouble> {
     let mut part = Part {
         steps: Vec::new(alloc),
         wanted: Vec::new(alloc),
     };
-    for line in lines {
+    for line in text.split(end) {
         if line != "" {
             push(alloc, &mut part, line)?;
         }

@@ -64,7 +64,7 @@ fn restart_row(alloc: Global, row: &str) -> Result<bool, Trouble> {
         Err(_) => Err(Trouble::Wrong),
         Ok(world) => {
             let world = found(alloc, world, answer)?;
-            let part = steps_of(alloc, items(steps).split(';'))?;
+            let part = steps_of(alloc, items(steps), ';')?;
             let world = run(alloc, world, &part.steps, &part.wanted)?;
             are_left(alloc, world, items(left))?;
             Ok(false)

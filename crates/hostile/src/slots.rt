@@ -114,7 +114,7 @@ impl Slots {
 
     /// Loses a drive.
     pub(crate) fn lose(&mut self, drive: u8) -> Result<(), Trouble> {
-        if usize::from(drive) >= self.parts.drives.len() {
+        if !self.is_ready() || usize::from(drive) >= self.parts.drives.len() {
             return Err(Trouble::Input);
         }
         self.parts.lose(drive);

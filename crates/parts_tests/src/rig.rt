@@ -364,8 +364,8 @@ impl Rig {
         self.parts.first_lost(&members) == wanted
     }
 
-    /// Reads the payload of a slot into the buffer.
-    pub(crate) fn take_payload(&mut self, rt: &impl Abort, slot: u16) -> Result<(), Refusal> {
+    /// Reads the payload of a slot into the buffer, and returns its kind.
+    pub(crate) fn take_payload(&mut self, rt: &impl Abort, slot: u16) -> Result<Kind, Refusal> {
         assert!(rt; self.is_ready());
         assert!(rt; is_slot(&self.parts.groups, slot));
         assert!(rt; self.parts.groups.shape().payload == 8);

@@ -40,7 +40,7 @@ fn is_stale(rt: &impl Abort, rig: &mut Rig, asked: Record, found: Option<Record>
 /// Whether a slot's payload is of this byte.
 fn reads(rt: &impl Abort, rig: &mut Rig, slot: u16, byte: u8) -> bool {
     rig.payload = [1; 8];
-    rig.take_payload(rt, slot).is_ok() && is_all(&rig.payload, byte)
+    rig.take_payload(rt, slot) == Ok(Kind::Data) && is_all(&rig.payload, byte)
 }
 
 /// Whether a slot is refused as gone, by a look for this record there and by a reading of its payload.

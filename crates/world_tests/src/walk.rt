@@ -9,6 +9,9 @@ use std::alloc::Global;
 use std::process::Abort;
 use step_core::{Answer, Class, Member, Step, World};
 
+/// Above all bytes: a trim.
+const TRIMMED: u16 = 256;
+
 /// How many times a step, or a few that go together, are drawn.
 const TURNS: u32 = 1_500;
 
@@ -56,9 +59,9 @@ struct Walk {
     /// The records that were emitted, joined.
     emitted: BlockMap,
     listed: usize,
-    /// By group and place, the byte that names the payload last filled into the slot, none of a trim; and by block the one of
-    /// its last write, none where there is none.
-    filled: [[Option<u8>; 9]; 4],
+    /// By group and place, the byte that names the payload last filled into the slot, or `TRIMMED`; and by block the byte of
+    /// its last write, none where that was a trim or there is none.
+    filled: [[u16; 9]; 4],
     written: [Option<u8>; 16],
     lost: Option<u8>,
     steps: u32,
@@ -73,7 +76,7 @@ impl Walk {
             seed: 1,
             emitted: BlockMap::new(alloc),
             listed: 0,
-            filled: [[None; 9]; 4],
+            filled: [[TRIMMED; 9]; 4],
             written: [None; 16],
             lost: None,
             steps: 0,
@@ -134,7 +137,7 @@ impl Walk {
         if record.hop == 0 {
             let group = usize::from(record.place / 128) % 4;
             let place = usize::from(record.place % 128) % 9;
-            self.written[record.block as usize % 16] = self.filled[group][place];
+            self.written[record.block as usize % 16] = u8::try_from(self.filled[group][place]).ok();
         }
     }
 
@@ -193,7 +196,7 @@ impl Walk {
             payload,
         };
         if let Answer::Filled(_) = self.take(rt, &step) {
-            self.note_fill(slot, Some(byte));
+            self.note_fill(slot, u16::from(byte));
         }
     }
 
@@ -202,11 +205,11 @@ impl Walk {
         let worker = self.worker();
         let slot = self.slot();
         if let Answer::Filled(_) = self.take(rt, &Step::Trim { worker, slot }) {
-            self.note_fill(slot, None);
+            self.note_fill(slot, TRIMMED);
         }
     }
 
-    fn note_fill(&mut self, slot: u16, byte: Option<u8>) {
+    fn note_fill(&mut self, slot: u16, byte: u16) {
         self.filled[usize::from(slot / 128) % 4][usize::from(slot % 128) % 9] = byte;
     }
 
