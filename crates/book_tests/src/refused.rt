@@ -123,7 +123,7 @@ fn fail_both<N: slot_words::Naming, R: Abort>(rt: &R, array: &mut Array<MemDrive
 }
 
 // The array that is restarted from those drives, with a claim of slot 0.
-fn restarted<N: slot_words::Naming, R: Abort>(
+fn remade<N: slot_words::Naming, R: Abort>(
     rt: &R,
     alloc: Global,
     words: &SlotWords<N>,
@@ -141,18 +141,53 @@ fn restarted<N: slot_words::Naming, R: Abort>(
     if let Err(_kept) = claims.push(Claim::of(claim)) {
         panic!(rt; "no memory")
     }
-    let (mut array, others) = match restart(alloc, written_parts(rt, alloc, case), claims) {
+    let (array, others) = match restart(alloc, written_parts(rt, alloc, case), claims) {
         Ok(made) => made,
         Err(_back) => panic!(rt; "not restarted"),
     };
     assert!(rt; others.is_empty());
     others.destroy_empty();
-    if case.fails {
-        fail_both(rt, &mut array);
-    }
     let shape = array.shape();
     assert!(rt; shape.blocks == 16 && shape.payload == 40);
     array
+}
+
+// The same array, whose drives of slot 1 fail at their next call.
+fn failing<N: slot_words::Naming, R: Abort>(
+    rt: &R,
+    alloc: Global,
+    words: &SlotWords<N>,
+    pass: &mut Pass<N>,
+    case: &Refused,
+) -> Array<MemDrive, Claim<N>>
+    requires { slots_of N.table ≡ 65536 }
+    ensures shows { (F : Flat) × ShowsArray result F }
+    ensures sizes { (result.parts.groups.blocks ≡ 16) × (result.parts.groups.payload ≡ 40) }
+{
+    let mut array = remade(rt, alloc, words, pass, case);
+    fail_both(rt, &mut array);
+    let shape = array.shape();
+    assert!(rt; shape.blocks == 16 && shape.payload == 40);
+    array
+}
+
+// The array of the case.
+fn restarted<N: slot_words::Naming, R: Abort>(
+    rt: &R,
+    alloc: Global,
+    words: &SlotWords<N>,
+    pass: &mut Pass<N>,
+    case: &Refused,
+) -> Array<MemDrive, Claim<N>>
+    requires { slots_of N.table ≡ 65536 }
+    ensures shows { (F : Flat) × ShowsArray result F }
+    ensures sizes { (result.parts.groups.blocks ≡ 16) × (result.parts.groups.payload ≡ 40) }
+{
+    if case.fails {
+        failing(rt, alloc, words, pass, case)
+    } else {
+        remade(rt, alloc, words, pass, case)
+    }
 }
 
 fn refuses<

@@ -5,4 +5,4 @@ use Rattle.book_tests.proofs.rig.grouped.Given as goal
 
 -- the array shows a state, and has its sizes
 abbrev pub invariant-loop-class : goal.invariant-loop-class
-invariant-loop-class g l = ((F : Flat) × ShowsArray l.array F) × (l.array.parts.groups.blocks ≡ 16) × (l.array.parts.groups.payload ≡ 8)
+invariant-loop-class g l = ((F : Flat) × ShowsArray l.array F) × (l.array.parts.groups.blocks ≡ 16) × (l.array.parts.groups.payload ≡ 40)
