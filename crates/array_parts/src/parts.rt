@@ -87,8 +87,7 @@ impl<D: Drive> Parts<D> {
             .ok_or(Refusal::Gone(slot))
     }
 
-    /// Reads the header of a slot's effective unit alone, of parity slots with another buffer of a header's length; else as
-    /// `read` does.
+    /// Reads the header of a slot's effective unit alone, with a buffer of two units' length; else as `read` does.
     pub fn read_header(
         &mut self,
         slot: u16,
@@ -98,7 +97,7 @@ impl<D: Drive> Parts<D> {
         requires fit { IsFit D.units self.old }
         requires slot { IsSlot self.old.groups slot }
         requires header { length header.old ≡ HEADER_BYTES }
-        requires scratch { length scratch.old ≡ HEADER_BYTES }
+        requires scratch { length scratch.old ≡ 2 * unit_bytes self.old.groups }
         ensures ok { OnOk result (header_of self.new.groups (cells_in D.units D.lost self.new) slot ≡ Some header.new) }
         ensures there { OnOk result (IsGone self.new.groups (missing_in D.lost self.new) slot → ⊥) }
         ensures gone { IfErr result (TellsGone D.units D.lost self.new slot) }
@@ -135,8 +134,8 @@ impl<D: Drive> Parts<D> {
             .ok_or(Refusal::Gone(slot))
     }
 
-    /// Writes the unit of a slot, given as `front` and, behind it, `rest`; of parity slots alone with a buffer of a unit's
-    /// length and one of two units'. Else as `write` does.
+    /// Writes the unit of a slot, given as `front` and the bytes after it, `rest`, with a buffer of a unit's length and one of
+    /// two units'. Else as `write` does.
     pub(crate) fn write_gathered(
         &mut self,
         slot: u16,

@@ -36,8 +36,7 @@ pub(crate) fn read_slot<D: Drive>(
     }
 }
 
-/// Reads the header of the effective unit of a slot of either class alone, of parity slots with another buffer of a header's
-/// length.
+/// Reads the header of the effective unit of a slot of either class alone, with a buffer of two units' length.
 pub(crate) fn read_slot_header<D: Drive>(
     groups: &GroupTable,
     drives: &mut [D],
@@ -48,7 +47,7 @@ pub(crate) fn read_slot_header<D: Drive>(
     requires slot { IsSlot groups.now slot }
     requires drives { AreDrives D.units groups.now drives.old }
     requires header { length header.old ≡ HEADER_BYTES }
-    requires scratch { length scratch.old ≡ HEADER_BYTES }
+    requires scratch { length scratch.old ≡ 2 * unit_bytes groups.now }
     ensures ok { OnOk result (header_of groups.now (cells D.units D.lost drives.new) slot ≡ Some header.new) }
     ensures gone { IfErr result (NamesGone groups.now (cells D.units D.lost drives.new) slot) }
     ensures units { AreSound groups.now (cells D.units D.lost drives.old) → KeepsUnits groups.now (cells D.units D.lost drives.old) (cells D.units D.lost drives.new) }
@@ -58,7 +57,7 @@ pub(crate) fn read_slot_header<D: Drive>(
     ensures drives { AreDrives D.units groups.now drives.new }
 {
     match groups.class_of(slot / SLOTS) {
-        Some(Class::Mirrored) => mirrored_store::read_header(groups, drives, slot, header),
+        Some(Class::Mirrored) => mirrored_store::read_header(groups, drives, slot, header, scratch),
         _ => parity_store::read_header(groups, drives, slot, header, scratch),
     }
 }
@@ -87,8 +86,8 @@ pub(crate) fn write_slot<D: Drive>(
     }
 }
 
-/// Writes the unit of a slot of either class, given as `front` and, behind it, `rest`; of parity slots alone with a buffer of
-/// a unit's length, in which they are joined, and one of two units'.
+/// Writes the unit of a slot of either class, given as `front` and the bytes after it, `rest`, with a buffer of a unit's length,
+/// in which they are joined where that is needed, and one of two units'.
 pub(crate) fn write_slot_gathered<D: Drive>(
     groups: &GroupTable,
     drives: &mut [D],
@@ -110,7 +109,7 @@ pub(crate) fn write_slot_gathered<D: Drive>(
     ensures drives { AreDrives D.units groups.now drives.new }
 {
     if let Some(Class::Mirrored) = groups.class_of(slot / SLOTS) {
-        return mirrored_store::write_gathered(groups, drives, slot, front, rest);
+        return mirrored_store::write_gathered(groups, drives, slot, front, rest, unit);
     }
     join(unit, front, rest);
     parity_store::write(groups, drives, slot, unit, scratch)

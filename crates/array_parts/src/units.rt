@@ -1,10 +1,10 @@
-// Whoever has units under slot numbers.
+// A source of units by slot number.
 ghost use Rattle.std.specs.Prelude.{◌≡◌, ◌*◌, length, Some, None, OnOk, IfErr};
 ghost use Rattle.flat_machine.specs.declared.refusal.Refusal.TheVariants.{Gone};
 ghost use Rattle.extents.specs.declared.shape.TheConstants.{HEADER_BYTES};
 ghost use Rattle.extent_groups.specs.Groups.{Groups};
 ghost use Rattle.extent_groups.specs.Cells.{Cells, cells};
-ghost use Rattle.extent_groups.specs.Stores.{unit_of, header_of, AreSound, KeepsUnits};
+ghost use Rattle.extent_groups.specs.Stores.{unit_bytes, unit_of, header_of, AreSound, KeepsUnits};
 ghost use Rattle.array_parts.specs.Fit.{IsFit};
 ghost use Rattle.array_parts.specs.Losses.{LosesOnly};
 ghost use Rattle.array_parts.specs.Laws.{loses_none, loses_more};
@@ -15,7 +15,7 @@ use extent_groups::GroupTable;
 use extents::Drive;
 use flat_machine::Refusal;
 
-/// Whoever has the effective units of the slots of made groups, for those who read their headers.
+/// A source of the effective units of the slots of made groups: an array, a world, or parts.
 pub trait Units {
     /// The groups of the slots.
     ghost groups: { Self → Groups };
@@ -33,12 +33,27 @@ pub trait Units {
     fn groups(&self) -> &GroupTable
         ensures { result.now ≡ groups self.now };
 
-    /// Reads the header of a slot's effective unit; a second buffer of a header's length is for parity slots.
+    /// Reads a slot's effective unit, with a buffer of two units' length. Refused with `Gone` where too many drives of its group
+    /// are lost; only which drives are lost may change.
+    fn unit(&mut self, slot: u16, unit: &mut [u8], scratch: &mut [u8]) -> Result<(), Refusal>
+        requires fits { fits self.old }
+        requires slot { IsSlot (groups self.old) slot }
+        requires unit { length unit.old ≡ unit_bytes (groups self.old) }
+        requires scratch { length scratch.old ≡ 2 * unit_bytes (groups self.old) }
+        ensures ok { OnOk result (unit_of (groups self.new) (cells self.new) slot ≡ Some unit.new) }
+        ensures gone { IfErr result (λ e. (e ≡ Gone slot) × (unit_of (groups self.new) (cells self.new) slot ≡ None)) }
+        ensures units { AreSound (groups self.old) (cells self.old) → KeepsUnits (groups self.old) (cells self.old) (cells self.new) }
+        ensures sound { AreSound (groups self.old) (cells self.old) → AreSound (groups self.new) (cells self.new) }
+        ensures groups { groups self.new ≡ groups self.old }
+        ensures fits { fits self.new }
+        ensures leaves { leaves self.old self.new };
+
+    /// Reads the header of a slot's effective unit alone, with a buffer of two units' length; refused where that unit's read is.
     fn header(&mut self, slot: u16, header: &mut [u8], scratch: &mut [u8]) -> Result<(), Refusal>
         requires fits { fits self.old }
         requires slot { IsSlot (groups self.old) slot }
         requires header { length header.old ≡ HEADER_BYTES }
-        requires scratch { length scratch.old ≡ HEADER_BYTES }
+        requires scratch { length scratch.old ≡ 2 * unit_bytes (groups self.old) }
         ensures ok { OnOk result (header_of (groups self.new) (cells self.new) slot ≡ Some header.new) }
         ensures gone { IfErr result (λ e. (e ≡ Gone slot) × (unit_of (groups self.new) (cells self.new) slot ≡ None)) }
         ensures units { AreSound (groups self.old) (cells self.old) → KeepsUnits (groups self.old) (cells self.old) (cells self.new) }
@@ -65,6 +80,10 @@ impl<D: Drive> Units for Parts<D> {
 
     fn groups(&self) -> &GroupTable {
         &self.groups
+    }
+
+    fn unit(&mut self, slot: u16, unit: &mut [u8], scratch: &mut [u8]) -> Result<(), Refusal> {
+        self.read(slot, unit, scratch)
     }
 
     fn header(&mut self, slot: u16, header: &mut [u8], scratch: &mut [u8]) -> Result<(), Refusal> {

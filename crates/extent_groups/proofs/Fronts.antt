@@ -1,17 +1,17 @@
 -- The first bytes of units: what a place, a row, a site and a slot hold of them.
-use Rattle.std.proofs.Common.{◌≡◌, ℕ, zero, suc, ◌≤◌, ◌<◌, inl, inr, Bool, true, false, Option, Some, None, List, [], ◌∷◌, length, take, replicate, get_or, refl, sym, ◌∙◌, ap, arith, if◌then◌else◌}
+use Rattle.std.proofs.Common.{◌≡◌, ℕ, zero, suc, ◌≤◌, ◌<◌, inl, inr, Bool, true, false, Option, Some, None, List, [], ◌∷◌, length, take, replicate, get_or, refl, sym, ◌∙◌, ap, subst, arith, if◌then◌else◌}
 use Rattle.std.specs.Prelude.{slice_get}
 use Rattle.std.proofs.lemmas.List.{take-replicate, take_all}
 use Rattle.std.proofs.lemmas.Option.{slice_get-map, slice_get-get_or, slice_get_within, same_Some, none-some}
 use Rattle.extents.specs.Failures.{Failures}
-use Rattle.extents.specs.Units.{fronts}
+use Rattle.extents.specs.Units.{IsSized, fronts}
 use Rattle.extents.specs.declared.shape.TheConstants.{HEADER_BYTES}
 use Rattle.extent_groups.specs.declared.place.Place.{Place}
 use Rattle.extent_groups.specs.Groups.{Groups}
 use Rattle.extent_groups.specs.Cells.{Cells, cell, cells, held, front, front_units}
 use Rattle.extent_groups.specs.Units.{Site, Pair, InStripe, plus, add, total, put, others, or_else, held_in, row_of, unit_at, unit_in, site_of}
-use Rattle.extent_groups.specs.Calls.{AreSized, HaveFronts, NoPlace, KeepsDrives}
-use Rattle.extent_groups.specs.Stores.{unit_bytes, unit_of, header_of, AreDrives}
+use Rattle.extent_groups.specs.Calls.{AreSized, HaveFronts, HaveRoom, NoPlace, KeepsDrives}
+use Rattle.extent_groups.specs.Stores.{unit_bytes, unit_of, header_of, IsBuffer, AreDrives}
 use Rattle.extent_groups.proofs.Places.{same_or_not}
 use Rattle.extent_groups.proofs.Totals.{Row, put_same, put_other, put_sized, total_sized}
 use Rattle.extent_groups.proofs.Fading.{row_sized}
@@ -160,3 +160,21 @@ keeps_fronts {D = D} {a = a} keeps have d y there at u is =
     let x : D = get_or a d y in
     let was = slice_get-get_or a d y within in
     have d x was at u (sym ((keeps.each d x y was there).elsewhere at (λ never. never)) ∙ is)
+
+-- a buffer for units of one length serves on all drives
+pub have_room : {D : Type 0} (units : D → List (List ℕ)) (bytes count scratch : ℕ) (ds : List D) → IsBuffer bytes count scratch → AreSized units bytes ds → HaveRoom units count scratch ds
+have_room units bytes count scratch ds (inl same) sized d x there = inl (subst (λ n. IsSized n (units x)) (sym same) (sized d x there))
+have_room units bytes count scratch ds (inr whole) sized d x there = inr (whole.0, subst (λ n. IsSized n (units x)) (sym whole.1) (sized d x there))
+
+-- and it does after calls
+pub keeps_room : {D : Type 0} {units : D → List (List ℕ)} {lost : D → Bool} {failures : D → Failures} {touched : Place → Type 0} {a b : List D} {count scratch n m : ℕ}
+    → KeepsDrives units lost failures touched a b → n ≡ count → m ≡ scratch → HaveRoom units count scratch a → HaveRoom units n m b
+keeps_room {D = D} {units = units} {a = a} {scratch = scratch} keeps short long room d y there =
+    let within : d < length a = omega (arith, slice_get_within _ d y there, keeps.many) in
+    let x : D = get_or a d y in
+    let was = slice_get-get_or a d y within in
+    let sizes : (bytes : ℕ) → IsSized bytes (units x) → IsSized bytes (units y) = (keeps.each d x y was there).sizes in
+    elim (room d x was) [
+      | inl sized ↦ inl (subst (λ k. IsSized k (units y)) (sym long) (sizes scratch sized))
+      | inr whole ↦ inr (long ∙ whole.0, subst (λ k. IsSized k (units y)) (sym short) (sizes _ whole.1))
+    ]

@@ -1,7 +1,7 @@
 -- One call of a drive, and what any number of them leaves: every unit that is still there is what it was or what was written.
 use Rattle.std.specs.Prelude.{◌≡◌, ◌≢◌, ℕ, ◌<◌, ◌⊎◌, Bool, true, Option, Some, None, List, length, slice_get, if◌then◌else◌}
 use Rattle.extents.specs.Failures.{Failures, Counts, StaysSteady}
-use Rattle.extents.specs.Units.{IsSized, HaveFront}
+use Rattle.extents.specs.Units.{IsSized, HaveFront, HasRoom}
 use Rattle.extent_groups.specs.declared.place.Place.{Place}
 use Rattle.extent_groups.specs.Cells.{Cells, held}
 
@@ -12,6 +12,10 @@ AreSized {D} units bytes drives = (d : ℕ) (x : D) → slice_get drives d ≡ S
 -- every unit of every drive has at least so many bytes
 abbrev pub HaveFronts : {D : Type 0} → (D → List (List ℕ)) → ℕ → List D → Type 0
 HaveFronts {D} units count drives = (d : ℕ) (x : D) → slice_get drives d ≡ Some x → HaveFront count (units x)
+
+-- the first bytes of a unit can be read with a buffer of this length, on every drive
+abbrev pub HaveRoom : {D : Type 0} → (D → List (List ℕ)) → (count scratch : ℕ) → List D → Type 0
+HaveRoom {D} units count scratch drives = (d : ℕ) (x : D) → slice_get drives d ≡ Some x → HasRoom count scratch (units x)
 
 -- the place is one of the drives'
 pub record IsPlace {D : Type 0} (units : D → List (List ℕ)) (drives : List D) (p : Place) : Type 0 where

@@ -17,6 +17,10 @@ use Rattle.extent_groups.specs.Layout.{IsOf, IsApart, AreBeside, IsWhole}
 abbrev pub unit_bytes : Groups → ℕ
 unit_bytes groups = HEADER_BYTES + groups.payload
 
+-- a buffer with which `count` first bytes of a unit can be read: it has a unit's length, or it is empty and these bytes are all
+abbrev pub IsBuffer : (bytes count scratch : ℕ) → Type 0
+IsBuffer bytes count scratch = (scratch ≡ bytes) ⊎ ((scratch ≡ 0) × (count ≡ bytes))
+
 -- the effective unit of a slot of these groups
 abbrev pub unit_of : Groups → Cells → ℕ → Option (List ℕ)
 unit_of groups c slot = effective_unit (unit_bytes groups) groups c slot

@@ -1,7 +1,7 @@
 // Where a unit lies, and the calls by which stores reach a drive.
 ghost use Rattle.std.specs.Prelude.{◌≡◌, ◌+◌, ◌<◌, ◌++◌, length};
 ghost use Rattle.extent_groups.specs.Cells.{cells, front_units};
-ghost use Rattle.extent_groups.specs.Calls.{AreSized, HaveFronts, IsPlace, DidRead, DidWrite, NoPlace, Only, SameBut, KeepsDrives};
+ghost use Rattle.extent_groups.specs.Calls.{AreSized, HaveFronts, HaveRoom, IsPlace, DidRead, DidWrite, NoPlace, Only, SameBut, KeepsDrives};
 
 use extents::Drive;
 
@@ -27,17 +27,24 @@ pub fn read_place<D: Drive>(drives: &mut [D], place: Place, unit: &mut [u8]) -> 
         .is_ok()
 }
 
-/// Reads the first bytes of the unit at a place, as many as the buffer has; false where its drive is lost.
-pub fn read_front<D: Drive>(drives: &mut [D], place: Place, front: &mut [u8]) -> bool
+/// Reads the first bytes of the unit at a place: `front.len()` of them, with a buffer of a unit's length, or an empty one
+/// for a whole unit; false where its drive is lost.
+pub fn read_front<D: Drive>(
+    drives: &mut [D],
+    place: Place,
+    front: &mut [u8],
+    scratch: &mut [u8],
+) -> bool
     requires inside { place.drive < length drives.old }
     requires place { IsPlace D.units drives.old place }
     requires size { HaveFronts D.units (length front.old) drives.old }
+    requires scratch { HaveRoom D.units (length front.old) (length scratch.old) drives.old }
     ensures read { DidRead (cells (front_units (length front.old) D.units) D.lost drives.old) (cells (front_units (length front.old) D.units) D.lost drives.new) place front.new result }
     ensures drives { KeepsDrives D.units D.lost D.failures NoPlace drives.old drives.new }
     ensures others { SameBut (λ d. d ≡ place.drive) drives.old drives.new }
 {
     drives[place.drive as usize]
-        .read_front(place.address, front)
+        .read_front(place.address, front, scratch)
         .is_ok()
 }
 
@@ -55,18 +62,25 @@ pub fn write_place<D: Drive>(drives: &mut [D], place: Place, unit: &[u8]) -> boo
         .is_ok()
 }
 
-/// Writes the unit at a place, given as `front` and, behind it, `rest`; false where its drive is lost. Inlined, so that what
-/// is empty costs nothing.
+/// Writes the unit at a place, given as `front` and the bytes after it, `rest`, with a buffer of a unit's length; false where
+/// its drive is lost. Inlined, so that an empty piece costs nothing.
 #[inline(always)]
-pub fn write_gathered<D: Drive>(drives: &mut [D], place: Place, front: &[u8], rest: &[u8]) -> bool
+pub fn write_gathered<D: Drive>(
+    drives: &mut [D],
+    place: Place,
+    front: &[u8],
+    rest: &[u8],
+    scratch: &mut [u8],
+) -> bool
     requires inside { place.drive < length drives.old }
     requires place { IsPlace D.units drives.old place }
     requires size { AreSized D.units (length front.now + length rest.now) drives.old }
+    requires scratch { AreSized D.units (length scratch.old) drives.old }
     ensures written { DidWrite (cells D.units D.lost drives.old) (cells D.units D.lost drives.new) place (front.now ++ rest.now) result }
     ensures drives { KeepsDrives D.units D.lost D.failures (Only place) drives.old drives.new }
     ensures others { SameBut (λ d. d ≡ place.drive) drives.old drives.new }
 {
     drives[place.drive as usize]
-        .write_gathered(place.address, front, rest)
+        .write_gathered(place.address, front, rest, scratch)
         .is_ok()
 }

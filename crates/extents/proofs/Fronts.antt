@@ -1,5 +1,5 @@
 -- The first bytes of units: of whole units they are the units.
-use Rattle.std.proofs.Common.{◌≡◌, ℕ, suc, List, [], ◌∷◌, length, refl, arith}
+use Rattle.std.proofs.Common.{◌≡◌, ◌<◌, ℕ, zero, suc, List, [], ◌∷◌, length, refl, sym, ◌∙◌, arith}
 use Rattle.std.proofs.lemmas.List.{take_all}
 use Rattle.extents.specs.Units.{IsSized, HaveFront, fronts}
 
@@ -13,3 +13,9 @@ fronts_whole size [] sized = refl
 fronts_whole size (unit ∷ units) sized =
     let long : length unit ≡ size = sized 0 unit refl in
     rw (take_all size unit (omega (arith, long)), fronts_whole size units (λ at. sized (suc at))) refl
+
+-- units that are there have one size
+pub one_size : (one other : ℕ) (units : List (List ℕ)) (at : ℕ) → at < length units → IsSized one units → IsSized other units → one ≡ other
+one_size one other [] at low sized also = absurd (omega (arith, low))
+one_size one other (unit ∷ units) zero low sized also = sym (sized 0 unit refl) ∙ also 0 unit refl
+one_size one other (unit ∷ units) (suc at) low sized also = one_size one other units at (omega (arith, low)) (λ k. sized (suc k)) (λ k. also (suc k))

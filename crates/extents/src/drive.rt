@@ -1,7 +1,7 @@
 // What a drive promises.
 ghost use Rattle.std.specs.Prelude.{◌≡◌, ℕ, ◌+◌, ◌<◌, Bool, true, List, length, slice_get, slice_set, Some, ◌++◌, OnOk, OnErr, is_err};
 ghost use Rattle.extents.specs.Failures.{Failures, Counts, StaysSteady};
-ghost use Rattle.extents.specs.Units.{IsSized, HaveFront, fronts};
+ghost use Rattle.extents.specs.Units.{IsSized, HaveFront, HasRoom, fronts};
 
 /// The drive answers no more, and never will again.
 #[derive(Clone, Copy, Debug, PartialEq, Eq)]
@@ -37,17 +37,33 @@ pub trait Drive {
         ensures count { Counts (lost self.old) (lost self.new) (failures self.old) (failures self.new) }
         ensures steady { StaysSteady (lost self.old) (lost self.new) (failures self.old) (failures self.new) };
 
-    /// Reads the first bytes of the unit at an address, as many as the buffer has, which is at most a unit's length;
-    /// else as `read_unit` does, and by one call as well.
-    fn read_front(&mut self, at: u32, front: &mut [u8]) -> Result<(), DriveLost>
+    /// Reads the first bytes of the unit at an address: `front.len()` of them, at most a unit's length. Counts as one read and
+    /// is refused as `read_unit` is. Borrows a buffer of a unit's length, or an empty one for a whole unit. A drive that can read
+    /// part of a unit overrides it.
+    fn read_front(
+        &mut self,
+        at: u32,
+        front: &mut [u8],
+        scratch: &mut [u8],
+    ) -> Result<(), DriveLost>
         requires at { at < length (units self.old) }
         requires size { HaveFront (length front.old) (units self.old) }
+        requires scratch { HasRoom (length front.old) (length scratch.old) (units self.old) }
         ensures read { OnOk result (slice_get (fronts (length front.old) (units self.old)) at ≡ Some front.new) }
         ensures units { units self.new ≡ units self.old }
         ensures lost { lost self.new ≡ is_err result }
         ensures stays { lost self.old ≡ true → lost self.new ≡ true }
         ensures count { Counts (lost self.old) (lost self.new) (failures self.old) (failures self.new) }
-        ensures steady { StaysSteady (lost self.old) (lost self.new) (failures self.old) (failures self.new) };
+        ensures steady { StaysSteady (lost self.old) (lost self.new) (failures self.old) (failures self.new) }
+    {
+        if scratch.is_empty() {
+            return self.read_unit(at, front);
+        }
+        self.read_unit(at, scratch)?;
+        let size = front.len();
+        front.copy_from_slice(&scratch[..size]);
+        Ok(())
+    }
 
     /// Writes the unit at an address, whole or not at all; refused where the drive is lost or fails now, and then it is lost.
     fn write_unit(&mut self, at: u32, unit: &[u8]) -> Result<(), DriveLost>
@@ -60,15 +76,37 @@ pub trait Drive {
         ensures count { Counts (lost self.old) (lost self.new) (failures self.old) (failures self.new) }
         ensures steady { StaysSteady (lost self.old) (lost self.new) (failures self.old) (failures self.new) };
 
-    /// Writes the unit at an address, given as `front` and, behind it, `rest`, which are together as long as a unit; either
-    /// may be empty. Else as `write_unit` does, and by one call as well.
-    fn write_gathered(&mut self, at: u32, front: &[u8], rest: &[u8]) -> Result<(), DriveLost>
+    /// Writes the unit at an address, given as `front` and the bytes after it, `rest`, together of a unit's length; either may
+    /// be empty. Counts as one write and is refused as `write_unit` is. Borrows a buffer of a unit's length, in which the two
+    /// are joined. A drive that can write them from where they lie overrides it.
+    fn write_gathered(
+        &mut self,
+        at: u32,
+        front: &[u8],
+        rest: &[u8],
+        scratch: &mut [u8],
+    ) -> Result<(), DriveLost>
         requires at { at < length (units self.old) }
         requires size { IsSized (length front.now + length rest.now) (units self.old) }
+        requires scratch { IsSized (length scratch.old) (units self.old) }
         ensures written { OnOk result (units self.new ≡ slice_set (units self.old) at (front.now ++ rest.now)) }
         ensures unwritten { OnErr result (units self.new ≡ units self.old) }
         ensures lost { lost self.new ≡ is_err result }
         ensures stays { lost self.old ≡ true → lost self.new ≡ true }
         ensures count { Counts (lost self.old) (lost self.new) (failures self.old) (failures self.new) }
-        ensures steady { StaysSteady (lost self.old) (lost self.new) (failures self.old) (failures self.new) };
+        ensures steady { StaysSteady (lost self.old) (lost self.new) (failures self.old) (failures self.new) }
+    {
+        join(scratch, front, rest);
+        self.write_unit(at, scratch)
+    }
+}
+
+// Puts two pieces into a buffer, one after the other.
+fn join(unit: &mut [u8], front: &[u8], rest: &[u8])
+    requires { length unit.old ≡ length front.now + length rest.now }
+    ensures { unit.new ≡ front.now ++ rest.now }
+{
+    let size = front.len();
+    unit[..size].copy_from_slice(front);
+    unit[size..].copy_from_slice(rest);
 }

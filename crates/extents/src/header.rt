@@ -2,8 +2,9 @@
 // version (8 to 11), hop (12 and 13), slot number (14 and 15), kind (16: 0 data, 1 trim), zero (17 to 31).
 // A blank header is all zero. Layout 1 is read, and never written: its mark is `RBH1`, bytes 16 to 31 are zero, and
 // each of its records is data.
-ghost use Rattle.std.specs.Prelude.{◌≡◌, ◌-◌, ◌≤◌, ◌<◌, ◌↔◌, IsTrue, IfOk, Some, length, take, drop, replicate};
+ghost use Rattle.std.specs.Prelude.{◌≡◌, ◌-◌, ◌≤◌, ◌<◌, ◌↔◌, ◌⊎◌, IsTrue, IfOk, Some, length, take, drop, replicate};
 ghost use Rattle.extents.specs.declared.shape.TheConstants.{HEADER_BYTES};
+ghost use Rattle.extents.specs.declared.header.Kind.TheVariants as kind;
 ghost use Rattle.extents.specs.Stamp.{first_mark, second_mark, kind_byte, stamped_bytes, SpellsRecord, TellsKind};
 
 use map_join::Record;
@@ -35,17 +36,6 @@ impl Kind {
         ensures { result ≡ kind_byte self }
     {
         self as u8
-    }
-
-    /// The kind that byte 16 of a header spells; none for a byte above 1.
-    fn of_byte(byte: u8) -> Option<Kind>
-        ensures { (kind : Kind) → (result ≡ Some kind) ↔ (byte ≡ kind_byte kind) }
-    {
-        match byte {
-            0 => Some(Kind::Data),
-            1 => Some(Kind::Trim),
-            _ => None,
-        }
     }
 }
 
@@ -109,17 +99,37 @@ fn end_in_zeros(bytes: &[u8; 32], from: usize) -> bool
     are_zero(&bytes[from..])
 }
 
-/// The kind that a header's mark and its bytes 16 to 31 spell; none where they are of neither layout.
+/// Whether the bytes begin with the mark of either layout.
+fn have_mark(bytes: &[u8; 32]) -> bool
+    ensures { IsTrue result ↔ ((take 4 bytes.now ≡ second_mark) ⊎ (take 4 bytes.now ≡ first_mark)) }
+{
+    begin_with(bytes, &SECOND_MARK) || begin_with(bytes, &FIRST_MARK)
+}
+
+/// Whether the bytes around the record are those of a trim: layout 2's mark, the byte 1, and fifteen zeros.
+fn are_trim(bytes: &[u8; 32]) -> bool
+    ensures { IsTrue result ↔ TellsKind bytes.now kind.Trim }
+{
+    bytes[KIND_AT] == 1 && begin_with(bytes, &SECOND_MARK) && end_in_zeros(bytes, REST_AT)
+}
+
+/// The kind that a header's mark and its bytes 16 to 31 spell; none where they are of neither layout. Sixteen zeros are
+/// tested first: one vector's comparison settles all headers of data.
 fn told_kind(bytes: &[u8; 32]) -> Option<Kind>
     ensures { (kind : Kind) → (result ≡ Some kind) ↔ TellsKind bytes.now kind }
 {
-    if begin_with(bytes, &SECOND_MARK) && end_in_zeros(bytes, REST_AT) {
-        return Kind::of_byte(bytes[KIND_AT]);
+    if end_in_zeros(bytes, KIND_AT) {
+        return if have_mark(bytes) {
+            Some(Kind::Data)
+        } else {
+            None
+        };
     }
-    if begin_with(bytes, &FIRST_MARK) && end_in_zeros(bytes, KIND_AT) {
-        return Some(Kind::Data);
+    if are_trim(bytes) {
+        Some(Kind::Trim)
+    } else {
+        None
     }
-    None
 }
 
 /// The header of a record and its kind.

@@ -1,7 +1,7 @@
 // A drive in memory, which can be lost from outside or by a fuse.
 ghost use Rattle.std.specs.Prelude.{◌≡◌, ℕ, ◌+◌, ◌*◌, ◌-◌, ◌≤◌, ◌<◌, not, true, List, length, slice_get, slice_set, Some, take, drop, ◌++◌, IfOk, OnOk, OnErr, is_err, vec_len};
 ghost use Rattle.extents.specs.Failures.{Counts, StaysSteady};
-ghost use Rattle.extents.specs.Units.{IsSized, HaveFront, fronts, zero_units};
+ghost use Rattle.extents.specs.Units.{IsSized, HaveFront, HasRoom, fronts, zero_units};
 ghost use Rattle.extents.specs.Condition.{is_gone, failures_of, after_call};
 ghost use Rattle.extents.specs.declared.shape.TheConstants.{HEADER_BYTES};
 
@@ -105,6 +105,41 @@ fn spend(condition: &mut Condition) -> bool
     }
 }
 
+impl MemDrive {
+    // One read, of the first bytes of a unit.
+    fn answer_read(&mut self, at: u32, front: &mut [u8]) -> Result<(), DriveLost>
+        requires at { at < length self.old.units }
+        requires size { HaveFront (length front.old) self.old.units }
+        ensures read { OnOk result (slice_get (fronts (length front.old) self.old.units) at ≡ Some front.new) }
+        ensures units { self.new.units ≡ self.old.units }
+        ensures lost { is_gone self.new.condition ≡ is_err result }
+        ensures condition { self.new.condition ≡ after_call self.old.condition }
+    {
+        if !spend(&mut self.condition) {
+            return Err(DriveLost);
+        }
+        self.units.read(at, front);
+        Ok(())
+    }
+
+    // One write, of a unit in two pieces.
+    #[inline(always)]
+    fn answer_write(&mut self, at: u32, front: &[u8], rest: &[u8]) -> Result<(), DriveLost>
+        requires at { at < length self.old.units }
+        requires size { IsSized (length front.now + length rest.now) self.old.units }
+        ensures written { OnOk result (self.new.units ≡ slice_set self.old.units at (front.now ++ rest.now)) }
+        ensures unwritten { OnErr result (self.new.units ≡ self.old.units) }
+        ensures lost { is_gone self.new.condition ≡ is_err result }
+        ensures condition { self.new.condition ≡ after_call self.old.condition }
+    {
+        if spend(&mut self.condition) {
+            self.units.write(at, front, rest);
+            return Ok(());
+        }
+        Err(DriveLost)
+    }
+}
+
 impl Drive for MemDrive {
     ghost units = { λ m. m.units };
 
@@ -131,12 +166,18 @@ impl Drive for MemDrive {
         ensures steady { StaysSteady (is_gone self.old.condition) (is_gone self.new.condition) (failures_of self.old.condition) (failures_of self.new.condition) }
         ensures condition { self.new.condition ≡ after_call self.old.condition }
     {
-        self.read_front(at, unit)
+        self.answer_read(at, unit)
     }
 
-    fn read_front(&mut self, at: u32, front: &mut [u8]) -> Result<(), DriveLost>
+    fn read_front(
+        &mut self,
+        at: u32,
+        front: &mut [u8],
+        _scratch: &mut [u8],
+    ) -> Result<(), DriveLost>
         requires at { at < length self.old.units }
         requires size { HaveFront (length front.old) self.old.units }
+        requires scratch { HasRoom (length front.old) (length _scratch.old) self.old.units }
         ensures read { OnOk result (slice_get (fronts (length front.old) self.old.units) at ≡ Some front.new) }
         ensures units { self.new.units ≡ self.old.units }
         ensures lost { is_gone self.new.condition ≡ is_err result }
@@ -145,11 +186,7 @@ impl Drive for MemDrive {
         ensures steady { StaysSteady (is_gone self.old.condition) (is_gone self.new.condition) (failures_of self.old.condition) (failures_of self.new.condition) }
         ensures condition { self.new.condition ≡ after_call self.old.condition }
     {
-        if !spend(&mut self.condition) {
-            return Err(DriveLost);
-        }
-        self.units.read(at, front);
-        Ok(())
+        self.answer_read(at, front)
     }
 
     fn write_unit(&mut self, at: u32, unit: &[u8]) -> Result<(), DriveLost>
@@ -163,14 +200,21 @@ impl Drive for MemDrive {
         ensures steady { StaysSteady (is_gone self.old.condition) (is_gone self.new.condition) (failures_of self.old.condition) (failures_of self.new.condition) }
         ensures condition { self.new.condition ≡ after_call self.old.condition }
     {
-        self.write_gathered(at, unit, &[])
+        self.answer_write(at, unit, &[])
     }
 
     // Inlined, as what it calls is.
     #[inline(always)]
-    fn write_gathered(&mut self, at: u32, front: &[u8], rest: &[u8]) -> Result<(), DriveLost>
+    fn write_gathered(
+        &mut self,
+        at: u32,
+        front: &[u8],
+        rest: &[u8],
+        _scratch: &mut [u8],
+    ) -> Result<(), DriveLost>
         requires at { at < length self.old.units }
         requires size { IsSized (length front.now + length rest.now) self.old.units }
+        requires scratch { IsSized (length _scratch.old) self.old.units }
         ensures written { OnOk result (self.new.units ≡ slice_set self.old.units at (front.now ++ rest.now)) }
         ensures unwritten { OnErr result (self.new.units ≡ self.old.units) }
         ensures lost { is_gone self.new.condition ≡ is_err result }
@@ -179,10 +223,6 @@ impl Drive for MemDrive {
         ensures steady { StaysSteady (is_gone self.old.condition) (is_gone self.new.condition) (failures_of self.old.condition) (failures_of self.new.condition) }
         ensures condition { self.new.condition ≡ after_call self.old.condition }
     {
-        if spend(&mut self.condition) {
-            self.units.write(at, front, rest);
-            return Ok(());
-        }
-        Err(DriveLost)
+        self.answer_write(at, front, rest)
     }
 }

@@ -8,25 +8,27 @@ ghost use Rattle.extent_groups.specs.declared.class.Class.TheVariants.{Mirrored}
 ghost use Rattle.extents.specs.declared.shape.TheConstants.{HEADER_BYTES};
 ghost use Rattle.extent_groups.specs.Cells.{cells, front, front_units};
 ghost use Rattle.extent_groups.specs.Units.{Pair, unit_at};
-ghost use Rattle.extent_groups.specs.Calls.{AreSized, HaveFronts, IsPlace, if_ok, NoPlace, SameBut, KeepsDrives};
-ghost use Rattle.extent_groups.specs.Stores.{unit_bytes, unit_of, header_of, AreSound, IsSlotOf, AreDrives, KeepsUnits, Wrote, NamesGone, IsOwn, IsOwnOf, AreCopies, LeavesSites, HasMemberOn};
+ghost use Rattle.extent_groups.specs.Calls.{AreSized, HaveFronts, HaveRoom, IsPlace, if_ok, NoPlace, SameBut, KeepsDrives};
+ghost use Rattle.extent_groups.specs.Stores.{unit_bytes, unit_of, header_of, IsBuffer, AreSound, IsSlotOf, AreDrives, KeepsUnits, Wrote, NamesGone, IsOwn, IsOwnOf, AreCopies, LeavesSites, HasMemberOn};
 
 use extent_groups::{GroupTable, Place, StoreRefusal, read_front};
 use extents::Drive;
 pub use planning::plan;
 
-/// Reads the first bytes of a slot's effective unit, as many as the buffer has: of the first copy that is there; false
-/// where both are lost.
+/// Reads the first bytes of a slot's effective unit, `buffer.len()` of them, from the first copy that is there, with another
+/// buffer of a unit's length or, for a whole unit, an empty one; false where both are lost.
 #[inline(always)]
 fn read_fronts<D: Drive>(
     groups: &GroupTable,
     drives: &mut [D],
     slot: u16,
     buffer: &mut [u8],
+    scratch: &mut [u8],
 ) -> bool
     requires slot { IsSlotOf Mirrored groups.now slot }
     requires drives { AreDrives D.units groups.now drives.old }
     requires size { length buffer.old ≤ unit_bytes groups.now }
+    requires scratch { IsBuffer (unit_bytes groups.now) (length buffer.old) (length scratch.old) }
     ensures front { front (length buffer.old) (unit_of groups.now (cells D.units D.lost drives.new) slot) ≡ if_ok result buffer.new }
     ensures whole { length buffer.old ≡ unit_bytes groups.now → unit_of groups.now (cells D.units D.lost drives.new) slot ≡ if_ok result buffer.new }
     ensures units { AreSound groups.now (cells D.units D.lost drives.old) → KeepsUnits groups.now (cells D.units D.lost drives.old) (cells D.units D.lost drives.new) }
@@ -36,27 +38,34 @@ fn read_fronts<D: Drive>(
     ensures drives { AreDrives D.units groups.now drives.new }
 {
     let (first, second) = groups.pair_of(slot);
-    read_pair(drives, first, second, buffer)
+    read_pair(drives, first, second, buffer, scratch)
 }
 
-/// Reads the first bytes of the first copy that is there, as many as the buffer has; false where both are lost.
+/// Reads the first bytes of the first copy that is there, `front.len()` of them; false where both are lost.
 #[inline(always)]
-fn read_pair<D: Drive>(drives: &mut [D], first: Place, second: Place, front: &mut [u8]) -> bool
+fn read_pair<D: Drive>(
+    drives: &mut [D],
+    first: Place,
+    second: Place,
+    front: &mut [u8],
+    scratch: &mut [u8],
+) -> bool
     requires first { IsPlace D.units drives.old first }
     requires second { IsPlace D.units drives.old second }
     requires size { HaveFronts D.units (length front.old) drives.old }
+    requires scratch { HaveRoom D.units (length front.old) (length scratch.old) drives.old }
     ensures unit { unit_at (length front.old) (cells (front_units (length front.old) D.units) D.lost drives.new) (Pair first second) ≡ if_ok result front.new }
     ensures touched { KeepsDrives D.units D.lost D.failures NoPlace drives.old drives.new }
     ensures elsewhere { SameBut (λ d. (d ≡ first.drive) ⊎ (d ≡ second.drive)) drives.old drives.new }
 {
-    if read_front(drives, first, front) {
+    if read_front(drives, first, front, scratch) {
         return true;
     }
-    read_front(drives, second, front)
+    read_front(drives, second, front, scratch)
 }
 
-/// Writes both copies of a unit, given as `front` and, behind it, `rest`, each where its drive is there; false where both
-/// are lost.
+/// Writes both copies of a unit, given as `front` and the bytes after it, `rest`, each where its drive is there, with a buffer
+/// of a unit's length; false where both are lost.
 #[inline(always)]
 fn write_pair<D: Drive>(
     drives: &mut [D],
@@ -64,18 +73,20 @@ fn write_pair<D: Drive>(
     second: Place,
     front: &[u8],
     rest: &[u8],
+    scratch: &mut [u8],
 ) -> bool
     requires first { IsPlace D.units drives.old first }
     requires second { IsPlace D.units drives.old second }
     requires apart { first.drive ≢ second.drive }
     requires size { AreSized D.units (length front.now + length rest.now) drives.old }
+    requires scratch { AreSized D.units (length scratch.old) drives.old }
     ensures unit { unit_at (length front.now + length rest.now) (cells D.units D.lost drives.new) (Pair first second) ≡ if_ok result (front.now ++ rest.now) }
     ensures leaves { LeavesSites (length front.now + length rest.now) (cells D.units D.lost drives.old) (cells D.units D.lost drives.new) (Pair first second) }
     ensures touched { KeepsDrives D.units D.lost D.failures (IsOwn (Pair first second)) drives.old drives.new }
     ensures copies { AreCopies (IsOwn (Pair first second)) (cells D.units D.lost drives.new) (front.now ++ rest.now) }
 {
-    let one = extent_groups::write_gathered(drives, first, front, rest);
-    let two = extent_groups::write_gathered(drives, second, front, rest);
+    let one = extent_groups::write_gathered(drives, first, front, rest, scratch);
+    let two = extent_groups::write_gathered(drives, second, front, rest, scratch);
     one || two
 }
 
@@ -99,21 +110,23 @@ pub fn read<D: Drive>(
     ensures elsewhere { SameBut (HasMemberOn groups.now (slot / 128)) drives.old drives.new }
     ensures drives { AreDrives D.units groups.now drives.new }
 {
-    read_fronts(groups, drives, slot, unit)
+    read_fronts(groups, drives, slot, unit, &mut [])
         .then_some(())
         .ok_or(StoreRefusal::Gone(slot))
 }
 
-/// Reads the header of a slot's effective unit alone; refused where that unit's read is.
+/// Reads the header of a slot's effective unit alone, with a buffer of two units' length; refused where that unit's read is.
 pub fn read_header<D: Drive>(
     groups: &GroupTable,
     drives: &mut [D],
     slot: u16,
     header: &mut [u8],
+    scratch: &mut [u8],
 ) -> Result<(), StoreRefusal>
     requires slot { IsSlotOf Mirrored groups.now slot }
     requires drives { AreDrives D.units groups.now drives.old }
     requires header { length header.old ≡ HEADER_BYTES }
+    requires scratch { length scratch.old ≡ 2 * unit_bytes groups.now }
     ensures ok { OnOk result (header_of groups.now (cells D.units D.lost drives.new) slot ≡ Some header.new) }
     ensures gone { IfErr result (NamesGone groups.now (cells D.units D.lost drives.new) slot) }
     ensures units { AreSound groups.now (cells D.units D.lost drives.old) → KeepsUnits groups.now (cells D.units D.lost drives.old) (cells D.units D.lost drives.new) }
@@ -122,7 +135,8 @@ pub fn read_header<D: Drive>(
     ensures elsewhere { SameBut (HasMemberOn groups.now (slot / 128)) drives.old drives.new }
     ensures drives { AreDrives D.units groups.now drives.new }
 {
-    read_fronts(groups, drives, slot, header)
+    let (whole, _part) = scratch.split_at_mut(scratch.len() / 2);
+    read_fronts(groups, drives, slot, header, whole)
         .then_some(())
         .ok_or(StoreRefusal::Gone(slot))
 }
@@ -133,12 +147,12 @@ pub fn write<D: Drive>(
     drives: &mut [D],
     slot: u16,
     unit: &[u8],
-    _scratch: &mut [u8],
+    scratch: &mut [u8],
 ) -> Result<(), StoreRefusal>
     requires slot { IsSlotOf Mirrored groups.now slot }
     requires drives { AreDrives D.units groups.now drives.old }
     requires unit { length unit.now ≡ unit_bytes groups.now }
-    requires scratch { length _scratch.old ≡ 2 * unit_bytes groups.now }
+    requires scratch { length scratch.old ≡ 2 * unit_bytes groups.now }
     ensures ok { OnOk result (unit_of groups.now (cells D.units D.lost drives.new) slot ≡ Some unit.now) }
     ensures gone { IfErr result (NamesGone groups.now (cells D.units D.lost drives.new) slot) }
     ensures wrote { Wrote groups.now (cells D.units D.lost drives.old) (cells D.units D.lost drives.new) slot unit.now }
@@ -146,10 +160,12 @@ pub fn write<D: Drive>(
     ensures touched { KeepsDrives D.units D.lost D.failures (IsOwnOf groups.now slot) drives.old drives.new }
     ensures drives { AreDrives D.units groups.now drives.new }
 {
-    write_gathered(groups, drives, slot, unit, &[])
+    let (whole, _part) = scratch.split_at_mut(unit.len());
+    write_gathered(groups, drives, slot, unit, &[], whole)
 }
 
-/// Writes the unit of a slot, given as `front` and, behind it, `rest`, from where they lie; else as `write` does.
+/// Writes the unit of a slot, given as `front` and the bytes after it, `rest`, from where they lie, with a buffer of a unit's
+/// length; else as `write` does.
 #[inline(always)]
 pub fn write_gathered<D: Drive>(
     groups: &GroupTable,
@@ -157,10 +173,12 @@ pub fn write_gathered<D: Drive>(
     slot: u16,
     front: &[u8],
     rest: &[u8],
+    scratch: &mut [u8],
 ) -> Result<(), StoreRefusal>
     requires slot { IsSlotOf Mirrored groups.now slot }
     requires drives { AreDrives D.units groups.now drives.old }
     requires pieces { length front.now + length rest.now ≡ unit_bytes groups.now }
+    requires scratch { length scratch.old ≡ unit_bytes groups.now }
     ensures ok { OnOk result (unit_of groups.now (cells D.units D.lost drives.new) slot ≡ Some (front.now ++ rest.now)) }
     ensures gone { IfErr result (NamesGone groups.now (cells D.units D.lost drives.new) slot) }
     ensures wrote { Wrote groups.now (cells D.units D.lost drives.old) (cells D.units D.lost drives.new) slot (front.now ++ rest.now) }
@@ -169,7 +187,7 @@ pub fn write_gathered<D: Drive>(
     ensures drives { AreDrives D.units groups.now drives.new }
 {
     let (first, second) = groups.pair_of(slot);
-    write_pair(drives, first, second, front, rest)
+    write_pair(drives, first, second, front, rest, scratch)
         .then_some(())
         .ok_or(StoreRefusal::Gone(slot))
 }

@@ -13,7 +13,7 @@ ghost use Rattle.extents.specs.declared.shape.TheConstants.{HEADER_BYTES};
 ghost use Rattle.extent_groups.specs.declared.class.Class.TheVariants.{Parity};
 ghost use Rattle.extent_groups.specs.Cells.{cells, front};
 ghost use Rattle.extent_groups.specs.Calls.{if_ok, NoPlace, SameBut, KeepsDrives};
-ghost use Rattle.extent_groups.specs.Stores.{unit_bytes, unit_of, header_of, AreSound, IsSlotOf, AreDrives, KeepsUnits, Wrote, NamesGone, IsOwnOf, HasMemberOn};
+ghost use Rattle.extent_groups.specs.Stores.{unit_bytes, unit_of, header_of, IsBuffer, AreSound, IsSlotOf, AreDrives, KeepsUnits, Wrote, NamesGone, IsOwnOf, HasMemberOn};
 
 pub use exclusive_or::xor_into;
 use extent_groups::{GroupTable, SLOTS, StoreRefusal};
@@ -21,18 +21,21 @@ use extents::Drive;
 pub use parity::read_parity;
 pub use way::Way;
 
-// Reads the first bytes of a slot's effective unit, as many as the buffer has, with another buffer for each member's; false where the unit's drive and another member's are lost.
+// Reads the first bytes of a slot's effective unit, `buffer.len()` of them, with another buffer for each member's and one of a
+// unit's length or, for a whole unit, an empty one; false where the unit's drive and another member's are lost.
 fn read_fronts<D: Drive>(
     groups: &GroupTable,
     drives: &mut [D],
     slot: u16,
     buffer: &mut [u8],
     part: &mut [u8],
+    scratch: &mut [u8],
 ) -> bool
     requires slot { IsSlotOf Parity groups.now slot }
     requires drives { AreDrives D.units groups.now drives.old }
     requires size { length buffer.old ≤ unit_bytes groups.now }
     requires part { length part.old ≡ length buffer.old }
+    requires scratch { IsBuffer (unit_bytes groups.now) (length buffer.old) (length scratch.old) }
     ensures front { front (length buffer.old) (unit_of groups.now (cells D.units D.lost drives.new) slot) ≡ if_ok result buffer.new }
     ensures whole { length buffer.old ≡ unit_bytes groups.now → unit_of groups.now (cells D.units D.lost drives.new) slot ≡ if_ok result buffer.new }
     ensures units { AreSound groups.now (cells D.units D.lost drives.old) → KeepsUnits groups.now (cells D.units D.lost drives.old) (cells D.units D.lost drives.new) }
@@ -42,7 +45,7 @@ fn read_fronts<D: Drive>(
     ensures drives { AreDrives D.units groups.now drives.new }
 {
     let at = groups.row_of(slot);
-    stripe::read_stripe(groups, drives, slot / SLOTS, &at, buffer, part)
+    stripe::read_stripe(groups, drives, slot / SLOTS, &at, buffer, part, scratch)
 }
 
 /// Reads the effective unit of a slot, with two buffers of a unit's length; refused where the unit's drive and another member's are lost.
@@ -66,12 +69,12 @@ pub fn read<D: Drive>(
     ensures drives { AreDrives D.units groups.now drives.new }
 {
     let size = unit.len();
-    read_fronts(groups, drives, slot, unit, &mut scratch[..size])
+    read_fronts(groups, drives, slot, unit, &mut scratch[..size], &mut [])
         .then_some(())
         .ok_or(StoreRefusal::Gone(slot))
 }
 
-/// Reads the header of a slot's effective unit alone, with another buffer of a header's length; refused where that unit's read is.
+/// Reads the header of a slot's effective unit alone, with a buffer of two units' length; refused where that unit's read is.
 pub fn read_header<D: Drive>(
     groups: &GroupTable,
     drives: &mut [D],
@@ -82,7 +85,7 @@ pub fn read_header<D: Drive>(
     requires slot { IsSlotOf Parity groups.now slot }
     requires drives { AreDrives D.units groups.now drives.old }
     requires header { length header.old ≡ HEADER_BYTES }
-    requires scratch { length scratch.old ≡ HEADER_BYTES }
+    requires scratch { length scratch.old ≡ 2 * unit_bytes groups.now }
     ensures ok { OnOk result (header_of groups.now (cells D.units D.lost drives.new) slot ≡ Some header.new) }
     ensures gone { IfErr result (NamesGone groups.now (cells D.units D.lost drives.new) slot) }
     ensures units { AreSound groups.now (cells D.units D.lost drives.old) → KeepsUnits groups.now (cells D.units D.lost drives.old) (cells D.units D.lost drives.new) }
@@ -91,7 +94,9 @@ pub fn read_header<D: Drive>(
     ensures elsewhere { SameBut (HasMemberOn groups.now (slot / 128)) drives.old drives.new }
     ensures drives { AreDrives D.units groups.now drives.new }
 {
-    read_fronts(groups, drives, slot, header, scratch)
+    let (whole, part) = scratch.split_at_mut(scratch.len() / 2);
+    let size = header.len();
+    read_fronts(groups, drives, slot, header, &mut part[..size], whole)
         .then_some(())
         .ok_or(StoreRefusal::Gone(slot))
 }

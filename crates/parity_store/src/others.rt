@@ -3,7 +3,7 @@ ghost use Rattle.std.specs.Prelude.{◌≡◌, ◌<◌, length};
 ghost use Rattle.std.specs.Bool.{MatchBool};
 ghost use Rattle.extent_groups.specs.Groups.{members_of};
 ghost use Rattle.extent_groups.specs.Cells.{cells, front_units};
-ghost use Rattle.extent_groups.specs.Calls.{NoPlace, SameBut, KeepsDrives};
+ghost use Rattle.extent_groups.specs.Calls.{HaveRoom, NoPlace, SameBut, KeepsDrives};
 ghost use Rattle.extent_groups.specs.Stores.{HasMemberOn};
 ghost use Rattle.parity_store.specs.Ways.{row_at, IsReadable, Added, AddedOne, Missed};
 
@@ -20,7 +20,8 @@ pub(crate) struct Others {
     pub(crate) second: u8,
 }
 
-/// Adds the first bytes of a member's unit to a sum, as many as it has, where that isn't passed over, with a buffer for them; false where it is lost.
+/// Adds the first bytes of a member's unit to a sum, `sum.len()` of them, unless the member is one of the two that are left out.
+/// Takes a buffer for them, and one of a unit's length or, for whole units, an empty one. False where the member is lost.
 fn add_member<D: Drive>(
     groups: &GroupTable,
     drives: &mut [D],
@@ -28,10 +29,12 @@ fn add_member<D: Drive>(
     number: u8,
     sum: &mut [u8],
     part: &mut [u8],
+    scratch: &mut [u8],
 ) -> bool
     requires number { number < length (members_of groups.now others.group) }
     requires readable { IsReadable D.units groups.now others.group others.offset (length sum.old) drives.old }
     requires part { length part.old ≡ length sum.old }
+    requires scratch { HaveRoom D.units (length sum.old) (length scratch.old) drives.old }
     ensures outcome { MatchBool result (AddedOne (length sum.old) (cells (front_units (length sum.old) D.units) D.lost drives.old) (cells (front_units (length sum.old) D.units) D.lost drives.new) (row_at groups.now others.group others.offset) others.first others.second number sum.old sum.new) (Missed (cells (front_units (length sum.old) D.units) D.lost drives.old) (cells (front_units (length sum.old) D.units) D.lost drives.new) (row_at groups.now others.group others.offset) others.first others.second) }
     ensures touched { KeepsDrives D.units D.lost D.failures NoPlace drives.old drives.new }
     ensures elsewhere { SameBut (HasMemberOn groups.now others.group) drives.old drives.new }
@@ -43,30 +46,33 @@ fn add_member<D: Drive>(
         return true;
     }
     let place = groups.place(others.group, number, others.offset);
-    if !read_front(drives, place, part) {
+    if !read_front(drives, place, part, scratch) {
         return false;
     }
     xor_into(sum, part);
     true
 }
 
-/// Adds the first bytes of the others' units to a sum, as many as it has, with a buffer for each; false where one of them is lost.
+/// Adds the first bytes of the others' units to a sum, `sum.len()` of them, with a buffer for each and one of a unit's length
+/// or, for whole units, an empty one; false where one of them is lost.
 pub(crate) fn add_others<D: Drive>(
     groups: &GroupTable,
     drives: &mut [D],
     others: Others,
     sum: &mut [u8],
     part: &mut [u8],
+    scratch: &mut [u8],
 ) -> bool
     requires readable { IsReadable D.units groups.now others.group others.offset (length sum.old) drives.old }
     requires part { length part.old ≡ length sum.old }
+    requires scratch { HaveRoom D.units (length sum.old) (length scratch.old) drives.old }
     ensures outcome { MatchBool result (Added (length sum.old) (cells (front_units (length sum.old) D.units) D.lost drives.old) (cells (front_units (length sum.old) D.units) D.lost drives.new) (row_at groups.now others.group others.offset) others.first others.second sum.old sum.new) (Missed (cells (front_units (length sum.old) D.units) D.lost drives.old) (cells (front_units (length sum.old) D.units) D.lost drives.new) (row_at groups.now others.group others.offset) others.first others.second) }
     ensures touched { KeepsDrives D.units D.lost D.failures NoPlace drives.old drives.new }
     ensures elsewhere { SameBut (HasMemberOn groups.now others.group) drives.old drives.new }
 {
     let members = groups.members(others.group).len() as u8;
     for number in 0..members {
-        if !add_member(groups, drives, others, number, sum, part) {
+        if !add_member(groups, drives, others, number, sum, part, scratch) {
             return false;
         }
     }

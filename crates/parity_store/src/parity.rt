@@ -41,5 +41,5 @@ pub fn read_parity<D: Drive>(
         parity,
     };
     let size = unit.len();
-    read_stripe(groups, drives, group, &at, unit, &mut scratch[..size])
+    read_stripe(groups, drives, group, &at, unit, &mut scratch[..size], &mut [])
 }

@@ -3,7 +3,7 @@ ghost use Rattle.std.specs.Prelude.{◌≡◌, ◌<◌, length, slice_get, Some,
 ghost use Rattle.std.specs.Bool.{MatchBool};
 ghost use Rattle.extent_groups.specs.declared.place.Place.{Place};
 ghost use Rattle.extent_groups.specs.Cells.{cells, front_units, held};
-ghost use Rattle.extent_groups.specs.Calls.{if_ok, NoPlace, Only, SameBut, KeepsDrives};
+ghost use Rattle.extent_groups.specs.Calls.{if_ok, HaveRoom, NoPlace, Only, SameBut, KeepsDrives};
 ghost use Rattle.extent_groups.specs.Layout.{IsWhole};
 ghost use Rattle.extent_groups.specs.Units.{InStripe, unit_at, row_of, IsSoundAt};
 ghost use Rattle.extent_groups.specs.Stores.{IsOwn, LeavesSites, HasMemberOn};
@@ -23,7 +23,8 @@ fn clear(unit: &mut [u8])
     }
 }
 
-/// Reads the first bytes of a unit of a stripe, as many as the buffer has, or adds up those of all others where its drive is lost, with a buffer for each; false where one of these is lost too.
+/// Reads the first bytes of a unit of a stripe, `front.len()` of them, or adds up those of all others where its drive is lost.
+/// Takes a buffer for each, and one of a unit's length or, for whole units, an empty one. False where one of these is lost too.
 pub(crate) fn read_stripe<D: Drive>(
     groups: &GroupTable,
     drives: &mut [D],
@@ -31,16 +32,18 @@ pub(crate) fn read_stripe<D: Drive>(
     at: &Stripe,
     front: &mut [u8],
     part: &mut [u8],
+    scratch: &mut [u8],
 ) -> bool
     requires member { at.now.member < length (row_at groups.now group at.now.offset) }
     requires readable { IsReadable D.units groups.now group at.now.offset (length front.old) drives.old }
     requires part { length part.old ≡ length front.old }
+    requires scratch { HaveRoom D.units (length front.old) (length scratch.old) drives.old }
     ensures unit { unit_at (length front.old) (cells (front_units (length front.old) D.units) D.lost drives.new) (InStripe (row_at groups.now group at.now.offset) at.now.parity at.now.member) ≡ if_ok result front.new }
     ensures touched { KeepsDrives D.units D.lost D.failures NoPlace drives.old drives.new }
     ensures elsewhere { SameBut (HasMemberOn groups.now group) drives.old drives.new }
 {
     let home = groups.place(group, at.member, at.offset);
-    if read_front(drives, home, front) {
+    if read_front(drives, home, front, scratch) {
         return true;
     }
     let others = Others {
@@ -50,7 +53,7 @@ pub(crate) fn read_stripe<D: Drive>(
         second: at.member,
     };
     clear(front);
-    add_others(groups, drives, others, front, part)
+    add_others(groups, drives, others, front, part, scratch)
 }
 
 /// Writes the exclusive or of a unit and all others as the parity, with a buffer for it and one for each other; false, with nothing written, where one of these or the parity is lost.
@@ -77,7 +80,7 @@ fn write_parity_alone<D: Drive>(
         second: at.parity,
     };
     sum.copy_from_slice(unit);
-    if !add_others(groups, drives, others, sum, part) {
+    if !add_others(groups, drives, others, sum, part, &mut []) {
         return false;
     }
     write_place(drives, groups.place(group, at.parity, at.offset), sum)

@@ -89,7 +89,7 @@ pub(crate) fn find_way<D: Drive>(
         second: at.parity,
     };
     sum.copy_from_slice(unit);
-    if !add_others(groups, drives, others, sum, part) {
+    if !add_others(groups, drives, others, sum, part, &mut []) {
         return Way::Missed;
     }
     if is_there(drives, parity) {

@@ -1,7 +1,7 @@
 use Rattle.std.proofs.Common.{◌/◌, length, inl, inr, refl, sym, subst}
 use Rattle.extent_groups.specs.Stores.{HasMemberOn}
 use Rattle.extent_groups.proofs.Elsewhere.{same_more, site_member}
-use Rattle.extent_groups.proofs.Fronts.{have_fronts, slot_front, slot_whole}
+use Rattle.extent_groups.proofs.Fronts.{have_fronts, have_room, slot_front, slot_whole}
 use Rattle.extent_groups.proofs.Losses.{kept_fades}
 use Rattle.extent_groups.proofs.Sites.{site_places}
 use Rattle.extent_groups.proofs.StoreCalls.{read_keeps, drives_kept}
@@ -33,6 +33,9 @@ returns-clause-elsewhere g c =
 
 pub read_pair-requires-clause-size : goal.read_pair-requires-clause-size
 read_pair-requires-clause-size g c = have_fronts g.D.Drive.units _ _ c.args.drives.now c.requires.size c.requires.drives.sized
+
+pub read_pair-requires-clause-scratch : goal.read_pair-requires-clause-scratch
+read_pair-requires-clause-scratch g c = have_room g.D.Drive.units _ _ _ c.args.drives.now c.requires.scratch c.requires.drives.sized
 
 pub returns-clause-front : goal.returns-clause-front
 returns-clause-front g c = slot_front g.D.Drive.units g.D.Drive.lost c.read_pair.new.drives c.args.groups.now c.args.slot _ (length c.args.buffer.now) _ c.pair_of.ensures.site c.requires.size c.read_pair.ensures.unit

@@ -1,12 +1,15 @@
 use Rattle.std.proofs.Common.{subst, sym, rules, inl, inr}
 use Rattle.extent_groups.specs.Calls.{HaveFronts}
 use Rattle.extent_groups.proofs.DriveCalls.{keeps_trans}
-use Rattle.extent_groups.proofs.Fronts.{keeps_fronts}
+use Rattle.extent_groups.proofs.Fronts.{keeps_fronts, keeps_room}
 use Rattle.extent_groups.proofs.Elsewhere.{same_trans, same_more}
 use Rattle.mirrored_store.proofs.read_pair.Goals as goal
 
 pub read_front-requires-2-clause-size : goal.read_front-requires-2-clause-size
 read_front-requires-2-clause-size g c = subst (λ n. HaveFronts g.D.Drive.units n c.read_front.new.drives) (sym c.read_front.auto.front) (keeps_fronts c.read_front.ensures.drives c.requires.size)
+
+pub read_front-requires-2-clause-scratch : goal.read_front-requires-2-clause-scratch
+read_front-requires-2-clause-scratch g c = keeps_room c.read_front.ensures.drives c.read_front.auto.front c.read_front.auto.scratch c.requires.scratch
 
 pub returns-clause-touched : goal.returns-clause-touched
 returns-clause-touched g c = keeps_trans c.read_front.ensures.drives c.read_front-2.ensures.drives

@@ -1,4 +1,5 @@
-use Rattle.std.proofs.Common.{inl, inr, rules}
+use Rattle.std.proofs.Common.{inl, inr, sym, subst, rules}
+use Rattle.extent_groups.specs.Calls.{AreSized}
 use Rattle.extent_groups.proofs.DriveCalls.{keeps_sizes, keeps_trans, keeps_more, cells_sized}
 use Rattle.extent_groups.proofs.SlotWrites.{pair_leaves, pair_copies}
 use Rattle.mirrored_store.proofs.write_pair.Goals as goal
@@ -33,3 +34,7 @@ returns-then-one-clause-copies g c = pair_copies _ _ _ _ _ _ _ _ c.requires.apar
 
 pub returns-else-one-clause-copies : goal.returns-else-one-clause-copies
 returns-else-one-clause-copies g c = pair_copies _ _ _ _ _ _ _ _ c.requires.apart c.write_gathered-one.ensures.written c.write_gathered-two.ensures.written
+
+pub write_gathered-two-requires-clause-scratch : goal.write_gathered-two-requires-clause-scratch
+write_gathered-two-requires-clause-scratch g c =
+    subst (λ n. AreSized g.D.Drive.units n c.write_gathered-one.new.drives) (sym c.write_gathered-one.auto.scratch) (keeps_sizes c.write_gathered-one.ensures.drives c.requires.scratch)

@@ -1,5 +1,5 @@
 use Rattle.std.proofs.Common.{length}
-use Rattle.extent_groups.proofs.Fronts.{slot_front, slot_whole}
+use Rattle.extent_groups.proofs.Fronts.{have_room, slot_front, slot_whole}
 use Rattle.extent_groups.proofs.Losses.{kept_fades}
 use Rattle.extent_groups.proofs.StoreCalls.{read_keeps, site_whole, drives_kept}
 use Rattle.parity_store.proofs.Laid.{readable}
@@ -10,6 +10,9 @@ read_stripe-requires-clause-member g c = (site_whole _ c.args.slot _ c.row_of-at
 
 pub read_stripe-requires-clause-readable : goal.read_stripe-requires-clause-readable
 read_stripe-requires-clause-readable g c = readable _ _ _ _ _ _ c.requires.drives c.requires.size c.row_of-at.ensures.inside
+
+pub read_stripe-requires-clause-scratch : goal.read_stripe-requires-clause-scratch
+read_stripe-requires-clause-scratch g c = have_room g.D.Drive.units _ _ _ c.args.drives.now c.requires.scratch c.requires.drives.sized
 
 pub returns-clause-units : goal.returns-clause-units
 returns-clause-units g c = λ s. (read_keeps _ _ _ c.row_of-at.ensures.groups c.requires.drives s (kept_fades c.read_stripe.ensures.touched) c.read_stripe.ensures.touched).all

@@ -3,6 +3,7 @@ use Rattle.extent_groups.specs.Cells.{cells, front_units}
 use Rattle.extent_groups.specs.Units.{row_of}
 use Rattle.parity_store.specs.Ways.{row_at}
 use Rattle.extent_groups.proofs.DriveCalls.{keeps_none, keeps_trans}
+use Rattle.extent_groups.proofs.Fronts.{keeps_room}
 use Rattle.extent_groups.proofs.Elsewhere.{same_trans}
 use Rattle.parity_store.proofs.Laid.{still_readable}
 use Rattle.parity_store.proofs.Sums.{sum_begun, sum_more, missed_after}
@@ -19,6 +20,9 @@ loop-number-init g c = record {
 
 pub add_member-requires-clause-readable : goal.add_member-requires-clause-readable
 add_member-requires-clause-readable g c = still_readable c.loop-number.invariant.touched c.loop-number.auto.sum c.requires.readable
+
+pub add_member-requires-clause-scratch : goal.add_member-requires-clause-scratch
+add_member-requires-clause-scratch g c = keeps_room c.loop-number.invariant.touched c.loop-number.auto.sum c.loop-number.auto.scratch c.requires.scratch
 
 pub returns-then-not-add_member-clause-touched : goal.returns-then-not-add_member-clause-touched
 returns-then-not-add_member-clause-touched g c = keeps_trans c.loop-number.invariant.touched c.add_member.ensures.touched

@@ -3,6 +3,7 @@ use Rattle.std.specs.Prelude.{replicate}
 use Rattle.extent_groups.specs.Cells.{cells, front_units}
 use Rattle.extent_groups.proofs.DriveCalls.{keeps_trans}
 use Rattle.extent_groups.specs.Stores.{HasMemberOn}
+use Rattle.extent_groups.proofs.Fronts.{keeps_room}
 use Rattle.extent_groups.proofs.Elsewhere.{same_trans, same_more, row_drive}
 use Rattle.parity_store.specs.Ways.{row_at, Added, Missed}
 use Rattle.std.specs.Bool.{MatchBool}
@@ -12,6 +13,9 @@ use Rattle.parity_store.proofs.stripe.read_stripe.Goals as goal
 
 pub add_others-requires-clause-readable : goal.add_others-requires-clause-readable
 add_others-requires-clause-readable g c = still_readable c.read_front.ensures.drives (c.clear.auto.unit ∙ c.read_front.auto.front) c.requires.readable
+
+pub add_others-requires-clause-scratch : goal.add_others-requires-clause-scratch
+add_others-requires-clause-scratch g c = keeps_room c.read_front.ensures.drives (c.clear.auto.unit ∙ c.read_front.auto.front) c.read_front.auto.scratch c.requires.scratch
 
 pub returns-clause-unit : goal.returns-clause-unit
 returns-clause-unit g c =

@@ -1,4 +1,4 @@
-use Rattle.std.proofs.Common.{◌≡◌, true, false, refl, sym, ap, ◌∙◌, subst, length, inl, rules, None}
+use Rattle.std.proofs.Common.{◌≡◌, true, false, refl, sym, ap, ◌∙◌, subst, length, inl, inr, rules, None}
 use Rattle.std.specs.Bool.{MatchBool}
 use Rattle.std.proofs.lemmas.Option.{same_Some}
 use Rattle.extent_groups.specs.Cells.{cells, front_units, held}
@@ -20,6 +20,9 @@ use Rattle.parity_store.proofs.way.find_way.Goals.{After-add_others}
 
 pub add_others-requires-clause-readable : goal.add_others-requires-clause-readable
 add_others-requires-clause-readable g c = laid_readable (ap length c.copy_from_slice.ensures.after) (still_laid c.read_two-read.ensures.touched refl c.requires.laid)
+
+pub add_others-requires-clause-scratch : goal.add_others-requires-clause-scratch
+add_others-requires-clause-scratch g c = λ d x there. inr (refl, (still_laid c.read_two-read.ensures.touched (ap length c.copy_from_slice.ensures.after) c.requires.laid).size d x there)
 
 -- the sum of the others' whole units
 whole : (g : given.Over) (c : After-add_others g)
