@@ -1,4 +1,4 @@
-// A world has its array's units, for whoever scans them.
+// A world has its array's units, for any caller that scans them.
 ghost use Rattle.array_parts.specs.Views.{cells_of};
 ghost use Rattle.array_core.specs.Refused.{OnlyLosesOf};
 ghost use Rattle.array_core.specs.Laws.{world_itself, world_more};
