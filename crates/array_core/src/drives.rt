@@ -4,7 +4,7 @@ ghost use Rattle.std.specs.Prelude.{◌≡◌, ◌⊎◌, ◌*◌, ◌≤◌, le
 ghost use Rattle.extents.specs.declared.shape.TheConstants.{HEADER_BYTES};
 ghost use Rattle.extent_groups.specs.Faults.{put_fault};
 ghost use Rattle.extent_groups.specs.Groups.{AreThere};
-ghost use Rattle.extent_groups.specs.Stores.{unit_of, header_of, AreSound, KeepsUnits};
+ghost use Rattle.extent_groups.specs.Stores.{unit_bytes, unit_of, header_of, AreSound, KeepsUnits};
 ghost use Rattle.flat_machine.specs.Flat.{Payload, Trim, content_under, waiting_unit};
 ghost use Rattle.flat_machine.specs.Groups.{IsLowestFree};
 ghost use Rattle.array_parts.specs.Slots.{IsSlot};
@@ -126,22 +126,31 @@ impl<D: Drive, C: Hold> Array<D, C> {
         }
     }
 
-    // Reads the header of a slot's effective unit; a second buffer of a header's length is for parity slots.
-    pub(crate) fn header_at(
-        &mut self,
-        slot: u16,
-        header: &mut [u8],
-        scratch: &mut [u8],
-    ) -> Result<(), Refusal>
+    // Reads a slot's effective unit into a buffer of the caller's.
+    pub(crate) fn unit_at(&mut self, slot: u16, unit: &mut [u8]) -> Result<(), Refusal>
+        requires slot { IsSlot self.old.parts.groups slot }
+        requires unit { length unit.old ≡ unit_bytes self.old.parts.groups }
+        ensures ok { OnOk result (unit_of self.new.parts.groups (cells_of self.new.parts) slot ≡ Some unit.new) }
+        ensures gone { IfErr result (λ e. (e ≡ Refusal.Gone slot) × (unit_of self.new.parts.groups (cells_of self.new.parts) slot ≡ None)) }
+        ensures units { AreSound self.old.parts.groups (cells_of self.old.parts) → KeepsUnits self.old.parts.groups (cells_of self.old.parts) (cells_of self.new.parts) }
+        ensures sound { AreSound self.old.parts.groups (cells_of self.old.parts) → AreSound self.new.parts.groups (cells_of self.new.parts) }
+        ensures loses { OnlyLoses self.old self.new }
+    {
+        let scratch: &mut [u8] = &mut self.scratch;
+        self.parts.read(slot, unit, scratch)
+    }
+
+    // Reads the header of a slot's effective unit into a buffer of the caller's.
+    pub(crate) fn header_at(&mut self, slot: u16, header: &mut [u8]) -> Result<(), Refusal>
         requires slot { IsSlot self.old.parts.groups slot }
         requires header { length header.old ≡ HEADER_BYTES }
-        requires scratch { length scratch.old ≡ HEADER_BYTES }
         ensures ok { OnOk result (header_of self.new.parts.groups (cells_of self.new.parts) slot ≡ Some header.new) }
         ensures gone { IfErr result (λ e. (e ≡ Refusal.Gone slot) × (unit_of self.new.parts.groups (cells_of self.new.parts) slot ≡ None)) }
         ensures units { AreSound self.old.parts.groups (cells_of self.old.parts) → KeepsUnits self.old.parts.groups (cells_of self.old.parts) (cells_of self.new.parts) }
         ensures sound { AreSound self.old.parts.groups (cells_of self.old.parts) → AreSound self.new.parts.groups (cells_of self.new.parts) }
         ensures loses { OnlyLoses self.old self.new }
     {
+        let scratch: &mut [u8] = &mut self.scratch;
         self.parts.read_header(slot, header, scratch)
     }
 }

@@ -1,4 +1,4 @@
-// An array has units under its slot numbers, for whoever scans them.
+// An array's units by slot number, for a scan.
 ghost use Rattle.array_parts.specs.Views.{cells_of};
 ghost use Rattle.array_core.specs.Refused.{OnlyLoses};
 ghost use Rattle.array_core.specs.Laws.{only_itself, only_more};
@@ -23,8 +23,13 @@ impl<D: Drive, C: Hold> Units for Array<D, C> {
         &self.parts.groups
     }
 
-    fn header(&mut self, slot: u16, header: &mut [u8], scratch: &mut [u8]) -> Result<(), Refusal> {
-        self.header_at(slot, header, scratch)
+    // An array has buffers of its own: the caller's stays as it is.
+    fn unit(&mut self, slot: u16, unit: &mut [u8], _scratch: &mut [u8]) -> Result<(), Refusal> {
+        self.unit_at(slot, unit)
+    }
+
+    fn header(&mut self, slot: u16, header: &mut [u8], _scratch: &mut [u8]) -> Result<(), Refusal> {
+        self.header_at(slot, header)
     }
 
     ghost none = { λ a. only_itself a };

@@ -1,4 +1,4 @@
--- An array that is put together from parts and a map keeps what every array keeps, and stands for the state made anew.
+-- An array that is put together from parts and a map keeps what every array keeps, and represents the restarted state.
 use Rattle.std.proofs.Common.{◌≡◌, ◌≢◌, ℕ, ◌^◌, ◌<◌, ◌≤◌, ◌==◌, ◌&&◌, nat_lt, Bool, true, false, length, refl, sym, ap, ◌∙◌, subst, arith, ◌⊎◌, inl, inr, None}
 use Rattle.std.proofs.lemmas.Bool.{cases_eq}
 use Rattle.std.proofs.lemmas.Bool.Decides.{nat_tests}
@@ -20,7 +20,7 @@ pub record AreKeysOf (keys : ℕ → ℕ) : Type 0 where
   pub least : (b : ℕ) → 0 < keys b → 2 ^ 32 ≤ keys b
   pub most : (b : ℕ) → keys b < 2 ^ 64
 
--- the parts stand by themselves
+-- what is true of the parts alone
 pub record ArePartsOf (v : PartsView) : Type 0 where
   pub sizes : AreSizes v.groups
   pub groups : GroupsStand v.groups (length v.drives)
@@ -113,7 +113,7 @@ slot_says groups keys s kept places placed = record { blocks = λ b. blocks b ke
         go (inl e) = here (keys b) (record_of b (keys b)).place s (subst (λ n. 0 < keys n) e p.0) (subst (λ n. (record_of n (keys n)).place ≡ s) e p.1) ∙ sym (same c b e)
         go (inr ne) = both (keys b) (record_of b (keys b)).place s (λ some at. ne (places.apart c b p.0 some (p.1 ∙ sym at))) ∙ sym (other c b ne)
 
--- the array stands for the state made anew
+-- the array represents the restarted state
 pub adopted_shows : (v : PartsView) (keys : ℕ → ℕ) (a : ArrayView) (F : Flat) → IsAdopted v keys a → HasPlaces v.groups keys → ArePartsOf v → 3 ≤ length v.drives → length v.drives ≤ 16
     → HasParts v F → TellMap F.groups F.units keys → ShowsArray a (restarted F keys a.log)
 adopted_shows v keys a F is places parts least most has tells = record {

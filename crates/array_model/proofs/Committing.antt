@@ -184,7 +184,7 @@ carried a p F w s b c x v h writes whole inside block waits was shows ready case
     above : key_at a b < key_of (emitted_by b s v h)
     above = let e = ready.above in omega arith
 
--- the slot isn't gone then, and the state is left with the drives of the parts
+-- the slot isn't lost then, and the state is left with the drives of the parts
 there : (a : ArrayView) (p : PartsView) (F : Flat) (s b v h : ℕ) (k : Kind) → ShowsArray a F → IsStampedTo a p s b v h k → (x : Flat) → x.groups ≡ F.groups → IsGoneIn (fared x p) s → ⊥
 there a p F s b v h k shows was x same gone = was.target (gone_back x a.parts p s (same ∙ shows.tables.groups) was.rest gone)
 
@@ -275,7 +275,7 @@ commit_case a p F w s b whole inside block none was shows mine = go (kept_at a s
     go Unmade is e stamp = absurd (cc)
     go (Newest c) is e stamp = absurd (cc)
 
--- the slot is gone
+-- the slot is lost
 pub commit_gone : (a : ArrayView) (p : PartsView) (F : Flat) (w s b : ℕ) (q : Refusal) → IsWhole a → commit_reason a s b (record_at b (key_at a b)) ≡ None → FoundGone a.parts p s q
     → ShowsArray a F → (F.tickets s ≢ None → F.held s (Ticket w) ≡ true)
     → MayRefuse q (IsWanted F (Commit w s b)) ((G : Flat) × CommitCase F w s b (Refused q) G × ShowsArray (with_parts a p) G)

@@ -117,7 +117,7 @@ copy_case a v F w s b r k inside block found was none whole shows held = (
       ),
     )
 
--- the source or the slot is gone
+-- the source or the slot is lost
 pub copy_gone : (a : ArrayView) (v : PartsView) (F : Flat) (w s b : ℕ) (r : Record) (q : Refusal) → record_at b (key_at a b) ≡ Some r → copy_reason a s (Some r) ≡ None
     → WasNotCarried a.parts v r.place s q → ShowsArray a F → F.held s (Worker w) ≡ true
     → MayRefuse q ((p : Record) × CopyPasses F w s b p) ((G : Flat) × CopyCase F w s b (Refused q) G × ShowsArray (with_parts a v) G)

@@ -1,4 +1,4 @@
--- A flat state whose drives fared as an array's did: what it leaves, and which of its slots are gone.
+-- A flat state whose drives fared as an array's did: what it leaves, and which of its slots are lost.
 use Rattle.std.proofs.Common.{◌≡◌, ℕ, Bool, length, refl, sym, ap, ◌∙◌, subst}
 use Rattle.extents.specs.Failures.{Failures}
 use Rattle.extents.proofs.Failures.{counts_same, steady_same, counts_more, steady_more}
@@ -27,18 +27,18 @@ leaves x a b lost failures fares = record {
       (subst (λ (n : ℕ → Failures). Fares (lost_of a d) (lost_of b d) (n d) (failed_of b d)) (sym failures) (fares.each d));
 }
 
--- which slots are gone then
+-- which slots are lost then
 pub gone_as : (F : Flat) (a v : PartsView) (s : ℕ) → F.groups ≡ a.groups → SameTables a v → IsLost v s → IsGoneIn (fared F v) s
 gone_as F a v s groups same gone = subst (λ (g : Groups). IsGone g (lost_of v) s) (sym (groups ∙ sym same.groups)) gone
 
 pub gone_back : (F : Flat) (a v : PartsView) (s : ℕ) → F.groups ≡ a.groups → SameTables a v → IsGoneIn (fared F v) s → IsLost v s
 gone_back F a v s groups same gone = subst (λ (g : Groups). IsGone g (lost_of v) s) (groups ∙ sym same.groups) gone
 
--- which were gone before
+-- which were lost before
 pub gone_before : (F : Flat) (a : PartsView) (s : ℕ) → F.groups ≡ a.groups → F.lost ≡ lost_of a → IsGoneIn F s → IsLost a s
 gone_before F a s groups lost gone = subst (λ (l : ℕ → Bool). IsGone a.groups l s) lost (subst (λ (g : Groups). IsGone g F.lost s) groups gone)
 
--- an array that lost drives stands for the state with these drives
+-- an array that lost drives represents the state with these drives
 pub lost_shows : (a : ArrayView) (F : Flat) (v : PartsView) → ShowsArray a F → Loses a.parts v → ShowsArray (with_parts a v) (fared F v)
 lost_shows a F v shows loses = record {
   history = flat.fared F (lost_of v) (failed_of v) (key_at a) shows.history;

@@ -171,7 +171,7 @@ fill_case a v F w s x inside none long was whole shows held =
           (wait_tables a v F w s (Pending (kind_of x)) (Fresh x) inside refl (x, refl, refl) was.rest was.fares whole shows passes.2),
     )
 
--- the slot is gone
+-- the slot is lost
 pub fill_gone : (a : ArrayView) (v : PartsView) (F : Flat) (w s : ℕ) (x : Content) (q : Refusal) → fill_reason a s ≡ None → FoundGone a.parts v s q → ShowsArray a F → F.held s (Worker w) ≡ true
     → MayRefuse q (FillPasses F w s) ((G : Flat) × FillCase F w s x (Refused q) G × ShowsArray (with_parts a v) G)
 fill_gone a v F w s x q none found shows held =

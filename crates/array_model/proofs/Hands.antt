@@ -1,4 +1,4 @@
--- Workers claim and release, and the array stands for the state after it as it stood before.
+-- Workers claim and release, and the array represents the state after it as it represented the one before.
 use Rattle.std.proofs.Common.{◌↔◌, ◌≡◌, ℕ, ◌<◌, Bool, true, false, not, length, refl, sym, ap, ◌∙◌, subst}
 use Rattle.std.proofs.Math.ListN.{set}
 use Rattle.std.proofs.lemmas.List.{get_or-set_same, get_or-set_other}
@@ -40,7 +40,7 @@ hands_move a F H same is = record {
 abbrev pub with_hand : WorldView → ℕ → Hand → WorldView
 with_hand v s h = record v { hands = set v.hands s h }
 
--- what is told of the hands stays told where one slot changes
+-- what is true of the hands stays true where one slot changes
 pub one_hand : (v : WorldView) (F G : Flat) (s : ℕ) (h : Hand) → s < length v.hands → ((t : ℕ) → HandSlot (hand_at v.hands t) (F.held t))
     → ((t : ℕ) → (t ≡ s → ⊥) → G.held t ≡ F.held t) → HandSlot h (G.held s) → (t : ℕ) → HandSlot (hand_at (set v.hands s h) t) (G.held t)
 one_hand v F G s h inside old rest here = one_slot (λ t. HandSlot (hand_at (set v.hands s h) t) (G.held t)) s
@@ -117,7 +117,7 @@ taken_case v F w s held rep = (refl, holder (hand_at v.hands s) refl, itself F)
     holder (Holds u) e = (Worker u, (rep.hands s).claims u ∙ ap (λ h. is_claim h u) e ∙ equal u u refl)
     holder (Waits u) e = (Ticket u, (rep.hands s).tickets u ∙ ap (λ h. is_ticket h u) e ∙ equal u u refl)
 
--- so the tables tell just which slots are free
+-- so the tables say exactly which slots are free
 pub free_iff : (v : WorldView) (F : Flat) (s : ℕ) → Represents v F → has_no_holder (kept_at v.array s) (hand_at v.hands s) ≡ true ↔ IsFree F s
 free_iff v F s rep = (there, λ free. go free (has_no_holder (kept_at v.array s) (hand_at v.hands s)) refl)
   where

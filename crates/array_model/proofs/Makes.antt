@@ -86,7 +86,7 @@ test_of_members a ms whole are = (
 abbrev last : Bool → Bool → Option GroupRefusal
 last x y = cond x (Some fault.SameDrive) (cond y (Some fault.ExtentTaken) None)
 
--- why members make no group is told by what the test of them found
+-- why members make no group is given by what the test of them found
 pub reason_told : (a : ArrayView) (ms : List Member) → IsWhole a → (3 ≤ length ms) × (length ms ≤ 8) × AreThere a.parts.owners ms → IsPutReason a ms (told_of (put_fault a.parts.owners ms))
 reason_told a ms whole are = subst (λ o. IsPutReason a ms (told_of o)) (sym is) (go (shares_drive ms) refl (list_any (is_owned a.parts.owners) ms) refl)
   where
@@ -124,7 +124,7 @@ made_more groups n are low made so_far h high none = go (cases_eq h n)
     go (inl e) = made (record { within = let numbers = are.numbers in omega arith; free = ap (group_at groups) (sym e) ∙ none })
     go (inr ne) = so_far h (omega arith) none
 
--- however the fault was found and told
+-- the fault may be found and reported in any way
 pub reason_as : (a : ArrayView) (ms : List Member) (o : Option Refusal) (f : Option GroupRefusal) → IsWhole a → (3 ≤ length ms) × (length ms ≤ 8) × AreThere a.parts.owners ms
     → o ≡ told_of f → f ≡ put_fault a.parts.owners ms → IsPutReason a ms o
 reason_as a ms o f whole are told fault = subst (IsPutReason a ms) (sym (told ∙ ap told_of fault)) (reason_told a ms whole are)

@@ -30,7 +30,7 @@ use Rattle.array_model.proofs.Slots.{shows_after}
 abbrev more : Groups → ℕ → Class → List Member → Groups
 more groups g class members = with_group groups g (Some (record { class = class; members = members }))
 
--- what goes out is a claim of an unmade group, and nothing else
+-- what goes out is a claim of a dissolved group, and nothing else
 opened_same : (k : Kept) → (k ≡ Unmade → ⊥) → opened_of k ≡ k
 opened_same Nothing made = refl
 opened_same (Pending k) made = refl
@@ -176,7 +176,7 @@ entered_tables a v kept F g class members e opened shows = record {
         ticket_same s (inl same) is = subst (λ z. IsTicketOf z (F.tickets s)) (sym (opened.here s same)) (opened_ticket (kept_at a s) (F.tickets s) is)
         ticket_same s (inr ne) is = subst (λ z. IsTicketOf z (F.tickets s)) (sym (opened.rest s ne)) is
 
--- the tests' words, told of the flat state
+-- the tests' words, stated over the flat state
 members_as : (a : ArrayView) (F : Flat) (members : List Member) → ShowsArray a F → AreMembers a.parts.groups.extents (length a.parts.drives) members
     → AreMembers F.groups.extents F.drives members
 members_as a F members shows are =

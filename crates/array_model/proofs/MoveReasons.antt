@@ -1,4 +1,4 @@
--- Why a member can't go onto an extent, told from the tests of the tables.
+-- Why a member can't go onto an extent, by the tests of the tables.
 use Rattle.std.proofs.Common.{◌≡◌, ◌≢◌, ℕ, zero, suc, ◌<◌, ◌==◌, ◌||◌, Bool, true, false, cond, is_some, List, [], ◌∷◌, length, refl, sym, ◌∙◌, arith, Option, Some, None}
 use Rattle.std.specs.Prelude.{slice_get}
 use Rattle.std.proofs.lemmas.Option.{none-some}
@@ -29,7 +29,7 @@ owner_there : (o : Option ℕ) → is_some o ≡ true → (h : ℕ) × (o ≡ So
 owner_there None e = let bad : false ≡ true = e in absurd (cc)
 owner_there (Some h) e = (h, refl)
 
--- what may be refused of an extent that is there is refused for what the tests tell
+-- what may be refused of an extent that is there is refused for what the tests find
 pub swap_reason : (a : ArrayView) (g k : ℕ) (to : Member) → IsWhole a → slice_get (members_of a.parts.groups g) k ≢ None → IsExtent a.parts.owners to.drive to.extent
     → IsMoveReason a.parts.groups (length a.parts.drives) g k to (told_of (swap_check_of a.parts.owners (members_of a.parts.groups g) to))
 swap_reason a g k to whole some inside = go (is_on to.drive (members_of a.parts.groups g)) (is_owned a.parts.owners to) refl refl

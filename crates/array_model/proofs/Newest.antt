@@ -1,4 +1,4 @@
--- The newest record of a block, told from the array's key.
+-- The newest record of a block, from the array's key.
 use Rattle.std.proofs.Common.{◌≡◌, ◌≢◌, ℕ, zero, suc, ◌<◌, ◌≤◌, List, [], ◌∷◌, length, get_or, refl, sym, ap, ◌∙◌, subst, arith, ◌⊎◌, inl, inr, Option, Some, None}
 use Rattle.map_join.specs.declared.records.Record.{Record}
 use Rattle.map_join.specs.Record.{record_of, record_at}
@@ -9,7 +9,7 @@ use Rattle.flat_machine.proofs.Newest as flat
 use Rattle.array_model.specs.Views.{Kept, Nothing, Pending, Moving, Newest, Unmade, ArrayView, block_in, kept_at, key_at, IsRoomy, IsWhole}
 use Rattle.array_model.specs.Represents.{ShowsArray}
 
--- the block's key tells its newest record
+-- the block's key is that of its newest record
 pub newest_told : (a : ArrayView) (F : Flat) (block : ℕ) → ShowsArray a F → IsNewest F.emitted block (record_at block (key_at a block))
 newest_told a F block shows = flat.newest_told F.emitted (key_at a) block shows.history.records shows.history.map
 
@@ -35,7 +35,7 @@ map_whole a M i room end before rest b = go (side b i)
     go (inl h) = before b h
     go (inr h) = let e = room.keys in rest b h ∙ sym (get_or_past a.keys b 0 (omega arith))
 
--- a slot that is a block's newest place is told as that block's, and no other slot is live
+-- a slot that is a block's newest place is kept as that block's, and no other slot is live
 pub lies_at : (a : ArrayView) (s : ℕ) → IsWhole a → IsBlockAt (key_at a) s (block_in (kept_at a s))
 lies_at a s whole = go (kept_at a s) refl
   where

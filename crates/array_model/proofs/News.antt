@@ -1,4 +1,4 @@
--- A new array stands for the new flat state.
+-- A new array represents the new flat state.
 use Rattle.std.proofs.Common.{◌≡◌, ◌≤◌, length, refl, sym, ◌∙◌, subst, arith, None}
 use Rattle.extents.specs.declared.shape.Shape.{Shape}
 use Rattle.extents.specs.Shapes.{IsShapeOf}

@@ -1,4 +1,4 @@
--- A worker has one claim more, and the array stands for the state after it as it stood before.
+-- A worker has one claim more, and the array represents the state after it as it represented the one before.
 use Rattle.std.proofs.Common.{◌≡◌, ℕ, Bool, true, false, ◌==◌, ◌||◌, refl, ◌∙◌}
 use Rattle.flat_machine.specs.Flat.{Flat, Worker, with_pair}
 use Rattle.flat_machine.proofs.Claims.{claim_keeps, with_worker}
@@ -7,7 +7,7 @@ use Rattle.array_model.specs.Views.{ArrayView, key_at}
 use Rattle.array_model.specs.Represents.{ShowsArray}
 use Rattle.array_model.proofs.Hands.{hands_move}
 
--- whoever else holds the slot
+-- with any other holders of the slot
 pub shows_one_more : (a : ArrayView) (F : Flat) (s w : ℕ) → ShowsArray a F → ShowsArray a (record F { held = with_pair F.held s (Worker w) })
 shows_one_more a F s w is = record {
   history = claim_keeps F (key_at a) w s is.history;

@@ -1,4 +1,4 @@
--- An array with a drive more, or with a member on another extent, is whole, and stands for the state with the same.
+-- An array with a drive more, or with a member on another extent, is whole, and represents the state with the same.
 use Rattle.std.proofs.Common.{◌≡◌, ◌≢◌, ℕ, ◌+◌, ◌/◌, ◌<◌, ◌≤◌, Bool, true, false, [], ◌∷◌, length, refl, sym, ap, ◌∙◌, subst, arith, inl, inr, Option, Some, None}
 use Rattle.std.specs.Prelude.{slice_get}
 use Rattle.std.proofs.lemmas.List.{length-append}
@@ -46,7 +46,7 @@ added_whole a v lost failures whole e drives = record {
   drives = drives;
 }
 
--- the array with a drive more stands for the state with one
+-- the array with a drive more represents the state with one
 pub added_shows : (a : ArrayView) (v : PartsView) (F : Flat) (lost : Bool) (failures : Failures) → ShowsArray a F → WasAdded a.parts lost failures v → length a.parts.drives < 16
     → ShowsArray (with_parts a v) (with_new_drive F lost failures)
 added_shows a v F lost failures shows e room = record {
@@ -74,7 +74,7 @@ add_case F a shows room = (sym shows.tables.drives, subst (λ n. n < 16) (sym sh
 pub add_full : (F : Flat) (a : ArrayView) → ShowsArray a F → 16 ≤ length a.parts.drives → AddCase F (Refused Full) F
 add_full F a shows full = (subst (λ n. 16 ≤ n) (sym shows.tables.drives) full, refl)
 
--- why a member can't be moved, told of the flat state
+-- why a member can't be moved, stated over the flat state
 pub reason_as : (a : ArrayView) (F : Flat) (g k : ℕ) (to : Member) (why : Option Refusal) → ShowsArray a F → IsMoveReason a.parts.groups (length a.parts.drives) g k to why
     → IsMoveReason F.groups F.drives g k to why
 reason_as a F g k to why shows reason =

@@ -69,7 +69,7 @@ seen_case a b F r n seen shows found most rest (inr saw) =
       subst (λ (v : ArrayView). ShowsArray v (fared F b.parts)) (sym rest) (lost_shows a F b.parts shows saw.loses),
     )
 
--- or the place is gone, or memory was wanted
+-- or the place is lost, or an allocation failed
 pub unseen_case : (a b : ArrayView) (F : Flat) (r n : Record) (q : Refusal) → ShowsArray a F → record_at r.block (key_at a r.block) ≡ Some n → key_of r ≤ key_of n
     → b ≡ with_parts a b.parts → WasNotRead a b r.place q → MayRefuse q (IsWanted F (ReadAt r)) ((G : Flat) × ReadAtCase F r (Refused q) G × ShowsArray b G)
 unseen_case a b F r n q shows found most rest (inl want) =

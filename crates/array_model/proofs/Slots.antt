@@ -1,4 +1,4 @@
--- What the tables say of a slot, told from its one holder, and what stays where one slot changes.
+-- What the tables say of a slot, given by its one holder, and what stays where one slot changes.
 use Rattle.std.proofs.Common.{◌≡◌, ℕ, Bool, true, false, refl, sym, ap, ◌∙◌, subst, ◌⊎◌, inl, inr, Option, None}
 use Rattle.std.proofs.lemmas.Bool.{cases_eq}
 use Rattle.map_join.specs.Maps.{IsMapOf}
@@ -21,7 +21,7 @@ waiting_none Nothing e b = absurd (cc)
 waiting_none Unmade e b = absurd (cc)
 waiting_none (Newest c) e b = absurd (cc)
 
--- nor of an unmade group
+-- nor of a dissolved group
 waiting_open : (k : Kept) → is_waiting k ≡ true → (s g : ℕ) → is_shut k s g ≡ false
 waiting_open (Pending k) e s g = refl
 waiting_open (Moving r k) e s g = refl
@@ -49,7 +49,7 @@ ticket_hand h w is = record { claims = λ v. is (Worker v) tt; tickets = λ v. i
 pub block_hand : (h : Holder → Bool) (b : ℕ) → IsJust Any h (Block b) → HandSlot Empty h
 block_hand h b is = record { claims = λ v. is (Worker v) tt; tickets = λ v. is (Ticket v) tt }
 
--- what is told of a slot stays where nothing of it changed
+-- what is true of a slot stays true where nothing of it changed
 pub slot_same : (s : ℕ) (k l : Kept) (g h : Holder → Bool) (t r : Option Waiting) → l ≡ k → h ≡ g → r ≡ t → ArraySlot s k g t → ArraySlot s l h r
 slot_same s k l g h t r kept held ticket is = record {
   blocks = λ b. ap (λ (x : Holder → Bool). x (Block b)) held ∙ is.blocks b ∙ ap (λ x. is_newest x b) (sym kept);
@@ -65,7 +65,7 @@ one_slot P s here rest t = go (cases_eq t s)
     go (inl e) = subst P (sym e) here
     go (inr ne) = rest t ne
 
--- an array after a step stands for the state after it, where its tables and its map are that state's
+-- an array after a step represents the state after it, where its tables and its map are that state's
 pub shows_after : (a b : ArrayView) (F G : Flat) (step : FlatStep) (answer : FlatAnswer) → ShowsArray a F → IsStep F.groups step → Case F step answer G
     → IsMapOf G.emitted (key_at b) → Shows b.parts G.units → InTables b G → ShowsArray b G
 shows_after a b F G step answer shows fits case map units tables =

@@ -16,7 +16,7 @@ use Rattle.flat_machine.specs.Cases.{next_version, last_version, last_hop, longe
 use Rattle.array_parts.specs.Views.{PartsView}
 use Rattle.array_model.specs.Views.{Kept, Nothing, Pending, Moving, Newest, Unmade, ArrayView, kept_at}
 
--- memory is wanted only where all that is tested before it is passed, and any other refusal is the case p
+-- memory runs out only where all that is tested before an allocation is passed, and any other refusal is the case p
 abbrev pub MayRefuse : Refusal → Type 0 → Type 0 → Type 0
 MayRefuse Memory wanted p = wanted
 MayRefuse _ wanted p = p
@@ -52,7 +52,7 @@ copy_reason_of (Some class) _ _ = Some InUse
 abbrev pub copy_reason : ArrayView → ℕ → Option Record → Option Refusal
 copy_reason a slot found = copy_reason_of (class_at a.parts.groups slot) (kept_at a slot) found
 
--- what is kept of a slot, without the claim of an unmade group's
+-- what is kept of a slot, without the claim of a dissolved group's
 abbrev pub opened_of : Kept → Kept
 opened_of Unmade = Nothing
 opened_of kept = kept
@@ -63,13 +63,13 @@ pub record IsOpened (g : ℕ) (old new : List Kept) : Type 0 where
   pub here : (s : ℕ) → s / 128 ≡ g → slice_index_or new s Nothing ≡ opened_of (slice_index_or old s Nothing)
   pub rest : (s : ℕ) → (s / 128 ≡ g → ⊥) → slice_index_or new s Nothing ≡ slice_index_or old s Nothing
 
--- the claims of a group's first slots, so many, were taken in as those of an unmade one, and nothing else changed
+-- the claims of the first `count` slots of a group were taken in as those of a dissolved one, and nothing else changed
 pub record IsClosed (g count : ℕ) (old new : List Kept) : Type 0 where
   pub many : length new ≡ length old
   pub here : (s : ℕ) → s / 128 ≡ g → s % 128 < count → slice_index_or new s Nothing ≡ Unmade
   pub rest : (s : ℕ) → (s / 128 ≡ g → s % 128 < count → ⊥) → slice_index_or new s Nothing ≡ slice_index_or old s Nothing
 
--- the array with other parts, and with other claims of an unmade group's slots
+-- the array with other parts, and with other claims of a dissolved group's slots
 abbrev pub opened_view : ArrayView → PartsView → List Kept → ArrayView
 opened_view a parts kept = record a { parts = parts; kept = kept }
 

@@ -1,4 +1,4 @@
--- What a read of the drives tells an array.
+-- What a read of the drives says of an array.
 use Rattle.std.specs.Prelude.{◌≡◌, ◌⊎◌, ℕ, None}
 use Rattle.map_join.specs.declared.records.Record.{Record}
 use Rattle.array_parts.specs.Views.{FoundGone, SawUnit}
@@ -8,7 +8,7 @@ use Rattle.flat_machine.specs.declared.refusal.Refusal.{Refusal}
 use Rattle.flat_machine.specs.declared.refusal.Refusal.TheVariants.{Memory}
 use Rattle.array_model.specs.Views.{ArrayView}
 
--- a slot wasn't read: for want of memory, with nothing done, or as it is gone
+-- a slot wasn't read: out of memory, with nothing done, or as it is lost
 abbrev pub WasNotRead : ArrayView → ArrayView → ℕ → Refusal → Type 0
 WasNotRead a b slot refusal = ((refusal ≡ Memory) × (b ≡ a)) ⊎ FoundGone a.parts b.parts slot refusal
 

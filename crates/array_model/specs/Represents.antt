@@ -1,5 +1,4 @@
--- When an array or a world stands for a flat state: what is true of that state by itself, and what their tables have to do
--- with it.
+-- When an array or a world represents a flat state: what is true of that state alone, and what their tables have to do with it.
 use Rattle.std.specs.Prelude.{◌≡◌, ℕ, length, ◌==◌, ◌/◌, Bool, false, Option, Some, None}
 use Rattle.flat_machine.specs.Flat.{Flat, Content, Holder, Worker, Ticket, Block, Shut, Waiting, Fresh, Moved, kind_of}
 use Rattle.array_parts.specs.Views.{Shows, lost_of, failed_of}
@@ -13,18 +12,18 @@ abbrev pub is_newest : Kept → ℕ → Bool
 is_newest (Newest a) b = a == b
 is_newest _ b = false
 
--- the slot's claim is kept of this unmade group
+-- the slot's claim is kept of this dissolved group
 abbrev pub is_shut : Kept → ℕ → ℕ → Bool
 is_shut Unmade s g = g == s / 128
 is_shut _ s g = false
 
--- what waits at a slot, told from what is kept of it; of its content the kind, and the rest is told by its unit
+-- what waits at a slot, given by what is kept of it: of its content only the kind, and the rest is in its unit
 abbrev pub IsTicketOf : Kept → Option Waiting → Type 0
 IsTicketOf (Pending k) ticket = (x : Content) × (ticket ≡ Some (Fresh x)) × (k ≡ kind_of x)
 IsTicketOf (Moving r k) ticket = (x : Content) × (ticket ≡ Some (Moved r.block r.version r.hop x)) × (k ≡ kind_of x)
 IsTicketOf _ ticket = ticket ≡ None
 
--- what the array's tables say of one slot: the block whose newest place it is, the unmade group of which its claim is kept, and
+-- what the array's tables say of one slot: the block whose newest place it is, the dissolved group of which its claim is kept, and
 -- what waits there
 pub record ArraySlot (s : ℕ) (kept : Kept) (held : Holder → Bool) (ticket : Option Waiting) : Type 0 where
   pub blocks : (b : ℕ) → held (Block b) ≡ is_newest kept b
@@ -40,7 +39,7 @@ pub record InTables (a : ArrayView) (F : Flat) : Type 0 where
   pub log : F.emitted ≡ a.log
   pub slots : (s : ℕ) → ArraySlot s (kept_at a s) (F.held s) (F.tickets s)
 
--- an array stands for a flat state: all is true of it that is after any steps, with the array's keys as the map of its log;
+-- an array represents a flat state: all is true of it that is after any steps, with the array's keys as the map of its log;
 -- the drives show its units; and the array's tables are its. Which slots workers hold is left free
 pub record ShowsArray (a : ArrayView) (F : Flat) : Type 0 where
   pub history : IsHistory F (key_at a)
@@ -61,7 +60,7 @@ pub record HandSlot (hand : Hand) (held : Holder → Bool) : Type 0 where
   pub claims : (w : ℕ) → held (Worker w) ≡ is_claim hand w
   pub tickets : (w : ℕ) → held (Ticket w) ≡ is_ticket hand w
 
--- a world stands for a flat state: its array does, no slot has two holders, and of each slot its hands say who has it
+-- a world represents a flat state: its array does, no slot has two holders, and of each slot its hands say who has it
 pub record Represents (w : WorldView) (F : Flat) : Type 0 where
   pub array : ShowsArray w.array F
   pub held : AreHeld F

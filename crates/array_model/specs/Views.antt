@@ -11,7 +11,7 @@ use Rattle.array_model.specs.declared.hand.Hand.{Hand}
 use Rattle.array_model.specs.declared.hand.Hand.TheVariants.{Empty, Holds, Waits}
 
 -- what the array itself keeps of a slot: nothing, the claim of a ticket with a fresh content of a kind or with a copy of a
--- record's content and its kind, the claim of a block's newest place, or that of a slot of an unmade group
+-- record's content and its kind, the claim of a block's newest place, or that of a slot of a dissolved group
 pub data Kept : Type 0 where
   Nothing : Kept
   Pending : Kind → Kept
@@ -77,9 +77,9 @@ pub record IsRoomy (a : ArrayView) : Type 0 where
   pub kept : length a.kept ≡ 65536
   pub keys : length a.keys ≡ a.parts.groups.blocks
 
--- what every array keeps: each key is a record's, whose place and no other is kept for that block; what is copied can move
--- on; what is kept is a slot of a group, or of one that was unmade and isn't made again; groups stand, and agree with the owners of the extents; and the drives have the units
--- that the sizes ask
+-- what every array keeps: each key is a record's, whose place and no other is kept for that block; what is copied can move on;
+-- what is kept is a slot of a group, or of one that was dissolved and isn't made again; groups are well formed, and agree with
+-- the owners of the extents; and the drives have the units that the sizes ask
 pub record IsWhole (a : ArrayView) : Type 0 where
   pub room : IsRoomy a
   pub blocks : a.parts.groups.blocks ≤ 65536

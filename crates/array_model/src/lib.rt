@@ -1,5 +1,4 @@
-//! What is seen of an array on drives: when it stands for a flat state, and that each change of it is a case of the flat
-//! machine.
+//! What is seen of an array on drives: when it represents a flat state, and that each change of it is a case of the flat machine.
 #![tactic(auto)]
 
 mod hand;

@@ -132,7 +132,7 @@ pub all_live : (groups : Groups) (keys : ℕ → ℕ) (group slots : ℕ) → sl
 all_live groups keys group slots le all slot is own =
     subst (IsLive keys) (slot_is group slot own) (all (slot % 128) (omega (arith, le, index_of groups group slot is own)))
 
--- a parity group is empty just where no live slot was counted
+-- a parity group is empty exactly where no live slot was counted
 pub empty_counted : (groups : Groups) (keys : ℕ → ℕ) (write : Option ℕ) (group count : ℕ) → write ≢ Some group → HasLive groups keys group count
     → (count ≡ 0 → IsEmpty groups keys write group) × (IsEmpty groups keys write group → count ≡ 0)
 empty_counted groups keys write group count other has = (to, λ e. count_none (IsLiveOf groups keys group) count has.count e.idle)

@@ -7,7 +7,7 @@ pub record IsFewest (offers : ℕ → ℕ → Type 0) (group live : ℕ) : Type 
   pub offered : offers group live
   pub best : (other count : ℕ) → offers other count → (live < count) ⊎ ((live ≡ count) × (group ≤ other))
 
--- the same of most live slots
+-- a group that is offered, of most live slots, the lowest of those alike
 pub record IsMost (offers : ℕ → ℕ → Type 0) (group live : ℕ) : Type 0 where
   pub offered : offers group live
   pub best : (other count : ℕ) → offers other count → (count < live) ⊎ ((live ≡ count) × (group ≤ other))

@@ -23,7 +23,7 @@ pub record HasLive (groups : Groups) (keys : ℕ → ℕ) (group live : ℕ) : T
   pub made : class_in (group_at groups group) ≡ Some Parity
   pub count : IsCount (IsLiveOf groups keys group) live
 
--- a table of the 512 groups that tells how many slots of each made parity group are live
+-- a table of the 512 groups that has the number of live slots of each made parity group
 pub record AreLiveCounts (groups : Groups) (keys : ℕ → ℕ) (counts : List ℕ) : Type 0 where
   pub many : length counts ≡ 512
   pub each : (group : ℕ) → group < 512 → class_in (group_at groups group) ≡ Some Parity → HasLive groups keys group (slice_index counts group)

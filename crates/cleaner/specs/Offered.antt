@@ -1,4 +1,5 @@
--- How many live slots a group has, where a plan may choose it: 0 where it may not. The group that is left out isn't told apart here.
+-- How many live slots a group has, where a plan may choose it: 0 where it may not. The group that is left out is counted like
+-- any other here.
 use Rattle.std.specs.Prelude.{ℕ, ◌+◌, ◌-◌, ◌%◌, ◌^◌, List, slice_index, if◌then◌else◌, nat_lt, nat_le}
 
 -- a count, where the group has more slots

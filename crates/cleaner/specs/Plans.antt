@@ -7,14 +7,14 @@ use Rattle.cleaner.specs.declared.moves.Move.{Move}
 use Rattle.cleaner.specs.Counts.{IsLiveOf, IsHoleOf, HasLive, IsLowest}
 use Rattle.cleaner.specs.Choosing.{IsFewest, IsMost}
 
--- a parity group, not the write group, with so many live slots, at least one, and at least one hole
+-- a parity group, not the write group, with exactly `live` live slots, at least one, and at least one hole
 pub record IsHoled (groups : Groups) (keys : ℕ → ℕ) (write : Option ℕ) (group live : ℕ) : Type 0 where
   pub has : HasLive groups keys group live
   pub other : write ≢ Some group
   pub some : 0 < live
   pub hole : live < slots_in groups.segments (group_at groups group)
 
--- another parity group, with so many live slots, at least one and at most the target's
+-- another parity group, with exactly `live` live slots, at least one and at most `most`
 pub record IsSource (groups : Groups) (keys : ℕ → ℕ) (target most group live : ℕ) : Type 0 where
   pub has : HasLive groups keys group live
   pub other : group ≢ target

@@ -24,8 +24,8 @@ pub fn clean_plan<L: Live>(
     clean_plan_counted(groups, live, &counts_of(groups, live), write, append)
 }
 
-/// The same plan, by counts of each group's live slots that were kept as blocks moved: of the slots, only those of the
-/// groups that are chosen are looked at.
+/// The move out of the emptiest parity group with a hole, but the write group, to where the log goes on, if nothing can be
+/// plugged. `counts` has each group's live slots, kept as blocks moved: so only the slots of the chosen groups are read.
 pub fn clean_plan_counted<L: Live>(
     groups: &GroupTable,
     live: &L,
@@ -42,7 +42,8 @@ pub fn clean_plan_counted<L: Live>(
     }
 }
 
-/// The same plan, for a caller that has found that nothing can be plugged.
+/// The move out of the emptiest parity group with a hole, but the write group, to where the log goes on. For a caller that has
+/// found that nothing can be plugged. `counts` has each group's live slots.
 pub fn clean_plan_unplugged<L: Live>(
     groups: &GroupTable,
     live: &L,

@@ -42,7 +42,7 @@ pub(crate) fn keep_parity(counts: u16x16, slots: u16x16) -> u16x16
     slots.simd_gt(u16x16::splat(0)).select(counts, slots)
 }
 
-// The counts that are no more than this, and else 0.
+// The counts that are at most `most`, and else 0.
 #[inline(always)]
 pub(crate) fn keep_up_to(counts: u16x16, most: u16) -> u16x16
     ensures { result ≡ map (λ count. up_to most count) counts }

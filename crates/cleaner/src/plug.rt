@@ -18,8 +18,9 @@ pub fn plug_plan<L: Live>(groups: &GroupTable, live: &L, write: Option<u16>) -> 
     plug_plan_counted(groups, live, &counts_of(groups, live), write)
 }
 
-/// The same plan, by counts of each group's live slots that were kept as blocks moved: of the slots, only those of the two
-/// groups that are chosen are looked at.
+/// The move that fills the lowest hole of the fullest parity group with one, but the write group, from the emptiest other
+/// parity group. `counts` has each group's live slots, kept as blocks moved: so only the slots of the two chosen groups are
+/// read.
 pub fn plug_plan_counted<L: Live>(
     groups: &GroupTable,
     live: &L,

@@ -1,4 +1,4 @@
--- A test of tables from outside: what its parts tell of groups and owners.
+-- A test of tables from outside: what its parts say of groups and owners.
 use Rattle.std.proofs.Common.{◌≡◌, ℕ, suc, ◌<◌, ◌≤◌, inl, inr, Bool, true, false, Option, Some, None, List, [], ◌∷◌, length, refl, sym, ◌∙◌, ap, arith, eq-eqb}
 use Rattle.std.specs.Prelude.{◌==◌, ◌&&◌, ◌||◌, slice_get, unwrap_or}
 use Rattle.std.specs.List.{list_any}

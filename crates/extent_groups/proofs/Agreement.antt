@@ -1,4 +1,4 @@
--- Groups and owners agree after a group is made, unmade, or has a member swapped; and the table stays well formed.
+-- Groups and owners agree after a group is made, dissolved, or has a member swapped; and the table stays well formed.
 use Rattle.std.proofs.Common.{◌≡◌, ◌≢◌, ℕ, zero, suc, ◌<◌, ◌⊎◌, inl, inr, Option, Some, None, List, [], ◌∷◌, ◌++◌, length, refl, sym, ◌∙◌, ap, subst, arith, length-append}
 use Rattle.std.specs.Prelude.{slice_get, unwrap_or, replicate}
 use Rattle.std.proofs.lemmas.List.{length-set, length-replicate, get_or_append_left, get_or_push}
@@ -91,7 +91,7 @@ agree_put t o g group agree free there unowned = record {
 pub members_there : (t : Groups) (o : Owners) (g : ℕ) (group : Group) → Agree t o → group_at t g ≡ Some group → AreThere o group.members
 members_there t o g group agree made k m at = (agree.owned g k m (subst (λ ms. slice_get ms k ≡ Some m) (sym (ap members_in made)) at)).0
 
--- a group is unmade, and its extents are free
+-- a group is dissolved, and its extents are free
 pub agree_take : (t : Groups) (o : Owners) (g : ℕ) (group : Group) → Agree t o → g < length t.table → group_at t g ≡ Some group
     → Agree (with_group t g None) (with_owners o group.members None)
 unfolding Found

@@ -18,7 +18,7 @@ either false = inr refl
 not_both : (b : Bool) → b ≡ true → b ≡ false → ⊥
 not_both b t f = let both : true ≡ false = sym t ∙ f in absurd cc
 
--- what an answer tells
+-- what holds if an answer is Ok
 pub told_ok : {A E : Type 0} {P : Type 0} (r : Result A E) → OnOk r P → is_ok r ≡ true → P
 told_ok (Ok a) p e = p
 told_ok (Err f) p e = absurd (let both : false ≡ true = e in cc)
@@ -31,7 +31,7 @@ pub is_err-not : {A E : Type 0} (r : Result A E) → is_err r ≡ not (is_ok r)
 is_err-not (Ok a) = refl
 is_err-not (Err f) = refl
 
--- a call of a drive: the drive is lost afterwards just where the call wasn't Ok
+-- a call of a drive: the drive is lost afterwards exactly where the call wasn't Ok
 pub record Called {D : Type 0} (lost : D → Bool) (failures : D → Failures) (x y : D) (ok : Bool) : Type 0 where
   pub lost_is : lost y ≡ not ok
   pub stays : lost x ≡ true → lost y ≡ true

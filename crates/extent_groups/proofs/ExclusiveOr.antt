@@ -34,7 +34,7 @@ length-plus [] v = omega arith
 length-plus (x ∷ u) [] = omega arith
 length-plus (x ∷ u) (y ∷ v) = omega (arith, length-plus u v)
 
--- what is added twice is gone
+-- what is added twice cancels out
 pub plus_twice : (u v : List ℕ) → length v ≤ length u → plus u (plus u v) ≡ v
 plus_twice u v h = sym (plus-assoc u u v) ∙ ap (λ z. plus z v) (plus-self u) ∙ plus-zeros (length u) v h
 

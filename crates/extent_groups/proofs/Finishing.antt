@@ -1,5 +1,5 @@
--- Planned writes that were begun and are finished later: whatever front of them was made, and whatever drives were lost since,
--- the end is that of the whole, but for losses.
+-- Planned writes that were begun and are finished later: for any prefix of them that was made, and any drives that were lost
+-- since, the end is that of the whole, but for losses.
 use Rattle.std.proofs.Common.{◌≡◌, ◌≢◌, ℕ, zero, suc, ◌==◌, ◌⊎◌, inl, inr, Bool, true, false, if◌then◌else◌, Option, Some, None, List, [], ◌∷◌, ◌++◌, take, length, Contains, refl, sym, ◌∙◌, ap, subst, arith}
 use Rattle.std.specs.Prelude.{◌&&◌, slice_get}
 use Rattle.std.proofs.lemmas.Bool.{ne_eqb, eq-eqb}
@@ -57,7 +57,7 @@ behind w ws v has = let low = has.1 in (suc has.0, omega arith, has.2)
 first : (w : Wanted) (ws : List Wanted) → Contains (w ∷ ws) w
 first w ws = (0, omega arith, refl)
 
--- writes to other places leave a place, a front of them too
+-- writes to other places leave a place, a prefix of them too
 pub writes_else : (ws : List Wanted) (c : Cells) (x : Place) → ((w : Wanted) → Contains ws w → w.place ≢ x) → held (after c ws) x ≡ held c x
 writes_else [] c x apart = refl
 writes_else (w ∷ ws) c x apart = writes_else ws (with_unit c w) x (λ v has. apart v (behind w ws v has)) ∙ write_else c w x (apart w (first w ws))
@@ -67,7 +67,7 @@ front_else ws c zero x apart = refl
 front_else [] c (suc n) x apart = refl
 front_else (w ∷ ws) c (suc n) x apart = front_else ws (with_unit c w) n x (λ v has. apart v (behind w ws v has)) ∙ write_else c w x (apart w (first w ws))
 
--- after a front of the writes a place holds what it held, or what it holds after all of them
+-- after a prefix of the writes a place holds what it held, or what it holds after all of them
 pub front_or_all : (ws : List Wanted) (c : Cells) (n : ℕ) (x : Place) → AreOnce ws
     → (held (after c (take n ws)) x ≡ held c x) ⊎ (held (after c (take n ws)) x ≡ held (after c ws) x)
 front_or_all ws c zero x once = inl refl
@@ -115,8 +115,8 @@ own_or_not groups slot x = go (site_of groups slot) refl
       | inr never ↦ inr (λ own. never (subst (λ t. IsOwn t x) (same_Some own.0 site (sym own.1 ∙ e)) own.2))
     ]
 
--- whichever front of planned writes was made, and whatever drives were lost behind it: once they are finished the drives hold
--- what they hold after all of the writes, but for losses
+-- for any prefix of the planned writes that was made, and any drives that were lost after it: once they are finished the drives
+-- hold what they hold after all of the writes, but for losses
 pub finished_fades : (groups : Groups) (c d e : Cells) (slot : ℕ) (unit : List ℕ) (wanted : Place → List ℕ) (writes : List Wanted) (n : ℕ)
     → IsPlanned groups c slot unit wanted writes → ((x : Place) → FadesAt (after c (take n writes)) d x) → IsFinished groups d e slot wanted
     → (x : Place) → FadesAt (after c writes) e x
@@ -150,7 +150,7 @@ after_sized groups c slot unit wanted writes size planned long sized x u e = eli
       sized x u (sym (writes_else writes c x others) ∙ e)
 ]
 
--- so the slot was written, whatever front of the writes was made before the stop
+-- so the slot was written, for any prefix of the writes that was made before the stop
 pub finished_wrote : (groups : Groups) (c d e : Cells) (slot : ℕ) (unit : List ℕ) (wanted : Place → List ℕ) (writes : List Wanted) (n : ℕ)
     → IsLayout groups → AreSizedCells (unit_bytes groups) c → ((x : Place) → length (wanted x) ≡ unit_bytes groups)
     → IsPlanned groups c slot unit wanted writes → ((x : Place) → FadesAt (after c (take n writes)) d x) → IsFinished groups d e slot wanted
@@ -259,7 +259,7 @@ planned_pair groups c slot p q unit layout at sized apart some =
     only_unit None v e = absurd (none-some v e)
     only_unit (Some w) v e = same_Some unit v e
 
--- one write of a list was made, or its drive is lost: the next front of the list stands, but for losses
+-- one write of a list was made, or its drive is lost: the drives hold what the next prefix of the list leaves, but for losses
 pub fades_more : (c d e : Cells) (ws : List Wanted) (w : Wanted) (ok : Bool) → ((x : Place) → FadesAt (after c ws) d x) → DidWrite d e w.place w.unit ok
     → (x : Place) → FadesAt (after c (ws ++ w ∷ [])) e x
 fades_more c d e ws w ok stands did x = elim (place_or_not w.place x) [

@@ -22,7 +22,7 @@ or_none zero x i = inr refl
 or_none (suc n) x zero = inl refl
 or_none (suc n) x (suc i) = or_none n x i
 
--- of several that are none, none is told
+-- of several that are none, each is none
 pub none_of : {X : Type 0} (n i : ℕ) → unwrap_or (slice_get (replicate {A = Option X} n None) i) None ≡ None
 none_of {X = X} n i = elim (or_none {X = Option X} n None i) [ inl e ↦ ap (λ o. unwrap_or o None) e | inr e ↦ ap (λ o. unwrap_or o None) e ]
 

@@ -116,7 +116,7 @@ slot_front units lost ds t slot site n a at short e =
     ∙ sym (front_unit n (unit_bytes t) (cells units lost ds) (cells (front_units n units) lost ds) short (front_held n units lost ds) site)
     ∙ e
 
--- of so many bytes as a header has it is the header
+-- the first n bytes are the header, where n is a header's size
 pub slot_header : (t : Groups) (c : Cells) (slot n : ℕ) (a : Option (List ℕ)) → n ≡ HEADER_BYTES → front n (unit_of t c slot) ≡ a → header_of t c slot ≡ a
 slot_header t c slot n a same e = ap (λ m. front m (unit_of t c slot)) (sym same) ∙ e
 
@@ -136,7 +136,7 @@ unit_sized : (n : ℕ) (c : Cells) → AreSizedCells n c → (o : Option Site) (
 unit_sized n c sized None u e = absurd (none-some u e)
 unit_sized n c sized (Some t) u e = site_sized n c sized t u e
 
--- of so many bytes as a unit has it is the unit
+-- the first n bytes are the unit, where n is a unit's size
 pub slot_whole : {D : Type 0} (units : D → List (List ℕ)) (lost : D → Bool) (ds : List D) (t : Groups) (slot n : ℕ) (a : Option (List ℕ))
     → AreDrives units t ds → n ≡ unit_bytes t → front n (unit_of t (cells units lost ds) slot) ≡ a → unit_of t (cells units lost ds) slot ≡ a
 slot_whole units lost ds t slot n a are same e =

@@ -25,12 +25,12 @@ members_differ n k two e =
     let there : n * ((k + 1) / n) + (k + 1) % n ≡ k + 1 = omega arith in
     not_in_turn n (k / n) ((k + 1) / n) (n * (k / n)) (n * ((k + 1) / n)) two refl refl (omega (arith, here, there, e))
 
--- a spot tells its position and its unit
+-- a spot gives its position and its unit
 position_back : (n q r k u : ℕ) → n * q + r ≡ k → u < 2 → (2 * q + u) / 2 * n + r ≡ k
 position_back n q r k u e h =
     let row : (2 * q + u) / 2 ≡ q = omega arith in rw row (omega arith)
 
--- the spot of a position tells the index of the pair that it is of
+-- the spot of a position gives the index of the pair that it is of
 spot_back : (n i k : ℕ) → 0 < n → k / 2 ≡ i / 2 → copy_index n (spot_at n k (i % 2)) ≡ i
 spot_back n i k some e =
     let whole : n * (k / n) + k % n ≡ k = omega arith in

@@ -18,7 +18,7 @@ use Rattle.extent_groups.specs.Layout.{IsOf, IsApart, AreBeside, IsWhole, IsLayo
 use Rattle.extent_groups.proofs.Places.{same_or_not}
 use Rattle.extent_groups.proofs.GeometryLaws.{copies_law, stripe_law}
 
--- what the number and the offset of one of a site's places tell of the index: all of it, or the offset of its stripe
+-- what the number and the offset of one of a site's places say of the index: all of it, or the offset of its stripe
 pub Tie : Class → ℕ → ℕ → ℕ → ℕ → Type 0
 Tie Mirrored n i k o = copy_index n (record { member = k; offset = o }) ≡ i
 Tie Parity n i k o = o ≡ (stripe_of n i).offset
@@ -81,7 +81,7 @@ lies s Parity ms i x two h k =
       tie = refl;
     }
 
--- an extent and an offset are told by their address
+-- an address gives its extent and its offset
 pub one_address : (w e f o p : ℕ) → e * w + o ≡ f * w + p → o < w → p < w → (e ≡ f) × (o ≡ p)
 one_address w e f o p same h k = elim (cases_order e f) [
   | inl eq ↦ (let both : e * w ≡ f * w = ap (λ n. n * w) eq in (eq, omega (arith, both)))

@@ -1,4 +1,4 @@
--- A group is made on extents that were wiped, or unmade: which slots keep their units, and what the new ones hold.
+-- A group is made on extents that were wiped, or dissolved: which slots keep their units, and what the new ones hold.
 use Rattle.std.proofs.Common.{◌≡◌, ◌≢◌, ℕ, ◌*◌, ◌/◌, ◌%◌, ◌<◌, ◌≤◌, inl, inr, Option, Some, None, List, length, sym, ◌∙◌, ap, subst, arith}
 use Rattle.std.specs.Prelude.{slice_get, replicate}
 use Rattle.std.proofs.lemmas.Option.{none-some}
@@ -38,7 +38,7 @@ put_keeps t g group c sound blank =
       λ slot v q e. blank_in n c (site_of (with_group t g (Some group)) slot) (λ site at. (here slot site q at).1) v e,
     )
 
--- a group is unmade: all is sound, other groups' slots have the units that they had, and its own have none
+-- a group is dissolved: all is sound, other groups' slots have the units that they had, and its own have none
 pub take_keeps : (t : Groups) (g : ℕ) (c : Cells) → g < length t.table → AreSound t c
     → AreSound (with_group t g None) c
     × ((slot : ℕ) → slot / 128 ≢ g → unit_of (with_group t g None) c slot ≡ unit_of t c slot)

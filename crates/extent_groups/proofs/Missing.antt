@@ -1,4 +1,4 @@
--- A slot has no effective unit just where it is gone by the lost drives; and where each group misses at most one member it has one.
+-- A slot has no effective unit exactly where it is lost by the lost drives; and where each group misses at most one member it has one.
 use Rattle.std.proofs.Common.{◌≡◌, ◌≢◌, ℕ, zero, suc, ◌/◌, ◌%◌, ◌<◌, ◌≤◌, inl, inr, Bool, true, Option, Some, None, List, length, refl, sym, ◌∙◌, ap, subst, arith, get_or, if◌then◌else◌}
 use Rattle.std.specs.Prelude.{slice_get, replicate}
 use Rattle.std.proofs.lemmas.Option.{none-some, same_Some, slice_get-get_or, slice_get_within}
@@ -44,7 +44,7 @@ missing_if {D = D} units lost ds p is gone = at (slice_get ds p.drive) refl wher
   at None e = ap (is_missing lost) e
   at (Some x) e = ap (is_missing lost) e ∙ none_is_lost units lost ds p x is e gone
 
--- a site without an effective unit is gone
+-- a site without an effective unit is lost
 gone_at : {D : Type 0} (units : D → List (List ℕ)) (lost : D → Bool) (ds : List D) (n : ℕ) (site : Site) → IsWhole site → ((x : Place) → IsOf site x → IsPlace units ds x)
     → unit_at n (cells units lost ds) site ≡ None → IsGoneAt (missing_of lost ds) site
 gone_at units lost ds n (Pair p q) whole place e =
@@ -69,7 +69,7 @@ gone_at units lost ds n (InStripe row parity i) whole place e =
       ),
     )
 
--- a site that is gone has no effective unit
+-- a site that is lost has no effective unit
 pub gone_holds : {D : Type 0} (units : D → List (List ℕ)) (lost : D → Bool) (ds : List D) (n : ℕ) (site : Site) → IsGoneAt (missing_of lost ds) site → unit_at n (cells units lost ds) site ≡ None
 gone_holds units lost ds n (Pair p q) gone =
     ap (λ a. or_else a (held (cells units lost ds) q)) (cell_missing units lost (slice_get ds p.drive) p.address gone.0) ∙ cell_missing units lost (slice_get ds q.drive) q.address gone.1
@@ -81,7 +81,7 @@ gone_holds units lost ds n (InStripe row parity i) gone =
     (ap (held_in c) own.1 ∙ cell_missing units lost (slice_get ds own.0.drive) own.0.address own.2)
     (ap (held_in c) other.3 ∙ cell_missing units lost (slice_get ds other.1.drive) other.1.address other.4)
 
--- a slot of a made group has no effective unit just where it is gone
+-- a slot of a made group has no effective unit exactly where it is lost
 pub gone_law : {D : Type 0} (units : D → List (List ℕ)) (lost : D → Bool) (t : Groups) (ds : List D) (slot : ℕ) (site : Site) → AreGroups t → AreDrives units t ds → site_of t slot ≡ Some site
     → (unit_of t (cells units lost ds) slot ≡ None → IsGone t (missing_of lost ds) slot) × (IsGone t (missing_of lost ds) slot → unit_of t (cells units lost ds) slot ≡ None)
 gone_law units lost t ds slot site groups are at = (
@@ -110,7 +110,7 @@ one_missing t missing slot site x y groups most at of also mx my =
     let same : a.member ≡ b.member = same_Some _ _ (sym a.there ∙ ap (slice_get is.group.members) number ∙ b.there) in
     xa ∙ ap (λ (m : Member). m.drive) same ∙ sym yb
 
--- no slot is gone then
+-- no slot is lost then
 pub never_gone : (t : Groups) (missing : ℕ → Bool) (slot : ℕ) (site : Site) → AreGroups t → MissAtMostOne t missing → site_of t slot ≡ Some site → IsWhole site → IsGoneAt missing site → ⊥
 never_gone t missing slot (Pair p q) groups most at whole gone =
     whole (one_missing t missing slot (Pair p q) p q groups most at (inl refl) (inr refl) gone.0 gone.1)

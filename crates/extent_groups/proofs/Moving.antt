@@ -26,7 +26,7 @@ use Rattle.extent_groups.proofs.SlotWrites.{AreSizedCells}
 use Rattle.extent_groups.proofs.Making.{site_other, free_apart}
 use Rattle.extent_groups.proofs.Swapped.{swapped_row, swapped_pair}
 
--- what a site tells after a swap, of what it told before
+-- what a site holds after a swap, given by what it held before
 record Follows (n : ℕ) (c new : Cells) (before after : Site) : Type 0 where
   sound : IsSoundAt n new after
   unit : (v : List ℕ) → unit_at n new after ≡ Some v → unit_at n c before ≡ Some v

@@ -60,7 +60,7 @@ agree_drives t o ds agree rows wide many sized = record {
   there = λ g k m at. let is = (agree.owned g k m at).0 in (omega (arith, is.within, rows), omega (arith, is.inside, wide));
 }
 
--- drives with the array's sizes are ready for a table without groups, whatever they hold
+-- drives with the array's sizes are ready for a table without groups, with any contents
 pub free_ready : {D : Type 0} (units : D → List (List ℕ)) (lost : D → Bool) (t : Groups) (ds : List D) → ((g : ℕ) → group_at t g ≡ None)
     → ((d : ℕ) (x : D) → slice_get ds d ≡ Some x → length (units x) ≡ t.extents * extent_units t.segments) → AreSized units (unit_bytes t) ds → IsReady units lost t ds
 free_ready units lost t ds free many sized = record {
@@ -112,7 +112,7 @@ loss_keeps_ready units lost t ds d x y layout ready inside there same stays = re
   sound = (loss_keeps units lost t ds d x y layout ready.drives_are ready.sound inside there same stays).1;
 }
 
--- one more behind others leaves them where they were
+-- one more after the others leaves them where they were
 get-more : {X : Type 0} (xs : List X) (y : X) (d : ℕ) → d < length xs → slice_get (xs ++ y ∷ []) d ≡ slice_get xs d
 get-more [] y d h = absurd (omega arith)
 get-more (x ∷ xs) y zero h = refl

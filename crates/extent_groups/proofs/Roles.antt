@@ -14,7 +14,7 @@ use Rattle.extent_groups.specs.Roles.{LiesAt, IsRole, IsRoleIn, mirrored_role, p
 use Rattle.extent_groups.proofs.GeometryLaws.{copies_law}
 use Rattle.extent_groups.proofs.LayoutLaw.{one_address}
 
--- a number made of a row and a rest tells both
+-- a number made of a row and a rest gives both
 parts : (n q m : ℕ) → m < n → ((q * n + m) / n ≡ q) × ((q * n + m) % n ≡ m)
 parts n q m h =
     let rest : (q * n + m) % n < n = omega arith in
@@ -30,7 +30,7 @@ spot_is n m o k h e =
     let offset : 2 * (k / n) + o % 2 ≡ o = omega (arith, row) in
     ap (λ x. let y : Spot = record { member = x; offset = 2 * (k / n) + o % 2 } in y) member ∙ ap (λ x. let y : Spot = record { member = m; offset = x } in y) offset
 
--- one of the two positions of a pair is the one that it was told by
+-- a position is even, or one above an even one
 even_or_odd : (k : ℕ) → (2 * (k / 2) ≡ k) ⊎ (2 * (k / 2) + 1 ≡ k)
 even_or_odd k = side (k % 2) refl (omega arith) where
   side : (u : ℕ) → k % 2 ≡ u → u < 2 → (2 * (k / 2) ≡ k) ⊎ (2 * (k / 2) + 1 ≡ k)
@@ -48,7 +48,7 @@ copy_lies n m o h =
       | inr e ↦ inr (ap (λ j. spot_at n (2 * j + 1) (i % 2)) pair ∙ ap (spot_at n (2 * (k / 2) + 1)) unit ∙ spot_is n m o (2 * (k / 2) + 1) h e)
     ]
 
--- a slot of which a unit lies there is the one that is told
+-- a slot of which a unit lies at a place is the one that the place gives
 copy_told : (n s i m o : ℕ) → 2 ≤ n → i < slot_count Mirrored n s → LiesAt Mirrored n i m o → copy_index n (record { member = m; offset = o }) ≡ i
 copy_told n s i m o two low (inl e) = ap (copy_index n) (sym e) ∙ (copies_law n s i two low).first_back
 copy_told n s i m o two low (inr e) = ap (copy_index n) (sym e) ∙ (copies_law n s i two low).second_back
@@ -65,7 +65,7 @@ mirrored_is n s m o two h = by_test (nat_lt (copy_index n (record { member = m; 
   by_test true e = (below _ _ e, copy_lies n m o h)
   by_test false e = λ i low lies. (let told = copy_told n s i m o two low lies in let far = past _ _ e in absurd (omega (arith, told, far, low)))
 
--- the member of so many others before it
+-- the data member with this many others before it
 before_is : (n p m : ℕ) → m < n → p < n → m ≢ p → (data_member p (cond (nat_lt m p) m (m - 1)) ≡ m) × (cond (nat_lt m p) m (m - 1) < n - 1)
 before_is n p m h k ne = (grind (arith, nat_tests), grind (arith, nat_tests))
 

@@ -13,7 +13,7 @@ use Rattle.extent_groups.proofs.Places.{same_or_not}
 use Rattle.extent_groups.proofs.Fading.{fades_trans, site_fades}
 use Rattle.extent_groups.proofs.RowWrites.{WritesRow}
 
--- every unit that the drives hold has so many bytes
+-- every unit that the drives hold has n bytes
 abbrev pub AreSizedCells : ℕ → Cells → Type 0
 AreSizedCells n c = (x : Place) (u : List ℕ) → held c x ≡ Some u → length u ≡ n
 
@@ -21,7 +21,7 @@ kept_in : (n : ℕ) (c new : Cells) (o : Option Site) → ((t : Site) → o ≡ 
 kept_in n c new None h v e = absurd (none-some v e)
 kept_in n c new (Some t) h v e = (h t refl).unit v e
 
--- where the places of all sites fade, whatever becomes of others, all slots are kept
+-- where the places of all sites fade, with any contents of others, all slots are kept
 pub slots_kept : (groups : Groups) (c new : Cells) → IsLayout groups → AreSizedCells (unit_bytes groups) c → AreSound groups c
     → ((slot : ℕ) (t : Site) (x : Place) → site_of groups slot ≡ Some t → IsOf t x → FadesAt c new x) → KeepsUnits groups c new × AreSound groups new
 slots_kept groups c new layout sized sound fades =

@@ -79,7 +79,7 @@ rest_same n m i p r s h =
     total_same n m _ _ (λ k lt. put_agrees (put r i (Some (replicate n 0))) (put s i (Some (replicate n 0))) p (Some (replicate n 0)) k
     (λ np. put_agrees r s i (Some (replicate n 0)) k (λ ni. h k lt ni np)))
 
--- of units that all have so many bytes it has so many too
+-- of units that all have n bytes the sum has n bytes too
 add_sized : (a b : Option (List ℕ)) (n : ℕ) (v : List ℕ) → ((u : List ℕ) → a ≡ Some u → length u ≡ n) → ((w : List ℕ) → b ≡ Some w → length w ≡ n) → add a b ≡ Some v → length v ≡ n
 add_sized None b n v h k e = absurd (none-some v e)
 add_sized (Some u) None n v h k e = absurd (none-some v e)

@@ -5,11 +5,11 @@ use Rattle.extents.specs.Units.{IsSized, HaveFront, HasRoom}
 use Rattle.extent_groups.specs.declared.place.Place.{Place}
 use Rattle.extent_groups.specs.Cells.{Cells, held}
 
--- every unit of every drive has so many bytes
+-- every unit of every drive has `bytes` bytes
 abbrev pub AreSized : {D : Type 0} → (D → List (List ℕ)) → ℕ → List D → Type 0
 AreSized {D} units bytes drives = (d : ℕ) (x : D) → slice_get drives d ≡ Some x → IsSized bytes (units x)
 
--- every unit of every drive has at least so many bytes
+-- every unit of every drive has at least `count` bytes
 abbrev pub HaveFronts : {D : Type 0} → (D → List (List ℕ)) → ℕ → List D → Type 0
 HaveFronts {D} units count drives = (d : ℕ) (x : D) → slice_get drives d ≡ Some x → HaveFront count (units x)
 
@@ -22,7 +22,7 @@ pub record IsPlace {D : Type 0} (units : D → List (List ℕ)) (drives : List D
   pub inside : p.drive < length drives
   pub low : (x : D) → slice_get drives p.drive ≡ Some x → p.address < length (units x)
 
--- what may be a unit is what it was, or gone
+-- what may be a unit is what it was, or lost
 abbrev pub Fades : Option (List ℕ) → Option (List ℕ) → Type 0
 Fades old new = (new ≡ old) ⊎ (new ≡ None)
 

@@ -20,10 +20,10 @@ cells units lost drives drive at = cell units lost (slice_get drives drive) at
 abbrev pub held : Cells → Place → Option (List ℕ)
 held c p = c p.drive p.address
 
--- the first bytes of what may be a unit, so many of them
+-- the first `count` bytes of what may be a unit
 abbrev pub front : ℕ → Option (List ℕ) → Option (List ℕ)
 front count unit = option_map (take count) unit
 
--- a drive's units, so many first bytes of each alone
+-- a drive's units, only the first `count` bytes of each
 abbrev pub front_units : {D : Type 0} → ℕ → (D → List (List ℕ)) → D → List (List ℕ)
 front_units count units drive = fronts count (units drive)

@@ -23,7 +23,7 @@ copies_of n i = record { first = spot_at n (2 * (i / 2)) (i % 2); second = spot_
 abbrev pub parity_of : ℕ → ℕ → ℕ
 parity_of n r = n - 1 - r % n
 
--- the member with so many before it, the parity's not counted
+-- the member with q others before it, the parity's member not counted
 abbrev pub data_member : ℕ → ℕ → ℕ
 data_member parity q = if nat_lt q parity then q else q + 1
 
@@ -43,7 +43,7 @@ stripe_index n member offset =
     let parity = parity_of n (offset / 2) in
     2 * (offset / 2 * (n - 1) + (if nat_lt member parity then member else member - 1)) + offset % 2
 
--- what holds of the copies of an index below the number of slots: they lie within the group, on different members, and each tells the index
+-- what holds of the copies of an index below the number of slots: they lie within the group, on different members, and each gives the index
 pub record AreCopies (n s i : ℕ) (copies : Copies) : Type 0 where
   pub first_inside : (copies.first.member < n) × (copies.first.offset < 2 * s)
   pub second_inside : (copies.second.member < n) × (copies.second.offset < 2 * s)
@@ -51,7 +51,8 @@ pub record AreCopies (n s i : ℕ) (copies : Copies) : Type 0 where
   pub first_back : copy_index n copies.first ≡ i
   pub second_back : copy_index n copies.second ≡ i
 
--- what holds of the stripe of an index below the number of slots: it lies within the group and not on the parity's member, its offset alone tells that member, and its place tells the index
+-- what holds of the stripe of an index below the number of slots: it lies within the group and not on the parity's member, its
+-- offset alone gives that member, and its place gives the index
 pub record IsStripe (n s i : ℕ) (at : Stripe) : Type 0 where
   pub inside : (at.member < n) × (at.offset < 2 * s) × (at.parity < n)
   pub row : at.stripe ≡ at.offset / 2

@@ -47,7 +47,7 @@ abbrev pub parity_slots_in : ℕ → Option Group → ℕ
 parity_slots_in segments None = 0
 parity_slots_in segments (Some group) = parity_count group.class (length group.members) segments
 
--- the same of each number in turn
+-- how many slots each number's group has as a parity group, in the numbers' order
 abbrev pub parity_slots_of : Groups → List ℕ
 parity_slots_of groups = map (parity_slots_in groups.segments) groups.table
 
@@ -94,11 +94,11 @@ is_extent drive extent m = (m.drive == drive) && (m.extent == extent)
 abbrev pub Stands : List Member → ℕ → ℕ → Type 0
 Stands members drive extent = (k : ℕ) × (slice_get members k ≡ Some (record { drive = drive; extent = extent }))
 
--- each extent of a drive's row that is owned stands in its owner
+-- each extent of a drive's row that is owned is a member of its owner
 abbrev pub RowStands : Groups → List (Option ℕ) → ℕ → Type 0
 RowStands groups row drive = (extent g : ℕ) → slice_get row extent ≡ Some (Some g) → Stands (members_of groups g) drive extent
 
--- the groups and the owners agree: each extent of a group is there and owned by that group, and each owned extent stands in its owner
+-- the groups and the owners agree: each extent of a group is there and owned by that group, and each owned extent is a member of its owner
 pub record Agree (groups : Groups) (owners : Owners) : Type 0 where
   pub owned : (g : ℕ) → AreOwned owners (members_of groups g) g
   pub stands : (g drive extent : ℕ) → owner_of owners drive extent ≡ Some g → Stands (members_of groups g) drive extent

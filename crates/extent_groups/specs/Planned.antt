@@ -11,7 +11,7 @@ pub record Wanted : Type 0 where
   pub place : Place
   pub unit : List ℕ
 
--- what may be a unit, with another in its stead: a write to a lost drive is passed over
+-- what may be a unit, with another in its stead: a write to a lost drive is skipped
 abbrev pub over : Option (List ℕ) → List ℕ → Option (List ℕ)
 over None unit = None
 over (Some old) unit = Some unit
@@ -30,7 +30,7 @@ AreOnce [] = Unit {0}
 AreOnce (w ∷ ws) = ((v : Wanted) → Contains ws v → v.place ≢ w.place) × AreOnce ws
 
 -- the writes that give a slot a unit: each of the slot's places that is there gets what is wanted for it, and no other place is
--- written; whoever makes them all has written the slot
+-- written; all of them together write the slot
 pub record IsPlanned (groups : Groups) (c : Cells) (slot : ℕ) (unit : List ℕ) (wanted : Place → List ℕ) (writes : List Wanted) : Type 0 where
   pub once : AreOnce writes
   pub own : (w : Wanted) → Contains writes w → IsOwnOf groups slot w.place × (w.unit ≡ wanted w.place)

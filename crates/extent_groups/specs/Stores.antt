@@ -53,7 +53,7 @@ pub record IsReady {D : Type 0} (units : D → List (List ℕ)) (lost : D → Bo
 abbrev pub KeepsUnits : Groups → Cells → Cells → Type 0
 KeepsUnits groups c new = (slot : ℕ) (unit : List ℕ) → unit_of groups new slot ≡ Some unit → unit_of groups c slot ≡ Some unit
 
--- the same of every slot but one
+-- each slot's effective unit that exists afterwards is what it was, for every slot but one
 abbrev pub KeepsOthers : Groups → Cells → Cells → ℕ → Type 0
 KeepsOthers groups c new slot = (other : ℕ) (unit : List ℕ) → other ≢ slot → unit_of groups new other ≡ Some unit → unit_of groups c other ≡ Some unit
 
@@ -94,7 +94,7 @@ pub record KeepsAt (bytes : ℕ) (c new : Cells) (t : Site) : Type 0 where
   pub unit : (v : List ℕ) → unit_at bytes new t ≡ Some v → unit_at bytes c t ≡ Some v
   pub sound : IsSoundAt bytes new t
 
--- what a write of a sound site leaves: it is sound, and every sound site beside it or apart from it is kept
+-- what a write of a sound site leaves: it is sound, and every sound site that shares its row or is apart from it is kept
 pub record LeavesSites (bytes : ℕ) (c new : Cells) (site : Site) : Type 0 where
   pub sound : IsSoundAt bytes new site
   pub others : (t : Site) → IsWhole t → IsApart site t ⊎ AreBeside site t → IsSoundAt bytes c t → KeepsAt bytes c new t

@@ -24,7 +24,7 @@ abbrev pub add : Option (List ℕ) → Option (List ℕ) → Option (List ℕ)
 add (Some u) (Some v) = Some (plus u v)
 add _ _ = None
 
--- the exclusive or of the units of members 0 to m - 1, each of so many bytes; none where one is missing
+-- the exclusive or of the units of members 0 to m - 1, each of `bytes` bytes; none where one is missing
 abbrev pub total : ℕ → ℕ → (ℕ → Option (List ℕ)) → Option (List ℕ)
 total bytes zero row = Some (replicate bytes 0)
 total bytes (suc m) row = add (row m) (total bytes m row)

@@ -61,7 +61,7 @@ impl GroupTable {
         }
     }
 
-    /// Whether each owned extent of a drive's row stands in its owner.
+    /// Whether each owned extent of a drive's row is a member of its owner.
     fn has_row(&self, row: &[Option<u16>], drive: usize) -> bool
         ensures { IsTrue result ↔ RowStands self.now row.now drive }
     {
@@ -73,7 +73,7 @@ impl GroupTable {
         true
     }
 
-    /// Whether each owned extent stands in its owner.
+    /// Whether each owned extent is a member of its owner.
     fn has_what_is_owned(&self, extents: &ExtentTable) -> bool
         ensures { IsTrue result ↔ ((drive : ℕ) → drive < length extents.now.rows → RowStands self.now (row_of extents.now drive) drive) }
     {

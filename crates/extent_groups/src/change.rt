@@ -131,7 +131,7 @@ impl GroupTable {
         self.groups[group as usize] = Some(Kept { class, members });
     }
 
-    /// Makes a group under a free number; refused, with nothing changed, where the members make none or memory is out.
+    /// Makes a group under a free number; refused, with nothing changed, where the members make none, or if out of memory.
     pub fn put_group(
         &mut self,
         alloc: Global,

@@ -64,7 +64,7 @@ pub(crate) fn parity_at(members: u8, row: u8) -> u8
     members - 1 - row % members
 }
 
-/// The member of so many others before it that aren't the parity's.
+/// The member with `others` members before it that aren't the parity's.
 fn passed_over(parity: u8, others: u8) -> u8
     requires { others < 255 }
     ensures { result ≡ data_member parity others }

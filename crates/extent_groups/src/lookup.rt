@@ -7,7 +7,7 @@ ghost use Rattle.extent_groups.specs.Roles.{mirrored_role, parity_role, IsRoleIn
 use crate::geometry::parity_at;
 use crate::{Class, GroupTable, Role};
 
-/// What lies at an offset of a member of a mirrored group of so many slots.
+/// What lies at an offset of a member of a mirrored group of `slots` slots.
 fn mirrored_role(members: u8, slots: u16, member: u8, offset: u16) -> Role
     requires few { members ≤ 8 }
     requires member { member < members }

@@ -42,7 +42,7 @@ impl Model for GroupTable {
     ghost invariant = { λ t. IsKept t.shape t.groups.items t.parity_slots.items };
 }
 
-/// So many numbers that are free.
+/// `count` numbers that are free.
 fn free_numbers(alloc: Global, count: usize) -> Result<Vec<Option<Kept>>, AllocError>
     ensures { IfOk result (λ v. v.items ≡ replicate count None) }
 {
@@ -53,7 +53,7 @@ fn free_numbers(alloc: Global, count: usize) -> Result<Vec<Option<Kept>>, AllocE
     Ok(numbers)
 }
 
-// How many slots a group of so many members and segments has, if it is a parity group, and else none.
+// How many slots a group of `members` members and `segments` segments has, if it is a parity group, and else 0.
 pub(crate) fn count_parity(class: Class, members: u16, segments: u16) -> u16
     requires some { 1 ≤ members }
     requires few { members ≤ 8 }
@@ -66,7 +66,7 @@ pub(crate) fn count_parity(class: Class, members: u16, segments: u16) -> u16
     }
 }
 
-/// How many slots a group of so many members and segments has.
+/// How many slots a group of `members` members and `segments` segments has.
 pub(crate) fn count_slots(class: Class, members: u16, segments: u16) -> u16
     requires some { 1 ≤ members }
     requires few { members ≤ 8 }
@@ -90,7 +90,7 @@ impl GroupTable {
     ghost use Rattle.extent_groups.specs.Stores.{IsSlotOf};
     ghost use Rattle.extent_groups.specs.declared.class.Class.TheVariants.{Mirrored, Parity};
 
-    /// A table of this shape, without groups; refused where memory is out.
+    /// A table of this shape, without groups; refused if out of memory.
     pub fn new(alloc: Global, shape: &Shape) -> Result<GroupTable, AllocError>
         ensures shape { IfOk result (λ t. IsShapeOf shape.now t.extents t.segments t.payload t.blocks) }
         ensures free { IfOk result (λ t. (g : ℕ) → group_at t g ≡ None) }

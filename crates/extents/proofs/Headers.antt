@@ -29,7 +29,7 @@ pub header_spelled : (h : Header) → IsHeader h → Spells (header_bytes h) h
 header_spelled Blank is = refl
 header_spelled (Is r kind) is = spells_made _ (bytes_of r) r kind refl (spells r is.block is.version is.hop is.place) is.written
 
--- what tells a kind isn't blank
+-- what spells a kind isn't blank
 not_blank : (bytes : List ℕ) (kind : Kind) → bytes ≡ replicate 32 0 → TellsKind bytes kind → ⊥
 not_blank bytes kind blank (inl told) =
     let both : replicate 4 0 ≡ first_mark = sym (ap (take 4) blank) ∙ told.0 in cc
@@ -47,7 +47,7 @@ one_byte Data Trim same = absurd (omega (arith, same))
 one_byte Trim Data same = absurd (omega (arith, same))
 one_byte Trim Trim same = refl
 
--- the same bytes tell one kind
+-- bytes spell at most one kind
 pub one_kind : (bytes : List ℕ) (j k : Kind) → TellsKind bytes j → TellsKind bytes k → j ≡ k
 one_kind bytes j k (inl one) (inl other) = one.2 ∙ sym other.2
 one_kind bytes j k (inl one) (inr other) = absurd (not_both bytes one.0 other.0)
@@ -74,12 +74,12 @@ one_header bytes (Is r l) Blank told also = absurd (not_blank bytes l also told.
 one_header bytes (Is r l) (Is s m) told also =
     ap (λ x. Is x l) (one_record bytes r s told.0 also.0) ∙ ap (λ x. Is s x) (one_kind bytes l m told.1 also.1)
 
--- bytes that tell a kind, and no record, spell no header
+-- bytes that spell a kind, and no record, spell no header
 pub no_header : (bytes : List ℕ) (kind : Kind) (fault : RecordFault) (h : Header) → length bytes ≡ 32 → TellsKind bytes kind → IsNoRecord (slice_range bytes 4 16) fault → Spells bytes h → ⊥
 no_header bytes kind fault Blank whole tells fails told = not_blank bytes kind told tells
 no_header bytes kind fault (Is r k) whole tells fails told = none_within bytes fault r whole fails told.0
 
--- nor do bytes that aren't blank and tell no kind
+-- nor do bytes that aren't blank and spell no kind
 pub no_kind : (bytes : List ℕ) (h : Header) → (bytes ≡ replicate 32 0 → ⊥) → ((kind : Kind) → TellsKind bytes kind → ⊥) → Spells bytes h → ⊥
 no_kind bytes Blank filled none told = filled told
 no_kind bytes (Is r kind) filled none told = none kind told.1

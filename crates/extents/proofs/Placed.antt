@@ -33,7 +33,7 @@ map_but_one f g (x ∷ xs) (suc at) u h e others =
 
 -- ---- kept units
 
--- one unit more behind the others
+-- one unit more after the others
 pub units_in-more : (size count : ℕ) (bytes unit : List ℕ) → length bytes ≡ count * size → length unit ≡ size
     → units_in size (suc count) (bytes ++ unit) ≡ units_in size count bytes ++ unit ∷ []
 units_in-more size zero [] unit l e = ap (λ u. u ∷ []) (all_of unit size e)

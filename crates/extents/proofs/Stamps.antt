@@ -20,7 +20,7 @@ number_within bytes n at left fits cut =
     ∙ big_from-take 0 n left (drop at (drop 4 bytes)) (omega arith)
     ∙ ap (big_number n) (drop-drop at 4 bytes)
 
--- a record that the twelve bytes behind the mark spell is spelled by the header
+-- a record that the twelve bytes after the mark spell is spelled by the header
 pub spells_within : (bytes : List ℕ) (r : Record) → length bytes ≡ 32 → SpellsTwelve (slice_range bytes 4 16) r → 0 < r.version → SpellsRecord bytes r
 spells_within bytes r whole told written = record {
   whole = whole;
@@ -31,7 +31,7 @@ spells_within bytes r whole told written = record {
   written = written;
 }
 
--- where the twelve bytes behind the mark are no record, the header spells none
+-- where the twelve bytes after the mark are no record, the header spells none
 pub none_within : (bytes : List ℕ) (fault : RecordFault) (r : Record) → length bytes ≡ 32 → IsNoRecord (slice_range bytes 4 16) fault → SpellsRecord bytes r → ⊥
 none_within bytes Length r whole fails told = fails (length-slice_range bytes whole)
   where

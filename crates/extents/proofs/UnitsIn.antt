@@ -7,7 +7,7 @@ use Rattle.std.proofs.lemmas.List.{take-replicate, drop-replicate, drop-drop, ta
 use Rattle.std.proofs.lemmas.Option.{slice_get_within, same_Some}
 use Rattle.extents.specs.Units.{IsSized, units_in, zero_units}
 
--- so many units are there
+-- there are `count` units
 pub length-units_in : (size count : ℕ) (bytes : List ℕ) → length (units_in size count bytes) ≡ count
 length-units_in size zero bytes = refl
 length-units_in size (suc count) bytes = ap (λ n. suc n) (length-units_in size count (drop size bytes))
@@ -45,7 +45,7 @@ written_later size start bytes unit room =
     let same : size + start + length unit ≡ size + (start + length unit) = omega arith in
     rw (take-add size start bytes, append_assoc, drop-drop (start + length unit) size bytes, same)
 
--- two pieces written one behind the other are written at once
+-- two pieces written one after the other are written at once
 pub written_behind : (start : ℕ) (bytes front rest : List ℕ) → start + (length front + length rest) ≤ length bytes
     → take (start + length front) (take start bytes ++ (front ++ drop (start + length front) bytes)) ++ (rest ++ drop (start + length front + length rest) (take start bytes ++ (front ++ drop (start + length front) bytes)))
     ≡ take start bytes ++ ((front ++ rest) ++ drop (start + length (front ++ rest)) bytes)
@@ -90,7 +90,7 @@ unit_size m size count at bytes sized h room =
     let left : size ≤ length (drop (at * size) bytes) = omega (arith, length-drop (at * size) bytes, unit_within size count at h) in
     sym (sized at _ one) ∙ length-take-le size (drop (at * size) bytes) left
 
--- a drive's units, told by its bytes: what fits one of them has the drive's size, and the address is one of the drive's
+-- a drive's units, given by its bytes: what fits one of them has the drive's size, and the address is one of the drive's
 pub one_of : (units : List (List ℕ)) (m size count at : ℕ) (bytes : List ℕ) → units_in size count bytes ≡ units → length bytes ≡ count * size → at < length units → IsSized m units
     → (m ≡ size) × (at < count) × (at * size + m ≤ length bytes)
 one_of units m size count at bytes told room h sized =

@@ -1,4 +1,4 @@
--- Whether bytes are all zero, told by the or of them all.
+-- Whether bytes are all zero, by the or of them all.
 use Rattle.std.proofs.Common.{◌≡◌, ◌==◌, ◌&&◌, ◌↔◌, ℕ, zero, suc, ◌+◌, ◌<◌, ◌≤◌, Bool, true, false, IsTrue, List, [], ◌∷◌, drop, length, slice_index, replicate, bit_or, refl, sym, ap, ◌∙◌, arith}
 use Rattle.std.proofs.lemmas.Bool.Decides.{nat_tests}
 use Rattle.std.proofs.lemmas.List.{at_drop_more, drop_all}
@@ -8,7 +8,7 @@ use Rattle.std.specs.List.{list_all}
 abbrev pub is_zero : ℕ → Bool
 is_zero byte = byte == 0
 
--- what is or'ed so far and what is left are zero just where all bytes are
+-- what is or'ed so far and what is left are zero exactly where all bytes are
 abbrev pub IsLeft : List ℕ → ℕ → ℕ → Type 0
 IsLeft bytes any at = (is_zero any && list_all is_zero (drop at bytes)) ≡ list_all is_zero bytes
 

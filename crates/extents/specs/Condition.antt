@@ -16,7 +16,7 @@ is_gone (Fused _) = false
 is_gone Lost = true
 is_gone Burnt = true
 
--- how often the drive failed by itself: once, where its fuse burnt; it is steady where no fuse is set
+-- how often the drive failed spontaneously: once, where its fuse burnt; it is steady where no fuse is set
 abbrev pub failures_of : Condition → Failures
 failures_of Present = no_failures
 failures_of (Fused _) = unsteady 0

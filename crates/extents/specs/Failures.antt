@@ -1,8 +1,8 @@
--- How a drive failed by itself, and whether it may fail again.
+-- How a drive failed spontaneously, and whether it may fail again.
 use Rattle.std.specs.Prelude.{◌≡◌, ℕ, ◌+◌, Bool, true, false}
 use Rattle.extents.specs.Units.{loss}
 
--- how often a drive failed by itself, and whether it is steady: no failure of its own lies ahead
+-- how often a drive failed spontaneously, and whether it is steady: no failure of its own lies ahead
 pub record Failures : Type 0 where
   pub count : ℕ
   pub steady : Bool

@@ -32,7 +32,7 @@ abbrev pub with_owner : Owners → ℕ → ℕ → Option ℕ → Owners
 with_owner owners drive extent owner =
     record owners { rows = slice_set owners.rows drive (slice_set (row_of owners drive) extent owner) }
 
--- the owners of so many drives, none of whose extents is owned
+-- the owners of `drives` drives of `extents` extents, none of which is owned
 abbrev pub all_free : ℕ → ℕ → Owners
 all_free drives extents = record { extents = extents; rows = replicate drives (replicate extents None) }
 

@@ -7,7 +7,7 @@ use Rattle.extents.specs.declared.table.Row.{Row}
 abbrev pub owners_in : ℕ → List Row → Owners
 owners_in extents rows = record { extents = extents; rows = map (λ row. row.owners.items) rows }
 
--- each row has as many extents as the table says, and no more than a number of two bytes tells
+-- each row has as many extents as the table says, at most 65,536: extent numbers have two bytes
 pub record AreRows (extents : ℕ) (rows : List Row) : Type 0 where
   pub wide : All (λ row. length row.owners.items ≡ extents) rows
   pub small : extents ≤ 65536

@@ -32,7 +32,7 @@ pub record IsFirstOut (field extents segments payload blocks : ℕ) : Type 0 whe
   pub third : (field ≡ 3 → ¬ IsPayloadSize payload) × (4 ≤ field → IsPayloadSize payload)
   pub fourth : field ≡ 4 → ¬ IsBlockCount blocks
 
--- how many units an extent of so many segments has
+-- how many units an extent of that many segments has
 abbrev pub extent_units : ℕ → ℕ
 extent_units segments = 2 * segments
 

@@ -7,7 +7,7 @@ abbrev pub unit_of : ℕ → List (List ℕ) → ℕ → List ℕ
 unit_of size kept zero = replicate size 0
 unit_of size kept (suc number) = slice_index_or kept number []
 
--- the units whose places these are, where so many are kept
+-- the units at these places, where `stored` units are kept in the bytes
 abbrev pub units_of : ℕ → ℕ → List ℕ → List ℕ → List (List ℕ)
 units_of size stored bytes places = map (unit_of size (units_in size stored bytes)) places
 
@@ -17,7 +17,7 @@ blanks [] = 0
 blanks (zero ∷ places) = suc (blanks places)
 blanks (suc number ∷ places) = blanks places
 
--- so many units are kept, each of one place, with room for all that may still be written
+-- `stored` of `count` units are kept, each of one place, with room for all that may still be written
 pub record IsThin (size count stored capacity : ℕ) (bytes places : List ℕ) : Type 0 where
   pub small : size ≤ 131072
   pub many : length places ≡ count

@@ -1,11 +1,11 @@
 -- What a drive holds: a list of units, each a list of bytes of one length.
 use Rattle.std.specs.Prelude.{◌≡◌, ◌≤◌, ◌⊎◌, ℕ, zero, suc, Bool, true, false, Some, List, [], ◌∷◌, length, map, take, drop, slice_get, replicate}
 
--- every unit has that many bytes
+-- every unit has `size` bytes
 abbrev pub IsSized : ℕ → List (List ℕ) → Type 0
 IsSized size units = (at : ℕ) (unit : List ℕ) → slice_get units at ≡ Some unit → length unit ≡ size
 
--- every unit has at least so many bytes
+-- every unit has at least `count` bytes
 abbrev pub HaveFront : ℕ → List (List ℕ) → Type 0
 HaveFront count units = (at : ℕ) (unit : List ℕ) → slice_get units at ≡ Some unit → count ≤ length unit
 
@@ -17,7 +17,7 @@ HasRoom front scratch units = IsSized scratch units ⊎ ((scratch ≡ 0) × IsSi
 abbrev pub fronts : ℕ → List (List ℕ) → List (List ℕ)
 fronts count units = map (take count) units
 
--- the first `count` units that lie side by side in the bytes, each of this size
+-- the units that lie next to each other in the bytes: `count` of them, each of this size
 abbrev pub units_in : ℕ → ℕ → List ℕ → List (List ℕ)
 units_in size zero bytes = []
 units_in size (suc count) bytes = take size bytes ∷ units_in size count (drop size bytes)

@@ -77,7 +77,7 @@ impl Model for ExtentTable {
 impl ExtentTable {
     ghost use Rattle.extents.specs.Owners.{IsExtent, row_of, owner_of, load_of, lowest_free_of, with_owner, with_drive, all_free};
 
-    /// The table of so many drives of this shape, all extents free; refused where memory is out.
+    /// The table of `drives` drives of this shape, all extents free; refused if out of memory.
     pub fn new(alloc: Global, drives: u8, shape: &Shape) -> Result<ExtentTable, AllocError>
         ensures { IfOk result (λ t. t ≡ all_free drives shape.now.extents) }
     {
@@ -91,7 +91,7 @@ impl ExtentTable {
         Ok(table)
     }
 
-    /// Adds a drive whose extents are free; where memory is out the table stays as it was.
+    /// Adds a drive whose extents are free; if out of memory, the table stays as it was.
     pub fn add_drive(&mut self, alloc: Global) -> Result<(), AllocError>
         ensures ok { OnOk result (self.new ≡ with_drive self.old) }
         ensures err { OnErr result (self.new ≡ self.old) }

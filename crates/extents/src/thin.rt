@@ -1,12 +1,12 @@
-// The units of a drive in memory, of which those take memory that were written.
+// The units of a drive in memory, of which only those that were written take memory.
 ghost use Rattle.std.specs.Prelude.{◌≡◌, ◌+◌, ◌<◌, ◌≤◌, ◌++◌, ℕ, true, List, length, replicate, slice_get, slice_set, Some, take, drop, IfOk, vec_capacity};
 ghost use Rattle.extents.specs.Units.{IsSized, HaveFront, fronts, zero_units};
 
 use std::alloc::{AllocError, Global};
 use std::marker::Model;
 
-/// So many units of one size. The memory for all of them is asked for at once, and a unit that was never written
-/// other than as zeros touches none of it: the units that were lie side by side, in the order of their first writes.
+/// `count` units of `size` bytes. The memory for all of them is allocated at once, and a unit that was never written other than
+/// as zeros touches none of it: the units that were lie next to each other, in the order of their first writes.
 #[derive(Drop)]
 pub struct ThinUnits {
     size: usize,
@@ -29,7 +29,7 @@ impl Model for ThinUnits {
 }
 
 impl ThinUnits {
-    /// So many units of zeros; refused where memory is out.
+    /// `count` units of zeros, `size` bytes each; refused if out of memory.
     pub fn new(alloc: Global, size: usize, count: u32) -> Result<ThinUnits, AllocError>
         requires { size ≤ 131072 }
         ensures { IfOk result (λ units. units ≡ zero_units size count) }
@@ -73,7 +73,7 @@ impl ThinUnits {
         }
     }
 
-    /// Writes a unit, given as `front` and, behind it, `rest`. Inlined, so that a whole unit's write has no second copy.
+    /// Writes a unit, given as `front` followed by `rest`. Inlined, so that a whole unit's write has no second copy.
     #[inline(always)]
     pub fn write(&mut self, at: u32, front: &[u8], rest: &[u8])
         requires at { at < length self.old }
@@ -116,7 +116,7 @@ fn put(bytes: &mut [u8], start: usize, piece: &[u8])
     bytes[start..start + piece.len()].copy_from_slice(piece);
 }
 
-/// Puts two pieces behind the bytes, for which there is room.
+/// Appends two pieces to the bytes, for which there is room.
 fn append(bytes: &mut Vec<u8>, front: &[u8], rest: &[u8])
     requires { length bytes.old.items + (length front.now + length rest.now) ≤ vec_capacity bytes.old }
     ensures items { bytes.new.items ≡ bytes.old.items ++ (front.now ++ rest.now) }
@@ -135,7 +135,7 @@ fn load(bytes: &[u8], start: usize, front: &mut [u8])
     front.copy_from_slice(&bytes[start..start + front.len()]);
 }
 
-/// Whether all bytes are zero: the first is, and each is as the one before it, which two slices tell at once.
+/// Whether all bytes are zero: the first is, and each equals the one before it. One comparison of two slices tests that.
 fn are_zeros(bytes: &[u8]) -> bool
     ensures { result ≡ true → bytes.now ≡ replicate (length bytes.now) 0 }
 {

@@ -1,4 +1,4 @@
--- A slot that is gone stays gone where drives are lost, and where no group ever misses two members no answer tells one gone.
+-- A slot that is lost stays lost where drives are lost, and where no group ever misses two members no answer is the refusal Gone.
 use Rattle.std.proofs.Common.{◌≡◌, ℕ, Bool, true, List, [], ◌∷◌, All, arith, sym, ap, subst, ◌⊎◌, inl, inr, Option, Some, None}
 use Rattle.std.proofs.lemmas.List.Elements.{All-cons}
 use Rattle.map_join.specs.declared.records.Record.{Record}
@@ -12,7 +12,7 @@ use Rattle.flat_machine.specs.Flat.{Flat, Waiting, Fresh, Moved}
 use Rattle.flat_machine.specs.Steps.{FlatStep, Claim, Release, Fill, Copy, Commit, Discard, Read, ReadAt, Make, Unmake, MoveExtent, AddDrive, Lose, FlatAnswer, Refused}
 use Rattle.flat_machine.specs.Cases.{Leaves, IsGoneIn, CommitWith, Case, Runs, NeverMissesTwo, TellsPresent}
 
--- where more drives are lost a slot that is gone stays gone
+-- where more drives are lost a slot that is lost stays lost
 pub gone_at : (old new : ℕ → Bool) (site : Site) → ((d : ℕ) → old d ≡ true → new d ≡ true) → IsGoneAt old site → IsGoneAt new site
 gone_at old new (Pair p q) more gone = (more p.drive gone.0, more q.drive gone.1)
 gone_at old new (InStripe row parity i) more gone = (
@@ -25,7 +25,7 @@ gone_stays F G s leaves gone =
     subst (λ (g : Groups). IsGone g G.lost s) (sym (ap (λ (z : Flat). z.groups) leaves.same))
     (gone.0, gone.1, gone_at F.lost G.lost gone.0 (λ d. (leaves.drives d).stays) gone.2)
 
--- a slot that is told gone is gone
+-- where an answer is the refusal Gone, some slot is lost
 told_commit : (F G : Flat) (w s b : ℕ) (found : Option Record) (ticket : Option Waiting) (t : ℕ) → CommitWith F w s b found ticket (Refused (Gone t)) G → (u : ℕ) × IsGoneIn G u
 told_commit F G w s b found (Some (Fresh x)) t case = (s, case.3)
 told_commit F G w s b found (Some (Moved c v h x)) t case = (s, case.3)
@@ -50,7 +50,7 @@ told_gone F G (MoveExtent g k to) t case = (t, case.2.gone)
 told_gone F G AddDrive t case = absurd case
 told_gone F G (Lose d) t case = absurd case
 
--- a state whose groups stand, and miss at most one member each, has no slot that is gone
+-- a state whose groups are well formed, and miss at most one member each, has no slot that is lost
 none_gone : (F : Flat) → AreGroups F.groups → MissAtMostOne F.groups F.lost → (t : ℕ) → IsGoneIn F t → ⊥
 none_gone F are one t gone = never_gone F.groups F.lost t gone.0 are one gone.1 ((layout_law F.groups are).whole t gone.0 gone.1) gone.2
 
@@ -61,7 +61,7 @@ first_one F G [] (a ∷ answers) run never = absurd never
 first_one F G (s ∷ steps) [] run never = absurd never
 first_one F G (s ∷ steps) (a ∷ answers) run never = never.0
 
--- the groups of each state of a run stand
+-- the groups of each state of a run are well formed
 abbrev pub AllStand : (F : Flat) (steps : List FlatStep) (answers : List FlatAnswer) (G : Flat) → Runs F steps answers G → Type 0
 AllStand F [] [] G run = AreGroups F.groups
 AllStand F (step ∷ steps) (answer ∷ answers) G run = (AreGroups F.groups) × (AllStand run.0 steps answers G run.2)
@@ -74,7 +74,7 @@ first_stands F G [] (a ∷ answers) run stand = absurd stand
 first_stands F G (s ∷ steps) [] run stand = absurd stand
 first_stands F G (s ∷ steps) (a ∷ answers) run stand = stand.0
 
--- where no group ever misses two members no answer of the run tells a slot gone
+-- where no group ever misses two members no answer of the run is the refusal Gone
 pub all_present : (F G : Flat) (steps : List FlatStep) (answers : List FlatAnswer) (run : Runs F steps answers G) → AllStand F steps answers G run
     → NeverMissesTwo F steps answers G run → All TellsPresent answers
 all_present F G [] [] run stand never = λ k d inside. absurd (omega (arith, inside))

@@ -17,7 +17,7 @@ use Rattle.flat_machine.proofs.Unmakes.{unmade_at}
 use Rattle.flat_machine.proofs.Keeps.{lost_leaves, same_leaves}
 use Rattle.flat_machine.proofs.Passing.{Passes, passed, passed_on}
 
--- told of every slot
+-- stated over every slot
 held_as : (G : Flat) → ((s : ℕ) → IsOnce Any (G.held s)) → ((s : ℕ) (k : Holder) → G.held s k ≡ true → s < 65536) → AreHeld G
 held_as G once inside = record { once = λ s j k hj hk. once s j k tt tt hj hk; inside = inside }
 
@@ -224,7 +224,7 @@ adds F G (Refused Full) is case = stays F G is (same_leaves F G case.1)
 adds F G (AddedDrive d) is case = fared _ G (record { once = is.once; inside = is.inside }) (same_leaves _ G case.2)
 adds F G _ is case = absurd case
 
--- a step of numbers that there are, whatever its answer
+-- a step of numbers that there are, with any answer
 pub step_holds : (F G : Flat) (keys : ℕ → ℕ) (step : FlatStep) (answer : FlatAnswer) → IsHistory F keys → AreHeld F → IsStep F.groups step → Case F step answer G → AreHeld G
 step_holds F G keys (Claim w s) answer history is fits case = claims F G w s answer is fits case
 step_holds F G keys (Release w s) answer history is fits case = releases F G w s answer is case

@@ -327,7 +327,7 @@ adds F G keys M (Refused Full) is case map = stays F G keys M is (same_leaves F 
 adds F G keys M (AddedDrive d) is case map = stays _ G keys M (add_keeps F keys false no_failures is case.1) (same_leaves _ G case.2) map
 adds F G keys M _ is case map = absurd case
 
--- a step of numbers that there are, whatever its answer
+-- a step of numbers that there are, with any answer
 pub step_keeps : (F G : Flat) (keys M : ℕ → ℕ) (step : FlatStep) (answer : FlatAnswer) → IsHistory F keys → IsStep F.groups step → Case F step answer G → IsMapOf G.emitted M → IsHistory G M
 step_keeps F G keys M (Claim w s) answer is fits case map = claims F G keys M w s answer is case map
 step_keeps F G keys M (Release w s) answer is fits case map = releases F G keys M w s answer is case map

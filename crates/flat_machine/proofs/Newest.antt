@@ -1,4 +1,4 @@
--- The newest record of a block, told from its key in a map of the emitted records.
+-- The newest record of a block, from its key in a map of the emitted records.
 use Rattle.std.proofs.Common.{◌≡◌, ℕ, ◌/◌, ◌%◌, ◌^◌, ◌<◌, ◌≤◌, refl, sym, ap, ◌∙◌, subst, arith, ◌⊎◌, inl, inr, Option, Some, None, List, Contains}
 use Rattle.std.proofs.lemmas.Bool.Decides.{nat_tests}
 use Rattle.std.proofs.lemmas.Option.{same_Some}
@@ -7,7 +7,7 @@ use Rattle.map_join.specs.Record.{key_of, record_of, record_at, IsRecord}
 use Rattle.map_join.specs.Maps.{IsSame, IsMapOf, HasSameRecords}
 use Rattle.flat_machine.specs.Flat.{IsNewest}
 
--- a record is what its key tells
+-- a record is the one made of its key
 pub told_again : (r : Record) → IsRecord r → record_of r.block (key_of r) ≡ r
 told_again r is = λ i. record { block = r.block; version = version i; hop = hop i; place = place i }
   where
@@ -41,7 +41,7 @@ told_key b key n is = go (sizes key)
     go (inl small) = let bad : None ≡ Some n = sym (untold_at b key small) ∙ is in absurd (cc)
     go (inr big) = (big, same_Some _ _ (sym (told_at b key big) ∙ is))
 
--- in a map of the emitted records the block's key tells its newest record
+-- in a map of the emitted records the block's key is that of its newest record
 pub newest_told : (emitted : List Record) (keys : ℕ → ℕ) (block : ℕ) → ((r : Record) → Contains emitted r → IsRecord r) → IsMapOf emitted keys
     → IsNewest emitted block (record_at block (keys block))
 newest_told emitted keys block all map = go (least (keys block))
@@ -95,7 +95,7 @@ newest_zero emitted keys block map none = go (least (keys block))
     go (inl e) = e
     go (inr some) = let t = map.told block some in absurd (none t.0 t.1 t.2)
 
--- the record that a newest record's key tells is that record
+-- the record made of a newest record's key is that record
 pub newest_record : (emitted : List Record) (keys : ℕ → ℕ) (block : ℕ) (n : Record) → ((r : Record) → Contains emitted r → IsRecord r) → IsMapOf emitted keys
     → IsNewest emitted block (Some n) → record_of block (keys block) ≡ n
 newest_record emitted keys block n all map is =
@@ -114,7 +114,7 @@ newest_unique emitted block all (Some r) (Some q) x y =
     let blocks : r.block ≡ q.block = x.1 ∙ sym y.1 in
     ap (λ (z : Record). Some z) (sym (told_again r (all r x.0)) ∙ ap (record_of r.block) keys ∙ ap (λ b. record_of b (key_of q)) blocks ∙ told_again q (all q y.0))
 
--- a key tells a slot number
+-- the place in a key is a slot number
 pub place_small : (block key : ℕ) (q : Record) → record_at block key ≡ Some q → q.place < 65536
 place_small block key q is = go (sizes key)
   where
@@ -138,7 +138,7 @@ map_as records M N same is = record {
   most = λ r has. let e = same r.block in let m = is.most r has in omega arith;
 }
 
--- a map of some of the records tells no more than a map of all of them
+-- a map of some of the records has no greater key than a map of all of them
 map_no_more : (records others : List Record) (M N : ℕ → ℕ) → ((r : Record) → Contains records r → Contains others r) → IsMapOf records M → IsMapOf others N → (b : ℕ) → M b ≤ N b
 map_no_more records others M N some is other b = go (positive (M b))
   where

@@ -66,7 +66,7 @@ one_holder (Shut v) (Worker w) e = absurd (cc)
 one_holder (Shut v) (Ticket w) e = absurd (cc)
 one_holder (Shut v) (Block w) e = absurd (cc)
 
--- none of these holders holds a slot, and just this one of them does
+-- none of these holders holds a slot, and exactly this one of them does
 abbrev pub IsNobodys : (Holder → Type 0) → (Holder → Bool) → Type 0
 IsNobodys S h = (j : Holder) → S j → h j ≡ false
 
@@ -81,7 +81,7 @@ IsOnce S h = (j k : Holder) → S j → S k → h j ≡ true → h k ≡ true �
 abbrev pub Any : Holder → Type 0
 Any k = Unit {0}
 
--- what a slot's only holder is told from
+-- where a slot has at most one holder, the one that holds it is the only one
 pub just_one : (S : Holder → Type 0) (h : Holder → Bool) (k : Holder) → IsOnce S h → S k → h k ≡ true → IsJust S h k
 just_one S h k once mine held j of = go (h j) (same_holder j k) refl refl
   where

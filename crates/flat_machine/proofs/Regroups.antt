@@ -74,7 +74,7 @@ module _ (groups : Groups) (drives g k : ℕ) (to : Member) (stand : GroupsStand
       go (inl same) = let bad : Some found.0 ≡ None = sym found.1 ∙ ap (group_at groups) (sym same) ∙ none in absurd (cc)
       go (inr ne) = group_other groups g h (swapped_in (group_at groups g) k to) ne ∙ none
 
-  -- a member that stands now is the extent, or stood
+  -- each member of a group after the move is the target extent, or was a member before
   was_there : (h j : ℕ) (m : Member) → slice_get (members_of now h) j ≡ Some m → ((h ≡ g) × (m ≡ to)) ⊎ (slice_get (members_of groups h) j ≡ Some m)
   was_there h j m at = go (cases_eq h g) (cases_eq j k)
     where

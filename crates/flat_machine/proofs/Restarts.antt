@@ -1,5 +1,5 @@
--- The state made anew from what the drives hold: the units of any state tell its map, and what is made of a map that units tell is
--- true of every state again, with the same last writes.
+-- The state restarted from what the drives hold: the units of any state have its map, and what is made of a map that units have
+-- keeps what is true of every state, with the same last writes.
 use Rattle.std.proofs.Common.{◌≡◌, ℕ, ◌^◌, ◌<◌, ◌≤◌, ◌==◌, ◌&&◌, nat_lt, true, List, [], map, length, Contains, refl, sym, ap, ◌∙◌, subst, arith, ◌⊎◌, inl, inr, Option, Some, None}
 use Rattle.std.proofs.lemmas.Bool.Decides.{nat_tests}
 use Rattle.std.proofs.lemmas.Option.{same_Some}
@@ -29,7 +29,7 @@ header_some keys s r is = go is.newest
     go (inl newest) = let big = key_least r is.ranges in omega arith
     go (inr older) = omega arith
 
--- the units of any state tell its map
+-- the units of any state have its map
 pub history_tells : (F : Flat) (keys : ℕ → ℕ) → IsHistory F keys → TellMap F.groups F.units keys
 history_tells F keys is = record {
   there = λ s. (is.units s).there;
@@ -42,7 +42,7 @@ history_tells F keys is = record {
     within : (r : Record) → 0 < keys r.block → r.block < F.groups.blocks
     within r some = let t = is.map.told r.block some in subst (λ b. b < F.groups.blocks) t.2 (is.blocks t.0 t.1)
 
--- units tell one map: the record of the one is in a header, and so no newer than the other's
+-- units have one map: the record of the one is in a header, and so no newer than the other's
 no_newer : (groups : Groups) (units : ℕ → Option Stored) (M N : ℕ → ℕ) → TellMap groups units M → TellMap groups units N → (b : ℕ) → M b ≤ N b
 no_newer groups units M N one other b = go (positive (M b))
   where
@@ -60,7 +60,7 @@ no_newer groups units M N one other b = go (positive (M b))
 pub tells_one : (groups : Groups) (units : ℕ → Option Stored) (M N : ℕ → ℕ) → TellMap groups units M → TellMap groups units N → IsSame M N
 tells_one groups units M N one other b = let low = no_newer groups units M N one other b in let high = no_newer groups units N M other one b in omega arith
 
--- the record that a block's key tells
+-- the record made of a block's key
 abbrev newest : (ℕ → ℕ) → ℕ → Record
 newest keys b = record_of b (keys b)
 
@@ -84,7 +84,7 @@ places keys b some = by (keys b) (newest keys b).place some
     by : (key p : ℕ) → 0 < key → (nat_lt 0 key && (p == p)) ≡ true
     by key p is = grind (arith, nat_tests)
 
--- a write that is told of a record's unit fits
+-- a write made of a record's unit fits
 sized_at : (size : ℕ) (o : Option Stored) (u : Stored) → o ≡ Some u → length u.payload ≡ size → IsSized size (content_at o)
 sized_at size None u is long = absurd (cc)
 sized_at size (Some x) u is long = sized_in size (kind_in x.header) x.payload (ap (λ (y : Stored). length y.payload) (same_Some x u is) ∙ long)
@@ -93,12 +93,12 @@ sized_at size (Some x) u is long = sized_in size (kind_in x.header) x.payload (a
     sized_in size kind.Data payload long = long
     sized_in size kind.Trim payload long = tt
 
--- what the unit at a record's place holds is told as its content
+-- the content of the unit at a record's place is the one it holds there
 told_content : (units : ℕ → Option Stored) (r : Record) (x : Content) → IsAt units r x → content_at (units r.place) ≡ x
 told_content units r x at = ap content_at at.there ∙ at.content
 
 module _ (F : Flat) (keys : ℕ → ℕ) (tells : TellMap F.groups F.units keys) where
-  -- a block with a key is told of the header at its newest place
+  -- a block with a key has a header at its newest place
   newest_header : (b : ℕ) → 0 < keys b → IsHeaderOf keys (newest keys b).place (newest keys b)
   newest_header b some =
       let at = (tells.found b some).1 in
@@ -177,7 +177,7 @@ module _ (F : Flat) (keys : ℕ → ℕ) (tells : TellMap F.groups F.units keys)
         spelled : (key : ℕ) → key_of (record_of 0 key) ≡ key
         spelled key = omega arith
 
-    -- the write that is told of a record of the list
+    -- the write made of a record of the list fits
     record_sized : (r : Record) → Contains records r → IsSized F.groups.payload (content_at (F.units r.place))
     record_sized r has =
         let at = (tells.found r.block (some_key r has)).1 in
@@ -240,7 +240,7 @@ module _ (F : Flat) (keys : ℕ → ℕ) (tells : TellMap F.groups F.units keys)
       log = let count = few records F.groups.blocks list.rising record_block in let blocks = sizes.some_blocks.1 in omega arith;
     }
 
--- what is made anew of a map that the units tell is true of every state
+-- what is restarted with a map that the units have keeps what is true of every state
 pub restarted_history : (F : Flat) (keys : ℕ → ℕ) (records : List Record) → AreSizes F.groups → 3 ≤ F.drives → F.drives ≤ 16 → GroupsStand F.groups F.drives
     → TellMap F.groups F.units keys → IsListOf keys records → IsHistory (restarted F keys records) keys
 restarted_history F keys records sizes least most groups tells list = record {
@@ -261,7 +261,7 @@ restarted_history F keys records sizes least most groups tells list = record {
 pub restarted_held : (F : Flat) (keys : ℕ → ℕ) (records : List Record) → TellMap F.groups F.units keys → AreHeld (restarted F keys records)
 restarted_held F keys records tells = record { once = one_holder F keys tells; inside = held_inside F keys tells }
 
--- made anew of a state's own map, it has each block's last write
+-- restarted with a state's own map, it has each block's last write
 pub restarted_writes : (F : Flat) (keys : ℕ → ℕ) (records : List Record) → IsHistory F keys → IsListOf keys records
     → (b : ℕ) → last_write (restarted F keys records).writes b ≡ last_write F.writes b
 restarted_writes F keys records is list b = go (positive (keys b))

@@ -1,4 +1,4 @@
--- Records whose blocks rise, so that each block has one of them, and the writes that are told of them.
+-- Records whose blocks rise, so that each block has one of them, and the writes made of them.
 use Rattle.std.proofs.Common.{◌≡◌, ℕ, ◌+◌, ◌<◌, ◌≤◌, List, [], ◌∷◌, ◌++◌, map, length, get_or, Contains, All, append_assoc, refl, sym, ap, ◌∙◌, subst, arith, Option, Some, None}
 use Rattle.std.specs.List.Sorted.{IsStrictlyIncreasing}
 use Rattle.std.proofs.lemmas.List.{length-append, length-map, map-append, get_or-map, get_or_append_left}
@@ -82,7 +82,7 @@ rising_chain before (r ∷ log) rises = (
 )
 
 module _ (units : ℕ → Option Stored) where
-  -- the writes that are told of such records are a chain
+  -- the writes made of such records are a chain
   pub rising_writes : (before log : List Record) → Rise (before ++ log) → IsWriteChain (map (write_at units) before) (map (write_at units) log)
   rising_writes before [] rises = tt
   rising_writes before (r ∷ log) rises = (
@@ -99,7 +99,7 @@ module _ (units : ℕ → Option Stored) where
           let same : q.0.block ≡ r.block = ap (λ (w : Write). w.block) q.2 ∙ there.1 in
           absurd (omega arith)
 
-  -- each write that is told is of one of the records
+  -- each write that is made is of one of the records
   pub write_told : (records : List Record) (w : Write) → Contains (map (write_at units) records) w → (r : Record) × (Contains records r) × (write_at units r ≡ w)
   write_told records w has = unmapped (write_at units) records w has
 
@@ -114,7 +114,7 @@ module _ (units : ℕ → Option Stored) where
           let q = unmapped (write_at units) records w there.0 in
           absurd (none q.0 q.1 (ap (λ (v : Write). v.block) q.2 ∙ there.1))
 
-  -- where it has one record, that tells its last write
+  -- where it has one record, the block's last write is made of that record
   pub last_one : (records : List Record) (r : Record) → Rise records → Contains records r → ((q : Record) → Contains records q → q.block ≡ r.block → q ≡ r)
       → last_write (map (write_at units) records) r.block ≡ Some (write_at units r)
   last_one records r rises has one =

@@ -1,4 +1,4 @@
--- What is true of one slot, told from who holds it now, and what stays where nothing changed.
+-- What is true of one slot, given by who holds it, and what stays where nothing changed.
 use Rattle.std.proofs.Common.{◌≡◌, ℕ, ◌<◌, ◌≤◌, Bool, true, false, List, refl, sym, ◌∙◌, subst, Option, Some, None}
 use Rattle.extents.specs.Failures.{Failures}
 use Rattle.map_join.specs.declared.records.Record.{Record}
@@ -54,7 +54,7 @@ block_stands groups keys s h b inside is some place = record {
   shut = λ g hg. let e : Shut g ≡ Block b = just_is IsArrays h (Block b) (Shut g) is (for_shut g) hg in absurd (cc);
 }
 
--- what stands of the array's own holders stands where these are the same
+-- what is true of the array's own holders stays true where these are the same
 pub arrays_same : (groups : Groups) (keys : ℕ → ℕ) (s : ℕ) (h k : Holder → Bool) (t : Option Waiting) → ((j : Holder) → IsArrays j → k j ≡ h j)
     → HoldersStand groups keys s h t → HoldersStand groups keys s k t
 arrays_same groups keys s h k t same is = record {
@@ -78,7 +78,7 @@ pub block_waits : (groups : Groups) (keys : ℕ → ℕ) (s : ℕ) (h : Holder �
     → h (Block b) ≡ true → t ≡ None
 block_waits groups keys s h t b is held = nothing t (λ c e. let y = is.waits c e in let bad : Ticket y.0 ≡ Block b = is.once (Ticket y.0) (Block b) (for_ticket y.0) (for_block b) y.1 held in cc)
 
--- holders and ticket, or ticket and unit, that are the same stand the same
+-- what is true of holders and ticket, or of ticket and unit, is true of the same ones
 pub holders_same : (groups : Groups) (keys : ℕ → ℕ) (s : ℕ) (h k : Holder → Bool) (t u : Option Waiting) → k ≡ h → u ≡ t
     → HoldersStand groups keys s h t → HoldersStand groups keys s k u
 holders_same groups keys s h k t u held ticket is =
@@ -89,7 +89,7 @@ pub units_same : (payload : ℕ) (emitted : List Record) (writes : List Write) (
 units_same payload emitted writes keys s class t u x y ticket unit is =
     subst (λ o. UnitStands payload emitted writes keys s class o y) (sym ticket) (subst (UnitStands payload emitted writes keys s class t) (sym unit) is)
 
--- a ticket that ends leaves the unit as it stands
+-- a ticket that ends leaves what is true of the unit
 pub unit_ended : (payload : ℕ) (emitted : List Record) (writes : List Write) (keys : ℕ → ℕ) (s : ℕ) (class : Option Class) (t : Option Waiting) (x : Option Stored)
     → UnitStands payload emitted writes keys s class t x → UnitStands payload emitted writes keys s class None x
 unit_ended payload emitted writes keys s class t x is = record {
@@ -105,7 +105,7 @@ unit_ended payload emitted writes keys s class t x is = record {
 pub at_same : (old new : ℕ → Option Stored) (r : Record) (x : Content) → new r.place ≡ old r.place → IsAt old r x → IsAt new r x
 at_same old new r x same is = record { stored = is.stored; there = same ∙ is.there; header = is.header; content = is.content }
 
--- a block's last write and newest place stand where neither the writes, nor that place's unit and holder, changed
+-- what is true of a block's last write and newest place stays so where neither the writes, nor that place's unit and holder, changed
 pub block_same : (F G : Flat) (b key : ℕ) → last_write G.writes b ≡ last_write F.writes b
     → (F.held (record_of b key).place (Block b) ≡ true → (G.units (record_of b key).place ≡ F.units (record_of b key).place) × (G.held (record_of b key).place (Block b) ≡ true))
     → BlockStands F b key → BlockStands G b key
@@ -126,7 +126,8 @@ block_same F G b key last stays is = (
 pub apart : (held : ℕ → Holder → Bool) (p s b : ℕ) → held p (Block b) ≡ true → (held s (Block b) ≡ true → ⊥) → p ≡ s → ⊥
 apart held p s b is not same = not (subst (λ n. held n (Block b) ≡ true) same is)
 
--- a state keeps what is true of another with the same records and writes, where its groups stand, each slot's holders and unit do, and no place of a block is touched
+-- a state keeps what is true of another with the same records and writes, where its groups are well formed, each slot's holders
+-- and unit are as they should be, and no place of a block is touched
 pub history_as : {table : List (Option Group)} {drives : ℕ} {lost : ℕ → Bool} {failures : ℕ → Failures} {held : ℕ → Holder → Bool} {tickets : ℕ → Option Waiting} {units : ℕ → Option Stored}
     (F : Flat) (keys : ℕ → ℕ) → IsHistory F keys → 3 ≤ drives → drives ≤ 16 → GroupsStand (record F.groups { table = table }) drives
     → ((s : ℕ) → HoldersStand (record F.groups { table = table }) keys s (held s) (tickets s))

@@ -20,7 +20,7 @@ use Rattle.flat_machine.specs.History.{HoldersStand, UnitStands, IsHistory}
 use Rattle.flat_machine.proofs.Pairs.{equal, unequal, not_workers, IsNobodys, IsJust, just_once, just_is, turned_just}
 use Rattle.flat_machine.proofs.Slots.{history_as, free_waits}
 
--- the number of an unmade group alone holds the slot
+-- only the number of a dissolved group holds the slot
 shut_stands : (groups : Groups) (keys : ℕ → ℕ) (s g : ℕ) (h : Holder → Bool) → s < 65536 → IsJust IsArrays h (Shut g) → g ≡ s / 128 → group_at groups g ≡ None → HoldersStand groups keys s h None
 shut_stands groups keys s g h inside is group free = record {
   once = just_once IsArrays h (Shut g) is;

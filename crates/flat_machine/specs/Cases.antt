@@ -30,7 +30,7 @@ pub record Leaves (x G : Flat) : Type 0 where
   pub same : G ≡ record x { lost = G.lost; failures = G.failures }
   pub drives : (d : ℕ) → Fares (x.lost d) (G.lost d) (x.failures d) (G.failures d)
 
--- the unit of a slot is gone, as its drives fare in a state
+-- the unit of a slot is lost, as its drives fare in a state
 abbrev pub IsGoneIn : Flat → ℕ → Type 0
 IsGoneIn F s = IsGone F.groups F.lost s
 
@@ -64,7 +64,7 @@ ticketed F w s waiting = record F {
   units = put F.units s (Some (waiting_unit F.groups.payload (content_of waiting)));
 }
 
--- nothing that a fill tests before it takes memory speaks against it
+-- nothing that a fill tests before it allocates speaks against it
 abbrev pub FillPasses : Flat → ℕ → ℕ → Type 0
 FillPasses F w s = (F.held s (Worker w) ≡ true) × (class_of F s ≡ Some Mirrored) × (IsKept F s → ⊥)
 
@@ -78,7 +78,7 @@ FillCase F w s x (Refused (Gone t)) G = (t ≡ s) × (FillPasses F w s) × (IsGo
 FillCase F w s x (Filled t) G = (t ≡ s) × (FillPasses F w s) × (IsGoneIn G s → ⊥) × (Leaves (ticketed F w s (Fresh x)) G)
 FillCase F w s x _ G = ⊥
 
--- nothing that a copy of the record tests before it takes memory speaks against it
+-- nothing that a copy of the record tests before it allocates speaks against it
 abbrev pub CopyPasses : Flat → ℕ → ℕ → ℕ → Record → Type 0
 CopyPasses F w s b r =
     (F.held s (Worker w) ≡ true) × (class_of F s ≢ None) × (IsKept F s → ⊥) × (IsNewest F.emitted b (Some r)) × (r.hop < last_hop)
@@ -190,7 +190,7 @@ abbrev pub found_of : Option Write → Option Version
 found_of None = None
 found_of (Some w) = found_in w.version w.content
 
--- read: the last acknowledged write of the block, where the unit at its newest place isn't gone
+-- read: the last acknowledged write of the block, where the unit at its newest place isn't lost
 abbrev pub ReadCase : Flat → ℕ → FlatAnswer → Flat → Type 0
 ReadCase F b (Found answer) G =
     (answer ≡ found_of (last_write F.writes b)) × ((r : Record) → IsNewest F.emitted b (Some r) → IsGoneIn G r.place → ⊥) × (Leaves F G)
@@ -246,11 +246,11 @@ pub record AreFit (F : Flat) (members : List Member) : Type 0 where
   pub apart : AreApart members
   pub unowned : AreUnowned F.groups members
 
--- nothing that making a group tests before it takes memory speaks against it
+-- nothing that making a group tests before it allocates speaks against it
 abbrev pub MakePasses : Flat → List Member → ℕ → Type 0
 MakePasses F members g = (AreFit F members) × (ArePresent F.lost members) × (IsLowestFree F.groups g)
 
--- make: the lowest number that isn't made. A drive that is lost is told before any unit is written, or once it fails while the
+-- make: the lowest number that isn't made. A lost drive is reported before any unit is written, or once it fails while the
 -- extents are wiped: then all members before it were
 abbrev pub MakeCase : Flat → Class → List Member → FlatAnswer → Flat → Type 0
 MakeCase F class members (Refused BadMember) G = (AreMembers F.groups.extents F.drives members → ⊥) × (Leaves F G)
@@ -321,13 +321,13 @@ Case F (MoveExtent g k to) answer G = MoveCase F g k to answer G
 Case F AddDrive answer G = AddCase F answer G
 Case F (Lose d) answer G = LoseCase F d answer G
 
--- a commit of a ticket, given the newest record of the block, passes all that is tested before memory is taken
+-- a commit of a ticket, given the newest record of the block, passes all that is tested before an allocation
 abbrev pub CommitPasses : Flat → Option Record → Option Waiting → Type 0
 CommitPasses F found (Some (Fresh x)) = (next_version found ≤ last_version) × (length F.emitted < longest_log)
 CommitPasses F found (Some (Moved c v h x)) = (HasStamp found v h) × (length F.emitted < longest_log)
 CommitPasses F found None = ⊥
 
--- a step may want memory: nothing that it tests before it takes any speaks against it
+-- a step may run out of memory: nothing that it tests before it allocates speaks against it
 abbrev pub IsWanted : Flat → FlatStep → Type 0
 IsWanted F (Fill w s x) = FillPasses F w s
 IsWanted F (Copy w s b) = (r : Record) × CopyPasses F w s b r
@@ -354,7 +354,7 @@ NeverMissesTwo F (step ∷ steps) (answer ∷ answers) G run = (MissAtMostOne F.
 NeverMissesTwo F [] (answer ∷ answers) G run = ⊥
 NeverMissesTwo F (step ∷ steps) [] G run = ⊥
 
--- an answer that tells no slot gone
+-- an answer that names no slot as lost
 abbrev pub TellsPresent : FlatAnswer → Type 0
 TellsPresent (Refused (Gone t)) = ⊥
 TellsPresent _ = Unit {0}

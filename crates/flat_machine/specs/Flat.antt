@@ -43,7 +43,7 @@ pub record Write : Type 0 where
   pub version : ℕ
   pub content : Content
 
--- who holds a slot: a worker, a worker's ticket, the block whose newest place it is, or the number of an unmade group
+-- who holds a slot: a worker, a worker's ticket, the block whose newest place it is, or the number of a dissolved group
 pub data Holder : Type 0 where
   Worker : ℕ → Holder
   Ticket : ℕ → Holder
@@ -81,7 +81,7 @@ abbrev pub waiting_unit : ℕ → Content → Stored
 waiting_unit size content = record { header = blank_header; payload = bytes_of size content }
 
 -- the flat state: the groups, with the sizes of the array; how many drives there are, which of these numbers are of a lost drive
--- or of none, and how often each failed by itself and whether it is steady; and what was written, emitted, held and stored
+-- or of none, and how often each failed spontaneously and whether it is steady; and what was written, emitted, held and stored
 pub record Flat : Type 0 where
   pub groups : Groups
   pub drives : ℕ
@@ -107,7 +107,7 @@ new_flat groups drives lost failures = record {
   units = λ _. None;
 }
 
--- the same holder
+-- whether two holders are the same
 abbrev pub same_holder : Holder → Holder → Bool
 same_holder (Worker v) (Worker w) = v == w
 same_holder (Ticket v) (Ticket w) = v == w
@@ -135,7 +135,7 @@ turned held slot one other = with_pair (without_pair held slot one) slot other
 abbrev pub IsFree : Flat → ℕ → Type 0
 IsFree F slot = (k : Holder) → F.held slot k ≡ false
 
--- the array itself holds the slot: for a ticket, a block or an unmade group
+-- the array itself holds the slot: for a ticket, a block or a dissolved group
 pub data IsArrays : Holder → Type 0 where
   for_ticket : (w : ℕ) → IsArrays (Ticket w)
   for_block : (b : ℕ) → IsArrays (Block b)

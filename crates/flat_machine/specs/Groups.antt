@@ -1,4 +1,4 @@
--- The sizes of an array and its groups, as the flat machine tells them. Slot number = 128 * group + index.
+-- The sizes of an array and its groups, as the flat machine states them. Slot number = 128 * group + index.
 use Rattle.std.specs.Prelude.{◌≡◌, ◌≢◌, ℕ, ◌/◌, ◌%◌, ◌<◌, ◌≤◌, nat_lt, Bool, true, false, if◌then◌else◌, List, length, slice_get, Option, Some, None}
 use Rattle.extents.specs.Sizes.{AreInRange}
 use Rattle.extent_groups.specs.declared.class.Class.{Class}

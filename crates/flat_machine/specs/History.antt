@@ -1,4 +1,4 @@
--- What is true of a flat state after any steps, told of the flat state alone, with the map of its log.
+-- What is true of a flat state after any steps, stated over the flat state alone, with the map of its log.
 use Rattle.std.specs.Prelude.{◌≡◌, ◌≢◌, ◌⊎◌, ℕ, ◌+◌, ◌/◌, ◌<◌, ◌≤◌, Bool, true, is_some, List, [], ◌∷◌, ◌++◌, length, Contains, Option, Some, None}
 use Rattle.map_join.specs.declared.records.Record.{Record}
 use Rattle.map_join.specs.Record.{key_of, record_of, IsRecord, stamp, stamp_of, stamp_in}
@@ -40,7 +40,7 @@ IsWriteChain before (w ∷ writes) =
     ((x : Write) → last_write before w.block ≡ Some x → w.version ≡ x.version + 1) × IsWriteChain (before ++ w ∷ []) writes
 
 -- whom the array itself holds a slot for: at most one; a ticket exactly where something waits; a block exactly of its newest
--- place; and an unmade group's number only a slot of that group. Nothing is said of workers.
+-- place; and a dissolved group's number only a slot of that group. Nothing is said of workers.
 pub record HoldersStand (groups : Groups) (keys : ℕ → ℕ) (s : ℕ) (held : Holder → Bool) (ticket : Option Waiting) : Type 0 where
   pub once : (j k : Holder) → IsArrays j → IsArrays k → held j ≡ true → held k ≡ true → j ≡ k
   pub inside : (k : Holder) → IsArrays k → held k ≡ true → s < 65536

@@ -1,4 +1,4 @@
--- Groups that are unmade, members that go onto other extents, and drives that come to an array: when that may be, and the
+-- Groups that are dissolved, members that go onto other extents, and drives that come to an array: when that may be, and the
 -- state that it leaves.
 use Rattle.std.specs.Prelude.{◌≡◌, ◌≢◌, ℕ, ◌+◌, ◌/◌, ◌%◌, ◌<◌, ◌==◌, ◌&&◌, nat_lt, Bool, true, false, if◌then◌else◌, slice_get, Option, Some, None}
 use Rattle.extents.specs.Failures.{Failures, fused}
@@ -26,7 +26,7 @@ pub record IsFirstStray (F : Flat) (w g slot : ℕ) : Type 0 where
   pub stray : HasClaim F w slot → ⊥
   pub below : (other : ℕ) → other < slot → IsIn F g other → HasClaim F w other
 
--- the pairs in which the first slots of a group, so many, go from the worker to the group's number
+-- the pairs in which the first `count` slots of a group go from the worker to the group's number
 abbrev pub shut_first : (ℕ → Holder → Bool) → ℕ → ℕ → ℕ → ℕ → Holder → Bool
 shut_first held w g count slot =
     if (slot / 128 == g) && nat_lt (slot % 128) count then turned held slot (Worker w) (Shut g) slot else held slot
@@ -35,7 +35,7 @@ shut_first held w g count slot =
 abbrev pub without_group : (ℕ → Option Stored) → ℕ → ℕ → Option Stored
 without_group units g slot = if slot / 128 == g then None else units slot
 
--- the state in which a group is unmade: its slots have no unit, and the claims that the worker had of them are kept
+-- the state in which a group is dissolved: its slots have no unit, and the claims that the worker had of them are kept
 abbrev pub unmade : Flat → ℕ → ℕ → Flat
 unmade F w g = record F {
   groups = with_group F.groups g None;
@@ -63,11 +63,11 @@ IsMoveReason groups drives g k to (Some ExtentTaken) =
 IsMoveReason groups drives g k to None = (slice_get (members_of groups g) k ≢ None) × (IsTarget groups drives g to)
 IsMoveReason groups drives g k to (Some _) = ⊥
 
--- nothing that moving the group's member of this number tests before it takes memory speaks against it
+-- nothing that moving the group's member of this number tests before it allocates speaks against it
 abbrev pub MovePasses : Flat → ℕ → ℕ → Member → Type 0
 MovePasses F g k to = (IsMoveReason F.groups F.drives g k to None) × (F.lost to.drive ≡ false)
 
--- what lies on a lost drive for a group can't be rebuilt: a slot of the group that has a unit there is gone
+-- what lies on a lost drive for a group can't be rebuilt: a slot of the group that has a unit there is lost
 pub record IsBeyond (groups : Groups) (missing : ℕ → Bool) (g drive : ℕ) : Type 0 where
   pub lost : missing drive ≡ true
   pub slot : ℕ
@@ -77,7 +77,7 @@ pub record IsBeyond (groups : Groups) (missing : ℕ → Bool) (g drive : ℕ) :
   pub on : IsDriveOf site drive
   pub gone : IsGoneAt missing site
 
--- the lowest slot of the group that is gone
+-- the lowest slot of the group that is lost
 pub record IsFirstGone (groups : Groups) (missing : ℕ → Bool) (g slot : ℕ) : Type 0 where
   pub group : slot / 128 ≡ g
   pub gone : IsGone groups missing slot

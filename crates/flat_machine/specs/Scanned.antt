@@ -1,4 +1,4 @@
--- The map that the headers of units tell, as one sentence over slots.
+-- The map that the headers of units have, as one sentence over slots.
 use Rattle.std.specs.Prelude.{◌≡◌, ℕ, ◌<◌, ◌≤◌, Option, Some, List, take}
 use Rattle.map_join.specs.declared.records.Record.{Record}
 use Rattle.map_join.specs.Record.{key_of}

@@ -25,8 +25,9 @@ pub fn history_laws()
     // The laws are the contract: there is nothing to do.
 }
 
-/// The units of every state tell its map, and units tell one map. What is made anew of units that tell a map is true of every state again,
-/// and no slot has two holders; where they are a state's own, each block has the last write that it had.
+/// The units of every state have its map, and units have only one map. What is restarted with a map that the units have keeps
+/// what is true of every state, and no slot has two holders; where they are a state's own, each block has the last write that
+/// it had.
 pub fn restart_laws()
     ensures tells { (F : Flat) (keys : ℕ → ℕ) → IsHistory F keys → TellMap F.groups F.units keys }
     ensures one { (groups : Groups) (units : ℕ → Option Stored) (M N : ℕ → ℕ) → TellMap groups units M → TellMap groups units N → IsSame M N }

@@ -1,4 +1,4 @@
-//! The flat machine: what the array means, step by step, told of plain lists and sets.
+//! The flat machine: what the array means, step by step, stated over plain lists and sets.
 #![tactic(auto)]
 
 mod laws;

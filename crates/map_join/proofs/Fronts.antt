@@ -33,7 +33,7 @@ higher [] here block all le = refl
 higher (e ∷ es) here block all le =
     passed e es block (λ is. let lt = below here e.0 all.0 in absurd (omega arith)) ∙ higher es here block all.1 le
 
--- what is found in front is found, and where it has nothing, what is found behind
+-- what is found in the prefix is found, and where the prefix has nothing, what is found after it
 in_front : (front es : Entries) (block key : ℕ) → find front block ≡ Some key → find (front ++ es) block ≡ Some key
 in_front [] es block key is = absurd (none_some is)
   where
@@ -58,7 +58,7 @@ behind (e ∷ front) es block none =
     go (inl same) later = absurd (none_some (sym none ∙ found e front block same))
     go (inr ne) later = passed e (front ++ es) block ne ∙ later ne
 
--- nothing is behind: what is found is in front
+-- nothing is after it: what is found is in the prefix
 only_front : (front es : Entries) (block : ℕ) → find es block ≡ None → find (front ++ es) block ≡ find front block
 only_front front es block none = go (find front block) refl
   where
@@ -66,7 +66,7 @@ only_front front es block none = go (find front block) refl
     go None e = behind front es block e ∙ none ∙ sym e
     go (Some key) e = in_front front es block key e ∙ sym e
 
--- in order, the blocks in front of an entry are lower, and those behind it are higher
+-- in order, the blocks in front of an entry are lower, and those after it are higher
 reaches : (P : ℕ → Type 0) (front : Entries) (e : ℕ × ℕ) (rest : Entries) → AllByRecursion P (keys_of (front ++ e ∷ rest)) → P e.0
 reaches P [] e rest all = all.0
 reaches P (x ∷ front) e rest all = reaches P front e rest all.1

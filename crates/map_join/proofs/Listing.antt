@@ -20,14 +20,14 @@ use Rattle.map_join.specs.Maps.{Entries, find, at, IsListOf}
 abbrev pub recorded : ℕ × ℕ → Record
 recorded e = record_of e.0 e.1
 
--- a number that is no less than the least key tells a record, and no other does
+-- a number that is at least the least key has a record, and no other number does
 pub told : (block key : ℕ) → 2 ^ 32 ≤ key → record_at block key ≡ Some (record_of block key)
 told block key h = grind (arith, nat_tests)
 
 untold : (block key : ℕ) → key < 2 ^ 32 → record_at block key ≡ None
 untold block key h = grind (arith, nat_tests)
 
--- what a map has of a block is told by the record with this key, and where there is none it has nothing
+-- the record with this key is what a map has of a block; where there is no such record, the map has nothing
 pub told_key : (block key : ℕ) → (0 < key → 2 ^ 32 ≤ key) → MatchOption (record_at block key) (key ≡ 0) (λ r. key_of r ≡ key)
 told_key block key least = go key least
   where
@@ -87,7 +87,7 @@ found es block key is = Contains-from_lookup (λ x y t. same x y t) block key es
 have_keys : (es : Entries) → IsStrictlySortedBy nat_cmp (keys_of es) → AreKeys es → All HasKey es
 have_keys es sorted keys = All-weaker (Contains es) HasKey (λ e has. keys e.0 e.1 (finds es sorted e.0 e.1 has)) es (All-contains_itself es)
 
--- the key that a map has of a block that tells a record
+-- the key that a map has of a block whose key has a record
 pub key_told : (es : Entries) (block : ℕ) (r : Record) → record_at block (at es block) ≡ Some r → (key : ℕ) × (find es block ≡ Some key) × (recorded (block, key) ≡ r)
 key_told es block r is = go (find es block) refl
   where

@@ -46,7 +46,7 @@ lies es order keys block key slot has is =
       is,
     )
 
--- a slot is live just where some entry's key says so
+-- a slot is live exactly where some entry's key says so
 pub live_placed : (es : Entries) → AreInOrder es → AreKeys es → (slot : ℕ) → IsPlaced es slot → IsLive (at es) slot
 live_placed es order keys slot p = (p.0.0, lies es order keys p.0.0 p.0.1 slot p.1 p.2)
 
@@ -82,7 +82,7 @@ pub block_at : (es : Entries) → AreInOrder es → AreKeys es → (slot : ℕ) 
 block_at es order keys slot None none = λ live. none (placed_live es slot live)
 block_at es order keys slot (Some block) there = lies es order keys block there.0 slot there.1 there.2
 
--- marks tell which of a group's indexes are places of the entries in front
+-- marks say which of a group's indexes are places of the entries in the prefix
 abbrev pub AreMarks : Entries → ℕ → List Bool → Type 0
 AreMarks front group marks = (index : ℕ) → index < 128 → IsSet marks index ↔ IsPlaced front (128 * group + index)
 

@@ -1,4 +1,4 @@
--- Ascending lists of just the numbers that are so: made one by one, and compared.
+-- Ascending lists of exactly the numbers that are so: made one by one, and compared.
 use Rattle.std.proofs.Common.{◌≡◌, ◌∙◌, ◌⊎◌, inl, inr, ℕ, ◌+◌, ◌<◌, ◌≤◌, true, List, [], ◌∷◌, ◌++◌, length, get_or, ap, subst, arith, Contains}
 use Rattle.std.specs.List.Sorted.{IsStrictlyIncreasing}
 use Rattle.std.proofs.lemmas.Bool.{cases_lt, cases_eq}
@@ -98,7 +98,7 @@ no_longer P xs ys h k =
 pub count_once : (P : ℕ → Type 0) (m n : ℕ) → IsCount P m → IsCount P n → m ≡ n
 count_once P m n h k = omega (arith, no_longer P h.0 k.0 h.1 k.1, no_longer P k.0 h.0 k.1 h.1, h.2, k.2)
 
--- it is 0 just where nothing is so
+-- it is 0 exactly where nothing is so
 pub count_zero : (P : ℕ → Type 0) → IsCount P 0 → (n : ℕ) → P n → ⊥
 count_zero P h n p = let has = (h.1.each n).1 p in absurd (omega (arith, has.1, h.2))
 

@@ -12,7 +12,7 @@ use Rattle.map_join.specs.Keys.{AreKeys}
 use Rattle.map_join.specs.Maps.{Entries, at, IsSame}
 use Rattle.map_join.specs.Tables.{IsTable, entries_from}
 
--- what a table's key tells of its block
+-- the key that an entry of the table gives its block: none where the entry is 0
 abbrev pub told_of : ℕ → Option ℕ
 told_of zero = None
 told_of (suc n) = Some (suc n)
@@ -37,7 +37,7 @@ below [] first q f l = refl
 below (zero ∷ keys) first q f l = below keys (first + 1) q f (omega arith)
 below (suc n ∷ keys) first q f l = below keys (first + 1) q (updated f first (suc n)) (omega arith) ∙ elsewhere f first (suc n) q (λ e. omega (arith, e, l))
 
--- a block of the table has what its key tells
+-- the map has for a block of the table the key in its entry
 tabled : (keys : List ℕ) (first i q : ℕ) (f : ℕ → Option ℕ) → first + i ≡ q → f q ≡ None → inserted f (entries_from first keys) q ≡ told_of (get_or keys i 0)
 tabled [] first i q f is none = none
 tabled (zero ∷ keys) first zero q f is none = below keys (first + 1) q f (omega arith) ∙ none
@@ -50,7 +50,7 @@ tabled (zero ∷ keys) first (suc i) q f is none = tabled keys (first + 1) i q f
 tabled (suc n ∷ keys) first (suc i) q f is none =
     tabled keys (first + 1) i q (updated f first (suc n)) (omega arith) (elsewhere f first (suc n) q (λ e. omega (arith, e, is)) ∙ none)
 
--- the map of all entries has of each block what the table tells
+-- the map of all entries has of each block the key in the table
 looked : (keys : List ℕ) (m : BTreeMap ℕ ℕ) → IsFromIterResult nat_cmp (entries_from 0 keys) m → (block : ℕ) → get nat_cmp m block ≡ told_of (slice_index keys block)
 looked keys m is block = is.0 block ∙ tabled keys 0 block block (λ _. None) (omega arith) refl
 
@@ -68,7 +68,7 @@ table_keys keys m table is block key found = go (slice_index keys block) (table 
     go zero least e = absurd (none-some key e)
     go (suc n) least e = subst (λ (k : ℕ). 2 ^ 32 ≤ k) (same_Some (suc n) key e) (least (omega arith))
 
--- a table has no key just where each is 0
+-- a table has no key exactly where each is 0
 pub all_zero : (keys : List ℕ) → list_all (λ (key : ℕ). key == 0) keys ≡ true → IsSame (slice_index keys) (λ _. 0)
 all_zero [] all block = refl
 all_zero (key ∷ keys) all zero = grind (arith, nat_tests, all)
@@ -96,7 +96,7 @@ some_key (key ∷ keys) all none = some_key keys (rest (key == 0) first all) (λ
 abbrev pub Entered : List ℕ → Entries → ℕ → Type 0
 Entered keys front block = front ++ entries_from block (drop block keys) ≡ entries_from 0 keys
 
--- the next key and what is left behind it
+-- the next key and the entries left after it
 opened : (keys : List ℕ) (front : Entries) (block : ℕ) → block < length keys → Entered keys front block
     → front ++ entries_from block (slice_index keys block ∷ drop (block + 1) keys) ≡ entries_from 0 keys
 opened keys front block l so = sym (at_drop_more (λ xs. front ++ entries_from block xs) keys block 0 l) ∙ so

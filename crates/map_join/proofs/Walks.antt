@@ -30,11 +30,11 @@ pub record IsAhead (es left : Entries) (block : ℕ) : Type 0 where
   pub order : AreInOrder left
   pub same : (higher : ℕ) → block ≤ higher → at left higher ≡ at es higher
 
--- what is behind a first entry is in order
+-- what is after a first entry is in order
 pub order_behind : (left : Entries) (here key : ℕ) (rest : Entries) → left ≡ (here, key) ∷ rest → AreInOrder left → AreInOrder rest
 order_behind left here key rest is order = sorted_tail nat_cmp here (keys_of rest) (subst AreInOrder is order)
 
--- it still has them behind an entry of a lower block
+-- the rest after an entry of a lower block is still ahead of the block
 pub past : (es left : Entries) (block here key : ℕ) (rest : Entries) → left ≡ (here, key) ∷ rest → IsAhead es left block → here < block → IsAhead es rest block
 past es left block here key rest is ahead lt = record { order = order_behind left here key rest is ahead.order; same = same }
   where
@@ -51,7 +51,7 @@ pub record IsAbreast (es left others : Entries) : Type 0 where
   pub order : AreInOrder left
   pub same : (block : ℕ) → 0 < at others block → at left block ≡ at es block
 
--- the blocks behind one are higher
+-- the blocks after one are higher
 behind_met : (es front : Entries) (block key : ℕ) (rest : Entries) → IsMet es front block key rest → (b : ℕ) → 0 < at rest b → block < b
 behind_met es front block key rest met b has = go (cases b block)
   where
@@ -72,7 +72,7 @@ next_same mine left others block key rest is abreast some = abreast.same block (
     e : at others block ≡ key
     e = ap (λ (xs : Entries). at xs block) is ∙ first_at block key rest
 
--- behind it, they are still abreast
+-- after that entry they are still abreast
 pub next_abreast : (mine left left' es front others : Entries) (block key : ℕ) (rest : Entries) → IsMet es front block key rest → others ≡ (block, key) ∷ rest
     → IsAbreast mine left others → AreInOrder left' → ((b : ℕ) → block < b → at left' b ≡ at left b) → IsAbreast mine left' rest
 next_abreast mine left left' es front others block key rest met is abreast order kept = record { order = order; same = same }

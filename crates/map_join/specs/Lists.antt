@@ -1,4 +1,4 @@
--- Ascending lists of just the numbers that are so.
+-- Ascending lists of exactly the numbers that are so.
 use Rattle.std.specs.Prelude.{◌≡◌, ◌↔◌, ℕ, ◌<◌, List, Contains, length}
 use Rattle.std.specs.List.Sorted.{IsStrictlyIncreasing}
 
@@ -7,11 +7,11 @@ pub record Lists (P : ℕ → Type 0) (numbers : List ℕ) : Type 0 where
   pub rising : IsStrictlyIncreasing numbers
   pub each : (n : ℕ) → Contains numbers n ↔ P n
 
--- the same below a bound, for loops
+-- the numbers below a bound that have the property P, rising, for loops
 pub record ListsBelow (P : ℕ → Type 0) (bound : ℕ) (numbers : List ℕ) : Type 0 where
   pub rising : IsStrictlyIncreasing numbers
   pub each : (n : ℕ) → Contains numbers n ↔ ((n < bound) × P n)
 
--- just so many numbers are so
+-- exactly `count` numbers have the property P
 abbrev pub IsCount : (ℕ → Type 0) → ℕ → Type 0
 IsCount P count = (numbers : List ℕ) × Lists P numbers × (length numbers ≡ count)

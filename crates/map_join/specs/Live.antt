@@ -17,12 +17,12 @@ abbrev pub IsBlockAt : (ℕ → ℕ) → ℕ → Option ℕ → Type 0
 IsBlockAt keys slot None = IsLive keys slot → ⊥
 IsBlockAt keys slot (Some block) = LiesAt keys block slot
 
--- one of a group's first so many slots, and live
+-- one of the first `slots` slots of a group, and live
 pub record IsLiveIn (keys : ℕ → ℕ) (group slots slot : ℕ) : Type 0 where
   pub own : slot / 128 ≡ group
   pub among : slot % 128 < slots
   pub live : IsLive keys slot
 
--- so many of a group's first so many slots are live
+-- exactly `count` of the first `slots` slots of a group are live
 abbrev pub IsLiveCount : (ℕ → ℕ) → ℕ → ℕ → ℕ → Type 0
 IsLiveCount keys group slots count = IsCount (IsLiveIn keys group slots) count

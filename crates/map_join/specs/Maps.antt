@@ -63,8 +63,8 @@ abbrev pub IsDifference : (ℕ → ℕ) → (ℕ → ℕ) → Option ℕ → Typ
 IsDifference M N None = IsSame M N
 IsDifference M N (Some block) = IsLowestDifference M N block
 
--- a map is that of a list of records where each key is told by a record of the list, and no record of the list has a
--- greater one; neither order nor repeats are spoken of
+-- a map is that of a list of records: each of its keys is the key of a record of the list, and no record of the list has a
+-- greater one; neither the order of the list nor duplicates in it matter
 pub record IsMapOf (records : List Record) (M : ℕ → ℕ) : Type 0 where
   pub told : (block : ℕ) → 0 < M block → (r : Record) × (Contains records r) × (r.block ≡ block) × (key_of r ≡ M block)
   pub most : (r : Record) → Contains records r → key_of r ≤ M r.block

@@ -10,7 +10,7 @@ IsPlaced entries slot = (e : ℕ × ℕ) × Contains entries e × (e.1 % 65536 �
 abbrev pub IsSet : List Bool → ℕ → Type 0
 IsSet marks index = slice_get marks index ≡ Some true
 
--- one of a group's first so many slots, and marked
+-- one of the first `slots` slots of a group, and marked
 pub record IsMarkedIn (marks : List Bool) (group slots slot : ℕ) : Type 0 where
   pub own : slot / 128 ≡ group
   pub among : slot % 128 < slots

@@ -11,18 +11,18 @@ key_of r = r.version * 2 ^ 32 + r.hop * 2 ^ 16 + r.place
 abbrev pub stamp : ℕ → ℕ → ℕ
 stamp version hop = version * 2 ^ 16 + hop
 
--- the stamp of a record, and of the record that a key tells
+-- the stamp of a record, and of the record that has a key
 abbrev pub stamp_of : Record → ℕ
 stamp_of r = stamp r.version r.hop
 
 abbrev pub stamp_in : ℕ → ℕ
 stamp_in key = key / 2 ^ 16
 
--- the record of a block that a key tells
+-- the record of a block that has this key
 abbrev pub record_of : ℕ → ℕ → Record
 record_of block key = record { block = block; version = key / 2 ^ 32; hop = key / 2 ^ 16 % 2 ^ 16; place = key % 2 ^ 16 }
 
--- the record of a block that a key tells; no number below 2^32 is a record's key
+-- the record of a block that has this key; no number below 2^32 is a record's key
 abbrev pub record_at : ℕ → ℕ → Option Record
 record_at block key = if nat_lt key (2 ^ 32) then None else Some (record_of block key)
 

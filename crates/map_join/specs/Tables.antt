@@ -5,7 +5,7 @@ use Rattle.std.specs.Prelude.{ℕ, zero, suc, ◌+◌, ◌^◌, ◌<◌, ◌≤�
 abbrev pub IsTable : List ℕ → Type 0
 IsTable keys = (block : ℕ) → 0 < slice_index keys block → 2 ^ 32 ≤ slice_index keys block
 
--- the entries of keys that stand from a block on, in the blocks' order
+-- the entries of a table's keys, from a first block on, in the blocks' order
 abbrev pub entries_from : ℕ → List ℕ → List (ℕ × ℕ)
 entries_from block [] = []
 entries_from block (zero ∷ keys) = entries_from (block + 1) keys

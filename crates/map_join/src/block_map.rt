@@ -60,9 +60,9 @@ impl BlockMap {
         }
     }
 
-    /// The map of a table of keys by block, block 0's first: nothing of a block where 0 stands, nor of one behind the table's
-    /// end. It is made at once, which takes a fraction of what a take of each would. Memory is wanted only where there is
-    /// a key.
+    /// The map of a table of keys by block, block 0's first. A block with entry 0 or past the end of the table has no key. The
+    /// map is built in one pass, which takes a fraction of the time of a call of `take` for each key. Allocates only where
+    /// there is a key.
     pub fn of_table(alloc: Global, keys: &[u64]) -> Result<BlockMap, MapRefusal>
         requires many { length keys.now ≤ 2 ^ 32 }
         requires written { IsTable keys.now }
@@ -94,7 +94,7 @@ impl BlockMap {
         self.keys.get(&block).copied().unwrap_or(0)
     }
 
-    /// Joins the map with one record. Memory is wanted only for a block that isn't there.
+    /// Joins the map with one record. Allocates only if the map has no key of the record's block.
     pub fn take(&mut self, alloc: Global, record: Record) -> Result<(), MapRefusal>
         requires { 0 < «record».version }
         ensures ok { OnOk result (IsSame (at self.new) (join (at self.old) (only «record»))) }
@@ -120,8 +120,8 @@ impl BlockMap {
         Ok(())
     }
 
-    /// Joins the map with another, block after block, or by one copy where it holds none. Memory is wanted only for
-    /// blocks that aren't there.
+    /// Joins the map with another: block after block, or by one copy if it holds none itself. Allocates only for blocks that it
+    /// doesn't have.
     pub fn merge(&mut self, alloc: Global, other: &BlockMap) -> Result<(), MapRefusal>
         ensures ok { OnOk result (IsSame (at self.new) (join (at self.old) (at other.now))) }
         ensures err { OnErr result (IsPartlyJoined (at self.old) (at other.now) (at self.new)) }
@@ -200,7 +200,7 @@ impl BlockMap {
         Some(*block)
     }
 
-    /// The newest record of each block, in the blocks' order. Memory is wanted only where there is a block.
+    /// The newest record of each block, in the blocks' order. Allocates only if the map has a block.
     pub fn to_list(&self, alloc: Global) -> Result<Vec<Record>, MapRefusal>
         ensures list { IfOk result (λ list. IsListOf (at self.now) list.items) }
         ensures there { IsSame (at self.now) (λ _. 0) → IsOk result }
@@ -211,7 +211,7 @@ impl BlockMap {
         }
     }
 
-    /// A second map with the same keys. Memory is wanted only where there is a block.
+    /// A second map with the same keys. Allocates only if the map has a block.
     pub fn copied(&self, alloc: Global) -> Result<BlockMap, MapRefusal>
         ensures copy { IfOk result (λ copy. copy ≡ self.now) }
         ensures there { IsSame (at self.now) (λ _. 0) → IsOk result }
@@ -294,7 +294,7 @@ fn listed(alloc: Global, keys: &BTreeMap<u32, u64>) -> Result<Vec<Record>, Alloc
         .collect(alloc)
 }
 
-// The same entries once more.
+// A copy of the entries. Allocates only if there are any.
 fn copied_keys(alloc: Global, keys: &BTreeMap<u32, u64>) -> Result<BTreeMap<u32, u64>, AllocError>
     ensures ok { IfOk result (λ copy. copy.entries ≡ keys.now.entries) }
     ensures there { keys.now.entries ≡ [] → IsOk result }

@@ -19,5 +19,5 @@ pub fn join_laws()
 pub fn list_laws()
     ensures { (xs ys : List Record) (M N : ℕ → ℕ) → IsMapOf xs M → IsMapOf ys N → IsMapOf (xs ++ ys) (join M N) }
 {
-    // As above.
+    // The law is the contract: there is nothing to do.
 }

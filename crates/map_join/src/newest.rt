@@ -1,4 +1,4 @@
-// Who tells where the newest records of blocks lie: a map joined from records, or an array that keeps one.
+// What knows where the newest records of blocks lie: a map joined from records, or an array that keeps one.
 ghost use Rattle.std.specs.Prelude.{◌≡◌, ◌↔◌, ◌⊎◌, ℕ, ◌+◌, ◌*◌, ◌%◌, ◌<◌, ◌≤◌, MatchOption, Contains};
 ghost use Rattle.std.specs.Ordering.{nat_cmp};
 ghost use Rattle.std.specs.BTreeMap.{IsOrdered};
@@ -12,7 +12,7 @@ use crate::block_map::BlockMap;
 use crate::records::Record;
 use std::collections::BTreeMap;
 
-/// Tells the newest record of a block.
+/// Returns the newest record of a block.
 pub trait Newest {
     /// The key of each block, or 0.
     ghost keys: { Self → ℕ → ℕ };
@@ -22,7 +22,7 @@ pub trait Newest {
         ensures { result ≡ record_at block (keys self.now block) };
 }
 
-/// Tells which slots are newest places of blocks.
+/// Says which slots are newest places of blocks.
 pub trait Live {
     /// The key of each block, or 0.
     ghost keys: { Self → ℕ → ℕ };
@@ -31,7 +31,7 @@ pub trait Live {
     fn block_at(&self, slot: u16) -> Option<u32>
         ensures { IsBlockAt (keys self.now) slot result };
 
-    /// How many of the group's first so many slots are newest places.
+    /// How many of the group's first `slots` slots are newest places.
     fn count_live(&self, group: u16, slots: u16) -> u16
         requires group { group < 512 }
         requires slots { slots ≤ 128 }

@@ -63,7 +63,7 @@ impl Record {
         (u64::from(self.version) << 32) + (u64::from(self.hop) << 16) + u64::from(self.place)
     }
 
-    /// The record of a block that a key tells, none where the key is below 2^32.
+    /// The record of a block that has this key; none if the key is below 2^32.
     pub fn of_key(block: u32, key: u64) -> Option<Record>
         ensures { result ≡ record_at block key }
     {

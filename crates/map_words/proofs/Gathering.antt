@@ -50,7 +50,7 @@ joins v count M N r so here greatest same = record {
     elsewhere : (b : ℕ) → b ≢ count → N b ≡ M b
     elsewhere b ne = let none : only r b ≡ 0 = only_else r b (λ e. ne (e ∙ here)) in let is : N b ≡ max (M b) (only r b) = same b in omega arith
 
--- what stands in a list is contained in it
+-- what is at a place of a list is contained in it
 contained : {A : Type 0} (l : List A) (k : ℕ) (d : A) → k < length l → Contains l (slice_index_or l k d)
 contained l k d small = (k, small, get_or_default l k (slice_index_or l k d) d small)
 

@@ -1,4 +1,4 @@
--- Records and the keys that tell them.
+-- Records and their keys.
 use Rattle.std.proofs.Common.{◌≡◌, ℕ, ◌/◌, ◌^◌, ◌<◌, ◌≤◌, ◌≢◌, IfSome, nat_lt, Bool, true, false, sym, refl, arith}
 use Rattle.std.proofs.Math.Nat.{div-div-eq-div-mul}
 use Rattle.std.proofs.lemmas.Bool.Decides.{nat_tests}
@@ -20,15 +20,15 @@ same_record p q ip iq same keys =
     let places : p.place ≡ q.place = omega arith in
     λ i. record { block = same i; version = versions i; hop = hops i; place = places i }
 
--- a key that tells a record is at least 2^32
+-- a key that is a record's is at least 2^32
 pub told_key : (block key : ℕ) (r : Record) → Tells block key r → 2 ^ 32 ≤ key
 told_key block key r tells = let e = tells.key in let w = tells.written in omega arith
 
--- the record that a key tells has that key
+-- the record made of a key has that key
 key_back : (block key : ℕ) → key_of (record_of block key) ≡ key
 key_back block key = let halves : key / 2 ^ 16 / 2 ^ 16 ≡ key / 2 ^ 32 = div-div-eq-div-mul key (2 ^ 16) (2 ^ 16) in omega arith
 
--- the key in what a key tells is that key
+-- the key of what is made of a key is that key
 pub key_told : (block key : ℕ) → IsKeyOrNone key → key_in (record_at block key) ≡ key
 key_told block key is = go (nat_lt key (2 ^ 32)) refl
   where

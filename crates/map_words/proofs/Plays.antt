@@ -1,4 +1,4 @@
--- Each kind of step keeps the rule and tells what it is said to tell.
+-- Each kind of step keeps the rule, and what its definition says of it holds.
 use Rattle.std.proofs.Common.{◌≡◌, ℕ, ◌<◌, ◌≤◌, ◌≢◌, ◌⊎◌, max, List, [], ◌∷◌, ◌++◌, Contains, sym, refl, ap, ◌∙◌, inl, inr, ⊎_elim, subst, le_refl, le_trans, arith}
 use Rattle.std.proofs.Math.Nat.{le-max_left, le-max_right}
 use Rattle.std.proofs.lemmas.List.{set-get_or}
@@ -33,7 +33,7 @@ newest n ws vs id v block rule here inside = record {
       subst (λ (k : ℕ). k ≤ word ws block) t.4 ((rule.current block inside).most t.0 t.1 (t.2 ∙ e) (rule.timed t.0 t.1)));
 }
 
--- a block's word above 0 is told by a record that some seat took
+-- a block's word above 0 is the key of a record that some seat took
 told_by : (n : ℕ) (ws : List ℕ) (vs : List View) (block : ℕ) → TakeRule n ws vs → block < n → 0 < word ws block
     → (r : Record) × TakenBy vs r × Tells block (word ws block) r
 told_by n ws vs block rule inside above =

@@ -1,4 +1,4 @@
--- What each kind of atomic step tells: of the step, the seat before, the number found, and the seat after.
+-- What holds for each kind of atomic step, stated over the step, the seat before, the number found, and the seat after.
 use Rattle.std.specs.Prelude.{◌≡◌, ℕ, ◌+◌, ◌-◌, ◌/◌, ◌^◌, ◌<◌, ◌≤◌, [], ◌++◌}
 use Rattle.atomic_table.specs.Table.{Me, Step}
 use Rattle.map_join.specs.declared.records.Record.{Record}

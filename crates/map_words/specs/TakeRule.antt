@@ -45,7 +45,7 @@ TakenBy views r = (seat : ℕ) × (v : View) × (get_elem? views seat ≡ some v
 abbrev pub FoundBy : List View → Found → Type 0
 FoundBy views f = (seat : ℕ) × (v : View) × (get_elem? views seat ≡ some v) × Contains v.found f
 
--- a record that a word tells: of this block, with this number as its key, and of a version
+-- the record that a word represents: of this block, with this number as its key, and of a version
 pub record Tells (of number : ℕ) (r : Record) : Type 0 where
   pub block : r.block ≡ of
   pub key : key_of r ≡ number

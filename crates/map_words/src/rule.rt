@@ -1,4 +1,4 @@
-// The rule of the table, and what each kind of step tells.
+// The rule of the table, and what holds for each kind of step.
 ghost use Rattle.map_words.specs.TakeRule.{knows, opening, whole, TakeRule};
 ghost use Rattle.map_words.specs.Steps.{Took, Saw, Closed, Weighed, kept_half, given_half, both_views};
 ghost use Rattle.std.specs.Prelude.{[]};
@@ -22,14 +22,14 @@ impl TableRule<u8, View, u64> for Greatest {
     ghost first = { λ _. opening };
 }
 
-/// The fetch-max of a take.
+/// The fetch-max of a call of `take`.
 pub struct Takes;
 
 impl Play<u8, View> for Takes {
     ghost then = { Took };
 }
 
-/// The load of a find.
+/// The load of a call of `find`.
 pub struct Sees;
 
 impl Play<u8, View> for Sees {
@@ -43,7 +43,7 @@ impl Play<u8, View> for Closes {
     ghost then = { Closed };
 }
 
-/// A load that tells how large a share can be.
+/// A load that shows how large a share can be.
 pub struct Weighs;
 
 impl Play<u8, View> for Weighs {

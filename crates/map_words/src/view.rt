@@ -2,7 +2,7 @@
 use map_join::Record;
 use std::collections::LinkedList;
 
-/// A take or a find: its place in the order of all of them, what it read at the block's word, a key or 0, and what it
+/// A call of `take` or `find`: its place in the order of all of them, what it read at the block's word, a key or 0, and what it
 /// left there.
 #[derive(Clone, Copy)]
 pub struct Found {

@@ -69,7 +69,7 @@ impl TableRefusal {
 }
 
 impl MapWords<Brand> {
-    /// A table of so many blocks, of which nothing is taken, without a name.
+    /// A table of `blocks` blocks, of which nothing is taken, without a name.
     pub fn new(alloc: Global, blocks: u32) -> Result<Unnamed, TableRefusal>
         ensures { IfOk result (λ table. blocks_of table ≡ blocks) }
     {
@@ -209,7 +209,7 @@ impl<N: Naming> MapWords<N> {
         }
     }
 
-    // The map of all that was taken, or none for want of memory.
+    // The map of all that was taken, or none if out of memory.
     fn gathered(&self, alloc: Global, taker: &mut Taker<N>) -> Option<BlockMap>
         requires share { taker.old.share ≡ whole }
         requires taken { All (λ r. r.block < blocks_of N.table) taker.old.taken }
@@ -217,7 +217,7 @@ impl<N: Naming> MapWords<N> {
         ensures map { IfSome result (λ map. IsMapOf taker.old.taken (at map)) }
         ensures found { IfSome result (λ map. All (λ f. f.key ≤ at map f.block) taker.old.found) }
         ensures exact { IfSome result (λ _. All (IsExact taker.old) taker.old.found) }
-        // memory is wanted only for what was taken
+        // allocates only for what was taken
         ensures wanted { IfNone result (taker.old.taken ≢ []) }
         ensures same { taker.new ≡ taker.old }
     {

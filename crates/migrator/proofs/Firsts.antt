@@ -54,7 +54,7 @@ module _ (end : End) (groups : Groups) (keys : ℕ → ℕ) (free : ℕ → Type
     record { holds = to_fresh slot other.holds; least = λ m p. other.least m (from_fresh m p) },
   )
 
--- the first of the write group is the first where the log goes on behind it
+-- where the log goes on in the write group: the first slot among those of this group is the first of all
 pub behind_first : (end : End) (groups : Groups) (keys : ℕ → ℕ) (free : ℕ → Type 0) (group : ℕ) (result : Option ℕ) → end.group ≡ Some group
     → IsFirst (λ slot. (slot / 128 ≡ group) × Behind end groups keys free slot) result → IsFirst (Behind end groups keys free) result
 behind_first end groups keys free group None is first = λ n p. first n (same_Some (n / 128) group (sym p.picked.group_too ∙ is), p)

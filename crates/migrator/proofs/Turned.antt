@@ -40,7 +40,7 @@ turns_by_number n few = record {
 pub order_by_number : (n : ℕ) → blocks_in n (take n (by_number (2 * n))) ≡ by_number n
 order_by_number n = ap (blocks_in n) (range_front 0 (2 * n) n (omega arith)) ∙ blocks_by_number n
 
--- so many blocks are in the order
+-- exactly n blocks are in the order
 count_blocks : (n : ℕ) (ns ts : List ℕ) (len : ℕ) → AreTurns n ns ts len → length (blocks_in n (take len ns)) ≡ n
 count_blocks n ns ts len t = let most = at_most in let least = at_least in omega (arith, most, least)
   where
@@ -90,7 +90,7 @@ count_order n ns ts len order t view = ap (λ o. length (in_order o)) (sym view)
 pub count_kept : (n : ℕ) (ns ts : List ℕ) (len : ℕ) (order : Order) → AreTurns n ns ts len → record { blocks = n; kept = take len ns } ≡ order → length order.kept ≡ len
 count_kept n ns ts len order t view = ap (λ o. length o.kept) (sym view) ∙ length-take-le len ns (omega (arith, t.room, t.within))
 
--- a block stands at its turn alone
+-- a block is found at its turn alone
 pub only_turn : (n : ℕ) (ns ts : List ℕ) (len : ℕ) → AreTurns n ns ts len → (b : ℕ) → b < n
     → (k : ℕ) → k < length (take len ns) → get_or (take len ns) k 0 ≡ b → k ≡ get_or ts b 0
 only_turn n ns ts len t b low k l e =
@@ -98,7 +98,7 @@ only_turn n ns ts len t b low k l e =
     let read : get_or ns k 0 ≡ b = sym (get_or-take len ns k 0 here) ∙ e in
     sym (t.once k here (omega (arith, read, low))) ∙ ap (λ x. get_or ts x 0) read
 
--- a block leaves a gap, and stands at the last turn
+-- a block leaves a gap, and is put at the last turn
 module _ (n b len : ℕ) (ns ts : List ℕ) (t : AreTurns n ns ts len) (low : b < n) (room : len < 2 * n) where
   abbrev left : ℕ
   left = get_or ts b 0
@@ -227,7 +227,7 @@ module _ (n b len : ℕ) (ns ts : List ℕ) (t : AreTurns n ns ts len) (order : 
       (subst (λ k. KeepsFront (record { blocks = n; kept = take len ns }) (record { blocks = n; kept = take (len + 1) (set (set ns k n) len b) })) (sym leaves)
       (moved_front n b len ns ts t low free))
 
--- up to a turn the gaps are out, and each block that stood before it stands among the packed
+-- up to a turn the gaps are out, and each block whose turn was before it is among the packed
 pub record ArePacked (n : ℕ) (xs us ys ts : List ℕ) (packed at : ℕ) : Type 0 where
   pub filtered : FiltersInPlace (λ k. nat_lt k n) xs ys packed at
   pub all : length ts ≡ n
@@ -261,7 +261,7 @@ module _ (n len : ℕ) (xs us : List ℕ) (t : AreTurns n xs us len) where
         let e : at + 0 ≡ at = omega arith in
         ap (λ k. get_or xs k 0) (sym e) ∙ sym (get_or-drop at xs 0 0) ∙ ap (λ l. get_or l 0 0) (sym p.filtered.rest) ∙ get_or-drop at ys 0 0 ∙ ap (λ k. get_or ys k 0) e
 
-    -- a block that stood no later, and isn't what stands here, stood before
+    -- a block whose turn is no later, and that isn't the one at this turn, has an earlier turn
     stood_before : (b : ℕ) → b < n → get_or us b 0 < at + 1 → get_or ys at 0 ≢ b → get_or us b 0 < at
     stood_before b low before ne = by (cases_eq (get_or us b 0) at)
       where

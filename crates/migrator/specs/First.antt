@@ -11,12 +11,12 @@ pub record IsLowest (P : ℕ → Type 0) (n : ℕ) : Type 0 where
   pub holds : P n
   pub least : (m : ℕ) → P m → n ≤ m
 
--- the same, or none where none is so
+-- the lowest number that has the property P, or none where none has it
 abbrev pub IsFirst : (ℕ → Type 0) → Option ℕ → Type 0
 IsFirst P None = (n : ℕ) → P n → ⊥
 IsFirst P (Some n) = IsLowest P n
 
--- a free slot of the write group where the log goes on, and a free one of a group that can be begun anew
+-- a free slot of the write group where the log goes on, and a free one of a group where the log can start over
 abbrev pub IsFreeBehind : End → Groups → (ℕ → ℕ) → (ℕ → Type 0) → ℕ → Type 0
 IsFreeBehind end groups keys free slot = IsBehind end groups keys slot × free slot
 

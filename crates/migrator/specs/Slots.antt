@@ -52,7 +52,7 @@ pub record IsFresh (end : End) (groups : Groups) (keys : ℕ → ℕ) (slot : �
   pub other : end.group ≢ Some (slot / 128)
   pub idle : IsIdle groups keys (slot / 128)
 
--- where the log goes on: in the write group first, and then in all groups that can be begun anew
+-- where the log goes on: in the write group first, and then in all groups where it can start over
 abbrev pub AreAppendSlots : End → Groups → (ℕ → ℕ) → List ℕ → Type 0
 AreAppendSlots end groups keys slots =
     (own fresh : List ℕ) × (slots ≡ own ++ fresh) × Lists (IsBehind end groups keys) own × Lists (IsFresh end groups keys) fresh

@@ -97,7 +97,7 @@ fn slots_behind<L: Live>(
     )
 }
 
-// The slots of the groups that can be begun anew.
+// The slots of the groups where the log can start over.
 fn fresh_slots<L: Live>(
     alloc: Global,
     end: &LogEnd,

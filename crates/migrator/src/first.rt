@@ -21,7 +21,7 @@ pub trait Free {
         ensures { IsTrue result ↔ free self.now slot };
 }
 
-/// The first free slot of those where the log goes on. It takes no memory.
+/// The first free slot of those where the log goes on. It allocates nothing.
 pub fn first_append<L: Live, F: Free>(
     end: &LogEnd,
     groups: &GroupTable,
@@ -62,7 +62,7 @@ fn first_behind<L: Live, F: Free>(
     }
 }
 
-/// The lowest free slot of mirrored groups. It takes no memory.
+/// The lowest free slot of mirrored groups. It allocates nothing.
 pub fn first_mirror<F: Free>(groups: &GroupTable, free: &F) -> Option<u16>
     ensures { IsFirst (λ slot. IsSlotOf Mirrored groups.now slot × F.free free.now slot) result }
 {

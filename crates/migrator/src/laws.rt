@@ -12,11 +12,11 @@ pub fn age_law()
     // The law is the contract: there is nothing to do.
 }
 
-/// The oldest of the marked blocks is the oldest of the mirrored ones, where just these are marked.
+/// The oldest of the marked blocks is the oldest of the mirrored ones, where exactly these are marked.
 pub fn mark_law()
     ensures { (order : List ℕ) (groups : Groups) (keys : ℕ → ℕ) (marks : List Bool) (chosen : Option ℕ)
         → ((b : ℕ) → IsMarked marks b ↔ IsMirrored groups keys b)
         → IsOldest order (IsMarked marks) chosen → IsOldest order (IsMirrored groups keys) chosen }
 {
-    // As above.
+    // The law is the contract: there is nothing to do.
 }

@@ -1,4 +1,4 @@
-//! Which blocks were written longest ago, which of them goes down next, and where the write log goes on.
+//! Which blocks were written longest ago, which of them is demoted next, and where the write log goes on.
 #![tactic(auto)]
 
 mod append;

@@ -32,7 +32,7 @@ impl LogEnd {
         }
     }
 
-    /// A slot was appended: the log goes on behind it.
+    /// A slot was appended: the log goes on after it.
     pub fn appended(&mut self, slot: u16)
         ensures { self.new ≡ end_at slot }
     {

@@ -1,4 +1,4 @@
-// The order of last writes in two tables: which block stands at each turn, and at which turn each block stands.
+// The order of last writes in two tables: which block is at each turn, and at which turn each block is.
 ghost use Rattle.std.specs.Prelude.{◌≡◌, ℕ, ◌*◌, ◌<◌, ◌≤◌, false, length, IfOk, slice_index};
 ghost use Rattle.migrator.specs.Ages.{by_number, written};
 ghost use Rattle.migrator.specs.Inside.{in_order, KeepsFront};
@@ -12,9 +12,9 @@ pub(crate) struct Turns {
     blocks: u32,
     // At each turn a block, or a gap: a number that is no block's.
     numbers: Vec<u32>,
-    // For each block the turn at which it stands.
+    // The turn of each block.
     turns: Vec<u32>,
-    // How many turns are used. What the numbers behind them are says nothing.
+    // How many turns are used. The numbers after them have no meaning.
     len: usize,
 }
 
@@ -51,14 +51,14 @@ impl Turns {
         self.blocks
     }
 
-    /// What stands at each turn.
+    /// The number at each turn.
     pub(crate) fn as_slice(&self) -> &[u32]
         ensures { result.now ≡ self.now.kept }
     {
         &self.numbers[..self.len]
     }
 
-    /// The turn at which a block stands.
+    /// The turn of a block.
     pub(crate) fn turn_of(&self, block: u32) -> usize
         requires { block < length (in_order self.now) }
         ensures within { result < length self.now.kept }
@@ -67,7 +67,8 @@ impl Turns {
         self.turns[block as usize] as usize
     }
 
-    /// A block is written: it is the last from now on. Tells whether all gaps were taken out for it. Takes no memory, and constant time on the average.
+    /// A block is written: it is the last in the order. Returns whether all gaps were taken out for it. Allocates nothing, and
+    /// takes constant time on the average.
     pub(crate) fn wrote(&mut self, block: u32) -> bool
         requires { block < length (in_order self.old) }
         ensures order { in_order self.new ≡ written (in_order self.old) block }
@@ -79,7 +80,7 @@ impl Turns {
         packed
     }
 
-    // Takes all gaps out where there is no room for one more, and tells whether it did.
+    // Takes all gaps out if there is no room for one more, and returns whether it did.
     fn make_room(&mut self) -> bool
         requires { 0 < length (in_order self.old) }
         ensures order { in_order self.new ≡ in_order self.old }

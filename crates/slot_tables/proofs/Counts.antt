@@ -31,7 +31,7 @@ pub below_next : (kept : List Kept) (group index : ℕ) → newest_below kept gr
 unfolding newest_below
 below_next kept group index = refl
 
--- of so many slots no more than so many are newest places
+-- of the first `index` slots at most `index` are newest places
 pub no_more : (kept : List Kept) (group index : ℕ) → newest_below kept group index ≤ index
 no_more kept group zero = let none = below_none kept group in omega (arith, none)
 no_more kept group (suc index) =

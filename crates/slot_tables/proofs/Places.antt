@@ -143,12 +143,12 @@ all_same_more [] d all (suc k) = refl
 all_same_more (x ∷ xs) d all zero = all zero
 all_same_more (x ∷ xs) d all (suc k) = all_same_more xs d (λ j. all (suc j)) k
 
--- the last of two changes at one place stands
+-- of two changes at one place the last is kept
 pub set_twice : {X : Type 0} (xs : List X) (s : ℕ) (x y : X) → set (set xs s x) s y ≡ set xs s y
 set_twice [] s x y = refl
 set_twice (z ∷ xs) zero x y = refl
 set_twice (z ∷ xs) (suc s) x y = ap (λ t. z ∷ t) (set_twice xs s x y)
 
--- a place of a list is the same whatever stands past its end
+-- a place of a list is the same with any default past its end
 pub get_or_any : {X : Type 0} (xs : List X) (i : ℕ) (d e : X) → i < length xs → get_or xs i d ≡ get_or xs i e
 get_or_any xs i d e inside = same_Some _ _ (sym (slice_get-get_or xs i d inside) ∙ slice_get-get_or xs i e inside)

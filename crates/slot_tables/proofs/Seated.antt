@@ -301,7 +301,7 @@ pub seats_end : {C : Type 0} (names : C → ℕ) (all : List C) (wanted : List (
 seats_end names all wanted [] now kept others none seated = seated
 seats_end names all wanted (c ∷ left) now kept others none seated = absurd (omega (arith, none))
 
--- what was done with a claim, by whether it was given back
+-- what was done with a claim, by whether it was returned
 pub record IsSeated {C : Type 0} (here : ℕ) (claim : C) (result : Option C) (now later : List (Option ℕ)) (kept after : List Kept) : Type 0 where
   pub seated : (b : ℕ) → wanted_at now here ≡ Some b → (result ≡ None) × (later ≡ set now here None) × (after ≡ set kept here (Newest b))
   pub left : wanted_at now here ≡ None → (result ≡ Some claim) × (later ≡ now) × (after ≡ kept)

@@ -130,7 +130,7 @@ emptied_more old now g i low inside all slot = go (next_of g i slot low)
     go (inl y) = ap (hand_at (set now (128 * g + i) Empty)) y.is ∙ get_or-set_same now (128 * g + i) Empty Empty inside ∙ sym (ap (λ b. cond b Empty (hand_at old slot)) y.now)
     go (inr y) = get_or-set_other now (128 * g + i) slot Empty Empty y.not ∙ all slot ∙ sym (ap (λ b. cond b Empty (hand_at old slot)) y.same)
 
--- claims of an unmade number's first slots that were taken out: those and what is kept still are what was kept
+-- claims of a dissolved number's first slots that were taken out: together with what is kept after it, they are what was kept before
 pub record IsOpening {C : Type 0} (names : C → ℕ) (g i : ℕ) (old now : List Kept) (claims : List C) : Type 0 where
   pub many : length now ≡ length old
   pub here : (slot : ℕ) → is_first g i slot ≡ true → get_or now slot Nothing ≡ opened_of (get_or old slot Nothing)
@@ -282,7 +282,7 @@ all_taken names g old now claims done slot = go (is_first g 128 slot) refl
         let z = none_shut (get_or now slot Nothing) ne in
         omega (arith, y, z)
 
--- claims on their way into the places of an unmade group
+-- claims on their way into the places of a dissolved group
 pub record AreClosing {C : Type 0} (names : C → ℕ) (all left : List C) (old now : List Kept) : Type 0 where
   pub most : (slot : ℕ) → how_many names left slot ≤ how_many names all slot
   pub waits : (slot : ℕ) → 0 < how_many names left slot → get_or now slot Nothing ≡ Nothing
@@ -540,7 +540,7 @@ can_unmake {C} names a g claims made known given = record {
         let most = known slot in
         omega (arith, none, most)
 
--- the places of an unmade group's slots are closed
+-- the places of a dissolved group's slots are closed
 pub closed_number : {C : Type 0} (names : C → ℕ) (a : ArrayView) (g : ℕ) (claims : List C) (old new : List Kept) → CanUnmake names a g claims → length new ≡ length old
     → ((slot : ℕ) → get_or new slot Nothing ≡ closed_of (how_many names claims slot) (get_or old slot Nothing)) → IsClosed g (count_in a g) old new
 closed_number {C} names a g claims old new can many closed = record {

@@ -77,13 +77,13 @@ pub record IsKey (key : ℕ) : Type 0 where
   pub least : 0 < key → 2 ^ 32 ≤ key
   pub most : key < 2 ^ 64
 
--- keys of so many blocks by a map
+-- the keys of the first `blocks` blocks in a map
 pub record AreKeys (blocks : ℕ) (M : ℕ → ℕ) (keys : List ℕ) : Type 0 where
   pub many : length keys ≡ blocks
   pub same : (b : ℕ) → b < blocks → slice_index keys b ≡ M b
   pub told : (b : ℕ) → b < blocks → IsKey (M b)
 
--- buffers for units of that many bytes, so many places that are free, and room for so many claims
+-- buffers for units of that many bytes, `slots` places that are free, and room for `count` claims
 pub record HasRoom {C : Type 0} (bytes slots count : ℕ) (room : Room C) : Type 0 where
   pub unit : length room.unit.items ≡ bytes
   pub scratch : length room.scratch.items ≡ 2 * bytes
@@ -111,7 +111,7 @@ pub record AreReady {C : Type 0} (names : C → ℕ) (groups : Groups) (M : ℕ 
 abbrev pub IsIdle : Flat → Type 0
 IsIdle F = (s w : ℕ) → (F.held s (Worker w) ≡ false) × (F.held s (Ticket w) ≡ false)
 
--- the world stands for the state F made anew with this map
+-- the world represents the state F restarted with this map
 pub record WasRestarted (F : Flat) (M : ℕ → ℕ) (w : WorldView) : Type 0 where
   pub log : IsListOf M w.array.log
   pub stands : Represents w (restarted F M w.array.log)

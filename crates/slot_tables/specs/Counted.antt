@@ -1,4 +1,4 @@
--- How many of each group's slots are newest places, as the array keeps it beside its places.
+-- How many of each group's slots are newest places, as the array keeps it next to its places.
 use Rattle.std.specs.Prelude.{◌≡◌, ℕ, zero, suc, ◌+◌, ◌*◌, ◌<◌, Bool, true, false, if◌then◌else◌, List, length, slice_index, slice_index_or}
 use Rattle.array_model.specs.Views.{Kept, Nothing, Pending, Moving, Newest, Unmade}
 
@@ -14,7 +14,7 @@ is_newest Unmade = false
 abbrev pub newest_in : Kept → ℕ
 newest_in kept = if is_newest kept then 1 else 0
 
--- how many of a group's first so many slots are newest places
+-- how many of the first `index` slots of a group are newest places
 unfoldable pub newest_below : List Kept → ℕ → ℕ → ℕ
 newest_below kept group zero = 0
 newest_below kept group (suc index) = newest_below kept group index + newest_in (slice_index_or kept (128 * group + index) Nothing)

@@ -29,7 +29,7 @@ AreOf names places = (slot : ℕ) → slot < length places → IsOf names slot (
 unfoldable pub kepts_of : {C : Type 0} → List (Place C) → List Kept
 kepts_of places = map kept_of places ++ replicate (65536 - length places) Nothing
 
--- so many places are enough for the slots of each group that is made, and no more than there are slots
+-- that many places are enough for the slots of each group that is made, and no more than there are slots
 pub record HavePlaces (groups : Groups) (places : ℕ) : Type 0 where
   pub made : (group : ℕ) → group_at groups group ≢ None → 128 * group + 128 ≤ places
   pub most : places ≤ 65536

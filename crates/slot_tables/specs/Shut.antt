@@ -10,7 +10,7 @@ use Rattle.array_model.specs.Views.{Kept, Nothing, Unmade, ArrayView, kept_at, h
 use Rattle.array_model.specs.Represents.{is_shut, is_claim}
 use Rattle.slot_tables.specs.Adopted.{how_many}
 
--- how many claims are of a slot in a list of one for each of a group's first slots, so many
+-- how many claims are of a slot in a list of one for each of the first `count` slots of a group
 abbrev pub one_of : ℕ → ℕ → ℕ → ℕ
 one_of g count slot = if (slot / 128 == g) && nat_lt (slot % 128) count then 1 else 0
 
@@ -18,11 +18,11 @@ one_of g count slot = if (slot / 128 == g) && nat_lt (slot % 128) count then 1 e
 abbrev pub count_in : ArrayView → ℕ → ℕ
 count_in a g = slots_in a.parts.groups.segments (group_at a.parts.groups g)
 
--- how many claims are kept of a slot for the number of an unmade group
+-- how many claims are kept of a slot for the number of a dissolved group
 abbrev pub shut_of : ℕ → ℕ → Kept → ℕ
 shut_of g slot kept = if is_shut kept slot g then 1 else 0
 
--- what is kept of a slot after so many claims of it were taken in as an unmade group's
+-- what is kept of a slot after n claims of it were taken in as a dissolved group's
 abbrev pub closed_of : ℕ → Kept → Kept
 closed_of zero kept = kept
 closed_of (suc n) kept = Unmade
@@ -54,23 +54,23 @@ pub record IsFirstUngiven {C : Type 0} (names : C → ℕ) (a : ArrayView) (g : 
   pub not_given : IsGiven names a claims slot → ⊥
   pub below : (other : ℕ) → other < slot → 0 < one_of g (count_in a g) other → IsGiven names a claims other
 
--- why a group can't be unmade with these claims
+-- why a group can't be dissolved with these claims
 abbrev pub IsUnmakeReason : {C : Type 0} → (C → ℕ) → ArrayView → ℕ → List C → Refusal → Type 0
 IsUnmakeReason names a g claims NoGroup = (group_at a.parts.groups g ≡ None) ⊎ (HasStranger names a g claims)
 IsUnmakeReason names a g claims (SlotsHeld slot) = IsFirstUngiven names a g claims slot
 IsUnmakeReason names a g claims _ = ⊥
 
--- the claims are just those that a worker has of a group's slots, where it is made
+-- the claims are exactly those that a worker has of a group's slots, where it is made
 abbrev pub AreWorkers : {C : Type 0} → (C → ℕ) → Flat → ℕ → ℕ → List C → Type 0
 AreWorkers names F w g claims = group_at F.groups g ≢ None → (slot : ℕ)
     → how_many names claims slot ≡ (if F.held slot (Worker w) then one_of g (slots_in F.groups.segments (group_at F.groups g)) slot else 0)
 
--- the lowest of a group's first slots, so many, of which the worker has no claim in hand
+-- the lowest of the first `count` slots of a group of which the worker has no claim in hand
 pub record IsFirstNotHeld (hands : List Hand) (w g count slot : ℕ) : Type 0 where
   pub is : 0 < one_of g count slot
   pub not_held : is_claim (hand_at hands slot) w ≡ false
   pub below : (other : ℕ) → other < slot → 0 < one_of g count other → is_claim (hand_at hands other) w ≡ true
 
--- what is in hand of a slot after a group's first slots, so many, were given away
+-- what is in hand of a slot after the first `count` slots of a group were given away
 abbrev pub emptied : ℕ → ℕ → ℕ → Hand → Hand
 emptied g count slot hand = if (slot / 128 == g) && nat_lt (slot % 128) count then Empty else hand

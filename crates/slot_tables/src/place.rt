@@ -97,8 +97,9 @@ pub fn take_waiting<C: Hold>(places: &mut Vec<Place<C>>, slot: u16) -> C
     }
 }
 
-// Makes places for the slots of all groups up to this one. Where memory is refused, those that there were stand. Room is made for
-// twice as many as there are, but for no more than there are slots.
+// Makes places for the slots of all groups up to this one. If an allocation fails, the places that there were stay. Room is
+// made for twice as many as there are, but for no more than there are slots. So growing group by group copies each place a
+// constant number of times on average.
 pub fn grow_to<C: Hold>(places: &mut Vec<Place<C>>, group: u16) -> Result<(), AllocError>
     requires group { group < 512 }
     requires most { vec_len places.old ≤ 65536 }
@@ -121,7 +122,7 @@ pub fn grow_to<C: Hold>(places: &mut Vec<Place<C>>, group: u16) -> Result<(), Al
     Ok(())
 }
 
-// For how many places room is made where there are some and so many are wanted.
+// For how many places room is made, where `there` are there and `count` are needed.
 fn room_for(count: usize, there: usize) -> usize
     requires { count ≤ 65536 }
     ensures enough { count ≤ result }

@@ -44,7 +44,7 @@ pub struct Ready<C: Hold> {
     pub room: Room<C>,
 }
 
-// The key of each of so many blocks.
+// The key of each of `blocks` blocks.
 fn keys_of(alloc: Global, blocks: u32, map: &BlockMap) -> Result<Vec<u64>, AllocError>
     ensures { IfOk result (λ keys. AreKeys blocks (at map.now) keys.items) }
 {
@@ -61,7 +61,7 @@ fn keys_of(alloc: Global, blocks: u32, map: &BlockMap) -> Result<Vec<u64>, Alloc
 fn places_for(groups: &GroupTable) -> usize
     ensures { HavePlaces groups.now result }
 {
-    // That the table has 512 numbers is told with the members of any.
+    // A lookup of any group's members shows that the table has 512 numbers.
     let _members = groups.members(0);
     let mut places = 0;
     for group in 0..GROUPS as u16 {

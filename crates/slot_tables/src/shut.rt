@@ -10,7 +10,7 @@ use crate::hold::Hold;
 use crate::place::{Place, place_at, put_in, take_out};
 use extent_groups::SLOTS;
 
-// The claim that is kept of a slot for an unmade group, if there is one.
+// The claim that is kept of a slot for a dissolved group, if there is one.
 fn open_slot<C: Hold>(places: &mut Vec<Place<C>>, slot: u16) -> Option<C>
     requires claims { AreOf C.names places.old.items }
     ensures opened { kepts_of places.new.items ≡ slice_set (kepts_of places.old.items) slot (opened_of (slice_index_or (kepts_of places.old.items) slot Nothing)) }
@@ -71,8 +71,7 @@ pub fn close_all<C: Hold>(places: &mut Vec<Place<C>>, mut claims: Vec<C>)
     claims.destroy_empty();
 }
 
-// Which of a group's first slots, so many, have a claim among these; none where a claim is of no such slot,
-// or is the second of one.
+// Which of the first `count` slots of a group have a claim among these; none if a claim is of no such slot, or is the second of one.
 pub fn marked<C: Hold>(group: u16, count: u16, claims: &[C]) -> Option<[bool; 128]>
     ensures known { IfSome result (λ marks. (slot : ℕ) → how_many C.names claims.now slot ≤ one_of group count slot) }
     ensures each { IfSome result (λ marks. (slot : ℕ) → slot / 128 ≡ group → slice_index_or marks (slot % 128) true ≡ nat_lt 0 (how_many C.names claims.now slot)) }

@@ -12,7 +12,7 @@ use Rattle.slot_words.proofs.Timed.{timed_more, timed_same, timed_both, timed_pa
 use Rattle.slot_words.proofs.Shared.{shared_more, shared_both, shared_parts, shared_halves}
 use Rattle.slot_words.proofs.Winning.{won_moved, won_still}
 
--- each pair of the new views stands in the old ones, by a relation that is one to one
+-- each pair of the new views is in the old ones, by a relation that is one to one
 pub rearranged : (T : ℕ → ℕ → ℕ → ℕ → Type 0) (n : ℕ) (ws : List ℕ) (vs us : List View) → ClaimRule n ws vs
     → ((s k : ℕ) (p : Held) → Stands us s k p → (a : ℕ) × (b : ℕ) × T s k a b × Stands vs a b p)
     → ((s k t l a b : ℕ) → T s k a b → T t l a b → (s ≡ t) × (k ≡ l)) → IsWon n ws us → IsTimed ws us → IsShared us → ClaimRule n ws us

@@ -26,11 +26,11 @@ module _ {A : Type 0} where
   at_behind (x ∷ xs) m j a e = let same : suc (length xs + j) ≡ length (x ∷ xs) + j = omega arith in
       subst (λ (i : ℕ). get_elem? (x ∷ (xs ++ m)) i ≡ some a) same (at_behind xs m j a e)
 
-  -- nothing stands in an empty list
+  -- an empty list has no element at any place
   pub nowhere : (l : List A) (i : ℕ) (a : A) → l ≡ [] → get_elem? l i ≡ some a → ⊥
   nowhere l i a e at = some-ne-none a (sym (subst (λ (k : List A). get_elem? k i ≡ some a) e at))
 
-  -- in a list of one, an element is that one, and stands first
+  -- in a list of one, an element is that one, and has place 0
   pub alone : (l : List A) (i : ℕ) (a b : A) → l ≡ a ∷ [] → get_elem? l i ≡ some b → (i ≡ 0) × (a ≡ b)
   alone l i a b e at = one i a b (subst (λ (k : List A). get_elem? k i ≡ some b) e at)
     where

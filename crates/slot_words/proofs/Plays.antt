@@ -1,4 +1,4 @@
--- Each kind of step keeps the rule and tells what it is said to tell.
+-- Each kind of step keeps the rule, and what its definition says of it holds.
 use Rattle.std.proofs.Common.{◌≡◌, ℕ, ◌+◌, ◌*◌, ◌^◌, ◌<◌, ◌≤◌, List, [], ◌∷◌, ◌++◌, ◌∙◌, replicate, length, set, get_or, Contains, inl, Bool, true, false, eqb, sym, refl, ap, subst, arith}
 use Rattle.std.proofs.lemmas.List.{set-get_or, get_or-replicate, get_or_past, length-replicate}
 use Rattle.std.proofs.lemmas.Bool.Decides.{nat_tests}

@@ -1,4 +1,4 @@
--- Where pairs stand, after one seat's view changed, after a seat came, and after two seats became one.
+-- Where pairs are, after one seat's view changed, after a seat came, and after two seats became one.
 use Rattle.std.proofs.Common.{◌≡◌, ℕ, ◌+◌, ◌<◌, ◌≢◌, ◌⊎◌, List, [], ◌∷◌, ◌++◌, length, set, sym, refl, ap, ◌∙◌, inl, inr, ⊎_elim, subst, arith}
 use Rattle.atomic_table.proofs.Lists.{at_set, set_here, set_else, at_longer}
 use mathlib.Core.Option.{some, some-injective}
@@ -18,7 +18,7 @@ pub glued_once : (id other long s k t l a b : ℕ) → other ≢ id → Glued id
 glued_once id other long s k t l a b differ i j = grind arith
 
 module _ (part : View → List Held) where
-  -- a pair stands in the changed view, or where it stood
+  -- a pair is in the changed view, or where it was
   pub stands_set : (vs : List View) (id : ℕ) (w : View) (s k : ℕ) (p : Held) → StandsIn part (set vs id w) s k p
       → ((s ≡ id) × (get_elem? (part w) k ≡ some p)) ⊎ ((s ≢ id) × StandsIn part vs s k p)
   stands_set vs id w s k p st = ⊎_elim
@@ -26,7 +26,7 @@ module _ (part : View → List Held) where
       (λ (h : (s ≢ id) × (get_elem? vs s ≡ some st.0)). inr (h.0, (st.0, h.1, st.2)))
       (at_set vs id s w st.0 st.1)
 
-  -- where the changed view has the same pairs, each stood where it stands
+  -- where the changed view has the same pairs, each was where it is
   pub stands_again : (vs : List View) (id : ℕ) (v w : View) → get_elem? vs id ≡ some v → part w ≡ part v → (s k : ℕ) (p : Held) → StandsIn part (set vs id w) s k p → StandsIn part vs s k p
   stands_again vs id v w here same s k p st = ⊎_elim
       (λ (h : (s ≡ id) × (get_elem? (part w) k ≡ some p)).
@@ -34,7 +34,7 @@ module _ (part : View → List Held) where
       (λ (h : (s ≢ id) × StandsIn part vs s k p). h.1)
       (stands_set vs id w s k p st)
 
-  -- where the changed view begins with its pairs, what stood still stands
+  -- where the changed view begins with its pairs, each pair is where it was
   pub still_stands : (vs : List View) (id : ℕ) (v w : View) (more : List Held) → get_elem? vs id ≡ some v → part w ≡ part v ++ more
       → (s k : ℕ) (p : Held) → StandsIn part vs s k p → StandsIn part (set vs id w) s k p
   still_stands vs id v w more here is s k p st = dite (ℕ_discrete s id)

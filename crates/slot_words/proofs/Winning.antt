@@ -12,7 +12,7 @@ use Rattle.slot_words.specs.ClaimRule.{held, Won, generation_at, IsWon}
 use Rattle.slot_words.proofs.Lists.{at_inside, at_append, alone}
 use Rattle.slot_words.proofs.Views.{stands_set, still_stands}
 
--- no generation changes, and each pair of the new views stands in the old ones, by a relation that is one to one, and none is lost
+-- no generation changes, and each pair of the new views is in the old ones, by a relation that is one to one, and none is lost
 pub won_moved : (T : ℕ → ℕ → ℕ → ℕ → Type 0) (n : ℕ) (ws us : List ℕ) (vs xs : List View) → IsWon n ws vs → ((slot : ℕ) → generation_at us slot ≡ generation_at ws slot)
     → ((slot : ℕ) → 0 < get_or us (word_of slot) 0 → 0 < get_or ws (word_of slot) 0)
     → ((s k : ℕ) (p : Held) → Won xs s k p → (a : ℕ) × (b : ℕ) × T s k a b × Won vs a b p)
@@ -32,7 +32,7 @@ won_moved T n ws us vs xs won same rose from single to = record {
       single s k t l g.0 g.1 (subst (λ (a : ℕ). T s k a g.1) is.0 (subst (λ (b : ℕ). T s k f.0 b) is.1 f.2)) g.2;
 }
 
--- no generation changes, and each pair stands where it stood
+-- no generation changes, and each pair is where it was
 pub won_still : (n : ℕ) (ws us : List ℕ) (vs xs : List View) → IsWon n ws vs → ((slot : ℕ) → generation_at us slot ≡ generation_at ws slot)
     → ((slot : ℕ) → 0 < get_or us (word_of slot) 0 → 0 < get_or ws (word_of slot) 0)
     → ((s k : ℕ) (p : Held) → Won xs s k p → Won vs s k p) → ((s k : ℕ) (p : Held) → Won vs s k p → Won xs s k p) → IsWon n us xs

@@ -59,7 +59,7 @@ abbrev pub weight : ℕ → List ℕ → ℕ
 weight n [] = 0
 weight n (k ∷ ks) = 2 ^ (n - k) + weight n ks
 
--- the pair p stands in this list of this seat's view, at this place
+-- the pair p is in this list of this seat's view, at this place
 abbrev pub StandsIn : (View → List Held) → List View → ℕ → ℕ → Held → Type 0
 StandsIn part views seat place p = (v : View) × (get_elem? views seat ≡ some v) × (get_elem? (part v) place ≡ some p)
 
@@ -108,7 +108,7 @@ IsMove Store found left = (found % 2 ≡ 1) × (found ≡ left + 1)
 
 -- All steps have one order: each has a number up to how many there were, and some step has the last one. Each found exactly
 -- what the one before it at its place had left, 0 at first, and did what its kind does; and what the last one left there
--- still stands. No seat's last step has a number above the last.
+-- is still there. No seat's last step has a number above the last.
 pub record IsTimed (words : List ℕ) (views : List View) : Type 0 where
   pub past : (s : Sight) → MadeBy views s → s.time ≤ steps views
   pub latest : 0 < steps views → (s : Sight) × MadeBy views s × (s.time ≡ steps views)

@@ -1,4 +1,4 @@
-// The rule of the table, and what each kind of step tells.
+// The rule of the table, and what holds for each kind of step.
 ghost use Rattle.slot_words.specs.ClaimRule.{blank, opening, ClaimRule};
 ghost use Rattle.slot_words.specs.Steps.{Sat, Looked, Taken, Freed, Differed, both_pairs, pair_part, step_part, kept_half, given_half};
 

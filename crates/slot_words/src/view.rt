@@ -28,7 +28,7 @@ pub struct Sight {
 }
 
 /// The seat's last look, its last step of any kind, all that it made, the pairs that it has, and those that it ever won;
-/// and its shares of the right to step, each the whole right halved so many times.
+/// and its shares of the right to step, each given as how often the whole right was halved.
 pub struct View {
     pub look: Sight,
     pub sight: Sight,

@@ -69,7 +69,7 @@ impl TableRefusal {
 }
 
 impl SlotWords<Brand> {
-    /// A table of so many slots, all free at generation 0, without a name. It alone takes memory.
+    /// A table of `slots` slots, all free at generation 0, without a name. No other call allocates.
     pub fn new(alloc: Global, slots: u32) -> Result<Unnamed, TableRefusal>
         ensures { IfOk result (λ table. slots_of table ≡ slots) }
     {
@@ -153,7 +153,7 @@ impl<N: Naming> SlotWords<N> {
         self.exchange(&mut pass.seat, slot, seen)
     }
 
-    // Where the exchange wins the claim gets the seat, and another that remembers its steps stands in its place.
+    // Where the exchange wins, the claim gets the seat, and another seat that remembers its steps takes its place.
     fn exchange(&self, seat: &mut Sitting, slot: u16, seen: u64) -> Result<Claim<N>, ClaimRefusal>
         requires slot { slot < slots_of N.table }
         requires free { seen % 2 ≡ 0 }

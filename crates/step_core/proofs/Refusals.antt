@@ -1,4 +1,4 @@
--- What a world's step tells, whether its array carried it out or refused it.
+-- What a world's step answers, whether its array carried it out or refused it.
 use Rattle.std.proofs.Common.{◌≡◌, ◌≢◌, ℕ, List, [], refl, sym, ap, ◌∙◌, subst, inl, inr, Option, Some, None, Vec, Result, Ok, Err, IfOk, IfErr, OnErr, MatchResult}
 use Rattle.std.specs.Global.{Global}
 use Rattle.std.specs.declared.alloc.AllocError.{AllocError}
@@ -25,7 +25,7 @@ use Rattle.array_core.specs.Refused.{IsRefused, OnlyLoses}
 use Rattle.step_core.specs.Told.{flat_answer, read_answer}
 use Rattle.step_core.proofs.Worlds.{stays_world, refused_world}
 
--- what a refusal means, where it is not for want of memory, and where it is
+-- what a refusal means, if it is not out of memory, and if it is
 refused_of : (r : Refusal) (W P : Type 0) → MayRefuse r W P → r ≢ Memory → P
 refused_of Memory W P may ne = absurd (ne refl)
 refused_of _ W P may ne = may
@@ -46,11 +46,12 @@ refused_sizes a b (Gone slot) is = loses_sizes a b is
 refused_sizes a b (DriveLost drive) is = loses_sizes a b is
 refused_sizes a b _ is = same_sizes a b (ap (λ (x : ArrayView). x.parts.groups) is)
 
--- a call that wants memory did nothing
+-- a call that runs out of memory did nothing
 pub refused_same : (a b : ArrayView) (r : Refusal) → IsRefused a b r → r ≡ Memory → b ≡ a
 refused_same a b r is memory = subst (IsRefused a b) memory is
 
--- what the contract of a world's step tells: its answer is the flat machine's, without one it wanted memory and did nothing, and the sizes stay
+-- what the contract of a world's step says: its answer is the flat machine's, without one it ran out of memory and did nothing,
+-- and the sizes stay
 pub record WasStep (v w : WorldView) (step : FlatStep) (result : Result Answer AllocError) : Type 0 where
   pub ok : IfOk result (λ answer. (F : Flat) → Represents v F → (G : Flat) × (Case F step (flat_answer answer) G) × (Represents w G))
   pub err : OnErr result (w ≡ v)

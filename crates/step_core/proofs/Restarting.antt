@@ -1,4 +1,4 @@
--- A world made anew stands for the state made anew.
+-- A restarted world represents the restarted state.
 use Rattle.std.proofs.Common.{◌≡◌, ℕ, true, List, refl, sym, ap, ◌∙◌, subst, arith}
 use Rattle.map_join.specs.Record.{record_of}
 use Rattle.map_join.specs.Maps.{IsMapOf, IsListOf}
@@ -30,7 +30,7 @@ idle_held F keys is idle = record {
     arrays s (Block b) h = for_block b
     arrays s (Shut g) h = for_shut g
 
--- an array that stands for such a state does so in a world with empty hands
+-- an array that represents such a state does so in a world with empty hands
 pub idle_world : (a : ArrayView) (hands : List Hand) (F : Flat) → ((s : ℕ) → hand_at hands s ≡ Empty) → ShowsArray a F → IsIdle F → Represents (record { array = a; hands = hands }) F
 idle_world a hands F empty shows idle = record {
   array = shows;
@@ -42,11 +42,11 @@ idle_world a hands F empty shows idle = record {
 own_map : (a : ArrayView) (F : Flat) (M : ℕ → ℕ) → ShowsArray a F → IsMapOf F.emitted M → key_at a ≡ M
 own_map a F M shows map = λ i b. map_unique F.emitted F.emitted (key_at a) M (λ r. ((λ h. h), λ h. h)) shows.history.map map b i
 
--- and the units tell it
+-- and the units have it
 pub tells_map : (a : ArrayView) (F : Flat) (M : ℕ → ℕ) → ShowsArray a F → IsMapOf F.emitted M → TellMap F.groups F.units M
 tells_map a F M shows map = subst (TellMap F.groups F.units) (own_map a F M shows map) (history_tells F (key_at a) shows.history)
 
--- an array that stands for a state has its parts
+-- an array that represents a state has its parts
 pub has_parts : (a : ArrayView) (F : Flat) → ShowsArray a F → HasParts a.parts F
 has_parts a F shows = record {
   groups = shows.tables.groups;
@@ -78,7 +78,7 @@ none_unclaimed {C} names claims a F M (NoClaim slot) shows map are is = absurd (
     go (Newest b) e n = let z = is.none in omega (arith, e, z)
     go Unmade e n = absurd (cc)
 
--- made anew of its own map a world stands for the state made anew
+-- restarted with its own map, a world represents the restarted state
 pub world_restarted : (v : WorldView) (F : Flat) (M : ℕ → ℕ) (a : ArrayView) (w : WorldView) → w.array ≡ a → IsListOf M a.log → ShowsArray a (restarted F M a.log)
     → ((G : Flat) → ShowsArray a G → IsIdle G → Represents w G) → WasRestarted F M w
 world_restarted v F M a w is log shows stands = record {

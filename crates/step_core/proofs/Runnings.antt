@@ -1,4 +1,4 @@
--- Runs that grow by a step, and what stands of every state that is represented.
+-- Runs that grow by a step, and what is true of every state that is represented.
 use Rattle.std.proofs.Common.{◌≡◌, ℕ, zero, suc, ◌+◌, ◌<◌, ◌≤◌, List, [], ◌∷◌, ◌++◌, length, take, get_or, map, All, refl, sym, ap, ◌∙◌, subst, arith}
 use Rattle.std.proofs.lemmas.List.{map_more, map-append}
 use Rattle.std.proofs.lemmas.List.Elements.{All-get_or}
@@ -14,7 +14,7 @@ use Rattle.step_core.specs.Headline.{TellingRun}
 use Rattle.flat_machine.specs.Flat.{Flat}
 use Rattle.array_model.specs.Views.{ArrayView, SameSizes}
 
--- a run through states whose groups stand
+-- a run through states whose groups are well formed
 abbrev pub StandingRun : Flat → List FlatStep → List FlatAnswer → Flat → Type 0
 StandingRun F steps answers G = (run : Runs F steps answers G) × AllStand F steps answers G run
 
@@ -29,7 +29,7 @@ run_more F M G (s ∷ steps) (a ∷ answers) step answer run case are =
     let rest = run_more run.0.0 M G steps answers step answer (run.0.2, run.1.1) case are in
     ((run.0.0, run.0.1, rest.0), (run.1.0, rest.1))
 
--- a run through such states tells no slot gone where no group ever misses two members
+-- no answer of a run through such states is the refusal Gone where no group ever misses two members
 pub telling : (F G : Flat) (steps : List FlatStep) (answers : List FlatAnswer) → StandingRun F steps answers G → TellingRun F steps answers G
 telling F G steps answers run = record { run = run.0; present = all_present F G steps answers run.0 run.1 }
 

@@ -1,4 +1,4 @@
--- What stands of every world that stands for a flat state.
+-- What is true of every world that represents a flat state.
 use Rattle.std.proofs.Common.{◌≡◌, ◌≢◌, ◌<◌, ◌≤◌, ◌^◌, ◌/◌, ◌%◌, ℕ, Bool, true, false, cond, nat_lt, length, refl, sym, ap, ◌∙◌, arith, ◌⊎◌, inl, inr, List, Option, Some, None}
 use Rattle.std.proofs.lemmas.Option.{same_Some}
 use Rattle.map_join.specs.declared.records.Record.{Record}
@@ -29,7 +29,7 @@ site_below segments (Some group) i some = go (nat_lt i (slot_count group.class (
     go true e = (site_in segments group.class group.members i, refl)
     go false e = absurd (e refl)
 
--- and unless it is gone the drives have its unit
+-- and unless it is lost the drives have its unit
 unit_here : (a : ArrayView) (s : ℕ) → IsWhole a → class_at a.parts.groups s ≢ None → (IsLost a.parts s → ⊥) → (bytes : List ℕ) × (bytes_of a.parts s ≡ Some bytes)
 unit_here a s whole some here = go (bytes_of a.parts s) refl
   where
@@ -61,7 +61,7 @@ lies_at a F b whole shows some =
           },
     )
 
--- where each group misses at most one member no slot is gone
+-- where each group misses at most one member no slot is lost
 all_here : (a : ArrayView) → IsWhole a → IsOneMissed a.parts → (slot : ℕ) → IsLost a.parts slot → ⊥
 all_here a whole most slot gone =
     never_gone a.parts.groups (lost_of a.parts) slot gone.0 whole.groups.table most gone.1 ((layout_law a.parts.groups whole.groups.table).whole slot gone.0 gone.1) gone.2
@@ -72,7 +72,7 @@ key_again b key = omega arith
 key_below : (r : Record) (key : ℕ) → r.place < 2 ^ 16 → stamp_of r < stamp_in key → key_of r ≤ key
 key_below r key place less = omega arith
 
--- what a header tells is at most the newest
+-- the key of a record in a header is at most the newest
 at_most : (a : ArrayView) (F : Flat) (slot : ℕ) (r : Record) → ShowsArray a F → HasHeader (bytes_of a.parts) slot r → key_of r ≤ key_at a r.block
 at_most a F slot r shows told =
     let u = shows.units.shown slot told.0 told.1 in
@@ -84,7 +84,7 @@ at_most a F slot r shows told =
     go place (inl e) = omega arith
     go place (inr less) = key_below r (key_at a r.block) place less
 
--- where no newest place is gone the headers tell the keys
+-- where no newest place is lost the headers have the keys
 pub headers_tell : (a : ArrayView) (F : Flat) → IsWhole a → ShowsArray a F → ((b : ℕ) → 0 < key_at a b → IsLost a.parts (record_of b (key_at a b)).place → ⊥)
     → IsScanned (bytes_of a.parts) (key_at a)
 headers_tell a F whole shows here = record {
@@ -98,7 +98,7 @@ headers_tell a F whole shows here = record {
 headers : (a : ArrayView) (F : Flat) → IsWhole a → ShowsArray a F → IsOneMissed a.parts → IsScanned (bytes_of a.parts) (key_at a)
 headers a F whole shows most = headers_tell a F whole shows (λ b some. all_here a whole most (record_of b (key_at a b)).place)
 
--- the map that headers tell is one
+-- headers have only one map
 scan_below : (bytes : ℕ → Option (List ℕ)) (M N : ℕ → ℕ) → IsScanned bytes M → IsScanned bytes N → (b : ℕ) → M b ≤ N b
 scan_below bytes M N is also b = go (sizes (M b))
   where
@@ -117,7 +117,7 @@ scan_below bytes M N is also b = go (sizes (M b))
 pub one_scan : (bytes : ℕ → Option (List ℕ)) (M N : ℕ → ℕ) → IsScanned bytes M → IsScanned bytes N → IsSame M N
 one_scan bytes M N is also b = let one = scan_below bytes M N is also b in let other = scan_below bytes N M also is b in omega arith
 
--- every state that a world stands for
+-- every state that a world represents
 pub stands : (w : WorldView) (F : Flat) → IsWhole w.array → Represents w F → Stands w F
 stands w F whole rep = record {
   once = rep.held.once;

@@ -129,7 +129,7 @@ discard_world v F w s a inside rep held t same z =
       },
     )
 
--- the state that a commit leaves, told by the newest record
+-- the state that a commit leaves, given by the newest record
 commit_leaves : (F G : Flat) (w s b : ℕ) (found : Option Record) (r : Record) → ((q : Record) → Contains F.emitted q → IsRecord q) → IsNewest F.emitted b found → CommitCase F w s b (Committed r) G
     → (writes : List Write) × (x : Content) × (Leaves (committed F w s b found writes x r) G)
 commit_leaves F G w s b found r all newest y =
@@ -207,7 +207,7 @@ and_true : (b : Bool) → (b && true) ≡ b
 and_true true = refl
 and_true false = refl
 
--- a world whose array has a group more stands for the state with it
+-- a world whose array has a group more represents the state with it
 pub make_world : (v : WorldView) (F : Flat) (class : Class) (members : List Member) (g : ℕ) (a : ArrayView) → Represents v F
     → (G : Flat) × (MakeCase F class members (MadeGroup g) G) × (ShowsArray a G)
     → (G : Flat) × (MakeCase F class members (MadeGroup g) G) × (Represents (record { array = a; hands = v.hands }) G)

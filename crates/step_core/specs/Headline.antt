@@ -1,6 +1,6 @@
--- What holds of every state that a run leaves: every map that took just the emitted records is the array's; where each group
--- misses at most one member it is the map that the headers tell, and no slot is gone; a read through it answers each block's
--- last write; and no slot has two holders.
+-- What holds of every state that a run leaves: every map that took exactly the emitted records is the array's; where each group
+-- misses at most one member it is the map of the headers, and no slot is lost; a read through it answers each block's last
+-- write; and no slot has two holders.
 use Rattle.std.specs.Prelude.{◌≡◌, ◌<◌, ℕ, List, All, Option, Some, None}
 use Rattle.map_join.specs.declared.records.Record.{Record}
 use Rattle.map_join.specs.Record.{record_of}
@@ -30,7 +30,7 @@ pub record LiesAt (v : PartsView) (r : Record) (x : Content) : Type 0 where
   pub content : content_in unit ≡ x
 
 -- reading through a key: where there is none the block was never written; else the drives have the content of its last write at
--- the place of the record that the key tells, under that record, unless this slot is gone
+-- the place of the record that has the key, under that record, unless this slot is lost
 abbrev pub ReadsThrough : PartsView → Flat → ℕ → ℕ → Type 0
 ReadsThrough v F b key = (key ≡ 0 → last_write F.writes b ≡ None)
     × (0 < key → (w : Write) × (last_write F.writes b ≡ Some w) × ((IsLost v (record_of b key).place → ⊥) → LiesAt v (record_of b key) w.content))
@@ -41,17 +41,17 @@ IsOneMissed v = MissAtMostOne v.groups (lost_of v)
 
 pub record Stands (w : WorldView) (F : Flat) : Type 0 where
   pub once : HeldOnce F
-  -- every map of just those records, in any order and with any repeats, is the running array's map
+  -- every map of exactly those records, in any order and with any repeats, is the running array's map
   pub map : IsMapOf F.emitted (key_at w.array)
   pub every : (records : List Record) (M : ℕ → ℕ) → HasSameRecords records F.emitted → IsMapOf records M → IsSame M (key_at w.array)
   pub read : (b : ℕ) → ReadsThrough w.array.parts F b (key_at w.array b)
-  -- where each group misses at most one member no slot is gone, and every map of the headers is the array's too
+  -- where each group misses at most one member no slot is lost, and every map of the headers is the array's too
   pub here : IsOneMissed w.array.parts → (slot : ℕ) → IsLost w.array.parts slot → ⊥
   pub scanned : IsOneMissed w.array.parts → (M : ℕ → ℕ) → IsScanned (bytes_of w.array.parts) M → IsSame M (key_at w.array)
   pub headers : IsOneMissed w.array.parts → IsScanned (bytes_of w.array.parts) (key_at w.array)
 
 -- the flat machine runs over the steps with these answers; and where no group misses two members in any state of the run, from
--- the first to the last, none of them tells a slot gone
+-- the first to the last, none of them is the refusal Gone
 pub record TellingRun (F : Flat) (steps : List FlatStep) (answers : List FlatAnswer) (G : Flat) : Type 0 where
   pub run : Runs F steps answers G
   pub present : NeverMissesTwo F steps answers G run → All TellsPresent answers

@@ -29,7 +29,7 @@ flat_answer (answer.Added d) = AddedDrive d
 flat_answer (answer.Lost d) = LostDrive d
 flat_answer (answer.Refused r) = Refused r
 
--- what a read into a buffer tells, as plain data
+-- what a read into a buffer returns, as plain data
 abbrev pub read_answer : Result (Option ℕ) Refusal → List ℕ → FlatAnswer
 read_answer (Ok found) bytes = Found (version_in found bytes)
 read_answer (Err refusal) bytes = Refused refusal

@@ -1,4 +1,4 @@
-// A world made of an array, its array taken out of it, and a world that is made anew.
+// A world made of an array, its array taken out of it, and a world that is restarted.
 ghost use Rattle.std.specs.Prelude.{◌≡◌, ℕ, List, length, IfOk, IfErr};
 ghost use Rattle.map_join.specs.declared.records.Record.{Record};
 ghost use Rattle.map_join.specs.Maps.{at, IsMapOf, IsListOf};
@@ -24,8 +24,8 @@ impl World {
         self.array
     }
 
-    /// A world of an array, in which no worker has anything in hand; nothing may be pending in it. Refused for want of memory it hands
-    /// the array back.
+    /// A world of an array, in which no worker has anything in hand; nothing may be pending in it. If out of memory, it returns
+    /// the array.
     pub fn of(alloc: Global, array: Array<MemDrive, Plain>) -> Result<World, Array<MemDrive, Plain>>
         ensures array { IfOk result (λ world. world.array ≡ array) }
         ensures hands { IfOk result (λ world. (s : ℕ) → hand_at world.hands s ≡ Hand.Empty) }
@@ -38,9 +38,9 @@ impl World {
         }
     }
 
-    /// The world made anew with a map of its headers: the map's list is the log, each block's newest place
-    /// is held and no other slot, and nothing is pending. It takes some 30 bytes for each slot number, about half
-    /// of it in place of the old tables; where they are refused the world is given up.
+    /// The world restarted with a map of its headers: the map's list is the log, each block's newest place is held and no other
+    /// slot, and nothing is pending. It allocates about 30 bytes for each slot number, about half of it in place of the old
+    /// tables. If an allocation fails, the world is dropped.
     pub fn restarted(self, alloc: Global, map: BlockMap) -> Result<World, NotAdopted>
         requires { HasPlaces self.array.parts.groups (at map) }
         ensures ok { IfOk result (λ world. (F : Flat) → Represents self F → IsMapOf F.emitted (at map) → WasRestarted F (at map) world) }

@@ -22,8 +22,7 @@ pub struct Run {
     pub answers: Vec<Answer>,
 }
 
-/// A run that stopped for want of memory: the step `at` changed nothing, and the answers are those of
-/// the steps before it.
+/// A run that stopped because it was out of memory: the step `at` changed nothing, and the answers are those of the steps before it.
 #[derive(Drop)]
 pub struct Stopped {
     pub world: World,
@@ -31,9 +30,9 @@ pub struct Stopped {
     pub at: usize,
 }
 
-/// What stands of every state that a world stands for: no slot has two holders; every map of just the
-/// emitted records is the running map, and where each group misses at most one member so is the map that
-/// the headers tell; and a read through it finds each block's last write on the drives.
+/// What is true of every state that a world represents: no slot has two holders; every map of exactly the emitted records is
+/// the running map, and where each group misses at most one member so is the map of the headers; and a read through it finds
+/// each block's last write on the drives.
 pub fn represented_stands()
     ensures { (world : WorldView) (F : Flat) → IsWhole world.array → Represents world F → Stands world F }
 {
@@ -84,7 +83,7 @@ impl World {
         }
     }
 
-    /// Carries out a step that fits. Only want of memory stops it, and then nothing has changed.
+    /// Carries out a step that fits. It fails only if out of memory, and then nothing has changed.
     pub fn step(&mut self, alloc: Global, step: &Step) -> Result<Answer, AllocError>
         requires { FitsStep self.old.array.parts.groups step.now }
         ensures ok { IfOk result (λ answer. (F : Flat) → Represents self.old F

@@ -48,7 +48,7 @@ pub enum Step {
         class: Class,
         members: Vec<Member>,
     },
-    /// The group whose slots the worker holds, all of them, is unmade.
+    /// The group whose slots the worker holds, all of them, is dissolved.
     Unmake {
         worker: u8,
         group: u16,
@@ -86,7 +86,7 @@ pub enum Answer {
     Found(At),
     /// The number of the group that was made.
     Made(u16),
-    /// The number of the group that was unmade.
+    /// The number of the group that was dissolved.
     Unmade(u16),
     /// The member is the other extent now.
     Shifted,
@@ -94,6 +94,6 @@ pub enum Answer {
     Added(u8),
     /// The drive is lost, also where it was before.
     Lost(u8),
-    /// Never for want of memory, which stops a run.
+    /// Never the refusal Memory: a step that is out of memory stops a run.
     Refused(Refusal),
 }

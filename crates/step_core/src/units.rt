@@ -1,4 +1,4 @@
-// A world has its array's units, for whoever scans them.
+// A world has its array's units, for any caller that scans them.
 ghost use Rattle.array_parts.specs.Views.{cells_of};
 ghost use Rattle.array_core.specs.Refused.{OnlyLosesOf};
 ghost use Rattle.array_core.specs.Laws.{world_itself, world_more};
@@ -19,6 +19,10 @@ impl Units for World {
 
     fn groups(&self) -> &GroupTable {
         self.array().groups()
+    }
+
+    fn unit(&mut self, slot: u16, unit: &mut [u8], scratch: &mut [u8]) -> Result<(), Refusal> {
+        self.array.unit(slot, unit, scratch)
     }
 
     fn header(&mut self, slot: u16, header: &mut [u8], scratch: &mut [u8]) -> Result<(), Refusal> {

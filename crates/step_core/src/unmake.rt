@@ -18,7 +18,7 @@ use slot_tables::Plain;
 use std::alloc::{AllocError, Global};
 
 impl World {
-    /// Unmakes a group of which the worker holds all slots. Memory is wanted for a list of its claims.
+    /// Dissolves a group of which the worker holds all slots. Allocates a list of its claims.
     pub fn unmake(&mut self, alloc: Global, worker: u8, group: u16) -> Result<Answer, AllocError>
         ensures ok { IfOk result (λ answer. (F : Flat) → Represents self.old F
             → (G : Flat) × Case F (say.Unmake worker group) (flat_answer answer) G × Represents self.new G) }
@@ -42,7 +42,7 @@ impl World {
         }
     }
 
-    // The lowest of a group's first slots, so many, of which the worker has no claim.
+    // The lowest of the first `count` slots of a group of which the worker has no claim.
     fn first_not_held(&self, worker: u8, group: u16, count: u16) -> Option<u16>
         requires group { group < 512 }
         requires count { count ≤ 128 }
@@ -58,7 +58,7 @@ impl World {
     }
 }
 
-// A claim of each of a group's first slots, so many.
+// A claim of each of the first `count` slots of a group.
 fn claims_of(alloc: Global, group: u16, count: u16) -> Result<Vec<Plain>, AllocError>
     requires group { group < 512 }
     requires count { count ≤ 128 }
@@ -73,7 +73,7 @@ fn claims_of(alloc: Global, group: u16, count: u16) -> Result<Vec<Plain>, AllocE
     Ok(claims)
 }
 
-// Nobody has a group's first slots, so many, in hand.
+// Takes the first `count` slots of a group out of the workers' hands.
 fn empty_first(hands: &mut Hands, group: u16, count: u16)
     requires group { group < 512 }
     requires count { count ≤ 128 }

@@ -58,7 +58,7 @@ impl World {
         }
     }
 
-    /// The array, with all that it tells.
+    /// The array, for the calls that only read it.
     pub fn array(&self) -> &Array<MemDrive, Plain>
         ensures { result.now ≡ self.now.array }
     {
@@ -108,7 +108,7 @@ impl World {
         }
     }
 
-    /// Gives back a slot that the worker holds.
+    /// Releases a slot that the worker holds.
     pub fn release(&mut self, worker: u8, slot: u16) -> Answer
         ensures flat { (F : Flat) → Represents self.old F
             → (G : Flat) × Case F (say.Release worker slot) (flat_answer result) G × Represents self.new G }
@@ -278,8 +278,8 @@ impl World {
         }
     }
 
-    /// Reads a block, and puts its payload into the buffer, which needs no memory. Where no version is told,
-    /// nothing is said of what the buffer holds.
+    /// Reads a block, and puts its payload into the buffer, which allocates nothing. If the result has no version, the contents
+    /// of the buffer are unspecified.
     pub fn read_into(&mut self, block: u32, payload: &mut [u8]) -> Result<Option<u32>, Refusal>
         requires block { block < self.old.array.parts.groups.blocks }
         requires payload { length payload.old ≡ self.old.array.parts.groups.payload }
@@ -335,7 +335,7 @@ impl World {
     }
 }
 
-// What a step that is refused answers; want of memory is no answer.
+// What a step that is refused answers; out of memory is no answer.
 pub(crate) fn refused(refusal: Refusal) -> Result<Answer, AllocError>
     ensures ok { IfOk result (λ answer. (answer ≡ Answer.Refused refusal) × (refusal ≢ Refusal.Memory)) }
     ensures err { OnErr result (refusal ≡ Refusal.Memory) }

@@ -1,4 +1,4 @@
-// Where indexes lie, told by a model of the geometry that was written apart from this crate: class (0
+// Where indexes lie, by a model of the geometry that was written apart from this crate: class (0
 // mirrored, 1 parity), members, segments, index, then member and offset of the first copy or of the data,
 // and member and offset of the second copy or of the parity.
 pub(crate) const PLACES: [[u8; 8]; 108] = [

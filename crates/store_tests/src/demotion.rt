@@ -1,4 +1,4 @@
-// Which block goes down next.
+// Which block is demoted next.
 use crate::set_up::{four_groups, places, took};
 use migrator::{MarkedAges, Recency, mirror_slots, wants_demotion};
 use std::alloc::Global;

@@ -108,7 +108,7 @@ fn write_gathered(
     drive.write_gathered(5, front, rest)
 }
 
-/// Whether of six writes and reads of a drive those before the fuse burns are answered, and none behind.
+/// Whether of six writes and reads of a drive those before the fuse burns are answered, and none after.
 fn burns_at(rt: &impl Abort, drive: &mut MemDrive, fuse: u8, unit: &mut [u8; 40]) -> bool {
     for call in 1..7u8 {
         let answered = if call % 2 == 1 {

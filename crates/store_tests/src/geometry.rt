@@ -28,7 +28,7 @@ pub(crate) fn stripe_seen(groups: &GroupTable, group: u16, index: u16) -> Option
     }
 }
 
-/// A group of so many members, under number 0.
+/// A group of `members` members, under number 0.
 fn group_of(
     rt: &impl Abort,
     alloc: Global,
@@ -116,7 +116,7 @@ impl Row {
     }
 }
 
-/// Whether the units of a row tell its index.
+/// Whether the units of a row give its index.
 fn is_told_back(groups: &GroupTable, row: Row) -> bool {
     let slot = Some(Role::Slot(row.index));
     let second = match row.class {

@@ -1,4 +1,4 @@
-// Groups are made, swapped and unmade, and each refusal comes with its number's name.
+// Groups are made, swapped and dissolved, and each refusal comes with its number's name.
 use crate::geometry::{copies_seen, stripe_seen};
 use crate::tables::{Tables, on, shape_of};
 use extent_groups::{Class, Copies, GroupRefusal, Spot, Stripe};

@@ -1,5 +1,5 @@
-//! Tests of drives, groups, stores and plans, which stand above them all: where the write log goes on, what is demoted, plugged
-//! and cleaned, and which extents are moved.
+//! Tests of drives, groups, stores and plans, in one crate that depends on all of them: where the write log goes on, what is
+//! demoted, plugged and cleaned, and which extents are moved.
 #![tactic(auto)]
 
 #[cfg(test)]

@@ -1,4 +1,4 @@
-// The plans' answers over a few groups, as worked out by hand.
+// The plans' answers over a few groups, as worked out manually.
 ghost use Rattle.extent_groups.specs.Groups.{Agree};
 
 use crate::tables::{Tables, on};

@@ -29,7 +29,7 @@ pub(crate) struct Rig {
     ghost ready: { AreDrives (λ (m : Held). m.units) groups drives.items },
 }
 
-/// So many drives of zeros.
+/// `count` drives of zeros.
 fn new_drives(alloc: Global, shape: &Shape, count: usize) -> Result<Vec<MemDrive>, AllocError>
     ensures many { IfOk result (λ v. length v.items ≡ count) }
     ensures zero { IfOk result (λ v. (d : ℕ) (x : Held) → slice_get v.items d ≡ Some x → x.units ≡ zero_units (HEADER_BYTES + shape.now.payload) (shape.now.extents * extent_units shape.now.segments)) }

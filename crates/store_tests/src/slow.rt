@@ -1,4 +1,4 @@
-// What a slot holds as the drives that are there tell it, by reads of the drives alone.
+// What a slot holds according to the drives that are there, by reads of the drives alone.
 ghost use Rattle.std.specs.Prelude.{◌≡◌};
 
 use crate::rig::is_slot;

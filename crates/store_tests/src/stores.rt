@@ -11,7 +11,7 @@ use std::test::Fail;
 /// The byte that the tests write over what slots were given.
 const NEW: u8 = 200;
 
-/// The unit that a slot is given before a loss: every byte tells the slot, header and payload.
+/// The unit that a slot is given before a loss: every byte depends on the slot, in header and payload.
 fn given(slot: u16, at: usize) -> u8 {
     (slot % 101) as u8 ^ (at % 97) as u8 ^ (slot / SLOTS % 2) as u8 * 128
 }
@@ -32,7 +32,7 @@ fn is_all(unit: &[u8], wanted: u8) -> bool {
     unit.iter().all(|byte| *byte == wanted)
 }
 
-/// Two groups of a class over so many drives, where there is memory for them.
+/// Two groups of a class over `drives` drives, where there is memory for them.
 fn rig_of(rt: &impl Abort, alloc: Global, class: Class, drives: u8, segments: u32) -> Rig {
     let Ok(rig) = Rig::new(rt, alloc, class, drives, segments) else {
         panic!(rt; "no memory")
@@ -93,7 +93,7 @@ fn run(rt: &impl Abort, alloc: Global, case: &Case) -> (Rig, bool, bool) {
     (rig, wrote.is_ok(), read.is_ok() && front.is_ok())
 }
 
-/// Each slot has the unit that it was last given, or is gone with a second drive; whether the written one has one.
+/// Each slot has the unit that it was last given, or is lost with a second drive; whether the written one has one.
 fn stand(
     rt: &impl Abort,
     case: &Case,
@@ -326,7 +326,7 @@ fn an_extent_is_wiped_to_its_end(rt: HostRuntime) {
     assert!(rt; !wipe(&rt, &mut rig, 0));
 }
 
-/// Reads the header of slot 0 into a buffer, and tells whether drive 0 is lost then.
+/// Reads the header of slot 0 into a buffer, and returns whether drive 0 is lost then.
 fn burns_at_header(rt: &impl Abort, rig: &mut Rig, header: &mut [u8]) -> bool {
     assert!(rt; rig.read_header(rt, 0, header).is_ok());
     rig.is_lost(rt, 0)

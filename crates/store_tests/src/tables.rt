@@ -19,7 +19,7 @@ pub(crate) fn on(drive: u8, extent: u16) -> Member {
     Member { drive, extent }
 }
 
-/// The shape of so many extents and segments, with payloads of 8 bytes and 16 blocks.
+/// The shape of `extents` extents of `segments` segments, with payloads of 8 bytes and 16 blocks.
 pub(crate) fn shape_of(rt: &impl Abort, extents: u32, segments: u32) -> Shape
     ensures { IsShapeOf result extents segments 8 16 }
 {
@@ -30,7 +30,7 @@ pub(crate) fn shape_of(rt: &impl Abort, extents: u32, segments: u32) -> Shape
 }
 
 impl Tables {
-    /// So many drives without groups.
+    /// `drives` drives without groups.
     pub(crate) fn new(
         rt: &impl Abort,
         alloc: Global,

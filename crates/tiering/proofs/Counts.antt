@@ -8,7 +8,7 @@ use Rattle.map_join.specs.Lists.{ListsBelow}
 use Rattle.map_join.specs.Live.{IsLive, IsLiveIn, IsLiveCount}
 use Rattle.map_join.proofs.Rising.{below_none, below_more, below_skip, below_all}
 
--- so many of a group's slots below an index are live
+-- exactly `count` of a group's slots below an index are live
 abbrev pub IsCounted : (ℕ → ℕ) → ℕ → ℕ → ℕ → ℕ → Type 0
 IsCounted keys group slots index count =
     (found : List ℕ) × ListsBelow (IsLiveIn keys group slots) (128 * group + index) found × (length found ≡ count) × (count ≤ index)

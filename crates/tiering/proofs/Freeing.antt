@@ -55,7 +55,7 @@ passed_free : (held : ℕ → Holder → Bool) (w b t : ℕ) (found : Option Rec
 passed_free held w b t None free = free
 passed_free held w b t (Some old) free = turned_free held old.place t (Block b) (Worker w) free
 
--- what is free behind a step was free before it
+-- what is free after a step was free before it
 abbrev pub FreesNone : Flat → Flat → Type 0
 FreesNone F G = (t : ℕ) → IsFree G t → IsFree F t
 
@@ -101,7 +101,7 @@ commit_frees F G w s b r case = go (F.tickets s) case.2.2
     go (Some (waiting.Fresh x)) with = behind _ refl with.4
     go (Some (waiting.Moved c v h x)) with = behind _ refl with.4
 
--- a place that is given back is free
+-- a place that is released is free
 given_frees : (F G : Flat) (w s : ℕ) → Runs F (step.Release w s ∷ []) (Released s ∷ []) G → Frees F G (λ n. n ≡ s)
 given_frees F G w s run n free = release_frees F run.0 w s s run.1 n (same_frees run.0 G run.2 n free)
 
@@ -114,7 +114,7 @@ back_frees : (F G : Flat) (w : ℕ) (old : Option Record) → Runs F (back_steps
 back_frees F G w None run n free = inl (same_frees F G run n free)
 back_frees F G w (Some old) run n free = given_frees F G w old.place run n free
 
--- a slot that was claimed and is given back was free
+-- a slot that was claimed and is released was free
 again_free : (F H G : Flat) (w s : ℕ) → FreesNone F H → IsFree F s → Runs H (step.Release w s ∷ []) (Released s ∷ []) G → FreesNone F G
 again_free F H G w s before was run n free = go (given_frees H G w s run n free)
   where
@@ -158,7 +158,7 @@ place_frees F G w s b what (outcome.Refused k) case n free = inl (refused_place 
 place_frees F G w s b what outcome.NoRoom case n free = inl (left_frees F case.0 case.1.2 n (same_frees case.0 G case.2 n free))
 place_frees F G w s b what outcome.Nothing case n free = absurd case
 
--- a step that gives no slot back, makes no group and commits nothing
+-- a step that releases no slot, makes no group and commits nothing
 pub step_frees : (F G : Flat) (taken : FlatStep) (answer : FlatAnswer) → IsCalm taken → Case F taken answer G → FreesNone F G
 step_frees F G taken (Refused k) calm case = refused_frees F G taken k case
 step_frees F G (step.Claim w s) (step.Claimed t) calm case = claim_frees F G w s t case
@@ -197,7 +197,7 @@ made_frees F G keys class members g history leaves t other free k = go (F.held t
     go true has = absurd (shut (same_holder k (Shut g)) refl has (ap (λ b. b && not (same_holder k (Shut g))) (sym has) ∙ kept))
     go false has = has
 
--- and where one is unmade
+-- and where a group is dissolved
 pub unmade_frees : (F G : Flat) (keys : ℕ → ℕ) (w g : ℕ) → IsHistory F keys → group_at F.groups g ≢ None → ((s : ℕ) → IsIn F g s → HasClaim F w s) → Leaves (unmade F w g) G
     → (t : ℕ) → (t / 128 ≡ g → ⊥) → IsFree G t → IsFree F t
 unmade_frees F G keys w g history made claimed leaves t other free k =

@@ -4,7 +4,7 @@ use Rattle.std.proofs.lemmas.Bool.{cases_eq}
 use Rattle.tiering.specs.Bits.{AreAmong}
 use Rattle.tiering.specs.Hints.{IsHinted, IsSought, InRows}
 
--- one search behind another is one search
+-- one search after another is one search
 pub sought_on : (was is now : List ℕ) (free : ℕ → Type 0) → IsSought was is free → IsSought is now free → IsSought was now free
 sought_on was is now free first second = record {
   less = λ s has. first.less s (second.less s has);

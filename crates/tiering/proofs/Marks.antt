@@ -1,4 +1,4 @@
--- The marks are those of the blocks in mirrored groups, behind each step.
+-- The marks are those of the blocks in mirrored groups, after each step.
 use Rattle.std.proofs.Common.{◌≡◌, ◌≢◌, ◌⊎◌, inl, inr, ℕ, ◌/◌, ◌%◌, is_some, ◌+◌, ◌<◌, max, arith, Bool, true, false, ◌↔◌, List, [], ◌∷◌, ◌++◌, length, slice_set, get_or, replicate, Contains, refl, sym, ap, ◌∙◌, subst, Option, Some, None}
 use Rattle.std.proofs.lemmas.Bool.{cases_eq}
 use Rattle.std.proofs.lemmas.List.{length-set, length-replicate, get_or-replicate}
@@ -44,7 +44,7 @@ set_other marks b c m other =
 through : (P Q R : Type 0) → P ↔ Q → Q ↔ R → P ↔ R
 through P Q R a b = ((λ p. b.0 (a.0 p)), (λ r. a.1 (b.1 r)))
 
--- a block's newest record, and the keys of other blocks, behind a record that was emitted
+-- a block's newest record, and the keys of other blocks, after a record was emitted
 record_now : (F G : Flat) (N : ℕ → ℕ) (b : ℕ) (r : Record) → ((q : Record) → Contains G.emitted q → IsRecord q) → IsMapOf G.emitted N → HasEmitted F G b r
     → record_at b (N b) ≡ Some r
 record_now F G N b r all map is = newest_unique G.emitted b all (record_at b (N b)) (Some r) (newest_told G.emitted N b all map) is.newest
@@ -88,7 +88,7 @@ marked_emitted F G M N marks b r all inside before behind is marked c = go (case
     go (inl same) = subst (λ n. IsMarked (slice_set marks b m) n ↔ IsMirrored G.groups N n) (sym same) here
     go (inr other) = through _ _ _ (set_other marks b c m other) (through _ _ _ (marked c) (still other))
 
--- behind a placing or a commit, by what came of it
+-- after a placing or a commit, by what came of it
 pub marks_keep : (F G : Flat) (M N : ℕ → ℕ) (marks : List Bool) (b : ℕ) (o : Outcome) → ((q : Record) → Contains G.emitted q → IsRecord q) → b < length marks
     → IsMapOf F.emitted M → IsMapOf G.emitted N → Emits F G b o → AreMarked marks F.groups M → AreMarked (marks_after G.groups marks b o) G.groups N
 marks_keep F G M N marks b (outcome.Placed r) all inside before behind is marked = marked_emitted F G M N marks b r all inside before behind is marked
@@ -164,7 +164,7 @@ marked_made F G M N marks g new history behind emitted groups free marked =
         let e = class_still F M b g new (record_at b (M b)) history free refl in
         through _ _ _ (marked b) ((λ h. e ∙ h), (λ h. sym e ∙ h))
 
--- and where a group is unmade that was nobody's place
+-- and where a dissolved group had no block's place
 class_left : (F G : Flat) (N : ℕ → ℕ) (b g : ℕ) (o : Option Record) → IsHistory G N → G.groups ≡ with_group F.groups g None → g < length F.groups.table → record_at b (N b) ≡ o
     → class_at (with_group F.groups g None) o ≡ class_at F.groups o
 class_left F G N b g None history groups inside told = refl

@@ -1,5 +1,5 @@
--- What is kept beside a world stands where a group's member goes onto another extent: no slot changes its class, no record and
--- no holder changes.
+-- What is kept next to a world stays correct where a group's member goes onto another extent: no slot changes its class, no
+-- record and no holder changes.
 use Rattle.std.proofs.Common.{◌≡◌, ◌≢◌, ◌⊎◌, inl, inr, ℕ, ◌/◌, ◌%◌, ◌<◌, Bool, List, refl, sym, ap, ◌∙◌, subst, Option, Some, None}
 use Rattle.std.specs.Prelude.{slice_get}
 use Rattle.std.proofs.lemmas.Bool.{cases_eq}
@@ -72,7 +72,7 @@ marked_moved F G M N marks g k to some groups keys marked = subst (λ z. AreMark
       λ is. (marked b).1 (sym (mirrored_still F.groups g k to some (record_at b (M b))) ∙ is),
     )))
 
--- behind a move
+-- after a move
 stands_moved : (t : Tiers) (v : WorldView) (T : Tiered) (G : Flat) (g k : ℕ) (to : Member) → StandsFor t T → Represents v G → slice_get (members_of T.flat.groups g) k ≢ None
     → Leaves (moved_to T.flat g k to) G → StandsFor (record t { world = v }) (record T { flat = G })
 stands_moved t v T G g k to stands rep some leaves =
@@ -92,7 +92,7 @@ stands_moved t v T G g k to stands rep some leaves =
       );
     }
 
--- behind a move, or one that was refused
+-- after a move, or one that was refused
 pub stands_shifted : (t : Tiers) (v : WorldView) (T : Tiered) (G : Flat) (g k : ℕ) (to : Member) (answer : FlatAnswer) → StandsFor t T → Represents v G
     → MoveCase T.flat g k to answer G → StandsFor (record t { world = v }) (record T { flat = G })
 stands_shifted t v T G g k to step.MovedExtent stands rep case = stands_moved t v T G g k to stands rep case.0.0.0 case.3

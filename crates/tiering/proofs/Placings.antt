@@ -36,16 +36,16 @@ holds_with held s k = with_here held s k k ∙ or_last (held s k) (same_holder k
 pub holds_turned : (held : ℕ → Holder → Bool) (s : ℕ) (j k : Holder) → turned held s j k s k ≡ true
 holds_turned held s j k = holds_with (without_pair held s j) s k
 
--- behind a claim the worker holds the slot
+-- after a claim the worker holds the slot
 pub claimed_holds : (F G : Flat) (w s : ℕ) → Case F (step.Claim w s) (step.Claimed s) G → G.held s (Worker w) ≡ true
 claimed_holds F G w s case = same_held _ G s (Worker w) case.2 ∙ holds_with F.held s (Worker w)
 
--- behind a fill or a copy the slot waits for the worker
+-- after a fill or a copy the slot waits for the worker
 pub put_waits : (F G : Flat) (what : Put) (w s b : ℕ) → Case F (put_step what w s b) (put_answer what s) G → G.held s (Ticket w) ≡ true
 put_waits F G (Fresh x) w s b case = same_held _ G s (Ticket w) case.3 ∙ holds_turned F.held s (Worker w) (Ticket w)
 put_waits F G Again w s b case = same_held _ G s (Ticket w) case.1.6 ∙ holds_turned F.held s (Worker w) (Ticket w)
 
--- behind a refusal each slot is held as before
+-- after a refusal each slot is held as before
 pub refused_holds : (F G : Flat) (taken : FlatStep) (k : Refusal) (s : ℕ) (h : Holder) → Case F taken (step.Refused k) G → F.held s h ≡ true → G.held s h ≡ true
 refused_holds F G taken k s h case is = same_held F G s h (refused_leaves F G taken k case) ∙ is
 
@@ -67,7 +67,7 @@ put_is F G Again w s b a held case = copy_is a case
     copy_is (answer.Refused k) case = case
     copy_is _ case = absurd case
 
--- the place that a block had is the worker's behind a commit
+-- the place that a block had is the worker's after a commit
 pub committed_holds : (v : WorldView) (F G : Flat) (w s b : ℕ) (r : Record) (old : Option Record) → Represents v F → IsNewest F.emitted b old
     → CommitCase F w s b (step.Committed r) G → HoldsOld G w old
 committed_holds v F G w s b r None rep newest case = tt
@@ -121,7 +121,7 @@ put_emits : (F G : Flat) (what : Put) (w s b : ℕ) → Case F (put_step what w 
 put_emits F G (Fresh x) w s b case = ap (λ (x : Flat). x.emitted) case.3.same
 put_emits F G Again w s b case = ap (λ (x : Flat). x.emitted) case.1.6.same
 
--- what a world does for each state that it stands for: a claim, what is put into the slot, what is given back
+-- what a world does for each state that it represents: a claim, what is put into the slot, what is released
 abbrev pub Claims : WorldView → WorldView → ℕ → ℕ → ℕ → Type 0
 Claims u v w s t = (F : Flat) → Represents u F → (G : Flat) × Case F (step.Claim w s) (step.Claimed t) G × Represents v G
 
@@ -151,7 +151,7 @@ puts_is u v what w s b a refusal is answers F rep held =
 abbrev pub CommitsTo : WorldView → WorldView → ℕ → ℕ → ℕ → Outcome → Type 0
 CommitsTo u v w s b o = (F : Flat) → Represents u F → F.held s (Ticket w) ≡ true → (G : Flat) × CommitsIn F w s b o G × Represents v G
 
--- a state of which the claim and what was put in are behind
+-- a state after the claim and after what was put in
 record IsPutIn (F : Flat) (v : WorldView) (what : Put) (w s b : ℕ) : Type 0 where
   claimed : Flat
   claim : Case F (step.Claim w s) (step.Claimed s) claimed
@@ -213,7 +213,7 @@ stopped_in u v x y what w s b t (Err e) claims puts ends = λ F rep.
     let g = ends p.waiting p.stands p.ticket in
     (g.0, inr (p.claimed, p.claim, (p.waiting, p.put, g.1)), g.2)
 
--- what is refused at once is given back, and so is what no memory was there for
+-- what is refused at once is released, and so is what could not be allocated for
 pub refused_at_once : (u v x y : WorldView) (what : Put) (w s b t : ℕ) (k : Refusal) → Claims u v w s t → Puts v x what w s b (Some k) → Gives x y w s
     → (F : Flat) → Represents u F → (G : Flat) × PlaceCase F w s b what (Refused k) G × Represents y G
 refused_at_once u v x y what w s b t k claims puts gives F rep =
@@ -230,7 +230,7 @@ stopped_at_once u v y what w s b t claims gives F rep =
     let g = gives c.0 c.2 (claimed_holds F c.0 w s c.1) in
     (g.0, inl (c.0, c.1, (g.0, g.1, refl)), g.2)
 
--- behind a commit the old place is given back, or what waited
+-- after a commit the old place is released, or what waited
 abbrev pub Commits : WorldView → WorldView → ℕ → ℕ → ℕ → Answer → Type 0
 Commits u v w s b a = (F : Flat) → Represents u F → (G : Flat) × Case F (step.Commit w s b) (flat_answer a) G × Represents v G
 

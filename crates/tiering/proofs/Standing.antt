@@ -1,4 +1,4 @@
--- What stands for a flat state with what is kept beside it, behind each part of a step.
+-- What represents a flat state with what is kept next to it, after each part of a step.
 use Rattle.std.proofs.Common.{◌≡◌, ◌≢◌, ◌⊎◌, ℕ, ◌+◌, ◌/◌, ◌%◌, ◌<◌, if◌then◌else◌, arith, ◌↔◌, inl, inr, List, length, refl, sym, ap, ◌∙◌, subst, Option, Some, None, Result, Ok, Err}
 use Rattle.std.specs.Prelude.{IfOk, OnErr, MatchOption, Contains}
 use Rattle.std.proofs.lemmas.List.FromFn.{length-range_with_len}
@@ -64,7 +64,7 @@ same_blocks u v F G before after same =
 pub map_of : (t : Tiers) (T : Tiered) → StandsFor t T → IsMapOf T.flat.emitted (key_at t.world.array)
 map_of t T stands = stands.world.array.history.map
 
--- what a placing does for each state that the world stands for
+-- what a placing does for each state that the world represents
 abbrev pub Places : WorldView → WorldView → ℕ → ℕ → ℕ → Put → Outcome → Type 0
 Places u v w s b what o = (F : Flat) → Represents u F → (G : Flat) × PlaceCase F w s b what o G × Represents v G
 
@@ -76,7 +76,7 @@ block_there : (t : Tiers) (T : Tiered) (b : ℕ) → StandsFor t T → b < t.wor
 block_there t T b stands inside =
     subst (λ n. b < n) (sym (ap length stands.order ∙ stands.long ∙ ap (λ (z : Groups). z.blocks) (groups_of t T stands))) inside
 
--- hinted slots behind a step that leaves the groups, where what gets free is hinted
+-- hinted slots after a step that leaves the groups, where what gets free is hinted
 hints_keep : (F G : Flat) (was is : List ℕ) (P : ℕ → Type 0) → G.groups ≡ F.groups → Frees F G P → ((s : ℕ) → P s → IsHinted is s)
     → ((s : ℕ) → IsHinted was s → IsHinted is s) → ((s : ℕ) → IsFreeMirror F s → IsHinted was s) → (s : ℕ) → IsFreeMirror G s → IsHinted is s
 hints_keep F G was is P groups frees new others hinted s free = go (frees s free.1)
@@ -106,7 +106,7 @@ left_in F w s b what (outcome.Refused k) G case hints left all newest hinted n a
 left_in F w s b what outcome.NoRoom G case hints left all newest hinted n at = absurd at
 left_in F w s b what outcome.Nothing G case hints left all newest hinted n at = absurd at
 
--- what is marked behind what is noted
+-- what is marked after what is noted
 pub marks_noted : (groups : Groups) (a world : ArrayView) (was mid now : Marked) (b : ℕ) (o : Outcome) → groups ≡ a.parts.groups → a ≡ world
     → length mid.order ≡ length was.order → mid.marks ≡ was.marks → (b < length mid.order → now.marks ≡ marks_after groups mid.marks b o)
     → b < length was.order → now.marks ≡ marks_after world.parts.groups was.marks b o
@@ -114,7 +114,7 @@ marks_noted groups a world was mid now b o tables same long kept marked there =
     marked (subst (λ n. b < n) (sym long) there) ∙ ap (λ z. marks_after z mid.marks b o) (tables ∙ ap (λ (x : ArrayView). x.parts.groups) same)
     ∙ ap (λ ms. marks_after world.parts.groups ms b o) kept
 
--- the marks behind a placing or a commit
+-- the marks after a placing or a commit
 marked_in : (t u : Tiers) (T : Tiered) (G : Flat) (b : ℕ) (o : Outcome) → u.recency.marks ≡ marks_after u.world.array.parts.groups t.recency.marks b o
     → Represents u.world G → SameSizes t.world.array u.world.array → StandsFor t T → length u.recency.marks ≡ G.groups.blocks
 marked_in t u T G b o noted rep same stands =
@@ -129,7 +129,7 @@ marks_in t u T G b o noted rep inside emits stands =
     subst (λ ms. AreMarked ms G.groups (key_at u.world.array)) (sym (noted ∙ ap (λ (z : Groups). marks_after z t.recency.marks b o) (sym rep.array.tables.groups)))
     (marks_keep T.flat G (key_at t.world.array) (key_at u.world.array) t.recency.marks b o behind.records within before.map behind.map emits stands.marks)
 
--- another world stands beside what is kept, for a state with the same groups and records, and no more free slots
+-- another world next to what is kept, for a state with the same groups and records, and no more free slots
 pub stands_alike : (t : Tiers) (v : WorldView) (T : Tiered) (G : Flat) → StandsFor t T → Represents v G → IsAlike T.flat G → FreesNone T.flat G
     → StandsFor (record t { world = v }) (record T { flat = G })
 stands_alike t v T G stands rep alike frees =
@@ -150,7 +150,7 @@ same_groups t u T G b (outcome.Refused k) emits = emits.groups
 same_groups t u T G b outcome.NoRoom emits = emits.groups
 same_groups t u T G b outcome.Nothing emits = emits.groups
 
--- what a placing says of a world stands with what is noted of it
+-- what a placing says of a world is true with what is noted of it
 pub puts : (t u : Tiers) (w s b : ℕ) (what : Put) (o : Outcome) (left : Option Record) → Places t.world u.world w s b what o → SameSizes t.world.array u.world.array
     → (b < length t.recency.order → u.recency.order ≡ order_put t.recency.order b what o) → length u.recency.order ≡ length t.recency.order
     → (b < length t.recency.order → u.recency.marks ≡ marks_after u.world.array.parts.groups t.recency.marks b o) → u.end ≡ t.end → b < t.world.array.parts.groups.blocks
@@ -187,7 +187,7 @@ puts_stop t v w s b what places same T stands =
       stands_alike t v T p.0 stands p.2 (stops_alike T.flat p.0 w s b what p.1) (stops_free T.flat p.0 w s b what p.1),
     )
 
--- behind a placing the log goes on elsewhere
+-- after a placing the log goes on elsewhere
 pub appends : (t m : Tiers) (end : End) (w s b : ℕ) (o : Outcome) → ((T : Tiered) → StandsFor t T → (U : Tiered) × PutsAt T w b Again s o U × StandsFor m U)
     → end ≡ end_after m.end s o → (T : Tiered) → StandsFor t T → (U : Tiered) × AppendsAt T w b s o U × StandsFor (record m { end = end }) U
 appends t m end w s b o puts noted T stands =
@@ -379,7 +379,7 @@ cleans t u w plan (Ok o) planned done = λ T stands.
       d.2,
     )
 
--- which slot is the first free one of mirrored groups, for each state that is stood for; what is kept still stands
+-- which slot is the first free one of mirrored groups, for each state that is represented; what is kept represents that state too
 abbrev pub FirstFree : Tiers → Tiers → Option ℕ → Type 0
 FirstFree t m slot = (T : Tiered) → StandsFor t T → IsFirst (IsFreeMirror T.flat) slot × StandsFor m T
 
@@ -439,7 +439,7 @@ pub stops_here : {E : Type 0} (t m u : Tiers) (w b s : ℕ) (x : Content) (r : R
 stops_here t m u w b s x (Ok o) first stopped = tt
 stops_here t m u w b s x (Err e) first stopped = λ T stands. let d = stopped T (first T stands).1 in (d.0, inl d.1, d.2)
 
--- a demotion for which memory was wanted
+-- a demotion that ran out of memory
 pub stops_down : {E : Type 0} (t m u : Tiers) (w b : ℕ) (x : Content) (r : Result Outcome E) → FirstFree t m None
     → OnErr r ((T : Tiered) → StandsFor m T → (U : Tiered) × TierStops T (Demote w) U × StandsFor u U)
     → OnErr r ((T : Tiered) → StandsFor t T → (U : Tiered) × TierStops T (Write w b x) U × StandsFor u U)
@@ -535,7 +535,7 @@ notes t u w s b a inside commits same order long marks end kept T stands =
       },
     )
 
--- behind a group that is made
+-- after a group that is made
 stands_made : (t : Tiers) (v : WorldView) (hints : List ℕ) (T : Tiered) (G : Flat) (class : Class) (members : List Member) (g : ℕ) → StandsFor t T → Represents v G
     → group_at T.flat.groups g ≡ None → ((s : ℕ) → s / 128 ≡ g → IsHinted hints s) → ((s : ℕ) → IsHinted t.hints s → IsHinted hints s)
     → Leaves (made T.flat class members g) G → StandsFor (record t { world = v; hints = hints }) (record T { flat = G })
@@ -585,7 +585,8 @@ more_hints t v hints T G others st = record {
   hints = λ s free. others s (st.hints s free);
 }
 
--- behind a step that leaves the state but for drives that failed, and behind one that emits no record, changes no group and frees no slot
+-- after a step that leaves the state but for drives that failed, and after one that emits no record, changes no group and frees
+-- no slot
 pub stands_left : (t : Tiers) (v : WorldView) (T : Tiered) (G : Flat) → StandsFor t T → Represents v G → Leaves T.flat G → StandsFor (record t { world = v }) (record T { flat = G })
 stands_left t v T G stands rep leaves = stands_alike t v T G stands rep (alike_left T.flat G leaves) (left_frees T.flat G leaves)
 
@@ -665,7 +666,7 @@ pub stands_with : (t : Tiers) (v : WorldView) (T : Tiered) (G : Flat) (taken : F
 stands_with t v T G taken answer calm stands rep case =
     stands_alike t v T G stands rep (calm_alike T.flat G taken answer calm case) (step_frees T.flat G taken answer calm case)
 
--- behind a release
+-- after a release
 pub releases : (t : Tiers) (v : WorldView) (hints : List ℕ) (w slot : ℕ) (a : Answer)
     → ((F : Flat) → Represents t.world F → (G : Flat) × Case F (step.Release w slot) (flat_answer a) G × Represents v G)
     → IsHinted hints slot → ((s : ℕ) → IsHinted t.hints s → IsHinted hints s)

@@ -6,7 +6,7 @@ use Rattle.tiering.specs.Bits.{HasBitAt, AreAmong}
 abbrev pub IsHinted : List ℕ → ℕ → Type 0
 IsHinted slots s = HasBitAt slots s
 
--- above each row that has any bit stands the row's bit
+-- a row that has any bit has its own bit in the row above
 pub record AreHints (slots rows : List ℕ) : Type 0 where
   pub all : length slots ≡ 1024
   pub few : length rows ≡ 16
@@ -24,7 +24,7 @@ pub record IsLowestHint (within : ℕ → Type 0) (slots : List ℕ) (free : ℕ
   pub is_free : free slot
   pub least : (s : ℕ) → within s → IsHinted slots s → slot ≤ s
 
--- the same, or none where none of them may be free
+-- the lowest of a part of the slots that may be free, and that is free; none where no slot of the part may be free
 abbrev pub IsFirstHint : (ℕ → Type 0) → List ℕ → (ℕ → Type 0) → Option ℕ → Type 0
 IsFirstHint within slots free None = (s : ℕ) → within s → IsHinted slots s → ⊥
 IsFirstHint within slots free (Some slot) = IsLowestHint within slots free slot

@@ -30,7 +30,7 @@ abbrev pub put_told : Put → ℕ → Option Refusal → FlatAnswer
 put_told what s (Some k) = step.Refused k
 put_told what s None = put_answer what s
 
--- the order of last writes behind a commit, by its answer: the record of a fresh content has no hop
+-- the order of last writes after a commit, by its answer: the record of a fresh content has no hop
 abbrev pub order_told : List ℕ → ℕ → Answer → List ℕ
 order_told order b (answer.Committed r) = if r.hop == 0 then written order b else order
 order_told order b _ = order
@@ -41,7 +41,7 @@ outcome_of (answer.Committed r) = Placed r
 outcome_of (answer.Refused k) = Refused k
 outcome_of _ = Nothing
 
--- the ticket of a slot ends, and the slot is given back
+-- the ticket of a slot ends, and the slot is released
 abbrev pub GivesUp : Flat → ℕ → ℕ → Flat → Type 0
 GivesUp F w s G = Runs F (step.Discard w s ∷ step.Release w s ∷ []) (Discarded s ∷ Released s ∷ []) G
 

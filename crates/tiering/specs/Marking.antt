@@ -16,7 +16,7 @@ use Rattle.tiering.specs.declared.outcome.Outcome.TheVariants.{Placed}
 abbrev pub AreMarked : List Bool → Groups → (ℕ → ℕ) → Type 0
 AreMarked marks groups keys = (b : ℕ) → IsMarked marks b ↔ IsMirrored groups keys b
 
--- the same of the blocks below a bound, for loops
+-- exactly the blocks below a bound whose newest place is in a mirrored group are marked, for loops
 abbrev pub AreMarkedBelow : List Bool → Groups → (ℕ → ℕ) → ℕ → Type 0
 AreMarkedBelow marks groups keys bound = (b : ℕ) → IsMarked marks b ↔ ((b < bound) × IsMirrored groups keys b)
 
@@ -25,12 +25,12 @@ abbrev pub is_mirrors : Option Class → Bool
 is_mirrors (Some Mirrored) = true
 is_mirrors _ = false
 
--- the marks behind a placing of the block, by what came of it
+-- the marks after a placing of the block, by what came of it
 abbrev pub marks_after : Groups → List Bool → ℕ → Outcome → List Bool
 marks_after groups marks b (Placed r) = slice_set marks b (is_mirrors (class_at groups (Some r)))
 marks_after groups marks b _ = marks
 
--- the order of last writes behind a placing: only a fresh content is a write
+-- the order of last writes after a placing: only a fresh content is a write
 abbrev pub order_put : List ℕ → ℕ → Put → Outcome → List ℕ
 order_put order b (Fresh x) outcome = order_after order b outcome
 order_put order b Again outcome = order

@@ -1,5 +1,5 @@
--- A block goes into a slot: the slot is claimed, filled or copied into, and committed; then the block's old place is given back. Where
--- the array refuses, the slot is given back.
+-- A block goes into a slot: the slot is claimed, filled or copied into, and committed; then the block's old place is released. Where
+-- the array refuses, the slot is released.
 use Rattle.std.specs.Prelude.{◌⊎◌, ℕ, List, [], ◌∷◌, Option, Some, None}
 use Rattle.map_join.specs.declared.records.Record.{Record}
 use Rattle.flat_machine.specs.declared.refusal.Refusal.{Refusal}
@@ -17,7 +17,7 @@ pub data Put : Type 0 where
   Fresh : Content → Put
   Again : Put
 
--- a payload that is lent, or a trim
+-- a borrowed payload, or a trim
 abbrev pub content_of : Given → Content
 content_of (given.Payload payload) = Payload payload.now
 content_of given.Trim = Trim
@@ -36,7 +36,7 @@ abbrev pub put_answer : Put → ℕ → FlatAnswer
 put_answer (Fresh x) s = Filled s
 put_answer Again s = Copied s
 
--- the steps that give the old place back, if there was one, and their answers
+-- the steps that release the old place, if there was one, and their answers
 abbrev pub back_steps : ℕ → Option Record → List FlatStep
 back_steps w None = []
 back_steps w (Some old) = step.Release w old.place ∷ []
@@ -70,7 +70,7 @@ PlaceCase F w s b what (Refused k) G = IsRefusedAtOnce F w s b what k G ⊎ IsRe
 PlaceCase F w s b what NoRoom G = Runs F (step.Claim w s ∷ []) (Taken s ∷ []) G
 PlaceCase F w s b what Nothing G = ⊥
 
--- memory was wanted on the way: the slot is given back
+-- an allocation failed on the way: the slot is released
 abbrev pub PlaceStops : Flat → ℕ → ℕ → ℕ → Put → Flat → Type 0
 PlaceStops F w s b what G =
     Runs F (step.Claim w s ∷ step.Release w s ∷ []) (Claimed s ∷ Released s ∷ []) G

@@ -1,4 +1,4 @@
--- When a world with what is kept beside it stands for a flat state with the same.
+-- When a world with what is kept next to it represents a flat state with the same.
 use Rattle.std.specs.Prelude.{◌≡◌, ℕ, length}
 use Rattle.array_model.specs.Represents.{Represents}
 use Rattle.array_model.specs.Views.{key_at}
@@ -8,7 +8,7 @@ use Rattle.tiering.specs.Steps.{IsFreeMirror}
 use Rattle.tiering.specs.Tiered.{Tiered}
 use Rattle.tiering.specs.declared.tiers.Tiers.{Tiers}
 
--- the world stands for the flat state; the order has a place for each block, and marks on just those in mirrored groups; and
+-- the world represents the flat state; the order has a place for each block, and marks on exactly those in mirrored groups; and
 -- each free slot of a mirrored group is hinted
 pub record StandsFor (tiers : Tiers) (T : Tiered) : Type 0 where
   pub world : Represents tiers.world T.flat

@@ -25,12 +25,12 @@ pub data TierStep : Type 0 where
   Plug : ℕ → TierStep
   Clean : ℕ → TierStep
 
--- the order of last writes behind a write of the block with this outcome
+-- the order of last writes after a write of the block with this outcome
 abbrev pub order_after : List ℕ → ℕ → Outcome → List ℕ
 order_after order b (Placed r) = written order b
 order_after order b _ = order
 
--- the log's end behind a move to the slot with this outcome
+-- the log's end after a move to the slot with this outcome
 abbrev pub end_after : End → ℕ → Outcome → End
 end_after end s (Placed r) = end_at s
 end_after end s _ = end
@@ -58,7 +58,7 @@ pub record Stays (T : Tiered) (is outcome : Outcome) (U : Tiered) : Type 0 where
   pub told : outcome ≡ is
   pub same : U ≡ T
 
--- a block goes down to the first free slot where the log goes on, if there is one
+-- a block is demoted to the first free slot where the log goes on, if there is one
 abbrev pub GoesDown : Tiered → ℕ → ℕ → Option ℕ → Outcome → Tiered → Type 0
 GoesDown T w b None outcome U = Stays T NoRoom outcome U
 GoesDown T w b (Some s) outcome U = AppendsAt T w b s outcome U
@@ -82,7 +82,7 @@ abbrev pub WritesIn : Tiered → ℕ → ℕ → Content → Option ℕ → Outc
 WritesIn T w b x None outcome U = Stays T NoRoom outcome U
 WritesIn T w b x (Some s) outcome U = WritesAt T w b x s outcome U
 
--- a slot is looked for once more, behind one demotion whatever came of it
+-- a slot is looked for once more, after one demotion with any outcome
 pub record WritesBehind (T : Tiered) (w b : ℕ) (x : Content) (outcome : Outcome) (U : Tiered) : Type 0 where
   pub demoted : Outcome
   pub between : Tiered
@@ -95,7 +95,7 @@ abbrev pub Writes : Tiered → ℕ → ℕ → Content → Option ℕ → Outcom
 Writes T w b x None outcome U = WritesBehind T w b x outcome U
 Writes T w b x (Some s) outcome U = WritesAt T w b x s outcome U
 
--- write: a fresh content goes into the lowest free slot of mirrored groups, behind one demotion where there is none
+-- write: a fresh content goes into the lowest free slot of mirrored groups, after one demotion where there is none
 pub record WriteCase (T : Tiered) (w b : ℕ) (x : Content) (outcome : Outcome) (U : Tiered) : Type 0 where
   pub slot : Option ℕ
   pub first : IsFirst (IsFreeMirror T.flat) slot
@@ -136,7 +136,7 @@ TierCase T (Demote w) outcome U = DemoteCase T w outcome U
 TierCase T (Plug w) outcome U = PlugCase T w outcome U
 TierCase T (Clean w) outcome U = CleanCase T w outcome U
 
--- memory was wanted on the way into some slot: the slot is given back
+-- an allocation failed on the way into some slot: the slot is released
 pub record PutStops (T : Tiered) (w : ℕ) (what : Put) (U : Tiered) : Type 0 where
   pub slot : ℕ
   pub block : ℕ
@@ -144,21 +144,21 @@ pub record PutStops (T : Tiered) (w : ℕ) (what : Put) (U : Tiered) : Type 0 wh
   pub stops : PlaceStops T.flat w slot block what left
   pub same : U ≡ record T { flat = left }
 
--- the same of a write, behind a demotion too
+-- an allocation of a write failed, after a demotion: the slot is released
 pub record StopsBehind (T : Tiered) (w : ℕ) (x : Content) (U : Tiered) : Type 0 where
   pub demoted : Outcome
   pub between : Tiered
   pub down : DemoteCase T w demoted between
   pub stops : PutStops between w (Fresh x) U
 
--- what is left of a step for which memory was wanted
+-- what is left of a step that ran out of memory
 abbrev pub TierStops : Tiered → TierStep → Tiered → Type 0
 TierStops T (Write w b x) U = PutStops T w (Fresh x) U ⊎ (PutStops T w Again U ⊎ StopsBehind T w x U)
 TierStops T (Demote w) U = PutStops T w Again U
 TierStops T (Plug w) U = PutStops T w Again U
 TierStops T (Clean w) U = PutStops T w Again U
 
--- the order of last writes behind a commit, by what waited in the slot: a commit of a fresh content is a write
+-- the order of last writes after a commit, by what waited in the slot: a commit of a fresh content is a write
 abbrev pub order_behind : List ℕ → ℕ → FlatAnswer → Option Waiting → List ℕ
 order_behind order b (Committed r) (Some (f.Fresh x)) = written order b
 order_behind order b _ _ = order

@@ -1,4 +1,4 @@
--- A flat state, and what is kept beside it for the plans: told of blocks and slots alone.
+-- A flat state, and what is kept next to it for the plans: stated over blocks and slots alone.
 use Rattle.std.specs.Prelude.{ℕ, List}
 use Rattle.flat_machine.specs.Flat.{Flat}
 use Rattle.migrator.specs.Ages.{by_number}
@@ -10,6 +10,6 @@ pub record Tiered : Type 0 where
   pub order : List ℕ
   pub end : End
 
--- the same where no write is noted, and nothing was appended
+-- the state of an array where no write is noted, and nothing was appended
 abbrev pub begun : Flat → Tiered
 begun F = record { flat = F; order = by_number F.groups.blocks; end = at_start }

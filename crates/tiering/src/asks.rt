@@ -43,8 +43,8 @@ impl<'a> Live for Running<'a> {
     }
 }
 
-/// How many of a group's first so many slots are newest places of an array's blocks. Of all its slots a table tells it; fewer are
-/// looked at one after another.
+/// How many of a group's first `slots` slots are newest places of an array's blocks. A table has the count of all of a group's
+/// slots, so that needs no search. Fewer slots are read one after another.
 pub fn count_live<D: Drive, C: Hold>(array: &Array<D, C>, group: u16, slots: u16) -> u16
     requires group { group < 512 }
     requires slots { slots ≤ 128 }
@@ -56,7 +56,7 @@ pub fn count_live<D: Drive, C: Hold>(array: &Array<D, C>, group: u16, slots: u16
     count_among(array, group, slots)
 }
 
-// The same, where each slot is looked at.
+// How many of a group's first `slots` slots are newest places, by a lookup of each slot.
 fn count_among<D: Drive, C: Hold>(array: &Array<D, C>, group: u16, slots: u16) -> u16
     requires group { group < 512 }
     requires slots { slots ≤ 128 }

@@ -113,7 +113,7 @@ fn first_of_all<F: Free>(slots: &mut [u64], rows: &mut [u64], free: &F) -> Optio
     None
 }
 
-// The same among the rows whose bits a word has; the bit of a row where there is none goes.
+// The lowest free slot among the rows whose bits a word has. The bit of a row without one is cleared.
 fn first_in_rows<F: Free>(slots: &mut [u64], rows: &mut [u64], word: usize, free: &F) -> Option<u16>
     requires word { word < 16 }
     requires hints { AreHints slots.old rows.old }
@@ -131,7 +131,7 @@ fn first_in_rows<F: Free>(slots: &mut [u64], rows: &mut [u64], word: usize, free
     None
 }
 
-// The same among the slots of a row; the bit of a slot that isn't free goes.
+// The lowest free slot of a row. The bit of a slot that isn't free is cleared.
 fn first_in_row<F: Free>(slots: &mut [u64], row: usize, free: &F) -> Option<u16>
     requires row { row < 1024 }
     requires slots { length slots.old ≡ 1024 }

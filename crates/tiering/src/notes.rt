@@ -85,7 +85,7 @@ pub(crate) fn mark_placed(
     }
 }
 
-// The same by what a commit answered.
+// Marks a block that was committed, or takes its mark away, by the group where it lies now.
 pub(crate) fn mark_answer(
     recency: &mut MarkedAges,
     groups: &GroupTable,

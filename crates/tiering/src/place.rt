@@ -21,8 +21,7 @@ pub(crate) enum Given<'a> {
     Trim,
 }
 
-/// Puts the block into the slot: what is given, else a copy of the block's last write. Where memory is wanted
-/// the slot is given back.
+/// Puts the block into the slot: what is given, else a copy of the block's last write. If an allocation fails, the slot is released.
 pub(crate) fn place(
     world: &mut World,
     alloc: Global,
@@ -147,7 +146,7 @@ fn outcome_in(answer: Answer) -> Outcome
     }
 }
 
-// Gives back the place that the block had, if any.
+// Releases the place that the block had, if any.
 fn give_back(world: &mut World, worker: u8, old: Option<Record>)
     ensures back { (F : Flat) → Represents world.old F → HoldsOld F worker old
         → (G : Flat) × Runs F (back_steps worker old) (back_answers old) G × Represents world.new G }
@@ -168,7 +167,7 @@ fn give_up(world: &mut World, worker: u8, slot: u16)
     give(world, worker, slot);
 }
 
-// Gives back a slot that the worker holds.
+// Releases a slot that the worker holds.
 fn give(world: &mut World, worker: u8, slot: u16)
     ensures back { (F : Flat) → Represents world.old F → F.held slot (Worker worker) ≡ true
         → (G : Flat) × Case F (step.Release worker slot) (step.Released slot) G × Represents world.new G }

@@ -64,7 +64,7 @@ impl Tiers {
         }
     }
 
-    // Copies the block into the slot, behind which the log goes on.
+    // Copies the block into the slot, after which the log goes on.
     fn append(
         &mut self,
         alloc: Global,
@@ -140,7 +140,7 @@ impl Tiers {
     }
 }
 
-// Notes where the log goes on behind a move to the slot, by what came of it.
+// Notes where the log goes on after a move to the slot, by what came of it.
 fn note_end(end: &mut LogEnd, slot: u16, outcome: &Outcome)
     ensures { end.new ≡ end_after end.old slot outcome.now }
 {
@@ -149,7 +149,7 @@ fn note_end(end: &mut LogEnd, slot: u16, outcome: &Outcome)
     }
 }
 
-// The block, where it is one of so many.
+// The block, if it is below `blocks`.
 fn below(block: Option<u32>, blocks: u32) -> Option<u32>
     ensures within { MatchOption result (Unit {0}) (λ block. block < blocks) }
     ensures same { MatchOption block (Unit {0}) (λ block. block < blocks) → result ≡ block }

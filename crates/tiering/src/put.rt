@@ -1,4 +1,4 @@
-// A block goes into a slot, and what is kept beside the world follows.
+// A block goes into a slot, and what is kept next to the world follows.
 ghost use Rattle.std.specs.Prelude.{◌<◌, IfOk, OnErr};
 ghost use Rattle.array_model.specs.Views.{SameSizes};
 ghost use Rattle.tiering.specs.Inside.{IsSizedFor};

@@ -1,4 +1,4 @@
-//! A world, and what is kept beside it for the plans.
+//! A world, and what is kept next to it for the plans.
 ghost use Rattle.std.specs.Prelude.{◌≡◌, ◌<◌, IfOk, OnErr};
 ghost use Rattle.array_model.specs.Represents.{Represents};
 ghost use Rattle.array_model.specs.Views.{SameSizes};
@@ -17,8 +17,9 @@ use std::alloc::{AllocError, Global};
 use step_core::{Answer, Class, Member, World};
 
 /// A world; the order in which its blocks were last written since the array was made or restarted, those in mirrored groups
-/// marked; the end of its write log; and which slots may be free. Commits, releases, and groups to be made or unmade go by the calls here:
-/// by the world itself they leave the order, the marks and the free slots behind. Its other steps may go by the world.
+/// marked; the end of its write log; and which slots may be free. Commits, releases, and making or dissolving a group go by the
+/// calls here: if the world itself is called for one of them, the order, the marks and the free slots are out of date. Its
+/// other steps may go by the world.
 #[derive(Drop)]
 pub struct Tiers {
     pub world: World,
@@ -69,7 +70,7 @@ impl Tiers {
         Ok(answer)
     }
 
-    /// Gives back a slot that the worker holds.
+    /// Releases a slot that the worker holds.
     pub fn release(&mut self, worker: u8, slot: u16) -> Answer
         ensures flat { (T : Tiered) → StandsFor self.old T
             → (U : Tiered) × StepNoted T (f.Release worker slot) (flat_answer result) U × StandsFor self.new U }

@@ -50,19 +50,9 @@ impl<D: Drive> Drive for Counted<D> {
         self.drive.read_unit(at, unit)
     }
 
-    fn read_front(&mut self, at: u32, front: &mut [u8]) -> Result<(), DriveLost> {
-        self.count();
-        self.drive.read_front(at, front)
-    }
-
     fn write_unit(&mut self, at: u32, unit: &[u8]) -> Result<(), DriveLost> {
         self.count();
         self.drive.write_unit(at, unit)
-    }
-
-    fn write_gathered(&mut self, at: u32, front: &[u8], rest: &[u8]) -> Result<(), DriveLost> {
-        self.count();
-        self.drive.write_gathered(at, front, rest)
     }
 }
 

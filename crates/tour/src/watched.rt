@@ -35,6 +35,10 @@ impl<U: Units> Units for Watched<U> {
         self.units.groups()
     }
 
+    fn unit(&mut self, slot: u16, unit: &mut [u8], scratch: &mut [u8]) -> Result<(), Refusal> {
+        self.units.unit(slot, unit, scratch)
+    }
+
     fn header(&mut self, slot: u16, header: &mut [u8], scratch: &mut [u8]) -> Result<(), Refusal> {
         self.headers = self.headers.saturating_add(1);
         self.units.header(slot, header, scratch)

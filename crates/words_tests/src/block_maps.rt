@@ -133,7 +133,7 @@ fn a_table_of_keys_is_made_a_map(rt: HostRuntime) {
     assert!(rt; map.get(4) == None);
 }
 
-// Whether no block up to this one is there behind one that is not.
+// Whether no block up to `last` is there after one that is missing.
 fn has_the_first(map: &BlockMap, last: u32) -> bool {
     let mut ended = false;
     for block in 1..=last {
@@ -146,7 +146,7 @@ fn has_the_first(map: &BlockMap, last: u32) -> bool {
     true
 }
 
-// Each growth may be refused here, one in a run: then the first blocks are merged, and merging again ends it.
+// Each allocation may fail here, one in a run: then the first blocks are merged, and merging again ends it.
 #[test]
 fn a_refused_merge_has_the_first_blocks_and_goes_on(rt: HostRuntime) {
     for blocks in [2u16, 100] {

@@ -2,7 +2,7 @@ use Rattle.std.proofs.Common.{rules, ◌≡◌, ℕ, zero, suc, List, [], ◌∷
 use Rattle.slot_tables.specs.declared.place.Place.TheVariants.{Free}
 use Rattle.slot_tables.proofs.tables.free_places.Goals as goal
 
--- a list of one value throughout, with that value behind
+-- a list of one value throughout, with that value appended
 more : {X : Type 0} (xs : List X) (d : X) → ((k : ℕ) → get_or xs k d ≡ d) → (k : ℕ) → get_or (xs ++ d ∷ []) k d ≡ d
 more [] d all zero = refl
 more [] d all (suc k) = refl
