@@ -1,4 +1,4 @@
-// An array has units under its slot numbers, for whoever scans them.
+// An array has units under its slot numbers, for any scan of them.
 ghost use Rattle.array_parts.specs.Views.{cells_of};
 ghost use Rattle.array_core.specs.Refused.{OnlyLoses};
 ghost use Rattle.array_core.specs.Laws.{only_itself, only_more};
