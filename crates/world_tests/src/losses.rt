@@ -1,4 +1,4 @@
-// Every drive lost at every call of a run, a second one after it, and what is told then.
+// Every drive lost at every call of a run, a second one after it, and what is answered then.
 use crate::script::{
     Script, Told, answers, fuse, grouped, is_lost, list_on, lose, push, push_fill, push_move,
     push_read, push_write, record_of,
