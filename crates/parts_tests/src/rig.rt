@@ -405,7 +405,7 @@ impl Rig {
         self.parts.lose(drive);
     }
 
-    /// Fuses a drive for a call of its own.
+    /// Makes a drive fail at its `calls`-th read or write from now (1 = the next), and at all later ones.
     pub(crate) fn fuse(&mut self, rt: &impl Abort, drive: u8, calls: u64) {
         assert!(rt; self.is_ready());
         assert!(rt; (drive as usize) < self.parts.drives.len());

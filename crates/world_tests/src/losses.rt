@@ -80,7 +80,7 @@ fn reads_without(rt: &impl Abort, alloc: Global, one: u8, other: u8) -> Script {
     script
 }
 
-// Carries out the run with the drive fused for a call of its own.
+// Carries out the run with the drive failing at its `call`-th read or write.
 fn run(rt: &impl Abort, alloc: Global, world: &mut World, drive: u8, call: u64) {
     fuse(rt, world, drive, call);
     let script = run_without(rt, alloc, drive);

@@ -134,7 +134,7 @@ pub(crate) fn grouped(rt: &impl Abort, alloc: Global) -> World {
     world
 }
 
-/// Loses a drive at a call of its own from now on.
+/// Makes a drive fail at its `call`-th read or write from now (1 = the next), and at all later ones.
 pub(crate) fn fuse(rt: &impl Abort, world: &mut World, drive: u8, call: u64) {
     assert!(rt; drive < world.array().drive_count() && call > 0);
     world.fuse(drive, call);
