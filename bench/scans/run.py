@@ -18,7 +18,7 @@ from scratch import a_round, plain_program, script_program  # noqa: E402
 
 TIMES = 7
 HEADER = 32
-# Bytes of a payload, groups of four members, half of them mirrored, and how often it is scanned or started anew.
+# Bytes of a payload, groups of four members, half of them mirrored, and how often it is scanned or restarted.
 SIZES = [(8, 256, 40), (1_024, 64, 200), (65_536, 8, 600)]
 SEGMENTS, UPPER, LOWER = 8, 32, 48
 

@@ -53,7 +53,7 @@ refused_still a b _ is = record { groups = ap (λ (x : ArrayView). x.parts.group
 pub still_of : (a b c : ArrayView) → b ≡ a → IsStill b c → IsStill a c
 still_of a b c same is = subst (λ (x : ArrayView). IsStill x c) same is
 
--- with another array that shows a state, of the same groups and keys, what is kept stands
+-- with another array that shows a state, of the same groups and keys, what is kept holds
 pub kept_with : (blocks payload : ℕ) (k l : KeptView) → book.IsKept blocks payload k → IsStill k.array l.array → l.ages ≡ k.ages
     → (G : Flat) × ShowsArray l.array G → book.IsKept blocks payload l
 kept_with blocks payload k l is still ages shown = record {
@@ -68,7 +68,7 @@ kept_with blocks payload k l is still ages shown = record {
       (subst (λ (ks : List ℕ). AreMarked k.ages.marks k.array.parts.groups (λ b. slice_index ks b)) (sym still.keys) is.marked));
 }
 
--- with an array that committed a record, which is noted and marked, it stands too
+-- with an array that committed a record, which is noted and marked, it holds too
 pub kept_committed : (blocks payload : ℕ) (k l : KeptView) (w s b : ℕ) (r : Record) (is : book.IsKept blocks payload k) → b < blocks
     → l.array.parts.groups ≡ k.array.parts.groups → length l.ages.order ≡ length k.ages.order
     → l.ages.marks ≡ slice_set k.ages.marks r.block (is_mirrors (class_at l.array.parts.groups (Some r)))
@@ -123,7 +123,7 @@ learned_written a F G asked told content shows case written = go case.2.0 case.2
     go (Data x) learned = subst (λ (r : Record). 0 < r.version) (sym learned.0) written
     go (Stale found) learned = (shows.history.records told learned.0.0).written
 
--- what a fill, a copy, a discard and a read tell of a state, and what they leave shows
+-- what a fill, a copy, a discard and a read return of a state, and what they leave shows
 abbrev pub FillTells : {C : Type 0} → Result ℕ (Refusal × C) → Flat → ℕ → Content → ArrayView → ℕ → Type 0
 FillTells r F w x b s = MatchResult r
     (λ t. (G : Flat) × FillCase F w t x (say.Filled t) G × ShowsArray b G)
@@ -229,7 +229,7 @@ agrees_with a F whole shows = record {
   scanned = λ here M is. one_scan (bytes_of a.parts) M (key_at a) is (headers_tell a F whole shows here);
 }
 
--- what is told of the claim and the array that a call was given is told of equal ones
+-- what holds of the claim and the array that a call was given holds of equal ones
 pub err_as : {T C : Type 0} (r : Result T (Refusal × C)) (one other : C) (a o b : ArrayView) → one ≡ other → a ≡ o
     → IfErr r (λ e. (e.1 ≡ one) × (e.0 ≢ InUse) × IsRefused a b e.0) → IfErr r (λ e. (e.1 ≡ other) × (e.0 ≢ InUse) × IsRefused o b e.0)
 err_as (Ok t) one other a o b same is told = tt

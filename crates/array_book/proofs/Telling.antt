@@ -1,4 +1,4 @@
--- What a Taker knows behind a read.
+-- What a Taker knows after a read.
 use Rattle.std.proofs.Common.{◌≡◌, ℕ, ◌≤◌, inl, inr, refl, sym, ◌∙◌, subst, arith, Contains}
 use Rattle.std.proofs.lemmas.List.Elements.{Contains-push}
 use Rattle.map_join.specs.declared.records.Record.{Record}

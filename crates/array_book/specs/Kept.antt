@@ -20,7 +20,7 @@ pub record KeptView : Type 0 where
   pub end : End
 
 -- what is true whenever the lock is free: the array shows some flat state, and has these sizes; the order and the marks are of its
--- blocks, and just the blocks whose newest place is in a mirrored group are marked
+-- blocks, and exactly the blocks whose newest place is in a mirrored group are marked
 pub record IsKept (many size : ℕ) (k : KeptView) : Type 0 where
   pub flat : Flat
   pub shows : ShowsArray k.array flat
@@ -34,7 +34,7 @@ pub record IsKept (many size : ℕ) (k : KeptView) : Type 0 where
 abbrev pub AreHere : ArrayView → Type 0
 AreHere a = (b : ℕ) → 0 < key_at a b → IsLost a.parts (record_of b (key_at a b)).place → ⊥
 
--- what follows of the array: its map is that of its log, and where no newest place is gone it is the one that the headers tell
+-- what follows of the array: its map is that of its log, and where no newest place is gone it is the one that the headers hold
 pub record Agrees (a : ArrayView) : Type 0 where
   pub map : IsMapOf a.log (key_at a)
   pub headers : AreHere a → IsScanned (bytes_of a.parts) (key_at a)

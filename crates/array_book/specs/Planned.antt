@@ -32,7 +32,7 @@ IsFirstBehind k free slot = IsFirstAppend k.end k.array.parts.groups (key_at k.a
 abbrev pub IsOldestMirrored : KeptView → Option ℕ → Type 0
 IsOldestMirrored k block = IsOldest k.ages.order (IsMirrored k.array.parts.groups (key_at k.array)) block
 
--- fewer than `low` of these slots are free: with so many that the array holds there is no room for `low` free ones
+-- fewer than `low` of these slots are free: those that the array holds, plus `low`, are more than all of them
 abbrev pub WantsDemotion : KeptView → List ℕ → ℕ → Type 0
 WantsDemotion k mirrors low = length mirrors < count_by (λ slot. is_kept (kept_at k.array slot)) mirrors + low
 

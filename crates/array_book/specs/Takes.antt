@@ -44,7 +44,7 @@ HasMigrated number even odd even_after odd_after NoRoom = AreSame even odd even_
 abbrev pub Knows : View → Record → Type 0
 Knows taker r = Contains taker.taken r ⊎ ((f : Found) × Contains taker.found f × (f.block ≡ r.block) × (f.key ≡ key_of r))
 
--- what a read of a block tells, given the view of the Taker before and after: a record of that block that the Taker knows by
+-- what a read of a block returns, given the view of the Taker before and after: a record of that block that the Taker knows by
 -- then, and that isn't below any that it knew
 abbrev pub IsTold : View → ℕ → View → Record → Type 0
 IsTold before block after r = (r.block ≡ block) × Knows after r × IsNewest before block (key_of r)
@@ -53,11 +53,11 @@ IsTold before block after r = (r.block ≡ block) × Knows after r × IsNewest b
 abbrev pub HasAsked : View → ℕ → ℕ → View → Type 0
 HasAsked before block key after = IsNewest before block key × HasFound before block key after
 
--- what was told is what was found, and nothing was taken; or it was taken
+-- the returned record is the one that was found, and nothing was taken; or it was taken
 abbrev pub Learnt : Record → Record → View → View → Type 0
 Learnt told found before after = ((told ≡ found) × (after ≡ before)) ⊎ Took told before after
 
--- what a read that tells this record of the block leaves of the Taker: one step more, which found a written record's key; and where
--- that record isn't the one that is told, another, which took this
+-- what a read that returns this record of the block leaves of the Taker: one step more, which found a written record's key;
+-- and where that record isn't the one that is returned, another, which took this
 abbrev pub HasRead : View → ℕ → Record → View → Type 0
 HasRead before block told after = (found : Record) × (between : View) × (found.block ≡ block) × (0 < found.version) × HasAsked before block (key_of found) between × Learnt told found between after

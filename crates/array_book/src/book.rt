@@ -1,4 +1,4 @@
-// An array behind a lock, next to the words that need none.
+// An array guarded by a lock, next to the words that need none.
 ghost use Rattle.std.specs.Prelude.{◌≡◌, ◌⊎◌, ℕ, ◌≤◌, length, IfOk, IfErr, IfSome, IfNone};
 ghost use Rattle.array_model.specs.Represents.{ShowsArray};
 ghost use Rattle.flat_machine.specs.Flat.{Flat};
@@ -19,7 +19,7 @@ use std::sync::Mutex;
 use step_core::Array;
 use tiering::ages_of;
 
-/// An array behind a lock, its slot words, and the maps of two controllers. While it is in a Book no group of it is made.
+/// An array guarded by a lock, its slot words, and the maps of two controllers. While it is in a Book no group of it is made.
 pub struct Book<
     D: Drive,
     N: slot_words::Naming + Sizes,

@@ -1,4 +1,4 @@
-//! An array behind a lock, next to words that need none: workers in threads, and two controllers' maps that settle.
+//! An array guarded by a lock, next to words that need none: workers in threads, and two controllers' maps that settle.
 #![tactic(auto)]
 
 mod asks;

@@ -25,7 +25,7 @@ use Rattle.array_core.proofs.Ready.{as_many}
 use Rattle.slot_tables.proofs.Adoptions.{all_keys, wants_placed}
 use Rattle.slot_tables.proofs.Places.{kepts_many}
 
--- parts that fit stand by themselves
+-- parts that fit are an array's parts
 pub fit_parts : {D : Type 0} (units : D → List (List ℕ)) (lost : D → Bool) (failures : D → Failures) (p : Parts D) → IsFit units p → ArePartsOf (view_of units lost failures p)
 fit_parts {D} units lost failures p fit = record {
   sizes = shape_sizes p.shape p.groups fit.shape;

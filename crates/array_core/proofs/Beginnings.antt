@@ -40,7 +40,7 @@ none_failed [] d there = refl
 none_failed (m ∷ ds) zero there = ap failures_of (there 0 m refl)
 none_failed (m ∷ ds) (suc d) there = none_failed ds d (λ e x at. there (suc e) x at)
 
--- so an array of such drives stands for a new state of which none is lost
+-- so an array of such drives represents a new state of which none is lost
 pub none_lost : (a : ArrayView) (ds : List Held) (count : ℕ) → length ds ≡ count → a.parts.drives ≡ map held_view ds → ArePresent ds
     → ShowsArray a (new_flat a.parts.groups (length a.parts.drives) (lost_of a.parts) (failed_of a.parts)) → ShowsArray a (new_flat a.parts.groups count (nat_le count) (λ _. no_failures))
 none_lost a ds count counted drives there shows = subst (λ (F : Flat). ShowsArray a F) (λ i. new_flat a.parts.groups (many i) (lost i) (failures i)) shows

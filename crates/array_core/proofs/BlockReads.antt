@@ -19,7 +19,7 @@ use Rattle.array_model.proofs.Finds.{read_none, read_some}
 use Rattle.array_model.proofs.Newest.{newest_is}
 use Rattle.array_core.specs.Reads.{WasFound, WasFoundIn, WasGone, WasNotFound, version_in, version_of}
 
--- the newest record of a block is the one that the array tells
+-- the newest record of a block is the one that the array has
 one_newest : (a : ArrayView) (F : Flat) (block : ℕ) (o : Option Record) (r : Record) → ShowsArray a F → record_at block (key_at a block) ≡ o → IsNewest F.emitted block (Some r) → Some r ≡ o
 one_newest a F block o r shows told newest = newest_unique F.emitted block shows.history.records (Some r) o newest (newest_is a F block o shows told)
 

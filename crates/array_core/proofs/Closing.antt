@@ -128,7 +128,7 @@ module _ {C : Type 0} (names : C → ℕ) (a : ArrayView) (F : Flat) (w g : ℕ)
   unmake_refused Full is = absurd is
   unmake_refused BadMember is = absurd is
 
-  -- where all are given the worker has them, and the group is unmade
+  -- where all are given the worker has them, and the group is dissolved
   claimed : CanUnmake names a g claims → (slot : ℕ) → IsIn F g slot → HasClaim F w slot
   claimed can slot is =
       let one = one_first g (count_in a g) slot (of_in a F g slot same is) in

@@ -29,7 +29,7 @@ pub data_seen : (a b : ArrayView) (r : Record) (k : Kind) (v : Vec ℕ Global) (
     → WasSeen a b r (Data (content_under k (with_items v ws).items))
 data_seen a b r k v ws long seen = subst (λ (l : List ℕ). WasSeen a b r (Data (content_under k l))) (sym (with_items_is v ws long)) seen
 
--- the array tells this as the newest record of the block, and the one asked for isn't greater
+-- the array has this as the newest record of the block, and the one asked for isn't greater
 pub record Tells (a : ArrayView) (r n : Record) : Type 0 where
   pub told : record_at r.block (key_at a r.block) ≡ Some n
   pub most : key_of r ≤ key_of n
@@ -37,7 +37,7 @@ pub record Tells (a : ArrayView) (r n : Record) : Type 0 where
 behind : (a : ArrayView) (F : Flat) (r n : Record) → ShowsArray a F → Tells a r n → IsBehind F r
 behind a F r n shows tells = (n, newest_is a F r.block (Some n) shows tells.told, tells.most)
 
--- with other drives it tells the same
+-- with other drives it has the same
 told_again : (a m : ArrayView) (r n : Record) → m ≡ with_parts a m.parts → Tells a r n → record_at r.block (key_at m r.block) ≡ Some n
 told_again a m r n rest tells = subst (λ (v : ArrayView). record_at r.block (key_at v r.block) ≡ Some n) (sym rest) tells.told
 

@@ -148,7 +148,7 @@ was_fused a b v drive calls seen below set missing failures keeps sound tables =
         view_length held_units held_lost held_failures b ∙ ap length (set m.0 m.1) ∙ length-set a.drives.items drive y
         ∙ sym (view_length held_units held_lost held_failures a)
 
--- a new drive of so many units
+-- a new drive of `count` units, each of `bytes` bytes
 abbrev pub new_drive : ℕ → ℕ → Held
 new_drive bytes count = record { units = zero_units bytes count; condition = Present }
 

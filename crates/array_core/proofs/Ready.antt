@@ -73,7 +73,7 @@ still_ready units lost failures a p unit scratch same fit ready =
       live = ready.live;
     }
 
--- so all of it stands that is always true of an array
+-- so all of it holds that is always true of an array
 pub still_stands : {D C Claims : Type 0} (units : D → List (List ℕ)) (lost : D → Bool) (failures : D → Failures) (a : Inside D C) (p : Parts D) (unit scratch : List ℕ)
     → Keeps (view_of units lost failures a.parts) (view_of units lost failures p) → IsFit units p → IsWhole (seen units lost failures a) × Claims × IsReady units a
     → IsWhole (seen units lost failures (record a { parts = p })) × Claims

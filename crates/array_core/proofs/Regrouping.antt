@@ -32,7 +32,7 @@ pub either_on : {T E P A : Type 0} {B : E → Type 0} (r : Result T E) → (A �
 either_on (Ok x) ok err a b = ok a
 either_on (Err e) ok err a b = err e b
 
--- what a move tells is the flat machine's case
+-- what a move returns is the flat machine's case
 pub move_told : {T : Type 0} (a b : ArrayView) (F : Flat) (g k : ℕ) (to : Member) (r : Result T Refusal) → IsMoveReason a.parts.groups (length a.parts.drives) g k to None
     → lost_of a.parts to.drive ≡ false → OnOk r (Shifted a.parts g k to b.parts) → IfErr r (NotShifted a.parts g k to b.parts) → b ≡ with_parts a b.parts → ShowsArray a F
     → MatchResult r (λ done. (G : Flat) × MoveCase F g k to MovedExtent G × ShowsArray b G)

@@ -1,4 +1,4 @@
--- The claims of an array with nothing pending and no claim of an unmade group.
+-- The claims of an array with nothing pending and no claim of a dissolved group.
 use Rattle.std.proofs.Common.{◌≡◌, ℕ, ◌<◌, ◌/◌, ◌==◌, true, false, List, refl, sym, ◌∙◌, arith, None}
 use Rattle.std.proofs.lemmas.Bool.Decides.{nat_tests}
 use Rattle.map_join.specs.Record.{record_of}

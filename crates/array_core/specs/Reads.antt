@@ -29,7 +29,7 @@ WasFound a b block (Some found) = WasFoundIn a b block (Some found.0) found.1.it
 abbrev pub WasGone : ArrayView → ArrayView → ℕ → Refusal → Type 0
 WasGone a b block refusal = (r : Record) × (record_at block (key_at a block) ≡ Some r) × FoundGone a.parts b.parts r.place refusal
 
--- a block wasn't read: for want of memory, or as the slot of its newest record is gone
+-- a block wasn't read: out of memory, or the slot of its newest record is gone
 abbrev pub WasNotFound : ArrayView → ArrayView → ℕ → Refusal → Type 0
 WasNotFound a b block refusal = (r : Record) × (record_at block (key_at a block) ≡ Some r) × WasNotRead a b r.place refusal
 
@@ -49,7 +49,7 @@ seen_of (at.Data payload) = Data (Payload payload.items)
 seen_of at.Trimmed = Data Trim
 seen_of (at.Stale header) = Stale header
 
--- what is learned of a record: the record that is told, and its content
+-- what is learned of a record: the record that is returned, and its content
 pub record Lesson : Type 0 where
   pub told : Record
   pub content : Content

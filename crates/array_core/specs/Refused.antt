@@ -13,7 +13,7 @@ OnlyLoses a b = (b ≡ with_parts a b.parts) × Loses a.parts b.parts
 abbrev pub OnlyLosesOf : WorldView → WorldView → Type 0
 OnlyLosesOf v w = (w.hands ≡ v.hands) × OnlyLoses v.array w.array
 
--- the array as it was; where a drive is told to be lost or a slot to be gone, drives may have been lost
+-- the array as it was; where a drive is reported lost or a slot gone, drives may have been lost
 abbrev pub IsRefused : ArrayView → ArrayView → Refusal → Type 0
 IsRefused a b (Gone slot) = OnlyLoses a b
 IsRefused a b (DriveLost drive) = OnlyLoses a b

@@ -1,4 +1,4 @@
--- When a group's member can be moved onto an extent, told by the tables.
+-- When a group's member can be moved onto an extent, stated over the tables.
 use Rattle.std.specs.Prelude.{◌≡◌, ℕ, ◌<◌, None, length}
 use Rattle.extents.specs.Owners.{IsExtent}
 use Rattle.extent_groups.specs.declared.class.Member.{Member}

@@ -20,8 +20,8 @@ use slot_tables::{Hold, NotAdopted, Ready, Room, prepare, seat_all, unseat_all};
 use std::alloc::Global;
 
 impl<D: Drive, C: Hold> Array<D, C> {
-    /// Takes the array apart: into its parts, and the claims of all slots that it kept, those of tickets
-    /// too, from the last slot to the first. Refused for want of memory it hands the array back.
+    /// Takes the array apart: into its parts, and the claims of all slots that it kept, those of tickets too, from the last
+    /// slot to the first. If out of memory it returns the array unchanged.
     pub fn into_parts(self, alloc: Global) -> Result<(Parts<D>, Vec<C>), Array<D, C>>
         ensures parts { IfOk result (λ r. view_of D.units D.lost D.failures r.0 ≡ self.parts) }
         ensures fit { IfOk result (λ r. IsFit D.units r.0) }
@@ -36,9 +36,9 @@ impl<D: Drive, C: Hold> Array<D, C> {
         Ok((self.parts, claims))
     }
 
-    /// Puts an array together from its parts and the map that their headers tell, as `header_scan` does
-    /// in a restart: it takes the claims of the newest places among those given, one of each, and hands the
-    /// others back. Refused for want of memory or of a claim it hands all back, and no claim has moved.
+    /// Puts an array together from its parts and the map that their headers hold, as `header_scan` does in a restart: it takes
+    /// the claims of the newest places among those given, one of each, and returns the others. If out of memory or without one
+    /// of these claims it returns all that was given, and no claim has moved.
     pub fn adopt_among(
         alloc: Global,
         parts: Parts<D>,
@@ -84,8 +84,8 @@ impl<D: Drive, C: Hold> Array<D, C> {
         }
     }
 
-    /// The other half of `into_parts`: an array of these parts with the map that their headers tell, and the
-    /// claims of its newest places, one of each. Refused for want of memory it hands all back.
+    /// The inverse of `into_parts`: an array of these parts with the map that their headers hold, and the claims of its newest
+    /// places, one of each. If out of memory it returns all that was given.
     pub fn adopt(
         alloc: Global,
         parts: Parts<D>,

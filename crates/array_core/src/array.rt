@@ -53,8 +53,8 @@ impl<D: Drive, C: Hold> Model for Array<D, C> {
 }
 
 impl<D: Drive, C: Hold> Array<D, C> {
-    /// A new array: no group is made and nothing is written. There are 3 to 16 drives, each with the units
-    /// that the shape asks, whatever they hold. Refused for want of memory it hands the drives back.
+    /// A new array: no group is made and nothing is written. There are 3 to 16 drives, each with the units that the shape asks
+    /// for, with any content. If out of memory it returns the drives.
     pub fn new(
         alloc: Global,
         shape: Shape,
@@ -136,14 +136,14 @@ impl<D: Drive, C: Hold> Array<D, C> {
         lost
     }
 
-    /// What every array keeps by itself, as a law: nothing is done.
+    /// What always holds of an array, as a law: nothing is done.
     pub fn whole(&self)
         ensures { IsWhole self.now }
     {
         let _ = &self.parts;
     }
 
-    /// Whether the array itself holds the slot: for a ticket, as a block's newest place, or for an unmade group.
+    /// Whether the array itself holds the slot: for a ticket, as a block's newest place, or for a dissolved group.
     pub fn is_held(&self, slot: u16) -> bool
         ensures value { result ≡ is_kept (kept_at self.now slot) }
         ensures flat { (F : Flat) → ShowsArray self.now F → IsTrue result ↔ IsKept F slot }
@@ -223,8 +223,8 @@ impl<D: Drive, C: Hold> Array<D, C> {
         self.log.len()
     }
 
-    /// The emitted records from the n-th on, in order of emission; none where n is past the end, and then no
-    /// memory is wanted.
+    /// The emitted records from the n-th on, in order of emission. None where n is past the end, and then nothing is
+    /// allocated.
     pub fn records_from(&self, alloc: Global, n: usize) -> Result<Vec<Record>, Refusal>
         ensures ok { IfOk result (λ records. records.items ≡ drop n self.now.log) }
         ensures there { length self.now.log ≤ n → IsOk result }
@@ -239,7 +239,7 @@ impl<D: Drive, C: Hold> Array<D, C> {
         }
     }
 
-    /// The running map, copied. Memory is wanted only where a block was written.
+    /// The running map, copied. Allocates only where a block was written.
     pub fn map(&self, alloc: Global) -> Result<BlockMap, Refusal>
         ensures ok { IfOk result (λ map. IsSame (at map) (key_at self.now)) }
         ensures there { IsSame (key_at self.now) (λ _. 0) → IsOk result }

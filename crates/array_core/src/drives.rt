@@ -51,7 +51,7 @@ impl<D: Drive, C: Hold> Array<D, C> {
         self.parts.put_trim(slot, unit, scratch)
     }
 
-    // Writes what a slot holds into a slot where it waits, and tells its kind.
+    // Writes what a slot holds into a slot where it waits, and returns its kind.
     pub(crate) fn carry(&mut self, from: u16, to: u16) -> Result<Kind, Refusal>
         requires from { IsSlot self.old.parts.groups from }
         requires to { IsSlot self.old.parts.groups to }

@@ -14,7 +14,7 @@ pub trait TakeBack<C> {
 }
 
 impl<D: Drive, C: Hold> Array<D, C> {
-    /// Hands each claim that the array kept over, those of tickets too. It takes no memory.
+    /// Gives each claim that the array kept to `to`, those of tickets too, and returns the parts. Nothing is allocated.
     pub fn end<T: TakeBack<C>>(self, to: &mut T) -> Parts<D>
         ensures parts { view_of D.units D.lost D.failures result ≡ self.parts }
         ensures fit { IsFit D.units result }

@@ -22,9 +22,8 @@ use std::alloc::Global;
 pub const DRIVES: u8 = 16;
 
 impl<D: Drive, C: Hold> Array<D, C> {
-    /// Adds a drive under the number behind the last; its extents are free. It has the units that the
-    /// shape asks, whatever they hold. Refused as full where there are sixteen drives, or for want of
-    /// memory, it hands the drive back.
+    /// Adds a drive under the number after the last; its extents are free. It has the units that the shape asks for, with any
+    /// content. If there are sixteen drives (`Full`) or out of memory, it returns the drive.
     pub fn add_drive(&mut self, alloc: Global, drive: D) -> Result<u8, (Refusal, D)>
         requires many { length (D.units drive) ≡ self.old.parts.groups.extents * extent_units self.old.parts.groups.segments }
         requires sized { IsSized (unit_bytes self.old.parts.groups) (D.units drive) }

@@ -9,8 +9,8 @@ use slot_tables::SLOTS;
 use std::alloc::{AllocError, Global};
 use std::marker::Model;
 
-/// What a worker has in hand, by slot. A slot waits from `keep`, which takes its ticket, until `take` hands it
-/// back or something else is in hand.
+/// What a worker has in hand, by slot. A slot waits from `keep`, which takes its ticket, until `take` returns it or something
+/// else is in hand.
 #[derive(Drop)]
 pub struct Hands {
     hands: Vec<Hand>,

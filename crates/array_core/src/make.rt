@@ -21,10 +21,9 @@ use slot_tables::Hold;
 use std::alloc::Global;
 
 impl<D: Drive, C: Hold> Array<D, C> {
-    /// Makes a group under the lowest number that isn't made, and wipes its extents first. It hands back the
-    /// claims that are kept since that number was unmade, by rising slots, of which there are at most 128. Refused
-    /// with a member's drive that is lost, before or while extents are wiped, the tables are as they were, and so is
-    /// every slot of a group.
+    /// Makes a group under the lowest number that isn't made, and wipes its extents first. It returns the claims that are kept
+    /// since that number was dissolved, by rising slots, of which there are at most 128. Refused with a member's drive that is
+    /// lost, before or while extents are wiped, the tables are as they were, and so is every slot of a group.
     pub fn make_group(
         &mut self,
         alloc: Global,

@@ -31,8 +31,8 @@ pub enum At {
 }
 
 impl<D: Drive, C: Hold> Array<D, C> {
-    /// The version and the payload of a block's last acknowledged write, none where that was a trim. Refused as gone with the slot of
-    /// its newest record, where that can't be had.
+    /// The version and the payload of a block's last acknowledged write; none where that was a trim, or the block was never
+    /// written. Refused as gone with the slot of its newest record, where that can't be had.
     pub fn read(&mut self, alloc: Global, block: u32) -> Result<Option<(u32, Vec<u8>)>, Refusal>
         requires { block < self.old.parts.groups.blocks }
         ensures ok { IfOk result (WasFound self.old self.new block) }
@@ -58,9 +58,9 @@ impl<D: Drive, C: Hold> Array<D, C> {
         }
     }
 
-    /// The version of a block's last acknowledged write, with its payload put into the buffer, which needs no
-    /// memory; none where that was a trim. Refused as gone with the slot of its newest record, where that can't be had. Where no version
-    /// is told, nothing is said of what the buffer holds.
+    /// The version of a block's last acknowledged write, with its payload put into the buffer, which allocates nothing; none
+    /// where that was a trim, or the block was never written. Refused as gone with the slot of its newest record, where that
+    /// can't be had. Where no version is returned, nothing is said of what the buffer holds.
     pub fn read_into(&mut self, block: u32, payload: &mut [u8]) -> Result<Option<u32>, Refusal>
         requires block { block < self.old.parts.groups.blocks }
         requires payload { length payload.old ≡ self.old.parts.groups.payload }

@@ -17,7 +17,7 @@ use slot_tables::Hold;
 use std::alloc::Global;
 use std::marker::Model;
 
-/// A record with its payload, or with none where it is a trim, as an array tells it: `read_or_learn` alone makes one.
+/// A record with its payload, or with none where it is a trim, as an array returns it: `read_or_learn` alone makes one.
 #[derive(Debug, Drop)]
 pub struct Reading {
     record: Record,

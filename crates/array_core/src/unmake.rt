@@ -1,4 +1,4 @@
-// A group is unmade.
+// A group is dissolved.
 ghost use Rattle.std.specs.Prelude.{◌≡◌, ◌≢◌, ℕ, ◌<◌, ◌≤◌, None, IsNone, IfSome, IfErr, OnOk, MatchOption, MatchResult};
 ghost use Rattle.extent_groups.specs.Groups.{group_at};
 ghost use Rattle.flat_machine.specs.Steps as say;
@@ -17,10 +17,10 @@ use flat_machine::Refusal;
 use slot_tables::{Hold, close_all, marked};
 
 impl<D: Drive, C: Hold> Array<D, C> {
-    /// Unmakes a group of which all claims are given, one of each slot, and keeps them until its number is
-    /// made again. No drive is used and no memory taken. Refused it hands the claims back, and nothing has
-    /// changed: with `NoGroup` where the group isn't made, or a claim is of none of its slots or a second one
-    /// of a slot; with `SlotsHeld` and the lowest slot of which there is no claim, or that the array itself holds.
+    /// Dissolves a group of which all claims are given, one of each slot, and keeps them until its number is made again. No
+    /// drive is used and nothing is allocated. On a refusal it returns the claims, and nothing has changed: `NoGroup` where
+    /// the group isn't made, or a claim is of none of its slots or a second one of a slot; `SlotsHeld` with the lowest slot of
+    /// which there is no claim, or that the array itself holds.
     pub fn unmake_group(&mut self, group: u16, claims: Vec<C>) -> Result<(), (Refusal, Vec<C>)>
         ensures ok { OnOk result (CanUnmake C.names self.old group claims.items) }
         ensures taken { OnOk result (WasTaken self.old.parts group self.new.parts × IsClosed group (count_in self.old group) self.old.kept self.new.kept) }
@@ -52,7 +52,7 @@ impl<D: Drive, C: Hold> Array<D, C> {
         Some(self.parts.groups.slots_of(group))
     }
 
-    // Why a group can't be unmade with these claims.
+    // Why a group can't be dissolved with these claims.
     fn unmake_fault(&self, group: u16, claims: &[C]) -> Option<Refusal>
         ensures { MatchOption result (CanUnmake C.names self.now group claims.now) (IsUnmakeReason C.names self.now group claims.now) }
     {
@@ -71,7 +71,7 @@ impl<D: Drive, C: Hold> Array<D, C> {
         None
     }
 
-    // Unmakes a group with the claims of all its slots.
+    // Dissolves a group with the claims of all its slots.
     fn close(&mut self, group: u16, claims: Vec<C>)
         requires { CanUnmake C.names self.old group claims.items }
         ensures taken { WasTaken self.old.parts group self.new.parts }

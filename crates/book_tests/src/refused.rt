@@ -1,4 +1,4 @@
-// A Book around a restarted array whose worker's call is refused, and the slot that the call gives back.
+// A Book around a restarted array whose worker's call is refused, and the slot that the call releases.
 ghost use Rattle.std.specs.Prelude.{◌≡◌};
 ghost use Rattle.array_parts.specs.Fit.{IsFit};
 ghost use Rattle.array_parts.specs.Memory.{held_lost, held_units};

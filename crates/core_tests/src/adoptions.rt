@@ -16,7 +16,7 @@ use std::alloc::Global;
 use std::process::Abort;
 use step_core::{Array, MemDrive, NotAdopted, Plain};
 
-// The array's parts, the map that their headers tell, and its claims.
+// The array's parts, the map that their headers hold, and its claims.
 fn taken_apart(
     rt: &impl Abort,
     alloc: Global,
@@ -34,7 +34,7 @@ fn taken_apart(
     (parts, map, claims)
 }
 
-// The array of parts, their map and just its claims.
+// The array of parts, their map and exactly its claims.
 fn put_together(
     rt: &impl Abort,
     alloc: Global,

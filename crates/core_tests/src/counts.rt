@@ -1,4 +1,4 @@
-// The counts of live slots by group, beside plain counts of where a walk of writes and copies left each block.
+// The counts of live slots by group, compared with plain counts of where a walk of writes and copies left each block.
 ghost use Rattle.std.specs.Prelude.{◌≤◌};
 
 use crate::rig::Rig;
@@ -69,7 +69,7 @@ fn step(rt: &impl Abort, rig: &mut Rig, places: &mut [Option<u16>; 16], turn: u3
     }
 }
 
-// The array made anew from its headers.
+// The array rebuilt from its headers.
 fn made_anew(rt: &impl Abort, rig: Rig) -> Rig {
     let Rig { array, alloc } = rig;
     let Ok((parts, claims)) = array.into_parts(alloc) else {
@@ -97,7 +97,7 @@ fn each_group_counts_the_blocks_that_lie_there(rt: HostRuntime) {
     assert!(rt; counts_all(&anew, &places));
 }
 
-// Whether the array counts so many live slots in group 0, and so many in group 2.
+// Whether the array counts `first` live slots in group 0, and `third` in group 2.
 fn counts(rig: &Rig, first: u16, third: u16) -> bool {
     rig.array.live_count(0) == first && rig.array.live_count(2) == third
 }

@@ -1,4 +1,4 @@
-//! The array by its own calls, and made anew, against values from outside.
+//! The array by its own calls, and rebuilt, against values from outside.
 #![tactic(auto)]
 
 #[cfg(test)]

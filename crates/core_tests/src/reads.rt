@@ -69,7 +69,7 @@ fn a_record_is_read_at_its_place_or_learned(rt: HostRuntime) {
     assert!(rt; rig.learns(&rt, FIRST, FIRST, 0x11));
 }
 
-// What two copies on drives 0 and 1 tell of block 3 once drives are lost.
+// What two copies on drives 0 and 1 hold of block 3 once drives are lost.
 #[test]
 fn a_block_is_read_until_both_its_copies_are_lost(rt: HostRuntime) {
     let mut rig = written(&rt, rt.alloc());

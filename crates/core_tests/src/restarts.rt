@@ -1,4 +1,4 @@
-// An array taken apart and made anew: its map, its log, its claims, and what each block reads.
+// An array taken apart and rebuilt: its map, its log, its claims, and what each block reads.
 use crate::rig::{Memory, Rig, record};
 use header_scan::restart;
 use std::alloc::Global;
@@ -45,7 +45,7 @@ fn holds_newest(array: &Memory) -> bool {
     true
 }
 
-/// Whether the array tells what `written` left, made anew, and no more.
+/// Whether the rebuilt array holds what `written` left, and no more.
 pub(crate) fn is_as_written(rt: &impl Abort, rig: &mut Rig) -> bool {
     lists_newest(rig) && holds_newest(&rig.array) && reads_as_written(rt, rig)
 }
@@ -60,7 +60,7 @@ fn are_of(claims: &[Plain], slots: &[u16]) -> bool {
     claims.len() == slots.len()
 }
 
-// Takes the array apart, which held these slots, and makes it anew with claims of some others beside: the array, and the
+// Takes the array apart, which held these slots, and rebuilds it with claims of some others in addition: the array, and the
 // claims that it doesn't take.
 fn restarted(rt: &impl Abort, rig: Rig, held: &[u16], beside: &[u16]) -> (Rig, Vec<Plain>) {
     let Rig { array, alloc } = rig;

@@ -69,7 +69,7 @@ pub(crate) fn is_refused(
     }
 }
 
-// So many drives, with no group.
+// An array of `drives` drives, with no group.
 fn new_array(rt: &impl Abort, alloc: Global, drives: u8) -> Memory {
     let Ok(shape) = Shape::new(8, 2, 8, 16) else {
         panic!(rt; "no shape")
@@ -82,8 +82,8 @@ fn new_array(rt: &impl Abort, alloc: Global, drives: u8) -> Memory {
 }
 
 impl Rig {
-    /// So many drives, of which 0 to 2 have a mirrored group: slot 0 lies on drives 0 and 1, slot 1 on 1 and 2, slot 2 on
-    /// 2 and 0.
+    /// An array of `drives` drives, of which 0 to 2 have a mirrored group: slot 0 lies on drives 0 and 1, slot 1 on 1 and 2,
+    /// slot 2 on 2 and 0.
     pub(crate) fn new(rt: &impl Abort, alloc: Global, drives: u8) -> Rig {
         let array = new_array(rt, alloc, drives);
         let mut rig = Rig { array, alloc };
@@ -91,7 +91,7 @@ impl Rig {
         rig
     }
 
-    /// Makes a group of an extent of this number on each of these drives, and tells its number.
+    /// Makes a group of an extent of this number on each of these drives, and returns its number.
     pub(crate) fn make(
         &mut self,
         rt: &impl Abort,
@@ -148,7 +148,7 @@ impl Rig {
         self.commit(rt, ticket, block)
     }
 
-    /// Writes a block at a slot, and tells the record.
+    /// Writes a block at a slot, and returns the record.
     pub(crate) fn write(&mut self, rt: &impl Abort, slot: u16, block: u32, byte: u8) -> Record {
         self.put(rt, slot, block, byte).emitted.record()
     }
@@ -161,7 +161,7 @@ impl Rig {
         self.commit(rt, ticket, block).emitted.record()
     }
 
-    /// Copies a block to a slot, and tells the record.
+    /// Copies a block to a slot, and returns the record.
     pub(crate) fn carry(&mut self, rt: &impl Abort, slot: u16, block: u32) -> Record {
         let Ok(ticket) = self.copy(rt, slot, block) else {
             panic!(rt; "not copied")
@@ -204,7 +204,7 @@ impl Rig {
         self.array.read_or_learn(self.alloc, asked)
     }
 
-    /// Whether who asks for a record is told another, or the same, with a payload of this byte.
+    /// Whether `read_or_learn` of the asked record returns this record, with a payload of this byte.
     pub(crate) fn learns(
         &mut self,
         rt: &impl Abort,

@@ -1,4 +1,4 @@
-// Groups that are unmade and made again: whose claims are wanted, in which order a refusal is told, and what comes back.
+// Groups that are dissolved and made again: whose claims are needed, in which order refusals come, and what comes back.
 use crate::rig::Rig;
 use std::alloc::Global;
 use std::process::Abort;
@@ -30,13 +30,13 @@ fn is_refused(rt: &impl Abort, rig: &mut Rig, group: u16, slots: &[u16], wanted:
     }
 }
 
-// Unmakes group 0 with its claims, the last slot's first.
+// Dissolves group 0 with its claims, the last slot's first.
 fn unmake(rt: &impl Abort, rig: &mut Rig) {
     let claims = claims_of(rt, rig.alloc, &[5, 0, 4, 1, 3, 2]);
     assert!(rt; rig.array.unmake_group(0, claims).is_ok());
 }
 
-// Makes group 0 again on other extents, and tells whether the claims of these slots come back.
+// Makes group 0 again on other extents: whether the claims of these slots come back.
 fn gives_back(rt: &impl Abort, rig: &mut Rig, extent: u16, slots: &[u16]) -> bool {
     let members = crate::rig::members_on([0, 1, 2], extent);
     match rig.array.make_group(rig.alloc, Class::Parity, &members) {

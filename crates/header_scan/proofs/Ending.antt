@@ -1,4 +1,5 @@
--- What is noted of all slots of a range, as the map of their headers, or as the lowest block that stands twice.
+-- What is noted of all slots of a range, as the map of their headers, or as the lowest block that has its greatest stamp
+-- twice.
 use Rattle.std.proofs.Common.{◌≡◌, ℕ, ◌^◌, ◌<◌, ◌≤◌, inl, inr, Some, refl, sym, ◌∙◌, subst, arith}
 use Rattle.map_join.specs.declared.records.Record.{Record}
 use Rattle.map_join.specs.Record.{key_of, stamp_of, stamp_in}
@@ -31,7 +32,7 @@ begun groups start low M T sound one two = record {
   noted = λ b. none_noted low (unit_of groups start) b (M b) (T b) (one b) (two b);
 }
 
--- of slots that are fine, a header that is there is told
+-- of slots that are fine, a header that is there is read
 pub own_told : (groups : Groups) (start : Cells) (low high slot : ℕ) (r : Record) → AreFine groups low high (unit_of groups start) → HasHeader (between low high (unit_of groups start)) slot r
     → Tells groups.blocks (unit_of groups start) slot (Some r)
 own_told groups start low high slot r fine h =
@@ -39,7 +40,7 @@ own_told groups start low high slot r fine h =
     let told = fine slot (has_unit groups start slot w.2.0 w.2.1) w.0 w.1 in
     subst (λ o. Tells groups.blocks (unit_of groups start) slot o) (told_record groups.blocks (unit_of groups start) slot told.0 r told.1 w.2) told.1
 
--- and tells its own slot
+-- and names its own slot
 pub own_place : (groups : Groups) (start : Cells) (low high slot : ℕ) (r : Record) → AreFine groups low high (unit_of groups start) → HasHeader (between low high (unit_of groups start)) slot r
     → (r.place ≡ slot) × (r.block < groups.blocks)
 own_place groups start low high slot r fine h = let tells = own_told groups start low high slot r fine h in (tells.3.1, tells.3.0)
@@ -71,7 +72,7 @@ scanned groups start now low high M T small_high under once = record {
       ];
 }
 
--- and with one, the lowest is that of the lowest block that stands twice
+-- and with one, the lowest is that of the lowest block that occurs twice
 pub twice : (groups : Groups) (start now : Cells) (low high b : ℕ) (M T : ℕ → ℕ) → IsUnderway groups start now low high M T → IsTwin (M b) (T b)
     → IsTwice (between low high (unit_of groups start)) b (place_in (M b)) (place_in (T b))
 twice groups start now low high b M T under twin =
@@ -91,7 +92,7 @@ twice groups start now low high b M T under twin =
       lowest = λ slot r h block equal. elim (noted.second slot (stamp_of r) (r, h, block, refl) (equal ∙ n.3)) [ inl q ↦ inl q | inr both ↦ inr both.1 ];
     }
 
--- a block that stands twice is noted as such
+-- a block that occurs twice is noted as such
 pub noted_twice : (groups : Groups) (start now : Cells) (low high b p q : ℕ) (M T : ℕ → ℕ) → IsUnderway groups start now low high M T → IsTwice (between low high (unit_of groups start)) b p q → IsTwin (M b) (T b) × (b < groups.blocks)
 noted_twice groups start now low high b p q M T under is =
     let bytes : Bytes = between low high (unit_of groups start) in

@@ -91,7 +91,7 @@ no_twin block n t (inr some) (inr any) e twin =
     (subst (λ o. twins_in o (Some (record_of block t)) ≡ None) (some_record block n some) (subst (λ o. twins_in (record_at block n) o ≡ None) (some_record block t any) e))
     (equal_is (stamp_of (record_of block n)) (stamp_of (record_of block t)) is)
 
--- the block that stands twice is the first fault
+-- the block that occurs twice is the first fault
 pub first_twice : (groups : Groups) (start new : Cells) (low high b p q : ℕ) (M T : ℕ → ℕ) → IsUnderway groups start new low high M T → AreFirstTwins M T b p q
     → IsFirstFault groups low high (unit_of groups start) (unit_of groups new) (Twice b p q)
 first_twice groups start new low high b p q M T under twins =
@@ -117,6 +117,6 @@ no_twins groups start new low high blocks M T under many none b twin =
     let below : b < blocks = omega (arith, own, block, many) in
     no_twin b (M b) (T b) (key_size bytes b (M b) (T b) noted) (twin_size bytes b (M b) (T b) noted) (none b below) twin
 
--- so many blocks as one and the same groups have
+-- equal groups have equally many blocks
 pub same_blocks : (n : ℕ) (a b : Groups) → n ≡ a.blocks → a ≡ b → n ≡ b.blocks
 same_blocks n a b is same = subst (λ (x : Groups). n ≡ x.blocks) same is

@@ -1,4 +1,4 @@
--- What the header of a slot tells, by the slot's unit.
+-- What the header of a slot holds, by the slot's unit.
 use Rattle.std.proofs.Common.{◌≡◌, ℕ, Option, Some, List, take, subst}
 use Rattle.std.specs.Prelude.{Result, Ok, Err, IfOk, IfErr}
 use Rattle.map_join.specs.declared.records.Record.{Record}
@@ -9,7 +9,7 @@ use Rattle.header_scan.specs.declared.fault.ScanFault.{ScanFault}
 use Rattle.header_scan.specs.declared.fault.ScanFault.TheVariants.{BadHeader, WrongSlot}
 use Rattle.header_scan.specs.Faults.{Bytes, IsFine, IsRanged, Tells, IsFaultAt, IsMisfit}
 
--- a header that is spelled tells this
+-- a header that is spelled holds this
 abbrev pub Told : List ℕ → Option Record → Type 0
 Told unit o = (h : Header) × Spells (take 32 unit) h × (record_in h ≡ o)
 
@@ -33,7 +33,7 @@ pub misfits : (blocks slot : ℕ) (bytes left : Bytes) (unit : List ℕ) (told :
 misfits blocks slot bytes left unit told (Ok o) at header only is = tt
 misfits blocks slot bytes left unit told (Err e) at header only is = misfit blocks slot bytes left unit told e at header only is
 
--- what isn't refused is what the header tells, in its ranges
+-- what isn't refused is what the header holds, in its ranges
 pub ranged : (blocks slot : ℕ) (told : Result (Option Record) HeaderFault) (result : Result (Option Record) ScanFault) → IfOk told IsRanged
     → IfOk result (λ o. (told ≡ Ok o) × IsFine blocks slot o) → IfOk result IsRanged
 ranged blocks slot told (Ok o) ranges fine = subst (λ t. IfOk t IsRanged) fine.0 ranges

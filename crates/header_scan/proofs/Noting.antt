@@ -3,7 +3,7 @@ use Rattle.std.proofs.Common.{◌≡◌, ℕ, ◌+◌, ◌*◌, ◌^◌, ◌<◌
 use Rattle.map_join.specs.Record.{stamp_in}
 use Rattle.header_scan.specs.Found.{place_in, IsNoted}
 
--- the stamps with one more, at a slot behind all others
+-- the stamps with one more, at a slot after all others
 pub record IsNext (Old New : ℕ → ℕ → Type 0) (s stamp : ℕ) : Type 0 where
   pub grows : (slot st : ℕ) → Old slot st → New slot st
   pub here : New s stamp

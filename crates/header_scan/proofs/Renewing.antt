@@ -1,4 +1,4 @@
--- An array that is put together of what a scan left of parts stands for the state made anew.
+-- An array that is rebuilt from what a scan left of parts represents the restarted state.
 use Rattle.std.proofs.Common.{◌≡◌, ℕ, ◌^◌, Bool, false, List, [], length, is_some, refl, sym, ap, ◌∙◌, subst, Option, None}
 use Rattle.extents.specs.Failures.{Failures}
 use Rattle.map_join.specs.Maps.{IsListOf}
@@ -37,7 +37,7 @@ module _ {D : Type 0} (units : D → List (List ℕ)) (lost : D → Bool) (failu
   abbrev w : PartsView
   w = view_of units lost failures q
 
-  -- the headers told, over the parts as plain data
+  -- what the headers hold, over the parts as plain data
   tells_in : (M : ℕ → ℕ) (units_of : ℕ → Option Stored) → Shows v units_of → ((s : ℕ) → is_some (units_of s) ≡ is_some (class_at p.groups s)) → TellAll units lost p M
       → TellMap p.groups units_of M
   tells_in M units_of shows there tells =
@@ -73,7 +73,7 @@ module _ {D : Type 0} (units : D → List (List ℕ)) (lost : D → Bool) (failu
   module _ (M : ℕ → ℕ) (a : ArrayView) (loses : LosesOnly units lost failures p q) (keeps : Keeps p.groups (cells_in units lost p) (cells_in units lost q))
       (tells : AreAllSound units lost p → TellAll units lost p M) (list : IsListOf M a.log)
       (shows : (G : Flat) → HasParts w G → TellMap G.groups G.units M → ShowsArray a (restarted G M a.log)) where
-    -- the array stands for each state of the parts made anew
+    -- the array represents the restarted state for each state of the parts
     pub made_shows : (F : Flat) → HasParts v F → HasUnits F → (G : Flat) × (H : Flat) × Leaves F G × IsRestarted G M H × ShowsArray a H
     made_shows F has there =
         let sound : AreAllSound units lost p = (shows_in units lost failures p F.units has.units).sound in

@@ -21,7 +21,7 @@ use Rattle.header_scan.specs.declared.fault.ScanFault.{ScanFault}
 use Rattle.header_scan.specs.Faults.{Bytes, between, Tells, IsFaultAt}
 use Rattle.header_scan.specs.Found.{place_in, stamp_in_option, HasStamp, IsNoted, Keeps}
 
--- what a look tells of a slot, over one and the same groups
+-- what a look returns for a slot, over one and the same groups
 abbrev pub Looked : Groups → Groups → Cells → Cells → ℕ → ℕ → Result (Option Record) ScanFault → Type 0
 Looked groups after c new blocks slot result =
     (AreSound groups c → IfOk result (Tells blocks (unit_of groups c) slot))
@@ -76,18 +76,18 @@ within low high bytes slot r h = let is = in_between low high bytes slot h.0 h.1
 pub ranged : (low high : ℕ) (bytes : Bytes) (slot : ℕ) (r : Record) → low ≤ slot → slot < high → HasHeader bytes slot r → HasHeader (between low high bytes) slot r
 ranged low high bytes slot r l k h = (h.0, ap (λ b. if b then bytes slot else None) (is_range low high slot l k) ∙ h.1, h.2)
 
--- of a slot whose unit tells this, the header is this
+-- of a slot whose unit holds this, the header is this
 pub told_record : (blocks : ℕ) (bytes : Bytes) (slot : ℕ) (told : Option Record) (r : Record) → Tells blocks bytes slot told → HasHeader bytes slot r → told ≡ Some r
 told_record blocks bytes slot told r tells h =
     let same : tells.0 ≡ h.0 = same_Some _ _ (sym tells.1 ∙ h.1) in
     let spelled : Spells (take 32 h.0) tells.2.0 = subst (λ u. Spells (take 32 u) tells.2.0) same tells.2.1 in
     sym tells.2.2 ∙ ap record_in (one_header (take 32 h.0) tells.2.0 h.2.0 spelled h.2.1) ∙ h.2.2
 
--- and where it tells a record, it has that header
+-- and where it holds a record, it has that header
 pub told_header : (blocks : ℕ) (bytes : Bytes) (slot : ℕ) (r : Record) → Tells blocks bytes slot (Some r) → HasHeader bytes slot r
 told_header blocks bytes slot r tells = (tells.0, tells.1, (tells.2.0, tells.2.1, tells.2.2))
 
--- a record that a header tells was written: it has a version
+-- a record that a header holds was written: it has a version
 told_written : (b : List ℕ) (h : Header) (r : Record) → Spells b h → record_in h ≡ Some r → 0 < r.version
 told_written b Blank r told e = absurd (let both : None ≡ Some r = e in cc)
 told_written b (Is q k) r told e = subst (λ (x : Record). 0 < x.version) (same_Some q r e) told.0.written

@@ -168,7 +168,7 @@ some_noted blocks low s bytes r M T N U l small tells note noted =
       kept same is = spread blocks low s bytes r (key_in M) (at T) (key_in N) (at U) tells (λ b ne. ap (λ (x : List ℕ). key_in x b) (sym same.0)) (λ b ne. ap (λ (x : Entries). at x b) (sym same.1)) noted
           (subst (λ (x : List ℕ). IsNoted New (key_in x r.block) (at U r.block)) (sym same.0) (subst (λ (x : Entries). IsNoted New n (at x r.block)) (sym same.1) is))
 
--- a slot more is gone through, which tells nothing
+-- one slot more is read, which holds nothing
 pub none_more : (groups : Groups) (start c new : Cells) (low s : ℕ) (M T : ℕ → ℕ) → IsUnderway groups start c low s M T → Looked groups groups c new groups.blocks s (Ok None) → IsUnderway groups start new low (s + 1) M T
 none_more groups start c new low s M T was look =
     let tells : Tells groups.blocks (unit_of groups start) s None = tells_kept groups.blocks s (unit_of groups c) (unit_of groups start) None was.keeps (look.0 was.sound) in
@@ -179,7 +179,7 @@ none_more groups start c new low s M T was look =
       noted = λ block. none_noted groups.blocks low s (unit_of groups start) block (M block) (T block) tells (was.noted block);
     }
 
--- or tells a record, which is noted
+-- or holds a record, which is noted
 pub some_more : (groups : Groups) (start c new : Cells) (low s : ℕ) (r : Record) (M : List ℕ) (T : Entries) (N : List ℕ) (U : Entries) → low ≤ s → s < 2 ^ 16 → IsNote M T N U r
     → IsUnderway groups start c low s (key_in M) (at T) → Looked groups groups c new groups.blocks s (Ok (Some r)) → IsUnderway groups start new low (s + 1) (key_in N) (at U)
 some_more groups start c new low s r M T N U l small note was look =
@@ -239,7 +239,7 @@ is_slot groups g index h few =
     let at : index ≡ (128 * g + index) % 128 = omega (arith, few) in
     subst (λ x. x < slots_in groups.segments (group_at groups ((128 * g + index) / 128))) at (subst (λ x. index < slots_in groups.segments (group_at groups x)) group h)
 
--- what a look of a slot of the group told, by the groups at the start
+-- what a look at a slot of the group returned, by the groups at the start
 pub looked_at : (groups before after : Groups) (c new : Cells) (blocks slot : ℕ) (result out : Result (Option Record) ScanFault) → before ≡ groups → blocks ≡ groups.blocks → after ≡ before → result ≡ out
     → Looked before after c new blocks slot result → Looked groups groups c new groups.blocks slot out
 looked_at groups before after c new blocks slot result out one many two is facts =

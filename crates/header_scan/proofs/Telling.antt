@@ -1,4 +1,4 @@
--- Headers that a scan finds fine, over what parts of an array show: the units tell the map of the scan.
+-- Headers that a scan finds fine, over what parts of an array show: the units hold the map of the scan.
 use Rattle.std.proofs.Common.{◌≡◌, ◌≢◌, ℕ, ◌/◌, ◌%◌, ◌^◌, ◌<◌, ◌≤◌, ◌⊎◌, inl, inr, true, false, Option, Some, None, List, length, take, drop, refl, sym, ◌∙◌, ap, subst, arith}
 use Rattle.std.specs.Prelude.{slice_get, unwrap_or, is_some, replicate}
 use Rattle.std.proofs.lemmas.Bool.{cases_order}
@@ -43,7 +43,7 @@ all_units v = between 0 (2 ^ 16) (bytes_of v)
 abbrev pub AllFine : PartsView → Type 0
 AllFine v = AreFine v.groups 0 (2 ^ 16) (bytes_of v)
 
--- and no block stands twice
+-- and no block occurs twice
 abbrev pub NoneTwice : PartsView → Type 0
 NoneTwice v = (block first second : ℕ) → IsTwice (all_units v) block first second → ⊥
 
@@ -87,7 +87,7 @@ has_class : (unit : Option Stored) (class : Option Class) (u : Stored) → is_so
 has_class unit class u same at none = let bad : true ≡ false = sym (ap is_some at) ∙ same ∙ ap is_some none in cc
 
 module _ (v : PartsView) (groups : AreGroups v.groups) (drives : AreDrives drive_units v.groups v.drives) (units : ℕ → Option Stored) (shows : Shows v units) (there : (s : ℕ) → is_some (units s) ≡ is_some (class_at v.groups s)) (fine : AllFine v) where
-  -- the header of a slot that has a unit is told
+  -- the header of a slot that has a unit is read
   slot_told : (s : ℕ) (u : Stored) → units s ≡ Some u → (o : Option Record) × Tells v.groups.blocks (bytes_of v) s o
   slot_told s u at =
       let is = slot_of_class v.groups s (has_class (units s) (class_at v.groups s) u (there s) at) in
@@ -105,7 +105,7 @@ module _ (v : PartsView) (groups : AreGroups v.groups) (drives : AreDrives drive
       let payload : length (drop 32 told.0) ≡ length u.payload = ap length (is_unit s u told.0 at told.1).1 in
       omega (arith, long, short, payload)
 
-  -- a record in the header of a unit is told
+  -- a record in the header of a unit is read
   pub record_told : (s : ℕ) (u : Stored) (r : Record) → units s ≡ Some u → record_in u.header ≡ Some r → Tells v.groups.blocks (bytes_of v) s (Some r)
   record_told s u r at header =
       let told = slot_told s u at in
@@ -122,7 +122,7 @@ module _ (v : PartsView) (groups : AreGroups v.groups) (drives : AreDrives drive
         let shown = shows.shown slot w.0 w.1 in
         (shown.0, ap units told.3.1 ∙ shown.1, ap record_in (shown_header w.0 shown.0 w.2.0 shown.2 w.2.1) ∙ w.2.2)
 
-    -- a key's record stands in the header of its place
+    -- a key's record is in the header of its place
     key_there : (b : ℕ) → 0 < M b → (x : Content) × IsAt units (record_of b (M b)) x
     key_there b some =
         let f = map.found b some in
@@ -182,7 +182,7 @@ module _ (v : PartsView) (groups : AreGroups v.groups) (drives : AreDrives drive
       }
 
 module _ (v : PartsView) (groups : AreGroups v.groups) (fine : AllFine v) where
-  -- of a slot that has a class, what its header tells
+  -- of a slot that has a class, what its header holds
   class_told : (s : ℕ) (class : Class) → class_at v.groups s ≡ Some class → (o : Option Record) × Tells v.groups.blocks (bytes_of v) s o
   class_told s class e =
       let is = slot_of_class v.groups s (λ none. none-some class (sym none ∙ e)) in

@@ -1,4 +1,4 @@
--- A block's greatest stamp at two slots: then the block stands twice.
+-- A block's greatest stamp at two slots: then the block occurs twice.
 use Rattle.std.proofs.Common.{◌≡◌, ℕ, zero, suc, ◌<◌, ◌≤◌, ◌⊎◌, inl, inr, Option, Some, None, List, refl, sym, ◌∙◌, ap, subst, arith}
 use Rattle.std.proofs.lemmas.Bool.{cases_eq, cases_order}
 use Rattle.std.proofs.lemmas.Option.{none-some}
@@ -92,7 +92,7 @@ module _ (bytes : Bytes) (b st : ℕ) (test : (slot : ℕ) → HasStamp bytes b 
       let second = first_of (HasLater first.0) (later first.0) q ((omega (arith, low, order)), other) in
       (first.0, second.0, two_lowest first.0 second.0 second.2.has.0 first.2 second.2)
 
-  -- so where no block stands twice the greatest stamp stands once
+  -- so where no block occurs twice the greatest stamp occurs once
   pub stands_once : ((p q : ℕ) → IsTwice bytes b p q → ⊥) → (p q : ℕ) → Has p → Has q → p ≡ q
   stands_once never p q one other = elim (cases_order p q) [
     | inl e ↦ e

@@ -1,4 +1,5 @@
--- A scan of an array or a world that stands for a flat state: the map of its log where no slot is gone, and else the first that is.
+-- A scan of an array or a world that represents a flat state: the map of its log where no slot is gone, else the first that
+-- is.
 use Rattle.std.proofs.Common.{◌≡◌, ℕ, ◌^◌, ◌<◌, ◌≤◌, ◌⊎◌, inl, inr, Some, None, List, take, refl, sym, ◌∙◌, ap, subst, arith}
 use Rattle.std.specs.Prelude.{is_some, Result, Ok, Err, IfOk, IfErr, OnOk}
 use Rattle.std.proofs.lemmas.Option.{none-some}
@@ -40,7 +41,7 @@ module _ (a : ArrayView) (F : Flat) (whole : IsWhole a) (shows : ShowsArray a F)
   there : (s : ℕ) → is_some (F.units s) ≡ is_some (class_at a.parts.groups s)
   there s = (shows.history.units s).there ∙ ap is_some (class_seen a F s shows)
 
-  -- the state's units tell its map
+  -- the state's units hold its map
   own_map : TellMap a.parts.groups F.units (key_at a)
   own_map = subst (λ (groups : Groups). TellMap groups F.units (key_at a)) shows.tables.groups (history_tells F (key_at a) shows.history)
 
@@ -82,7 +83,7 @@ module _ (a : ArrayView) (F : Flat) (whole : IsWhole a) (shows : ShowsArray a F)
       let past = r.2 in
       omega (arith, inside, past)
 
-  -- the newest record of a block stands in a header, where all are fine
+  -- the newest record of a block is in a header, where all are fine
   newest_there : AllFine a.parts → (b : ℕ) → 0 < key_at a b → HasHeader (all_units a.parts) (record_of b (key_at a b)).place (record_of b (key_at a b))
   newest_there fine b some =
       let r = record_of b (key_at a b) in
@@ -108,7 +109,7 @@ module _ (a : ArrayView) (F : Flat) (whole : IsWhole a) (shows : ShowsArray a F)
           let top = most (record_of b (key_at a b)).place (record_of b (key_at a b)) (newest_there fine b (omega (arith, less, key))) refl in
           absurd (omega (arith, top, less, key))
 
-  -- no block stands twice
+  -- no block occurs twice
   never_twice : AllFine a.parts → NoneTwice a.parts
   never_twice fine b p q is =
       let one = top_newest fine b p is.one is.here.0 is.here.1 is.most in
@@ -123,7 +124,7 @@ module _ (a : ArrayView) (F : Flat) (whole : IsWhole a) (shows : ShowsArray a F)
       let order = is.order in
       omega (arith, key, also, place, place_too, same, order)
 
-  -- the first fault is want of memory, or a slot that is gone
+  -- the first fault is out of memory, or a slot that is gone
   abbrev IsFaultOf : ScanFault → Flat → Type 0
   IsFaultOf Memory G = Unit {0}
   IsFaultOf (Gone s) G = FindsGone F G s
@@ -157,7 +158,7 @@ module _ (a : ArrayView) (F : Flat) (whole : IsWhole a) (shows : ShowsArray a F)
   scan_fault b (Twice block first second) left loses is = never_twice is.0 block first second is.1
   scan_fault b (NoClaim s) left loses is = is
 
--- a world that lost drives stands for the state with these drives
+-- a world that lost drives represents the state with these drives
 world_fares : (v w : WorldView) (F : Flat) → OnlyLosesOf v w → Represents v F → Represents w (fared F w.array.parts)
 world_fares v w F loses rep = record {
   array = subst (λ (x : ArrayView). ShowsArray x (fared F w.array.parts)) (sym loses.1.0) (lost_shows v.array F w.array.parts rep.array loses.1.1);
@@ -173,7 +174,7 @@ Sound v = AreSound v.array.parts.groups (cells_of v.array.parts)
 abbrev IsFirst : WorldView → WorldView → ScanFault → Type 0
 IsFirst v w = IsFirstFault v.array.parts.groups 0 (2 ^ 16) (bytes_of v.array.parts) (unit_of v.array.parts.groups (cells_of w.array.parts))
 
--- the fault of one that stands for a state
+-- the fault of a world that represents a state
 world_fault : (v w : WorldView) (fault : ScanFault) → IsWhole v.array → IsWhole w.array → OnlyLosesOf v w
     → (Sound v → IsFirst v w fault) → IsToldOf v w fault
 world_fault v w Memory whole left loses is = tt

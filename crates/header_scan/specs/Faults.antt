@@ -20,7 +20,7 @@ Bytes = ℕ → Option (List ℕ)
 abbrev pub between : ℕ → ℕ → Bytes → Bytes
 between low high bytes slot = if nat_le low slot && nat_lt slot high then bytes slot else None
 
--- what a header may tell at a slot: nothing, or a record of one of so many blocks and of this very slot
+-- what a header may hold at a slot: nothing, or a record of a block below the number of blocks and of this very slot
 abbrev pub IsFine : ℕ → ℕ → Option Record → Type 0
 IsFine blocks slot None = Unit {0}
 IsFine blocks slot (Some r) = (r.block < blocks) × (r.place ≡ slot)
@@ -30,7 +30,7 @@ abbrev pub IsRanged : Option Record → Type 0
 IsRanged None = Unit {0}
 IsRanged (Some r) = IsRecord r
 
--- the slot's unit is there, and its header tells this, which is fine
+-- the slot's unit is there, and its header holds this, which is fine
 abbrev pub Tells : ℕ → Bytes → ℕ → Option Record → Type 0
 Tells blocks bytes slot told =
     (unit : List ℕ) × (bytes slot ≡ Some unit) × ((h : Header) × Spells (take HEADER_BYTES unit) h × (record_in h ≡ told)) × IsFine blocks slot told × IsRanged told
@@ -49,7 +49,7 @@ IsFaultAt blocks bytes left slot (NoClaim s) = ⊥
 abbrev pub AreFine : Groups → ℕ → ℕ → Bytes → Type 0
 AreFine groups low high bytes = (slot : ℕ) → IsSlot groups slot → low ≤ slot → slot < high → (told : Option Record) × Tells groups.blocks bytes slot told
 
--- the block's greatest stamp stands at two slots, and these are its two lowest
+-- the block's greatest stamp is at two slots, and these are its two lowest
 pub record IsTwice (bytes : Bytes) (block first second : ℕ) : Type 0 where
   pub one : Record
   pub other : Record
@@ -60,8 +60,8 @@ pub record IsTwice (bytes : Bytes) (block first second : ℕ) : Type 0 where
   pub most : (slot : ℕ) (r : Record) → HasHeader bytes slot r → r.block ≡ block → stamp_of r ≤ stamp_of one
   pub lowest : (slot : ℕ) (r : Record) → HasHeader bytes slot r → r.block ≡ block → stamp_of r ≡ stamp_of one → (slot ≡ first) ⊎ (second ≤ slot)
 
--- the fault of a scan of the slots of groups in a range that comes first: that of the lowest slot that has one; else the lowest
--- block that stands twice. Want of memory may come before.
+-- the fault of a scan of the slots of groups in a range that comes first: that of the lowest slot that has one; else the
+-- lowest block that occurs twice. Out of memory may come before.
 abbrev pub IsFirstFault : Groups → ℕ → ℕ → Bytes → Bytes → ScanFault → Type 0
 IsFirstFault groups low high bytes left Memory = Unit {0}
 IsFirstFault groups low high bytes left (NoClaim slot) = ⊥
@@ -72,7 +72,7 @@ IsFirstFault groups low high bytes left (Twice block first second) =
 IsFirstFault groups low high bytes left fault = (slot : ℕ) × IsSlot groups slot × (low ≤ slot) × (slot < high) × IsFaultAt groups.blocks bytes left slot fault
     × AreFine groups low slot bytes
 
--- why what a header tells, if it tells anything, isn't fine at a slot
+-- why what a header holds, if it holds anything, isn't fine at a slot
 abbrev pub IsMisfit : Result (Option Record) HeaderFault → ℕ → ℕ → ScanFault → Type 0
 IsMisfit (Err fault) blocks slot (BadHeader s) = s ≡ slot
 IsMisfit (Ok (Some r)) blocks slot (BadHeader s) = (s ≡ slot) × (blocks ≤ r.block)

@@ -13,7 +13,7 @@ use Rattle.header_scan.specs.Faults.{Bytes, between, AreFine}
 abbrev pub key_in : List ℕ → ℕ → ℕ
 key_in keys block = slice_index keys block
 
--- the slot of the record that a key tells
+-- the slot of the record that a key encodes
 abbrev pub place_in : ℕ → ℕ
 place_in key = key % 2 ^ 16
 
@@ -31,7 +31,7 @@ abbrev pub HasStamp : Bytes → ℕ → ℕ → ℕ → Type 0
 HasStamp bytes block slot stamp = (r : Record) × HasHeader bytes slot r × (r.block ≡ block) × (stamp_of r ≡ stamp)
 
 -- of the stamps of one block, each at its slot: `newest` is the key of the greatest at its lowest slot, and `twin` that of a
--- stamp that stands twice, the greatest if that does, at its second lowest slot
+-- stamp that occurs twice, the greatest if that does, at its second lowest slot
 pub record IsNoted (Has : ℕ → ℕ → Type 0) (newest twin : ℕ) : Type 0 where
   pub found : 0 < newest → Has (place_in newest) (stamp_in newest)
   pub first : (slot stamp : ℕ) → Has slot stamp → (stamp < stamp_in newest) ⊎ ((stamp ≡ stamp_in newest) × (place_in newest ≤ slot))
@@ -48,7 +48,7 @@ twins_in None other = None
 twins_in (Some one) None = None
 twins_in (Some one) (Some other) = if stamp_of one == stamp_of other then Some (one.place, other.place) else None
 
--- the two slots where a block's newest stamp stands, where it stands at two
+-- the two slots of a block's newest stamp, where it is at two
 abbrev pub twins_at : (ℕ → ℕ) → (ℕ → ℕ) → ℕ → Option (ℕ × ℕ)
 twins_at newest twins block = twins_in (record_at block (newest block)) (record_at block (twins block))
 

@@ -29,14 +29,14 @@ HasUnits F = (s : ℕ) → is_some (F.units s) ≡ is_some (class_at F.groups s)
 abbrev pub AreAllSound : {D : Type 0} → (D → List (List ℕ)) → (D → Bool) → Parts D → Type 0
 AreAllSound units lost parts = AreSound parts.groups (cells_in units lost parts)
 
--- the parts' headers tell this map, without a fault
+-- the parts' headers hold this map, without a fault
 pub record TellAll {D : Type 0} (units : D → List (List ℕ)) (lost : D → Bool) (parts : Parts D) (keys : ℕ → ℕ) : Type 0 where
   pub scanned : IsScanned (between 0 (2 ^ 16) (unit_of parts.groups (cells_in units lost parts))) keys
   pub fine : AreFine parts.groups 0 (2 ^ 16) (unit_of parts.groups (cells_in units lost parts))
   pub once : (b p q : ℕ) → IsTwice (between 0 (2 ^ 16) (unit_of parts.groups (cells_in units lost parts))) b p q → ⊥
 
--- an array was put together of what the scan left of parts, with the map that their headers tell; for every state whose groups,
--- drives and units the parts are, it stands for that state made anew
+-- an array was rebuilt from what the scan left of parts, with the map that their headers hold; for every state whose groups,
+-- drives and units the parts are, it represents that state restarted
 pub record WasMade {D : Type 0} (units : D → List (List ℕ)) (lost : D → Bool) (failures : D → Failures) (parts : Parts D) (a : ArrayView) : Type 0 where
   pub left : Parts D
   pub keys : ℕ → ℕ
@@ -46,7 +46,7 @@ pub record WasMade {D : Type 0} (units : D → List (List ℕ)) (lost : D → Bo
   pub flat : (F : Flat) → HasParts (view_of units lost failures parts) F → HasUnits F
       → (G : Flat) × (H : Flat) × Leaves F G × IsRestarted G keys H × ShowsArray a H
 
--- there is a state whose groups, drives and units the parts are, and the array stands for one in which nobody works
+-- there is a state whose groups, drives and units the parts are, and the array represents one in which nobody works
 pub record StandsForOne {D : Type 0} (units : D → List (List ℕ)) (lost : D → Bool) (failures : D → Failures) (parts : Parts D) (a : ArrayView) : Type 0 where
   pub before : Flat
   pub has : HasParts (view_of units lost failures parts) before
@@ -61,7 +61,7 @@ IsRestartFault units lost parts left names claims (NoClaim slot) = (keys : ℕ �
 IsRestartFault units lost parts left names claims fault =
     IsFirstFault parts.groups 0 (2 ^ 16) (unit_of parts.groups (cells_in units lost parts)) (unit_of parts.groups (cells_in units lost left)) fault
 
--- the fault that tells why no array was put together
+-- the fault that says why no array was put together
 abbrev pub fault_of : NotAdopted → ScanFault
 fault_of adopted.Memory = Memory
 fault_of (adopted.NoClaim slot) = NoClaim slot

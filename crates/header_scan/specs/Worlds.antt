@@ -1,4 +1,4 @@
--- Which faults a scan tells of a world.
+-- Which faults a scan reports of a world.
 use Rattle.flat_machine.specs.Flat.{Flat}
 use Rattle.flat_machine.specs.Scans.{NotTold, ScanCase}
 use Rattle.array_model.specs.Views.{WorldView}
@@ -6,12 +6,12 @@ use Rattle.array_model.specs.Represents.{Represents}
 use Rattle.header_scan.specs.declared.fault.ScanFault.{ScanFault}
 use Rattle.header_scan.specs.declared.fault.ScanFault.TheVariants.{Memory, BadHeader, WrongSlot, Twice, Gone, NoClaim}
 
--- no state is one that the world stands for
+-- the world represents no state
 abbrev pub StandsForNone : WorldView → Type 0
 StandsForNone v = (F : Flat) → Represents v F → ⊥
 
--- a fault that is told of a world which stands for a flat state: want of memory, or that a slot is gone, as the flat machine's scan
--- answers it; no other is
+-- a fault that is reported of a world which represents a flat state: out of memory, or that a slot is gone, as the flat
+-- machine's scan answers it; no other is
 abbrev pub IsToldOf : WorldView → WorldView → ScanFault → Type 0
 IsToldOf v w Memory = Unit {0}
 IsToldOf v w (Gone s) = (F : Flat) → Represents v F → (G : Flat) × ScanCase F (NotTold s) G × Represents w G

@@ -1,4 +1,4 @@
-// Why headers tell no map.
+// Why headers give no map.
 ghost use Rattle.std.specs.Prelude.{◌≡◌};
 ghost use Rattle.header_scan.specs.Numbers.{number_of};
 
@@ -12,10 +12,10 @@ pub enum ScanFault {
     /// The slot whose header is neither blank nor a record of one of the array's blocks.
     #[error("the header of slot {0} is bad")]
     BadHeader(u16),
-    /// A slot, and the slot that its header tells.
+    /// A slot, and the slot that its header names.
     #[error("the header of slot {0} tells slot {1}")]
     WrongSlot(u16, u16),
-    /// A block whose newest version and hop stand at two slots.
+    /// A block whose newest version and hop are at two slots.
     #[error("block {0} stands at slots {1} and {2}")]
     Twice(u32, u16, u16),
     /// The slot whose unit can't be had.

@@ -1,4 +1,4 @@
-// The records that headers told so far, of slots in ascending order.
+// The records that headers held so far, of slots in ascending order.
 ghost use Rattle.std.specs.Prelude.{◌≡◌, ◌<◌, ◌≤◌, length, OnOk, IsOk, MatchOption};
 ghost use Rattle.map_join.specs.Record.{stamp_of};
 ghost use Rattle.map_join.specs.Maps.{at, IsSame, join, only};
@@ -61,7 +61,7 @@ impl Found {
         Ok(())
     }
 
-    /// The two slots where a block's newest version and hop stand, where they stand at two.
+    /// The two slots of a block's newest version and hop, where these are at two.
     fn twins_of(&self, block: u32) -> Option<(u16, u16)>
         requires { block < length self.now.newest }
         ensures { result ≡ twins_at (key_in self.now.newest) (at self.now.twins) block }
@@ -74,7 +74,8 @@ impl Found {
         None
     }
 
-    /// The lowest of so many blocks whose newest version and hop stand at two slots, and these slots. In an array that was never damaged this is none at once.
+    /// The lowest block below `blocks` whose newest version and hop are at two slots, and these slots. Where no stamp was
+    /// noted twice, as in an array that was never damaged, no block is searched.
     pub(crate) fn twice(&self, alloc: Global, blocks: u32) -> Option<(u32, u16, u16)>
         requires { length self.now.newest ≡ blocks }
         ensures { MatchOption result (HasNoTwins (key_in self.now.newest) (at self.now.twins) blocks) (λ t. AreFirstTwins (key_in self.now.newest) (at self.now.twins) t.0 t.1 t.2) }

@@ -1,4 +1,4 @@
-// The newest key of each block that headers told so far, in a table by block.
+// The newest key of each block that headers held so far, in a table by block.
 ghost use Rattle.std.specs.Prelude.{◌≡◌, ◌^◌, ◌<◌, ◌≤◌, length, IfOk};
 ghost use Rattle.map_join.specs.Maps.{at, IsSame, join, only};
 ghost use Rattle.map_join.specs.Record.{key_of, record_at};
@@ -9,7 +9,7 @@ use map_join::{BlockMap, MapRefusal, Record};
 use std::alloc::{AllocError, Global};
 use std::marker::Model;
 
-/// A key of each block, 0 where no header told one.
+/// A key of each block, 0 where no header held one.
 #[derive(Drop)]
 pub(crate) struct Keys {
     keys: Vec<u64>,
@@ -27,7 +27,7 @@ impl Model for Keys {
 }
 
 impl Keys {
-    /// No key of any of so many blocks.
+    /// No key of any of `blocks` blocks.
     pub(crate) fn new(alloc: Global, blocks: u32) -> Result<Keys, AllocError>
         ensures many { IfOk result (λ keys. length keys ≡ blocks) }
         ensures none { IfOk result (λ keys. IsSame (key_in keys) (λ _. 0)) }
@@ -37,7 +37,7 @@ impl Keys {
         })
     }
 
-    /// The record that a block's key tells.
+    /// The record that a block's key encodes.
     pub(crate) fn get(&self, block: u32) -> Option<Record>
         requires { block < length self.now }
         ensures told { result ≡ record_at block (key_in self.now block) }

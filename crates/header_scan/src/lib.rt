@@ -1,4 +1,4 @@
-//! The map of an array, rebuilt from the headers of its units, and an array made anew from it.
+//! The map of an array, rebuilt from the headers of its units, and an array rebuilt from it.
 #![tactic(auto)]
 
 mod fault;

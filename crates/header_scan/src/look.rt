@@ -23,7 +23,7 @@ fn told_by(header: &[u8; HEADER_BYTES]) -> Result<Option<Record>, HeaderFault>
     }
 }
 
-/// What a header tells at a slot, refused where that isn't one of the array's blocks in this very slot.
+/// What a header holds at a slot, refused where that isn't one of the array's blocks in this very slot.
 fn judge(
     told: Result<Option<Record>, HeaderFault>,
     slot: u16,
@@ -47,7 +47,7 @@ fn judge(
     Ok(Some(record))
 }
 
-/// Reads what the header of a slot tells.
+/// Reads what the header of a slot holds.
 pub(crate) fn look<U: Units>(
     units: &mut U,
     slot: u16,

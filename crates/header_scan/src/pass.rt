@@ -105,8 +105,8 @@ fn note_groups<U: Units>(
     Ok(found)
 }
 
-/// The map of the headers of a range of groups, read in one pass; where several faults stand, the one that comes first:
-/// that of the lowest slot, and else the lowest block that stands twice. Want of memory may come before.
+/// The map of the headers of a range of groups, read in one pass. Where there are several faults, returns the one that comes
+/// first: that of the lowest slot, else the lowest block that occurs twice. Out of memory may come before.
 pub fn scan_groups<U: Units>(
     alloc: Global,
     units: &mut U,
@@ -144,7 +144,8 @@ pub fn scan_groups<U: Units>(
     }
 }
 
-/// The map of the headers of all groups, as `scan_groups` tells it.
+/// The map of the headers of all groups, read in one pass. Where there are several faults, returns that of the lowest slot,
+/// else the lowest block that occurs twice. Out of memory may come before.
 pub fn scan<U: Units>(alloc: Global, units: &mut U) -> Result<BlockMap, ScanFault>
     requires fits { U.fits units.old }
     ensures map { AreSound (U.groups units.old) (U.cells units.old)

@@ -1,4 +1,4 @@
-// An array made anew from its parts.
+// An array rebuilt from its parts.
 ghost use Rattle.std.specs.Prelude.{◌≡◌, IfOk, IfErr};
 ghost use Rattle.array_parts.specs.Fit.{IsFit};
 ghost use Rattle.array_parts.specs.Losses.{LosesOnly};
@@ -11,10 +11,10 @@ use extents::Drive;
 use std::alloc::Global;
 use step_core::{Array, Hold, NotAdopted};
 
-/// Makes an array anew from its parts, by the map that their headers tell: each block's newest place is held,
-/// by the claim of it among those given, and the other claims are handed back; the map's list is the log, and
-/// nothing is pending. On a fault the parts come back as the scan left them, and the claims unchanged: the
-/// scan's fault, or the lowest newest place of which there is no claim; want of memory may come before.
+/// Rebuilds an array from its parts, by the map that their headers hold. Each block's newest place is held, by the claim of it
+/// among those given; the other claims are returned. The map's list is the log, and nothing is pending. On a fault the parts
+/// come back as the scan left them, and the claims unchanged. The fault is the scan's, or the lowest newest place of which
+/// there is no claim; out of memory may come before.
 pub fn restart<D: Drive, C: Hold>(
     alloc: Global,
     parts: Parts<D>,
@@ -39,7 +39,7 @@ pub fn restart<D: Drive, C: Hold>(
     }
 }
 
-// The fault that tells why no array was put together.
+// The fault that says why no array was put together.
 fn told(why: NotAdopted) -> ScanFault
     ensures { result ≡ fault_of why }
 {

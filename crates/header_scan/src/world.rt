@@ -13,9 +13,9 @@ use map_join::BlockMap;
 use std::alloc::Global;
 use step_core::World;
 
-/// Scans the headers of a world's drives. Where the world stands for a flat state the map is that of the records which the state
-/// emitted, and no slot was gone; else a slot is told that is gone, below which none was before, or want of memory. No other
-/// fault is told of such a world. Drives may be found lost, and all else stays.
+/// Scans the headers of a world's drives. Where the world represents a flat state the map is that of the records which the
+/// state emitted, and no slot was gone; else the fault is out of memory, or a slot that is gone, below which none was gone
+/// before. No other fault is reported of such a world. Drives may be found lost, and all else stays.
 pub fn scan_world(alloc: Global, world: &mut World) -> Result<BlockMap, ScanFault>
     ensures ok { IfOk result (λ m. (F : Flat) → Represents world.old F
         → (G : Flat) × ScanCase F (Told (at m)) G × Represents world.new G) }

@@ -87,7 +87,7 @@ pub record IsAhead (k : ℕ) (greatest digits out : List ℕ) : Type 0 where
 pub none_ahead : (digits out : List ℕ) → IsAhead 0 (replicate 16 0) digits out
 none_ahead digits out = record { done = λ h. none_done digits out; seen = λ are. search (rules, arith) }
 
--- what is told of the bytes that the digits spell, and what the buffer holds then
+-- what is returned for the bytes that the digits spell, and what the buffer holds then
 abbrev pub Tells : Bool → List ℕ → Result (List ℕ) FromHexError → Type 0
 Tells told out spelt = MatchResult spelt (λ bytes. (told ≡ true) × (out ≡ bytes)) (λ e. told ≡ false)
 
@@ -99,7 +99,7 @@ refused digits out n bad = go (decode_sized digits n) refl
     go (Ok bytes) e = absurd (bad (digits_of n digits bytes e))
     go (Err e) h = refl
 
--- the digits behind the first ones, and room for the bytes that they spell
+-- the digits after the first ones, and room for the bytes that they spell
 record Behind (k m n : ℕ) (digits out : List ℕ) : Type 0 where
   fits : k ≤ n
   sized : length out ≡ n
@@ -132,7 +132,7 @@ behind_refused k m n digits out e b read are =
     let both : Each1 IsDigit (front ++ back) = rw (take-append-drop (2 * k) digits) are in
     cc (sym (decoded m back (length_behind k m n digits out b) (Each1-behind IsDigit front back both)) ∙ read)
 
--- what the rest of the digits spell, as they are read behind the first ones
+-- what the rest of the digits spell, as they are read after the first ones
 abbrev pub Rest : ℕ → List ℕ → List ℕ → Result (List ℕ) FromHexError
 Rest k digits out = decode_sized (between (2 * k) (length digits) digits) (length (between k (length out) out))
 

@@ -10,5 +10,5 @@ pub use encode::encode_hex;
 /// The bytes that a whole vector holds: a turn reads the digits of two such, or writes those of one.
 const WIDE: usize = 16;
 
-/// The bytes of one step behind the turns, whose digits a whole vector holds.
+/// The bytes of one step after the turns, whose digits a whole vector holds.
 const STEP: usize = 8;

@@ -4,7 +4,7 @@ use crate::words::{NUMBERS, Words};
 use map_join::Record;
 use step_core::{Answer, At, Refusal};
 
-/// Above all bytes: stands for a payload that no number names.
+/// Above all bytes: represents a payload that no number names.
 const NO_NUMBER: u32 = 256;
 
 /// Whether an answer is the one that a line spells.

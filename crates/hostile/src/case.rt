@@ -12,7 +12,7 @@ pub(crate) struct Part<'a> {
     pub(crate) wanted: Vec<Words<'a>>,
 }
 
-/// The steps before the line at which a trial begins, and those behind it.
+/// The steps before the line at which a trial begins, and those after it.
 #[derive(Drop)]
 pub(crate) struct Case<'a> {
     /// Drives, extents of each, segments, bytes of a payload, and blocks.

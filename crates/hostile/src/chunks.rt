@@ -9,11 +9,11 @@ pub(crate) enum Then {
     End,
     /// Each read fails from then on.
     Fail,
-    /// One read fails, and what is behind the front follows.
+    /// One read fails, and the rest follows.
     FailOnce,
 }
 
-/// Gives at most so many bytes a read.
+/// Gives at most `piece` bytes a read.
 #[derive(Drop)]
 pub(crate) struct Feed<'a> {
     pub(crate) front: &'a [u8],
@@ -42,7 +42,7 @@ impl Read for Feed<'_> {
     }
 }
 
-/// Takes at most so many bytes a write, and only as many as there is room for: then it takes none or fails.
+/// Takes at most `piece` bytes a write, and only as many as there is room for: then it takes none or fails.
 #[derive(Drop)]
 pub(crate) struct Sink {
     pub(crate) taken: Vec<u8>,
@@ -50,7 +50,7 @@ pub(crate) struct Sink {
     pub(crate) piece: usize,
     /// It answers an error where there is no room, in place of 0 bytes.
     pub(crate) fails: bool,
-    /// Behind the first write that took nothing there is room for all.
+    /// After the first write that took nothing there is room for all.
     pub(crate) goes_on: bool,
 }
 

@@ -1,4 +1,4 @@
-// Readers and writers that fail behind each byte of a script and of its answers.
+// Readers and writers that fail after each byte of a script and of its answers.
 use crate::chunks::{Feed, Sink, Then};
 use crate::trouble::Trouble;
 use script_run::{End, run_script};
@@ -11,8 +11,8 @@ pub(crate) struct Edges {
     pub(crate) writers: u64,
 }
 
-/// Runs a script, each line of which has a line of the answers, with a reader that fails behind each of its bytes and a
-/// writer that fails or takes nothing behind each byte of the answers.
+/// Runs a script, each line of which has a line of the answers, with a reader that fails after each of its bytes and a writer
+/// that fails or takes nothing after each byte of the answers.
 pub(crate) fn break_off(alloc: Global, script: &[u8], answers: &[u8]) -> Result<Edges, Trouble> {
     let mut counts = Edges {
         readers: 0,

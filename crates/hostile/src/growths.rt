@@ -69,7 +69,7 @@ fn go_on(alloc: Global, stopped: Stopped, part: &Part<'_>) -> Result<World, Trou
     run(alloc, stopped.world, steps, left)
 }
 
-// Takes a world apart and makes it anew, each call again where it wanted memory. The map of the headers is the
+// Takes a world apart and rebuilds it, with each call repeated once after it was out of memory. The map of the headers is the
 // running map before and after.
 fn anew(alloc: Global, world: World, wanted: &mut u32) -> Result<World, Trouble> {
     let array = world.into_array();
@@ -108,7 +108,7 @@ fn scan_again(
     }
 }
 
-// A scan of parts that fit; those that don't are told as a slot that is gone.
+// A scan of parts that fit; for those that don't it returns that slot 0 is gone.
 fn scan_fit(alloc: Global, parts: &mut Parts<MemDrive>) -> Result<BlockMap, ScanFault> {
     if !are_fit(parts) {
         return Err(ScanFault::Gone(0));

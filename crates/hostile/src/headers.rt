@@ -19,7 +19,7 @@ const BITS: usize = 256;
 /// other.
 const FORMS: [[u8; 2]; 3] = [[0x31, 0], [0x32, 0], [0x32, 1]];
 
-/// How many scans there were, and how many of them told a map and each fault.
+/// How many scans there were, and how many of them returned a map and each fault.
 #[derive(Drop)]
 pub(crate) struct Headers {
     pub(crate) scans: u64,
@@ -39,7 +39,7 @@ fn no_scans() -> Headers {
     }
 }
 
-/// So often a slot is written with forty bytes by chance, of which no scan tells a map, and then with a header that is
+/// `rounds` times a slot is written with forty bytes by chance, of which no scan returns a map, and then with a header that is
 /// mostly one.
 pub(crate) fn scan_noise(alloc: Global, seed: u32, rounds: u32) -> Result<Headers, Trouble> {
     let mut slots = Slots::new(alloc)?;

@@ -25,7 +25,7 @@ struct Said {
     bytes: Vec<u8>,
 }
 
-/// So often a script is changed and run: what it answers is the same whatever the pieces it is read in.
+/// `count` times a script is changed and run: its answers are the same for any size of the pieces it is read in.
 pub(crate) fn run_mutants(
     alloc: Global,
     seed: u32,
@@ -50,7 +50,7 @@ pub(crate) fn run_mutants(
     Ok(counts)
 }
 
-/// The script as it is changed for the last of so many runs.
+/// The script as it is changed for the last of `count` runs.
 pub(crate) fn mutant(
     alloc: Global,
     seed: u32,
@@ -92,7 +92,7 @@ fn run(alloc: Global, script: &[u8], piece: usize) -> Said {
     Said { end, bytes }
 }
 
-// Whether each line is an answer, but for a last one that tells a fault where the run ended so.
+// Whether each line is an answer, but for a last one that reports a fault where the run ended so.
 fn is_answered(said: &Said) -> bool {
     let Ok(text) = str::from_utf8(&said.bytes) else {
         return false;
@@ -115,7 +115,7 @@ fn is_answered(said: &Said) -> bool {
     true
 }
 
-// A text's last line, and what stands before it.
+// A text's last line, and what is before it.
 fn last_line(text: &str) -> (&str, &str) {
     let lines = text.strip_suffix('\n').unwrap_or(text);
     match lines.rsplit_once('\n') {
@@ -143,7 +143,7 @@ fn mutated(alloc: Global, noise: &mut Noise, script: &[u8]) -> Result<Vec<u8>, A
     Ok(changed)
 }
 
-// A byte becomes another, a line stands twice, loses its end, or goes on with the next one.
+// A byte becomes another, a line is doubled, loses its end, or goes on with the next one.
 fn changed_once(alloc: Global, noise: &mut Noise, script: &[u8]) -> Result<Vec<u8>, AllocError> {
     let length = u32::try_from(script.len()).unwrap_or(u32::MAX);
     let at = (noise.below(length) as usize).min(script.len());

@@ -1,4 +1,4 @@
-// Restarts over units that are written by hand, in both layouts.
+// Restarts over units that are written manually, in both layouts.
 use crate::answers::is_answer;
 use crate::case::steps_of;
 use crate::growths::map_of;
@@ -14,7 +14,7 @@ use map_join::Record;
 use std::alloc::Global;
 use step_core::{Step, World};
 
-/// The number that stands for a trim among contents.
+/// The number that represents a trim among contents.
 const TRIMMED: u32 = 999;
 
 /// How many restarts came out as their rows say, how many of them with a fault, and the first row that didn't.
@@ -53,7 +53,7 @@ fn items(field: &str) -> &str {
     if field == "-" { "" } else { field }
 }
 
-// Whether the row's restart told a fault.
+// Whether the row's restart returned a fault.
 fn restart_row(alloc: Global, row: &str) -> Result<bool, Trouble> {
     let mut fields = row.split(',').skip(1);
     let mut next = || fields.next().ok_or(Trouble::Input);
@@ -125,7 +125,7 @@ fn found(alloc: Global, world: World, wanted: &str) -> Result<World, Trouble> {
     Ok(world)
 }
 
-// The record that a block's numbers spell; the block reads as the content behind them.
+// The record that a block's numbers spell; the block reads as the content after them.
 fn read_block(alloc: Global, world: &mut World, wanted: &str) -> Result<Record, Trouble> {
     let (block, rest) = wanted.split_once(' ').ok_or(Trouble::Input)?;
     let block = number(block)?;

@@ -17,7 +17,7 @@ pub(crate) fn run_once(
     Ok(run_steps(alloc, world, steps))
 }
 
-/// The world behind steps, each of which is answered as wanted.
+/// The world after the steps, each of which is answered as wanted.
 pub(crate) fn run(
     alloc: Global,
     world: World,

@@ -1,4 +1,4 @@
-// Drives whose units are written by hand, and scans of them.
+// Drives whose units are written manually, and scans of them.
 ghost use Rattle.std.specs.Prelude.{◌≡◌, IsTrue};
 ghost use Rattle.extent_groups.specs.Calls.{AreSized};
 ghost use Rattle.extent_groups.specs.Stores.{unit_bytes};
@@ -33,7 +33,7 @@ pub(crate) struct Slots {
     pub(crate) placed: Vec<Placed>,
 }
 
-// Whether each unit of the drives has so many bytes.
+// Whether each unit of the drives has `size` bytes.
 fn are_sized(drives: &[MemDrive], size: usize) -> bool
     ensures { IsTrue result → AreSized held_units size drives.now }
 {

@@ -25,7 +25,7 @@ pub(crate) fn step(alloc: Global, line: &Words<'_>) -> Result<Step, Trouble> {
     }
 }
 
-// A step of a worker at a slot or a group, with a payload's byte or a block behind it.
+// A step of a worker at a slot or a group, followed by a payload's byte or a block.
 fn work(alloc: Global, line: &Words<'_>) -> Result<Step, Trouble> {
     let [worker, slot, block, _, _, _, _, _] = line.numbers;
     let worker = byte(worker)?;

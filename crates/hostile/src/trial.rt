@@ -11,7 +11,7 @@ use crate::trouble::Trouble;
 use std::fs;
 use std::io::Write;
 
-/// Carries out the trial that a line names, and prints what it counted. Numbers stand before files.
+/// Carries out the trial that a line names, and prints what it counted. In the line numbers come before files.
 pub(crate) fn answer(rt: &HostRuntime, line: &str) -> Result<(), Trouble> {
     let mut words = line.split(' ');
     match words.next().unwrap_or("") {

@@ -1,4 +1,4 @@
-// A plain walk over headers as bytes: the fault that a scan of them tells, or the newest record of each block.
+// A plain walk over headers as bytes: the fault that a scan of them returns, or the newest record of each block.
 use header_scan::ScanFault;
 use map_join::Record;
 use std::alloc::Global;
@@ -6,7 +6,7 @@ use std::alloc::Global;
 /// A slot and the header that lies there.
 pub(crate) type Placed = (u16, [u8; 32]);
 
-/// What the headers of some slots tell, which are listed by number; it wants memory as a scan does.
+/// What the headers of some slots hold, which are listed by number; it allocates as a scan does.
 pub(crate) fn walk(
     alloc: Global,
     placed: &[Placed],
@@ -71,7 +71,7 @@ fn spelled(header: &[u8; 32]) -> Option<Record> {
     })
 }
 
-// The block's record of the greatest version and hop, or the two lowest slots where such a one stands.
+// The block's record of the greatest version and hop, or the two lowest slots where there is such a one.
 fn newest_of(block: u32, records: &[Record]) -> Result<Option<Record>, ScanFault> {
     let mut newest: Option<Record> = None;
     let mut twin: Option<u16> = None;

@@ -1,4 +1,4 @@
-// A line as a verb and the numbers behind it.
+// A line as a verb and the numbers after it.
 use crate::trouble::Trouble;
 
 /// As many numbers as any line has.
@@ -11,7 +11,7 @@ pub(crate) struct Words<'a> {
     pub(crate) numbers: [u32; NUMBERS],
 }
 
-/// The words of a line, between each two of which stands one space.
+/// The words of a line, with one space between each two.
 pub(crate) fn words_of(line: &str) -> Result<Words<'_>, Trouble> {
     read(line).ok_or(Trouble::Input)
 }

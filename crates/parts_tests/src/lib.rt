@@ -1,4 +1,4 @@
-//! Tests of an array's parts on drives, which stand above them.
+//! Tests of an array's parts on drives. The parts are above the drives.
 #![tactic(auto)]
 
 #[cfg(test)]

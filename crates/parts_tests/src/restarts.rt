@@ -1,4 +1,4 @@
-// Arrays made anew from drives that were written by hand: the last version, the last hop, and one of each fault.
+// Arrays rebuilt from drives that were written manually: the last version, the last hop, and one of each fault.
 use crate::rig::{Restarted, Rig, record, restart_parts};
 use array_parts::Parts;
 use extents::MemDrive;
@@ -11,15 +11,15 @@ use step_core::{Array, Done, Plain, Ticket};
 
 type Memory = Array<MemDrive, Plain>;
 
-/// Slots 0 to 5 are mirrored, 0 and 1 on drives 0 and 1, 2 and 3 on drives 2 and 0, 4 and 5 on drives 1 and 2. A
-/// payload without a record stands at slot 5.
+/// Slots 0 to 5 are mirrored, 0 and 1 on drives 0 and 1, 2 and 3 on drives 2 and 0, 4 and 5 on drives 1 and 2. A payload
+/// without a record is at slot 5.
 fn mirrored(rt: &impl Abort, alloc: Global) -> Rig {
     let mut rig = Rig::mirrored(rt, alloc);
     rig.put(rt, 5, 9);
     rig
 }
 
-/// The same, with each of these records at a slot.
+/// Slots 0 to 5 are mirrored as in `mirrored`, with a payload at slot 5 and each of these records at a slot.
 fn holding(rt: &impl Abort, alloc: Global, held: &[(u16, Record)]) -> Rig {
     let mut rig = mirrored(rt, alloc);
     for (slot, told) in held {
@@ -28,7 +28,7 @@ fn holding(rt: &impl Abort, alloc: Global, held: &[(u16, Record)]) -> Rig {
     rig
 }
 
-/// Makes an array anew with a claim of each of these slots.
+/// Rebuilds an array with a claim of each of these slots.
 fn restarted(rt: &impl Abort, alloc: Global, rig: Rig, slots: &[u16]) -> Restarted {
     let mut claims = Vec::new(alloc);
     for slot in slots {
@@ -37,7 +37,7 @@ fn restarted(rt: &impl Abort, alloc: Global, rig: Rig, slots: &[u16]) -> Restart
     restart_parts(rt, alloc, rig.parts, claims)
 }
 
-/// The array that is made anew of these parts and claims, and the claims that it doesn't take.
+/// The array that is rebuilt from these parts and claims, and the claims that it doesn't take.
 fn made_of(
     rt: &impl Abort,
     alloc: Global,
@@ -50,7 +50,7 @@ fn made_of(
     made
 }
 
-/// The array that is made anew with a claim of slot 0.
+/// The array that is rebuilt with a claim of slot 0.
 fn made(rt: &impl Abort, alloc: Global, rig: Rig) -> Memory {
     let Ok((array, others)) = restarted(rt, alloc, rig, &[0]) else {
         panic!(rt; "not made anew")
@@ -59,7 +59,7 @@ fn made(rt: &impl Abort, alloc: Global, rig: Rig) -> Memory {
     array
 }
 
-/// What a restart with these claims hands back, which tells a fault.
+/// What a restart with these claims returns, which ends in a fault.
 fn refused(
     rt: &impl Abort,
     alloc: Global,
@@ -72,13 +72,13 @@ fn refused(
     refused
 }
 
-/// The fault that a restart with a claim of slot 0 tells.
+/// The fault that a restart with a claim of slot 0 returns.
 fn fault(rt: &impl Abort, alloc: Global, rig: Rig) -> ScanFault {
     let (fault, _parts, _claims) = refused(rt, alloc, rig, &[0]);
     fault
 }
 
-/// Whether a restart with a claim of slot 0 tells this fault.
+/// Whether a restart with a claim of slot 0 returns this fault.
 fn fails(rt: &impl Abort, alloc: Global, rig: Rig, wanted: ScanFault) -> bool {
     fault(rt, alloc, rig) == wanted
 }
@@ -103,7 +103,7 @@ fn commit(
     array.commit(alloc, ticket, 3)
 }
 
-/// The refusal of a copy of block 3 to a slot, and the claim that it hands back.
+/// The refusal of a copy of block 3 to a slot, and the claim that it returns.
 fn copy(rt: &impl Abort, alloc: Global, array: &mut Memory, slot: u16) -> (Refusal, Plain) {
     assert!(rt; array.shape().blocks == 16);
     let Err(refused) = array.copy(alloc, Plain { slot }, 3) else {

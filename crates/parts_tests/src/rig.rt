@@ -47,7 +47,7 @@ pub(crate) fn is_all(unit: &[u8], wanted: u8) -> bool {
     unit.iter().all(|byte| *byte == wanted)
 }
 
-/// A buffer of so many zeros.
+/// A buffer of `size` zeros.
 fn zeros(rt: &impl Abort, alloc: Global, size: usize) -> Vec<u8> {
     let Ok(bytes) = vec![in alloc; 0; size] else {
         panic!(rt; "no buffer")
@@ -80,7 +80,7 @@ fn members_on(rt: &impl Abort, alloc: Global, drives: &[u8], extent: u16) -> Vec
     members
 }
 
-/// Whether each member is on one of so many drives.
+/// Whether each member's drive number is below `drives`.
 fn are_on(drives: usize, members: &[Member]) -> bool
     ensures { IsTrue result → (k : ℕ) (m : Member) → slice_get members.now k ≡ Some m → m.drive < drives }
 {
@@ -89,7 +89,7 @@ fn are_on(drives: usize, members: &[Member]) -> bool
         .all(|member| (member.drive as usize) < drives)
 }
 
-/// Whether each unit of the drives has so many bytes.
+/// Whether each unit of the drives has `size` bytes.
 fn are_sized(drives: &[MemDrive], size: usize) -> bool
     ensures { IsTrue result → AreSized held_units size drives.now }
 {
@@ -110,7 +110,7 @@ pub(crate) type Restarted = Result<
     (ScanFault, Parts<MemDrive>, Vec<Plain>),
 >;
 
-/// Makes an array anew from parts that fit, with these claims.
+/// Rebuilds an array from parts that fit, with these claims.
 pub(crate) fn restart_parts(
     rt: &impl Abort,
     alloc: Global,
@@ -158,7 +158,7 @@ impl Rig {
         rig
     }
 
-    /// The same, and slots 128 to 135 have parity on drives 1 to 3.
+    /// Slots 0 to 5 are mirrored on drives 0 to 2, and slots 128 to 135 have parity on drives 1 to 3.
     pub(crate) fn grouped(rt: &impl Abort, alloc: Global) -> Rig {
         let mut rig = Rig::mirrored(rt, alloc);
         assert!(rt; rig.make(rt, alloc, 1, Class::Parity, &[1, 2, 3], 1).is_ok());
@@ -243,7 +243,7 @@ impl Rig {
         self.read(rt, slot).is_ok() && is_all(&self.unit, byte)
     }
 
-    /// Whether a slot is told as gone when it is read.
+    /// Whether a read of a slot is refused as gone.
     pub(crate) fn is_gone(&mut self, rt: &impl Abort, slot: u16) -> bool {
         self.read(rt, slot) == Err(Refusal::Gone(slot))
     }
@@ -405,7 +405,7 @@ impl Rig {
         self.parts.lose(drive);
     }
 
-    /// Fuses a drive for a call of its own.
+    /// Makes a drive fail at its `calls`-th read or write from now (1 = the next), and at all later ones.
     pub(crate) fn fuse(&mut self, rt: &impl Abort, drive: u8, calls: u64) {
         assert!(rt; self.is_ready());
         assert!(rt; (drive as usize) < self.parts.drives.len());

@@ -1,12 +1,12 @@
-// Scans of a mirrored and of a parity group: what their headers tell with a drive lost, and one of each fault.
+// Scans of a mirrored and of a parity group: what their headers hold with a drive lost, and one of each fault.
 use crate::rig::{Rig, record};
 use header_scan::ScanFault;
 use map_join::{BlockMap, Record};
 use std::alloc::Global;
 use std::process::Abort;
 
-/// Slots 0 to 5 are mirrored, slots 128 to 135 have parity. Block 3 was written to slot 0 and moved to slot 130,
-/// block 5 stands at slot 4, block 7 at slot 133, and a payload without a record at slot 1.
+/// Slots 0 to 5 are mirrored, slots 128 to 135 have parity. Block 3 was written to slot 0 and moved to slot 130, block 5 is at
+/// slot 4, block 7 at slot 133, and a payload without a record at slot 1.
 fn two_groups(rt: &impl Abort, alloc: Global) -> Rig {
     let mut rig = Rig::grouped(rt, alloc);
     rig.put(rt, 1, 9);
@@ -20,7 +20,7 @@ fn two_groups(rt: &impl Abort, alloc: Global) -> Rig {
     rig
 }
 
-/// Whether a scan told exactly these records, in the blocks' order.
+/// Whether a scan returned exactly these records, in the blocks' order.
 fn tells(alloc: Global, scanned: &Result<BlockMap, ScanFault>, wanted: &[Record]) -> bool {
     let Ok(map) = scanned else { return false };
     match map.to_list(alloc) {
@@ -29,12 +29,12 @@ fn tells(alloc: Global, scanned: &Result<BlockMap, ScanFault>, wanted: &[Record]
     }
 }
 
-/// Whether a scan of all groups tells exactly these records.
+/// Whether a scan of all groups returns exactly these records.
 fn tells_all(rt: &impl Abort, alloc: Global, rig: &mut Rig, wanted: &[Record]) -> bool {
     tells(alloc, &rig.scan(rt, alloc), wanted)
 }
 
-/// Whether a scan of a range of groups tells exactly these records.
+/// Whether a scan of a range of groups returns exactly these records.
 fn tells_of(
     rt: &impl Abort,
     alloc: Global,
@@ -46,7 +46,7 @@ fn tells_of(
     tells(alloc, &rig.scan_groups(rt, alloc, first, end), wanted)
 }
 
-/// Whether a scan of all groups tells this fault.
+/// Whether a scan of all groups returns this fault.
 fn fails(rt: &impl Abort, alloc: Global, rig: &mut Rig, wanted: ScanFault) -> bool {
     match rig.scan(rt, alloc) {
         Ok(_) => false,

@@ -128,7 +128,7 @@ fn move_with_two_lost(rt: &impl Abort, alloc: Global) {
     rig.lose(rt, 2);
     assert!(rt; rig.is_first_gone(rt, 0, Some(2)));
     assert!(rt; refuses(rt, &mut rig, 2, Refusal::Gone(2)));
-    // A member that is there is copied, whatever else the group misses.
+    // A member that is there is copied, regardless of what else the group misses.
     rig.shifts(rt, 0, 1, extent(3, 0));
     assert!(rt; rig.holds(rt, 0, 20));
     assert!(rt; is_on(&rig, &[extent(0, 0), extent(3, 0), extent(2, 0)]));

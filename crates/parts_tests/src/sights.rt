@@ -7,9 +7,9 @@ use map_join::Record;
 use std::alloc::Global;
 use std::process::Abort;
 
-/// Slots 0 to 5 are mirrored, slots 128 to 135 have parity. Block 5 stands at slot 4 with nines, blocks 3 and 7 at slots
-/// 130 and 134 with eights, which slot 1 holds without a record. Slot 131 holds sixes without one. Slots 2 and 133 hold
-/// bytes that begin with no header.
+/// Slots 0 to 5 are mirrored, slots 128 to 135 have parity. Block 5 is at slot 4 with nines, blocks 3 and 7 at slots 130 and
+/// 134 with eights, which slot 1 holds without a record. Slot 131 holds sixes without one. Slots 2 and 133 hold bytes that
+/// begin with no header.
 fn filled(rt: &impl Abort, alloc: Global) -> Rig {
     let mut rig = Rig::grouped(rt, alloc);
     rig.put(rt, 4, 9);

@@ -1,4 +1,4 @@
-//! Answers a script of array commands, a line for each; or runs a storm of workers, and tells whether they agree.
+//! Answers a script of array commands, a line for each; or runs a storm of workers, and says whether they agree.
 #![tactic(auto)]
 
 mod task;
@@ -35,7 +35,7 @@ fn main(rt: HostRuntime) -> ExitCode {
     })
 }
 
-// The words of the command line behind the program's name.
+// The words of the command line after the program's name.
 fn words_of(rt: &HostRuntime) -> io::Result<Vec<String>> {
     let mut words = Vec::new(rt.alloc());
     for word in env::args(rt)?.skip(1) {

@@ -11,11 +11,11 @@ use std::alloc::{AllocError, Global};
 pub enum Task {
     /// Answer the script on standard input.
     Script,
-    /// Run so many workers, 1 to 8, with so many rounds each, 1 to 1,000, and tell what they agree on.
+    /// Run `workers` workers, 1 to 8, with `writes` rounds each, 1 to 1,000, and say what they agree on.
     Storm { workers: u8, writes: u32 },
 }
 
-/// The task that the words ask for, if they ask for one. Words that ask for none never want memory.
+/// The task that the words ask for, if they ask for one. For words that ask for none nothing is allocated.
 pub fn task_of(alloc: Global, words: &[String]) -> Result<Option<Task>, AllocError>
     ensures ok { IfOk result (IsAsked (map string_bytes words.now)) }
     ensures other { IsAsked (map string_bytes words.now) None → result ≡ Ok None }
@@ -23,7 +23,7 @@ pub fn task_of(alloc: Global, words: &[String]) -> Result<Option<Task>, AllocErr
     let Some(task) = asked(words) else {
         return Ok(None);
     };
-    // These words are refused for want of memory alone.
+    // These words are refused only if out of memory.
     match read_words(alloc, words) {
         Ok(()) => Ok(Some(task)),
         Err(_) => Err(AllocError),
@@ -82,7 +82,7 @@ fn storm_of(verb: &[u8], workers: &[u8], writes: &[u8]) -> Option<Task>
     }
 }
 
-// The storm of so many workers and rounds, if both words are numbers within their limits.
+// The storm of `workers` workers and `writes` rounds, if both words are numbers within their limits.
 fn numbers_of(workers: &[u8], writes: &[u8]) -> Option<Task>
     ensures some { IfSome result (AreStorm workers.now writes.now) }
     ensures none { IfNone result ((n m : ℕ) → IsStorm n m → workers.now ≡ decimal n → writes.now ≡ decimal m → ⊥) }

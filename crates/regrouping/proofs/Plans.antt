@@ -1,4 +1,4 @@
--- Plans of an array, told of the flat state that it stands for.
+-- Plans of an array, stated over the flat state that it represents.
 use Rattle.std.proofs.Common.{ℕ, ◌<◌, Bool, List, refl, sym, ap, ◌∙◌, subst, Option, Some, inr, Result, Ok, Err, IfOk, OnErr}
 use Rattle.extent_groups.specs.Groups.{Groups, Agree}
 use Rattle.array_model.specs.Represents.{Represents}
@@ -75,7 +75,7 @@ as_shift F G s (answer.Unmade g) case = absurd case
 as_shift F G s (answer.Added d) case = absurd case
 as_shift F G s (answer.Lost d) case = absurd case
 
--- the same of every state that a world stands for
+-- a shift that a plan to balance asks for is that plan's case, in every state that a world represents
 pub all_balanced : {E : Type 0} (r : Result Regrouped E) (v w : WorldView) (s : Shift) → ((F : Flat) → Represents v F → IsBalanceOf F (Some s))
     → IfOk r (λ outcome. (F : Flat) → Represents v F → (G : Flat) × ShiftCase F s outcome G × Represents w G)
     → IfOk r (λ outcome. (F : Flat) → Represents v F → (G : Flat) × BalanceCase F outcome G × Represents w G)
@@ -89,7 +89,7 @@ pub all_rebuilt : {E : Type 0} (r : Result Regrouped E) (v w : WorldView) (drive
 all_rebuilt (Ok outcome) v w drive s there plan ok = λ F rep. let y = ok F rep in (y.0, as_rebuild F y.0 drive s outcome (there F rep) (plan F rep) y.1, y.2)
 all_rebuilt (Err e) v w drive s there plan ok = tt
 
--- want of memory of a move is want of memory of its plan
+-- if the move is out of memory, so is the call by its plan
 pub all_wanted : {T E : Type 0} (r : Result T E) (v : WorldView) (s : Shift) (P : Flat → Option Shift → Type 0) → ((F : Flat) → Represents v F → P F (Some s))
     → OnErr r ((F : Flat) → Represents v F → MovePasses F s.group s.member s.to)
     → OnErr r ((F : Flat) → Represents v F → (t : Shift) × P F (Some t) × MovePasses F t.group t.member t.to)

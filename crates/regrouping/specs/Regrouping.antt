@@ -1,4 +1,4 @@
--- What a plan to regroup does, told of the flat state alone: which members are moved, and the state that it leaves.
+-- What a plan to regroup does, stated over the flat state alone: which members are moved, and the state that it leaves.
 use Rattle.std.specs.Prelude.{◌≡◌, ◌⊎◌, ℕ, ◌<◌, ◌≤◌, Bool, true, List, length, slice_index_or, Option, Some, None}
 use Rattle.extents.specs.Owners.{Owners}
 use Rattle.extent_groups.specs.Groups.{Agree}

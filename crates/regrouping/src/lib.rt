@@ -1,4 +1,4 @@
-//! Extents that go to other drives by a plan: the drives' loads are evened out, and what lay on a lost drive is rebuilt.
+//! Extents that go to other drives by a plan: the drives' loads are rebalanced, and what lay on a lost drive is rebuilt.
 #![tactic(auto)]
 
 mod outcome;

@@ -35,7 +35,7 @@ one_grown maps taken map grown records four is_map were now other d below = go (
         let took : put taken map records other ≡ taken other = put_else taken map records other ne in
         rw (there, took) (were other d below)
 
--- one of the maps joined with another, while an empty one stands in its place
+-- one of the maps joined with another, while an empty one is in its place
 pub joined_maps : (result : Result (Unit {0}) MapRefusal) (maps : List Entries) (into from : ℕ) (empty was grown d e : Entries)
     → length maps ≡ 4 → IsMap into → IsMap from → (into ≡ from → ⊥) → was ≡ slice_index_or maps into d
     → OnOk result ((ours theirs : List Record) → IsMapOf ours (at was) → IsMapOf theirs (at (slice_index_or (set maps into empty) from e))

@@ -33,7 +33,7 @@ Took F step answer after = (G : Flat) × (Case F step answer G) × (Represents a
 abbrev pub with_world : Bench → WorldView → Bench
 with_world bench v = record bench { tiers = record bench.tiers { world = v } }
 
--- a step that was told carries its command out
+-- a step whose answer is appended carries its command out
 pub told_step : {E : Type 0} (r : Result (Unit {0}) E) (before : Bench) (v : WorldView) (order : Order) (step : FlatStep) (answer : FlatAnswer)
     (old new : List ℕ) → IsCalm step → OnOk r (new ≡ old ++ answer_text (asked_version step) answer)
     → ((P : Position) → StandsAt before P → Took P.tiers.flat step answer v)
@@ -54,7 +54,7 @@ told_step (Ok u) before v order step answer old new other ok takes same answers 
     }
 told_step (Err e) before v order step answer old new other ok takes same answers = tt
 
--- a step that was told, by a call that notes what it leaves
+-- a step whose answer is appended, by a call that notes what it leaves
 pub told_noted : {E : Type 0} (r : Result (Unit {0}) E) (before : Bench) (u : Tiers) (order : Order) (step : FlatStep) (answer : FlatAnswer)
     (old new : List ℕ) → OnOk r (new ≡ old ++ answer_text (asked_version step) answer)
     → ((T : Tiered) → StandsFor before.tiers T → (U : Tiered) × StepNoted T step answer U × StandsFor u U)
@@ -71,7 +71,7 @@ told_noted (Ok x) before u order step answer old new ok steps answers = λ P sta
     }
 told_noted (Err e) before u order step answer old new ok steps answers = tt
 
--- a commit that was told
+-- a commit whose answer is appended
 pub told_commit : {E : Type 0} (r : Result (Unit {0}) E) (before : Bench) (u : Tiers) (worker slot block : ℕ) (answer : FlatAnswer) (old new : List ℕ)
     → OnOk r (new ≡ old ++ answer_text 0 answer)
     → ((T : Tiered) → StandsFor before.tiers T → (U : Tiered) × CommitNoted T worker slot block answer U × StandsFor u U)
@@ -86,7 +86,7 @@ told_commit (Ok x) before u worker slot block answer old new ok commits = λ P s
     }
 told_commit (Err e) before u worker slot block answer old new ok commits = tt
 
--- a step by a plan that was told
+-- a step by a plan whose answer is appended
 pub told_tier : {E : Type 0} (r : Result (Unit {0}) E) (before : Bench) (u : Tiers) (order : Order) (step : TierStep) (outcome : Outcome) (old new : List ℕ)
     → OnOk r (new ≡ old ++ outcome_text outcome)
     → ((T : Tiered) → StandsFor before.tiers T → (U : Tiered) × TierCase T step outcome U × StandsFor u U)
@@ -103,7 +103,7 @@ told_tier (Ok x) before u order step outcome old new ok steps answers = λ P sta
     }
 told_tier (Err e) before u order step outcome old new ok steps answers = tt
 
--- a record that a map took, and was told
+-- a record that a map took, and whose answer is appended
 pub took_record : (P : Position) (tiers : Tiers) (maps : List Entries) (map : ℕ) (r newest : Record) (old new : List ℕ)
     → IsMap map → StandsFor tiers P.tiers
     → AreMapsOf maps (put P.taken map (P.taken map ++ r ∷ [])) → record_at r.block (at (slice_index_or maps map []) r.block) ≡ Some newest

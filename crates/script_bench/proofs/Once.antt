@@ -23,7 +23,7 @@ use Rattle.script_bench.specs.declared.why.Why.TheVariants.{Many, Long, Form, Ra
 
 -- ---- a command of its parts
 
--- what stands behind the numbers, where something does
+-- what follows the numbers, where something does
 abbrev record_in : Behind → Record
 record_in (Told r) = r
 record_in _ = record { block = 0; version = 0; hop = 0; place = 0 }
@@ -118,7 +118,7 @@ one_members (a ∷ ones) (b ∷ others) short too e =
     let more : ones ≡ others = one_members ones others short.1 too.1 (cc e) in
     cc (one, more)
 
--- what stands behind the numbers is of one kind, and then it is one thing
+-- what follows the numbers is of one kind, and then it is one thing
 one_behind : (a b : Behind) (ws : List (List ℕ)) → o.kind_behind a ≡ o.kind_behind b → IsBehind a ws → IsBehind b ws → a ≡ b
 one_behind Nothing Nothing ws kinds one other = refl
 one_behind Nothing (Told r) ws kinds one other = cc

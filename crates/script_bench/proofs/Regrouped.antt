@@ -1,4 +1,4 @@
--- A shift by a plan that was told is the answer to its command.
+-- A shift by a plan: its outcome is the answer to its command.
 use Rattle.std.proofs.Common.{◌≡◌, ℕ, List, ◌++◌, Result, Ok, Err, Some, refl, sym, subst, inl, inr}
 use Rattle.std.specs.Prelude.{OnOk}
 use Rattle.flat_machine.specs.Flat.{Flat}
@@ -34,7 +34,7 @@ module _ (t : Tiers) (v : WorldView) (T : Tiered) (G : Flat) (stands : StandsFor
   shifted s (Refused r) case = stands_shifted t v T G s.group s.member s.to (step.Refused r) stands rep case
   shifted s Nothing case = absurd case
 
-  -- what is kept beside the world stands behind both plans
+  -- what is kept next to the world represents the state after either plan
   pub balanced : (outcome : Regrouped) → BalanceCase T.flat outcome G → StandsFor (record t { world = v }) (record T { flat = G })
   balanced Nothing case = same case.1
   balanced (Moved m) case = shifted case.0 (Moved m) case.2

@@ -36,7 +36,7 @@ unsaid P size line out e none = record {
   out = refl;
 }
 
--- behind the first command no array is said
+-- after the first command no array is said
 pub again : (P : Position) (line out : List ℕ) (order : Order) → Spells order line → verb_of order ≡ verb.Array → IsUnsaid (Some P) line out out
 again P line out order spells asked = record {
   none = λ other said. said.due.0 (line_verb line other order said.spells spells ∙ asked);

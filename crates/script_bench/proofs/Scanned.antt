@@ -30,7 +30,7 @@ scan_leaves : (F G : Flat) (answer : ScanAnswer) → ScanCase F answer G → Lea
 scan_leaves F G (Told keys) case = case.2
 scan_leaves F G (NotTold slot) case = case.leaves
 
--- the bench with another world stands for the state that is left
+-- the bench with another world represents the state that is left
 stands_left : (before : Bench) (after : WorldView) (P : Position) (G : Flat) → StandsAt before P → Represents after G → Leaves P.tiers.flat G
     → StandsAt (with_world before after) (with_flat P G)
 stands_left before after P G stands rep leaves = record {
@@ -42,7 +42,7 @@ stands_left before after P G stands rep leaves = record {
 abbrev pub Scanned : Flat → ScanAnswer → WorldView → Type 0
 Scanned F answer after = (G : Flat) × ScanCase F answer G × Represents after G
 
--- the fault that is told is that of a slot whose unit is gone
+-- the fault that is reported is that of a slot whose unit is gone
 record IsGoneTold (F : Flat) (found : ScanFault) (after : WorldView) : Type 0 where
   slot : ℕ
   is : found ≡ fault.Gone slot
@@ -67,7 +67,7 @@ listed_map before after keys listed old new list scans out = λ P stands.
       out = out;
     }
 
--- a fault that was told in place of a map
+-- a fault that was reported in place of a map
 scan_fault : (before : Bench) (after : WorldView) (found : ScanFault) (old new : List ℕ) → found ≢ fault.Memory
     → IsToldOf before.tiers.world after found → new ≡ old ++ fault_text found
     → Carries before (with_world before after) o.Scan old new
@@ -101,14 +101,14 @@ restart_fault before after found old new other tells out = λ P stands.
       out = out;
     }
 
--- what is made anew after drives failed is what is made anew before, but for them
+-- an array rebuilt after drives failed is the one rebuilt before, but for these drives
 leaves_anew : (F G : Flat) (keys : ℕ → ℕ) (records : List Record) → Leaves F G → Leaves (restarted F keys records) (restarted G keys records)
 leaves_anew F G keys records leaves = record {
   same = ap (λ (x : Flat). restarted x keys records) leaves.same;
   drives = leaves.drives;
 }
 
--- a restart that was told
+-- a restart whose answer is appended
 pub made_anew : (before : Bench) (between after : WorldView) (tiers : Tiers) (keys : ℕ → ℕ) (count : ℕ) (old new : List ℕ)
     → ((F : Flat) → Represents before.tiers.world F → Scanned F (Told keys) between)
     → ((F : Flat) → Represents between F → IsMapOf F.emitted keys → WasRestarted F keys after) → count ≡ length after.array.log

@@ -78,7 +78,7 @@ ShowsLog F text = text ≡ codes "log " ++ listing F.emitted
 abbrev pub with_taken : Position → ℕ → List Record → Position
 with_taken P map records = record P { taken = put P.taken map records }
 
--- the map takes one record more, and its record of that block is told
+-- the map takes one record more, and its record of that block is the answer
 pub record Takes (P : Position) (map : ℕ) (r : Record) (text : List ℕ) (t : State) : Type 0 where
   pub keys : ℕ → ℕ
   pub newest : Record
@@ -102,7 +102,7 @@ pub record Compares (left right : List Record) (text : List ℕ) : Type 0 where
   pub differs : IsDifference left_keys right_keys lowest
   pub text_is : text ≡ difference_text lowest
 
--- what is told of a scan: the map's records in the blocks' order, or the slot whose unit is gone
+-- the answer to a scan: the map's records in the blocks' order, or the slot whose unit is gone
 abbrev pub TellsScan : ScanAnswer → List ℕ → Type 0
 TellsScan (Told keys) text = (listed : List Record) × IsListOf keys listed × (text ≡ codes "scan " ++ listing listed)
 TellsScan (NotTold slot) text = text ≡ fault_text (Gone slot)
@@ -115,17 +115,17 @@ pub record Scans (P : Position) (text : List ℕ) (t : State) : Type 0 where
   pub told : TellsScan answer text
   pub state_is : t ≡ Some (with_flat P next)
 
--- what is told of a restart: how many blocks there are, or the slot whose unit is gone
+-- the answer to a restart: how many blocks there are, or the slot whose unit is gone
 abbrev pub restart_text : RestartAnswer → List ℕ
 restart_text (Restarted count) = codes "restarted " ++ decimal count
 restart_text (NotRestarted slot) = fault_text (Gone slot)
 
--- behind a restart no write is noted, and nothing was appended
+-- after a restart no write is noted, and nothing was appended
 abbrev pub tiers_behind : Tiered → RestartAnswer → Flat → Tiered
 tiers_behind T (Restarted count) next = begun next
 tiers_behind T (NotRestarted slot) next = record T { flat = next }
 
--- the array is made anew from what its drives hold, and the maps are as they were
+-- the array is rebuilt from what its drives hold, and the maps are as they were
 pub record Restarts (P : Position) (text : List ℕ) (t : State) : Type 0 where
   pub answer : RestartAnswer
   pub next : Flat

@@ -19,7 +19,7 @@ IsMap map = map ≤ 3
 abbrev pub AreMapsOf : List Entries → (ℕ → List Record) → Type 0
 AreMapsOf maps taken = (map : ℕ) (d : Entries) → map < 4 → IsMapOf (taken map) (at (slice_index_or maps map d))
 
--- the array with what is kept beside it, and the maps, stand for where the script stands
+-- the array with what is kept next to it, and the maps, represent the script's position
 pub record StandsAt (bench : Bench) (P : Position) : Type 0 where
   pub tiers : StandsFor bench.tiers P.tiers
   pub maps : AreMapsOf bench.maps P.taken
@@ -30,7 +30,7 @@ Stands None None = Unit {0}
 Stands (Some bench) (Some P) = StandsAt bench P
 Stands _ _ = ⊥
 
--- the command was carried out: its answer is appended, and the bench stands for a state that the answer leads to
+-- the command was carried out: its answer is appended, and the bench represents a state that the answer leads to
 pub record IsCarried (state : State) (bench : Option Bench) (order : Order) (old new : List ℕ) : Type 0 where
   pub text : List ℕ
   pub next : State

@@ -13,7 +13,7 @@ most_lines = 1000000
 abbrev pub most_bytes : ℕ
 most_bytes = 131200
 
--- an empty line and a comment are passed over
+-- an empty line and a comment are skipped
 abbrev pub is_skipped : List ℕ → Bool
 is_skipped [] = true
 is_skipped (byte ∷ rest) = byte == 35
@@ -24,7 +24,7 @@ pub data Meaning : Type 0 where
   Do : Order → Meaning
   Wrong : Why → Meaning
 
--- line n is read for its words: it isn't one too many, nor too long, nor passed over
+-- line n is read for its words: it isn't one too many, nor too long, nor skipped
 pub record Counts (n : ℕ) (line : List ℕ) : Type 0 where
   pub soon : n ≤ most_lines
   pub short : length line ≤ most_bytes
@@ -52,6 +52,6 @@ name_of Long = codes "long"
 name_of Form = codes "form"
 name_of Range = codes "range"
 
--- the line that tells a fault of line n, with its end
+-- the line that reports a fault of line n, with its end
 abbrev pub fault_line : ℕ → Why → List ℕ
 fault_line n why = codes "fault " ++ (decimal n ++ (codes " " ++ (name_of why ++ 10 ∷ [])))

@@ -1,4 +1,4 @@
--- Where a script stands: before its array is made, or at a state of it and of four block maps.
+-- The state of a script: before its array is made, or a state of the array and of four block maps.
 use Rattle.std.specs.Prelude.{◌≡◌, ℕ, ◌<◌, ◌≤◌, List, [], Option, Some, None}
 use Rattle.std.specs.List.{All, AllByRecursion}
 use Rattle.map_join.specs.declared.records.Record.{Record}
@@ -12,12 +12,13 @@ use Rattle.script_words.specs.declared.verb.Kind.TheVariants as kind
 use Rattle.script_words.specs.declared.verb.Verb.TheVariants as verb
 use Rattle.script_words.specs.declared.command.Named.{Named}
 
--- a state of the array with what is kept beside it for its plans, and of each of the four maps the records that it took or merged
+-- a state of the array with what is kept next to it for its plans, and of each of the four maps the records that it took or
+-- merged
 pub record Position : Type 0 where
   pub tiers : Tiered
   pub taken : ℕ → List Record
 
--- before the array, or where the script stands behind it
+-- before the array, or the script's position after it
 abbrev pub State : Type 0
 State = Option Position
 
@@ -30,12 +31,12 @@ abbrev pub block_count : State → ℕ
 block_count None = 0
 block_count (Some P) = P.tiers.flat.groups.blocks
 
--- whether a command may come: the array once and first, every other one behind it, and a payload of the array's length
+-- whether a command may come: the array once and first, every other one after it, and a payload of the array's length
 abbrev pub IsDue : State → Order → Type 0
 IsDue None order = verb_of order ≡ verb.Array
 IsDue (Some P) order = (verb_of order ≡ verb.Array → ⊥) × IsSized P.tiers.flat.groups.payload order
 
--- the limit of each kind of number, with so many blocks; the array has a rule of its own for its sizes
+-- the limit of each kind of number, with `count` blocks; the array has a rule of its own for its sizes
 abbrev pub IsKindInRange : ℕ → Kind → ℕ → Type 0
 IsKindInRange count kind.Worker n = n ≤ 7
 IsKindInRange count kind.Slot n = n ≤ 65535
@@ -54,7 +55,7 @@ pub record IsMemberInRange (member : Named) : Type 0 where
   pub drive : IsKindInRange 0 kind.Drive member.drive
   pub extent : IsKindInRange 0 kind.Extent member.extent
 
--- what stands behind the numbers within the limits: a record's block is one of the array's
+-- what follows the numbers is within the limits: a record's block is one of the array's
 abbrev pub IsBehindInRange : ℕ → Behind → Type 0
 IsBehindInRange count (Told r) = IsKindInRange count kind.Block r.block
 IsBehindInRange count (Members level members) = All IsMemberInRange members
@@ -71,7 +72,7 @@ abbrev pub IsFit : Order → Type 0
 IsFit (o.Array drives extents segments payload blocks) = IsArrayInRange drives extents segments payload blocks
 IsFit _ = Unit {0}
 
--- each number of the command, and what stands behind them, is within the limits, with so many blocks
+-- each number of the command, and what follows them, is within the limits, with `count` blocks
 pub record IsWithin (count : ℕ) (order : Order) : Type 0 where
   pub numbers : AllByRecursion (IsNumberInRange count) (numbers_of order)
   pub behind : IsBehindInRange count (behind_of order)

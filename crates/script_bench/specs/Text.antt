@@ -120,7 +120,7 @@ records_text (r ∷ rs) = 32 ∷ (record_text r ++ records_text rs)
 abbrev pub listing : List Record → List ℕ
 listing rs = decimal (length rs) ++ records_text rs
 
--- what follows the number of a scan's fault: the slot, with the slot that its header tells, or the block and its two slots
+-- what follows the number of a scan's fault: the slot, with the slot that its header names, or the block and its two slots
 abbrev pub fault_detail : ScanFault → List ℕ
 fault_detail fault.Memory = []
 fault_detail (fault.BadHeader slot) = codes " " ++ decimal slot

@@ -7,7 +7,7 @@ use map_join::BlockMap;
 use std::alloc::Global;
 use tiering::Tiers;
 
-/// The world of the array with what its plans keep, and beside it four block maps in which a script joins records.
+/// The world of the array with what its plans keep, and next to it four block maps in which a script joins records.
 #[derive(Drop)]
 pub struct Bench {
     pub tiers: Tiers,

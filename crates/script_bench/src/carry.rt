@@ -1,4 +1,4 @@
-//! Commands behind the first one.
+//! Commands after the first one.
 ghost use Rattle.std.specs.Prelude.{◌≡◌, ◌↔◌, ◌<◌, ◌^◌, ℕ, List, IfOk, OnOk, IsTrue, length};
 ghost use Rattle.array_model.specs.Views.{key_at};
 ghost use Rattle.map_join.specs.Maps.{IsListOf};
@@ -22,7 +22,7 @@ use script_words::{Command, Named, Verb};
 use std::alloc::{AllocError, Global};
 use step_core::{Array, Class, Drive, Hold};
 
-/// Whether the numbers of a command and what stands behind them are within the limits, with so many blocks.
+/// Whether the numbers of a command and what follows them are within the limits, with `blocks` blocks.
 pub fn is_in_range(command: &Command, blocks: u32) -> bool
     ensures { (bytes : List ℕ) → IsTrue result ↔ IsWithin blocks (order_of «command».now bytes) }
 {

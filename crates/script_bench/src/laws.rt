@@ -5,7 +5,8 @@ ghost use Rattle.script_words.specs.Spelling.{Spells};
 ghost use Rattle.script_bench.specs.State.{State};
 ghost use Rattle.script_bench.specs.Meaning.{Meaning, Means};
 
-/// A line spells one command at most, and where it stands it means one thing: nothing, that command, or one fault.
+/// A line spells one command at most, and for a line number and a state it means one thing: nothing, that command, or one
+/// fault.
 pub fn line_laws()
     ensures spelled { (line : List ℕ) (one other : Order) → Spells one line → Spells other line → one ≡ other }
     ensures meant { (n : ℕ) (state : State) (line : List ℕ) (one other : Meaning) → Means n state line one → Means n state line other → one ≡ other }

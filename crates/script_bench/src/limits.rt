@@ -34,7 +34,7 @@ const FEWEST_DRIVES: u64 = 3;
 /// The most drives of an array.
 const MOST_DRIVES: u64 = 16;
 
-/// The greatest size that is told to the array.
+/// The greatest size that is passed to the array.
 const LAST_SIZE: u64 = 65_536;
 
 /// Whether each member's numbers are within the limits.

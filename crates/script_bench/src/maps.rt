@@ -15,7 +15,7 @@ use map_join::{BlockMap, MapRefusal, Record};
 use std::alloc::{AllocError, Global};
 use std::mem;
 
-/// Takes a record into a map, and tells the map's record of that block.
+/// Takes a record into a map, and appends the map's record of that block.
 pub fn take(
     alloc: Global,
     bench: &mut Bench,
@@ -93,7 +93,7 @@ fn join(alloc: Global, maps: &mut [BlockMap], into: usize, from: usize) -> Resul
     merged
 }
 
-/// Tells the lowest block of which two maps have different keys, if there is one.
+/// Appends the lowest block of which two maps have different keys, if there is one.
 pub fn same(
     bench: &mut Bench,
     left: usize,

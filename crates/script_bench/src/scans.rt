@@ -11,7 +11,7 @@ use header_scan::scan_world;
 use std::alloc::{AllocError, Global};
 use tiering::Tiers;
 
-/// Lists the map that the headers tell, or tells the fault that comes first.
+/// Lists the map that the headers hold, or reports the fault that comes first.
 pub fn scan(alloc: Global, bench: &mut Bench, out: &mut Vec<u8>) -> Result<(), AllocError>
     ensures carried { OnOk result (Carries bench.old bench.new o.Scan out.old.items out.new.items) }
     ensures kept { IsPrefix out.old.items out.new.items }
@@ -26,8 +26,8 @@ pub fn scan(alloc: Global, bench: &mut Bench, out: &mut Vec<u8>) -> Result<(), A
     put_listing(out, b"scan ", &records)
 }
 
-/// Makes the array anew from the map that the headers tell, or tells the fault that comes first. The bench is
-/// taken out for it, and is gone where memory is wanted. Kept out of line, since its frame has room for a second bench.
+/// Rebuilds the array from the map that the headers hold, or reports the fault that comes first. The bench is taken out for
+/// it, and is lost on out of memory. Kept out of line, since its frame has room for a second bench.
 #[inline(never)]
 pub fn restart(
     alloc: Global,
@@ -46,7 +46,7 @@ pub fn restart(
     Ok(())
 }
 
-// The bench with its array made anew.
+// The bench with its array rebuilt.
 fn made_anew(alloc: Global, bench: Bench, out: &mut Vec<u8>) -> Result<Bench, AllocError>
     ensures carried { IfOk result (λ after. Carries bench after o.Restart out.old.items out.new.items) }
     ensures kept { IsPrefix out.old.items out.new.items }

@@ -31,7 +31,7 @@ const STEPPED_BYTES: usize = 16;
 /// The digits of a record in hex.
 const RECORD_DIGITS: usize = 24;
 
-/// A text as it stands.
+/// Appends a text unchanged.
 pub fn put(out: &mut Vec<u8>, text: &[u8]) -> Result<(), AllocError>
     ensures told { OnOk result (out.new.items ≡ out.old.items ++ text.now) }
     ensures kept { IsPrefix out.old.items out.new.items }
@@ -122,7 +122,7 @@ fn put_data(out: &mut Vec<u8>, version: u32, payload: &[u8]) -> Result<(), Alloc
     put_hex(out, payload)
 }
 
-/// What a read of a block into a buffer tells.
+/// Appends what a read of a block into a buffer returned.
 pub fn put_found(
     out: &mut Vec<u8>,
     found: Result<Option<u32>, Refusal>,
@@ -259,7 +259,7 @@ fn put_detail(out: &mut Vec<u8>, refusal: &Refusal) -> Result<(), AllocError>
     }
 }
 
-/// A scan's fault: its number, and what it names. Want of memory is not told.
+/// A scan's fault: its number, and what it names. Out of memory has no text: it is an `AllocError`.
 pub fn put_fault(out: &mut Vec<u8>, fault: &ScanFault) -> Result<(), AllocError>
     ensures told { OnOk result (out.new.items ≡ out.old.items ++ fault_text fault.now) }
     ensures memory { OnOk result (fault.now ≢ ScanFault.Memory) }

@@ -17,7 +17,7 @@ use Rattle.script_run.specs.declared.script.Script.{Script}
 use Rattle.script_run.proofs.Opens.{count_more, lines_more, text_join, text_more}
 use Rattle.script_run.proofs.Feeds.{cut_behind, cut_more, leads_left, leads_more, leads_none}
 
--- whole lines before a front of the rest
+-- whole lines before a prefix of the rest
 ends_behind : (whole front rest : List ℕ) → AreLines whole → AreLines front ⊎ (rest ≡ []) → AreLines (whole ++ front) ⊎ (rest ≡ [])
 ends_behind whole front rest lines (inl more) = inl (lines_more whole front lines more)
 ends_behind whole front rest lines (inr none) = inr none
@@ -139,7 +139,7 @@ join_parts xs ys zs old state mid new held wrote now a b = record {
   leads = leads_more old.number state a.whole a.bytes mid.number a.next b.whole b.bytes new.number b.next a.leads b.leads;
 }
 
--- a part that is written behind bytes that are
+-- a part that is written after bytes that are
 part_behind : (held wrote now : Option (List ℕ)) (first second : List ℕ) → Appends held wrote first → IsPartWritten wrote now second
     → IsPartWritten held now (first ++ second)
 part_behind held wrote now first second appended part = record {
@@ -150,7 +150,7 @@ part_behind held wrote now first second appended part = record {
   wrote = Appends-trans held wrote now first part.written appended part.wrote;
 }
 
--- the rest behind a part
+-- the rest after a part
 join_said : (xs ys : List ℕ) (old : Script) (state : State) (mid : Script) (held wrote now : Option (List ℕ)) (last : End)
     (a : IsPartSaid old state mid xs ys held wrote) → IsAllSaid mid a.next ys wrote now last → IsAllSaid old state xs held now last
 join_said xs ys old state mid held wrote now last a b = record {
@@ -181,7 +181,7 @@ join_all (halt.WriteBroke broke) xs ys old state mid held wrote now a b = record
 }
 join_all (halt.ReadBroke broke) xs ys old state mid held wrote now a b = absurd b
 
--- parts behind a part
+-- parts after a part
 parts_join : (before mid_in after : Option (List ℕ)) (old : Script) (state : State) (mid new : Script) (held wrote now : Option (List ℕ))
     → PartSaid before mid_in old state mid held wrote
     → ((s : State) → Stands mid.bench s → PartSaid mid_in after mid s new wrote now) → PartSaid before after old state new held now
@@ -201,7 +201,7 @@ all_join last (Some xs) None old state mid held wrote now a b = absurd a
 all_join last (Some xs) (Some ys) old state mid held wrote now a b =
     join_all last xs ys old state mid held wrote now a (b a.next a.stands)
 
--- a turn behind turns
+-- a turn after turns
 pub turn_after : (result : Option Halt) (before mid_in after : Option (List ℕ)) (old : Script) (state : State) (mid new : Script)
     (held wrote now : Option (List ℕ)) → PartSaid before mid_in old state mid held wrote
     → ((s : State) → Stands mid.bench s → TurnsTo result mid_in after mid s new wrote now) → TurnsTo result before after old state new held now
@@ -221,7 +221,7 @@ said_of script start held now last number line said =
     let told : Left start.number None start.line.items script said.out last = said.told in
     (said.out, said.wrote, rw (number, line) at told)
 
--- a text behind no open line
+-- a text after no open line
 at_start : (line script text : List ℕ) → line ≡ [] → line ++ script ≡ text → script ≡ text
 at_start line script text none is = ap (λ xs. xs ++ script) (sym none) ∙ is
 

@@ -19,20 +19,20 @@ use Rattle.script_run.proofs.Opens.{count_more, open_front, cut_line, last_line,
 pub leads_none : (n : ℕ) (state : State) → Leads n state [] [] n state
 leads_none n state = λ more told last rest. rest
 
--- lines behind lines
+-- lines after lines
 pub leads_more : (n : ℕ) (state : State) (first out : List ℕ) (m : ℕ) (mid : State) (second told : List ℕ) (k : ℕ) (next : State)
     → Leads n state first out m mid → Leads m mid second told k next → Leads n state (first ++ second) (out ++ told) k next
 leads_more n state first out m mid second told k next one two = λ more later last rest.
     rw (append_assoc first second more, append_assoc out told later) (one (second ++ more) (told ++ later) last (two more later last rest))
 
--- what is told behind whole lines is told of all
+-- what is answered after whole lines completes the answers to all
 pub leads_left : (n : ℕ) (state : State) (text whole out : List ℕ) (m : ℕ) (next : State) (rest told : List ℕ) (last : End)
     → Leads n state whole out m next → text ≡ whole ++ rest → Tells m next (lines_of rest) told last
     → Tells n state (lines_of text) (out ++ told) last
 leads_left n state text whole out m next rest told last leads is left =
     let P : List ℕ → Type 0 = λ t. Tells n state (lines_of t) (out ++ told) last in subst P (sym is) (leads rest told last left)
 
--- more behind a text of which the front is told
+-- more after a text of which the prefix is answered
 pub cut_more : (n : ℕ) (state : State) (text out more : List ℕ) → IsCut n state text out → IsCut n state (text ++ more) out
 cut_more n state text out more cut = record {
   whole = cut.whole;
@@ -42,7 +42,7 @@ cut_more n state text out more cut = record {
   told = cut.told;
 }
 
--- a front that is told behind whole lines
+-- a prefix that is answered after whole lines
 pub cut_behind : (n : ℕ) (state : State) (text whole out : List ℕ) (m : ℕ) (next : State) (rest told : List ℕ) → AreLines whole
     → Leads n state whole out m next → text ≡ whole ++ rest → IsCut m next rest told → IsCut n state text (out ++ told)
 cut_behind n state text whole out m next rest told lines leads is cut = record {
@@ -53,11 +53,11 @@ cut_behind n state text whole out m next rest told lines leads is cut = record {
   told = leads cut.whole told end.Whole cut.told;
 }
 
--- nothing of it is told
+-- nothing of it is answered
 pub cut_none : (n : ℕ) (state : State) (text : List ℕ) → IsCut n state text []
 cut_none n state text = record { whole = []; rest = text; text_is = refl; lines = inl refl; told = (refl, refl) }
 
--- only the whole lines are told
+-- only the whole lines are answered
 pub cut_along : (n : ℕ) (state : State) (text whole out : List ℕ) (m : ℕ) (next : State) (rest : List ℕ) → AreLines whole
     → Leads n state whole out m next → text ≡ whole ++ rest → IsCut n state text out
 cut_along n state text whole out m next rest lines leads is =
@@ -202,7 +202,7 @@ stopped_front (Err stop.Fault) old state new part reason none some means told = 
       rw text (Wrong reason, means first.more, (refl, refl));
 }
 
--- nothing is left to tell
+-- nothing is left to answer
 pub closed_empty : (script : Script) (state : State) → script.line.items ≡ [] → IsClosed script state script end.Whole
 closed_empty script state empty = record {
   bytes = [];
@@ -281,11 +281,11 @@ unfolding along_start
 end_refused reason old state new part stands fed =
     part_refused reason old state old new (part ++ 10 ∷ []) part (10 ∷ []) (along_start old state (part ++ 10 ∷ []) stands) fed
 
--- bytes behind a line that is too long make it no shorter
+-- bytes after a line that is too long make it no shorter
 pub too_long : (line part more : List ℕ) → 131200 < length line + length part → most_bytes < length ((line ++ part) ++ more)
 too_long line part more long = omega (arith, length-append (line ++ part) more, length-append line part)
 
--- no line ends in two texts, one behind the other
+-- no line ends in two texts, one after the other
 pub open_more : (line part : List ℕ) → IsOpen line → IsOpen part → IsOpen (line ++ part)
 open_more line part first second = All-append (λ byte. (byte == 10) ≡ false) line part first second
 

@@ -14,7 +14,7 @@ use Rattle.script_run.specs.declared.stop.Stop.TheVariants as stop
 use Rattle.script_bench.specs.declared.why.Why.{Why}
 use Rattle.script_bench.specs.declared.why.Why.TheVariants as why
 
--- a fault that was told is what the line leads to
+-- a fault that was reported is what the line leads to
 pub wrong_line : (r : Result (Unit {0}) Stop) (n : ℕ) (state : State) (bench : Option Bench) (line old new : List ℕ) (reason : Why)
     → TellsFault r n reason old new → Means n state line (Wrong reason) → LineComes r n state bench line old new
 wrong_line (Ok u) n state bench line old new reason told means = absurd told
@@ -43,7 +43,7 @@ answered_line (Ok u) n state bench line old mid new counts replied ok err = let 
 answered_line (Err stop.Memory) n state bench line old mid new counts replied ok err = tt
 answered_line (Err stop.Fault) n state bench line old mid new counts replied ok err = cc err
 
--- a fault told behind a reply that appended nothing
+-- a fault reported after a reply that appended nothing
 told_from : (r : Result (Unit {0}) Stop) (n : ℕ) (reason : Why) (old mid new : List ℕ) → mid ≡ old
     → TellsFault r n reason mid new → TellsFault r n reason old new
 told_from r n reason old mid new same told = rw (← same) told
@@ -61,7 +61,7 @@ refused_line r why.Range n state bench after line old mid new counts replied tol
     wrong_line r n state bench line old new why.Range (told_from r n why.Range old mid new limits.out told)
     (counts, (replied.order, record { spells = replied.spells; due = limits.due }, limits.range))
 
--- five texts, one behind the other
+-- five texts, one after the other
 pub told_five : {E : Type 0} (r : Result (Unit {0}) E) (old one two three four five a b c d e : List ℕ) → one ≡ old ++ a → two ≡ one ++ b
     → three ≡ two ++ c → four ≡ three ++ d → OnOk r (five ≡ four ++ e) → OnOk r (five ≡ old ++ (a ++ (b ++ (c ++ (d ++ e)))))
 told_five (Ok u) old one two three four five a b c d e first second third fourth fifth =

@@ -48,7 +48,7 @@ cut_rest (byte ∷ front) rest none =
 pub cut_line : (front rest : List ℕ) → IsOpen front → lines_of (front ++ 10 ∷ rest) ≡ front ∷ lines_of rest
 cut_line front rest none = cut_rest front rest (recursion_from_All Goes_on front none)
 
--- an open front with nothing behind it is the last line
+-- an open prefix with nothing after it is the last line
 last_rest : (byte : ℕ) (front : List ℕ) → Goes_on byte → AllByRecursion Goes_on front → lines_of (byte ∷ front) ≡ (byte ∷ front) ∷ []
 last_rest byte [] on none = first_byte byte [] on
 last_rest byte (next ∷ front) on none =
@@ -60,20 +60,20 @@ last_line (byte ∷ front) none some =
     let each = recursion_from_All Goes_on (byte ∷ front) none in
     ap lines_of (append-nil (byte ∷ front)) ∙ last_rest byte front each.0 each.1
 
--- whole lines behind whole lines
+-- whole lines after whole lines
 pub lines_more : (first second : List ℕ) → AreLines first → AreLines second → AreLines (first ++ second)
 lines_more first second one (inl none) = rw (none, append-nil first) one
 lines_more first second one (inr ended) =
     inr (first ++ ended.0, ap (λ xs. first ++ xs) ended.1 ∙ sym (append_assoc first ended.0 (10 ∷ [])))
 
--- more behind a text of which the front is told
+-- more after a text of which the prefix is answered
 pub text_more : (line chunk whole opened rest more : List ℕ) → line ++ chunk ≡ whole ++ (opened ++ rest)
     → line ++ (chunk ++ more) ≡ whole ++ (opened ++ (rest ++ more))
 text_more line chunk whole opened rest more is =
     sym (append_assoc line chunk more) ∙ ap (λ xs. xs ++ more) is ∙ append_assoc whole (opened ++ rest) more
     ∙ ap (λ xs. whole ++ xs) (append_assoc opened rest more)
 
--- two fronts of a text, one behind the other
+-- two prefixes of a text, one after the other
 pub text_join : (text first back second rest : List ℕ) → text ≡ first ++ back → back ≡ second ++ rest → text ≡ (first ++ second) ++ rest
 text_join text first back second rest one two =
     one ∙ ap (λ xs. first ++ xs) two ∙ sym (append_assoc first second rest)
@@ -104,7 +104,7 @@ ended_apart (byte ∷ front) second =
     ap (before_lines (byte == 10) byte) (ended_apart front second)
     ∙ before_apart (byte == 10) byte (lines_of (front ++ 10 ∷ [])) (lines_of second) (ended_some front)
 
--- behind whole lines there are as many lines more as in what follows
+-- after whole lines there are as many lines more as in what follows
 pub count_more : (first second : List ℕ) → AreLines first
     → length (lines_of (first ++ second)) ≡ length (lines_of first) + length (lines_of second)
 count_more first second (inl none) = rw none (omega arith)

@@ -14,7 +14,7 @@ use Rattle.script_run.specs.declared.stop.Stop.{Stop}
 use Rattle.script_run.specs.declared.stop.Stop.TheVariants as stop
 use Rattle.script_run.proofs.Feeds.{cut_along}
 
--- what was written is a front of the bytes
+-- what was written is a prefix of the bytes
 abbrev pub IsWritten : Option (List ℕ) → Option (List ℕ) → List ℕ → List ℕ → Type 0
 IsWritten held now bytes rest = (done : List ℕ) × Appends held now done × (bytes ≡ done ++ rest)
 
@@ -67,7 +67,7 @@ part_of held now wrote bytes part same = record {
   wrote = part.wrote;
 }
 
--- whole lines, as a front of what was read
+-- whole lines, as a prefix of what was read
 fronted_cut : (n : ℕ) (state : State) (line chunk out more : List ℕ) → IsCut n state (line ++ chunk) out
     → IsFronted n state (line ++ (chunk ++ more)) out
 fronted_cut n state line chunk out more cut = record {
@@ -79,7 +79,7 @@ fronted_cut n state line chunk out more cut = record {
   told = cut.told;
 }
 
--- all that is read, as a front of it
+-- all that is read, as a prefix of it
 fronted_all : (n : ℕ) (state : State) (text out : List ℕ) (last : End) → Tells n state (lines_of text) out last → IsFronted n state text out
 fronted_all n state text out last told = record {
   front = text;
@@ -90,11 +90,11 @@ fronted_all n state text out last told = record {
   told = told;
 }
 
--- what was told were the bytes that were appended to nothing
+-- the answers were the bytes that were appended to nothing
 told_bytes : (wrote out old bytes : List ℕ) → wrote ≡ out → out ≡ old ++ bytes → old ≡ [] → wrote ≡ bytes
 told_bytes wrote out old bytes told grown empty = told ∙ grown ∙ ap (λ xs. xs ++ bytes) empty
 
--- a write that failed behind a chunk
+-- a write that failed after a chunk
 pub broken_fed : (r : Result (Unit {0}) Stop) (old : Script) (state : State) (new : Script) (chunk : List ℕ) (held now : Option (List ℕ))
     (wrote : List ℕ) → Feeds r old state new chunk → wrote ≡ new.out.items → old.out.items ≡ [] → IsPartWritten held now wrote
     → IsBroken old state chunk held now
@@ -116,7 +116,7 @@ broken_fed (Err stop.Fault) old state new chunk held now wrote fed told empty pa
   fronted = λ more. fronted_all old.number state (old.line.items ++ (chunk ++ more)) fed.bytes end.Fault (fed.told more);
 }
 
--- a write that failed behind the input's end
+-- a write that failed after the input's end
 pub broken_closed : (r : Result (Unit {0}) Stop) (old : Script) (state : State) (new : Script) (held now : Option (List ℕ))
     (wrote : List ℕ) → Closes r old state new → wrote ≡ new.out.items → old.out.items ≡ [] → IsPartWritten held now wrote
     → IsBrokenOff old state [] held now

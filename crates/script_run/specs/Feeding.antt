@@ -13,19 +13,19 @@ use Rattle.script_run.specs.declared.stop.Stop.TheVariants as stop
 use Rattle.script_bench.specs.declared.why.Why.{Why}
 use Rattle.script_run.specs.declared.script.Script.{Script}
 
--- a fault was told, unless there was no memory for it
+-- a fault was reported, unless there was no memory for it
 abbrev pub TellsFault : Result (Unit {0}) Stop → ℕ → Why → List ℕ → List ℕ → Type 0
 TellsFault (Ok _) number why old new = ⊥
 TellsFault (Err stop.Memory) number why old new = Unit {0}
 TellsFault (Err stop.Fault) number why old new = new ≡ old ++ fault_line number why
 
--- the same of a script's open line: what was not told leaves the answers as they were
+-- a fault of a script's open line was reported; without memory for it the answers are as they were
 abbrev pub Faults : Result (Unit {0}) Stop → Why → Script → Script → Type 0
 Faults (Ok _) why old new = ⊥
 Faults (Err stop.Memory) why old new = new.out.items ≡ old.out.items
 Faults (Err stop.Fault) why old new = new.out.items ≡ old.out.items ++ fault_line old.number why
 
--- line n was answered, and the bench stands for a state behind it
+-- line n was answered, and the bench represents a state after it
 pub record IsLineTold (n : ℕ) (state : State) (bench : Option Bench) (line old new : List ℕ) : Type 0 where
   pub next : State
   pub stands : Stands bench next
@@ -34,7 +34,7 @@ pub record IsLineTold (n : ℕ) (state : State) (bench : Option Bench) (line old
   pub told : (lines : List (List ℕ)) (more : List ℕ) (last : End) → Tells (n + 1) next lines more last
       → Tells n state (line ∷ lines) (bytes ++ more) last
 
--- line n is a fault, whatever comes behind it
+-- line n is a fault, for any lines after it
 pub record IsLineWrong (n : ℕ) (state : State) (line old new : List ℕ) : Type 0 where
   pub bytes : List ℕ
   pub out : new ≡ old ++ bytes
@@ -46,11 +46,11 @@ LineComes (Ok _) n state bench line old new = IsLineTold n state bench line old 
 LineComes (Err stop.Memory) n state bench line old new = Unit {0}
 LineComes (Err stop.Fault) n state bench line old new = IsLineWrong n state line old new
 
--- what is told of the open line, the bytes behind it and all later lines
+-- the answers to the open line, the bytes after it and all later lines
 abbrev pub Left : ℕ → State → List ℕ → List ℕ → List ℕ → End → Type 0
 Left n state line rest out last = Tells n state (lines_of (line ++ rest)) out last
 
--- the answers to whole lines lead from line n and a state to a later line and state: what is told from there completes them
+-- the answers to whole lines lead from line n and a state to a later line and state: the answers from there complete them
 abbrev pub Leads : ℕ → State → List ℕ → List ℕ → ℕ → State → Type 0
 Leads n state whole out later next = (more told : List ℕ) (last : End) → Tells later next (lines_of more) told last
     → Tells n state (lines_of (whole ++ more)) (out ++ told) last
@@ -67,7 +67,7 @@ pub record IsScript (script : Script) : Type 0 where
 abbrev pub most_left : Script → ℕ
 most_left script = (most_lines + 1 - script.number) * (most_bytes + 1) - length script.line.items
 
--- of the chunk all but the rest was read: whole lines were answered, and behind them a line is open
+-- of the chunk all but the rest was read: whole lines were answered, and after them a line is open
 pub record IsAlong (old : Script) (state : State) (new : Script) (chunk rest : List ℕ) : Type 0 where
   pub next : State
   pub stands : Stands new.bench next
@@ -79,7 +79,7 @@ pub record IsAlong (old : Script) (state : State) (new : Script) (chunk rest : L
   pub out : new.out.items ≡ old.out.items ++ bytes
   pub leads : Leads old.number state whole bytes new.number next
 
--- the chunk holds a fault, whatever comes behind it
+-- the chunk holds a fault, for any bytes after it
 pub record IsStopped (old : Script) (state : State) (new : Script) (chunk : List ℕ) : Type 0 where
   pub bytes : List ℕ
   pub out : new.out.items ≡ old.out.items ++ bytes
@@ -105,13 +105,13 @@ Feeds (Ok _) old state new chunk = IsAlong old state new chunk []
 Feeds (Err stop.Memory) old state new chunk = IsUnfinished old state new chunk
 Feeds (Err stop.Fault) old state new chunk = IsStopped old state new chunk
 
--- nothing comes behind the open line
+-- nothing comes after the open line
 pub record IsClosed (old : Script) (state : State) (new : Script) (last : End) : Type 0 where
   pub bytes : List ℕ
   pub out : new.out.items ≡ old.out.items ++ bytes
   pub told : Left old.number state old.line.items [] bytes last
 
--- what came of the end behind the open line, by the outcome
+-- what came of the end after the open line, by the outcome
 abbrev pub Closes : Result (Unit {0}) Stop → Script → State → Script → Type 0
 Closes (Ok _) old state new = IsClosed old state new end.Whole
 Closes (Err stop.Memory) old state new = IsUnfinished old state new []

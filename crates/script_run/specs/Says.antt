@@ -6,7 +6,7 @@ use Rattle.script_run.specs.declared.end.End.TheVariants as end
 use Rattle.script_bench.specs.Answers.{Answers}
 use Rattle.script_bench.specs.Meaning.{Meaning, Skip, Do, Wrong, Means, fault_line}
 
--- how it goes on behind line n: a command is answered by a line, and a fault is the end
+-- how it goes on after line n: a command is answered by a line, and a fault is the end
 abbrev pub Goes : ℕ → State → Meaning → (State → List ℕ → Type 0) → List ℕ → End → Type 0
 Goes n state Skip rest out last = rest state out
 Goes n state (Do order) rest out last =
@@ -19,7 +19,7 @@ Tells n state [] out last = (out ≡ []) × (last ≡ end.Whole)
 Tells n state (line ∷ lines) out last =
     (meaning : Meaning) × Means n state line meaning × Goes n state meaning (λ t more. Tells (n + 1) t lines more last) out last
 
--- the lines of a text: each ends with a line feed (10), and behind the last one there is a line only where bytes are left
+-- the lines of a text: each ends with a line feed (10), and after the last one there is a line only where bytes are left
 abbrev pub onto_line : ℕ → List (List ℕ) → List (List ℕ)
 onto_line byte [] = (byte ∷ []) ∷ []
 onto_line byte (line ∷ lines) = (byte ∷ line) ∷ lines

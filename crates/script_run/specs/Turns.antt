@@ -21,7 +21,7 @@ end_of halt.Memory = end.Memory
 end_of (halt.ReadBroke broke) = end.ReadFault
 end_of (halt.WriteBroke broke) = end.WriteFault
 
--- of the bytes a front was written, and not all
+-- a proper prefix of the bytes was written
 pub record IsPartWritten (held now : Option (List ℕ)) (bytes : List ℕ) : Type 0 where
   pub written : List ℕ
   pub unwritten : List ℕ
@@ -29,7 +29,7 @@ pub record IsPartWritten (held now : Option (List ℕ)) (bytes : List ℕ) : Typ
   pub some : 0 < length unwritten
   pub wrote : Appends held now written
 
--- of the input all but the rest was read: the answers to its whole lines are written, and behind them a line is open
+-- of the input all but the rest was read: the answers to its whole lines are written, and after them a line is open
 pub record IsPartSaid (old : Script) (state : State) (new : Script) (input rest : List ℕ) (held now : Option (List ℕ)) : Type 0 where
   pub next : State
   pub stands : Stands new.bench next
@@ -65,7 +65,7 @@ pub record IsFronted (n : ℕ) (state : State) (text out : List ℕ) : Type 0 wh
   pub last : End
   pub told : Tells n state (lines_of front) out last
 
--- a write failed: a front of the answers is written, whatever comes behind the chunk
+-- a write failed: a prefix of the answers is written, for any bytes after the chunk
 pub record IsBroken (old : Script) (state : State) (chunk : List ℕ) (held now : Option (List ℕ)) : Type 0 where
   pub bytes : List ℕ
   pub part : IsPartWritten held now bytes
@@ -86,7 +86,7 @@ pub record IsAllSaid (old : Script) (state : State) (input : List ℕ) (held now
   pub wrote : Appends held now out
   pub told : Left old.number state old.line.items input out last
 
--- a write failed: a front of the input's answers is written
+-- a write failed: a prefix of the input's answers is written
 pub record IsBrokenOff (old : Script) (state : State) (input : List ℕ) (held now : Option (List ℕ)) : Type 0 where
   pub bytes : List ℕ
   pub part : IsPartWritten held now bytes
@@ -133,7 +133,7 @@ pub record IsSaidBefore (script : List ℕ) (held now : Option (List ℕ)) : Typ
   pub wrote : Appends held now out
   pub says : Says whole out end.Whole
 
--- what is written are the answers to all whole lines that were read: what is left is known, and in front of it one line is open
+-- what is written are the answers to all whole lines that were read: what is left is known, and before it one line is open
 pub record IsSaidSoFar (script : List ℕ) (left held now : Option (List ℕ)) : Type 0 where
   pub whole : List ℕ
   pub line : List ℕ
@@ -148,7 +148,7 @@ pub record IsSaidSoFar (script : List ℕ) (left held now : Option (List ℕ)) :
   pub wrote : Appends held now out
   pub says : Says whole out end.Whole
 
--- what is written is a front of the answers to whole lines at the script's front, or to all of it, and not all of them
+-- what is written is a proper prefix of the answers to a prefix of the script, which is whole lines or all of it
 pub record IsSaidInPart (script : List ℕ) (held now : Option (List ℕ)) : Type 0 where
   pub front : List ℕ
   pub rest : List ℕ

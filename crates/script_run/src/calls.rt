@@ -1,4 +1,4 @@
-//! The calls of a reader and a writer. That one of them failed can be told here alone.
+//! The calls of a reader and a writer. Only here can it be reported that one of them failed.
 ghost use Rattle.std.specs.Prelude.{OnOk, OnErr};
 ghost use Rattle.std.specs.Io.{ReadsAtMost};
 ghost use Rattle.std.specs.Io.KnownBytes.{Appends, ReadConsumes};

@@ -1,4 +1,4 @@
-//! One line: skipped, answered or told as a fault.
+//! One line: skipped, answered or reported as a fault.
 ghost use Rattle.std.specs.Prelude.{◌≡◌, ◌≤◌, ◌++◌, ◌∷◌, [], OnOk, OnErr, length};
 ghost use Rattle.script_bench.specs.State.{State};
 ghost use Rattle.script_bench.specs.Meaning.{is_skipped as is_passed, fault_line, name_of};
@@ -48,7 +48,7 @@ pub fn answer_line(
     }
 }
 
-/// Tells a fault. Kept out of line, since no line but the last one has a fault.
+/// Appends the line that reports a fault of line `number`. Kept out of line, since no line but the last one has a fault.
 #[inline(never)]
 pub fn wrong(out: &mut Vec<u8>, number: u64, why: Why) -> Result<(), Stop>
     ensures told { TellsFault result number why out.old.items out.new.items }
@@ -60,7 +60,7 @@ pub fn wrong(out: &mut Vec<u8>, number: u64, why: Why) -> Result<(), Stop>
     }
 }
 
-// The line that tells a fault.
+// The line that reports a fault.
 fn put_fault(out: &mut Vec<u8>, number: u64, why: Why) -> Result<(), AllocError>
     ensures told { OnOk result (out.new.items ≡ out.old.items ++ fault_line number why) }
     ensures kept { IsPrefix out.old.items out.new.items }
@@ -96,7 +96,7 @@ fn end_line(out: &mut Vec<u8>) -> Result<(), Stop>
     }
 }
 
-// Whether the line is passed over.
+// Whether the line is skipped.
 fn is_skipped(line: &[u8]) -> bool
     ensures { result ≡ is_passed line.now }
 {

@@ -125,7 +125,7 @@ fn close<W: Write>(alloc: Global, writer: &mut W, script: &mut Script) -> Halt
     }
 }
 
-// So many zeros.
+// A buffer of `size` zeros.
 fn zeros(alloc: Global, size: usize) -> Result<Vec<u8>, AllocError>
     ensures { IfOk result (λ zeros. length zeros.items ≡ size) }
 {

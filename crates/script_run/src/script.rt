@@ -11,8 +11,8 @@ use script_bench::{Bench, Why};
 use std::alloc::Global;
 use std::mem::replace;
 
-/// Where a script stands: the number of its open line, the bench, a buffer for a payload, the bytes of
-/// the open line, and the whole answers that are not yet written.
+/// The state of a script: the number of its open line, the bench, a buffer for a payload, the bytes of the open line, and the
+/// whole answers that are not yet written.
 #[derive(Drop)]
 pub struct Script {
     pub number: u64,
@@ -95,7 +95,7 @@ impl Script {
         }
     }
 
-    // Tells a fault of the open line. Without memory for all of it, nothing of it is kept.
+    // Reports a fault of the open line. Without memory for all of it, nothing of it is kept.
     fn tell_fault(&mut self, why: Why) -> Result<(), Stop>
         ensures { Faults result why self.old self.new }
     {
@@ -109,7 +109,7 @@ impl Script {
         }
     }
 
-    // Answers the line that ends behind these bytes. Where they are all of it, it is answered where it lies.
+    // Answers the line that ends after these bytes. Where they are all of it, it is answered where it lies.
     fn take_line(&mut self, alloc: Global, part: &[u8]) -> Result<(), Stop>
         requires good { IsScript self.old }
         requires part { IsOpen part.now }
@@ -146,7 +146,7 @@ impl Script {
         }
     }
 
-    // Answers a line behind the whole answers. Without memory for all of its answer, nothing of it is kept.
+    // Appends a line's answer to the whole answers. Without memory for all of its answer, nothing of it is kept.
     fn answer(&mut self, alloc: Global, line: &[u8]) -> Result<(), Stop>
         requires good { IsScript self.old }
         requires none { self.old.line.items ≡ [] }

@@ -13,7 +13,7 @@ const LINE_END: u8 = b'\n';
 /// The bytes of a first look.
 const LOOK: usize = 32;
 
-/// The bytes before the first line's end, and those behind it.
+/// The bytes before the first line's end, and those after it.
 pub fn split_line(text: &[u8]) -> Option<(&[u8], &[u8])>
     ensures some { IfSome result (λ parts. IsOpen parts.0.now × (text.now ≡ parts.0.now ++ 10 ∷ parts.1.now)) }
     ensures none { IfNone result (IsOpen text.now) }
@@ -37,7 +37,7 @@ fn line_end(text: &[u8]) -> Option<usize>
     memchr(LINE_END, text)
 }
 
-// How many bytes stand before the first line's end.
+// How many bytes are before the first line's end.
 #[inline(always)]
 fn open_bytes(bytes: u8x32) -> usize
     ensures { result ≡ prefix_len (λ byte. not (byte == 10)) bytes }

@@ -5,6 +5,6 @@
 pub enum Stop {
     /// There was no memory.
     Memory,
-    /// A line was wrong, and its fault was told.
+    /// A line was wrong, and its fault was reported.
     Fault,
 }

@@ -29,7 +29,7 @@ impl Read for Breaking<'_> {
     }
 }
 
-/// Takes so many bytes, five at a time, and then none, or answers an error.
+/// Takes `room` bytes, five at a time, and then none, or answers an error.
 #[derive(Drop)]
 struct Full {
     taken: Vec<u8>,
@@ -68,7 +68,7 @@ impl Read for Slow<'_> {
     }
 }
 
-/// Answers one error in front of its bytes, or behind the first of them, and then goes on.
+/// Answers one error before its bytes, or after the first of them, and then goes on.
 #[derive(Drop)]
 struct Stumbling<'a> {
     front: &'a [u8],
@@ -94,7 +94,7 @@ impl Read for Stumbling<'_> {
     }
 }
 
-/// Takes so many bytes, then once none, or answers an error, and then takes all.
+/// Takes `room` bytes, then once none, or answers an error, and then takes all.
 #[derive(Drop)]
 struct Balking {
     taken: Vec<u8>,

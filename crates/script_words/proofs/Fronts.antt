@@ -85,7 +85,7 @@ front_number separator text at number inside numeral front =
           | inr short ↦ omega (arith, numeral.some)
         ]
 
--- a number and the separator behind it
+-- a number and the separator after it
 pub number_cut : (separator : ℕ) (text : List ℕ) (at number : ℕ) → at < length text → get_or text at 0 ≡ separator
     → IsNumeral text at → IsFront separator text at number
     → IsWritable number × (parts separator text ≡ decimal number ∷ parts separator (take (length text - (at + 1)) (drop (at + 1) text)))
@@ -95,7 +95,7 @@ number_cut separator text at number inside is numeral front =
       cut_at separator text at inside front.whole (there separator text at is) ∙ ap (λ word. word ∷ parts separator (take (length text - (at + 1)) (drop (at + 1) text))) found.1,
     )
 
--- a number and nothing behind it
+-- a number and nothing after it
 pub number_alone : (separator : ℕ) (text : List ℕ) (at number : ℕ) → at ≤ min (length text) 11 → min (length text) 11 ≤ at
     → IsNumeral text (length text) → IsFront separator text at number → IsWritable number × (parts separator text ≡ decimal number ∷ [])
 number_alone separator text at number inside end numeral front =
@@ -121,7 +121,7 @@ begins separator x text word rest differs e = go (parts separator text) refl
         let told = sym e ∙ onto in
         (part, ps, are, cc)
 
--- and has what stands before a separator
+-- and has what is before a separator
 first_has : (separator at : ℕ) (text word : List ℕ) (rest : List (List ℕ)) → at < length text
     → ((k : ℕ) → k ≤ at → Differs separator (get_or text k 0)) → parts separator text ≡ word ∷ rest
     → (at < length word) × ((k : ℕ) → k ≤ at → get_or word k 0 ≡ get_or text k 0)
@@ -145,7 +145,7 @@ first_has separator (suc at) (x ∷ text) word rest inside differs e =
     same word_is more zero low = rw word_is refl
     same word_is more (suc k) low = rw word_is (more k (omega arith))
 
--- where a number stands, a digit is next that it may have
+-- where a number is, a digit is next that it may have
 pub next_digit : (separator : ℕ) (text : List ℕ) (at number : ℕ) → at < length text → (get_or text at 0 ≡ separator → ⊥)
     → IsFront separator text at number → (n : ℕ) (rest : List (List ℕ)) → IsWritable n → parts separator text ≡ decimal n ∷ rest
     → IsInRange 48 57 (get_or text at 0)
@@ -169,7 +169,7 @@ numeral_of text at n inside short e =
           omega (arith, alone, long, more);
     }
 
--- before a separator stands no number but by a numeral
+-- before a separator there is no number but by a numeral
 pub not_cut : (separator : ℕ) (text : List ℕ) (at number : ℕ) → at < length text → get_or text at 0 ≡ separator
     → IsFront separator text at number → (IsNumeral text at → ⊥)
     → (n : ℕ) (rest : List (List ℕ)) → IsWritable n → parts separator text ≡ decimal n ∷ rest → ⊥
@@ -189,7 +189,7 @@ not_whole separator text at number end front none n rest short spelled =
     let word : text ≡ decimal n = cc in
     none (numeral_of text (length text) n (omega arith) short (take_all (length text) text (omega arith) ∙ word))
 
--- nor behind eleven digits
+-- nor after eleven digits
 too_long : (separator : ℕ) (text : List ℕ) (at number : ℕ) → 11 ≤ at → 11 ≤ length text → IsFront separator text at number
     → (n : ℕ) (rest : List (List ℕ)) → IsWritable n → parts separator text ≡ decimal n ∷ rest → ⊥
 too_long separator text at number most inside front n rest short spelled =
@@ -222,7 +222,7 @@ one_number word n short e = rw e (one_part 32 (decimal n) (no_space n short))
 pub word_alone : (word part : List ℕ) → parts 32 word ≡ part ∷ [] → word ≡ part
 word_alone word part e = sym (join_with_byte-slice_split 32 word) ∙ ap (join_with_byte 32) e
 
--- a number with words behind it is no word
+-- a number with words after it is no word
 pub not_alone : (word : List ℕ) (n m : ℕ) (rest : List ℕ) → IsWritable n → word ≡ decimal n → parts 32 word ≡ decimal m ∷ parts 32 rest → ⊥
 not_alone word n m rest short e found =
     let both = sym (one_number word n short e) ∙ found in

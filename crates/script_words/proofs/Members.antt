@@ -38,7 +38,7 @@ no_dot word front are member short e =
     let told : front ∷ [] ≡ decimal member.drive ∷ decimal member.extent ∷ [] = sym are ∙ ap (parts 46) e ∙ member_parts member short in
     cc told
 
--- what stands before the dot of a member's word, and behind it
+-- what is before the dot of a member's word, and after it
 pub around_dot : (word front back : List ℕ) → parts 46 word ≡ front ∷ parts 46 back
     → (member : Named) → IsWritableMember member → word ≡ member_word member
     → (front ≡ decimal member.drive) × (back ≡ decimal member.extent)

@@ -41,7 +41,7 @@ spelled_more ns place n ws left back below spelled here =
     let ended : map decimal (take place ns ++ n ∷ []) ≡ map decimal (take place ns) ++ decimal n ∷ [] = map-append decimal (take place ns) (n ∷ []) in
     rw (take_more_set, ended, append_assoc) (spelled ∙ ap (λ xs. map decimal (take place ns) ++ xs) here)
 
--- behind the first numbers the next one stands
+-- after the first numbers comes the next one
 pub number_next : (all before : List ℕ) (ws rest left : List (List ℕ)) → AllByRecursion IsWritable all
     → length before < length all → ws ≡ map decimal all ++ rest → ws ≡ map decimal before ++ left
     → (n : ℕ) × (more : List (List ℕ)) × IsWritable n × (left ≡ decimal n ∷ more)
@@ -61,7 +61,7 @@ number_short all before ws rest back less one two none =
     let second = simp (length-map, length-append) at (ap length two) in
     let nothing = ap length none in omega arith
 
--- the words behind as many numbers
+-- the words after equally many numbers
 pub rest_again : (ns ms : List ℕ) (back rest : List (List ℕ)) → length ns ≡ length ms → map decimal ns ++ back ≡ map decimal ms ++ rest
     → back ≡ rest
 rest_again [] [] back rest same e = e

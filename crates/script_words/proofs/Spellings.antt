@@ -67,7 +67,7 @@ hex_word digits bytes decoded =
     let pass = (decode_of-ok digits bytes decoded).1 in
     All-from_get_or (Differs 32) digits 0 (λ k below. no_space_digit (get_or digits k 0) (pass k 0 below))
 
--- nor any word behind a verb
+-- nor any word after a verb
 behind_words : (behind : Behind) (ws : List (List ℕ)) → IsBehind behind ws → AllByRecursion IsWord ws
 behind_words Nothing ws is = rw is tt
 behind_words (Told r) ws is = rw is.spelled (hex_word is.word is.named.bytes is.named.decoded, tt)
@@ -88,7 +88,7 @@ pub spelled_words : (order : Order) (line : List ℕ) (s : Spells order line) �
 spelled_words order line s =
     ap words s.line_is ∙ words_again _ s.rest (verb_word (verb_of order)) (follow_words order s.rest s.follows)
 
--- a command that was found behind its verb is spelled by the line
+-- a command that was found after its verb is spelled by the line
 pub found_spells : (asked : Verb) (size : ℕ) (line word : List ℕ) (ws : List (List ℕ)) (order : Order)
     → words line ≡ word ∷ ws → word ≡ word_of asked → IsFound asked size ws order → Spells order line
 found_spells asked size line word ws order cut named found = record {
@@ -116,7 +116,7 @@ pub unspelled : (size : ℕ) (line word : List ℕ) (ws : List (List ℕ)) → w
 unspelled size line word ws cut none order read =
     let told = sym cut ∙ spelled_words order line read.spells in none (verb_of order) (cc)
 
--- a command that was read behind its verb
+-- a command that was read after its verb
 pub found_as : (asked : Verb) (t : Tail) (size count : ℕ) (ns : List ℕ) (r : Record) (payload : List ℕ) (level : Class) (members : List Named)
     (ws back : List (List ℕ)) → length ns ≡ 5 → count ≡ length (kinds_of asked) → tail_of asked ≡ t
     → AllByRecursion IsWritable (take count ns) → ws ≡ map decimal (take count ns) ++ back
@@ -137,7 +137,7 @@ found_as asked t size count ns r payload level members ws back five counted tail
       };
     }
 
--- without its numbers no command of the verb stands there
+-- without its numbers there is no command of the verb
 pub no_numbers : (asked : Verb) (size count : ℕ) (ws : List (List ℕ)) → count ≡ length (kinds_of asked)
     → ((ns : List ℕ) (rest : List (List ℕ)) → length ns ≡ count → AllByRecursion IsWritable ns → ws ≡ map decimal ns ++ rest → ⊥)
     → (order : Order) → IsFound asked size ws order → ⊥
@@ -145,7 +145,7 @@ no_numbers asked size count ws counted none order found =
     let f = found.follows in
     none (values_of order) f.rest (count_again order ∙ ap (λ v. length (kinds_of v)) found.asked ∙ sym counted) f.writable f.spelled
 
--- nor without what stands behind them
+-- nor without what follows them
 pub no_behind : (asked : Verb) (t : Tail) (size count : ℕ) (ns : List ℕ) (ws back : List (List ℕ)) → length ns ≡ 5 → count ≤ 5
     → count ≡ length (kinds_of asked) → tail_of asked ≡ t → ws ≡ map decimal (take count ns) ++ back
     → ((behind : Behind) → kind_behind behind ≡ t → IsLong size behind → IsBehind behind back → ⊥)
@@ -177,7 +177,7 @@ pub no_members_behind : (back : List (List ℕ)) → ((level : Class) (members :
 no_members_behind back none size (Members level members) is long there = none level members there
 no_members_behind back none size _ is long there = cc is
 
--- whether a payload stands behind the numbers
+-- whether a payload follows the numbers
 pub payload_found : (asked : Verb) (size count : ℕ) (command : Command) (bytes : List ℕ) (ws back : List (List ℕ)) (told : Bool)
     → length command.numbers ≡ 5 → count ≤ 5 → count ≡ length (kinds_of asked) → tail_of asked ≡ tail.Payload → command.verb ≡ asked
     → AllByRecursion IsWritable (take count command.numbers) → ws ≡ map decimal (take count command.numbers) ++ back
@@ -190,7 +190,7 @@ payload_found asked size count command bytes ws back true five few counted taile
 payload_found asked size count command bytes ws back false five few counted tailed named writable spelled put none long =
     no_behind asked tail.Payload size count command.numbers ws back five few counted tailed spelled (no_payload_behind back size (none refl))
 
--- what was found behind the first word is what the line spells
+-- what was found after the first word is what the line spells
 read_line : (asked : Verb) (size : ℕ) (line word bytes : List ℕ) (ws : List (List ℕ)) (command : Command) (found : Bool)
     → words line ≡ word ∷ ws → word ≡ word_of asked → Finds asked size ws bytes command found → Reads size line bytes command found
 read_line asked size line word bytes ws command true cut named found =

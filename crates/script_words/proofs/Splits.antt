@@ -23,7 +23,7 @@ not_true false h = refl
 pub one_part : (separator : ℕ) (text : List ℕ) → All (Differs separator) text → parts separator text ≡ text ∷ []
 one_part separator text none = slice_split_none (λ byte. byte == separator) text none
 
--- what stands before a separator is the first part
+-- what is before a separator is the first part
 pub first_part : (separator : ℕ) (front back : List ℕ) → All (Differs separator) front
     → parts separator (front ++ separator ∷ back) ≡ front ∷ parts separator back
 first_part separator front back none =
@@ -48,7 +48,7 @@ front_differs separator text at inside none =
     let front : k < at = omega (arith, length-take at text) in
     rw (get_or-take at text k 0 front) (not_true _ (none k (omega arith) front)))
 
--- what stands before the first separator and behind it
+-- what is before the first separator and after it
 pub cut_at : (separator : ℕ) (text : List ℕ) (at : ℕ) → at < length text
     → ((k : ℕ) → 0 ≤ k → k < at → IsThere separator text k → ⊥) → IsThere separator text at
     → parts separator text ≡ take at text ∷ parts separator (take (length text - (at + 1)) (drop (at + 1) text))

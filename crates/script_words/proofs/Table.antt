@@ -14,7 +14,7 @@ use Rattle.script_words.specs.declared.verb.Tail.{Tail}
 use Rattle.script_words.specs.declared.verb.Tail.TheVariants as tail
 use Rattle.script_words.proofs.Splits.{Differs}
 
--- where a word stands among the words of verbs
+-- the place of a word among the words of verbs
 abbrev place_in : List Verb → List ℕ → ℕ
 place_in [] word = 0
 place_in (asked ∷ later) word = cond (bytes_eq (word_of asked) word) 0 (1 + place_in later word)
@@ -22,7 +22,7 @@ place_in (asked ∷ later) word = cond (bytes_eq (word_of asked) word) 0 (1 + pl
 abbrev place_of : Verb → ℕ
 place_of asked = place_in all_verbs (word_of asked)
 
--- each verb stands at the place of its word
+-- each verb is at the place of its word
 at_place : (asked d : Verb) → slice_index_or all_verbs (place_of asked) d ≡ asked
 at_place verb.Array d = refl
 at_place _ d = refl
@@ -37,7 +37,7 @@ pub verb_word : (asked : Verb) → All (Differs 32) (word_of asked)
 verb_word verb.Array = All-from_recursion (Differs 32) (codes "array") (search rules)
 verb_word asked = All-from_recursion (Differs 32) (word_of asked) (search rules)
 
--- what stands behind the numbers of a verb's command
+-- what follows the numbers of a verb's command
 abbrev pub behind_as : Tail → Record → List ℕ → Class → List Named → Behind
 behind_as tail.Nothing r payload level members = Nothing
 behind_as tail.Record r payload level members = Told r
@@ -71,7 +71,7 @@ values_again asked (a ∷ b ∷ c ∷ d ∷ []) r payload level members five = c
 values_again asked (a ∷ b ∷ c ∷ d ∷ e ∷ []) r payload level members five = values_five asked a b c d e r payload level members
 values_again asked (a ∷ b ∷ c ∷ d ∷ e ∷ f ∷ ns) r payload level members five = absurd (omega arith)
 
--- a command has as many numbers as its verb's row, and behind them what the row says
+-- a command has as many numbers as its verb's row, and after them what the row says
 pub tail_again : (order : Order) → kind_behind (behind_of order) ≡ tail_of (verb_of order)
 tail_again (o.Array a b c d e) = refl
 tail_again _ = refl

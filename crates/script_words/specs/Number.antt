@@ -5,7 +5,7 @@ use Rattle.std.specs.Prelude.{◌≡◌, ℕ, ◌<◌, ◌≤◌, ◌^◌, List,
 abbrev pub IsWritable : ℕ → Type 0
 IsWritable n = n < 10 ^ 10
 
--- so many digits at the front are as many as a number may have, and lead with no zero
+-- `count` leading digits may be a number: there are 1 to 10, and no zero leads two or more
 pub record IsNumeral (text : List ℕ) (count : ℕ) : Type 0 where
   pub some : 0 < count
   pub few : count ≤ 10

@@ -1,4 +1,4 @@
--- A command as plain data, and the table of commands: each one's word, its numbers, and what stands behind them.
+-- A command as plain data, and the table of commands: each one's word, its numbers, and what follows them.
 use Rattle.std.specs.Prelude.{ℕ, List, [], ◌∷◌, map, codes, slice_index}
 use Rattle.map_join.specs.declared.records.Record.{Record}
 use Rattle.extent_groups.specs.declared.class.Class.{Class}
@@ -43,12 +43,12 @@ pub data Order : Type 0 where
   Rebuild : ℕ → Order
   Lose : ℕ → Order
 
--- a number, and what it stands for
+-- a number, and what it represents
 pub record Number : Type 0 where
   pub kind : Kind
   pub value : ℕ
 
--- what stands behind a command's numbers
+-- what follows a command's numbers
 pub data Behind : Type 0 where
   Nothing : Behind
   Told : Record → Behind
@@ -153,7 +153,7 @@ shape Balance = form verb.Balance [] Nothing
 shape (Rebuild d) = form verb.Rebuild (drive d ∷ []) Nothing
 shape (Lose d) = form verb.Lose (drive d ∷ []) Nothing
 
--- what a command asks for, its numbers, and what stands behind them
+-- what a command asks for, its numbers, and what follows them
 abbrev pub verb_of : Order → Verb
 verb_of order = (shape order).verb
 
@@ -166,7 +166,7 @@ behind_of order = (shape order).behind
 abbrev pub values_of : Order → List ℕ
 values_of order = map (λ n. n.value) (numbers_of order)
 
--- the command of a verb with these numbers in order, and with what stands behind them
+-- the command of a verb with these numbers in order, and with what follows them
 abbrev pub ordered : Verb → (ℕ → ℕ) → Record → List ℕ → Class → List Named → Order
 ordered verb.Array n r payload level members = Array (n 0) (n 1) (n 2) (n 3) (n 4)
 ordered verb.Make n r payload level members = Make level members
@@ -197,7 +197,7 @@ ordered verb.Balance n r payload level members = Balance
 ordered verb.Rebuild n r payload level members = Rebuild (n 0)
 ordered verb.Lose n r payload level members = Lose (n 0)
 
--- a command of the program, with the payload that stands in the buffer
+-- a command of the program, with the payload that is in the buffer
 abbrev pub order_of : Command → List ℕ → Order
 order_of command bytes =
     ordered command.verb (λ i. slice_index command.numbers i) command.record bytes command.class command.members.items
@@ -206,11 +206,11 @@ order_of command bytes =
 abbrev pub sample : Verb → Shape
 sample asked = shape (ordered asked (λ i. 0) (record { block = 0; version = 0; hop = 0; place = 0 }) [] class.Mirrored [])
 
--- what each of a verb's numbers stands for
+-- what each of a verb's numbers represents
 abbrev pub kinds_of : Verb → List Kind
 kinds_of asked = map (λ n. n.kind) (sample asked).numbers
 
--- what stands behind a verb's numbers
+-- what follows a verb's numbers
 abbrev pub kind_behind : Behind → Tail
 kind_behind Nothing = tail.Nothing
 kind_behind (Told r) = tail.Record

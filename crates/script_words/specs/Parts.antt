@@ -4,7 +4,7 @@ use Rattle.std.specs.Borrow.{Bor}
 use Rattle.std.specs.List.{slice_split}
 use Rattle.std.specs.Option.{option_map}
 
--- the parts of a text: what stands before the first separator, between one and the next, and behind the last
+-- the parts of a text: what is before the first separator, between one and the next, and after the last
 abbrev pub parts : ℕ → List ℕ → List (List ℕ)
 parts separator text = slice_split (λ byte. byte == separator) text
 
@@ -13,6 +13,6 @@ abbrev pub parts_left : ℕ → Option (List ℕ) → List (List ℕ)
 parts_left separator None = []
 parts_left separator (Some text) = parts separator text
 
--- the text that is lent
+-- the text that is borrowed
 abbrev pub text_of : Option (Bor (List ℕ)) → Option (List ℕ)
 text_of text = option_map (λ rest. rest.now) text

@@ -58,14 +58,14 @@ pub record RecordAlone (r : Record) (ws : List (List ℕ)) : Type 0 where
   pub named : IsRecordWord r word
   pub spelled : ws ≡ word ∷ []
 
--- the words behind a command's numbers
+-- the words after a command's numbers
 abbrev pub IsBehind : Behind → List (List ℕ) → Type 0
 IsBehind Nothing ws = ws ≡ []
 IsBehind (Told r) ws = RecordAlone r ws
 IsBehind (Content payload) ws = PayloadAlone payload ws
 IsBehind (Members level members) ws = ClassAndMembers level members ws
 
--- the words that follow the first one of a command: its numbers, and what stands behind them
+-- the words that follow the first one of a command: its numbers, and what comes after them
 pub record Follows (order : Order) (ws : List (List ℕ)) : Type 0 where
   pub rest : List (List ℕ)
   pub writable : AllByRecursion IsWritable (values_of order)

@@ -14,8 +14,8 @@ pub struct Named {
     pub extent: u64,
 }
 
-/// A command of a script. What its verb doesn't ask for means nothing. The payload of a fill stands in the
-/// buffer that was lent for it.
+/// A command of a script. A field that its verb doesn't ask for means nothing. The payload of a fill is in the buffer that the
+/// caller gave for it.
 #[derive(Drop)]
 pub struct Command {
     pub numbers: [u64; MOST_NUMBERS],

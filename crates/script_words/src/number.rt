@@ -12,7 +12,7 @@ const ZERO: u64 = b'0' as u64;
 /// The most digits of a number.
 const MOST_DIGITS: usize = 10;
 
-/// The number that is the first word of the text, and the text behind it where there is one.
+/// The number that is the first word of the text, and the text after it where there is one.
 pub fn cut_number(text: &[u8]) -> Option<(u64, Option<&[u8]>)>
     ensures some { IfSome result (λ found. IsWritable found.0
         × (words text.now ≡ decimal found.0 ∷ words_left (text_of found.1))) }
@@ -39,7 +39,7 @@ pub fn cut_number(text: &[u8]) -> Option<(u64, Option<&[u8]>)>
     }
 }
 
-// Whether so many digits at the front are one to ten, of which none leads that is a zero.
+// Whether `count` leading digits may be a number: 1 to 10 of them, and no zero leads two or more.
 fn is_numeral(text: &[u8], count: usize) -> bool
     requires { count ≤ length text.now }
     ensures { IsTrue result ↔ IsNumeral text.now count }

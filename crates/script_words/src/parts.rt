@@ -5,16 +5,16 @@ ghost use Rattle.script_words.specs.Parts.{parts, parts_left, text_of};
 
 use std::simd::prelude::*;
 
-/// What stands between the words of a line.
+/// The separator between the words of a line.
 pub const SPACE: u8 = b' ';
 
-/// What stands between a drive and an extent.
+/// The separator between a drive and an extent.
 pub const DOT: u8 = b'.';
 
 /// The bytes of a first look.
 const LOOK: usize = 8;
 
-/// The text before the first separator, and the text behind it where there is one.
+/// The text before the first separator, and the text after it where there is one.
 pub fn cut(text: &[u8], separator: u8) -> (&[u8], Option<&[u8]>)
     ensures { parts separator text.now ≡ result.0.now ∷ parts_left separator (text_of result.1) }
 {
@@ -33,7 +33,7 @@ pub fn cut(text: &[u8], separator: u8) -> (&[u8], Option<&[u8]>)
     (text, None)
 }
 
-// How many bytes stand before the first separator.
+// How many bytes are before the first separator.
 #[inline(always)]
 fn bytes_before(bytes: u8x8, separator: u8) -> usize
     ensures { result ≡ prefix_len (λ byte. not (byte == separator)) bytes }

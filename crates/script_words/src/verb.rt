@@ -1,4 +1,4 @@
-//! The table of commands: a verb's word, and in its row the kinds of its numbers and what stands behind them.
+//! The table of commands: a verb's word, and in its row the kinds of its numbers and what follows them.
 ghost use Rattle.std.specs.Prelude.{◌≡◌, ◌≤◌, length, IfSome, IfNone};
 ghost use Rattle.script_words.specs.Order.{word_of, kinds_of, tail_of};
 
@@ -35,7 +35,7 @@ pub enum Verb {
     Lose,
 }
 
-/// What a number of a command stands for.
+/// What a number of a command represents.
 #[derive(Clone, Copy)]
 pub enum Kind {
     Worker,
@@ -49,7 +49,7 @@ pub enum Kind {
     Size,
 }
 
-/// What stands behind a command's numbers.
+/// What follows a command's numbers.
 #[derive(Clone, Copy)]
 pub enum Tail {
     Nothing,

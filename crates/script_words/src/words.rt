@@ -8,7 +8,8 @@ ghost use Rattle.script_words.specs.Words.{words_left};
 use crate::number::cut_number;
 use crate::parts::{SPACE, cut};
 
-/// Puts so many numbers at the front into a buffer, and gives the words behind them.
+/// Puts the numbers of the first `count` words into the buffer, and returns the text after them. None if one of these words
+/// is missing or is no number.
 pub fn next_numbers<'a>(
     numbers: &mut [u64],
     count: usize,

@@ -1,4 +1,4 @@
--- What is joined of two closed maps, and told of an array's.
+-- What is joined of two closed maps, compared with an array's.
 use Rattle.std.proofs.Common.{◌≡◌, ℕ, List, ◌++◌, refl, sym, subst, Result, Ok, Err, IfErr, OnOk}
 use Rattle.map_join.specs.declared.records.Record.{Record}
 use Rattle.map_join.specs.Maps.{IsMapOf, IsSame, IsLowestDifference, join}

@@ -31,7 +31,7 @@ IsUnclosed share (NotWhole told) = (share ≢ whole) × (told ≡ share)
 IsUnclosed share (Differs block) = ⊥
 IsUnclosed share Memory = share ≡ whole
 
--- why a map isn't found to be the array's: this is the lowest block of which they differ, or memory is wanted
+-- why a map isn't found to be the array's: this is the lowest block of which they differ, or out of memory
 abbrev pub IsDiffering : (ℕ → ℕ) → (ℕ → ℕ) → SettleFault → Type 0
 IsDiffering M keys (NotWhole told) = ⊥
 IsDiffering M keys (Differs block) = IsLowestDifference M keys block

@@ -1,4 +1,4 @@
--- With which status a program ends, once a storm was told.
+-- With which status a program ends, once a storm was reported.
 use Rattle.std.specs.Prelude.{◌≡◌, ℕ, List, Option, Result}
 use Rattle.storm.specs.Telling.{IsTold}
 use Rattle.storm.specs.declared.outcome.Storm.{Storm}
@@ -13,6 +13,6 @@ storm_status told.Differs = 3
 storm_status told.Nothing = 4
 storm_status told.Unwritten = 5
 
--- what is written of a storm is told, and the status is that of what is told
+-- what is written of a storm is reported, and the status is that of the report
 abbrev pub IsEnded : Result Storm StormFault → ℕ → Option (List ℕ) → Option (List ℕ) → Type 0
 IsEnded ended status held now = (told : Told) × (IsTold ended told held now) × (status ≡ storm_status told)

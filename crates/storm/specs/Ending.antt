@@ -1,4 +1,4 @@
--- What a storm ends with, told of what its workers took and of its array.
+-- What a storm ends with, stated over what its workers took and over its array.
 use Rattle.std.specs.Prelude.{ℕ, ◌++◌, List}
 use Rattle.map_join.specs.Maps.{IsMapOf}
 use Rattle.map_words.specs.declared.view.View.{View}

@@ -7,11 +7,11 @@ use Rattle.storm.specs.declared.outcome.StormFault.{StormFault}
 use Rattle.storm.specs.declared.told.Told.{Told}
 use Rattle.storm.specs.declared.told.Told.TheVariants as told
 
--- the text is written, and that is told, or a write failed
+-- the text is written, and the result says so, or a write failed
 abbrev pub IsLine : List ℕ → Told → Told → Option (List ℕ) → Option (List ℕ) → Type 0
 IsLine text good result held now = ((result ≡ good) × Appends held now text) ⊎ (result ≡ told.Unwritten)
 
--- this is told where a write was Ok
+-- this is the result where a write was Ok
 abbrev pub IsToldOrNot : {E : Type 0} → Result (Unit {0}) E → Told → Told → Type 0
 IsToldOrNot (Ok done) good result = result ≡ good
 IsToldOrNot (Err fault) good result = result ≡ told.Unwritten

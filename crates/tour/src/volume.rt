@@ -31,14 +31,14 @@ pub(crate) fn new_drives(alloc: Global) -> Result<(Shape, Vec<Counted<MemDrive>>
     Ok((shape, drives))
 }
 
-/// Whether each unit of the drives has so many bytes.
+/// Whether each unit of the drives has `bytes` bytes.
 pub(crate) fn are_sized(drives: &[Counted<MemDrive>], bytes: usize) -> bool
     ensures { IsTrue result → AreSized counted_units bytes drives.now }
 {
     drives.iter().all(|drive| drive.unit_bytes() == bytes)
 }
 
-// Whether each drive has so many units.
+// Whether each drive has `units` units.
 fn have_units(drives: &[Counted<MemDrive>], units: u32) -> bool
     ensures { IsTrue result → HaveUnits counted_units drives.now units }
 {

@@ -1,4 +1,4 @@
-// Every drive lost at every call of a run, a second one after it, and what is told then.
+// Every drive lost at every call of a run, a second one after it, and what is answered then.
 use crate::script::{
     Script, Told, answers, fuse, grouped, is_lost, list_on, lose, push, push_fill, push_move,
     push_read, push_write, record_of,
@@ -80,7 +80,7 @@ fn reads_without(rt: &impl Abort, alloc: Global, one: u8, other: u8) -> Script {
     script
 }
 
-// Carries out the run with the drive fused for a call of its own.
+// Carries out the run with the drive failing at its `call`-th read or write.
 fn run(rt: &impl Abort, alloc: Global, world: &mut World, drive: u8, call: u64) {
     fuse(rt, world, drive, call);
     let script = run_without(rt, alloc, drive);

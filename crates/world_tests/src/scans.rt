@@ -1,4 +1,4 @@
-// The map that the headers tell is the running map, with a drive lost too.
+// The map that the headers hold is the running map, with a drive lost too.
 use crate::script::{answers, grouped, lose, push_move, push_write, record_of};
 use header_scan::{ScanFault, scan, scan_world};
 use map_join::BlockMap;
@@ -16,7 +16,7 @@ fn moved(rt: &impl Abort, alloc: Global) -> World {
     world
 }
 
-// The map that a scan of the world's headers tells.
+// The map that a scan of the world's headers returns.
 fn scanned(rt: &impl Abort, alloc: Global, world: &mut World) -> BlockMap {
     let Ok(map) = scan(alloc, world) else {
         panic!(rt; "no map")
@@ -24,7 +24,7 @@ fn scanned(rt: &impl Abort, alloc: Global, world: &mut World) -> BlockMap {
     map
 }
 
-/// The map that a scan of the world tells.
+/// The map that a scan of the world returns.
 pub(crate) fn world_scanned(rt: &impl Abort, alloc: Global, world: &mut World) -> BlockMap {
     let Ok(map) = scan_world(alloc, world) else {
         panic!(rt; "no map")
@@ -40,7 +40,7 @@ pub(crate) fn running(rt: &impl Abort, alloc: Global, world: &World) -> BlockMap
     map
 }
 
-// Whether the map tells the moved block's newest place, and is the other.
+// Whether the map has the moved block's newest place, and is the other.
 fn is_newest_and(map: &BlockMap, other: &BlockMap) -> bool {
     map.get(3) == Some(record_of(3, 1, 128)) && map.agrees(other)
 }

@@ -4,7 +4,7 @@ use std::alloc::Global;
 use std::process::Abort;
 use step_core::{Answer, At, Class, Member, Refusal, Shape, Step, World};
 
-/// What an answer tells; of a payload its first byte.
+/// What an answer says; of a payload its first byte.
 #[derive(Clone, Copy, PartialEq, Eq)]
 pub(crate) enum Told {
     Claimed(u16),
@@ -58,7 +58,7 @@ pub(crate) fn new_world(rt: &impl Abort, alloc: Global) -> World {
     world
 }
 
-/// The record of a block's first version, so many moves on.
+/// The record of a block's first version, `hop` moves on.
 pub(crate) fn record_of(block: u32, hop: u16, place: u16) -> Record {
     Record {
         block,
@@ -134,7 +134,7 @@ pub(crate) fn grouped(rt: &impl Abort, alloc: Global) -> World {
     world
 }
 
-/// Loses a drive at a call of its own from now on.
+/// Makes a drive fail at its `call`-th read or write from now (1 = the next), and at all later ones.
 pub(crate) fn fuse(rt: &impl Abort, world: &mut World, drive: u8, call: u64) {
     assert!(rt; drive < world.array().drive_count() && call > 0);
     world.fuse(drive, call);
@@ -259,7 +259,7 @@ pub(crate) fn answer(rt: &impl Abort, alloc: Global, world: &mut World, step: &S
     answer
 }
 
-/// Whether the world answers each step as it is told.
+/// Whether the world answers each step as stated.
 pub(crate) fn answers(
     rt: &impl Abort,
     alloc: Global,

@@ -1,5 +1,5 @@
-// A walk of all kinds of steps, drawn by a fixed rule, with one drive missing at a time, rebuilt, and another lost: behind
-// each step three maps are compared, and every block is read.
+// A walk of all kinds of steps, drawn by a fixed rule, with one drive missing at a time, rebuilt, and another lost: after each
+// step three maps are compared, and every block is read.
 ghost use Rattle.std.specs.Prelude.{◌<◌};
 
 use crate::scans::{running, world_scanned};
@@ -179,7 +179,7 @@ impl Walk {
         answer
     }
 
-    // Takes a step, whatever it answers.
+    // Takes a step, with any answer.
     fn go(&mut self, rt: &impl Abort, step: Step) {
         let _answer = self.take(rt, &step);
     }
@@ -247,8 +247,8 @@ impl Walk {
         }
     }
 
-    // A group of extents on three drives that aren't lost, while there are fewer than four; half of them are unmade again at
-    // once.
+    // A group of extents on three drives that aren't lost, while there are fewer than four; half of them are dissolved again
+    // at once.
     fn make(&mut self, rt: &impl Abort) {
         if !self.world.array().groups().is_free(3) {
             return;
@@ -262,8 +262,8 @@ impl Walk {
         }
     }
 
-    // Both workers give back what they have of a group's slots; then one claims what it can of them, and unmakes the group
-    // if it has all.
+    // Both workers release what they have of a group's slots; then one claims what it can of them, and dissolves the group if
+    // it has all.
     fn unmake(&mut self, rt: &impl Abort, group: u16) {
         self.give_back(rt, 0, group);
         self.give_back(rt, 1, group);

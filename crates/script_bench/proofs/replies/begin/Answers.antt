@@ -8,7 +8,7 @@ use Rattle.tiering.specs.declared.tiers.Tiers.{Tiers}
 use Rattle.script_bench.specs.State.{State, nothing_taken}
 use Rattle.script_bench.proofs.replies.begin.Goals as goal
 
--- where a new array stands
+-- the state of a new array
 abbrev begun_state : Groups → ℕ → State
 begun_state groups drives = Some (record { tiers = begun (new_flat groups drives (nat_le drives) (λ _. no_failures)); taken = nothing_taken })
 

@@ -8,7 +8,7 @@ use Rattle.array_core.proofs.array.Array.make_fault.Given as given
 use Rattle.array_core.proofs.array.Array.make_fault.Goals as goal
 use Rattle.array_core.proofs.array.Array.make_fault.Goals.{After-told}
 
--- what the check of the members told is why they can't be put
+-- what the check of the members returned is why they can't be put
 put : (g : given.Over) (c : After-told g) → IsPutReason (seen g.D.Drive.units g.D.Drive.lost g.D.Drive.failures c.self.inside) c.args.members.now c.told.result
 put g c = reason_as _ c.args.members.now c.told.result c.put_check.result c.self.invariant.0 (c.are_members.ensures.0 c.if-not-are_members.false) c.told.ensures.value c.put_check.ensures
 
