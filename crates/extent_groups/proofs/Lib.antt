@@ -30,3 +30,4 @@ pub mod Moving
 pub mod Roles
 pub mod Elsewhere
 pub mod Finishing
+pub mod Listing

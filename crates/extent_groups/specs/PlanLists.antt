@@ -1,5 +1,5 @@
 -- A plan as a call lists it.
-use Rattle.std.specs.Prelude.{ℕ, List, map, Vec}
+use Rattle.std.specs.Prelude.{ℕ, Option, List, map, option_map, Vec}
 use Rattle.std.specs.Global.{Global}
 use Rattle.extent_groups.specs.Planned.{Wanted}
 
@@ -9,3 +9,7 @@ as_wanted w = record { place = record { drive = w.0; address = w.1 }; unit = w.2
 
 abbrev pub listed : List (ℕ × ℕ × Vec ℕ Global) → List Wanted
 listed writes = map as_wanted writes
+
+-- the parity's unit of a plan
+abbrev pub parity_listed : Option (Vec ℕ Global) → Option (List ℕ)
+parity_listed parity = option_map (λ v. v.items) parity

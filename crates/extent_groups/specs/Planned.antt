@@ -1,10 +1,11 @@
 -- Writes of units that are planned, and what the drives hold after some of them.
-use Rattle.std.specs.Prelude.{◌≡◌, ◌≢◌, ℕ, ◌==◌, ◌&&◌, ◌⊎◌, if◌then◌else◌, Option, Some, None, List, [], ◌∷◌, Contains}
+use Rattle.std.specs.Prelude.{◌≡◌, ◌≢◌, ℕ, ◌==◌, ◌&&◌, ◌⊎◌, if◌then◌else◌, Option, Some, None, List, [], ◌∷◌, length, slice_get, Contains}
 use Rattle.extent_groups.specs.declared.place.Place.{Place}
 use Rattle.extent_groups.specs.Groups.{Groups}
 use Rattle.extent_groups.specs.Cells.{Cells, held}
 use Rattle.extent_groups.specs.Calls.{FadesAt}
-use Rattle.extent_groups.specs.Stores.{IsOwnOf, Wrote}
+use Rattle.extent_groups.specs.Units.{Site, Pair, InStripe, site_of}
+use Rattle.extent_groups.specs.Stores.{unit_bytes, IsOwnOf, Wrote}
 
 -- a unit for a place
 pub record Wanted : Type 0 where
@@ -41,3 +42,57 @@ pub record IsPlanned (groups : Groups) (c : Cells) (slot : ℕ) (unit : List ℕ
 pub record IsFinished (groups : Groups) (c new : Cells) (slot : ℕ) (wanted : Place → List ℕ) : Type 0 where
   pub own : (x : Place) → IsOwnOf groups slot x → (held new x ≡ over (held c x) (wanted x)) ⊎ (held new x ≡ None)
   pub others : (x : Place) → (IsOwnOf groups slot x → ⊥) → FadesAt c new x
+
+-- a place before others, if it is one
+abbrev pub before : Option Place → List Place → List Place
+before None places = places
+before (Some x) places = x ∷ places
+
+-- the places that a write of a site writes, in order: the first copy before the second, the member's unit before the parity's
+abbrev pub own_places : Site → List Place
+own_places (Pair p q) = p ∷ q ∷ []
+own_places (InStripe row parity i) = before (slice_get row i) (before (slice_get row parity) [])
+
+-- the same of what may be a site
+abbrev pub places_in : Option Site → List Place
+places_in None = []
+places_in (Some site) = own_places site
+
+-- a write before others, where its place holds a unit
+abbrev pub if_held : Option (List ℕ) → Wanted → List Wanted → List Wanted
+if_held None w ws = ws
+if_held (Some old) w ws = w ∷ ws
+
+-- what is wanted of those of the places that hold a unit, in the order of the places
+abbrev pub present : Cells → (Place → List ℕ) → List Place → List Wanted
+present c wanted [] = []
+present c wanted (x ∷ xs) = if_held (held c x) (record { place = x; unit = wanted x }) (present c wanted xs)
+
+-- the writes are those of exactly the slot's places that hold a unit: the first copy before the second, the data before the parity
+abbrev pub IsListed : Groups → Cells → ℕ → (Place → List ℕ) → List Wanted → Type 0
+IsListed groups c slot wanted writes = writes ≡ present c wanted (places_in (site_of groups slot))
+
+-- what is wanted of what may be a place, where it holds a unit
+abbrev pub wanted_in : Cells → (Place → List ℕ) → Option Place → Option (List ℕ)
+wanted_in c wanted None = None
+wanted_in c wanted (Some x) = over (held c x) (wanted x)
+
+-- what is wanted of the parity's place, where the site has one and it holds a unit
+abbrev pub wanted_parity : Cells → (Place → List ℕ) → Option Site → Option (List ℕ)
+wanted_parity c wanted (Some (InStripe row parity i)) = wanted_in c wanted (slice_get row parity)
+wanted_parity c wanted _ = None
+
+-- the plan of a slot's unit: planned writes in their order, each of a unit's size
+pub record IsPlan (groups : Groups) (c : Cells) (slot : ℕ) (unit : List ℕ) (wanted : Place → List ℕ) (writes : List Wanted) : Type 0 where
+  pub sized : (x : Place) → length (wanted x) ≡ unit_bytes groups
+  pub planned : IsPlanned groups c slot unit wanted writes
+  pub listed : IsListed groups c slot wanted writes
+
+-- a slot was written by a plan: worked out of what the drives held after reads, and carried out, but for losses
+pub record WroteByPlan (groups : Groups) (c new : Cells) (slot : ℕ) (unit : List ℕ) : Type 0 where
+  pub mid : Cells
+  pub wanted : Place → List ℕ
+  pub writes : List Wanted
+  pub read : (x : Place) → FadesAt c mid x
+  pub plan : IsPlan groups mid slot unit wanted writes
+  pub written : (x : Place) → FadesAt (after mid writes) new x

@@ -3,13 +3,15 @@
 
 mod planning;
 
-ghost use Rattle.std.specs.Prelude.{◌≡◌, ◌≢◌, ◌≤◌, ◌⊎◌, ◌+◌, ◌*◌, ◌/◌, ◌++◌, length, Some, OnOk, IfErr};
+ghost use Rattle.std.specs.Prelude.{◌≡◌, ◌≢◌, ◌≤◌, ◌⊎◌, ◌+◌, ◌*◌, ◌/◌, ◌++◌, true, false, length, Some, None, [], ◌∷◌, OnOk, OnErr, IfErr};
 ghost use Rattle.extent_groups.specs.declared.class.Class.TheVariants.{Mirrored};
 ghost use Rattle.extents.specs.declared.shape.TheConstants.{HEADER_BYTES};
-ghost use Rattle.extent_groups.specs.Cells.{cells, front, front_units};
+ghost use Rattle.extent_groups.specs.Cells.{cells, front, front_units, held};
 ghost use Rattle.extent_groups.specs.Units.{Pair, unit_at};
-ghost use Rattle.extent_groups.specs.Calls.{AreSized, HaveFronts, HaveRoom, IsPlace, if_ok, NoPlace, SameBut, KeepsDrives};
+ghost use Rattle.extent_groups.specs.Calls.{AreSized, HaveFronts, HaveRoom, IsPlace, if_ok, NoPlace, SameBut, KeepsDrives, FadesAt};
 ghost use Rattle.extent_groups.specs.Stores.{unit_bytes, unit_of, header_of, IsBuffer, AreSound, IsSlotOf, AreDrives, KeepsUnits, Wrote, NamesGone, IsOwn, IsOwnOf, AreCopies, LeavesSites, HasMemberOn};
+ghost use Rattle.extent_groups.specs.declared.place.Place.{Place};
+ghost use Rattle.extent_groups.specs.Planned.{present, after, WroteByPlan};
 
 use extent_groups::{GroupTable, Place, StoreRefusal, read_front};
 use extents::Drive;
@@ -84,6 +86,9 @@ fn write_pair<D: Drive>(
     ensures leaves { LeavesSites (length front.now + length rest.now) (cells D.units D.lost drives.old) (cells D.units D.lost drives.new) (Pair first second) }
     ensures touched { KeepsDrives D.units D.lost D.failures (IsOwn (Pair first second)) drives.old drives.new }
     ensures copies { AreCopies (IsOwn (Pair first second)) (cells D.units D.lost drives.new) (front.now ++ rest.now) }
+    ensures planned { (x : Place) → FadesAt (after (cells D.units D.lost drives.old) (present (cells D.units D.lost drives.old) (λ place. front.now ++ rest.now) (first ∷ second ∷ []))) (cells D.units D.lost drives.new) x }
+    ensures unwritten { result ≡ false → (x : Place) → FadesAt (cells D.units D.lost drives.old) (cells D.units D.lost drives.new) x }
+    ensures there { result ≡ true → ((held (cells D.units D.lost drives.old) first ≡ None) × (held (cells D.units D.lost drives.old) second ≡ None)) → ⊥ }
 {
     let one = extent_groups::write_gathered(drives, first, front, rest, scratch);
     let two = extent_groups::write_gathered(drives, second, front, rest, scratch);
@@ -157,6 +162,8 @@ pub fn write<D: Drive>(
     ensures gone { IfErr result (NamesGone groups.now (cells D.units D.lost drives.new) slot) }
     ensures wrote { Wrote groups.now (cells D.units D.lost drives.old) (cells D.units D.lost drives.new) slot unit.now }
     ensures copies { AreCopies (IsOwnOf groups.now slot) (cells D.units D.lost drives.new) unit.now }
+    ensures planned { OnOk result (WroteByPlan groups.now (cells D.units D.lost drives.old) (cells D.units D.lost drives.new) slot unit.now) }
+    ensures unwritten { OnErr result ((x : Place) → FadesAt (cells D.units D.lost drives.old) (cells D.units D.lost drives.new) x) }
     ensures touched { KeepsDrives D.units D.lost D.failures (IsOwnOf groups.now slot) drives.old drives.new }
     ensures drives { AreDrives D.units groups.now drives.new }
 {
@@ -183,6 +190,8 @@ pub fn write_gathered<D: Drive>(
     ensures gone { IfErr result (NamesGone groups.now (cells D.units D.lost drives.new) slot) }
     ensures wrote { Wrote groups.now (cells D.units D.lost drives.old) (cells D.units D.lost drives.new) slot (front.now ++ rest.now) }
     ensures copies { AreCopies (IsOwnOf groups.now slot) (cells D.units D.lost drives.new) (front.now ++ rest.now) }
+    ensures planned { OnOk result (WroteByPlan groups.now (cells D.units D.lost drives.old) (cells D.units D.lost drives.new) slot (front.now ++ rest.now)) }
+    ensures unwritten { OnErr result ((x : Place) → FadesAt (cells D.units D.lost drives.old) (cells D.units D.lost drives.new) x) }
     ensures touched { KeepsDrives D.units D.lost D.failures (IsOwnOf groups.now slot) drives.old drives.new }
     ensures drives { AreDrives D.units groups.now drives.new }
 {

@@ -1,8 +1,10 @@
 -- What was read before a member of a row is written: with that any of the three ways can be listed before the first write.
-use Rattle.std.specs.Prelude.{◌≡◌, ℕ, Some, None, List, length}
+use Rattle.std.specs.Prelude.{◌≡◌, ◌≢◌, ℕ, Bool, true, false, Option, Some, None, List, [], ◌∷◌, length, slice_get}
 use Rattle.extent_groups.specs.declared.place.Place.{Place}
 use Rattle.extent_groups.specs.Cells.{Cells, held}
 use Rattle.extent_groups.specs.Units.{InStripe, plus, total, row_of, unit_at}
+use Rattle.extent_groups.specs.Calls.{FadesAt, DidWrite}
+use Rattle.extent_groups.specs.Planned.{Wanted, after}
 use Rattle.parity_store.specs.Ways.{bare}
 use Rattle.parity_store.specs.declared.way.Way.{Way}
 use Rattle.parity_store.specs.declared.way.Way.TheVariants.{Both, Alone, Parity, Missed}
@@ -20,3 +22,39 @@ IsDraft n c row p i home parity unit sum Parity =
     (rest : List ℕ) × (held c home ≡ None) × (held c parity ≡ None → ⊥) × (total n (length row) (bare n (row_of c row) i p) ≡ Some rest) × (sum ≡ plus unit rest)
 IsDraft n c row p i home parity unit sum Missed = unit_at n c (InStripe row p i) ≡ None
 IsDraft n c row p i home parity unit sum way = IsRead c home parity unit sum way
+
+-- the writes of a way, in order: the unit where it lies, then the sum as the parity
+abbrev pub writes_by : Place → Place → List ℕ → List ℕ → Way → List Wanted
+writes_by home parity unit sum Both = record { place = home; unit = unit } ∷ record { place = parity; unit = sum } ∷ []
+writes_by home parity unit sum Alone = record { place = home; unit = unit } ∷ []
+writes_by home parity unit sum Parity = record { place = parity; unit = sum } ∷ []
+writes_by home parity unit sum Missed = []
+
+-- the parity's unit among them, if there is one
+abbrev pub parity_by : List ℕ → Way → Option (List ℕ)
+parity_by sum Both = Some sum
+parity_by sum Parity = Some sum
+parity_by sum _ = None
+
+-- what the drives hold after a way's writes: each is made, and the second whatever comes of it; or the first of them was refused
+abbrev pub IsCarried : Cells → Cells → Place → Place → List ℕ → List ℕ → Way → Bool → Type 0
+IsCarried c new home parity unit sum Both true = (mid : Cells) × (kept : Bool) × DidWrite c mid home unit true × DidWrite mid new parity sum kept
+IsCarried c new home parity unit sum Both false = DidWrite c new home unit false
+IsCarried c new home parity unit sum Alone ok = DidWrite c new home unit ok
+IsCarried c new home parity unit sum Parity ok = DidWrite c new parity sum ok
+IsCarried c new home parity unit sum Missed ok = (ok ≡ false) × (new ≡ c)
+
+-- a member of a row was written by a draft: drafted from what the drives held after reads, and all its writes were made, but for losses
+pub record WroteByDraft (n : ℕ) (c new : Cells) (row : List Place) (p i : ℕ) (unit : List ℕ) : Type 0 where
+  pub home : Place
+  pub parity : Place
+  pub home_is : slice_get row i ≡ Some home
+  pub parity_is : slice_get row p ≡ Some parity
+  pub mid : Cells
+  pub sum : List ℕ
+  pub way : Way
+  pub sized : length sum ≡ n
+  pub found : way ≢ Missed
+  pub read : (x : Place) → FadesAt c mid x
+  pub draft : IsDraft n mid row p i home parity unit sum way
+  pub written : (x : Place) → FadesAt (after mid (writes_by home parity unit sum way)) new x

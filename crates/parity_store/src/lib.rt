@@ -1,24 +1,28 @@
 //! Reads and writes of parity slots: each lies once, and each offset of a group has the exclusive or of its units.
 #![tactic(auto)]
 
-mod difference;
+mod carry;
 mod exclusive_or;
 mod others;
 mod parity;
+mod planning;
 mod stripe;
 mod way;
 
-ghost use Rattle.std.specs.Prelude.{◌≡◌, ◌≤◌, ◌*◌, ◌/◌, length, Some, OnOk, IfErr};
+ghost use Rattle.std.specs.Prelude.{◌≡◌, ◌≤◌, ◌*◌, ◌/◌, length, Some, OnOk, OnErr, IfErr};
 ghost use Rattle.extents.specs.declared.shape.TheConstants.{HEADER_BYTES};
 ghost use Rattle.extent_groups.specs.declared.class.Class.TheVariants.{Parity};
 ghost use Rattle.extent_groups.specs.Cells.{cells, front};
-ghost use Rattle.extent_groups.specs.Calls.{if_ok, NoPlace, SameBut, KeepsDrives};
+ghost use Rattle.extent_groups.specs.Calls.{if_ok, NoPlace, SameBut, KeepsDrives, FadesAt};
 ghost use Rattle.extent_groups.specs.Stores.{unit_bytes, unit_of, header_of, IsBuffer, AreSound, IsSlotOf, AreDrives, KeepsUnits, Wrote, NamesGone, IsOwnOf, HasMemberOn};
+ghost use Rattle.extent_groups.specs.declared.place.Place.{Place};
+ghost use Rattle.extent_groups.specs.Planned.{WroteByPlan};
 
 pub use exclusive_or::xor_into;
 use extent_groups::{GroupTable, SLOTS, StoreRefusal};
 use extents::Drive;
 pub use parity::read_parity;
+pub use planning::plan;
 pub use way::Way;
 
 // Reads the first bytes of a slot's effective unit, `buffer.len()` of them, with another buffer for each member's and one of a
@@ -116,12 +120,14 @@ pub fn write<D: Drive>(
     ensures ok { OnOk result (unit_of groups.now (cells D.units D.lost drives.new) slot ≡ Some unit.now) }
     ensures gone { IfErr result (NamesGone groups.now (cells D.units D.lost drives.new) slot) }
     ensures wrote { Wrote groups.now (cells D.units D.lost drives.old) (cells D.units D.lost drives.new) slot unit.now }
+    ensures planned { OnOk result (WroteByPlan groups.now (cells D.units D.lost drives.old) (cells D.units D.lost drives.new) slot unit.now) }
+    ensures unwritten { OnErr result ((x : Place) → FadesAt (cells D.units D.lost drives.old) (cells D.units D.lost drives.new) x) }
     ensures touched { KeepsDrives D.units D.lost D.failures (IsOwnOf groups.now slot) drives.old drives.new }
     ensures drives { AreDrives D.units groups.now drives.new }
 {
     let at = groups.row_of(slot);
-    let (old, sum) = scratch.split_at_mut(unit.len());
-    stripe::write_stripe(groups, drives, slot / SLOTS, &at, unit, old, sum)
+    let (part, sum) = scratch.split_at_mut(unit.len());
+    carry::write_stripe(groups, drives, slot / SLOTS, &at, unit, part, sum)
         .then_some(())
         .ok_or(StoreRefusal::Gone(slot))
 }

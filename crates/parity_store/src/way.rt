@@ -1,10 +1,11 @@
 // What a write of a member of a stripe needs to know, read before the first write.
-ghost use Rattle.std.specs.Prelude.{◌≡◌, ◌≢◌, length, slice_get, Some};
+ghost use Rattle.std.specs.Prelude.{◌≡◌, ◌≢◌, ◌⊎◌, length, slice_get, Some};
 ghost use Rattle.extent_groups.specs.declared.place.Place.{Place};
 ghost use Rattle.extent_groups.specs.Cells.{cells};
-ghost use Rattle.extent_groups.specs.Calls.{AreSized, FadesAt, IsPlace, NoPlace, KeepsDrives};
+ghost use Rattle.extent_groups.specs.Calls.{AreSized, FadesAt, IsPlace, NoPlace, SameBut, KeepsDrives};
 ghost use Rattle.extent_groups.specs.Layout.{IsWhole};
 ghost use Rattle.extent_groups.specs.Units.{InStripe};
+ghost use Rattle.extent_groups.specs.Stores.{HasMemberOn};
 ghost use Rattle.parity_store.specs.Ways.{row_at, IsLaid};
 ghost use Rattle.parity_store.specs.Drafts.{IsRead, IsDraft};
 
@@ -44,6 +45,7 @@ fn read_two<D: Drive>(
     ensures told { IsRead (cells D.units D.lost drives.new) home parity unit.now sum.new result }
     ensures fades { (x : Place) → FadesAt (cells D.units D.lost drives.old) (cells D.units D.lost drives.new) x }
     ensures touched { KeepsDrives D.units D.lost D.failures NoPlace drives.old drives.new }
+    ensures elsewhere { SameBut (λ d. (d ≡ home.drive) ⊎ (d ≡ parity.drive)) drives.old drives.new }
 {
     if !read_place(drives, home, part) {
         return Way::Missed;
@@ -75,6 +77,7 @@ pub(crate) fn find_way<D: Drive>(
         → IsDraft (length unit.now) (cells D.units D.lost drives.new) (row_at groups.now group at.now.offset) at.now.parity at.now.member home parity unit.now sum.new result }
     ensures fades { (x : Place) → FadesAt (cells D.units D.lost drives.old) (cells D.units D.lost drives.new) x }
     ensures touched { KeepsDrives D.units D.lost D.failures NoPlace drives.old drives.new }
+    ensures elsewhere { SameBut (HasMemberOn groups.now group) drives.old drives.new }
 {
     let home = groups.place(group, at.member, at.offset);
     let parity = groups.place(group, at.parity, at.offset);

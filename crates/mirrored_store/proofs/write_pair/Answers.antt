@@ -1,7 +1,8 @@
-use Rattle.std.proofs.Common.{inl, inr, sym, subst, rules}
+use Rattle.std.proofs.Common.{inl, inr, sym, subst, rules, refl, ◌++◌}
 use Rattle.extent_groups.specs.Calls.{AreSized}
 use Rattle.extent_groups.proofs.DriveCalls.{keeps_sizes, keeps_trans, keeps_more, cells_sized}
 use Rattle.extent_groups.proofs.SlotWrites.{pair_leaves, pair_copies}
+use Rattle.extent_groups.proofs.Listing.{pair_written, pair_unwritten, first_there, second_there}
 use Rattle.mirrored_store.proofs.write_pair.Goals as goal
 
 pub write_gathered-two-requires-clause-size : goal.write_gathered-two-requires-clause-size
@@ -38,3 +39,9 @@ returns-else-one-clause-copies g c = pair_copies _ _ _ _ _ _ _ _ c.requires.apar
 pub write_gathered-two-requires-clause-scratch : goal.write_gathered-two-requires-clause-scratch
 write_gathered-two-requires-clause-scratch g c =
     subst (λ n. AreSized g.D.Drive.units n c.write_gathered-one.new.drives) (sym c.write_gathered-one.auto.scratch) (keeps_sizes c.write_gathered-one.ensures.drives c.requires.scratch)
+
+pub returns-then-one-clause-planned : goal.returns-then-one-clause-planned
+returns-then-one-clause-planned g c = pair_written _ _ _ _ _ (c.args.front.now ++ c.args.rest.now) _ _ c.requires.apart c.write_gathered-one.ensures.written c.write_gathered-two.ensures.written
+
+pub returns-else-one-clause-planned : goal.returns-else-one-clause-planned
+returns-else-one-clause-planned g c = pair_written _ _ _ _ _ (c.args.front.now ++ c.args.rest.now) _ _ c.requires.apart c.write_gathered-one.ensures.written c.write_gathered-two.ensures.written

@@ -1,9 +1,10 @@
 use Rattle.std.proofs.Common.{◌≡◌, ℕ, inl, inr, refl, sym, ap, ◌∙◌, subst, List, [], ◌∷◌, ◌++◌, Vec}
 use Rattle.std.specs.Global.{Global}
 use Rattle.extent_groups.specs.Cells.{cells}
-use Rattle.extent_groups.specs.Planned.{Wanted, IsPlanned}
+use Rattle.extent_groups.specs.Planned.{Wanted, IsPlanned, IsPlan}
 use Rattle.extent_groups.specs.PlanLists.{as_wanted, listed}
 use Rattle.extent_groups.proofs.Finishing.{planned_pair, planned_one}
+use Rattle.extent_groups.proofs.Listing.{pair_plan, both_listed, first_listed, second_listed}
 use Rattle.extent_groups.proofs.LayoutLaw.{layout_law}
 use Rattle.extent_groups.proofs.Sites.{site_places}
 use Rattle.extent_groups.proofs.StoreCalls.{site_whole, sized_cells}
@@ -62,3 +63,30 @@ returns-then-there-2-clause-ok g c =
           (site_whole _ c.args.slot _ c.pair_of.ensures.groups c.pair_of.ensures.site) (inr (refl, refl)) c.if-there-2.ensures c.if-here.ensures),
       refl,
     )
+
+pub returns-then-there-clause-listed : goal.returns-then-there-clause-listed
+returns-then-there-clause-listed g c =
+    let d = g.D.Drive in
+    let all = cells d.units d.lost c.args.drives.now in
+    subst (λ ws. IsPlan c.args.groups.now all c.args.slot c.args.unit.now (λ z. c.args.unit.now) ws)
+    (both_listed all (λ z. c.args.unit.now) _ _ c.if-here.ensures c.if-there.ensures ∙ two_listed _ _ _ _ _ _ _ c.in-Ok.ensures.items c.push_reserved.ensures.items c.push_reserved-then-there.ensures.items c.in-Ok-write_of.ensures c.in-Ok-write_of-2.ensures)
+    (pair_plan c.args.groups.now all c.args.slot _ _ c.args.unit.now (layout_law _ c.pair_of.ensures.groups) c.pair_of.ensures.site (sized_cells d.units d.lost _ _ c.requires.drives)
+    (site_whole _ c.args.slot _ c.pair_of.ensures.groups c.pair_of.ensures.site) c.requires.unit (λ both. c.if-here.ensures both.0))
+
+pub returns-then-here-clause-listed : goal.returns-then-here-clause-listed
+returns-then-here-clause-listed g c =
+    let d = g.D.Drive in
+    let all = cells d.units d.lost c.args.drives.now in
+    subst (λ ws. IsPlan c.args.groups.now all c.args.slot c.args.unit.now (λ z. c.args.unit.now) ws)
+    (first_listed all (λ z. c.args.unit.now) _ _ c.if-here.ensures c.if-there.ensures ∙ one_listed _ _ _ _ c.in-Ok.ensures.items c.push_reserved.ensures.items c.in-Ok-write_of.ensures)
+    (pair_plan c.args.groups.now all c.args.slot _ _ c.args.unit.now (layout_law _ c.pair_of.ensures.groups) c.pair_of.ensures.site (sized_cells d.units d.lost _ _ c.requires.drives)
+    (site_whole _ c.args.slot _ c.pair_of.ensures.groups c.pair_of.ensures.site) c.requires.unit (λ both. c.if-here.ensures both.0))
+
+pub returns-then-there-2-clause-listed : goal.returns-then-there-2-clause-listed
+returns-then-there-2-clause-listed g c =
+    let d = g.D.Drive in
+    let all = cells d.units d.lost c.args.drives.now in
+    subst (λ ws. IsPlan c.args.groups.now all c.args.slot c.args.unit.now (λ z. c.args.unit.now) ws)
+    (second_listed all (λ z. c.args.unit.now) _ _ c.if-here.ensures c.if-there-2.ensures ∙ one_listed _ _ _ _ c.in-Ok.ensures.items c.push_reserved-then-there-2.ensures.items c.in-Ok-write_of-2.ensures)
+    (pair_plan c.args.groups.now all c.args.slot _ _ c.args.unit.now (layout_law _ c.pair_of.ensures.groups) c.pair_of.ensures.site (sized_cells d.units d.lost _ _ c.requires.drives)
+    (site_whole _ c.args.slot _ c.pair_of.ensures.groups c.pair_of.ensures.site) c.requires.unit (λ both. c.if-there-2.ensures both.1))
