@@ -3,9 +3,9 @@
 
 mod carry;
 mod exclusive_or;
+mod listing;
 mod others;
 mod parity;
-mod planning;
 mod stripe;
 mod way;
 
@@ -19,10 +19,10 @@ ghost use Rattle.extent_groups.specs.Calls.{if_ok, FadesAt, NoPlace, SameBut, Ke
 ghost use Rattle.extent_groups.specs.Stores.{unit_bytes, unit_of, header_of, AreSound, IsSlotOf, AreDrives, KeepsUnits, Wrote, NamesGone, IsOwnOf, HasMemberOn};
 
 pub use exclusive_or::xor_into;
+pub use listing::plan;
 use extent_groups::{GroupTable, SLOTS, StoreRefusal};
 use extents::Drive;
 pub use parity::read_parity;
-pub use planning::plan;
 pub use way::Way;
 
 // Reads the first bytes of a slot's effective unit, as many as the buffer has, with another buffer for each member's; false where the unit's drive and another member's are lost.
