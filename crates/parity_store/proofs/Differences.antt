@@ -25,7 +25,7 @@ unwritten_fades c new p u w x = elim (same_place_or_not x p) [
   | inr ne ↦ w.beside x ne
 ]
 
-written_or_lost : (c new : Cells) (home parity : Place) (d q u s : List ℕ) (ok : Bool) → held c home ≡ Some d → held c parity ≡ Some q → s ≡ plus (plus q d) u → held new parity ≡ if_ok ok s
+pub written_or_lost : (c new : Cells) (home parity : Place) (d q u s : List ℕ) (ok : Bool) → held c home ≡ Some d → held c parity ≡ Some q → s ≡ plus (plus q d) u → held new parity ≡ if_ok ok s
     → (held new parity ≡ None) ⊎ ((d : List ℕ) × (q : List ℕ) × (held c home ≡ Some d) × (held c parity ≡ Some q) × (held new parity ≡ Some (plus (plus q d) u)))
 written_or_lost c new home parity d q u s true hd hq e here = inr (d, q, hd, hq, here ∙ ap (λ t. Some t) e)
 written_or_lost c new home parity d q u s false hd hq e here = inl here

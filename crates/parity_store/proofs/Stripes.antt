@@ -64,7 +64,7 @@ differs_row c new row p i home parity u h d = elim d.there [
 ]
 
 -- a place that a write may not touch is neither of the two
-not_own : (row : List Place) (p i : ℕ) (home parity x : Place) → IsHome row p i home parity → (IsOwn (InStripe row p i) x → ⊥) → (x ≢ home) × (x ≢ parity)
+pub not_own : (row : List Place) (p i : ℕ) (home parity x : Place) → IsHome row p i home parity → (IsOwn (InStripe row p i) x → ⊥) → (x ≢ home) × (x ≢ parity)
 not_own row p i home parity x h never = (λ e. never (inl (h.home_is ∙ ap (λ y. Some y) (sym e))), λ e. never (inr (h.parity_is ∙ ap (λ y. Some y) (sym e))))
 
 pub differs_leaves : (c new : Cells) (row : List Place) (p i : ℕ) (home parity : Place) (u : List ℕ) → IsHome row p i home parity → AreSizedCells (length u) c

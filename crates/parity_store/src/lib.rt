@@ -3,9 +3,9 @@
 
 mod carry;
 mod exclusive_or;
+mod listing;
 mod others;
 mod parity;
-mod planning;
 mod stripe;
 mod way;
 
@@ -19,10 +19,10 @@ ghost use Rattle.extent_groups.specs.declared.place.Place.{Place};
 ghost use Rattle.extent_groups.specs.Planned.{WroteByPlan};
 
 pub use exclusive_or::xor_into;
+pub use listing::plan;
 use extent_groups::{GroupTable, SLOTS, StoreRefusal};
 use extents::Drive;
 pub use parity::read_parity;
-pub use planning::plan;
 pub use way::Way;
 
 // Reads the first bytes of a slot's effective unit, `buffer.len()` of them, with another buffer for each member's and one of a

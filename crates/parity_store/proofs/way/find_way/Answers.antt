@@ -1,9 +1,16 @@
 use Rattle.std.proofs.Common.{◌≡◌, true, false, refl, sym, ap, ◌∙◌, subst, length, inl, inr, rules, None}
+use Rattle.std.proofs.Common.{◌≡◌, ℕ, ◌⊎◌, true, false, refl, sym, ap, ◌∙◌, subst, List, length, inl, inr, rules, Some, None}
+use Rattle.std.specs.Prelude.{slice_get}
 use Rattle.std.specs.Bool.{MatchBool}
 use Rattle.std.proofs.lemmas.Option.{same_Some}
+use Rattle.extent_groups.specs.declared.place.Place.{Place}
+use Rattle.extent_groups.specs.Groups.{Groups}
 use Rattle.extent_groups.specs.Cells.{cells, front_units, held}
 use Rattle.extent_groups.specs.Units.{row_of, held_in}
 use Rattle.extent_groups.proofs.DriveCalls.{keeps_trans, keeps_place, keeps_sizes}
+use Rattle.extent_groups.specs.Calls.{SameBut}
+use Rattle.extent_groups.specs.Stores.{HasMemberOn}
+use Rattle.extent_groups.proofs.Elsewhere.{same_trans, same_more, row_drive}
 use Rattle.extent_groups.proofs.Fading.{fades_trans}
 use Rattle.extent_groups.proofs.RowWrites.{both_missing}
 use Rattle.extent_groups.proofs.Totals.{total_same}
@@ -16,7 +23,7 @@ use Rattle.parity_store.proofs.Stripes.{stays_gone}
 use Rattle.parity_store.proofs.Sums.{sum_is, bare_same, row_same}
 use Rattle.parity_store.proofs.way.find_way.Given as given
 use Rattle.parity_store.proofs.way.find_way.Goals as goal
-use Rattle.parity_store.proofs.way.find_way.Goals.{After-add_others}
+use Rattle.parity_store.proofs.way.find_way.Goals.{After-add_others, After-read_two-read}
 
 pub add_others-requires-clause-readable : goal.add_others-requires-clause-readable
 add_others-requires-clause-readable g c = laid_readable (ap length c.copy_from_slice.ensures.after) (still_laid c.read_two-read.ensures.touched refl c.requires.laid)
@@ -119,3 +126,36 @@ returns-else-is_there-clause-fades g c = λ x.
 
 pub returns-else-is_there-clause-touched : goal.returns-else-is_there-clause-touched
 returns-else-is_there-clause-touched g c = keeps_trans c.read_two-read.ensures.touched c.add_others.ensures.touched
+
+-- both places are on the group's drives
+two_elsewhere : {D : Type 0} (t : Groups) (g o i p : ℕ) (home parity : Place) (a b : List D) → slice_get (row_at t g o) i ≡ Some home → slice_get (row_at t g o) p ≡ Some parity
+    → SameBut (λ d. (d ≡ home.drive) ⊎ (d ≡ parity.drive)) a b → SameBut (HasMemberOn t g) a b
+two_elsewhere t g o i p home parity a b one two same =
+    same_more a b (λ d used. elim used [
+      | inl e ↦ subst (HasMemberOn t g) (sym e) (row_drive t g o i home one)
+      | inr e ↦ subst (HasMemberOn t g) (sym e) (row_drive t g o p parity two)
+    ]) same
+
+read_elsewhere : (g : given.Over) (c : After-read_two-read g) → SameBut (HasMemberOn c.args.groups.now c.args.group) c.args.drives.now c.read_two-read.new.drives
+read_elsewhere g c =
+    two_elsewhere c.args.groups.now c.args.group c.args.at.now.offset c.args.at.now.member c.args.at.now.parity c.place-home.result c.place-parity.result c.args.drives.now c.read_two-read.new.drives
+    c.place-home.ensures.place c.place-parity.ensures.place c.read_two-read.ensures.elsewhere
+
+all_elsewhere : (g : given.Over) (c : After-add_others g) → SameBut (HasMemberOn c.args.groups.now c.args.group) c.args.drives.now c.add_others.new.drives
+all_elsewhere g c =
+    same_trans c.args.drives.now c.read_two-read.new.drives c.add_others.new.drives
+    (two_elsewhere c.args.groups.now c.args.group c.args.at.now.offset c.args.at.now.member c.args.at.now.parity c.place-home.result c.place-parity.result c.args.drives.now c.read_two-read.new.drives
+    c.place-home.ensures.place c.place-parity.ensures.place c.read_two-read.ensures.elsewhere)
+    c.add_others.ensures.elsewhere
+
+pub returns-then-ne-clause-elsewhere : goal.returns-then-ne-clause-elsewhere
+returns-then-ne-clause-elsewhere g c = read_elsewhere g (goal.at.returns-then-ne-clause-elsewhere g c).After-read_two-read
+
+pub returns-then-not-add_others-clause-elsewhere : goal.returns-then-not-add_others-clause-elsewhere
+returns-then-not-add_others-clause-elsewhere g c = all_elsewhere g (goal.at.returns-then-not-add_others-clause-elsewhere g c).After-add_others
+
+pub returns-then-is_there-clause-elsewhere : goal.returns-then-is_there-clause-elsewhere
+returns-then-is_there-clause-elsewhere g c = all_elsewhere g (goal.at.returns-then-is_there-clause-elsewhere g c).After-add_others
+
+pub returns-else-is_there-clause-elsewhere : goal.returns-else-is_there-clause-elsewhere
+returns-else-is_there-clause-elsewhere g c = all_elsewhere g (goal.at.returns-else-is_there-clause-elsewhere g c).After-add_others

@@ -1,5 +1,5 @@
 // The writes of a parity slot, planned.
-ghost use Rattle.std.specs.Prelude.{◌≡◌, ◌×◌, ◌⊎◌, ◌≤◌, ◌/◌, ℕ, List, [], length, None, IfOk, IfErr, vec_len, vec_capacity};
+ghost use Rattle.std.specs.Prelude.{◌≡◌, ◌⊎◌, ◌≤◌, ◌/◌, ℕ, List, [], length, None, IfOk, IfErr, vec_len, vec_capacity};
 ghost use Rattle.extent_groups.specs.declared.class.Class.TheVariants.{Parity};
 ghost use Rattle.extent_groups.specs.declared.place.Place.{Place};
 ghost use Rattle.extent_groups.specs.declared.plan.PlanRefusal.TheVariants as refusal;
@@ -20,7 +20,7 @@ use std::alloc::{AllocError, Global};
 #[derive(Drop)]
 struct Room {
     writes: Vec<(u8, u32, Vec<u8>)>,
-    data: Vec<u8>,
+    unit: Vec<u8>,
     // The parity's unit, for the plan, and a copy of it, for its write.
     sum: Vec<u8>,
     copy: Vec<u8>,
@@ -34,14 +34,14 @@ impl Room {
         ensures writes { IfOk result (λ r. r.writes.items ≡ []) }
         ensures len { IfOk result (λ r. vec_len r.writes ≡ 0) }
         ensures room { IfOk result (λ r. 2 ≤ vec_capacity r.writes) }
-        ensures data { IfOk result (λ r. r.data.items ≡ unit.now) }
+        ensures unit { IfOk result (λ r. r.unit.items ≡ unit.now) }
         ensures sum { IfOk result (λ r. length r.sum.items ≡ length unit.now) }
         ensures copy { IfOk result (λ r. length r.copy.items ≡ length unit.now) }
         ensures part { IfOk result (λ r. length r.part.items ≡ length unit.now) }
     {
         Ok(Room {
             writes: Vec::with_capacity(alloc, 2)?,
-            data: unit.to_vec(alloc)?,
+            unit: unit.to_vec(alloc)?,
             sum: unit.to_vec(alloc)?,
             copy: unit.to_vec(alloc)?,
             part: unit.to_vec(alloc)?,
@@ -55,19 +55,19 @@ fn list(room: Room, way: Way, home: Place, parity: Place) -> Planned
     requires len { vec_len room.writes ≡ 0 }
     requires room { 2 ≤ vec_capacity room.writes }
     requires copy { length room.copy.items ≡ length room.sum.items }
-    ensures writes { listed result.writes.items ≡ writes_by home parity room.data.items room.sum.items way }
+    ensures writes { listed result.writes.items ≡ writes_by home parity room.unit.items room.sum.items way }
     ensures parity { parity_listed result.parity ≡ parity_by room.sum.items way }
 {
     let Room {
         mut writes,
-        data,
+        unit,
         sum,
         mut copy,
         part: _part,
     } = room;
     copy.copy_from_slice(&sum);
     if way == Way::Both || way == Way::Alone {
-        writes.push_reserved((home.drive, home.address, data));
+        writes.push_reserved((home.drive, home.address, unit));
     }
     if way == Way::Both || way == Way::Parity {
         writes.push_reserved((parity.drive, parity.address, copy));
@@ -108,11 +108,11 @@ pub fn plan<D: Drive>(
     };
     let at = groups.row_of(slot);
     let group = slot / SLOTS;
+    let home = groups.place(group, at.member, at.offset);
+    let parity = groups.place(group, at.parity, at.offset);
     let way = find_way(groups, drives, group, &at, unit, &mut room.part, &mut room.sum);
     if way == Way::Missed {
         return Err(PlanRefusal::Gone(slot));
     }
-    let home = groups.place(group, at.member, at.offset);
-    let parity = groups.place(group, at.parity, at.offset);
     Ok(list(room, way, home, parity))
 }
