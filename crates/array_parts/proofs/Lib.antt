@@ -15,4 +15,6 @@ pub mod Shifting
 pub mod GoneSlots
 pub mod Shifts
 pub mod Taking
+pub mod Finished
+pub mod Listed
 pub mod Stopped

@@ -169,7 +169,7 @@ pub made : {D : Type 0} (units : D → List (List ℕ)) (lost : D → Bool) (fai
     → IsFit units p → IsFree p.groups g → AreThere p.extents ms → put_fault p.extents ms ≡ None → zeros ≡ replicate (unit_bytes p.groups) 0 → KeepsTables p w
     → t ≡ with_group w.groups g (Some (new_group class ms)) → o ≡ with_owners w.extents ms (Some g) → Agree t o → seen ≡ ms
     → KeepsDrives units lost failures (IsInOne p.groups.segments seen) p.drives.items w.drives.items
-    → AreWiped p.groups.segments seen zeros (length seen) (cells_in units lost w) → IsMade units lost failures p (record { shape = w.shape; groups = t; extents = o; drives = w.drives }) g ms zeros
+    → AreWiped p.groups.segments seen zeros (length seen) (cells_in units lost w) → IsMade units lost failures p (record { shape = w.shape; groups = t; extents = o; drives = w.drives; note = w.note }) g ms zeros
 made {D = D} units lost failures p w t o g class ms seen zeros fit free there fine zero tables is given agree same keeps wiped =
     let touched = subst (λ l. KeepsDrives units lost failures (IsInOne p.groups.segments l) p.drives.items w.drives.items) same keeps in
     let all = subst (λ l. AreWiped p.groups.segments l zeros (length l) (cells_in units lost w)) same wiped in
@@ -178,7 +178,7 @@ made {D = D} units lost failures p w t o g class ms seen zeros fit free there fi
     let owners : o ≡ with_owners p.extents ms (Some g) = given ∙ ap (λ y. with_owners y ms (Some g)) tables.extents in
     let two : 2 ≤ length ms = omega (arith, (passed p.extents ms fine).formed.enough) in
     let kept = made_keeps p.groups p.extents g class ms zeros p.drives.items w.drives.items fit.groups fit.agree fit.drives free.within fine zero touched all in
-    let q : Parts D = record { shape = w.shape; groups = t; extents = o; drives = w.drives } in
+    let q : Parts D = record { shape = w.shape; groups = t; extents = o; drives = w.drives; note = w.note } in
     record {
       present = λ k m at. wiped_present units lost p.groups.segments m zeros w.drives.items fit.groups.segments.0 (all k m (slice_get_within ms k m at) at);
       blank = λ slot v q e. made_blank p.groups g class ms zeros (cells_in units lost w) free.within two zero all slot v q (subst (λ y. unit_of y (cells_in units lost w) slot ≡ Some v) groups e);

@@ -92,7 +92,7 @@ pub record SlotTold {A D : Type 0} (units : D → List (List ℕ)) (lost : D →
 
 -- the parts with what was written to the drives that they lent
 abbrev pub lent_back : {D : Type 0} → Parts D → List D → Parts D
-lent_back p new = record { shape = p.shape; groups = p.groups; extents = p.extents; drives = with_items p.drives new }
+lent_back p new = record { shape = p.shape; groups = p.groups; extents = p.extents; drives = with_items p.drives new; note = p.note }
 
 -- the answer of a store that was lent the drives, with its refusal as the machine's
 pub slot_told : {A D : Type 0} (units : D → List (List ℕ)) (lost : D → Bool) (p : Parts D) (lent new : List D) (slot : ℕ) (u : List ℕ) (found : Result A StoreRefusal) (answer : Result A Refusal)

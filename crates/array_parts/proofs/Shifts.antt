@@ -236,10 +236,10 @@ pub moved_on : {D : Type 0} (units : D → List (List ℕ)) (lost : D → Bool) 
     → IsFit units p → IsExtent p.extents to.drive to.extent → swap_fault p.extents (group_at p.groups g) to ≡ None → IsRoute units p.groups g k was to p.drives.items → KeepsTables p w
     → AreOnTarget units lost failures p.groups g k was to (extent_units p.groups.segments) p.drives.items w.drives.items
     → OnOk r (IsSwap w.groups t g k to) → OnOk r (IsMove w.groups w.extents o g k to) → IfErr r (λ e. swap_fault w.extents (group_at w.groups g) to ≡ Some e) → Agree t o
-    → IsMoved units lost failures p (record { shape = w.shape; groups = t; extents = o; drives = w.drives }) g k to
+    → IsMoved units lost failures p (record { shape = w.shape; groups = t; extents = o; drives = w.drives; note = w.note }) g k to
 moved_on {D = D} units lost failures p w t o g k was to r fit there fine route tables all swapped move refused agree =
     let same : swap_fault w.extents (group_at w.groups g) to ≡ None = ap (λ x. swap_fault x (group_at w.groups g) to) tables.extents ∙ ap (λ (x : Groups). swap_fault p.extents (group_at x g) to) tables.groups ∙ fine in
-    let q : Parts D = record { shape = w.shape; groups = t; extents = o; drives = w.drives } in
+    let q : Parts D = record { shape = w.shape; groups = t; extents = o; drives = w.drives; note = w.note } in
     moved units lost failures p q g k was to fit there fine route all tables.shape
     (subst (λ x. IsSwap x t g k to) tables.groups (ok_of r _ swapped refused same))
     (subst (λ x. IsMove x p.extents o g k to) tables.groups (subst (λ y. IsMove w.groups y o g k to) tables.extents (ok_of r _ move refused same)))

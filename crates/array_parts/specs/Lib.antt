@@ -1,6 +1,8 @@
 pub mod Fit
 pub mod Losses
 pub mod Slots
+pub mod Notes
+pub mod Micros
 pub mod Making
 pub mod Shifting
 pub mod Laws

@@ -21,11 +21,12 @@ pub record AllFare {D : Type 0} (lost : D → Bool) (failures : D → Failures) 
   pub many : length new ≡ length old
   pub each : (d : ℕ) → Fares (missing_of lost old d) (missing_of lost new d) (failures_of failures old d) (failures_of failures new d)
 
--- nothing but the drives changed
+-- nothing but the drives changed, and no note was set or cleared
 pub record KeepsTables {D : Type 0} (old new : Parts D) : Type 0 where
   pub shape : new.shape ≡ old.shape
   pub groups : new.groups ≡ old.groups
   pub extents : new.extents ≡ old.extents
+  pub note : new.note ≡ old.note
 
 -- nothing changed but which drives are lost
 pub record LosesOnly {D : Type 0} (units : D → List (List ℕ)) (lost : D → Bool) (failures : D → Failures) (old new : Parts D) : Type 0 where

@@ -13,7 +13,7 @@ use extent_groups::{Class, GroupTable, Member, SLOTS};
 use extents::Drive;
 
 /// Whether a drive is lost.
-fn is_lost<D: Drive>(drives: &[D], drive: u8) -> bool
+pub(crate) fn is_lost<D: Drive>(drives: &[D], drive: u8) -> bool
     requires { drive < length drives.now }
     ensures { result ≡ missing_of D.lost drives.now drive }
 {

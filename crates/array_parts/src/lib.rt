@@ -7,6 +7,8 @@ mod enter;
 mod gone;
 mod make;
 mod memory;
+mod micro;
+mod note;
 mod parts;
 mod relocate;
 mod see;
@@ -16,6 +18,8 @@ mod take;
 mod unit;
 mod units;
 
+pub use micro::{Micro, run_micro};
+pub use note::Note;
 pub use parts::Parts;
 pub use see::Sight;
 pub use units::Units;

@@ -11,12 +11,13 @@ ghost use Rattle.array_parts.specs.Fit.{IsFit, HaveUnits};
 ghost use Rattle.array_parts.specs.Losses.{AllFare, KeepsTables, LosesOnly};
 ghost use Rattle.array_parts.specs.Slots.{IsSlot, cells_in, missing_in, TellsGone};
 
+use crate::note::Note;
 use crate::slots::{read_slot, read_slot_header, write_slot, write_slot_gathered};
 use extent_groups::GroupTable;
 use extents::{Drive, ExtentTable, Shape};
 use flat_machine::Refusal;
 
-/// The parts of an array: whoever recovers one may put them together.
+/// The parts of an array. A recovery program may put them together from what it finds.
 #[derive(Drop)]
 pub struct Parts<D> {
     pub shape: Shape,
@@ -24,6 +25,8 @@ pub struct Parts<D> {
     /// The group that owns each extent of each drive.
     pub extents: ExtentTable,
     pub drives: Vec<D>,
+    /// The write that a stop may have left half made; none where nothing was begun.
+    pub note: Option<Note>,
 }
 
 /// Whether the shape is that of the groups.

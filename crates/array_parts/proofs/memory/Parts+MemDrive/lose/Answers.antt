@@ -8,21 +8,21 @@ use Rattle.array_parts.proofs.memory.Parts+MemDrive.lose.Goals as goal
 
 pub returns-clause-units : goal.returns-clause-units
 returns-clause-units c =
-    (set c.args.self.now (record { shape = c.args.self.now.shape; groups = c.args.self.now.groups; extents = c.args.self.now.extents; drives = with_item c.args.self.now.drives c.args.drive c.lose.new.self })
+    (set c.args.self.now (record { shape = c.args.self.now.shape; groups = c.args.self.now.groups; extents = c.args.self.now.extents; drives = with_item c.args.self.now.drives c.args.drive c.lose.new.self; note = c.args.self.now.note })
     c.args.drive c.index_mut.result.now c.lose.new.self c.requires.fit refl refl refl refl c.requires.drive
     (slice_get_read c.args.self.now.drives.items (length c.args.self.now.drives.items) c.args.drive c.index_mut.result.now refl c.requires.drive c.index_mut.ensures.value) c.lose.ensures.units
     (λ gone. subst (λ k. is_gone k ≡ true) (sym c.lose.ensures.condition) (lost_stays _ gone))).units
 
 pub returns-clause-sound : goal.returns-clause-sound
 returns-clause-sound c =
-    (set c.args.self.now (record { shape = c.args.self.now.shape; groups = c.args.self.now.groups; extents = c.args.self.now.extents; drives = with_item c.args.self.now.drives c.args.drive c.lose.new.self })
+    (set c.args.self.now (record { shape = c.args.self.now.shape; groups = c.args.self.now.groups; extents = c.args.self.now.extents; drives = with_item c.args.self.now.drives c.args.drive c.lose.new.self; note = c.args.self.now.note })
     c.args.drive c.index_mut.result.now c.lose.new.self c.requires.fit refl refl refl refl c.requires.drive
     (slice_get_read c.args.self.now.drives.items (length c.args.self.now.drives.items) c.args.drive c.index_mut.result.now refl c.requires.drive c.index_mut.ensures.value) c.lose.ensures.units
     (λ gone. subst (λ k. is_gone k ≡ true) (sym c.lose.ensures.condition) (lost_stays _ gone))).sound
 
 pub returns-clause-fit : goal.returns-clause-fit
 returns-clause-fit c =
-    (set c.args.self.now (record { shape = c.args.self.now.shape; groups = c.args.self.now.groups; extents = c.args.self.now.extents; drives = with_item c.args.self.now.drives c.args.drive c.lose.new.self })
+    (set c.args.self.now (record { shape = c.args.self.now.shape; groups = c.args.self.now.groups; extents = c.args.self.now.extents; drives = with_item c.args.self.now.drives c.args.drive c.lose.new.self; note = c.args.self.now.note })
     c.args.drive c.index_mut.result.now c.lose.new.self c.requires.fit refl refl refl refl c.requires.drive
     (slice_get_read c.args.self.now.drives.items (length c.args.self.now.drives.items) c.args.drive c.index_mut.result.now refl c.requires.drive c.index_mut.ensures.value) c.lose.ensures.units
     (λ gone. subst (λ k. is_gone k ≡ true) (sym c.lose.ensures.condition) (lost_stays _ gone))).fit

@@ -1,0 +1,98 @@
+-- What finishing a note leaves of the places of its slot.
+use Rattle.std.proofs.Common.{◌≡◌, ◌≢◌, ℕ, ◌⊎◌, inl, inr, Bool, true, false, Option, Some, None, List, refl, sym, ◌∙◌, ap, subst}
+use Rattle.std.specs.Prelude.{slice_get, if◌then◌else◌}
+use Rattle.std.proofs.lemmas.Option.{none-some, same_Some}
+use Rattle.extent_groups.specs.declared.place.Place.{Place}
+use Rattle.extent_groups.specs.Groups.{Groups}
+use Rattle.extent_groups.specs.Cells.{Cells, held}
+use Rattle.extent_groups.specs.Calls.{Fades, FadesAt, if_ok, DidWrite}
+use Rattle.extent_groups.specs.Planned.{over, IsFinished}
+use Rattle.extent_groups.specs.Layout.{IsWhole}
+use Rattle.extent_groups.specs.Stores.{IsOwn, IsOwnOf}
+use Rattle.extent_groups.specs.Units.{Site, Pair, InStripe, site_of}
+use Rattle.array_parts.specs.Notes.{is_at, unit_noted}
+use Rattle.extent_groups.proofs.Fading.{fades_trans}
+use Rattle.extent_groups.proofs.Finishing.{wanted_of, wanted_here, wanted_else}
+
+-- what a write leaves of its own place
+here : (a b : Option (List ℕ)) (u : List ℕ) (ok : Bool) → b ≡ if_ok ok u → (ok ≡ true → a ≡ None → ⊥) → (b ≡ over a u) ⊎ (b ≡ None)
+here a b u false is was = inr is
+here None b u true is was = absurd (was refl refl)
+here (Some v) b u true is was = inl is
+
+-- and after losses
+later : (a b e : Option (List ℕ)) (u : List ℕ) → (b ≡ over a u) ⊎ (b ≡ None) → Fades b e → (e ≡ over a u) ⊎ (e ≡ None)
+later a b e u h (inr gone) = inr gone
+later a b e u (inl is) (inl same) = inl (same ∙ is)
+later a b e u (inr gone) (inl same) = inr (same ∙ gone)
+
+-- what fades to a unit was there
+was_there : (a b : Option (List ℕ)) → Fades a b → (b ≡ None → ⊥) → a ≡ None → ⊥
+was_there a b (inl same) there gone = there (same ∙ gone)
+was_there a b (inr none) there gone = there none
+
+-- two places were written, one after the other
+pub finished_two : (groups : Groups) (c m e : Cells) (slot : ℕ) (p q : Place) (u v : List ℕ) (wanted : Place → List ℕ) (one two : Bool)
+    → ((x : Place) → IsOwnOf groups slot x → (x ≡ p) ⊎ (x ≡ q)) → IsOwnOf groups slot p → IsOwnOf groups slot q → p ≢ q
+    → wanted p ≡ u → wanted q ≡ v → DidWrite c m p u one → DidWrite m e q v two → IsFinished groups c e slot wanted
+finished_two groups c m e slot p q u v wanted one two own here_is there_is apart first second did also = record {
+  own = λ x mine. elim (own x mine) [
+    | inl is ↦ subst (λ y. (held e y ≡ over (held c y) (wanted y)) ⊎ (held e y ≡ None)) (sym is)
+        (subst (λ w. (held e p ≡ over (held c p) w) ⊎ (held e p ≡ None)) (sym first)
+        (later (held c p) (held m p) (held e p) u (here (held c p) (held m p) u one did.here did.was) (also.beside p apart)))
+    | inr is ↦ subst (λ y. (held e y ≡ over (held c y) (wanted y)) ⊎ (held e y ≡ None)) (sym is)
+        (subst (λ w. (held e q ≡ over (held c q) w) ⊎ (held e q ≡ None)) (sym second)
+        (here (held c q) (held e q) v two also.here (λ ok gone. was_there (held c q) (held m q) (did.beside q (λ same. apart (sym same))) (also.was ok) gone)))
+  ];
+  others = λ x never. fades_trans _ _ _
+      (did.beside x (λ same. never (subst (IsOwnOf groups slot) (sym same) here_is)))
+      (also.beside x (λ same. never (subst (IsOwnOf groups slot) (sym same) there_is)));
+}
+
+-- one was, and the other's drive is lost
+pub finished_one : (groups : Groups) (c e : Cells) (slot : ℕ) (p q : Place) (u : List ℕ) (wanted : Place → List ℕ) (ok : Bool)
+    → ((x : Place) → IsOwnOf groups slot x → (x ≡ p) ⊎ (x ≡ q)) → IsOwnOf groups slot p → p ≢ q
+    → wanted p ≡ u → held c q ≡ None → DidWrite c e p u ok → IsFinished groups c e slot wanted
+finished_one groups c e slot p q u wanted ok own here_is apart first gone did = record {
+  own = λ x mine. elim (own x mine) [
+    | inl is ↦ subst (λ y. (held e y ≡ over (held c y) (wanted y)) ⊎ (held e y ≡ None)) (sym is)
+        (subst (λ w. (held e p ≡ over (held c p) w) ⊎ (held e p ≡ None)) (sym first) (here (held c p) (held e p) u ok did.here did.was))
+    | inr is ↦ inr (ap (held e) is ∙ lost (held c q) (held e q) gone (did.beside q (λ same. apart (sym same))))
+  ];
+  others = λ x never. did.beside x (λ same. never (subst (IsOwnOf groups slot) (sym same) here_is));
+}
+  where
+    lost : (a b : Option (List ℕ)) → a ≡ None → Fades a b → b ≡ None
+    lost a b gone (inl same) = same ∙ gone
+    lost a b gone (inr none) = none
+
+-- what a note has for the places of a site: of a pair the unit, of a row the parity where it has one, and the unit
+pub noted_pair : (site : Option Site) (p q : Place) (unit : List ℕ) (sum : Option (List ℕ)) → site ≡ Some (Pair p q) → (x : Place) → unit_noted site unit sum x ≡ unit
+noted_pair site p q unit sum at x = ap (λ s. unit_noted s unit sum x) at
+
+pub noted_alone : (site : Option Site) (row : List Place) (parity i : ℕ) (unit : List ℕ) → site ≡ Some (InStripe row parity i) → (x : Place) → unit_noted site unit None x ≡ unit
+noted_alone site row parity i unit at x = ap (λ s. unit_noted s unit None x) at
+
+noted_row : (site : Option Site) (row : List Place) (parity i : ℕ) (second : Place) (unit sum : List ℕ) → site ≡ Some (InStripe row parity i) → slice_get row parity ≡ Some second
+    → (x : Place) → unit_noted site unit (Some sum) x ≡ wanted_of second sum unit x
+noted_row site row parity i second unit sum at is x = ap (λ s. unit_noted s unit (Some sum) x) at ∙ ap (λ o. if is_at o x then sum else unit) is
+
+pub noted_parity : (site : Option Site) (row : List Place) (parity i : ℕ) (second : Place) (unit sum : List ℕ) → site ≡ Some (InStripe row parity i) → slice_get row parity ≡ Some second
+    → unit_noted site unit (Some sum) second ≡ sum
+noted_parity site row parity i second unit sum at is = noted_row site row parity i second unit sum at is second ∙ wanted_here second sum unit
+
+pub noted_home : (site : Option Site) (row : List Place) (parity i : ℕ) (home second : Place) (unit sum : List ℕ) → site ≡ Some (InStripe row parity i) → slice_get row parity ≡ Some second
+    → home ≢ second → unit_noted site unit (Some sum) home ≡ unit
+noted_home site row parity i home second unit sum at is apart = noted_row site row parity i second unit sum at is home ∙ wanted_else second home sum unit (λ same. apart (sym same))
+
+-- the places of a row that a write of its member may touch
+pub own_row : (groups : Groups) (slot : ℕ) (row : List Place) (parity i : ℕ) (home second : Place) → site_of groups slot ≡ Some (InStripe row parity i)
+    → slice_get row i ≡ Some home → slice_get row parity ≡ Some second → (x : Place) → IsOwnOf groups slot x → (x ≡ home) ⊎ (x ≡ second)
+own_row groups slot row parity i home second at here_is there_is x own = elim (subst (λ s. IsOwn s x) (same_Some _ _ (sym own.1 ∙ at)) own.2) [
+  | inl e ↦ inl (same_Some x home (sym e ∙ here_is))
+  | inr e ↦ inr (same_Some x second (sym e ∙ there_is))
+]
+
+-- a whole row has its member and its parity on two drives
+pub row_apart : (row : List Place) (parity i : ℕ) (home second : Place) → IsWhole (InStripe row parity i) → slice_get row i ≡ Some home → slice_get row parity ≡ Some second → home ≢ second
+row_apart row parity i home second whole here_is there_is same = whole.2 (whole.3 i parity home second here_is there_is (ap (λ (x : Place). x.drive) same))
