@@ -7,7 +7,7 @@ use Rattle.std.proofs.lemmas.Bool.{true≢false}
 use Rattle.extent_groups.specs.declared.place.Place.{Place}
 use Rattle.extent_groups.specs.Groups.{Groups}
 use Rattle.extent_groups.specs.Cells.{Cells, held}
-use Rattle.extent_groups.specs.Units.{InStripe, total, held_in, or_else, others, row_of, unit_at, IsSoundAt, site_of}
+use Rattle.extent_groups.specs.Units.{InStripe, plus, total, held_in, or_else, others, row_of, unit_at, IsSoundAt, site_of}
 use Rattle.extent_groups.specs.Calls.{Fades, FadesAt, if_ok, DidWrite}
 use Rattle.extent_groups.specs.Layout.{IsLayout, IsWhole}
 use Rattle.extent_groups.specs.Stores.{unit_bytes, IsOwn, LeavesSites}
@@ -19,9 +19,8 @@ use Rattle.extent_groups.proofs.Finishing.{wanted_of, wanted_here, wanted_else, 
 use Rattle.extent_groups.proofs.Listing.{refused_fades, held_some, stripe_list, stripe_parity, wanted_sized}
 use Rattle.parity_store.specs.declared.way.Way.{Way}
 use Rattle.parity_store.specs.declared.way.Way.TheVariants.{Both, Alone, Parity, Missed}
-use Rattle.parity_store.specs.Ways.{bare, Differs, ParityWritten}
+use Rattle.parity_store.specs.Ways.{Differs, IsDifference, ParityWritten}
 use Rattle.parity_store.specs.Drafts.{IsDraft, writes_by, parity_by, IsCarried, WroteByDraft}
-use Rattle.parity_store.proofs.Differences.{written_or_lost}
 use Rattle.parity_store.proofs.Stripes.{IsHome, drives_differ, not_own, stays_gone, differs_row, parity_row}
 use Rattle.parity_store.proofs.Planning.{for_place, planned_both, planned_alone, planned_parity}
 
@@ -32,6 +31,12 @@ faded_sizes n c new fades sized x u e = elim (fades x) [ inl same ↦ sized x u 
 -- what is lost stays lost
 pub fades_lost : (n : ℕ) (c new : Cells) (p : Place) → FadesAt c new p → held c p ≡ None → held new p ≡ None
 fades_lost n c new p fades gone = stays_gone (held c p) (held new p) fades gone
+
+-- a parity that was written by difference, or is lost
+written_or_lost : (c new : Cells) (home parity : Place) (d q u s : List ℕ) (ok : Bool) → held c home ≡ Some d → held c parity ≡ Some q → s ≡ plus (plus q d) u → held new parity ≡ if_ok ok s
+    → (held new parity ≡ None) ⊎ IsDifference c new home parity u
+written_or_lost c new home parity d q u s true hd hq e here = inr (d, q, hd, hq, here ∙ ap (λ t. Some t) e)
+written_or_lost c new home parity d q u s false hd hq e here = inl here
 
 -- how a write of a member of a row ends
 abbrev pub Ends : Cells → Cells → List Place → ℕ → ℕ → List ℕ → Bool → Type 0

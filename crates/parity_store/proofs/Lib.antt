@@ -1,5 +1,4 @@
 pub mod Mixed
-pub mod Differences
 pub mod Laid
 pub mod Sums
 pub mod Whole

@@ -14,8 +14,7 @@ use Rattle.extent_groups.proofs.Totals.{total_same, total_sized, put_sized, put_
 use Rattle.extent_groups.proofs.Fading.{fades_trans, row_fades, row_sized}
 use Rattle.extent_groups.proofs.RowWrites.{WritesRow, writes_faded, by_difference, data_alone, parity_alone, both_missing}
 use Rattle.extent_groups.proofs.SlotWrites.{AreSizedCells, fades_leave, stripe_leaves}
-use Rattle.parity_store.specs.Ways.{bare, Added, Missed, Differs, Undone, ParityWritten, ParityMissed}
-use Rattle.parity_store.proofs.Differences.{unwritten_fades}
+use Rattle.parity_store.specs.Ways.{bare, Added, Missed, Differs, ParityWritten}
 use Rattle.parity_store.proofs.Sums.{row_same, sum_is, sum_of_others}
 
 -- a row with its unit's place and its parity's
@@ -73,24 +72,6 @@ differs_leaves c new row p i home parity u h sized sound d =
     stripe_leaves (length u) c new row p i u sized (differs_row c new row p i home parity u h d) sound
     (λ x never. let both = not_own row p i home parity x h never in d.beside x both.0 both.1)
 
--- the unit alone, after a difference that was left
-parity_lost : (c one two : Cells) (home parity : Place) (u : List ℕ) → home.drive ≢ parity.drive → Undone c one home parity → DidWrite one two home u true → held two parity ≡ None
-parity_lost c one two home parity u apart undone w = elim undone.lost [
-  | inl gone ↦ absurd (w.was refl gone)
-  | inr gone ↦ w.elsewhere parity (λ e. apart (sym e)) ∙ gone
-]
-
-pub alone_leaves : (c one two : Cells) (row : List Place) (p i : ℕ) (home parity : Place) (u : List ℕ) → IsHome row p i home parity → AreSizedCells (length u) c
-    → IsSoundAt (length u) c (InStripe row p i) → Undone c one home parity → DidWrite one two home u true → LeavesSites (length u) c two (InStripe row p i)
-alone_leaves c one two row p i home parity u h sized sound undone w =
-    let writes = data_alone (length u) (length row) i p (row_of one row) (row_of two row) u h.whole.0 h.whole.1 (λ e. h.whole.2 (sym e))
-    (ap (held_in two) h.home_is ∙ w.here) (ap (held_in two) h.parity_is ∙ parity_lost c one two home parity u (drives_differ row p i home parity h) undone w)
-    (row_beside one two row p i home parity h (λ x nh np. w.beside x nh)) in
-    let before = writes_faded (length u) (length row) (row_of c row) (row_of one row) (row_of two row) i p u (row_sized (length u) c row sized)
-    (row_fades c one row (λ k x at. undone.fades x)) writes in
-    stripe_leaves (length u) c two row p i u sized before sound
-    (λ x never. fades_trans (held c x) (held one x) (held two x) (undone.fades x) (w.beside x (not_own row p i home parity x h never).0))
-
 -- what is gone stays gone
 pub stays_gone : (a b : Option (List ℕ)) → Fades a b → a ≡ None → b ≡ None
 stays_gone a b (inl same) e = same ∙ e
@@ -122,38 +103,6 @@ pub parity_leaves : (c two new : Cells) (row : List Place) (p i : ℕ) (home par
 parity_leaves c two new row p i home parity u h sized sound fades gone w =
     stripe_leaves (length u) c new row p i u sized (parity_row c two new row p i home parity u h sized fades gone w) sound
     (λ x never. fades_trans (held c x) (held two x) (held new x) (fades x) (w.beside x (λ e. never (inr e))))
-
--- the last way, whatever comes of it
-pub last_way : (c one two new : Cells) (row : List Place) (p i : ℕ) (home parity : Place) (u : List ℕ) (ok : Bool) → IsHome row p i home parity → AreSizedCells (length u) c
-    → Undone c one home parity → DidWrite one two home u false
-    → MatchBool ok (ParityWritten (length u) two new row i p u) (ParityMissed two new row i)
-    → (unit_at (length u) new (InStripe row p i) ≡ if_ok ok u) × (IsSoundAt (length u) c (InStripe row p i) → LeavesSites (length u) c new (InStripe row p i))
-last_way c one two new row p i home parity u true h sized undone w outcome =
-    let fades : (x : Place) → FadesAt c two x = λ x. fades_trans (held c x) (held one x) (held two x) (undone.fades x) (unwritten_fades one two home u w x) in
-    ((parity_row c two new row p i home parity u h sized fades w.here outcome).unit, λ sound. parity_leaves c two new row p i home parity u h sized sound fades w.here outcome)
-last_way c one two new row p i home parity u false h sized undone w outcome =
-    let fades : (x : Place) → FadesAt c new x =
-    λ x. fades_trans (held c x) (held two x) (held new x) (fades_trans (held c x) (held one x) (held two x) (undone.fades x) (unwritten_fades one two home u w x)) (outcome.fades x) in
-    let gone : row_of new row i ≡ None = ap (held_in new) h.home_is ∙ stays_gone (held two home) (held new home) (outcome.fades home) w.here in (
-      both_missing (length u) (length row) i outcome.missing.0 (row_of new row) outcome.missing.1 outcome.missing.2 gone outcome.missing.3,
-      λ sound. fades_leave (length u) c new (InStripe row p i) sized h.whole sound fades,
-    )
-
--- the parity written after all others were read
-pub parity_outcome : (c one two : Cells) (row : List Place) (p i : ℕ) (parity : Place) (u s : List ℕ) (ok : Bool) → i ≢ p → p < length row → slice_get row p ≡ Some parity
-    → Added (length u) c one row i p u s → DidWrite one two parity s ok
-    → MatchBool ok (ParityWritten (length u) c two row i p u) (ParityMissed c two row i)
-parity_outcome c one two row p i parity u s true ne low at added w =
-    let is = sum_is (length u) (length row) (row_of c row) i p u s added.sum in
-    record {
-      there = (is.0, is.1, ap (held_in two) at ∙ w.here ∙ ap (λ t. Some t) is.2);
-      beside = λ x never. fades_trans (held c x) (held one x) (held two x) (inl (added.same x)) (w.beside x (λ e. never (at ∙ ap (λ y. Some y) (sym e))));
-      elsewhere = λ x y ay apart. (let same : parity ≡ y = same_Some parity y (sym at ∙ ay) in w.elsewhere x (λ e. apart (e ∙ ap (λ (z : Place). z.drive) same)) ∙ added.same x);
-    }
-parity_outcome c one two row p i parity u s false ne low at added w = record {
-  fades = λ x. fades_trans (held c x) (held one x) (held two x) (inl (added.same x)) (unwritten_fades one two parity s w x);
-  missing = (p, low, λ e. ne (sym e), ap (held_in two) at ∙ w.here);
-}
 
 -- a unit of which the drive is lost, had from all others
 pub rebuilt : (n : ℕ) (c one two : Cells) (row : List Place) (p i : ℕ) (home : Place) (u v : List ℕ) (ok : Bool) → i < length row → slice_get row i ≡ Some home → DidRead c one home u false

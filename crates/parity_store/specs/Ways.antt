@@ -68,18 +68,8 @@ pub record Differs (c new : Cells) (home parity : Place) (unit : List ℕ) : Typ
   pub beside : (x : Place) → x ≢ home → x ≢ parity → FadesAt c new x
   pub elsewhere : (x : Place) → x.drive ≢ home.drive → x.drive ≢ parity.drive → held new x ≡ held c x
 
--- nothing is written, since one of the two drives is lost
-pub record Undone (c new : Cells) (home parity : Place) : Type 0 where
-  pub fades : (x : Place) → FadesAt c new x
-  pub lost : (held new home ≡ None) ⊎ (held new parity ≡ None)
-
 -- the parity, member p, holds the exclusive or of the unit and all members but it and member i, which were read; other drives hold what they held
 pub record ParityWritten (bytes : ℕ) (c new : Cells) (row : List Place) (i p : ℕ) (unit : List ℕ) : Type 0 where
   pub there : (rest : List ℕ) × (total bytes (length row) (bare bytes (row_of c row) i p) ≡ Some rest) × (row_of new row p ≡ Some (plus unit rest))
   pub beside : (x : Place) → (slice_get row p ≡ Some x → ⊥) → FadesAt c new x
   pub elsewhere : (x y : Place) → slice_get row p ≡ Some y → x.drive ≢ y.drive → held new x ≡ held c x
-
--- nothing is written, and another member than the unit's is lost
-pub record ParityMissed (c new : Cells) (row : List Place) (i : ℕ) : Type 0 where
-  pub fades : (x : Place) → FadesAt c new x
-  pub missing : (k : ℕ) × (k < length row) × (k ≢ i) × (row_of new row k ≡ None)

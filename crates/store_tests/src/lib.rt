@@ -17,6 +17,8 @@ mod groups;
 #[cfg(test)]
 mod plans;
 #[cfg(test)]
+mod recorded;
+#[cfg(test)]
 mod rig;
 #[cfg(test)]
 mod set_up;

@@ -42,7 +42,7 @@ fn new_drives(alloc: Global, shape: &Shape, count: usize) -> Result<Vec<MemDrive
 }
 
 /// The extent of this number of each drive.
-fn across(alloc: Global, drives: u8, extent: u16) -> Result<Vec<Member>, AllocError> {
+pub(crate) fn across(alloc: Global, drives: u8, extent: u16) -> Result<Vec<Member>, AllocError> {
     let mut members = Vec::with_capacity(alloc, drives as usize)?;
     for drive in 0..drives {
         members.push(Member { drive, extent })?;
@@ -51,7 +51,7 @@ fn across(alloc: Global, drives: u8, extent: u16) -> Result<Vec<Member>, AllocEr
 }
 
 /// Makes a group of the members, under the number of their extent.
-fn make(
+pub(crate) fn make(
     rt: &impl Abort,
     alloc: Global,
     groups: &mut GroupTable,
