@@ -1,5 +1,5 @@
 -- What an array is put together of, and that nothing has happened to it.
-use Rattle.std.proofs.Common.{◌≡◌, ℕ, ◌*◌, ◌+◌, ◌≤◌, Bool, List, [], length, map, get_or, sym, ap, ◌∙◌, subst, arith, Vec}
+use Rattle.std.proofs.Common.{◌≡◌, ℕ, ◌*◌, ◌+◌, ◌≤◌, Bool, None, List, [], length, map, get_or, sym, ap, ◌∙◌, subst, arith, Vec}
 use Rattle.std.proofs.lemmas.List.{length-map, length-replicate}
 use Rattle.std.specs.Global.{Global}
 use Rattle.std.specs.Prelude.{slice_index}
@@ -33,7 +33,7 @@ nothing_kept shape n t new s = kept_past t.places.items s (let none = no_places 
 -- an array of these tables and drives
 abbrev pub of_tables : {D C : Type 0} → Shape → Tables C → Vec D Global → Vec Record Global → List ℕ → Inside D C
 of_tables shape t drives log live = record {
-  parts = record { shape = shape; groups = t.groups; extents = t.extents; drives = drives };
+  parts = record { shape = shape; groups = t.groups; extents = t.extents; drives = drives; note = None };
   log = log;
   keys = t.keys;
   places = t.places;

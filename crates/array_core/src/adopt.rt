@@ -25,6 +25,7 @@ impl<D: Drive, C: Hold> Array<D, C> {
     pub fn into_parts(self, alloc: Global) -> Result<(Parts<D>, Vec<C>), Array<D, C>>
         ensures parts { IfOk result (λ r. view_of D.units D.lost D.failures r.0 ≡ self.parts) }
         ensures fit { IfOk result (λ r. IsFit D.units r.0) }
+        ensures note { IfOk result (λ r. r.0.note ≡ None) }
         ensures claims { IfOk result (λ r. AreClaimsOf C.names self r.1.items) }
         ensures rests { IfOk result (λ r. (F : Flat) → ShowsArray self F → ((s : ℕ) → F.tickets s ≡ None) → ((s g : ℕ) → F.held s (Shut g) ≡ false) → AreOfPlaces C.names (key_at self) r.1.items) }
         ensures err { IfErr result (λ array. array ≡ self) }
@@ -33,12 +34,15 @@ impl<D: Drive, C: Hold> Array<D, C> {
             return Err(self);
         };
         unseat_all(self.places, &mut claims);
-        Ok((self.parts, claims))
+        let mut parts = self.parts;
+        // No call of an array sets a note: none is lost here.
+        parts.note = None;
+        Ok((parts, claims))
     }
 
     /// Puts an array together from its parts and the map that their headers hold, as `header_scan` does in a restart: it takes
     /// the claims of the newest places among those given, one of each, and returns the others. If out of memory or without one
-    /// of these claims it returns all that was given, and no claim has moved.
+    /// of these claims it returns all that was given, and no claim has moved. The parts have no note: a restart finishes one first.
     pub fn adopt_among(
         alloc: Global,
         parts: Parts<D>,
@@ -46,6 +50,7 @@ impl<D: Drive, C: Hold> Array<D, C> {
         claims: Vec<C>,
     ) -> Result<(Array<D, C>, Vec<C>), (NotAdopted, Parts<D>, BlockMap, Vec<C>)>
         requires fit { IsFit D.units parts }
+        requires note { parts.note ≡ None }
         requires places { HasPlaces parts.groups (at map) }
         ensures ok { IfOk result (λ r. IsAdopted (view_of D.units D.lost D.failures parts) (at map) r.0) }
         ensures claims { IfOk result (λ r. AreShared C.names claims.items r.0 r.1.items) }
@@ -93,6 +98,7 @@ impl<D: Drive, C: Hold> Array<D, C> {
         claims: Vec<C>,
     ) -> Result<Array<D, C>, (Refusal, Parts<D>, BlockMap, Vec<C>)>
         requires fit { IsFit D.units parts }
+        requires note { parts.note ≡ None }
         requires places { HasPlaces parts.groups (at map) }
         requires claims { AreOfPlaces C.names (at map) claims.items }
         ensures ok { IfOk result (IsAdopted (view_of D.units D.lost D.failures parts) (at map)) }

@@ -78,6 +78,7 @@ impl<D: Drive, C: Hold> Array<D, C> {
                 groups: tables.groups,
                 extents: tables.extents,
                 drives,
+                note: None,
             },
             log: Vec::new(alloc),
             keys: tables.keys,

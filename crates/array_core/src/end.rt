@@ -1,5 +1,5 @@
 // An array ends, and its claims go back to where they came from.
-ghost use Rattle.std.specs.Prelude.{◌≡◌};
+ghost use Rattle.std.specs.Prelude.{◌≡◌, None};
 ghost use Rattle.array_parts.specs.Fit.{IsFit};
 ghost use Rattle.array_parts.specs.Views.{view_of};
 
@@ -18,9 +18,13 @@ impl<D: Drive, C: Hold> Array<D, C> {
     pub fn end<T: TakeBack<C>>(self, to: &mut T) -> Parts<D>
         ensures parts { view_of D.units D.lost D.failures result ≡ self.parts }
         ensures fit { IsFit D.units result }
+        ensures note { result.note ≡ None }
     {
         hand_over(self.places, to);
-        self.parts
+        let mut parts = self.parts;
+        // No call of an array sets a note: none is lost here.
+        parts.note = None;
+        parts
     }
 }
 

@@ -14,7 +14,7 @@ use Rattle.extent_groups.proofs.Places.{same_or_not}
 use Rattle.flat_machine.specs.Scanned.{HasHeader}
 use Rattle.array_parts.specs.Slots.{IsSlot}
 use Rattle.header_scan.specs.declared.fault.ScanFault.{ScanFault}
-use Rattle.header_scan.specs.declared.fault.ScanFault.TheVariants.{Memory, BadHeader, WrongSlot, Twice, Gone, NoClaim}
+use Rattle.header_scan.specs.declared.fault.ScanFault.TheVariants.{Memory, BadHeader, WrongSlot, Twice, Gone, NoClaim, BadNote}
 use Rattle.header_scan.specs.Faults.{Bytes, between, Tells, AreFine, IsFaultAt, IsFirstFault}
 use Rattle.header_scan.specs.Found.{key_in, stamp_at, HasStamp, IsNoted, IsUnderway}
 use Rattle.header_scan.proofs.Noting.{IsNext, newer, twin, third, older, as_well}
@@ -200,6 +200,7 @@ fault_first groups low high s bytes all left (WrongSlot p q) keeps is l h fine a
 fault_first groups low high s bytes all left (Twice b p q) keeps is l h fine at = absurd at
 fault_first groups low high s bytes all left (Gone p) keeps is l h fine at = (s, is, l, h, at, fine)
 fault_first groups low high s bytes all left (NoClaim p) keeps is l h fine at = absurd at
+fault_first groups low high s bytes all left (BadNote p) keeps is l h fine at = absurd at
 
 pub first_fault : (groups : Groups) (start c new : Cells) (low high s : ℕ) (M T : ℕ → ℕ) (e : ScanFault) → IsSlot groups s → low ≤ s → s < high → IsUnderway groups start c low s M T
     → Looked groups groups c new groups.blocks s (Err e) → IsFirstFault groups low high (unit_of groups start) (unit_of groups new) e

@@ -30,7 +30,7 @@ use Rattle.array_model.proofs.Fills.{class_seen}
 use Rattle.step_core.specs.Headline.{bytes_of}
 use Rattle.step_core.specs.Refused.{OnlyLoses, OnlyLosesOf}
 use Rattle.header_scan.specs.declared.fault.ScanFault.{ScanFault}
-use Rattle.header_scan.specs.declared.fault.ScanFault.TheVariants.{Memory, BadHeader, WrongSlot, Twice, Gone, NoClaim}
+use Rattle.header_scan.specs.declared.fault.ScanFault.TheVariants.{Memory, BadHeader, WrongSlot, Twice, Gone, NoClaim, BadNote}
 use Rattle.header_scan.specs.Faults.{AreFine, IsFirstFault}
 use Rattle.header_scan.specs.Worlds.{IsToldOf}
 use Rattle.header_scan.proofs.Scanning.{slot_at, has_unit, within, ranged, told_header}
@@ -132,6 +132,7 @@ module _ (a : ArrayView) (F : Flat) (whole : IsWhole a) (shows : ShowsArray a F)
   IsFaultOf (WrongSlot s told) G = ⊥
   IsFaultOf (Twice block first second) G = ⊥
   IsFaultOf (NoClaim s) G = ⊥
+  IsFaultOf (BadNote s) G = ⊥
 
   pub scan_fault : (b : ArrayView) (fault : ScanFault) → IsWhole b → OnlyLoses a b
       → IsFirstFault a.parts.groups 0 (2 ^ 16) (bytes_of a.parts) (unit_of a.parts.groups (cells_of b.parts)) fault → IsFaultOf fault (fared F b.parts)
@@ -157,6 +158,7 @@ module _ (a : ArrayView) (F : Flat) (whole : IsWhole a) (shows : ShowsArray a F)
       is.4.1 (sym is.4.2.3 ∙ place)
   scan_fault b (Twice block first second) left loses is = never_twice is.0 block first second is.1
   scan_fault b (NoClaim s) left loses is = is
+  scan_fault b (BadNote s) left loses is = is
 
 -- a world that lost drives represents the state with these drives
 world_fares : (v w : WorldView) (F : Flat) → OnlyLosesOf v w → Represents v F → Represents w (fared F w.array.parts)
@@ -184,6 +186,7 @@ world_fault v w (BadHeader s) whole left loses is = λ F rep. scan_fault v.array
 world_fault v w (WrongSlot s told) whole left loses is = λ F rep. scan_fault v.array F whole rep.array w.array (WrongSlot s told) left loses.1 (is rep.array.units.sound)
 world_fault v w (Twice b p q) whole left loses is = λ F rep. scan_fault v.array F whole rep.array w.array (Twice b p q) left loses.1 (is rep.array.units.sound)
 world_fault v w (NoClaim s) whole left loses is = λ F rep. scan_fault v.array F whole rep.array w.array (NoClaim s) left loses.1 (is rep.array.units.sound)
+world_fault v w (BadNote s) whole left loses is = λ F rep. scan_fault v.array F whole rep.array w.array (BadNote s) left loses.1 (is rep.array.units.sound)
 
 pub world_told : (v w : WorldView) (result : Result Entries ScanFault) → IsWhole v.array → IsWhole w.array → OnlyLosesOf v w
     → (Sound v → IfErr result (IsFirst v w)) → IfErr result (IsToldOf v w)

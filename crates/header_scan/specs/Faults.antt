@@ -10,7 +10,7 @@ use Rattle.extent_groups.specs.Groups.{Groups}
 use Rattle.flat_machine.specs.Scanned.{HasHeader}
 use Rattle.array_parts.specs.Slots.{IsSlot}
 use Rattle.header_scan.specs.declared.fault.ScanFault.{ScanFault}
-use Rattle.header_scan.specs.declared.fault.ScanFault.TheVariants.{Memory, BadHeader, WrongSlot, Twice, Gone, NoClaim}
+use Rattle.header_scan.specs.declared.fault.ScanFault.TheVariants.{Memory, BadHeader, WrongSlot, Twice, Gone, NoClaim, BadNote}
 
 -- units by slot
 abbrev pub Bytes : Type 0
@@ -44,6 +44,7 @@ IsFaultAt blocks bytes left slot (WrongSlot s told) = (s ≡ slot) × (told ≢ 
 IsFaultAt blocks bytes left slot Memory = ⊥
 IsFaultAt blocks bytes left slot (Twice block first second) = ⊥
 IsFaultAt blocks bytes left slot (NoClaim s) = ⊥
+IsFaultAt blocks bytes left slot (BadNote s) = ⊥
 
 -- the headers of the slots of groups from one on, below another, are fine
 abbrev pub AreFine : Groups → ℕ → ℕ → Bytes → Type 0
@@ -65,6 +66,7 @@ pub record IsTwice (bytes : Bytes) (block first second : ℕ) : Type 0 where
 abbrev pub IsFirstFault : Groups → ℕ → ℕ → Bytes → Bytes → ScanFault → Type 0
 IsFirstFault groups low high bytes left Memory = Unit {0}
 IsFirstFault groups low high bytes left (NoClaim slot) = ⊥
+IsFirstFault groups low high bytes left (BadNote slot) = ⊥
 IsFirstFault groups low high bytes left (Twice block first second) =
     AreFine groups low high bytes
     × IsTwice (between low high bytes) block first second

@@ -1,10 +1,11 @@
 -- What a restart makes of parts and claims, and why it makes nothing of them.
-use Rattle.std.specs.Prelude.{◌≡◌, ℕ, ◌^◌, is_some, Bool, List}
+use Rattle.std.specs.Prelude.{◌≡◌, ◌⊎◌, ℕ, ◌^◌, is_some, option_map, Bool, Some, List}
 use Rattle.extents.specs.Failures.{Failures}
 use Rattle.extent_groups.specs.Stores.{unit_of, AreSound}
 use Rattle.array_parts.specs.declared.parts.Parts.{Parts}
 use Rattle.array_parts.specs.Losses.{LosesOnly}
-use Rattle.array_parts.specs.Slots.{cells_in}
+use Rattle.array_parts.specs.Slots.{cells_in, missing_in}
+use Rattle.array_parts.specs.Notes.{IsFineNote, IsBadNote, WasFinished}
 use Rattle.array_parts.specs.Views.{view_of}
 use Rattle.flat_machine.specs.Cases.{Leaves}
 use Rattle.flat_machine.specs.Flat.{Flat}
@@ -19,7 +20,7 @@ use Rattle.step_core.specs.NotAdopted.{NotAdopted}
 use Rattle.step_core.specs.NotAdopted.TheVariants as adopted
 use Rattle.header_scan.specs.Faults.{between, AreFine, IsFirstFault, IsTwice}
 use Rattle.header_scan.specs.declared.fault.ScanFault.{ScanFault}
-use Rattle.header_scan.specs.declared.fault.ScanFault.TheVariants.{Memory, NoClaim}
+use Rattle.header_scan.specs.declared.fault.ScanFault.TheVariants.{Memory, NoClaim, BadNote}
 
 -- each slot of a group has a unit, and no other slot has one
 abbrev pub HasUnits : Flat → Type 0
@@ -60,6 +61,18 @@ abbrev pub IsRestartFault : {D C : Type 0} → (D → List (List ℕ)) → (D �
 IsRestartFault units lost parts left names claims (NoClaim slot) = (keys : ℕ → ℕ) × TellAll units lost parts keys × IsUnclaimed names claims keys slot
 IsRestartFault units lost parts left names claims fault =
     IsFirstFault parts.groups 0 (2 ^ 16) (unit_of parts.groups (cells_in units lost parts)) (unit_of parts.groups (cells_in units lost left)) fault
+
+-- there is no note or a good one, and this is true of the parts once it is finished, which are what the scan reads
+abbrev pub FromFinished : {D : Type 0} → (D → List (List ℕ)) → (D → Bool) → (D → Failures) → Parts D → (Parts D → Type 0) → Type 0
+FromFinished {D} units lost failures parts P =
+    IsFineNote parts.groups (missing_in lost parts) parts.note × ((mid : Parts D) × WasFinished units lost failures parts mid × P mid)
+
+-- why no array was made of parts that may have a note: a bad note, and then they are as they were; else the fault of the parts
+-- with the note finished
+abbrev pub IsResumeFault : {D C : Type 0} → (D → List (List ℕ)) → (D → Bool) → (D → Failures) → Parts D → Parts D → (C → ℕ) → List C → ScanFault → Type 0
+IsResumeFault units lost failures parts left names claims fault =
+    ((slot : ℕ) × (fault ≡ BadNote slot) × IsBadNote parts.groups (missing_in lost parts) parts.note × (option_map (λ n. n.slot) parts.note ≡ Some slot) × (left ≡ parts))
+    ⊎ FromFinished units lost failures parts (λ mid. (AreAllSound units lost mid → IsRestartFault units lost mid left names claims fault) × LosesOnly units lost failures mid left)
 
 -- the fault that says why no array was put together
 abbrev pub fault_of : NotAdopted → ScanFault

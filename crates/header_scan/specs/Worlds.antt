@@ -4,7 +4,7 @@ use Rattle.flat_machine.specs.Scans.{NotTold, ScanCase}
 use Rattle.array_model.specs.Views.{WorldView}
 use Rattle.array_model.specs.Represents.{Represents}
 use Rattle.header_scan.specs.declared.fault.ScanFault.{ScanFault}
-use Rattle.header_scan.specs.declared.fault.ScanFault.TheVariants.{Memory, BadHeader, WrongSlot, Twice, Gone, NoClaim}
+use Rattle.header_scan.specs.declared.fault.ScanFault.TheVariants.{Memory, BadHeader, WrongSlot, Twice, Gone, NoClaim, BadNote}
 
 -- the world represents no state
 abbrev pub StandsForNone : WorldView → Type 0
@@ -19,3 +19,4 @@ IsToldOf v w (BadHeader s) = StandsForNone v
 IsToldOf v w (WrongSlot s told) = StandsForNone v
 IsToldOf v w (Twice block first second) = StandsForNone v
 IsToldOf v w (NoClaim s) = StandsForNone v
+IsToldOf v w (BadNote s) = StandsForNone v

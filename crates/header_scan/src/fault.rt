@@ -24,10 +24,13 @@ pub enum ScanFault {
     /// The slot of a block's newest place, without its claim.
     #[error("there is no claim of slot {0}")]
     NoClaim(u16),
+    /// The slot of a note that can't be finished.
+    #[error("the note of slot {0} is bad")]
+    BadNote(u16),
 }
 
 impl ScanFault {
-    /// The fault's number, 1 to 6 in the order above.
+    /// The fault's number, 1 to 7 in the order above.
     pub fn number(&self) -> u8
         ensures { result ≡ number_of self.now }
     {
@@ -38,6 +41,7 @@ impl ScanFault {
             ScanFault::Twice(_, _, _) => 4,
             ScanFault::Gone(_) => 5,
             ScanFault::NoClaim(_) => 6,
+            ScanFault::BadNote(_) => 7,
         }
     }
 }

@@ -1,9 +1,9 @@
 // An array rebuilt from its parts.
-ghost use Rattle.std.specs.Prelude.{◌≡◌, IfOk, IfErr};
+ghost use Rattle.std.specs.Prelude.{◌≡◌, None, IfOk, IfErr};
 ghost use Rattle.array_parts.specs.Fit.{IsFit};
 ghost use Rattle.array_parts.specs.Losses.{LosesOnly};
 ghost use Rattle.step_core.specs.Adopted.{AreShared};
-ghost use Rattle.header_scan.specs.Restarts.{AreAllSound, IsRestartFault, StandsForOne, WasMade, fault_of};
+ghost use Rattle.header_scan.specs.Restarts.{AreAllSound, IsRestartFault, IsResumeFault, FromFinished, StandsForOne, WasMade, fault_of};
 
 use crate::{ScanFault, scan};
 use array_parts::Parts;
@@ -12,15 +12,49 @@ use std::alloc::Global;
 use step_core::{Array, Hold, NotAdopted};
 
 /// Rebuilds an array from its parts, by the map that their headers hold. Each block's newest place is held, by the claim of it
-/// among those given; the other claims are returned. The map's list is the log, and nothing is pending. On a fault the parts
-/// come back as the scan left them, and the claims unchanged. The fault is the scan's, or the lowest newest place of which
-/// there is no claim; out of memory may come before.
+/// among those given; the other claims are returned. The map's list is the log, and nothing is pending.
+///
+/// A note is finished first and cleared: its slot then has the note's unit, however much of the write was made before the stop.
+/// A bad note is fault 7, before any other, and all is as it was. On another fault the parts come back as the scan left them,
+/// the note finished, and the claims unchanged. The fault is the scan's, or the lowest newest place of which there is no claim;
+/// out of memory may come before. Calling again with these parts gives the same as a first call.
 pub fn restart<D: Drive, C: Hold>(
     alloc: Global,
     parts: Parts<D>,
     claims: Vec<C>,
 ) -> Result<(Array<D, C>, Vec<C>), (ScanFault, Parts<D>, Vec<C>)>
     requires { IsFit D.units parts }
+
+    // Without a note.
+    ensures ok { parts.note ≡ None → IfOk result (λ r. WasMade D.units D.lost D.failures parts r.0) }
+    ensures stands { parts.note ≡ None → AreAllSound D.units D.lost parts → IfOk result (λ r. StandsForOne D.units D.lost D.failures parts r.0) }
+    ensures fault { parts.note ≡ None → AreAllSound D.units D.lost parts → IfErr result (λ e. IsRestartFault D.units D.lost parts e.1 C.names claims.items e.0) }
+    ensures back { parts.note ≡ None → IfErr result (λ e. LosesOnly D.units D.lost D.failures parts e.1) }
+
+    // With a note or without.
+    ensures finished { IfOk result (λ r. FromFinished D.units D.lost D.failures parts (λ mid. WasMade D.units D.lost D.failures mid r.0
+        × (AreAllSound D.units D.lost mid → StandsForOne D.units D.lost D.failures mid r.0))) }
+    ensures refused { IfErr result (λ e. IsResumeFault D.units D.lost D.failures parts e.1 C.names claims.items e.0) }
+    ensures claims { IfOk result (λ r. AreShared C.names claims.items r.0 r.1.items) }
+    ensures fit { IfErr result (λ e. IsFit D.units e.1) }
+    ensures kept { IfErr result (λ e. e.2 ≡ claims) }
+{
+    if let Some(slot) = parts.bad_note() {
+        return Err((ScanFault::BadNote(slot), parts, claims));
+    }
+    let mut parts = parts;
+    parts.finish();
+    renew(alloc, parts, claims)
+}
+
+// Rebuilds an array from parts without a note.
+fn renew<D: Drive, C: Hold>(
+    alloc: Global,
+    parts: Parts<D>,
+    claims: Vec<C>,
+) -> Result<(Array<D, C>, Vec<C>), (ScanFault, Parts<D>, Vec<C>)>
+    requires fit { IsFit D.units parts }
+    requires note { parts.note ≡ None }
     ensures ok { IfOk result (λ r. WasMade D.units D.lost D.failures parts r.0) }
     ensures claims { IfOk result (λ r. AreShared C.names claims.items r.0 r.1.items) }
     ensures stands { AreAllSound D.units D.lost parts → IfOk result (λ r. StandsForOne D.units D.lost D.failures parts r.0) }

@@ -105,6 +105,7 @@ fn is_fault(fault: ScanFault, wanted: &str) -> Result<bool, Trouble> {
         ScanFault::Twice(block, slot, other) => [4, block, u32::from(slot), u32::from(other)],
         ScanFault::Gone(slot) => [5, u32::from(slot), 0, 0],
         ScanFault::NoClaim(slot) => [6, u32::from(slot), 0, 0],
+        ScanFault::BadNote(slot) => [7, u32::from(slot), 0, 0],
         ScanFault::Memory => return Err(Trouble::Memory),
     };
     let words = words_of(wanted)?;

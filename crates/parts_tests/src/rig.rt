@@ -141,6 +141,7 @@ impl Rig {
                 groups,
                 extents,
                 drives,
+                note: None,
             },
             unit: zeros(rt, alloc, SIZE),
             payload: [0; 8],

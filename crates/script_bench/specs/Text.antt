@@ -129,6 +129,7 @@ fault_detail (fault.Twice block first second) =
     codes " " ++ (decimal block ++ (codes " " ++ (decimal first ++ (codes " " ++ decimal second))))
 fault_detail (fault.Gone slot) = codes " " ++ decimal slot
 fault_detail (fault.NoClaim slot) = codes " " ++ decimal slot
+fault_detail (fault.BadNote slot) = codes " " ++ decimal slot
 
 -- a scan's fault
 abbrev pub fault_text : ScanFault → List ℕ

@@ -279,7 +279,10 @@ fn put_fault_detail(out: &mut Vec<u8>, fault: &ScanFault) -> Result<(), AllocErr
 {
     match fault {
         ScanFault::Memory => Ok(()),
-        ScanFault::BadHeader(slot) | ScanFault::Gone(slot) | ScanFault::NoClaim(slot) => {
+        ScanFault::BadHeader(slot)
+        | ScanFault::Gone(slot)
+        | ScanFault::NoClaim(slot)
+        | ScanFault::BadNote(slot) => {
             put_numbered(out, b" ", u64::from(*slot))
         }
         ScanFault::WrongSlot(slot, told) => {
