@@ -19,9 +19,9 @@ ghost use Rattle.extent_groups.specs.Calls.{if_ok, FadesAt, NoPlace, SameBut, Ke
 ghost use Rattle.extent_groups.specs.Stores.{unit_bytes, unit_of, header_of, AreSound, IsSlotOf, AreDrives, KeepsUnits, Wrote, NamesGone, IsOwnOf, HasMemberOn};
 
 pub use exclusive_or::xor_into;
-pub use listing::plan;
 use extent_groups::{GroupTable, SLOTS, StoreRefusal};
 use extents::Drive;
+pub use listing::plan;
 pub use parity::read_parity;
 pub use way::Way;
 
