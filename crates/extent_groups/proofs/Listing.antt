@@ -1,15 +1,15 @@
 -- The list of a plan: of a pair, and of two places of a row; and the writes of a pair, one call after the other.
-use Rattle.std.proofs.Common.{◌≡◌, ◌≢◌, ℕ, ◌⊎◌, inl, inr, Bool, true, false, if◌then◌else◌, Option, Some, None, List, [], ◌∷◌, length, refl, sym, ◌∙◌, ap, subst}
+use Rattle.std.proofs.Common.{◌≡◌, ◌≢◌, ℕ, inl, inr, Bool, true, false, if◌then◌else◌, Option, Some, None, List, [], ◌∷◌, length, refl, sym, ◌∙◌, ap, subst}
 use Rattle.std.specs.Prelude.{◌==◌, ◌&&◌, slice_get}
 use Rattle.std.proofs.lemmas.Option.{none-some}
 use Rattle.extent_groups.specs.declared.place.Place.{Place}
 use Rattle.extent_groups.specs.Groups.{Groups}
 use Rattle.extent_groups.specs.Cells.{Cells, held}
-use Rattle.extent_groups.specs.Calls.{Fades, FadesAt, if_ok, DidWrite}
+use Rattle.extent_groups.specs.Calls.{FadesAt, DidWrite}
 use Rattle.extent_groups.specs.Layout.{IsLayout}
-use Rattle.extent_groups.specs.Units.{Site, Pair, InStripe, site_of}
+use Rattle.extent_groups.specs.Units.{Pair, InStripe, site_of}
 use Rattle.extent_groups.specs.Stores.{unit_bytes}
-use Rattle.extent_groups.specs.Planned.{Wanted, over, after, before, places_in, if_held, present, IsListed, wanted_in, wanted_parity, IsPlanned, IsPlan, WroteByPlan}
+use Rattle.extent_groups.specs.Planned.{Wanted, over, after, before, places_in, if_held, present, wanted_in, wanted_parity, IsPlanned, IsPlan}
 use Rattle.extent_groups.proofs.Fading.{fades_trans}
 use Rattle.extent_groups.proofs.SlotWrites.{AreSizedCells}
 use Rattle.extent_groups.proofs.Finishing.{place_or_not, planned_pair, planned_one, wanted_of, fades_more}

@@ -86,7 +86,9 @@ fn write_pair<D: Drive>(
     ensures leaves { LeavesSites (length front.now + length rest.now) (cells D.units D.lost drives.old) (cells D.units D.lost drives.new) (Pair first second) }
     ensures touched { KeepsDrives D.units D.lost D.failures (IsOwn (Pair first second)) drives.old drives.new }
     ensures copies { AreCopies (IsOwn (Pair first second)) (cells D.units D.lost drives.new) (front.now ++ rest.now) }
-    ensures planned { (x : Place) → FadesAt (after (cells D.units D.lost drives.old) (present (cells D.units D.lost drives.old) (λ place. front.now ++ rest.now) (first ∷ second ∷ []))) (cells D.units D.lost drives.new) x }
+    ensures planned { (x : Place)
+        → FadesAt (after (cells D.units D.lost drives.old) (present (cells D.units D.lost drives.old) (λ place. front.now ++ rest.now) (first ∷ second ∷ [])))
+        (cells D.units D.lost drives.new) x }
     ensures unwritten { result ≡ false → (x : Place) → FadesAt (cells D.units D.lost drives.old) (cells D.units D.lost drives.new) x }
     ensures there { result ≡ true → ((held (cells D.units D.lost drives.old) first ≡ None) × (held (cells D.units D.lost drives.old) second ≡ None)) → ⊥ }
 {

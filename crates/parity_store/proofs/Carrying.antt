@@ -1,17 +1,16 @@
 -- A way that was drafted is carried out: what its writes leave of the row, and that they are the slot's plan.
 use Rattle.std.proofs.Common.{◌≡◌, ◌≢◌, ℕ, ◌⊎◌, inl, inr, Bool, true, false, Option, Some, None, List, [], ◌∷◌, length, refl, sym, ◌∙◌, ap, subst}
-use Rattle.std.specs.Prelude.{slice_get}
 use Rattle.std.specs.Bool.{MatchBool}
 use Rattle.std.proofs.lemmas.Option.{same_Some, none-some}
 use Rattle.std.proofs.lemmas.Bool.{true≢false}
 use Rattle.extent_groups.specs.declared.place.Place.{Place}
 use Rattle.extent_groups.specs.Groups.{Groups}
 use Rattle.extent_groups.specs.Cells.{Cells, held}
-use Rattle.extent_groups.specs.Units.{InStripe, plus, total, held_in, or_else, others, row_of, unit_at, IsSoundAt, site_of}
-use Rattle.extent_groups.specs.Calls.{Fades, FadesAt, if_ok, DidWrite}
+use Rattle.extent_groups.specs.Units.{InStripe, plus, held_in, row_of, unit_at, IsSoundAt, site_of}
+use Rattle.extent_groups.specs.Calls.{FadesAt, if_ok, DidWrite}
 use Rattle.extent_groups.specs.Layout.{IsLayout, IsWhole}
 use Rattle.extent_groups.specs.Stores.{unit_bytes, IsOwn, LeavesSites}
-use Rattle.extent_groups.specs.Planned.{Wanted, over, after, places_in, if_held, present, wanted_parity, IsPlanned, IsPlan, WroteByPlan}
+use Rattle.extent_groups.specs.Planned.{over, after, places_in, if_held, present, wanted_parity, IsPlanned, IsPlan, WroteByPlan}
 use Rattle.extent_groups.proofs.Fading.{fades_trans, row_fades, row_sized}
 use Rattle.extent_groups.proofs.RowWrites.{WritesRow, writes_faded, both_missing}
 use Rattle.extent_groups.proofs.SlotWrites.{AreSizedCells, fades_leave, stripe_leaves}

@@ -3,19 +3,19 @@ use Rattle.std.proofs.Common.{◌≡◌, ◌≢◌, ℕ, ◌<◌, inl, inr, Bool
 use Rattle.std.specs.Prelude.{slice_get, replicate}
 use Rattle.std.specs.Bool.{MatchBool}
 use Rattle.std.proofs.lemmas.List.{length-replicate}
-use Rattle.std.proofs.lemmas.Option.{same_Some, none-some}
+use Rattle.std.proofs.lemmas.Option.{none-some}
 use Rattle.extent_groups.specs.declared.place.Place.{Place}
 use Rattle.extent_groups.specs.Cells.{Cells, held}
 use Rattle.extent_groups.specs.Units.{Pair, InStripe, put, others, or_else, held_in, row_of, unit_at, IsSoundAt}
-use Rattle.extent_groups.specs.Calls.{Fades, FadesAt, if_ok, DidRead, DidWrite}
+use Rattle.extent_groups.specs.Calls.{Fades, FadesAt, if_ok, DidRead}
 use Rattle.extent_groups.specs.Layout.{IsWhole}
 use Rattle.extent_groups.specs.Stores.{IsOwn, LeavesSites}
 use Rattle.extent_groups.proofs.Totals.{total_same, total_sized, put_sized, put_agrees}
 use Rattle.extent_groups.proofs.Fading.{fades_trans, row_fades, row_sized}
 use Rattle.extent_groups.proofs.RowWrites.{WritesRow, writes_faded, by_difference, data_alone, parity_alone, both_missing}
-use Rattle.extent_groups.proofs.SlotWrites.{AreSizedCells, fades_leave, stripe_leaves}
+use Rattle.extent_groups.proofs.SlotWrites.{AreSizedCells, stripe_leaves}
 use Rattle.parity_store.specs.Ways.{bare, Added, Missed, Differs, ParityWritten}
-use Rattle.parity_store.proofs.Sums.{row_same, sum_is, sum_of_others}
+use Rattle.parity_store.proofs.Sums.{row_same, sum_of_others}
 
 -- a row with its unit's place and its parity's
 pub record IsHome (row : List Place) (p i : ℕ) (home parity : Place) : Type 0 where

@@ -59,10 +59,17 @@ pub(crate) fn write_stripe<D: Drive>(
     requires laid { IsLaid D.units groups.now group at.now.offset (length unit.now) drives.old }
     requires part { length part.old ≡ length unit.now }
     requires sum { length sum.old ≡ length unit.now }
-    ensures unit { unit_at (length unit.now) (cells D.units D.lost drives.new) (InStripe (row_at groups.now group at.now.offset) at.now.parity at.now.member) ≡ if_ok result unit.now }
-    ensures leaves { IsSoundAt (length unit.now) (cells D.units D.lost drives.old) (InStripe (row_at groups.now group at.now.offset) at.now.parity at.now.member) → LeavesSites (length unit.now) (cells D.units D.lost drives.old) (cells D.units D.lost drives.new) (InStripe (row_at groups.now group at.now.offset) at.now.parity at.now.member) }
-    ensures touched { KeepsDrives D.units D.lost D.failures (IsOwn (InStripe (row_at groups.now group at.now.offset) at.now.parity at.now.member)) drives.old drives.new }
-    ensures drafted { MatchBool result (WroteByDraft (length unit.now) (cells D.units D.lost drives.old) (cells D.units D.lost drives.new) (row_at groups.now group at.now.offset) at.now.parity at.now.member unit.now) ((x : Place) → FadesAt (cells D.units D.lost drives.old) (cells D.units D.lost drives.new) x) }
+    ensures unit { unit_at (length unit.now) (cells D.units D.lost drives.new) (InStripe (row_at groups.now group at.now.offset) at.now.parity at.now.member)
+        ≡ if_ok result unit.now }
+    ensures leaves { IsSoundAt (length unit.now) (cells D.units D.lost drives.old) (InStripe (row_at groups.now group at.now.offset) at.now.parity at.now.member)
+        → LeavesSites (length unit.now) (cells D.units D.lost drives.old) (cells D.units D.lost drives.new)
+        (InStripe (row_at groups.now group at.now.offset) at.now.parity at.now.member) }
+    ensures touched { KeepsDrives D.units D.lost D.failures
+        (IsOwn (InStripe (row_at groups.now group at.now.offset) at.now.parity at.now.member)) drives.old drives.new }
+    ensures drafted { MatchBool result
+        (WroteByDraft (length unit.now) (cells D.units D.lost drives.old) (cells D.units D.lost drives.new)
+        (row_at groups.now group at.now.offset) at.now.parity at.now.member unit.now)
+        ((x : Place) → FadesAt (cells D.units D.lost drives.old) (cells D.units D.lost drives.new) x) }
 {
     let home = groups.place(group, at.member, at.offset);
     let parity = groups.place(group, at.parity, at.offset);

@@ -19,9 +19,9 @@ ghost use Rattle.extent_groups.specs.declared.place.Place.{Place};
 ghost use Rattle.extent_groups.specs.Planned.{WroteByPlan};
 
 pub use exclusive_or::xor_into;
-pub use listing::plan;
 use extent_groups::{GroupTable, SLOTS, StoreRefusal};
 use extents::Drive;
+pub use listing::plan;
 pub use parity::read_parity;
 pub use way::Way;
 

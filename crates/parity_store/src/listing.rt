@@ -95,9 +95,13 @@ pub fn plan<D: Drive>(
     requires slot { IsSlotOf Parity groups.now slot }
     requires drives { AreDrives D.units groups.now drives.old }
     requires unit { length unit.now ≡ unit_bytes groups.now }
-    ensures ok { IfOk result (λ plan. (wanted : Place → List ℕ) × IsPlan groups.now (cells D.units D.lost drives.new) slot unit.now wanted (listed plan.writes.items) × (parity_listed plan.parity ≡ wanted_parity (cells D.units D.lost drives.new) wanted (site_of groups.now slot))) }
-    ensures err { IfErr result (λ e. ((e ≡ refusal.Memory) × (drives.new ≡ drives.old)) ⊎ ((e ≡ refusal.Gone slot) × (unit_of groups.now (cells D.units D.lost drives.new) slot ≡ None))) }
-    ensures units { AreSound groups.now (cells D.units D.lost drives.old) → KeepsUnits groups.now (cells D.units D.lost drives.old) (cells D.units D.lost drives.new) }
+    ensures ok { IfOk result (λ plan. (wanted : Place → List ℕ)
+        × IsPlan groups.now (cells D.units D.lost drives.new) slot unit.now wanted (listed plan.writes.items)
+        × (parity_listed plan.parity ≡ wanted_parity (cells D.units D.lost drives.new) wanted (site_of groups.now slot))) }
+    ensures err { IfErr result (λ e. ((e ≡ refusal.Memory) × (drives.new ≡ drives.old))
+        ⊎ ((e ≡ refusal.Gone slot) × (unit_of groups.now (cells D.units D.lost drives.new) slot ≡ None))) }
+    ensures units { AreSound groups.now (cells D.units D.lost drives.old)
+        → KeepsUnits groups.now (cells D.units D.lost drives.old) (cells D.units D.lost drives.new) }
     ensures sound { AreSound groups.now (cells D.units D.lost drives.old) → AreSound groups.now (cells D.units D.lost drives.new) }
     ensures touched { KeepsDrives D.units D.lost D.failures NoPlace drives.old drives.new }
     ensures elsewhere { SameBut (HasMemberOn groups.now (slot / 128)) drives.old drives.new }
@@ -110,7 +114,15 @@ pub fn plan<D: Drive>(
     let group = slot / SLOTS;
     let home = groups.place(group, at.member, at.offset);
     let parity = groups.place(group, at.parity, at.offset);
-    let way = find_way(groups, drives, group, &at, unit, &mut room.part, &mut room.sum);
+    let way = find_way(
+        groups,
+        drives,
+        group,
+        &at,
+        unit,
+        &mut room.part,
+        &mut room.sum,
+    );
     if way == Way::Missed {
         return Err(PlanRefusal::Gone(slot));
     }

@@ -126,7 +126,8 @@ fn new_recorders<'a>(
     lost: usize,
 ) -> Result<Vec<Recorder<'a>>, AllocError>
     ensures many { IfOk result (λ v. length v.items ≡ count) }
-    ensures zero { IfOk result (λ v. (d : ℕ) (x : Recorder) → slice_get v.items d ≡ Some x → x.drive.units ≡ zero_units (HEADER_BYTES + shape.now.payload) (shape.now.extents * extent_units shape.now.segments)) }
+    ensures zero { IfOk result (λ v. (d : ℕ) (x : Recorder) → slice_get v.items d ≡ Some x
+        → x.drive.units ≡ zero_units (HEADER_BYTES + shape.now.payload) (shape.now.extents * extent_units shape.now.segments)) }
 {
     let mut drives = Vec::with_capacity(alloc, count)?;
     for number in 0..count {
@@ -157,13 +158,7 @@ fn set_up<'a>(
 }
 
 /// Writes a slot with a byte throughout.
-fn write(
-    rt: &impl Abort,
-    groups: &GroupTable,
-    drives: &mut [Recorder],
-    slot: u16,
-    byte: u8,
-) -> bool
+fn write(rt: &impl Abort, groups: &GroupTable, drives: &mut [Recorder], slot: u16, byte: u8) -> bool
     requires { AreDrives (λ (m : Recorder). m.drive.units) groups.now drives.old }
     ensures { AreDrives (λ (m : Recorder). m.drive.units) groups.now drives.new }
 {

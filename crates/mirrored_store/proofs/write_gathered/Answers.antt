@@ -1,4 +1,4 @@
-use Rattle.std.proofs.Common.{◌≡◌, true, length, ◌+◌, ◌++◌, List, [], ◌∷◌, inl, inr, refl, sym, subst, ◌∙◌, rules}
+use Rattle.std.proofs.Common.{◌≡◌, true, length, ◌+◌, ◌++◌, [], ◌∷◌, inl, inr, refl, sym, subst, ◌∙◌, rules}
 use Rattle.std.proofs.lemmas.List.{length-append}
 use Rattle.std.proofs.lemmas.Option.{same_Some}
 use Rattle.extent_groups.specs.Cells.{cells}

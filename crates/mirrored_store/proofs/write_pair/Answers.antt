@@ -1,8 +1,8 @@
-use Rattle.std.proofs.Common.{inl, inr, sym, subst, rules, refl, ◌++◌}
+use Rattle.std.proofs.Common.{inl, inr, sym, subst, rules, ◌++◌}
 use Rattle.extent_groups.specs.Calls.{AreSized}
 use Rattle.extent_groups.proofs.DriveCalls.{keeps_sizes, keeps_trans, keeps_more, cells_sized}
 use Rattle.extent_groups.proofs.SlotWrites.{pair_leaves, pair_copies}
-use Rattle.extent_groups.proofs.Listing.{pair_written, pair_unwritten, first_there, second_there}
+use Rattle.extent_groups.proofs.Listing.{pair_written}
 use Rattle.mirrored_store.proofs.write_pair.Goals as goal
 
 pub write_gathered-two-requires-clause-size : goal.write_gathered-two-requires-clause-size

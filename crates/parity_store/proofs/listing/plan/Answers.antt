@@ -1,12 +1,10 @@
-use Rattle.std.proofs.Common.{◌≡◌, ◌≢◌, ◌/◌, inl, inr, refl, sym, ap, ◌∙◌, subst, ℕ, List, ◌++◌, length, take, drop, None, rules}
+use Rattle.std.proofs.Common.{◌≡◌, ◌≢◌, ◌/◌, inr, refl, sym, ap, ◌∙◌, subst, ℕ, List, ◌++◌, length, take, drop, None, rules}
 use Rattle.std.proofs.Math.Seq.{take-append_seam}
 use Rattle.extent_groups.specs.Cells.{cells}
 use Rattle.extent_groups.proofs.LayoutLaw.{layout_law}
-use Rattle.extent_groups.proofs.Losses.{kept_fades}
 use Rattle.extent_groups.proofs.StoreCalls.{read_keeps, site_whole, slot_unit, sized_cells, drives_kept}
 use Rattle.extent_groups.specs.PlanLists.{listed, parity_listed}
-use Rattle.extent_groups.specs.Planned.{IsPlan, wanted_parity}
-use Rattle.extent_groups.specs.Units.{site_of}
+use Rattle.extent_groups.specs.Planned.{IsPlan}
 use Rattle.extent_groups.proofs.Finishing.{wanted_of}
 use Rattle.parity_store.specs.declared.way.Way.TheVariants as way
 use Rattle.parity_store.specs.Drafts.{IsDraft, writes_by, parity_by}
@@ -53,9 +51,12 @@ refilled n ws xs e = ap (λ k. take k (ws ++ drop (length ws) xs)) e ∙ take-ap
 pub returns-then-eq-clause-err : goal.returns-then-eq-clause-err
 returns-then-eq-clause-err g c =
     let missed : c.find_way-way.result ≡ way.Missed = search rules in
-    inr (refl, slot_unit c.args.groups.now (cells g.D.Drive.units g.D.Drive.lost c.find_way-way.new.drives) c.args.slot _ (length c.args.unit.now) None c.row_of-at.ensures.site c.requires.unit
-    (subst (λ w. IsDraft (length c.args.unit.now) (cells g.D.Drive.units g.D.Drive.lost c.find_way-way.new.drives) (row_at c.args.groups.now (c.args.slot / 128) c.row_of-at.result.offset) c.row_of-at.result.parity c.row_of-at.result.member c.place-home.result c.place-parity.result c.args.unit.now c.find_way-way.new.sum w) missed
-    (draft g (goal.at.returns-then-eq-clause-err g c).After-find_way-way)))
+    inr (
+      refl,
+      slot_unit c.args.groups.now (cells g.D.Drive.units g.D.Drive.lost c.find_way-way.new.drives) c.args.slot _ (length c.args.unit.now) None c.row_of-at.ensures.site c.requires.unit
+          (subst (λ w. IsDraft (length c.args.unit.now) (cells g.D.Drive.units g.D.Drive.lost c.find_way-way.new.drives) (row_at c.args.groups.now (c.args.slot / 128) c.row_of-at.result.offset) c.row_of-at.result.parity c.row_of-at.result.member c.place-home.result c.place-parity.result c.args.unit.now c.find_way-way.new.sum w) missed
+          (draft g (goal.at.returns-then-eq-clause-err g c).After-find_way-way)),
+    )
 
 pub returns-clause-ok : goal.returns-clause-ok
 returns-clause-ok g c =
