@@ -2,7 +2,7 @@
 use Rattle.std.proofs.Common.{◌≡◌, ℕ, zero, suc, Some, ◌<◌, ◌≤◌, ◌⊎◌, inl, inr, max, refl, sym, ◌∙◌, ap, subst, arith}
 use Rattle.std.proofs.lemmas.Bool.Decides.{nat_tests}
 use Rattle.map_join.specs.declared.records.Record.{Record}
-use Rattle.map_join.specs.Record.{key_of, stamp_of, stamp_in}
+use Rattle.map_join.specs.Record.{stamp_of, stamp_in}
 use Rattle.map_join.specs.Maps.{IsSame, join}
 use Rattle.extent_groups.specs.Groups.{Groups}
 use Rattle.extent_groups.specs.Cells.{Cells}
@@ -150,7 +150,7 @@ top groups c low high slot M r small is h most =
 
 -- a block that is twice in the whole range and in neither part has one stamp in both maps
 module _ (groups : Groups) (c : Cells) (low middle high b p q : ℕ) (M N : ℕ → ℕ) (l : low ≤ middle) (m : middle ≤ high) (small : high ≤ 65536) (one : IsMapOfRange groups c low middle M)
-  (other : IsMapOfRange groups c middle high N) (is : IsTwice (between low high (unit_of groups c)) b p q) where
+    (other : IsMapOfRange groups c middle high N) (is : IsTwice (between low high (unit_of groups c)) b p q) where
   abbrev bytes : Bytes
   bytes = unit_of groups c
 
@@ -181,9 +181,9 @@ module _ (groups : Groups) (c : Cells) (low middle high b p q : ℕ) (M N : ℕ 
   in_both : HasHeader (between low middle bytes) p is.one → HasHeader (between middle high bytes) q is.other → (0 < M b) × (stamp_in (M b) ≡ stamp_in (N b))
   in_both here there =
       let first : stamp_in (M is.one.block) ≡ stamp_of is.one =
-        top groups c low middle p M is.one (omega (arith, m, small)) one here (λ s t h e. is.most s t (first_in low middle high bytes s t m h) (e ∙ is.here.1)) in
+      top groups c low middle p M is.one (omega (arith, m, small)) one here (λ s t h e. is.most s t (first_in low middle high bytes s t m h) (e ∙ is.here.1)) in
       let second : stamp_in (N is.other.block) ≡ stamp_of is.other =
-        top groups c middle high q N is.other small other there (λ s t h e. (let most = is.most s t (second_in low middle high bytes s t l h) (e ∙ is.there.1) in let equal = is.same in omega (arith, most, equal))) in
+      top groups c middle high q N is.other small other there (λ s t h e. (let most = is.most s t (second_in low middle high bytes s t l h) (e ∙ is.there.1) in let equal = is.same in omega (arith, most, equal))) in
       let one_at : stamp_in (M b) ≡ stamp_of is.one = ap (λ x. stamp_in (M x)) (sym is.here.1) ∙ first in
       let other_at : stamp_in (N b) ≡ stamp_of is.other = ap (λ x. stamp_in (N x)) (sym is.there.1) ∙ second in
       let great = great_stamp (between low middle bytes) is.one.block p (stamp_of is.one) (is.one, here, refl, refl) in

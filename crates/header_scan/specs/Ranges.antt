@@ -1,5 +1,5 @@
 -- Scans of parts of the slots.
-use Rattle.std.specs.Prelude.{◌↔◌, ◌≡◌, ◌≢◌, ℕ, ◌<◌, ◌⊎◌, Option, List}
+use Rattle.std.specs.Prelude.{◌↔◌, ◌≢◌, ℕ, ◌<◌, ◌⊎◌, Option, List}
 use Rattle.map_join.specs.declared.records.Record.{Record}
 use Rattle.map_join.specs.Record.{stamp_in}
 use Rattle.extent_groups.specs.Groups.{Groups}

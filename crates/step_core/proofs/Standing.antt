@@ -131,4 +131,4 @@ stands w F whole rep = record {
 
 -- and of its headers
 pub has_headers : (w : WorldView) (F : Flat) → IsWhole w.array → Represents w F → IsOneMissed w.array.parts → HasHeaders w
-has_headers w F whole rep most = let is = stands w F whole rep in record { here = is.here most; headers = is.headers most; scanned = is.scanned most; }
+has_headers w F whole rep most = let is = stands w F whole rep in record { here = is.here most; headers = is.headers most; scanned = is.scanned most }

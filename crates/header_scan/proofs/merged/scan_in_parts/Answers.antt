@@ -13,7 +13,7 @@ returns-in-Ok-merge-clause-map g c = λ sound.
     let keeps = c.in-Ok.ensures.keeps in
     let end = c.requires.middle in
     let second = later groups (g.U.Units.groups c.scan_groups.new.units) start now (128 * c.args.middle) 65536 (at c.in-Ok-scan_groups.rest) c.in-Ok.ensures.groups keeps
-        c.in-Ok-scan_groups.ensures.map c.in-Ok-scan_groups.ensures.fine sound in
+    c.in-Ok-scan_groups.ensures.map c.in-Ok-scan_groups.ensures.fine sound in
     scanned_as _ (join (at c.in-Ok.map) (at c.in-Ok-scan_groups.rest)) (at c.merge.new.self) c.in-Ok-merge.ensures.ok
     (c.parts_laws.ensures.calls groups start 0 (128 * c.args.middle) 65536 (at c.in-Ok.map) (at c.in-Ok-scan_groups.rest) (omega arith) (omega (arith, end))
     (record { map = c.in-Ok.ensures.map sound; fine = c.in-Ok.ensures.fine sound })
@@ -27,7 +27,7 @@ returns-in-Ok-merge-clause-fine g c = λ sound.
     let keeps = c.in-Ok.ensures.keeps in
     let end = c.requires.middle in
     let second = later groups (g.U.Units.groups c.scan_groups.new.units) start now (128 * c.args.middle) 65536 (at c.in-Ok-scan_groups.rest) c.in-Ok.ensures.groups keeps
-        c.in-Ok-scan_groups.ensures.map c.in-Ok-scan_groups.ensures.fine sound in
+    c.in-Ok-scan_groups.ensures.map c.in-Ok-scan_groups.ensures.fine sound in
     (c.parts_laws.ensures.calls groups start 0 (128 * c.args.middle) 65536 (at c.in-Ok.map) (at c.in-Ok-scan_groups.rest) (omega arith) (omega (arith, end))
     (record { map = c.in-Ok.ensures.map sound; fine = c.in-Ok.ensures.fine sound })
     (c.parts_laws.ensures.earlier groups start now (128 * c.args.middle) 65536 (at c.in-Ok-scan_groups.rest) (keeps sound).0 second)).fine
