@@ -6,12 +6,14 @@ mod found;
 mod keys;
 mod laws;
 mod look;
+mod merged;
 mod pass;
 mod renew;
 mod world;
 
 pub use fault::ScanFault;
-pub use laws::scan_laws;
+pub use laws::{parts_laws, scan_laws};
+pub use merged::scan_in_parts;
 pub use pass::{scan, scan_groups};
 pub use renew::restart;
 pub use world::scan_world;

@@ -1,6 +1,6 @@
 -- Runs that grow by a step, and what is true of every state that is represented.
 use Rattle.std.proofs.Common.{◌≡◌, ℕ, zero, suc, ◌+◌, ◌<◌, ◌≤◌, List, [], ◌∷◌, ◌++◌, length, take, get_or, map, All, refl, sym, ap, ◌∙◌, subst, arith}
-use Rattle.std.proofs.lemmas.List.{map_more, map-append}
+use Rattle.std.proofs.lemmas.List.{map_more, map-append, take_more}
 use Rattle.std.proofs.lemmas.List.Elements.{All-get_or}
 use Rattle.step_core.specs.declared.step.Step.{Step}
 use Rattle.step_core.specs.declared.step.Step.TheVariants as step
@@ -10,9 +10,9 @@ use Rattle.flat_machine.specs.Steps.{FlatStep, FlatAnswer}
 use Rattle.extent_groups.specs.Groups.{AreGroups}
 use Rattle.flat_machine.specs.Cases.{Case, Runs}
 use Rattle.flat_machine.proofs.Gones.{AllStand, all_present}
-use Rattle.step_core.specs.Headline.{TellingRun}
+use Rattle.step_core.specs.Headline.{TellingRun, IsStep, StepsTo}
 use Rattle.flat_machine.specs.Flat.{Flat}
-use Rattle.array_model.specs.Views.{ArrayView, SameSizes}
+use Rattle.array_model.specs.Views.{ArrayView, WorldView, SameSizes}
 
 -- a run through states whose groups are well formed
 abbrev pub StandingRun : Flat → List FlatStep → List FlatAnswer → Flat → Type 0
@@ -85,3 +85,28 @@ take_past (x ∷ xs) (suc i) past = ap (λ t. x ∷ t) (take_past xs i (omega ar
 pub some_steps : (n : ℕ) → (n ≡ 0 → ⊥) → 0 < n
 some_steps zero none = absurd (none refl)
 some_steps (suc n) none = omega arith
+
+-- a list of worlds, each the next step's, that goes one step further
+steps_more : (w m v : WorldView) (steps : List Step) (answers : List Answer) (step : Step) (answer : Answer) → StepsTo w steps answers m → IsStep m step answer v → StepsTo w (steps ++ step ∷ []) (answers ++ answer ∷ []) v
+steps_more w m v [] [] step answer steps_to is = (v, subst (λ (x : WorldView). IsStep x step answer v) (sym steps_to) is, refl)
+steps_more w m v [] (a ∷ answers) step answer steps_to is = absurd steps_to
+steps_more w m v (s ∷ steps) [] step answer steps_to is = absurd steps_to
+steps_more w m v (s ∷ steps) (a ∷ answers) step answer steps_to is = (steps_to.0, steps_to.1, steps_more steps_to.0 m v steps answers step answer steps_to.2 is)
+
+pub steps_step : (w m v : WorldView) (steps : List Step) (answers next : List Answer) (i : ℕ) (step : Step) (answer : Answer)
+    → i < length steps → step ≡ get_or steps i step → next ≡ answers ++ answer ∷ [] → StepsTo w (take i steps) answers m → IsStep m step answer v → StepsTo w (take (i + 1) steps) next v
+steps_step w m v steps answers next i step answer inside is grown steps_to one =
+    let more : take (i + 1) steps ≡ take i steps ++ step ∷ [] = take_more steps i step inside ∙ ap (λ s. take i steps ++ s ∷ []) (sym is) in
+    subst (λ ss. StepsTo w ss next v) (sym more) (subst (λ told. StepsTo w (take i steps ++ step ∷ []) told v) (sym grown) (steps_more w m v (take i steps) answers step answer steps_to one))
+
+pub none_past : (n : ℕ) → n ≡ 0 → {X : Type 0} (xs : List X) → take n xs ≡ []
+none_past n none xs = ap (λ k. take k xs) none ∙ go xs where
+  go : {X : Type 0} (xs : List X) → take 0 xs ≡ []
+  go [] = refl
+  go (x ∷ xs) = refl
+
+-- a list of no worlds begins and ends with one
+pub steps_none : (w v : WorldView) (steps : List Step) (answers : List Answer) → steps ≡ [] → StepsTo w steps answers v → w ≡ v
+steps_none w v [] [] none steps_to = steps_to
+steps_none w v [] (a ∷ answers) none steps_to = absurd steps_to
+steps_none w v (s ∷ steps) answers none steps_to = absurd (let bad : s ∷ steps ≡ [] = none in cc)

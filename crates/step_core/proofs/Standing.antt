@@ -18,7 +18,7 @@ use Rattle.flat_machine.specs.Scanned.{HasHeader, IsScanned}
 use Rattle.flat_machine.proofs.Newest.{map_unique}
 use Rattle.array_model.specs.Represents.{ShowsArray, Represents}
 use Rattle.array_model.specs.Views.{ArrayView, WorldView, IsWhole, Nothing, Newest, Unmade, key_at}
-use Rattle.step_core.specs.Headline.{bytes_of, LiesAt, IsOneMissed, Stands}
+use Rattle.step_core.specs.Headline.{bytes_of, LiesAt, IsOneMissed, Stands, HasHeaders}
 
 -- a slot of a group lies somewhere
 site_below : (segments : ℕ) (o : Option Group) (i : ℕ) → class_below segments o i ≢ None → (site : Site) × (site_of_index segments o i ≡ Some site)
@@ -128,3 +128,7 @@ stands w F whole rep = record {
   scanned = λ most M is. one_scan (bytes_of w.array.parts) M (key_at w.array) is (headers w.array F whole rep.array most);
   headers = λ most. headers w.array F whole rep.array most;
 }
+
+-- and of its headers
+pub has_headers : (w : WorldView) (F : Flat) → IsWhole w.array → Represents w F → IsOneMissed w.array.parts → HasHeaders w
+has_headers w F whole rep most = let is = stands w F whole rep in record { here = is.here most; headers = is.headers most; scanned = is.scanned most }

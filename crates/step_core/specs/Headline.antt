@@ -1,7 +1,7 @@
 -- What holds of every state that a run leaves: every map that took exactly the emitted records is the array's; where each group
 -- misses at most one member it is the map of the headers, and no slot is lost; a read through it answers each block's last
--- write; and no slot has two holders.
-use Rattle.std.specs.Prelude.{◌≡◌, ◌<◌, ℕ, List, All, Option, Some, None}
+-- write; and no slot has two holders. And how a run leads from world to world.
+use Rattle.std.specs.Prelude.{◌≡◌, ◌⊎◌, ◌<◌, ℕ, List, [], ◌∷◌, All, Option, Some, None, slice_get}
 use Rattle.map_join.specs.declared.records.Record.{Record}
 use Rattle.map_join.specs.Record.{record_of}
 use Rattle.map_join.specs.Maps.{IsSame, IsMapOf, HasSameRecords}
@@ -12,9 +12,13 @@ use Rattle.array_parts.specs.Shows.{IsUnit}
 use Rattle.array_parts.specs.Views.{PartsView, IsLost, cells_of, lost_of}
 use Rattle.flat_machine.specs.Flat.{Flat, Write, HeldOnce, Content, Stored, content_in, last_write}
 use Rattle.flat_machine.specs.Steps.{FlatStep, FlatAnswer}
-use Rattle.flat_machine.specs.Cases.{Runs, NeverMissesTwo, TellsPresent}
+use Rattle.flat_machine.specs.Cases.{Case, IsWanted, Runs, NeverMissesTwo, TellsPresent}
 use Rattle.flat_machine.specs.Scanned.{IsScanned}
-use Rattle.array_model.specs.Views.{WorldView, key_at}
+use Rattle.array_model.specs.Views.{WorldView, SameSizes, key_at}
+use Rattle.array_model.specs.Represents.{Represents}
+use Rattle.step_core.specs.declared.step.Answer.{Answer}
+use Rattle.step_core.specs.declared.step.Step.{Step}
+use Rattle.step_core.specs.Told.{flat_answer, flat_step}
 
 -- what the drives have of a slot: the effective unit, where it exists
 abbrev pub bytes_of : PartsView → ℕ → Option (List ℕ)
@@ -55,3 +59,38 @@ pub record Stands (w : WorldView) (F : Flat) : Type 0 where
 pub record TellingRun (F : Flat) (steps : List FlatStep) (answers : List FlatAnswer) (G : Flat) : Type 0 where
   pub run : Runs F steps answers G
   pub present : NeverMissesTwo F steps answers G run → All TellsPresent answers
+
+-- something is true of every state that a world represents
+abbrev pub OfEach : WorldView → (Flat → Type 0) → Type 0
+OfEach w P = (G : Flat) → Represents w G → P G
+
+-- every map of a list with exactly the state's records, in any order and with any repeats, is the array's
+abbrev pub HasMaps : WorldView → Flat → Type 0
+HasMaps w F = (records : List Record) (M : ℕ → ℕ) → HasSameRecords records F.emitted → IsMapOf records M → IsSame M (key_at w.array)
+
+-- no slot is lost, and the map of the headers, which is one alone, is the array's
+pub record HasHeaders (w : WorldView) : Type 0 where
+  pub here : (slot : ℕ) → IsLost w.array.parts slot → ⊥
+  pub headers : IsScanned (bytes_of w.array.parts) (key_at w.array)
+  pub scanned : (M : ℕ → ℕ) → IsScanned (bytes_of w.array.parts) M → IsSame M (key_at w.array)
+
+-- for every block a read through the array's map finds its last write
+abbrev pub ReadsLast : WorldView → Flat → Type 0
+ReadsLast w F = (b : ℕ) → ReadsThrough w.array.parts F b (key_at w.array b)
+
+-- a step of a world, by the clauses of `World::step` where that returns an answer: it is its case of the flat machine for every
+-- state that the world represented, and the array's sizes stay
+pub record IsStep (w : WorldView) (step : Step) (answer : Answer) (v : WorldView) : Type 0 where
+  pub ok : (F : Flat) → Represents w F → (G : Flat) × Case F (flat_step step) (flat_answer answer) G × Represents v G
+  pub room : SameSizes w.array v.array
+
+-- these steps with these answers lead from one world to another: each step begins with the very world that the one before it
+-- left, and the last world is the one that the last step left
+abbrev pub StepsTo : WorldView → List Step → List Answer → WorldView → Type 0
+StepsTo w [] [] v = w ≡ v
+StepsTo w (step ∷ steps) (answer ∷ answers) v = (next : WorldView) × IsStep w step answer next × StepsTo next steps answers v
+StepsTo w steps answers v = ⊥
+
+-- why a run stops: out of memory before the first step, or at a step all of whose checks before its allocation pass
+abbrev pub IsStop : List Step → ℕ → Flat → Type 0
+IsStop steps at F = (at ≡ 0) ⊎ ((step : Step) × (slice_get steps at ≡ Some step) × IsWanted F (flat_step step))

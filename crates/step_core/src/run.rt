@@ -1,12 +1,12 @@
 // Runs of a world over a list of steps.
-ghost use Rattle.std.specs.Prelude.{◌≡◌, ◌⊎◌, ◌<◌, length, take, map, slice_get, All, MatchResult, IsTrue, ◌↔◌, IfOk, OnErr, Some};
-ghost use Rattle.flat_machine.specs.Flat.{Flat};
+ghost use Rattle.std.specs.Prelude.{◌≡◌, ◌⊎◌, ◌<◌, length, take, map, slice_get, All, MatchResult, IsTrue, ◌↔◌, IfOk, IfErr, OnErr, Some};
+ghost use Rattle.flat_machine.specs.Flat.{Flat, HeldOnce};
 ghost use Rattle.flat_machine.specs.Cases.{Case, IsWanted};
 ghost use Rattle.step_core.specs.Told.{flat_answer, flat_step, FitsStep};
 ghost use Rattle.step_core.specs.declared.step.Step.{Step};
 ghost use Rattle.array_model.specs.Views.{WorldView, SameSizes, IsWhole};
 ghost use Rattle.array_model.specs.Represents.{Represents};
-ghost use Rattle.step_core.specs.Headline.{Stands, TellingRun};
+ghost use Rattle.step_core.specs.Headline.{Stands, TellingRun, StepsTo, OfEach, HasMaps, IsOneMissed, HasHeaders, ReadsLast, IsStop};
 
 use crate::step::{Answer, Step};
 use crate::world::World;
@@ -126,11 +126,28 @@ impl World {
 /// Runs a world over steps that fit it.
 pub fn run_steps(alloc: Global, mut world: World, steps: &[Step]) -> Result<Run, Stopped>
     requires { All (FitsStep world.array.parts.groups) steps.now }
-    ensures { (F : Flat) → Represents world F → MatchResult result
+    ensures run { (F : Flat) → Represents world F → MatchResult result
         (λ run. (G : Flat) × TellingRun F (map flat_step steps.now) (map flat_answer run.answers.items) G × Represents run.world G × Stands run.world G)
         (λ stop. (G : Flat) × TellingRun F (map flat_step (take stop.at steps.now)) (map flat_answer stop.answers.items) G × Represents stop.world G × Stands stop.world G
         × (stop.at < length steps.now)
         × ((stop.at ≡ 0) ⊎ ((step : Step) × (slice_get steps.now stop.at ≡ Some step) × IsWanted G (flat_step step)))) }
+
+    // Step by step: each begins with the world that the one before it left, and one answer is given for each.
+    ensures worlds { MatchResult result (λ run. StepsTo world steps.now run.answers.items run.world)
+        (λ stop. StepsTo world (take stop.at steps.now) stop.answers.items stop.world) }
+    ensures answers { MatchResult result (λ run. length run.answers.items ≡ length steps.now)
+        (λ stop. (length stop.answers.items ≡ stop.at) × (stop.at < length steps.now)) }
+
+    // Of the world at the end, or where the run stopped.
+    ensures once { MatchResult result (λ run. OfEach run.world HeldOnce) (λ stop. OfEach stop.world HeldOnce) }
+    ensures maps { MatchResult result (λ run. OfEach run.world (HasMaps run.world)) (λ stop. OfEach stop.world (HasMaps stop.world)) }
+    ensures headers { (F : Flat) → Represents world F → MatchResult result
+        (λ run. IsOneMissed run.world.array.parts → HasHeaders run.world)
+        (λ stop. IsOneMissed stop.world.array.parts → HasHeaders stop.world) }
+    ensures reads { MatchResult result (λ run. OfEach run.world (ReadsLast run.world)) (λ stop. OfEach stop.world (ReadsLast stop.world)) }
+
+    // Why it stopped.
+    ensures stopped { IfErr result (λ stop. (stop.at ≡ 0 → stop.world ≡ world) × OfEach stop.world (IsStop steps.now stop.at)) }
 {
     world.whole();
     let mut answers = match Vec::with_capacity(alloc, steps.len()) {
