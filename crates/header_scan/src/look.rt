@@ -1,8 +1,8 @@
 // The header of one slot.
-ghost use Rattle.std.specs.Prelude.{◌≡◌, IfOk, IfErr, Ok};
+ghost use Rattle.std.specs.Prelude.{◌≡◌, ◌*◌, length, IfOk, IfErr, Ok};
 ghost use Rattle.extents.specs.declared.header.Header.{Header};
 ghost use Rattle.extents.specs.Header.{Spells, record_in};
-ghost use Rattle.extent_groups.specs.Stores.{unit_of, AreSound, KeepsUnits};
+ghost use Rattle.extent_groups.specs.Stores.{unit_bytes, unit_of, AreSound, KeepsUnits};
 ghost use Rattle.array_parts.specs.Slots.{IsSlot};
 ghost use Rattle.header_scan.specs.Faults.{IsFine, IsRanged, Tells, IsFaultAt, IsMisfit};
 
@@ -52,9 +52,11 @@ pub(crate) fn look<U: Units>(
     units: &mut U,
     slot: u16,
     blocks: u32,
+    scratch: &mut [u8],
 ) -> Result<Option<Record>, ScanFault>
     requires fits { U.fits units.old }
     requires slot { IsSlot (U.groups units.old) slot }
+    requires scratch { length scratch.old ≡ 2 * unit_bytes (U.groups units.old) }
     ensures ok { AreSound (U.groups units.old) (U.cells units.old) → IfOk result (Tells blocks (unit_of (U.groups units.old) (U.cells units.old)) slot) }
     ensures err { AreSound (U.groups units.old) (U.cells units.old) → IfErr result (IsFaultAt blocks (unit_of (U.groups units.old) (U.cells units.old)) (unit_of (U.groups units.new) (U.cells units.new)) slot) }
     ensures inside { IfOk result (IsFine blocks slot) }
@@ -66,8 +68,7 @@ pub(crate) fn look<U: Units>(
     ensures leaves { U.leaves units.old units.new }
 {
     let mut header = [0; HEADER_BYTES];
-    let mut scratch = [0; HEADER_BYTES];
-    match units.header(slot, &mut header, &mut scratch) {
+    match units.header(slot, &mut header, scratch) {
         Ok(()) => judge(told_by(&header), slot, blocks),
         Err(_) => Err(ScanFault::Gone(slot)),
     }

@@ -3,7 +3,7 @@ ghost use Rattle.std.specs.Prelude.{◌≡◌, ℕ, ◌+◌, ◌*◌, ◌^◌, �
 ghost use Rattle.map_join.specs.Maps.{at};
 ghost use Rattle.extent_groups.specs.Cells.{Cells};
 ghost use Rattle.extent_groups.specs.Groups.{group_at, slots_in};
-ghost use Rattle.extent_groups.specs.Stores.{unit_of, AreSound};
+ghost use Rattle.extent_groups.specs.Stores.{unit_bytes, unit_of, AreSound};
 ghost use Rattle.flat_machine.specs.Scanned.{IsScanned};
 ghost use Rattle.flat_machine.specs.Restarted.{HasPlaces};
 ghost use Rattle.header_scan.specs.Faults.{AreFine, IsFirstFault, IsTwice, between};
@@ -27,18 +27,20 @@ fn count_slots(groups: &GroupTable, group: u16) -> u16
     groups.slots_of(group)
 }
 
-/// Notes the headers of the slots of one group.
+/// Notes the headers of the slots of one group, with a buffer of two units' length.
 pub(crate) fn scan_group<U: Units>(
     alloc: Global,
     units: &mut U,
     group: u16,
     blocks: u32,
     found: &mut Found,
+    scratch: &mut [u8],
 ) -> Result<(), ScanFault>
     requires fits { U.fits units.old }
     requires group { group < 512 }
     requires blocks { blocks ≡ (U.groups units.old).blocks }
     requires many { length found.old.newest ≡ blocks }
+    requires scratch { length scratch.old ≡ 2 * unit_bytes (U.groups units.old) }
     ensures many { OnOk result (length found.new.newest ≡ blocks) }
     ensures ok { (low : ℕ) (start : Cells) → low ≤ 128 * group
         → IsUnderway (U.groups units.old) start (U.cells units.old) low (128 * group) (key_in found.old.newest) (at found.old.twins)
@@ -54,7 +56,7 @@ pub(crate) fn scan_group<U: Units>(
     ensures leaves { U.leaves units.old units.new }
 {
     for index in 0..count_slots(units.groups(), group) {
-        let told = match look(units, SLOTS * group + index, blocks) {
+        let told = match look(units, SLOTS * group + index, blocks, scratch) {
             Ok(told) => told,
             Err(fault) => return Err(fault),
         };
@@ -88,8 +90,12 @@ fn note_groups<U: Units>(
     ensures fits { U.fits units.new }
     ensures leaves { U.leaves units.old units.new }
 {
-    let blocks = units.groups().shape().blocks;
+    let shape = units.groups().shape();
+    let blocks = shape.blocks;
     let Ok(newest) = Keys::new(alloc, blocks) else {
+        return Err(ScanFault::Memory);
+    };
+    let Ok(mut scratch) = vec![in alloc; 0; 2 * shape.unit_bytes()] else {
         return Err(ScanFault::Memory);
     };
     let mut found = Found {
@@ -97,7 +103,7 @@ fn note_groups<U: Units>(
         twins: BlockMap::new(alloc),
     };
     for group in first..end {
-        match scan_group(alloc, units, group, blocks, &mut found) {
+        match scan_group(alloc, units, group, blocks, &mut found, &mut scratch) {
             Ok(()) => {}
             Err(fault) => return Err(fault),
         }
