@@ -73,6 +73,19 @@ still_ready units lost failures a p unit scratch same fit ready =
       live = ready.live;
     }
 
+-- the same where one buffer alone was written over
+pub scratch_ready : {D C : Type 0} (units : D → List (List ℕ)) (lost : D → Bool) (failures : D → Failures) (a : Inside D C) (p : Parts D) (scratch : List ℕ)
+    → Keeps (view_of units lost failures a.parts) (view_of units lost failures p) → IsFit units p → IsReady units a
+    → IsReady units (record a { parts = p; scratch = with_items a.scratch scratch })
+scratch_ready units lost failures a p scratch same fit ready =
+    let groups = ap (λ (z : Groups). unit_bytes z) (sym same.tables.groups) in record {
+      fit = fit;
+      unit = ready.unit ∙ groups;
+      scratch = length_again a.scratch scratch ∙ ready.scratch ∙ ap (λ n. 2 * n) groups;
+      places = subst (λ (z : Groups). HavePlaces z (vec_len a.places)) (sym same.tables.groups) ready.places;
+      live = ready.live;
+    }
+
 -- so all of it holds that is always true of an array
 pub still_stands : {D C Claims : Type 0} (units : D → List (List ℕ)) (lost : D → Bool) (failures : D → Failures) (a : Inside D C) (p : Parts D) (unit scratch : List ℕ)
     → Keeps (view_of units lost failures a.parts) (view_of units lost failures p) → IsFit units p → IsWhole (seen units lost failures a) × Claims × IsReady units a

@@ -9,7 +9,7 @@ use Rattle.array_parts.proofs.Calls.{loses_view}
 use Rattle.array_parts.proofs.Views.{view_cells}
 use Rattle.array_model.specs.Views.{ArrayView, with_parts}
 use Rattle.array_core.specs.Inside.{seen}
-use Rattle.array_core.proofs.Ready.{loses_keeps, still_whole, parts_ready}
+use Rattle.array_core.proofs.Ready.{loses_keeps, still_whole, scratch_ready}
 use Rattle.array_core.proofs.array.Array.header_at.Goals as goal
 
 pub returns-clause-ok : goal.returns-clause-ok
@@ -63,5 +63,5 @@ invariant_of-self g c =
     let loses : Loses a b = loses_view d.units d.lost d.failures c.self.inside.parts c.read_header.new.self e.only.tables e.fares e.units e.sound in (
       still_whole d.units d.lost d.failures c.self.inside c.read_header.new.self (loses_keeps a b loses) e.fit c.self.invariant.0,
       c.self.invariant.1,
-      parts_ready d.units c.self.inside c.read_header.new.self e.only.tables.groups e.fit c.self.invariant.2,
+      scratch_ready d.units d.lost d.failures c.self.inside c.read_header.new.self c.read_header.new.scratch (loses_keeps a b loses) e.fit c.self.invariant.2,
     )
