@@ -6,7 +6,7 @@ ghost use Rattle.extents.specs.Units.{IsSized};
 ghost use Rattle.array_parts.specs.Fit.{IsFit};
 
 use crate::plain::PlainDrive;
-use crate::rig::{SIZE, fill_from, is_of, is_slot, members_on, zeros};
+use crate::rig::{SIZE, byte_at, fill_from, is_of, is_slot, members_on, zeros};
 use array_parts::{Parts, Units};
 use extent_groups::{Class, GroupTable, are_there, put_check};
 use extents::{Drive, ExtentTable, HEADER_BYTES, MemDrive, Shape};
@@ -52,10 +52,7 @@ impl Tried for MemDrive {
 impl Tried for PlainDrive {
     fn made(rt: &impl Abort, alloc: Global, shape: &Shape, call: u64) -> PlainDrive {
         assert!(rt; call > 0);
-        let Ok(drive) = PlainDrive::new(alloc, shape, call - 1) else {
-            panic!(rt; "no drive")
-        };
-        drive
+        PlainDrive::new(rt, alloc, shape, call - 1)
     }
 
     fn has(&self, size: usize) -> bool {
@@ -209,20 +206,23 @@ impl<D: Tried> Trial<D> {
     }
 
     /// Whether the buffered unit is what `give` gave.
-    fn is_given(&self, rt: &impl Abort, slot: u16, byte: u8) -> bool {
-        assert!(rt; self.unit.len() == SIZE);
+    fn is_given(&self, slot: u16, byte: u8) -> bool {
         if slot % 2 == 0 {
             return is_of(&self.unit, byte);
         }
-        is_of(&self.unit[..HEADER_BYTES], 0) && is_of(&self.unit[HEADER_BYTES..], byte)
+        // A blank header, and then the payload.
+        self.unit.iter().enumerate().all(|(at, value)| *value
+            == at
+                .checked_sub(HEADER_BYTES)
+                .map_or(0, |at| byte_at(byte, at)))
     }
 
     /// Whether a slot's unit and its header are what `give` gave, in each way to read them.
     fn holds(&mut self, rt: &impl Abort, slot: u16, byte: u8) -> bool {
-        if self.read(rt, slot).is_err() || !self.is_given(rt, slot, byte) {
+        if self.read(rt, slot).is_err() || !self.is_given(slot, byte) {
             return false;
         }
-        if self.unit(rt, slot).is_err() || !self.is_given(rt, slot, byte) {
+        if self.unit(rt, slot).is_err() || !self.is_given(slot, byte) {
             return false;
         }
         match self.header(rt, slot) {

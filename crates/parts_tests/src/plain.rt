@@ -1,11 +1,13 @@
 // A drive that has the methods which a drive has to have, and no more.
-ghost use Rattle.std.specs.Prelude.{◌≡◌, ◌^◌, ◌<◌, ◌→◌, true, not, length, IsTrue};
+ghost use Rattle.std.specs.Prelude.{◌≡◌, true, false, not, length, IsTrue};
 ghost use Rattle.extents.specs.Failures.{unsteady};
 ghost use Rattle.extents.specs.Units.{IsSized, loss};
 
+use crate::rig::zeros;
 use extents::{Drive, DriveLost, Shape};
-use std::alloc::{AllocError, Global};
+use std::alloc::Global;
 use std::marker::Model;
+use std::process::Abort;
 
 /// The bytes of a unit.
 #[derive(Drop)]
@@ -55,19 +57,20 @@ pub(crate) struct PlainDrive {
 
 impl PlainDrive {
     /// A drive of zeros, with the units of this shape, that answers as many calls.
-    pub(crate) fn new(alloc: Global, shape: &Shape, left: u64) -> Result<PlainDrive, AllocError> {
+    pub(crate) fn new(rt: &impl Abort, alloc: Global, shape: &Shape, left: u64) -> PlainDrive {
         let count = shape.drive_units();
         let mut units = Vec::new(alloc);
         for _unit in 0..count {
-            let bytes = vec![in alloc; 0; shape.unit_bytes()]?;
-            units.push(Unit { bytes })?;
+            let bytes = zeros(rt, alloc, shape.unit_bytes());
+            assert!(rt; units.push(Unit { bytes }).is_ok());
         }
-        Ok(PlainDrive {
+        assert!(rt; units.len() == count as usize);
+        PlainDrive {
             units,
             count,
             left,
             lost: false,
-        })
+        }
     }
 
     /// Whether each unit has this length.

@@ -43,7 +43,7 @@ pub(crate) fn record(block: u32, version: u32, hop: u16, place: u16) -> Record {
 }
 
 /// The byte at an index of the bytes that a first byte names: all different, or zeros for 0.
-fn byte_at(first: u8, at: usize) -> u8 {
+pub(crate) fn byte_at(first: u8, at: usize) -> u8 {
     if first == 0 {
         return 0;
     }
