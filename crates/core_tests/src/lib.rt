@@ -8,6 +8,8 @@ mod counts;
 #[cfg(test)]
 mod learned;
 #[cfg(test)]
+mod merges;
+#[cfg(test)]
 mod reads;
 #[cfg(test)]
 mod restarts;
@@ -15,5 +17,7 @@ mod restarts;
 mod rig;
 #[cfg(test)]
 mod trims;
+#[cfg(test)]
+mod units;
 #[cfg(test)]
 mod unmakes;

@@ -6,7 +6,7 @@ use step_core::{Array, At, Class, Done, MemDrive, Member, Plain, Reading, Refusa
 
 pub(crate) type Memory = Array<MemDrive, Plain>;
 
-/// Payloads of eight bytes, each named by its first one, and sixteen blocks.
+/// Payloads of 24 bytes, each named by its first one, and sixteen blocks.
 #[derive(Drop)]
 pub(crate) struct Rig {
     pub(crate) array: Memory,
@@ -41,9 +41,9 @@ pub(crate) fn members_on(drives: [u8; 3], extent: u16) -> [Member; 3] {
     ]
 }
 
-// Eight bytes that are all different, of which this is the first.
-fn payload_of(byte: u8) -> [u8; 8] {
-    let mut payload = [0; 8];
+/// A payload of bytes that are all different, of which this is the first.
+pub(crate) fn payload_of(byte: u8) -> [u8; 24] {
+    let mut payload = [0; 24];
     let mut next = byte;
     for slot in payload.iter_mut() {
         *slot = next;
@@ -71,7 +71,7 @@ pub(crate) fn is_refused(
 
 // An array of `drives` drives, with no group.
 fn new_array(rt: &impl Abort, alloc: Global, drives: u8) -> Memory {
-    let Ok(shape) = Shape::new(8, 2, 8, 16) else {
+    let Ok(shape) = Shape::new(8, 2, 24, 16) else {
         panic!(rt; "no shape")
     };
     assert!(rt; 3 <= drives && drives <= 16);
@@ -82,8 +82,8 @@ fn new_array(rt: &impl Abort, alloc: Global, drives: u8) -> Memory {
 }
 
 impl Rig {
-    /// An array of `drives` drives, of which 0 to 2 have a mirrored group: slot 0 lies on drives 0 and 1, slot 1 on 1 and 2,
-    /// slot 2 on 2 and 0.
+    /// An array of `drives` drives, of which 0 to 2 have a mirrored group: slots 0 and 1 lie on drives 0 and 1, slots 2 and 3
+    /// on 2 and 0, slots 4 and 5 on 1 and 2.
     pub(crate) fn new(rt: &impl Abort, alloc: Global, drives: u8) -> Rig {
         let array = new_array(rt, alloc, drives);
         let mut rig = Rig { array, alloc };
@@ -112,7 +112,7 @@ impl Rig {
         slot: u16,
         byte: u8,
     ) -> Result<Ticket, (Refusal, Plain)> {
-        assert!(rt; self.array.shape().payload == 8);
+        assert!(rt; self.array.shape().payload == 24);
         self.array
             .fill(self.alloc, Plain { slot }, &payload_of(byte))
     }

@@ -1,11 +1,11 @@
 // Each drive fused at each call of a case, until the fuse isn't reached.
 use crate::answers::is_answer;
 use crate::case::{Case, Part};
-use crate::growths::map_of;
+use crate::growths::{Memory, map_of};
 use crate::runs::run;
 use crate::trouble::Trouble;
 use crate::words::Words;
-use map_join::BlockMap;
+use map_join::{BlockMap, Record};
 use std::alloc::Global;
 use step_core::{Answer, Member, Refusal, Step, World};
 
@@ -128,12 +128,20 @@ fn is_lost(answer: &Answer, drive: u8) -> bool {
     }
 }
 
-// What a refused move leaves: its group's members, the map, and how many records were emitted.
+// All records that were emitted, in their order.
+fn log_of(alloc: Global, array: &Memory) -> Result<Vec<Record>, Trouble> {
+    match array.records_from(alloc, 0) {
+        Ok(log) => Ok(log),
+        Err(_) => Err(Trouble::Memory),
+    }
+}
+
+// What a refused move leaves: its group's members, the map, and the log.
 #[derive(Drop)]
 struct Kept {
     members: Vec<Member>,
     map: BlockMap,
-    records: usize,
+    log: Vec<Record>,
 }
 
 impl Kept {
@@ -146,13 +154,13 @@ impl Kept {
         Ok(Kept {
             members: array.groups().members(group).to_vec(alloc)?,
             map: map_of(alloc, array)?,
-            records: array.record_count(),
+            log: log_of(alloc, array)?,
         })
     }
 
     fn is_same(&self, other: &Kept) -> bool {
         self.members.as_slice() == other.members.as_slice()
             && self.map.agrees(&other.map)
-            && self.records == other.records
+            && self.log.as_slice() == other.log.as_slice()
     }
 }

@@ -5,7 +5,7 @@ use flat_machine::Refusal;
 use std::alloc::Global;
 use std::process::Abort;
 
-/// Writes sevens to the units of the first two extents of all drives.
+/// Writes units that a seven names to the first two extents of all drives.
 fn soil(rt: &impl Abort, rig: &mut Rig) {
     for drive in 0..4 {
         for at in 0..8 {
@@ -14,7 +14,7 @@ fn soil(rt: &impl Abort, rig: &mut Rig) {
     }
 }
 
-/// Whether the units from one address on, before another, are of this byte on each of these drives.
+/// Whether the units from one address on, before another, are what this byte names on each of these drives.
 fn hold(rt: &impl Abort, rig: &mut Rig, drives: &[usize], first: u32, end: u32, byte: u8) -> bool {
     for drive in drives {
         for at in first..end {

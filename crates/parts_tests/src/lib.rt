@@ -2,7 +2,11 @@
 #![tactic(auto)]
 
 #[cfg(test)]
+mod alike;
+#[cfg(test)]
 mod entries;
+#[cfg(test)]
+mod plain;
 #[cfg(test)]
 mod restarts;
 #[cfg(test)]

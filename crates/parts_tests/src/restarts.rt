@@ -1,5 +1,5 @@
 // Arrays rebuilt from drives that were written manually: the last version, the last hop, and one of each fault.
-use crate::rig::{Restarted, Rig, record, restart_parts};
+use crate::rig::{Restarted, Rig, fill_from, is_of, record, restart_parts};
 use array_parts::Parts;
 use extents::MemDrive;
 use flat_machine::Refusal;
@@ -85,8 +85,10 @@ fn fails(rt: &impl Abort, alloc: Global, rig: Rig, wanted: ScanFault) -> bool {
 
 /// Fills a slot.
 fn fill(rt: &impl Abort, alloc: Global, array: &mut Memory, claim: Plain) -> Ticket {
-    assert!(rt; array.shape().payload == 8);
-    let Ok(ticket) = array.fill(alloc, claim, &[0x11; 8]) else {
+    assert!(rt; array.shape().payload == 24);
+    let mut payload = [0; 24];
+    fill_from(&mut payload, 0x11);
+    let Ok(ticket) = array.fill(alloc, claim, &payload) else {
         panic!(rt; "not filled")
     };
     ticket
@@ -112,11 +114,11 @@ fn copy(rt: &impl Abort, alloc: Global, array: &mut Memory, slot: u16) -> (Refus
     refused
 }
 
-/// Whether block 3 reads as this version, with eight of this byte.
+/// Whether block 3 reads as this version, with the payload that this byte names.
 fn reads(rt: &impl Abort, alloc: Global, array: &mut Memory, version: u32, byte: u8) -> bool {
     assert!(rt; array.shape().blocks == 16);
     match array.read(alloc, 3) {
-        Ok(Some((told, payload))) => told == version && payload.as_slice() == [byte; 8].as_slice(),
+        Ok(Some((told, payload))) => told == version && is_of(&payload, byte),
         _ => false,
     }
 }

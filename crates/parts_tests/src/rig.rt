@@ -20,16 +20,16 @@ use std::process::Abort;
 use step_core::{Array, Plain};
 
 /// Bytes of a unit, header and payload.
-pub(crate) const SIZE: usize = 40;
+pub(crate) const SIZE: usize = 56;
 
-/// Four drives of eight extents of two segments, and payloads of eight bytes.
+/// Four drives of eight extents of two segments, and payloads of 24 bytes.
 #[derive(Drop)]
 pub(crate) struct Rig {
     pub(crate) parts: Parts<MemDrive>,
     /// What the last read gave, or what the next write writes.
     pub(crate) unit: Vec<u8>,
     /// What the last sight or reading of a payload gave.
-    pub(crate) payload: [u8; 8],
+    pub(crate) payload: [u8; 24],
     scratch: Vec<u8>,
 }
 
@@ -42,13 +42,36 @@ pub(crate) fn record(block: u32, version: u32, hop: u16, place: u16) -> Record {
     }
 }
 
-/// Whether each byte is this one.
-pub(crate) fn is_all(unit: &[u8], wanted: u8) -> bool {
-    unit.iter().all(|byte| *byte == wanted)
+/// The byte at an index of the bytes that a first byte names: all different, or zeros for 0.
+pub(crate) fn byte_at(first: u8, at: usize) -> u8 {
+    if first == 0 {
+        return 0;
+    }
+    first.wrapping_add(((at % 256) as u8).wrapping_mul(29))
+}
+
+/// Fills a buffer with the bytes that this first one names.
+pub(crate) fn fill_from(bytes: &mut [u8], first: u8) {
+    for (at, byte) in bytes.iter_mut().enumerate() {
+        *byte = byte_at(first, at);
+    }
+}
+
+/// Whether these are the bytes that this first one names.
+pub(crate) fn is_of(bytes: &[u8], first: u8) -> bool {
+    bytes
+        .iter()
+        .enumerate()
+        .all(|(at, byte)| *byte == byte_at(first, at))
+}
+
+/// Whether these are the exclusive or of what two first bytes name.
+fn is_of_both(bytes: &[u8], one: u8, other: u8) -> bool {
+    bytes.iter().enumerate().all(|(at, byte)| *byte == byte_at(one, at) ^ byte_at(other, at))
 }
 
 /// A buffer of `size` zeros.
-fn zeros(rt: &impl Abort, alloc: Global, size: usize) -> Vec<u8> {
+pub(crate) fn zeros(rt: &impl Abort, alloc: Global, size: usize) -> Vec<u8> {
     let Ok(bytes) = vec![in alloc; 0; size] else {
         panic!(rt; "no buffer")
     };
@@ -68,7 +91,12 @@ fn four_drives(rt: &impl Abort, alloc: Global, shape: &Shape) -> Vec<MemDrive> {
 }
 
 /// An extent of this number on each of these drives in turn.
-fn members_on(rt: &impl Abort, alloc: Global, drives: &[u8], extent: u16) -> Vec<Member> {
+pub(crate) fn members_on(
+    rt: &impl Abort,
+    alloc: Global,
+    drives: &[u8],
+    extent: u16,
+) -> Vec<Member> {
     let mut members = Vec::new(alloc);
     for drive in drives {
         let member = Member {
@@ -97,7 +125,7 @@ fn are_sized(drives: &[MemDrive], size: usize) -> bool
 }
 
 /// Whether the slot is one of a made group.
-fn is_slot(groups: &GroupTable, slot: u16) -> bool
+pub(crate) fn is_slot(groups: &GroupTable, slot: u16) -> bool
     ensures { IsTrue result → IsSlot groups.now slot }
 {
     slot % SLOTS < groups.slots_of(slot / SLOTS)
@@ -125,7 +153,7 @@ pub(crate) fn restart_parts(
 impl Rig {
     /// Drives all of whose units are zero, and no group.
     pub(crate) fn new(rt: &impl Abort, alloc: Global) -> Rig {
-        let Ok(shape) = Shape::new(8, 2, 8, 16) else {
+        let Ok(shape) = Shape::new(8, 2, 24, 16) else {
             panic!(rt; "no shape")
         };
         let Ok(groups) = GroupTable::new(alloc, &shape) else {
@@ -144,7 +172,7 @@ impl Rig {
                 note: None,
             },
             unit: zeros(rt, alloc, SIZE),
-            payload: [0; 8],
+            payload: [0; 24],
             scratch: zeros(rt, alloc, 2 * SIZE),
         }
     }
@@ -196,23 +224,24 @@ impl Rig {
         self.parts.write(slot, &self.unit, &mut self.scratch)
     }
 
-    /// Writes a unit of one byte throughout to a slot.
+    /// Writes a unit that this byte names to a slot.
     pub(crate) fn write(&mut self, rt: &impl Abort, slot: u16, byte: u8) -> Result<(), Refusal> {
-        self.unit.fill(byte);
+        fill_from(&mut self.unit, byte);
         self.store(rt, slot)
     }
 
-    /// Writes a unit of one byte throughout to a slot, which is not refused.
+    /// Writes a unit that this byte names to a slot, which is not refused.
     pub(crate) fn writes(&mut self, rt: &impl Abort, slot: u16, byte: u8) {
         assert!(rt; self.write(rt, slot, byte).is_ok());
     }
 
-    /// Puts a payload of one byte throughout under a blank header in a slot, which is not refused.
+    /// Puts a payload that this byte names under a blank header in a slot, which is not refused.
     pub(crate) fn put(&mut self, rt: &impl Abort, slot: u16, byte: u8) {
         assert!(rt; self.is_ready());
         assert!(rt; is_slot(&self.parts.groups, slot));
-        assert!(rt; self.parts.groups.shape().payload == 8);
-        let payload = [byte; 8];
+        assert!(rt; self.parts.groups.shape().payload == 24);
+        let mut payload = [0; 24];
+        fill_from(&mut payload, byte);
         let put = self
             .parts
             .put(slot, &payload, &mut self.unit, &mut self.scratch);
@@ -239,9 +268,9 @@ impl Rig {
         }
     }
 
-    /// Whether a slot's unit is of this byte.
+    /// Whether a slot's unit is what this byte names.
     pub(crate) fn holds(&mut self, rt: &impl Abort, slot: u16, byte: u8) -> bool {
-        self.read(rt, slot).is_ok() && is_all(&self.unit, byte)
+        self.read(rt, slot).is_ok() && is_of(&self.unit, byte)
     }
 
     /// Whether a read of a slot is refused as gone.
@@ -249,9 +278,21 @@ impl Rig {
         self.read(rt, slot) == Err(Refusal::Gone(slot))
     }
 
-    /// Whether the unit at an address of a drive is of this byte.
+    /// Whether the unit at an address of a drive is what this byte names.
     pub(crate) fn drive_holds(&mut self, rt: &impl Abort, drive: usize, at: u32, byte: u8) -> bool {
-        self.peek(rt, drive, at) && is_all(&self.unit, byte)
+        self.peek(rt, drive, at) && is_of(&self.unit, byte)
+    }
+
+    /// Whether the unit at an address of a drive is the exclusive or of what two bytes name.
+    pub(crate) fn drive_holds_both(
+        &mut self,
+        rt: &impl Abort,
+        drive: usize,
+        at: u32,
+        one: u8,
+        other: u8,
+    ) -> bool {
+        self.peek(rt, drive, at) && is_of_both(&self.unit, one, other)
     }
 
     /// Sets a byte of what a slot holds, which is not refused.
@@ -294,7 +335,7 @@ impl Rig {
     ) -> Result<(), Refusal> {
         let members = members_on(rt, alloc, drives, extent);
         assert!(rt; self.is_ready());
-        assert!(rt; self.parts.groups.shape().payload == 8);
+        assert!(rt; self.parts.groups.shape().payload == 24);
         assert!(rt; self.parts.groups.is_free(group));
         assert!(rt; are_there(&self.parts.extents, &members));
         assert!(rt; put_check(&self.parts.extents, &members).is_none());
@@ -369,7 +410,7 @@ impl Rig {
     pub(crate) fn take_payload(&mut self, rt: &impl Abort, slot: u16) -> Result<Kind, Refusal> {
         assert!(rt; self.is_ready());
         assert!(rt; is_slot(&self.parts.groups, slot));
-        assert!(rt; self.parts.groups.shape().payload == 8);
+        assert!(rt; self.parts.groups.shape().payload == 24);
         self.parts
             .payload(slot, &mut self.payload, &mut self.unit, &mut self.scratch)
     }
@@ -378,7 +419,7 @@ impl Rig {
     pub(crate) fn see(&mut self, rt: &impl Abort, asked: Record) -> Result<Sight, Refusal> {
         assert!(rt; self.is_ready());
         assert!(rt; is_slot(&self.parts.groups, asked.place));
-        assert!(rt; self.parts.groups.shape().payload == 8);
+        assert!(rt; self.parts.groups.shape().payload == 24);
         self.parts.see(&asked, &mut self.payload, &mut self.unit, &mut self.scratch)
     }
 
@@ -424,9 +465,9 @@ impl Rig {
         drive.read_unit(at, &mut self.unit).is_ok()
     }
 
-    /// Writes a unit of one byte throughout at an address of a drive, on the drive itself.
+    /// Writes a unit that this byte names at an address of a drive, on the drive itself.
     pub(crate) fn poke(&mut self, rt: &impl Abort, drive: usize, at: u32, byte: u8) -> bool {
-        self.unit.fill(byte);
+        fill_from(&mut self.unit, byte);
         let Some(drive) = self.parts.drives.get_mut(drive) else {
             panic!(rt; "no drive")
         };

@@ -9,7 +9,7 @@ fn extent(drive: u8, extent: u16) -> Member {
     Member { drive, extent }
 }
 
-/// Fills slots from one on with bytes from another on, one for each.
+/// Fills slots from one on with units that bytes from another on name, one for each.
 fn fill(rt: &impl Abort, rig: &mut Rig, first: u16, count: u8, byte: u8) {
     for index in 0..count {
         rig.writes(
@@ -20,7 +20,7 @@ fn fill(rt: &impl Abort, rig: &mut Rig, first: u16, count: u8, byte: u8) {
     }
 }
 
-/// Whether slots from one on hold bytes from another on, one for each.
+/// Whether slots from one on hold units that bytes from another on name, one for each.
 fn are_filled(rt: &impl Abort, rig: &mut Rig, first: u16, count: u8, byte: u8) -> bool {
     for index in 0..count {
         if !rig.holds(
@@ -98,7 +98,7 @@ fn a_lost_member_is_rebuilt_with_its_parity(rt: HostRuntime) {
 
     // Index 2 is the first of the second member; the parity of the second stripe is on it.
     assert!(rt; rig.drive_holds(&rt, 3, 0, 42));
-    assert!(rt; rig.drive_holds(&rt, 3, 2, 44 ^ 46));
+    assert!(rt; rig.drive_holds_both(&rt, 3, 2, 44, 46));
     rig.lose(&rt, 0);
     assert!(rt; are_filled(&rt, &mut rig, 128, 8, 40));
     assert!(rt; rig.is_first_gone(&rt, 1, None));

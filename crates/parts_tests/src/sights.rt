@@ -1,5 +1,5 @@
 // What is seen at the places of records, and payloads read, in both classes: with all drives there, one lost, and two.
-use crate::rig::{Rig, is_all, record};
+use crate::rig::{Rig, is_of, record};
 use array_parts::Sight;
 use extents::Kind;
 use flat_machine::Refusal;
@@ -8,8 +8,8 @@ use std::alloc::Global;
 use std::process::Abort;
 
 /// Slots 0 to 5 are mirrored, slots 128 to 135 have parity. Block 5 is at slot 4 with nines, blocks 3 and 7 at slots 130 and
-/// 134 with eights, which slot 1 holds without a record. Slot 131 holds sixes without one. Slots 2 and 133 hold bytes that
-/// begin with no header.
+/// 134 with eights, which slot 1 holds without a record. Slot 131 holds sixes without one. Slots 2 and 133 hold units that a
+/// seven names, which begin with no header. A number names bytes by the first of them, as in `Rig`.
 fn filled(rt: &impl Abort, alloc: Global) -> Rig {
     let mut rig = Rig::grouped(rt, alloc);
     rig.put(rt, 4, 9);
@@ -26,10 +26,10 @@ fn filled(rt: &impl Abort, alloc: Global) -> Rig {
     rig
 }
 
-/// Whether exactly this record lies at its place, with a payload of this byte.
+/// Whether exactly this record lies at its place, with the payload that this byte names.
 fn sees(rt: &impl Abort, rig: &mut Rig, asked: Record, byte: u8) -> bool {
-    rig.payload = [0; 8];
-    rig.see(rt, asked) == Ok(Sight::Here(Kind::Data)) && is_all(&rig.payload, byte)
+    rig.payload = [0; 24];
+    rig.see(rt, asked) == Ok(Sight::Here(Kind::Data)) && is_of(&rig.payload, byte)
 }
 
 /// Whether another record lies at its place, or none.
@@ -37,10 +37,10 @@ fn is_stale(rt: &impl Abort, rig: &mut Rig, asked: Record, found: Option<Record>
     rig.see(rt, asked) == Ok(Sight::Stale(found))
 }
 
-/// Whether a slot's payload is of this byte.
+/// Whether a slot's payload is what this byte names.
 fn reads(rt: &impl Abort, rig: &mut Rig, slot: u16, byte: u8) -> bool {
-    rig.payload = [1; 8];
-    rig.take_payload(rt, slot) == Ok(Kind::Data) && is_all(&rig.payload, byte)
+    rig.payload = [1; 24];
+    rig.take_payload(rt, slot) == Ok(Kind::Data) && is_of(&rig.payload, byte)
 }
 
 /// Whether a slot is refused as gone, by a look for this record there and by a reading of its payload.
@@ -68,7 +68,8 @@ fn see_all(rt: &impl Abort, rig: &mut Rig) {
 
 /// Reads the payloads of both classes, under any header or none.
 fn read_all(rt: &impl Abort, rig: &mut Rig) {
-    let payloads = [(1, 8), (2, 7), (4, 9), (130, 8), (131, 6), (133, 7)];
+    // After the 32 bytes of a header the bytes that a seven names go on with 7 + 29 * 32, which is 167 and whole 256s.
+    let payloads = [(1, 8), (2, 167), (4, 9), (130, 8), (131, 6), (133, 167)];
     for (slot, byte) in &payloads {
         assert!(rt; reads(rt, rig, *slot, *byte));
     }

@@ -28,7 +28,7 @@ fn the_parity_of_three_members_is_the_exclusive_or(rt: HostRuntime) {
     rig.writes(&rt, 128, 0x5A);
     assert!(rt; rig.drive_holds(&rt, 3, 4, 0x5A));
     rig.writes(&rt, 130, 0x33);
-    assert!(rt; rig.drive_holds(&rt, 3, 4, 0x69));
+    assert!(rt; rig.drive_holds_both(&rt, 3, 4, 0x5A, 0x33));
     rig.lose(&rt, 1);
     assert!(rt; rig.holds(&rt, 128, 0x5A));
 }

@@ -16,7 +16,7 @@ use step_core::{Answer, Refusal, World};
 
 /// Moves one extent from a drive of greatest load to one of least, of those pairs whose loads (extents in groups) are two
 /// apart or more; `Nothing` where there is no such pair, or none that may be moved.
-pub fn balance(world: &mut World, alloc: Global) -> Result<Regrouped, AllocError>
+pub fn balance(alloc: Global, world: &mut World) -> Result<Regrouped, AllocError>
     ensures ok { IfOk result (λ outcome. (F : Flat) → Represents world.old F → (G : Flat) × BalanceCase F outcome G × Represents world.new G) }
     ensures evens { IfOk result (λ outcome. IfMoved outcome (sum_of_squares world.new.array.parts.owners + 2 ≤ sum_of_squares world.old.array.parts.owners)) }
     ensures err { OnErr result (world.new ≡ world.old) }
@@ -24,7 +24,7 @@ pub fn balance(world: &mut World, alloc: Global) -> Result<Regrouped, AllocError
     ensures room { SameSizes world.old.array world.new.array }
 {
     match plan_balance(world) {
-        Some(shift) => carry_out(world, alloc, shift),
+        Some(shift) => carry_out(alloc, world, shift),
         None => Ok(Regrouped::Nothing),
     }
 }
@@ -32,7 +32,7 @@ pub fn balance(world: &mut World, alloc: Global) -> Result<Regrouped, AllocError
 /// Rebuilds one extent of a lost drive on a present one: that of the lowest group that has one there, on the drive of least
 /// load that has room and no member of the group. `Nothing` where the drive isn't lost, no group is on it, or that group has
 /// no such drive; refused as a bad member where there is no drive of that number.
-pub fn rebuild(world: &mut World, alloc: Global, drive: u8) -> Result<Regrouped, AllocError>
+pub fn rebuild(alloc: Global, world: &mut World, drive: u8) -> Result<Regrouped, AllocError>
     ensures ok { IfOk result (λ outcome. (F : Flat) → Represents world.old F → (G : Flat) × RebuildCase F drive outcome G × Represents world.new G) }
     ensures err { OnErr result (world.new ≡ world.old) }
     ensures wants { OnErr result ((F : Flat) → Represents world.old F → (s : Shift) × IsRebuildOf F drive (Some s) × IsWanted F (MoveExtent s.group s.member s.to)) }
@@ -42,7 +42,7 @@ pub fn rebuild(world: &mut World, alloc: Global, drive: u8) -> Result<Regrouped,
         return Ok(Regrouped::Refused(Refusal::BadMember));
     }
     match plan_rebuild(world, drive) {
-        Some(shift) => carry_out(world, alloc, shift),
+        Some(shift) => carry_out(alloc, world, shift),
         None => Ok(Regrouped::Nothing),
     }
 }
@@ -68,7 +68,7 @@ fn plan_rebuild(world: &World, drive: u8) -> Option<Shift>
 }
 
 // Moves the member that a plan names.
-fn carry_out(world: &mut World, alloc: Global, shift: Shift) -> Result<Regrouped, AllocError>
+fn carry_out(alloc: Global, world: &mut World, shift: Shift) -> Result<Regrouped, AllocError>
     ensures ok { IfOk result (λ outcome. (F : Flat) → Represents world.old F → (G : Flat) × ShiftCase F shift outcome G × Represents world.new G) }
     ensures evens { Evens world.old.array.parts.groups world.old.array.parts.owners shift
         → IfOk result (λ outcome. IfMoved outcome (sum_of_squares world.new.array.parts.owners + 2 ≤ sum_of_squares world.old.array.parts.owners)) }

@@ -346,7 +346,7 @@ fn balance(alloc: Global, bench: &mut Bench, out: &mut Vec<u8>) -> Result<(), Al
     ensures carried { OnOk result (Carries bench.old bench.new o.Balance out.old.items out.new.items) }
     ensures kept { IsPrefix out.old.items out.new.items }
 {
-    let outcome = regrouping::balance(&mut bench.tiers.world, alloc)?;
+    let outcome = regrouping::balance(alloc, &mut bench.tiers.world)?;
     put_regrouped(out, outcome)
 }
 
@@ -354,6 +354,6 @@ fn rebuild(alloc: Global, bench: &mut Bench, drive: u8, out: &mut Vec<u8>) -> Re
     ensures carried { OnOk result (Carries bench.old bench.new (o.Rebuild drive) out.old.items out.new.items) }
     ensures kept { IsPrefix out.old.items out.new.items }
 {
-    let outcome = regrouping::rebuild(&mut bench.tiers.world, alloc, drive)?;
+    let outcome = regrouping::rebuild(alloc, &mut bench.tiers.world, drive)?;
     put_regrouped(out, outcome)
 }

@@ -4,12 +4,12 @@ use std::io;
 use std::io::{ErrorKind, Read, Write};
 use std::test::Fail;
 
-/// A new array, one group, and a block that is written and read.
+/// A new array, two groups, and a block that worker 6 writes at slot 132 and reads.
 const FIRST: &str =
-    "array 4 8 2 8 16\nmake m 0.0 1.0 2.0\nclaim 0 0\nfill 0 0 1122334455667788\ncommit 0 0 3\nread 3\n";
+    "array 4 8 2 16 16\nmake p 0.0 1.0 2.0\nmake m 1.7 3.4 2.5\nclaim 6 132\nfill 6 132 112a435c758ea7c0d9f20b243d566f88\ncommit 6 132 3\nread 3\n";
 
 const FIRST_ANSWERS: &str =
-    "array\nmade 0\nclaimed 0\nfilled 0\nrecord 000000030000000100000000\ndata 1 1122334455667788\n";
+    "array\nmade 0\nmade 1\nclaimed 132\nfilled 132\nrecord 000000030000000100000084\ndata 1 112a435c758ea7c0d9f20b243d566f88\n";
 
 /// Gives its bytes three at a time, and an error where they end.
 #[derive(Drop)]
@@ -161,10 +161,10 @@ fn scripts_are_answered_line_by_line(rt: HostRuntime) -> Result<(), Fail> {
 fn a_broken_reader_leaves_the_answers_to_its_whole_lines(rt: HostRuntime) -> Result<(), Fail> {
     for (count, answers) in [
         (0, ""),
-        (16, ""),
-        (17, "array\n"),
+        (17, ""),
+        (18, "array\n"),
         (40, "array\nmade 0\n"),
-        (46, "array\nmade 0\nclaimed 0\n"),
+        (68, "array\nmade 0\nmade 1\nclaimed 132\n"),
     ] {
         let mut out = Vec::new(rt.alloc());
         let mut reader = Breaking {
@@ -178,7 +178,7 @@ fn a_broken_reader_leaves_the_answers_to_its_whole_lines(rt: HostRuntime) -> Res
 
 #[test]
 fn a_full_writer_has_a_front_of_the_answers(rt: HostRuntime) -> Result<(), Fail> {
-    for room in [0, 1, 5, 6, 13, 30, 83] {
+    for room in [0, 1, 5, 6, 13, 30, 114] {
         for fails in [false, true] {
             let mut writer = Full {
                 taken: Vec::new(rt.alloc()),
@@ -209,7 +209,11 @@ fn a_reader_of_one_byte_a_call_is_read_to_its_end(rt: HostRuntime) -> Result<(),
 
 #[test]
 fn a_read_that_failed_is_not_tried_again(rt: HostRuntime) -> Result<(), Fail> {
-    for (count, answers) in [(0, ""), (17, "array\n"), (46, "array\nmade 0\nclaimed 0\n")] {
+    for (count, answers) in [
+        (0, ""),
+        (18, "array\n"),
+        (68, "array\nmade 0\nmade 1\nclaimed 132\n"),
+    ] {
         let mut reader = Stumbling {
             front: FIRST.as_bytes().get(..count).ok_or("short")?,
             stumbled: false,

@@ -85,8 +85,9 @@ fn read_front(
     front: &mut [u8],
 ) -> Result<(), DriveLost> {
     assert!(rt; at < drive.units());
-    assert!(rt; front.len() <= drive.unit_bytes());
-    drive.read_front(at, front)
+    assert!(rt; drive.unit_bytes() == 40);
+    assert!(rt; front.len() <= 40);
+    drive.read_front(at, front, &mut [8; 40])
 }
 
 fn write(rt: &impl Abort, drive: &mut MemDrive, at: u32, unit: &[u8]) -> Result<(), DriveLost> {
@@ -103,9 +104,10 @@ fn write_gathered(
 ) -> Result<(), DriveLost> {
     assert!(rt; 5 < drive.units());
     let size = drive.unit_bytes();
+    assert!(rt; size == 40);
     assert!(rt; rest.len() <= size);
     assert!(rt; front.len() == size - rest.len());
-    drive.write_gathered(5, front, rest)
+    drive.write_gathered(5, front, rest, &mut [8; 40])
 }
 
 /// Whether of six writes and reads of a drive those before the fuse burns are answered, and none after.

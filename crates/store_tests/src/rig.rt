@@ -154,7 +154,15 @@ impl Rig {
         if is_slot(&self.groups, Class::Mirrored, slot) {
             if slot % 2 == 1 {
                 let (header, payload) = self.unit.split_at(HEADER_BYTES);
-                return mirrored_store::write_gathered(&self.groups, drives, slot, header, payload);
+                let (scratch, _part) = self.scratch.split_at_mut(self.unit.len());
+                return mirrored_store::write_gathered(
+                    &self.groups,
+                    drives,
+                    slot,
+                    header,
+                    payload,
+                    scratch,
+                );
             }
             return mirrored_store::write(&self.groups, drives, slot, &self.unit, &mut self.scratch);
         }
@@ -192,14 +200,20 @@ impl Rig {
         slot: u16,
         header: &mut [u8],
     ) -> Result<(), StoreRefusal> {
+        assert!(rt; self.has_buffers());
         assert!(rt; header.len() == HEADER_BYTES);
         let drives: &mut [MemDrive] = &mut self.drives;
         if is_slot(&self.groups, Class::Mirrored, slot) {
-            return mirrored_store::read_header(&self.groups, drives, slot, header);
+            return mirrored_store::read_header(
+                &self.groups,
+                drives,
+                slot,
+                header,
+                &mut self.scratch,
+            );
         }
         assert!(rt; is_slot(&self.groups, Class::Parity, slot));
-        let mut scratch = [0; HEADER_BYTES];
-        parity_store::read_header(&self.groups, drives, slot, header, &mut scratch)
+        parity_store::read_header(&self.groups, drives, slot, header, &mut self.scratch)
     }
 
     /// Reads the parity at an offset of a group that is seen to be a parity group.
