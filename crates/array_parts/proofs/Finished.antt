@@ -1,11 +1,11 @@
 -- What finishing a note leaves of the places of its slot.
 use Rattle.std.proofs.Common.{◌≡◌, ◌≢◌, ℕ, ◌⊎◌, inl, inr, Bool, true, false, Option, Some, None, List, refl, sym, ◌∙◌, ap, subst}
 use Rattle.std.specs.Prelude.{slice_get, if◌then◌else◌}
-use Rattle.std.proofs.lemmas.Option.{none-some, same_Some}
+use Rattle.std.proofs.lemmas.Option.{same_Some}
 use Rattle.extent_groups.specs.declared.place.Place.{Place}
 use Rattle.extent_groups.specs.Groups.{Groups}
 use Rattle.extent_groups.specs.Cells.{Cells, held}
-use Rattle.extent_groups.specs.Calls.{Fades, FadesAt, if_ok, DidWrite}
+use Rattle.extent_groups.specs.Calls.{Fades, if_ok, DidWrite}
 use Rattle.extent_groups.specs.Planned.{over, IsFinished}
 use Rattle.extent_groups.specs.Layout.{IsWhole}
 use Rattle.extent_groups.specs.Stores.{IsOwn, IsOwnOf}

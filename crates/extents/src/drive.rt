@@ -40,12 +40,7 @@ pub trait Drive {
     /// Reads the first bytes of the unit at an address: `front.len()` of them, at most a unit's length. Counts as one read and
     /// is refused as `read_unit` is. Borrows a buffer of a unit's length, or an empty one for a whole unit. A drive that can read
     /// part of a unit overrides it.
-    fn read_front(
-        &mut self,
-        at: u32,
-        front: &mut [u8],
-        scratch: &mut [u8],
-    ) -> Result<(), DriveLost>
+    fn read_front(&mut self, at: u32, front: &mut [u8], scratch: &mut [u8]) -> Result<(), DriveLost>
         requires at { at < length (units self.old) }
         requires size { HaveFront (length front.old) (units self.old) }
         requires scratch { HasRoom (length front.old) (length scratch.old) (units self.old) }

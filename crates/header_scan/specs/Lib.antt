@@ -4,3 +4,4 @@ pub mod Faults
 pub mod Found
 pub mod Worlds
 pub mod Restarts
+pub mod Stops

@@ -3,6 +3,7 @@ ghost use Rattle.std.specs.Prelude.{◌≡◌, None, IfOk, IfErr};
 ghost use Rattle.array_parts.specs.Fit.{IsFit};
 ghost use Rattle.array_parts.specs.Losses.{LosesOnly};
 ghost use Rattle.step_core.specs.Adopted.{AreShared};
+ghost use Rattle.header_scan.specs.Stops.{IsResumed};
 ghost use Rattle.header_scan.specs.Restarts.{AreAllSound, IsRestartFault, IsResumeFault, FromFinished, StandsForOne, WasMade, fault_of};
 
 use crate::{ScanFault, scan};
@@ -34,6 +35,7 @@ pub fn restart<D: Drive, C: Hold>(
     // With a note or without.
     ensures finished { IfOk result (λ r. FromFinished D.units D.lost D.failures parts (λ mid. WasMade D.units D.lost D.failures mid r.0
         × (AreAllSound D.units D.lost mid → StandsForOne D.units D.lost D.failures mid r.0))) }
+    ensures stopped { IfOk result (λ r. IsResumed D.units D.lost D.failures parts r.0) }
     ensures refused { IfErr result (λ e. IsResumeFault D.units D.lost D.failures parts e.1 C.names claims.items e.0) }
     ensures claims { IfOk result (λ r. AreShared C.names claims.items r.0 r.1.items) }
     ensures fit { IfErr result (λ e. IsFit D.units e.1) }

@@ -41,5 +41,13 @@ pub fn read_parity<D: Drive>(
         parity,
     };
     let size = unit.len();
-    read_stripe(groups, drives, group, &at, unit, &mut scratch[..size], &mut [])
+    read_stripe(
+        groups,
+        drives,
+        group,
+        &at,
+        unit,
+        &mut scratch[..size],
+        &mut [],
+    )
 }

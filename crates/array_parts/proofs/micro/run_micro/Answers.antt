@@ -1,4 +1,4 @@
-use Rattle.std.proofs.Common.{◌≡◌, ◌++◌, [], ◌∷◌, length, take, refl, sym, ◌∙◌, ap, subst, inl, arith}
+use Rattle.std.proofs.Common.{◌≡◌, [], ◌∷◌, length, refl, sym, ◌∙◌, ap, subst, inl, arith}
 use Rattle.std.proofs.lemmas.List.{nil_from_length}
 use Rattle.extent_groups.specs.declared.place.Place.{Place}
 use Rattle.extent_groups.specs.Calls.{FadesAt, KeepsDrives}

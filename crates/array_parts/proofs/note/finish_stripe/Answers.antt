@@ -1,18 +1,6 @@
-use Rattle.std.proofs.Common.{inl, inr, refl, sym, ◌∙◌, ap, subst, Some, None}
-use Rattle.std.specs.Prelude.{length, option_map}
-use Rattle.std.proofs.lemmas.Option.{same_Some}
-use Rattle.extent_groups.specs.declared.place.Place.{Place}
-use Rattle.extent_groups.specs.Cells.{cells}
-use Rattle.extent_groups.specs.Planned.{IsFinished}
-use Rattle.extent_groups.specs.Stores.{unit_bytes}
-use Rattle.extent_groups.specs.Units.{site_of}
+use Rattle.std.proofs.Common.{inl, inr}
 use Rattle.extent_groups.proofs.DriveCalls.{keeps_place, keeps_trans}
-use Rattle.extent_groups.proofs.Missing.{cell_missing}
 use Rattle.extent_groups.proofs.Sites.{row_places}
-use Rattle.extent_groups.proofs.StoreCalls.{site_whole}
-use Rattle.extent_groups.specs.Missing.{missing_of}
-use Rattle.array_parts.specs.Notes.{unit_noted, IsParityFor}
-use Rattle.array_parts.proofs.Finished.{finished_two, finished_one, noted_alone, noted_parity, noted_home, own_row, row_apart}
 use Rattle.array_parts.proofs.note.finish_stripe.Goals as goal
 
 pub write_own-home-requires-clause-place : goal.write_own-home-requires-clause-place

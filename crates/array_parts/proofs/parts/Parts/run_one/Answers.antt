@@ -1,5 +1,4 @@
-use Rattle.std.proofs.Common.{◌≡◌, ◌++◌, [], ◌∷◌, List, length, refl, sym, ap, ◌∙◌, subst, arith}
-use Rattle.extent_groups.specs.declared.place.Place.{Place}
+use Rattle.std.proofs.Common.{◌++◌, [], ◌∷◌, length, refl, sym, ap, ◌∙◌, subst, arith}
 use Rattle.extent_groups.specs.Calls.{DidWrite, FadesAt, KeepsDrives}
 use Rattle.extent_groups.specs.Planned.{after}
 use Rattle.extent_groups.proofs.DriveCalls.{keeps_more}
