@@ -4,7 +4,7 @@ ghost use Rattle.extents.specs.Condition.{Held};
 ghost use Rattle.extents.specs.Units.{zero_units};
 ghost use Rattle.extents.specs.Sizes.{extent_units};
 ghost use Rattle.extents.specs.declared.shape.TheConstants.{HEADER_BYTES};
-ghost use Rattle.extent_groups.specs.declared.class.Class.TheVariants.{Parity};
+ghost use Rattle.extent_groups.specs.declared.class.Class.TheVariants.{Mirrored, Parity};
 ghost use Rattle.extent_groups.specs.Groups.{Agree, class_in, group_at};
 ghost use Rattle.extent_groups.specs.Stores.{IsSlotOf, AreDrives};
 
@@ -116,6 +116,25 @@ fn has_parity(groups: &GroupTable, group: u16) -> bool
     }
 }
 
+/// Writes a unit to a mirrored slot in two pieces, its header and its payload.
+fn write_pieces(
+    groups: &GroupTable,
+    drives: &mut [MemDrive],
+    slot: u16,
+    unit: &[u8],
+    scratch: &mut [u8],
+) -> Result<(), StoreRefusal>
+    requires slot { IsSlotOf Mirrored groups.now slot }
+    requires drives { AreDrives (λ (m : Held). m.units) groups.now drives.old }
+    requires unit { length unit.now ≡ HEADER_BYTES + groups.now.payload }
+    requires scratch { length scratch.old ≡ 2 * (HEADER_BYTES + groups.now.payload) }
+    ensures drives { AreDrives (λ (m : Held). m.units) groups.now drives.new }
+{
+    let (header, payload) = unit.split_at(HEADER_BYTES);
+    let (whole, _part) = scratch.split_at_mut(unit.len());
+    mirrored_store::write_gathered(groups, drives, slot, header, payload, whole)
+}
+
 impl Rig {
     /// Two groups of all drives, and zeros on them.
     pub(crate) fn new(
@@ -153,16 +172,7 @@ impl Rig {
         let drives: &mut [MemDrive] = &mut self.drives;
         if is_slot(&self.groups, Class::Mirrored, slot) {
             if slot % 2 == 1 {
-                let (header, payload) = self.unit.split_at(HEADER_BYTES);
-                let (scratch, _part) = self.scratch.split_at_mut(self.unit.len());
-                return mirrored_store::write_gathered(
-                    &self.groups,
-                    drives,
-                    slot,
-                    header,
-                    payload,
-                    scratch,
-                );
+                return write_pieces(&self.groups, drives, slot, &self.unit, &mut self.scratch);
             }
             return mirrored_store::write(&self.groups, drives, slot, &self.unit, &mut self.scratch);
         }
