@@ -6,10 +6,11 @@ use Rattle.extent_groups.specs.declared.place.Place.{Place}
 use Rattle.extent_groups.specs.Groups.{Groups}
 use Rattle.extent_groups.specs.Cells.{Cells, held}
 use Rattle.extent_groups.specs.Calls.{Fades, if_ok, DidWrite}
-use Rattle.extent_groups.specs.Planned.{over, IsFinished}
+use Rattle.extent_groups.specs.Planned.{Wanted, over, after, wanted_in, wanted_parity, IsPlan, IsFinished}
 use Rattle.extent_groups.specs.Layout.{IsWhole}
-use Rattle.extent_groups.specs.Stores.{IsOwn, IsOwnOf}
-use Rattle.extent_groups.specs.Units.{Site, Pair, InStripe, site_of}
+use Rattle.extent_groups.specs.Stores.{unit_bytes, IsOwn, IsOwnOf}
+use Rattle.extent_groups.proofs.StoreCalls.{slot_unit}
+use Rattle.extent_groups.specs.Units.{Site, Pair, InStripe, site_of, held_in, row_of, or_else}
 use Rattle.array_parts.specs.Notes.{is_at, unit_noted}
 use Rattle.extent_groups.proofs.Fading.{fades_trans}
 use Rattle.extent_groups.proofs.Finishing.{wanted_of, wanted_here, wanted_else}
@@ -96,3 +97,43 @@ own_row groups slot row parity i home second at here_is there_is x own = elim (s
 -- a whole row has its member and its parity on two drives
 pub row_apart : (row : List Place) (parity i : ℕ) (home second : Place) → IsWhole (InStripe row parity i) → slice_get row i ≡ Some home → slice_get row parity ≡ Some second → home ≢ second
 row_apart row parity i home second whole here_is there_is same = whole.2 (whole.3 i parity home second here_is there_is (ap (λ (x : Place). x.drive) same))
+
+-- what a plan wants of each place of a row that is there is what its note has for it
+held_row : (c : Cells) (row : List Place) (i : ℕ) (home : Place) → slice_get row i ≡ Some home → row_of c row i ≡ held c home
+held_row c row i home is = ap (held_in c) is
+
+over_there : (a : Option (List ℕ)) (u : List ℕ) → (a ≡ None → ⊥) → over a u ≡ Some u
+over_there None u some = absurd (some refl)
+over_there (Some v) u some = refl
+
+first_else : (a b : Option (List ℕ)) (u : List ℕ) → a ≡ Some u → or_else a b ≡ Some u
+first_else a b u is = ap (λ o. or_else o b) is
+
+pub home_wanted : (groups : Groups) (c : Cells) (slot : ℕ) (row : List Place) (parity i : ℕ) (home : Place) (unit : List ℕ) (wanted : Place → List ℕ) (writes : List Wanted)
+    → site_of groups slot ≡ Some (InStripe row parity i) → slice_get row i ≡ Some home → IsPlan groups c slot unit wanted writes → (held c home ≡ None → ⊥) → wanted home ≡ unit
+home_wanted groups c slot row parity i home unit wanted writes at is plan some =
+    let after_is : held (after c writes) home ≡ Some (wanted home) = plan.planned.all home (InStripe row parity i, at, inl is) ∙ over_there (held c home) (wanted home) some in
+    plan.planned.wrote.unit (wanted home) (slot_unit groups (after c writes) slot (InStripe row parity i) (unit_bytes groups) (Some (wanted home)) at refl
+    (first_else (row_of (after c writes) row i) _ (wanted home) (held_row (after c writes) row i home is ∙ after_is)))
+
+-- of the parity, given what its place holds
+parity_in : (c : Cells) (wanted : Place → List ℕ) (site : Option Site) (row : List Place) (parity i : ℕ) (second : Place) → site ≡ Some (InStripe row parity i) → slice_get row parity ≡ Some second
+    → wanted_parity c wanted site ≡ over (held c second) (wanted second)
+parity_in c wanted site row parity i second at is = ap (λ s. wanted_parity c wanted s) at ∙ ap (λ o. wanted_in c wanted o) is
+
+pub row_noted : (groups : Groups) (c : Cells) (slot : ℕ) (row : List Place) (parity i : ℕ) (home second : Place) (unit : List ℕ) (wanted : Place → List ℕ) (writes : List Wanted) (sum : Option (List ℕ))
+    → site_of groups slot ≡ Some (InStripe row parity i) → slice_get row i ≡ Some home → slice_get row parity ≡ Some second → home ≢ second
+    → IsPlan groups c slot unit wanted writes → sum ≡ wanted_parity c wanted (site_of groups slot)
+    → (x : Place) → IsOwnOf groups slot x → (held c x ≡ None → ⊥) → wanted x ≡ unit_noted (site_of groups slot) unit sum x
+row_noted groups c slot row parity i home second unit wanted writes sum at here_is there_is apart plan sum_is x own some = elim (own_row groups slot row parity i home second at here_is there_is x own) [
+  | inl e ↦ subst (λ y. wanted y ≡ unit_noted (site_of groups slot) unit sum y) (sym e)
+      (home_wanted groups c slot row parity i home unit wanted writes at here_is plan (λ none. some (ap (held c) e ∙ none)) ∙ sym (at_home sum))
+  | inr e ↦ subst (λ y. wanted y ≡ unit_noted (site_of groups slot) unit sum y) (sym e)
+      (sym (ap (λ o. unit_noted (site_of groups slot) unit o second) (sum_is ∙ parity_in c wanted (site_of groups slot) row parity i second at there_is
+      ∙ over_there (held c second) (wanted second) (λ none. some (ap (held c) e ∙ none)))
+      ∙ noted_parity (site_of groups slot) row parity i second unit (wanted second) at there_is))
+]
+  where
+    at_home : (o : Option (List ℕ)) → unit_noted (site_of groups slot) unit o home ≡ unit
+    at_home None = noted_alone (site_of groups slot) row parity i unit at home
+    at_home (Some s) = noted_home (site_of groups slot) row parity i home second unit s at there_is apart

@@ -4,7 +4,12 @@ use Rattle.extents.specs.Failures.{Failures}
 use Rattle.extent_groups.specs.declared.place.Place.{Place}
 use Rattle.extent_groups.specs.Calls.{KeepsDrives}
 use Rattle.extent_groups.specs.Groups.{Groups}
-use Rattle.extent_groups.specs.Planned.{IsFinished}
+use Rattle.extent_groups.specs.Cells.{Cells, held}
+use Rattle.extent_groups.specs.declared.plan.PlanRefusal.{PlanRefusal}
+use Rattle.extent_groups.specs.declared.plan.PlanRefusal.TheVariants as why
+use Rattle.flat_machine.specs.declared.refusal.Refusal.{Refusal}
+use Rattle.flat_machine.specs.declared.refusal.Refusal.TheVariants as refusal
+use Rattle.extent_groups.specs.Planned.{Wanted, wanted_parity, IsPlan, IsFinished}
 use Rattle.extent_groups.specs.Stores.{unit_bytes, IsOwnOf}
 use Rattle.extent_groups.specs.Units.{Site, Pair, InStripe, site_of}
 use Rattle.array_parts.specs.declared.note.Note.{Note}
@@ -72,3 +77,15 @@ pub record WasFinished {D : Type 0} (units : D → List (List ℕ)) (lost : D �
   pub groups : new.groups ≡ old.groups
   pub extents : new.extents ≡ old.extents
   pub finished : AreFinished units lost failures old.note old new
+
+-- the plan of a slot's unit, and the parity that its note needs: what each of the slot's places gets is the note's for that place
+pub record IsSlotPlan (groups : Groups) (c : Cells) (slot : ℕ) (unit : List ℕ) (writes : List Wanted) (parity : Option (List ℕ)) : Type 0 where
+  pub wanted : Place → List ℕ
+  pub plan : IsPlan groups c slot unit wanted writes
+  pub parity_is : parity ≡ wanted_parity c wanted (site_of groups slot)
+  pub noted : (x : Place) → IsOwnOf groups slot x → (held c x ≡ None → ⊥) → wanted x ≡ unit_noted (site_of groups slot) unit parity x
+
+-- a store's refusal of a plan, as an array's
+abbrev pub refused_as : PlanRefusal → Refusal
+refused_as why.Memory = refusal.Memory
+refused_as (why.Gone slot) = refusal.Gone slot

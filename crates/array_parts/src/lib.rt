@@ -10,6 +10,7 @@ mod memory;
 mod micro;
 mod note;
 mod parts;
+mod planning;
 mod relocate;
 mod see;
 mod shift;

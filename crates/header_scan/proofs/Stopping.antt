@@ -1,14 +1,13 @@
 -- A stop after any number of a step's single writes: once the note is finished the drives show the state of before or of after.
-use Rattle.std.proofs.Common.{◌≡◌, ◌≢◌, ℕ, zero, suc, ◌⊎◌, inl, inr, Bool, true, false, if◌then◌else◌, is_some, Option, Some, None, List, [], ◌∷◌, ◌++◌, length, take, refl, sym, ◌∙◌, ap, subst, arith}
-use Rattle.std.specs.Prelude.{option_map, ◌&&◌, ◌==◌}
+use Rattle.std.proofs.Common.{◌≡◌, ◌≢◌, ℕ, zero, suc, ◌⊎◌, inl, inr, Bool, true, false, if◌then◌else◌, is_some, Option, Some, None, List, [], ◌∷◌, ◌++◌, length, take, refl, sym, ◌∙◌, ap, subst}
+use Rattle.std.specs.Prelude.{◌&&◌, ◌==◌}
 use Rattle.std.proofs.lemmas.Bool.{ne_eqb, eq-eqb}
 use Rattle.std.proofs.lemmas.Option.{none-some}
 use Rattle.extents.specs.Failures.{Failures}
 use Rattle.extent_groups.specs.declared.place.Place.{Place}
 use Rattle.extent_groups.specs.Calls.{Fades, FadesAt}
 use Rattle.extent_groups.specs.Cells.{Cells, held}
-use Rattle.extent_groups.specs.Planned.{Wanted, over, with_unit, after, IsPlanned, IsFinished}
-use Rattle.extent_groups.specs.Stores.{unit_bytes, IsOwnOf}
+use Rattle.extent_groups.specs.Planned.{Wanted, over, with_unit, after, IsFinished}
 use Rattle.extent_groups.specs.Units.{site_of}
 use Rattle.extent_groups.proofs.LayoutLaw.{layout_law}
 use Rattle.extent_groups.proofs.Places.{same_or_not}
@@ -22,15 +21,15 @@ use Rattle.array_parts.specs.declared.parts.Parts.{Parts}
 use Rattle.array_parts.specs.Fit.{IsFit}
 use Rattle.array_parts.specs.Micros.{writes_in, note_after}
 use Rattle.array_parts.specs.Notes.{note_view, noted_unit, WasFinished, AreFinished}
-use Rattle.array_parts.specs.Shows.{ShowsUnits, IsUnit}
-use Rattle.array_parts.specs.Slots.{IsSlot, cells_in}
-use Rattle.array_parts.specs.Views.{Shows, view_of, cells_of, lost_of, failed_of}
+use Rattle.array_parts.specs.Shows.{ShowsUnits}
+use Rattle.array_parts.specs.Slots.{cells_in}
+use Rattle.array_parts.specs.Views.{view_of, cells_of, lost_of, failed_of}
 use Rattle.array_parts.proofs.Calls.{shows_in}
 use Rattle.array_parts.proofs.Stopped.{shows_unbegun, shows_finished}
 use Rattle.array_parts.proofs.Views.{view_cells, view_length}
 use Rattle.array_model.specs.Adopted.{HasParts}
 use Rattle.header_scan.specs.Restarts.{HasUnits}
-use Rattle.header_scan.specs.Stops.{ArePuts, IsMicro, IsStopped, standing, IsButLost}
+use Rattle.header_scan.specs.Stops.{ArePuts, IsMicro, IsStopped, standing}
 use Rattle.header_scan.proofs.Placing.{classed}
 
 -- the writes in the first entries of a list are the first of its writes
@@ -134,7 +133,7 @@ module _ {D : Type 0} (units : D → List (List ℕ)) (lost : D → Bool) (failu
   shows_after k groups cells (inl is) =
       let ended = (subst (λ o. AreFinished units lost failures o q mid) is done.finished).0 in
       let again : IsFinished p.groups d e micro.note.slot (noted_unit (site_of p.groups micro.note.slot) (note_view micro.note)) =
-        subst (λ t. IsFinished t d e micro.note.slot (noted_unit (site_of t micro.note.slot) (note_view micro.note))) (sym groups) ended in
+      subst (λ t. IsFinished t d e micro.note.slot (noted_unit (site_of t micro.note.slot) (note_view micro.note))) (sym groups) ended in
       shows_finished p.groups c d e F.units micro.note.slot micro.note.unit.items micro.unit micro.wanted micro.writes k (layout_law p.groups fit.groups) (sized_cells units lost p.groups p.drives.items fit.drives)
       micro.plan.sized shown micro.is micro.plan.planned cells (record {
         own = λ x own. finished_wanted c d e x (micro.wanted x) _ (λ none. faded_none _ _ (cells x) (still_none c (take k micro.writes) x none)) (micro.noted x own) (again.own x own);

@@ -1,5 +1,5 @@
 -- A step of an array as single writes with a note, a stop after any number of them, and the state that a restart then finds.
-use Rattle.std.specs.Prelude.{◌≡◌, ℕ, zero, suc, Bool, Option, Some, None, List, [], ◌∷◌, ◌++◌, length, take, option_map}
+use Rattle.std.specs.Prelude.{◌≡◌, ℕ, zero, suc, Bool, Some, None, List, [], ◌∷◌, ◌++◌, length, take, option_map}
 use Rattle.extent_groups.specs.declared.place.Place.{Place}
 use Rattle.extent_groups.specs.Cells.{held}
 use Rattle.extent_groups.specs.Calls.{FadesAt}

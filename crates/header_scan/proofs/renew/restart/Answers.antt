@@ -1,4 +1,4 @@
-use Rattle.std.proofs.Common.{◌≡◌, sym, ◌∙◌, ap, inr}
+use Rattle.std.proofs.Common.{sym, ◌∙◌, ap, inr}
 use Rattle.std.specs.Prelude.{Result, Ok, Err, IfOk, IfErr}
 use Rattle.std.proofs.lemmas.Result.{IfOk-weaker, IfErr-weaker}
 use Rattle.flat_machine.specs.Flat.{Flat}
@@ -23,13 +23,13 @@ returns-clause-finished g c =
 pub returns-clause-stopped : goal.returns-clause-stopped
 returns-clause-stopped g c =
     IfOk-weaker c.renew.result _ _ (λ r made p F G list n fit has there micro stop.
-      let d = g.D.Drive in
-      let X : Flat = found d.units d.lost d.failures p c.args.parts c.finish.new.self F G list fit has there micro c.finish.ensures.finished n in
-      let m = made.flat X
-        (has_found d.units d.lost d.failures p c.args.parts c.finish.new.self F G list fit has there micro c.finish.ensures.finished n stop)
-        (there_found d.units d.lost d.failures p c.args.parts c.finish.new.self F G list fit has there micro c.finish.ensures.finished n) in
-      let Y : Flat = standing n F G in
-      (m.0, made.keys, m.1, record { is = m.2.same ∙ ap (λ k. record Y { drives = k; lost = m.0.lost; failures = m.0.failures }) (sym (ap (λ (Z : Flat). Z.drives) m.2.same)) }, m.3, m.4))
+    let d = g.D.Drive in
+    let X : Flat = found d.units d.lost d.failures p c.args.parts c.finish.new.self F G list fit has there micro c.finish.ensures.finished n in
+    let m = made.flat X
+    (has_found d.units d.lost d.failures p c.args.parts c.finish.new.self F G list fit has there micro c.finish.ensures.finished n stop)
+    (there_found d.units d.lost d.failures p c.args.parts c.finish.new.self F G list fit has there micro c.finish.ensures.finished n) in
+    let Y : Flat = standing n F G in
+    (m.0, made.keys, m.1, record { is = m.2.same ∙ ap (λ k. record Y { drives = k; lost = m.0.lost; failures = m.0.failures }) (sym (ap (λ (Z : Flat). Z.drives) m.2.same)) }, m.3, m.4))
     c.renew.ensures.ok
 
 pub returns-clause-refused : goal.returns-clause-refused
