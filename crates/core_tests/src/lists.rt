@@ -236,12 +236,6 @@ impl Stop {
         run_micro(&mut self.parts, list, n);
     }
 
-    /// Carries out a whole list.
-    pub(crate) fn run_all(&mut self, rt: &impl Abort, list: Vec<Micro>) {
-        let count = list.len();
-        self.run(rt, list, count);
-    }
-
     /// Whether the note is of this slot and has these units.
     pub(crate) fn notes(&self, slot: u16, unit: &[u8], parity: Option<&[u8]>) -> bool {
         let Some(note) = &self.parts.note else {

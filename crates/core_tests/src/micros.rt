@@ -12,11 +12,6 @@ fn with(rt: &impl Abort, list: Vec<Micro>, entry: Micro) -> Vec<Micro> {
     longer
 }
 
-/// A list of one entry.
-fn one(rt: &impl Abort, alloc: Global, entry: Micro) -> Vec<Micro> {
-    with(rt, Vec::new(alloc), entry)
-}
-
 /// The entry that sets a note of a slot, with a payload that this byte names.
 fn set(rt: &impl Abort, alloc: Global, slot: u16, byte: u8) -> Micro {
     Micro::NoteSet(Note {
@@ -37,7 +32,7 @@ fn put(rt: &impl Abort, alloc: Global, drive: u8, byte: u8) -> Micro {
 
 /// A note, two writes of slot 1, and no note.
 fn four(rt: &impl Abort, alloc: Global) -> Vec<Micro> {
-    let noted = one(rt, alloc, set(rt, alloc, 1, 0x99));
+    let noted = with(rt, Vec::new(alloc), set(rt, alloc, 1, 0x99));
     let half = with(rt, noted, put(rt, alloc, 0, 0x99));
     let whole = with(rt, half, put(rt, alloc, 1, 0x99));
     with(rt, whole, Micro::NoteClear)
@@ -67,7 +62,7 @@ fn no_entries_change_nothing(rt: HostRuntime) {
         stop.run(&rt, Vec::new(alloc), n);
         assert!(rt; stop.parts.note.is_none());
     }
-    stop.run(&rt, one(&rt, alloc, set(&rt, alloc, 5, 0x55)), 9);
+    stop.run(&rt, with(&rt, Vec::new(alloc), set(&rt, alloc, 5, 0x55)), 9);
     assert!(rt; stop.notes(5, &blank_of(0x55), None));
     stop.run(&rt, four(&rt, alloc), 0);
     stop.run(&rt, Vec::new(alloc), 9);
@@ -82,27 +77,14 @@ fn a_note_is_replaced_by_the_next_and_cleared_once(rt: HostRuntime) {
     let units = stop.all_units(&rt);
     let first = with(
         &rt,
-        one(&rt, alloc, Micro::NoteClear),
+        with(&rt, Vec::new(alloc), Micro::NoteClear),
         set(&rt, alloc, 1, 0x99),
     );
     stop.run(&rt, with(&rt, first, set(&rt, alloc, 5, 0x55)), 3);
     assert!(rt; stop.notes(5, &blank_of(0x55), None));
     for _time in 0..2 {
-        stop.run(&rt, one(&rt, alloc, Micro::NoteClear), 1);
+        stop.run(&rt, with(&rt, Vec::new(alloc), Micro::NoteClear), 1);
         assert!(rt; stop.parts.note.is_none());
     }
     assert!(rt; stop.all_units(&rt) == units);
-}
-
-#[test]
-fn a_write_to_a_lost_drive_counts_as_an_entry(rt: HostRuntime) {
-    let alloc = rt.alloc();
-    for (n, written) in [(1, false), (2, true)] {
-        let mut stop = Stop::written(&rt, alloc);
-        stop.lose(&rt, &[0]);
-        let first = one(&rt, alloc, put(&rt, alloc, 0, 0x99));
-        stop.run(&rt, with(&rt, first, put(&rt, alloc, 1, 0x99)), n);
-        assert!(rt; stop.peek(&rt, 0, 1).is_none());
-        assert!(rt; stop.holds(&rt, 1, 1, blank_of(0x99)) == written);
-    }
 }

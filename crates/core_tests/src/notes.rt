@@ -154,21 +154,13 @@ fn is_good(rt: &impl Abort, alloc: Global, row: &Row) {
 }
 
 #[test]
-fn a_note_of_no_slot_is_bad(rt: HostRuntime) {
+fn a_bad_note_is_refused_and_changes_nothing(rt: HostRuntime) {
     for row in &NO_SLOT {
         is_bad(&rt, rt.alloc(), row);
     }
-}
-
-#[test]
-fn a_note_of_a_wrong_length_is_bad(rt: HostRuntime) {
     for row in &WRONG_LENGTH {
         is_bad(&rt, rt.alloc(), row);
     }
-}
-
-#[test]
-fn a_note_with_a_parity_too_many_or_too_few_is_bad(rt: HostRuntime) {
     for row in &WRONG_PARITY {
         is_bad(&rt, rt.alloc(), row);
     }
@@ -176,14 +168,8 @@ fn a_note_with_a_parity_too_many_or_too_few_is_bad(rt: HostRuntime) {
 
 #[test]
 fn a_good_note_is_finished_by_a_restart(rt: HostRuntime) {
+    assert!(rt; Stop::written(&rt, rt.alloc()).bad_note(&rt).is_none());
     for row in &GOOD {
         is_good(&rt, rt.alloc(), row);
     }
-}
-
-#[test]
-fn without_a_note_none_is_bad(rt: HostRuntime) {
-    let stop = Stop::written(&rt, rt.alloc());
-    assert!(rt; stop.bad_note(&rt).is_none());
-    assert!(rt; reads_both(&rt, &mut stop.restarted(&rt), 0, 0));
 }

@@ -100,11 +100,6 @@ fn lists(rig: &Rig, wanted: [Record; 2]) -> bool {
     }
 }
 
-/// Whether an old record is found at its place, which no other was written over.
-fn is_stale(rt: &impl Abort, rig: &mut Rig, asked: Record) -> bool {
-    matches!(rig.read_at(rt, asked), Ok(At::Stale(_)))
-}
-
 /// Restarts what was stopped in the commit of block 3, whose newest record then is this one: blocks 3 and 4 have their payloads.
 fn commit_stands(rt: &impl Abort, stop: Stop, newest: Record) {
     let mut rig = is_settled(rt, stop, newest.place).restarted(rt);
@@ -118,11 +113,6 @@ fn commit_stands(rt: &impl Abort, stop: Stop, newest: Record) {
     }
 }
 
-/// The record of block 3 that stands after `n` entries.
-fn standing(n: usize) -> Record {
-    if n == 0 { BEFORE } else { AFTER }
-}
-
 /// Loses drives, carries out `n` entries of the commit, loses other drives, and restarts.
 fn stops_in_commit(rt: &impl Abort, alloc: Global, between: &[u8], n: usize, lost: &[u8]) {
     let mut stop = Stop::written(rt, alloc);
@@ -131,7 +121,7 @@ fn stops_in_commit(rt: &impl Abort, alloc: Global, between: &[u8], n: usize, los
     stop.run(rt, list, n);
     assert!(rt; stop.parts.note.is_some() == (n > 0 && n < 4));
     stop.lose(rt, lost);
-    commit_stands(rt, stop, standing(n));
+    commit_stands(rt, stop, if n == 0 { BEFORE } else { AFTER });
 }
 
 #[test]
@@ -246,7 +236,7 @@ fn fill_stands(rt: &impl Abort, stop: Stop, filled: bool) {
     assert!(rt; lists(&rig, [BEFORE, OTHER]));
     assert!(rt; rig.reads(rt, 3, 1, 0x11) && rig.reads(rt, 4, 1, 0x44));
     if filled {
-        assert!(rt; is_stale(rt, &mut rig, old));
+        assert!(rt; matches!(rig.read_at(rt, old), Ok(At::Stale(_))));
     } else {
         assert!(rt; rig.finds(rt, old, 0x44));
     }
@@ -258,12 +248,6 @@ fn a_stop_in_a_fill_leaves_the_old_unit_or_the_new(rt: HostRuntime) {
         for lost in LOSSES {
             stops_in_fill(&rt, rt.alloc(), [&[], &[], lost], n, 4);
         }
-    }
-}
-
-#[test]
-fn a_fill_is_planned_for_the_copies_that_are_there(rt: HostRuntime) {
-    for n in [0, 1, 2, 3, 9] {
         for copy in [&[0u8], &[1]] {
             stops_in_fill(&rt, rt.alloc(), [copy, &[], &[]], n, 3);
             stops_in_fill(&rt, rt.alloc(), [&[], copy, &[]], n, 4);
