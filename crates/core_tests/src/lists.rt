@@ -107,8 +107,8 @@ fn is_each_write(parts: &Parts<MemDrive>, list: &[Micro]) -> bool
 }
 
 // Whether what the list writes are units, to places of the drives.
-fn are_writes(parts: &Parts<MemDrive>, list: &[Micro]) -> bool
-    ensures { IsTrue result → AreWrites held_units parts.now list.now }
+fn are_writes(parts: &Parts<MemDrive>, list: &Vec<Micro>) -> bool
+    ensures { IsTrue result → AreWrites held_units parts.now list.now.items }
 {
     is_each_write(parts, list)
 }
