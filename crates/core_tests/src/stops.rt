@@ -182,6 +182,7 @@ fn without_its_note_a_copy_breaks_the_payload_of_another_block(rt: HostRuntime) 
     let list = stop.plan(&rt, 128, blank_of(0x99));
     without_a_note(&rt, &mut stop, list);
     let mut rig = stop.restarted(&rt);
+    assert!(rt; rig.array.shape().blocks == 16);
     assert!(rt; rig.array.newest(4) == Some(OTHER));
     let Ok(Some((version, payload))) = rig.read(&rt, 4) else {
         panic!(rt; "not read")
