@@ -1,1 +1,2 @@
 mod Adopted
+mod Written

@@ -47,6 +47,7 @@ fn put_together(
     ensures places { HasPlaces result.parts.groups (at map) }
     ensures kept { (s : ℕ) → IsPlaced (at map) s (kept_at result s) }
 {
+    assert!(rt; parts.note.is_none());
     let Ok((array, others)) = Array::adopt_among(alloc, parts, map, claims) else {
         panic!(rt; "not put together")
     };
@@ -111,6 +112,7 @@ fn refused_without_last(
     let Some(last) = claims.pop() else {
         panic!(rt; "no claim")
     };
+    assert!(rt; parts.note.is_none());
     let Err((why, parts, map, mut claims)) = Array::adopt_among(alloc, parts, map, claims) else {
         panic!(rt; "put together without a claim")
     };

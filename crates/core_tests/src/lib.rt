@@ -8,13 +8,21 @@ mod counts;
 #[cfg(test)]
 mod learned;
 #[cfg(test)]
+mod lists;
+#[cfg(test)]
 mod merges;
+#[cfg(test)]
+mod micros;
+#[cfg(test)]
+mod notes;
 #[cfg(test)]
 mod reads;
 #[cfg(test)]
 mod restarts;
 #[cfg(test)]
 mod rig;
+#[cfg(test)]
+mod stops;
 #[cfg(test)]
 mod trims;
 #[cfg(test)]

@@ -10,13 +10,14 @@ use std::alloc::Global;
 use std::process::Abort;
 use step_core::{Class, Refusal, World};
 
-// Bytes of a unit and of two.
-const UNIT: usize = 56;
+/// Bytes of a unit, header and payload.
+pub(crate) const UNIT: usize = 56;
 
+// Bytes of two units.
 const TWO_UNITS: usize = 112;
 
-// Whether the slot is one of a made group.
-fn is_slot(groups: &GroupTable, slot: u16) -> bool
+/// Whether the slot is one of a made group.
+pub(crate) fn is_slot(groups: &GroupTable, slot: u16) -> bool
     ensures { IsTrue result → IsSlot groups.now slot }
 {
     slot % SLOTS < groups.slots_of(slot / SLOTS)
@@ -34,8 +35,8 @@ fn unit_of<U: Units>(rt: &impl Abort, units: &mut U, slot: u16) -> Result<[u8; U
     Ok(unit)
 }
 
-// The header of a record in layout 2, of data (0) or of a trim (1).
-fn header_of(told: Record, kind: u8) -> [u8; 32] {
+/// The header of a record in layout 2, of data (0) or of a trim (1).
+pub(crate) fn header_of(told: Record, kind: u8) -> [u8; 32] {
     let mut header = [0; 32];
     header[..4].copy_from_slice(b"RBH2");
     header[4..8].copy_from_slice(&told.block.to_be_bytes());
@@ -46,8 +47,8 @@ fn header_of(told: Record, kind: u8) -> [u8; 32] {
     header
 }
 
-// A header and a payload, one after the other.
-fn unit_with(header: [u8; 32], payload: [u8; 24]) -> [u8; UNIT] {
+/// A header and a payload, one after the other.
+pub(crate) fn unit_with(header: [u8; 32], payload: [u8; 24]) -> [u8; UNIT] {
     let mut unit = [0; UNIT];
     unit[..32].copy_from_slice(&header);
     unit[32..].copy_from_slice(&payload);
