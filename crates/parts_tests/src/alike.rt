@@ -118,6 +118,7 @@ impl<D: Tried> Trial<D> {
             groups,
             extents,
             drives,
+            note: None,
         };
         let mut trial = Trial {
             parts,
