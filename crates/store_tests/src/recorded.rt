@@ -73,12 +73,35 @@ impl<'a> Drive for Recorder<'a> {
         self.drive.read_unit(at, unit)
     }
 
-    // A write in two pieces comes here too, joined by the trait's own body.
+    fn read_front(
+        &mut self,
+        at: u32,
+        front: &mut [u8],
+        scratch: &mut [u8],
+    ) -> Result<(), DriveLost> {
+        self.drive.read_front(at, front, scratch)
+    }
+
     fn write_unit(&mut self, at: u32, unit: &[u8]) -> Result<(), DriveLost> {
         let result = self.drive.write_unit(at, unit);
         if result.is_ok() {
             let tick = self.clock.fetch_add(1, SeqCst);
             self.taken.take(tick, at, unit, &[]);
+        }
+        result
+    }
+
+    fn write_gathered(
+        &mut self,
+        at: u32,
+        front: &[u8],
+        rest: &[u8],
+        scratch: &mut [u8],
+    ) -> Result<(), DriveLost> {
+        let result = self.drive.write_gathered(at, front, rest, scratch);
+        if result.is_ok() {
+            let tick = self.clock.fetch_add(1, SeqCst);
+            self.taken.take(tick, at, front, rest);
         }
         result
     }
