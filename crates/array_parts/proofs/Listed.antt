@@ -15,11 +15,11 @@ writes_append (NoteSet note ∷ one) other = writes_append one other
 writes_append (Write drive at unit ∷ one) other = ap (λ ws. record { place = record { drive = drive; address = at }; unit = unit.items } ∷ ws) (writes_append one other)
 writes_append (NoteClear ∷ one) other = writes_append one other
 
-pub note_append : (note : Option Note) (one other : List Micro) → note_after note (one ++ other) ≡ note_after (note_after note one) other
-note_append note [] other = refl
-note_append note (NoteSet set ∷ one) other = note_append _ one other
-note_append note (Write drive at unit ∷ one) other = note_append note one other
-note_append note (NoteClear ∷ one) other = note_append _ one other
+pub note_append : (before : Option Note) (one other : List Micro) → note_after before (one ++ other) ≡ note_after (note_after before one) other
+note_append before [] other = refl
+note_append before (NoteSet set ∷ one) other = note_append _ one other
+note_append before (Write drive at unit ∷ one) other = note_append before one other
+note_append before (NoteClear ∷ one) other = note_append _ one other
 
 -- a write of either is one of both
 pub first_of : {X : Type 0} (one other : List X) (x : X) → Contains one x → Contains (one ++ other) x

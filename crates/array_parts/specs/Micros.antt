@@ -18,10 +18,10 @@ writes_in (NoteClear ∷ list) = writes_in list
 
 -- the note after a list was carried out
 abbrev pub note_after : Option Note → List Micro → Option Note
-note_after note [] = note
-note_after note (NoteSet set ∷ list) = note_after (Some set) list
-note_after note (Write drive at unit ∷ list) = note_after note list
-note_after note (NoteClear ∷ list) = note_after None list
+note_after before [] = before
+note_after before (NoteSet set ∷ list) = note_after (Some set) list
+note_after before (Write drive at unit ∷ list) = note_after before list
+note_after before (NoteClear ∷ list) = note_after None list
 
 -- a place that the list writes
 abbrev pub IsWritten : List Micro → Place → Type 0
