@@ -282,9 +282,7 @@ fn put_fault_detail(out: &mut Vec<u8>, fault: &ScanFault) -> Result<(), AllocErr
         ScanFault::BadHeader(slot)
         | ScanFault::Gone(slot)
         | ScanFault::NoClaim(slot)
-        | ScanFault::BadNote(slot) => {
-            put_numbered(out, b" ", u64::from(*slot))
-        }
+        | ScanFault::BadNote(slot) => { put_numbered(out, b" ", u64::from(*slot)) }
         ScanFault::WrongSlot(slot, told) => {
             put_numbered(out, b" ", u64::from(*slot))?;
             put_numbered(out, b" ", u64::from(*told))
