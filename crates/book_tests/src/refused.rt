@@ -1,5 +1,5 @@
 // A Book around a restarted array whose worker's call is refused, and the slot that the call releases.
-ghost use Rattle.std.specs.Prelude.{◌≡◌};
+ghost use Rattle.std.specs.Prelude.{◌≡◌, None};
 ghost use Rattle.array_parts.specs.Fit.{IsFit};
 ghost use Rattle.array_parts.specs.Memory.{held_lost, held_units};
 ghost use Rattle.array_model.specs.Represents.{ShowsArray};
@@ -103,6 +103,7 @@ impl Story for Refused {
 fn written_parts<R: Abort>(rt: &R, alloc: Global, case: &Refused) -> Parts<MemDrive>
     ensures fit { IsFit held_units result }
     ensures sound { AreAllSound held_units held_lost result }
+    ensures note { result.note ≡ None }
 {
     let array: Array<MemDrive, Plain> = grouped(rt, alloc, 2, &GROUPS);
     let Ok((mut parts, _claims)) = array.into_parts(alloc) else {
