@@ -4,8 +4,8 @@ use Rattle.store_tests.proofs.rig.Rig.write.Goals as goal
 
 pub invariant_of-self : goal.invariant_of-self
 invariant_of-self g c =
-    let whole : length c.write_gathered.new.drives ≡ c.args.self.now.drives.len = c.write_gathered.auto.drives ∙ c.deref_mut-drives.ensures.len in
-    record { ready = rw (take_at c.write_gathered.new.drives _ _ whole) c.write_gathered.ensures.drives }
+    let whole : length c.write_pieces.new.drives ≡ c.args.self.now.drives.len = c.write_pieces.auto.drives ∙ c.deref_mut-drives.ensures.len in
+    record { ready = rw (take_at c.write_pieces.new.drives _ _ whole) c.write_pieces.ensures.drives }
 
 pub invariant_of-self-then-is_slot : goal.invariant_of-self-then-is_slot
 invariant_of-self-then-is_slot g c =
