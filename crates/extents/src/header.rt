@@ -88,7 +88,7 @@ fn is_blank(bytes: &[u8; 32]) -> bool
 fn begin_with(bytes: &[u8; 32], mark: &[u8; 4]) -> bool
     ensures { IsTrue result ↔ (take 4 bytes.now ≡ mark.now) }
 {
-    &bytes[..RECORD_AT] == &mark[..]
+    bytes[0] == mark[0] && bytes[1] == mark[1] && bytes[2] == mark[2] && bytes[3] == mark[3]
 }
 
 /// Whether the bytes from this one on are zero.
@@ -194,12 +194,11 @@ impl Header {
         ensures ok { IfOk result (Spells bytes.now) }
         ensures only { (header : Header) → Spells bytes.now header → result ≡ Ok header }
     {
+        if is_blank(bytes) {
+            return Ok(Header::Blank);
+        }
         let Some(kind) = told_kind(bytes) else {
-            return if is_blank(bytes) {
-                Ok(Header::Blank)
-            } else {
-                Err(HeaderFault::BadHeader)
-            };
+            return Err(HeaderFault::BadHeader);
         };
         match Record::of_bytes(&bytes[RECORD_AT..KIND_AT]) {
             Ok(record) => Ok(Header::Is(record, kind)),

@@ -14,6 +14,6 @@ pub returns-in-Err-clause-only : goal.returns-in-Err-clause-only
 returns-in-Err-clause-only c h told =
     absurd (no_header c.args.bytes.now c.in-Some.kind c.in-Err.field-0 h (omega (arith, c.told-bytes)) ((c.told_kind.ensures c.in-Some.kind).0 c.in-Some.is) c.in-Err.ensures.err told)
 
-pub returns-else-is_blank-clause-only : goal.returns-else-is_blank-clause-only
-returns-else-is_blank-clause-only c h told =
+pub returns-in_default-clause-only : goal.returns-in_default-clause-only
+returns-in_default-clause-only c h told =
     absurd (no_kind c.args.bytes.now h (λ blank. let two : true ≡ false = sym (c.is_blank.ensures.1 blank) ∙ c.if-is_blank.false in cc) (λ kind tells. c.in_default.not-Some kind ((c.told_kind.ensures kind).1 tells)) told)
