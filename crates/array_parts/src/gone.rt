@@ -55,7 +55,7 @@ fn is_row_gone<D: Drive>(groups: &GroupTable, drives: &[D], slot: u16) -> bool
 }
 
 /// Whether a slot of either class is gone.
-pub(crate) fn is_gone<D: Drive>(groups: &GroupTable, drives: &[D], slot: u16) -> bool
+fn is_gone<D: Drive>(groups: &GroupTable, drives: &[D], slot: u16) -> bool
     requires slot { IsSlot groups.now slot }
     requires drives { AreDrives D.units groups.now drives.now }
     ensures { IsTrue result ↔ IsGone groups.now (missing_of D.lost drives.now) slot }

@@ -4,7 +4,7 @@ ghost use Rattle.extent_groups.specs.declared.class.Class.TheVariants.{Mirrored,
 ghost use Rattle.extent_groups.specs.declared.plan.PlanRefusal.TheVariants as why;
 ghost use Rattle.extent_groups.specs.Calls.{NoPlace, KeepsDrives};
 ghost use Rattle.extent_groups.specs.Cells.{cells};
-ghost use Rattle.extent_groups.specs.Missing.{IsGone};
+ghost use Rattle.extent_groups.specs.Missing.{missing_of, IsGone};
 ghost use Rattle.extent_groups.specs.PlanLists.{listed, parity_listed};
 ghost use Rattle.extent_groups.specs.Stores.{unit_bytes, unit_of, AreSound, AreDrives, IsSlotOf, KeepsUnits};
 ghost use Rattle.flat_machine.specs.declared.refusal.Refusal.TheVariants as refusal;
@@ -14,7 +14,6 @@ ghost use Rattle.array_parts.specs.Notes.{IsSlotPlan, refused_as};
 ghost use Rattle.array_parts.specs.Slots.{IsSlot, TellsGone, cells_in, missing_in};
 
 use crate::Parts;
-use crate::gone::is_gone;
 use extent_groups::{Class, GroupTable, PlanRefusal, Planned, SLOTS};
 use extents::Drive;
 use flat_machine::Refusal;
@@ -32,6 +31,7 @@ fn plan_pair<D: Drive>(
     requires drives { AreDrives D.units groups.now drives.old }
     requires unit { length unit.now ≡ unit_bytes groups.now }
     ensures ok { IfOk result (λ plan. IsSlotPlan groups.now (cells D.units D.lost drives.new) slot unit.now (listed plan.writes.items) (parity_listed plan.parity)) }
+    ensures there { OnOk result (IsGone groups.now (missing_of D.lost drives.new) slot → ⊥) }
     ensures err { IfErr result (λ e. (e ≡ why.Memory) ⊎ ((e ≡ why.Gone slot) × (unit_of groups.now (cells D.units D.lost drives.new) slot ≡ None))) }
     ensures same { drives.new ≡ drives.old }
 {
@@ -52,6 +52,7 @@ fn plan_stripe<D: Drive>(
     requires drives { AreDrives D.units groups.now drives.old }
     requires unit { length unit.now ≡ unit_bytes groups.now }
     ensures ok { IfOk result (λ plan. IsSlotPlan groups.now (cells D.units D.lost drives.new) slot unit.now (listed plan.writes.items) (parity_listed plan.parity)) }
+    ensures there { OnOk result (IsGone groups.now (missing_of D.lost drives.new) slot → ⊥) }
     ensures err { IfErr result (λ e. ((e ≡ why.Memory) × (drives.new ≡ drives.old)) ⊎ ((e ≡ why.Gone slot) × (unit_of groups.now (cells D.units D.lost drives.new) slot ≡ None))) }
     ensures units { AreSound groups.now (cells D.units D.lost drives.old) → KeepsUnits groups.now (cells D.units D.lost drives.old) (cells D.units D.lost drives.new) }
     ensures sound { AreSound groups.now (cells D.units D.lost drives.old) → AreSound groups.now (cells D.units D.lost drives.new) }
@@ -74,6 +75,7 @@ fn plan_slot<D: Drive>(
     requires drives { AreDrives D.units groups.now drives.old }
     requires unit { length unit.now ≡ unit_bytes groups.now }
     ensures ok { IfOk result (λ plan. IsSlotPlan groups.now (cells D.units D.lost drives.new) slot unit.now (listed plan.writes.items) (parity_listed plan.parity)) }
+    ensures there { OnOk result (IsGone groups.now (missing_of D.lost drives.new) slot → ⊥) }
     ensures err { IfErr result (λ e. ((e ≡ why.Memory) × (drives.new ≡ drives.old)) ⊎ ((e ≡ why.Gone slot) × (unit_of groups.now (cells D.units D.lost drives.new) slot ≡ None))) }
     ensures units { AreSound groups.now (cells D.units D.lost drives.old) → KeepsUnits groups.now (cells D.units D.lost drives.old) (cells D.units D.lost drives.new) }
     ensures sound { AreSound groups.now (cells D.units D.lost drives.old) → AreSound groups.now (cells D.units D.lost drives.new) }
@@ -115,11 +117,6 @@ impl<D: Drive> Parts<D> {
     {
         let drives: &mut [D] = &mut self.drives;
         let planned = plan_slot(alloc, &self.groups, drives, slot, unit);
-
-        // A plan is made only of a unit that can be had; the lost drives say so without a read.
-        if planned.is_ok() && is_gone(&self.groups, &self.drives, slot) {
-            return Err(Refusal::Gone(slot));
-        }
         match planned {
             Ok(plan) => Ok(plan),
             Err(why) => Err(refused(why)),

@@ -1,8 +1,9 @@
 // The writes of a mirrored slot, planned.
-ghost use Rattle.std.specs.Prelude.{◌≡◌, ◌⊎◌, length, None, IfOk, IfErr};
+ghost use Rattle.std.specs.Prelude.{◌≡◌, ◌⊎◌, length, None, IfOk, IfErr, OnOk};
 ghost use Rattle.extent_groups.specs.declared.class.Class.TheVariants.{Mirrored};
 ghost use Rattle.extent_groups.specs.declared.plan.PlanRefusal.TheVariants as refusal;
 ghost use Rattle.extent_groups.specs.Cells.{cells};
+ghost use Rattle.extent_groups.specs.Missing.{missing_of, IsGone};
 ghost use Rattle.extent_groups.specs.Planned.{IsPlanned, IsPlan};
 ghost use Rattle.extent_groups.specs.PlanLists.{listed};
 ghost use Rattle.extent_groups.specs.Stores.{unit_bytes, unit_of, IsSlotOf, AreDrives};
@@ -25,6 +26,7 @@ pub fn plan<D: Drive>(
     requires unit { length unit.now ≡ unit_bytes groups.now }
     ensures ok { IfOk result (λ plan. IsPlanned groups.now (cells D.units D.lost drives.new) slot unit.now (λ place. unit.now) (listed plan.writes.items) × (plan.parity ≡ None)) }
     ensures listed { IfOk result (λ plan. IsPlan groups.now (cells D.units D.lost drives.new) slot unit.now (λ place. unit.now) (listed plan.writes.items)) }
+    ensures there { OnOk result (IsGone groups.now (missing_of D.lost drives.new) slot → ⊥) }
     ensures err { IfErr result (λ e. (e ≡ refusal.Memory) ⊎ ((e ≡ refusal.Gone slot) × (unit_of groups.now (cells D.units D.lost drives.new) slot ≡ None))) }
     ensures same { drives.new ≡ drives.old }
 {

@@ -5,3 +5,4 @@ pub mod Whole
 pub mod Stripes
 pub mod Planning
 pub mod Carrying
+pub mod There

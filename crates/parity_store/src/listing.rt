@@ -1,10 +1,11 @@
 // The writes of a parity slot, planned.
-ghost use Rattle.std.specs.Prelude.{◌≡◌, ◌⊎◌, ◌≤◌, ◌/◌, ℕ, List, [], length, None, IfOk, IfErr, vec_len, vec_capacity};
+ghost use Rattle.std.specs.Prelude.{◌≡◌, ◌⊎◌, ◌≤◌, ◌/◌, ℕ, List, [], length, None, IfOk, IfErr, OnOk, vec_len, vec_capacity};
 ghost use Rattle.extent_groups.specs.declared.class.Class.TheVariants.{Parity};
 ghost use Rattle.extent_groups.specs.declared.place.Place.{Place};
 ghost use Rattle.extent_groups.specs.declared.plan.PlanRefusal.TheVariants as refusal;
 ghost use Rattle.extent_groups.specs.Calls.{NoPlace, SameBut, KeepsDrives};
 ghost use Rattle.extent_groups.specs.Cells.{cells};
+ghost use Rattle.extent_groups.specs.Missing.{missing_of, IsGone};
 ghost use Rattle.extent_groups.specs.Planned.{IsPlan, wanted_parity};
 ghost use Rattle.extent_groups.specs.PlanLists.{listed, parity_listed};
 ghost use Rattle.extent_groups.specs.Units.{site_of};
@@ -98,6 +99,7 @@ pub fn plan<D: Drive>(
     ensures ok { IfOk result (λ plan. (wanted : Place → List ℕ)
         × IsPlan groups.now (cells D.units D.lost drives.new) slot unit.now wanted (listed plan.writes.items)
         × (parity_listed plan.parity ≡ wanted_parity (cells D.units D.lost drives.new) wanted (site_of groups.now slot))) }
+    ensures there { OnOk result (IsGone groups.now (missing_of D.lost drives.new) slot → ⊥) }
     ensures err { IfErr result (λ e. ((e ≡ refusal.Memory) × (drives.new ≡ drives.old))
         ⊎ ((e ≡ refusal.Gone slot) × (unit_of groups.now (cells D.units D.lost drives.new) slot ≡ None))) }
     ensures units { AreSound groups.now (cells D.units D.lost drives.old)

@@ -1,11 +1,18 @@
-use Rattle.std.proofs.Common.{◌≡◌, ℕ, inl, inr, refl, sym, ap, ◌∙◌, subst, List, [], ◌∷◌, ◌++◌, Vec}
+use Rattle.std.proofs.Common.{◌≡◌, ℕ, inl, inr, Bool, Some, None, refl, sym, ap, ◌∙◌, subst, List, [], ◌∷◌, ◌++◌, Vec}
+use Rattle.std.specs.Prelude.{slice_get}
 use Rattle.std.specs.Global.{Global}
-use Rattle.extent_groups.specs.Cells.{cells}
+use Rattle.std.proofs.lemmas.Option.{same_Some}
+use Rattle.extent_groups.specs.declared.place.Place.{Place}
+use Rattle.extent_groups.specs.Cells.{cells, held}
+use Rattle.extent_groups.specs.Groups.{Groups}
+use Rattle.extent_groups.specs.Missing.{missing_of, IsGoneAt, IsGone}
+use Rattle.extent_groups.specs.Units.{Pair, site_of}
 use Rattle.extent_groups.specs.Planned.{Wanted, IsPlanned, IsPlan}
 use Rattle.extent_groups.specs.PlanLists.{as_wanted, listed}
 use Rattle.extent_groups.proofs.Finishing.{planned_pair, planned_one}
 use Rattle.extent_groups.proofs.Listing.{pair_plan, both_listed, first_listed, second_listed}
 use Rattle.extent_groups.proofs.LayoutLaw.{layout_law}
+use Rattle.extent_groups.proofs.Missing.{cell_missing}
 use Rattle.extent_groups.proofs.Sites.{site_places}
 use Rattle.extent_groups.proofs.StoreCalls.{site_whole, sized_cells}
 use Rattle.mirrored_store.proofs.planning.plan.Goals as goal
@@ -90,3 +97,22 @@ returns-then-there-2-clause-listed g c =
     (second_listed all (λ z. c.args.unit.now) _ _ c.if-here.ensures c.if-there-2.ensures ∙ one_listed _ _ _ _ c.in-Ok.ensures.items c.push_reserved-then-there-2.ensures.items c.in-Ok-write_of-2.ensures)
     (pair_plan c.args.groups.now all c.args.slot _ _ c.args.unit.now (layout_law _ c.pair_of.ensures.groups) c.pair_of.ensures.site (sized_cells d.units d.lost _ _ c.requires.drives)
     (site_whole _ c.args.slot _ c.pair_of.ensures.groups c.pair_of.ensures.site) c.requires.unit (λ both. c.if-there-2.ensures both.1))
+
+-- neither copy of a slot that is gone holds a unit
+gone_pair : {D : Type 0} (units : D → List (List ℕ)) (lost : D → Bool) (ds : List D) (t : Groups) (slot : ℕ) (p q : Place) → site_of t slot ≡ Some (Pair p q)
+    → IsGone t (missing_of lost ds) slot → (held (cells units lost ds) p ≡ None) × (held (cells units lost ds) q ≡ None)
+gone_pair units lost ds t slot p q at gone =
+    let both : IsGoneAt (missing_of lost ds) (Pair p q) = subst (IsGoneAt (missing_of lost ds)) (same_Some _ _ (sym gone.1 ∙ at)) gone.2 in
+    (cell_missing units lost (slice_get ds p.drive) p.address both.0, cell_missing units lost (slice_get ds q.drive) q.address both.1)
+
+pub returns-then-there-clause-there : goal.returns-then-there-clause-there
+returns-then-there-clause-there g c = λ gone.
+    c.if-here.ensures (gone_pair g.D.Drive.units g.D.Drive.lost c.args.drives.now c.args.groups.now c.args.slot _ _ c.pair_of.ensures.site gone).0
+
+pub returns-then-here-clause-there : goal.returns-then-here-clause-there
+returns-then-here-clause-there g c = λ gone.
+    c.if-here.ensures (gone_pair g.D.Drive.units g.D.Drive.lost c.args.drives.now c.args.groups.now c.args.slot _ _ c.pair_of.ensures.site gone).0
+
+pub returns-then-there-2-clause-there : goal.returns-then-there-2-clause-there
+returns-then-there-2-clause-there g c = λ gone.
+    c.if-there-2.ensures (gone_pair g.D.Drive.units g.D.Drive.lost c.args.drives.now c.args.groups.now c.args.slot _ _ c.pair_of.ensures.site gone).1

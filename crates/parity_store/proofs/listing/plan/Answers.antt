@@ -11,6 +11,7 @@ use Rattle.parity_store.specs.Drafts.{IsDraft, writes_by, parity_by}
 use Rattle.parity_store.specs.Ways.{row_at}
 use Rattle.parity_store.proofs.Carrying.{way_plan, way_parity}
 use Rattle.parity_store.proofs.Stripes.{IsHome}
+use Rattle.parity_store.proofs.There.{way_there}
 use Rattle.parity_store.proofs.Laid.{laid}
 use Rattle.parity_store.proofs.listing.plan.Given as given
 use Rattle.parity_store.proofs.listing.plan.Goals as goal
@@ -84,3 +85,10 @@ returns-clause-ok g c =
       parity
           ∙ way_parity (row_at c.args.groups.now (c.args.slot / 128) c.row_of-at.result.offset) _ _ _ _ u s home c.args.groups.now (cells g.D.Drive.units g.D.Drive.lost c.find_way-way.new.drives) c.args.slot layout c.row_of-at.ensures.site c.requires.unit (long ∙ c.requires.unit) sized c.find_way-way.result found drafted,
     )
+
+pub returns-clause-there : goal.returns-clause-there
+returns-clause-there g c =
+    let found : c.find_way-way.result ≢ way.Missed = search rules in
+    way_there g.D.Drive.units g.D.Drive.lost c.find_way-way.new.drives (length c.args.unit.now) (row_at c.args.groups.now (c.args.slot / 128) c.row_of-at.result.offset) _ _ c.place-home.result c.place-parity.result c.args.unit.now c.find_way-way.new.sum
+    (record { whole = site_whole _ c.args.slot _ c.row_of-at.ensures.groups c.row_of-at.ensures.site; home_is = c.place-home.ensures.place; parity_is = c.place-parity.ensures.place })
+    c.args.groups.now c.args.slot c.find_way-way.result c.row_of-at.ensures.site found (draft g (goal.at.returns-clause-there g c).After-find_way-way)

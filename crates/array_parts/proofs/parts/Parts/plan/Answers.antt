@@ -1,10 +1,9 @@
 use Rattle.std.proofs.Common.{◌≡◌, inl, inr, refl, sym, ◌∙◌, ap, subst, None, ◌⊎◌}
-use Rattle.std.specs.Prelude.{IfErr}
+use Rattle.std.specs.Prelude.{IfErr, OnOk}
 use Rattle.std.specs.Vec.{with_items}
 use Rattle.extent_groups.specs.Cells.{cells}
 use Rattle.extent_groups.specs.Missing.{missing_of, IsGone}
-use Rattle.extent_groups.specs.Stores.{unit_of, AreSound, AreDrives, KeepsUnits}
-use Rattle.extent_groups.proofs.Missing.{gone_law}
+use Rattle.extent_groups.specs.Stores.{unit_of, AreSound, KeepsUnits}
 use Rattle.extent_groups.specs.declared.plan.PlanRefusal.TheVariants as why
 use Rattle.array_parts.specs.Notes.{refused_as}
 use Rattle.array_parts.specs.Slots.{TellsGone}
@@ -20,34 +19,17 @@ units g c =
     told_back (λ a b n. AreSound c.args.self.now.groups (cells g.D.Drive.units g.D.Drive.lost a) → KeepsUnits c.args.self.now.groups (cells g.D.Drive.units g.D.Drive.lost a) (cells g.D.Drive.units g.D.Drive.lost b))
     c.args.self.now.drives c.deref_mut-drives.result.now c.plan_slot-planned.new.drives 0 0 c.deref_mut-drives.ensures.value c.plan_slot-planned.ensures.touched.many refl c.plan_slot-planned.ensures.units
 
-pub returns-then-is_gone-clause-units : goal.returns-then-is_gone-clause-units
-returns-then-is_gone-clause-units g c = units g (goal.at.returns-then-is_gone-clause-units g c).After-plan_slot-planned
-
 pub returns-in-Ok-clause-units : goal.returns-in-Ok-clause-units
 returns-in-Ok-clause-units g c = units g (goal.at.returns-in-Ok-clause-units g c).After-plan_slot-planned
 
 pub returns-in-Err-clause-units : goal.returns-in-Err-clause-units
 returns-in-Err-clause-units g c = units g (goal.at.returns-in-Err-clause-units g c).After-plan_slot-planned
 
-pub returns-then-is_gone-clause-fares : goal.returns-then-is_gone-clause-fares
-returns-then-is_gone-clause-fares g c = fares_back c.args.self.now.drives c.deref_mut-drives.result.now c.plan_slot-planned.new.drives c.deref_mut-drives.ensures.value c.plan_slot-planned.ensures.touched
-
 pub returns-in-Ok-clause-fares : goal.returns-in-Ok-clause-fares
 returns-in-Ok-clause-fares g c = fares_back c.args.self.now.drives c.deref_mut-drives.result.now c.plan_slot-planned.new.drives c.deref_mut-drives.ensures.value c.plan_slot-planned.ensures.touched
 
 pub returns-in-Err-clause-fares : goal.returns-in-Err-clause-fares
 returns-in-Err-clause-fares g c = fares_back c.args.self.now.drives c.deref_mut-drives.result.now c.plan_slot-planned.new.drives c.deref_mut-drives.ensures.value c.plan_slot-planned.ensures.touched
-
-pub returns-then-is_gone-clause-err : goal.returns-then-is_gone-clause-err
-returns-then-is_gone-clause-err g c =
-    let back = written_back c.args.self.now.drives c.deref_mut-drives.result.now c.plan_slot-planned.new.drives c.deref_mut-drives.ensures.value c.plan_slot-planned.ensures.touched.many in
-    let gone = subst (λ xs. IsGone c.args.self.now.groups (missing_of g.D.Drive.lost xs) c.args.slot) c.deref.ensures.value (c.is_gone.ensures.0 c.if-is_gone.true) in
-    inr (record {
-      told = refl;
-      none = (gone_law g.D.Drive.units g.D.Drive.lost c.args.self.now.groups _ c.args.slot gone.0 c.requires.fit.groups
-          (subst (AreDrives g.D.Drive.units c.args.self.now.groups) (sym back) c.plan_slot-planned.ensures.drives) gone.1).1 gone;
-      gone = gone;
-    })
 
 pub returns-in-Err-clause-err : goal.returns-in-Err-clause-err
 returns-in-Err-clause-err g c =
@@ -58,3 +40,21 @@ returns-in-Err-clause-err g c =
       | inr gone ↦ inr (subst (TellsGone g.D.Drive.units g.D.Drive.lost (lent_back c.args.self.now c.plan_slot-planned.new.drives) c.args.slot) (sym (c.refused.ensures ∙ ap refused_as gone.0))
           (gone_of g.D.Drive.units g.D.Drive.lost (lent_back c.args.self.now c.plan_slot-planned.new.drives) c.plan_slot-planned.new.drives c.args.slot back c.requires.slot c.requires.fit.groups c.plan_slot-planned.ensures.drives gone.1))
     ]
+
+pub returns-in-Ok-clause-there : goal.returns-in-Ok-clause-there
+returns-in-Ok-clause-there g c =
+    let back = written_back c.args.self.now.drives c.deref_mut-drives.result.now c.plan_slot-planned.new.drives c.deref_mut-drives.ensures.value c.plan_slot-planned.ensures.touched.many in
+    subst (λ xs. IsGone c.args.self.now.groups (missing_of g.D.Drive.lost xs) c.args.slot → ⊥) (sym back)
+    (subst (λ r. OnOk r (IsGone c.args.self.now.groups (missing_of g.D.Drive.lost c.plan_slot-planned.new.drives) c.args.slot → ⊥)) c.in-Ok.is c.plan_slot-planned.ensures.there)
+
+sound : (g : given.Over) (c : After-plan_slot-planned g) → AreSound c.args.self.now.groups (cells g.D.Drive.units g.D.Drive.lost c.args.self.now.drives.items)
+    → AreSound c.args.self.now.groups (cells g.D.Drive.units g.D.Drive.lost (with_items c.args.self.now.drives c.plan_slot-planned.new.drives).items)
+sound g c =
+    told_back (λ a b n. AreSound c.args.self.now.groups (cells g.D.Drive.units g.D.Drive.lost a) → AreSound c.args.self.now.groups (cells g.D.Drive.units g.D.Drive.lost b))
+    c.args.self.now.drives c.deref_mut-drives.result.now c.plan_slot-planned.new.drives 0 0 c.deref_mut-drives.ensures.value c.plan_slot-planned.ensures.touched.many refl c.plan_slot-planned.ensures.sound
+
+pub returns-in-Ok-clause-sound : goal.returns-in-Ok-clause-sound
+returns-in-Ok-clause-sound g c = sound g (goal.at.returns-in-Ok-clause-sound g c).After-plan_slot-planned
+
+pub returns-in-Err-clause-sound : goal.returns-in-Err-clause-sound
+returns-in-Err-clause-sound g c = sound g (goal.at.returns-in-Err-clause-sound g c).After-plan_slot-planned
