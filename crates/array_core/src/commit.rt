@@ -117,8 +117,14 @@ impl<D: Drive, C: Hold> Array<D, C> {
         })
     }
 
-    // The record that a commit of the slot's ticket emits, given the newest of the block.
-    fn next_record(&self, slot: u16, block: u32, found: Option<Record>) -> Result<Record, Refusal>
+    /// The record that a commit of the slot's ticket to the block would emit, given the newest of the block. Refused where nothing
+    /// waits at the slot that is for the block, where it was outrun, where the block's versions are spent, and where the log is full.
+    pub fn next_record(
+        &self,
+        slot: u16,
+        block: u32,
+        found: Option<Record>,
+    ) -> Result<Record, Refusal>
         ensures ok { IfOk result (λ next. (commit_reason self.now slot block found ≡ None) × (next ≡ commit_record self.now slot block found)) }
         ensures err { IfErr result (λ refusal. commit_reason self.now slot block found ≡ Some refusal) }
     {
@@ -136,8 +142,8 @@ impl<D: Drive, C: Hold> Array<D, C> {
         next
     }
 
-    // The kind of what waits at the slot.
-    fn waiting_kind(&self, slot: u16) -> Kind
+    /// The kind of what waits at the slot; data where nothing does.
+    pub fn waiting_kind(&self, slot: u16) -> Kind
         ensures { result ≡ kind_given (kept_at self.now slot) }
     {
         match place_at(&self.places, slot) {

@@ -54,8 +54,9 @@ impl<D: Drive, C: Hold> Array<D, C> {
         Ok(Ticket::of(slot))
     }
 
-    // The record whose content can be copied into the slot, given the newest of the block.
-    fn source(&self, slot: u16, found: Option<Record>) -> Result<Record, Refusal>
+    /// The record whose content `copy` would copy into the slot, given the newest of the block. Refused where no made group has
+    /// the slot, the array holds it, the block was never written, or its hops are spent.
+    pub fn source(&self, slot: u16, found: Option<Record>) -> Result<Record, Refusal>
         ensures ok { IfOk result (λ source. (copy_reason self.now slot found ≡ None) × (found ≡ Some source)) }
         ensures err { IfErr result (λ refusal. copy_reason self.now slot found ≡ Some refusal) }
     {

@@ -43,8 +43,9 @@ impl<D: Drive, C: Hold> Array<D, C> {
         Ok(Ticket::of(slot))
     }
 
-    // Why a fresh content can't go into the slot.
-    pub(crate) fn fill_fault(&self, slot: u16) -> Option<Refusal>
+    /// Why a fresh content can't go into the slot: no made group has it, its group is of parity, or the array holds it. None where
+    /// `fill` and `trim` test no more than whether its drives are there.
+    pub fn fill_fault(&self, slot: u16) -> Option<Refusal>
         ensures { result ≡ fill_reason self.now slot }
     {
         match self.class_of(slot) {

@@ -16,6 +16,7 @@ mod hands;
 mod live;
 mod make;
 mod memory;
+mod plan;
 mod read;
 mod reading;
 mod relocate;
