@@ -1,0 +1,6 @@
+mod Gone
+mod Listing
+mod Steps
+mod Copying
+mod Committing
+mod Stopping

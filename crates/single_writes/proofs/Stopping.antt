@@ -1,0 +1,85 @@
+-- The parts behind a stop, and the restarted array.
+use Rattle.std.proofs.Common.{◌≡◌, ℕ, Bool, None, List, take, sym, subst}
+use Rattle.extents.specs.Failures.{Failures}
+use Rattle.extent_groups.specs.declared.place.Place.{Place}
+use Rattle.extent_groups.specs.Calls.{FadesAt, KeepsDrives}
+use Rattle.extent_groups.specs.Planned.{after}
+use Rattle.flat_machine.specs.Flat.{Flat}
+use Rattle.array_parts.specs.declared.micro.Micro.{Micro}
+use Rattle.array_parts.specs.declared.parts.Parts.{Parts}
+use Rattle.array_parts.specs.Fit.{IsFit}
+use Rattle.array_parts.specs.Micros.{IsWritten, KeepsGroups, writes_in, note_after}
+use Rattle.array_parts.specs.Slots.{cells_in}
+use Rattle.array_parts.specs.Views.{PartsView, view_of}
+use Rattle.array_core.specs.Refused.{OnlyLoses}
+use Rattle.array_model.specs.Adopted.{HasParts}
+use Rattle.array_model.specs.Represents.{ShowsArray}
+use Rattle.array_model.specs.Views.{ArrayView}
+use Rattle.header_scan.specs.Restarts.{HasUnits}
+use Rattle.header_scan.specs.Stops.{IsButLost, IsResumed, IsStopped, standing}
+use Rattle.flat_machine.specs.Restarted.{IsRestarted}
+use Rattle.single_writes.specs.declared.intent.Intent.{Intent}
+use Rattle.single_writes.specs.Intents.{IsTaken, slot_of, step_of}
+use Rattle.single_writes.specs.Lists.{IsStepList}
+use Rattle.single_writes.specs.Stops.{IsCutShort, WasStopped}
+
+-- the parts of an array are those of a state that it shows, each of whose slots has a unit
+has_parts : (a : ArrayView) (F : Flat) → ShowsArray a F → HasParts a.parts F
+has_parts a F shows = record {
+  groups = shows.tables.groups;
+  drives = shows.tables.drives;
+  lost = shows.tables.lost;
+  failures = shows.tables.failures;
+  units = shows.units;
+}
+
+has_units : (a : ArrayView) (F : Flat) → ShowsArray a F → HasUnits F
+has_units a F shows s = (shows.history.units s).there
+
+-- a list that was carried out in part
+pub stopped : {D : Type 0} (units : D → List (List ℕ)) (lost : D → Bool) (failures : D → Failures) (p q : Parts D) (list : List Micro) (n : ℕ) → q.note ≡ note_after p.note (take n list)
+    → ((x : Place) → FadesAt (after (cells_in units lost p) (writes_in (take n list))) (cells_in units lost q) x) → KeepsDrives units lost failures (IsWritten (take n list)) p.drives.items q.drives.items → KeepsGroups p q
+    → IsStopped units lost p q list n
+stopped units lost failures p q list n note cells touched groups = record { note = note; groups = groups; many = touched.many; cells = cells }
+
+-- what a restart makes of it
+pub cut_short : {D : Type 0} (units : D → List (List ℕ)) (lost : D → Bool) (failures : D → Failures) (b made : ArrayView) (p q : Parts D) (list : List Micro) (n : ℕ) (F : Flat) (w : ℕ) (intent : Intent)
+    → IsStepList units lost failures b F (slot_of intent) (step_of w intent) (IsTaken intent) list → view_of units lost failures p ≡ b.parts → p.note ≡ None → IsFit units p → IsStopped units lost p q list n → IsResumed units lost failures q made
+    → IsCutShort F w intent n made
+cut_short units lost failures b made p q list n F w intent l seen none fit stop resumed = go (resumed p l.before l.after list n fit has (has_units b l.before l.shows) (l.micro p seen none) stop)
+  where
+    has : HasParts (view_of units lost failures p) l.before
+    has = subst (λ (v : PartsView). HasParts v l.before) (sym seen) (has_parts b l.before l.shows)
+
+    go : (X : Flat) × (keys : ℕ → ℕ) × (K : Flat) × IsButLost (standing n l.before l.after) X × IsRestarted X keys K × ShowsArray made K → IsCutShort F w intent n made
+    go r = record {
+      before = l.before;
+      after = l.after;
+      answer = l.answer;
+      leaves = l.leaves;
+      took = l.took;
+      case = l.case;
+      found = r.0;
+      keys = r.1;
+      now = r.2;
+      stands = r.3;
+      restarted = r.4;
+      shows = r.5;
+    }
+
+-- what the planned step left that stopped
+pub was_stopped : {D : Type 0} (units : D → List (List ℕ)) (lost : D → Bool) (failures : D → Failures) (a b : ArrayView) (p q : Parts D) (list : List Micro) (n : ℕ) (F : Flat) (w : ℕ) (intent : Intent) → OnlyLoses a b
+    → IsStepList units lost failures b F (slot_of intent) (step_of w intent) (IsTaken intent) list → view_of units lost failures p ≡ b.parts → p.note ≡ None → q.note ≡ note_after p.note (take n list)
+    → ((x : Place) → FadesAt (after (cells_in units lost p) (writes_in (take n list))) (cells_in units lost q) x) → KeepsDrives units lost failures (IsWritten (take n list)) p.drives.items q.drives.items → KeepsGroups p q
+    → WasStopped units lost failures a F w intent n q
+was_stopped units lost failures a b p q list n F w intent loses steps seen none note cells touched groups = record {
+  planned = b;
+  list = list;
+  begun = p;
+  loses = loses;
+  steps = steps;
+  parts_are = seen;
+  no_note = none;
+  stopped = stopped units lost failures p q list n note cells touched groups;
+  touched = touched;
+}

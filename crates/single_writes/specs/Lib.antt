@@ -1,0 +1,3 @@
+pub mod Intents
+pub mod Lists
+pub mod Stops

@@ -1,0 +1,77 @@
+-- What a step leaves that stops after some of its single writes, and what a restart makes of it.
+use Rattle.std.specs.Prelude.{◌≡◌, ℕ, Bool, None, List, take}
+use Rattle.extents.specs.Failures.{Failures}
+use Rattle.extent_groups.specs.Calls.{KeepsDrives}
+use Rattle.array_parts.specs.declared.micro.Micro.{Micro}
+use Rattle.array_parts.specs.declared.parts.Parts.{Parts}
+use Rattle.array_parts.specs.Fit.{IsFit}
+use Rattle.array_parts.specs.Micros.{IsWritten}
+use Rattle.array_parts.specs.Views.{view_of}
+use Rattle.array_core.specs.Refused.{OnlyLoses}
+use Rattle.array_model.specs.Changes.{MayRefuse}
+use Rattle.array_model.specs.Represents.{ShowsArray}
+use Rattle.array_model.specs.Views.{ArrayView}
+use Rattle.flat_machine.specs.Cases.{Case, IsWanted, Leaves}
+use Rattle.flat_machine.specs.Flat.{Flat}
+use Rattle.flat_machine.specs.Restarted.{IsRestarted}
+use Rattle.flat_machine.specs.Steps.{FlatAnswer, Refused}
+use Rattle.header_scan.specs.Restarts.{FromFinished, IsResumeFault, WasMade}
+use Rattle.header_scan.specs.Stops.{IsButLost, IsStopped, standing}
+use Rattle.slot_tables.specs.Adopted.{AreClaimsOf}
+use Rattle.step_core.specs.Adopted.{AreShared}
+use Rattle.single_writes.specs.declared.intent.Intent.{Intent}
+use Rattle.single_writes.specs.declared.stop.Unfinished.{Unfinished}
+use Rattle.single_writes.specs.declared.stop.Unfinished.TheVariants.{NotBegun, NotRestarted}
+use Rattle.single_writes.specs.Intents.{IsTaken, slot_of, step_of}
+use Rattle.single_writes.specs.Lists.{IsStepList}
+
+-- the array is that of before the step where nothing was carried out, and else that of after it, restarted, but for its drives
+pub record IsCutShort (F : Flat) (w : ℕ) (intent : Intent) (n : ℕ) (a : ArrayView) : Type 0 where
+  pub before : Flat
+  pub after : Flat
+  pub answer : FlatAnswer
+  pub leaves : Leaves F before
+  pub took : IsTaken intent answer
+  pub case : Case F (step_of w intent) answer after
+  pub found : Flat
+  pub stands : IsButLost (standing n before after) found
+  pub keys : ℕ → ℕ
+  pub now : Flat
+  pub restarted : IsRestarted found keys now
+  pub shows : ShowsArray a now
+
+-- the step was planned over the array a, and the first n entries of its list were carried out over the array's parts, which left
+-- the parts q
+pub record WasStopped {D : Type 0} (units : D → List (List ℕ)) (lost : D → Bool) (failures : D → Failures) (a : ArrayView) (F : Flat) (w : ℕ) (intent : Intent) (n : ℕ) (q : Parts D) : Type 0 where
+  pub planned : ArrayView
+  pub list : List Micro
+  pub begun : Parts D
+  pub loses : OnlyLoses a planned
+  pub steps : IsStepList units lost failures planned F (slot_of intent) (step_of w intent) (IsTaken intent) list
+  pub parts_are : view_of units lost failures begun ≡ planned.parts
+  pub no_note : begun.note ≡ None
+  pub stopped : IsStopped units lost begun q list n
+  pub touched : KeepsDrives units lost failures (IsWritten (take n list)) begun.drives.items q.drives.items
+
+-- a restart finished the note of what the stop left, if it left one, and made the array of it
+abbrev pub WasResumed : {D : Type 0} → (D → List (List ℕ)) → (D → Bool) → (D → Failures) → ArrayView → Flat → ℕ → Intent → ℕ → ArrayView → Type 0
+WasResumed {D} units lost failures a F w intent n made =
+    (q : Parts D) × WasStopped units lost failures a F w intent n q × FromFinished units lost failures q (λ mid. WasMade units lost failures mid made)
+
+-- the claims that the array kept are its newest places' and the others
+pub record AreClaimsLeft {C : Type 0} (names : C → ℕ) (a b : ArrayView) (others : List C) : Type 0 where
+  pub kept : List C
+  pub of : AreClaimsOf names a kept
+  pub shared : AreShared names kept b others
+
+-- what came back where no array was restarted: the array, which lost drives at most; or all claims that it kept, with parts that fit
+abbrev pub IsReturned : {D C : Type 0} → (D → List (List ℕ)) → (C → ℕ) → ArrayView → Unfinished D C → Type 0
+IsReturned units names a (NotBegun refusal b) = OnlyLoses a b
+IsReturned units names a (NotRestarted fault parts claims) = IsFit units parts × AreClaimsOf names a claims.items
+
+-- why none was: the step's refusal, and memory only where its checks pass; or the fault of a restart of what the stop left
+abbrev pub IsWhyNone : {D C : Type 0} → (D → List (List ℕ)) → (D → Bool) → (D → Failures) → (C → ℕ) → ArrayView → Flat → ℕ → Intent → ℕ → Unfinished D C → Type 0
+IsWhyNone units lost failures names a F w intent n (NotBegun refusal b) =
+    MayRefuse refusal (IsWanted F (step_of w intent)) ((G : Flat) × Case F (step_of w intent) (Refused refusal) G × ShowsArray b G)
+IsWhyNone {D} units lost failures names a F w intent n (NotRestarted fault parts claims) =
+    (q : Parts D) × WasStopped units lost failures a F w intent n q × IsResumeFault units lost failures q parts names claims.items fault
