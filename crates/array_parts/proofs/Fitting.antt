@@ -1,5 +1,10 @@
 -- When parts fit.
-use Rattle.std.proofs.Common.{◌≡◌, ℕ, ◌≤◌, ◌*◌, List, length, sym, ◌∙◌, ap}
+use Rattle.std.proofs.Common.{◌≡◌, ℕ, ◌≤◌, ◌<◌, ◌*◌, Bool, true, false, List, [], ◌∷◌, length, sym, ◌∙◌, ap, subst, refl, arith, inl, inr}
+use Rattle.std.specs.Prelude.{IsTrue, Some, slice_get}
+use Rattle.std.specs.Bool.{MatchBool}
+use Rattle.std.specs.List.{AllWithin, HoldsAt}
+use Rattle.std.proofs.lemmas.Option.{get_or_from_slice_get, slice_get_cases, slice_get_within}
+use Rattle.extents.specs.Units.{IsSized}
 use Rattle.extents.specs.Sizes.{extent_units}
 use Rattle.extents.specs.Shapes.{IsShapeOf}
 use Rattle.extent_groups.specs.Groups.{AreGroups, Agree}
@@ -31,3 +36,27 @@ fits units p shape least most groups many sized agree rows wide =
 pub fit_units : {D : Type 0} (units : D → List (List ℕ)) (p : Parts D) → IsFit units p → HaveUnits units p.drives.items (p.shape.extents * extent_units p.shape.segments)
 fit_units units p fit d x e =
     fit.drives.many d x e ∙ ap (λ n. n * extent_units p.groups.segments) (sym fit.shape.of_extents) ∙ ap (λ n. p.shape.extents * extent_units n) (sym fit.shape.of_segments)
+
+-- drives of which each element of the list says that its units are sized
+pub sized_within : {D : Type 0} (units : D → List (List ℕ)) (bytes : ℕ) (drives : List D) → AllWithin (λ x. IsSized bytes (units x)) drives 0 (length drives) → AreSized units bytes drives
+sized_within units bytes drives all d x e =
+    subst (λ y. IsSized bytes (units y)) (get_or_from_slice_get drives d x x e) (all d x (omega arith) (slice_get_within drives d x e))
+
+-- a search for a drive that isn't sized finds none where all are and each has a unit
+pub sized_where : {D : Type 0} (units : D → List (List ℕ)) (bytes : ℕ) (drives : List D) (found : Bool)
+    → MatchBool found (AllWithin (λ x. IsSized bytes (units x)) drives 0 (length drives))
+    ((k : ℕ) × (k < length drives) × HoldsAt (λ x. IsSized bytes (units x) → length (units x) ≡ 0) drives k)
+    → AreSized units bytes drives → ((d : ℕ) (x : D) → slice_get drives d ≡ Some x → 1 ≤ length (units x)) → IsTrue found
+sized_where units bytes drives true _ sized some = refl
+sized_where units bytes drives false (k, below, at) sized some = elim (slice_get_cases drives k).1 [
+  | inl (x, _, e, same) ↦
+      let none = subst (λ y. IsSized bytes (units y) → length (units y) ≡ 0) same (at x) (sized k x e) in
+      let one = some k x e in
+      absurd (omega (arith, none, one))
+  | inr (past, _) ↦ absurd (omega (arith, below, past))
+]
+
+-- units that have two sizes are none
+pub sized_twice : (one other : ℕ) (us : List (List ℕ)) → IsSized one us → IsSized other us → (one ≡ other → ⊥) → length us ≡ 0
+sized_twice one other [] a b apart = refl
+sized_twice one other (u ∷ us) a b apart = absurd (apart (sym (a 0 u refl) ∙ b 0 u refl))

@@ -47,10 +47,18 @@ fn have_units<D: Drive>(drives: &[D], units: u32) -> bool
     drives.iter().all(|drive| drive.units() == units)
 }
 
+// Whether each unit of the drives, of which each has one, has so many bytes.
+fn have_unit_bytes<D: Drive>(drives: &[D], bytes: usize) -> bool
+    requires { (d : ℕ) (x : D) → slice_get drives.now d ≡ Some x → 1 ≤ length (D.units x) }
+    ensures { IsTrue result ↔ AreSized D.units bytes drives.now }
+{
+    drives.iter().all(|drive| drive.unit_bytes() == bytes)
+}
+
 impl<D: Drive> Parts<D> {
-    /// Whether the parts fit one another; a drive doesn't tell how many bytes a unit has.
+    /// Whether the parts fit one another: 3 to 16 drives with the units that the sizes ask for, groups and owners of extents
+    /// that agree.
     pub fn is_fit(&self) -> bool
-        requires { AreSized D.units (unit_bytes self.now.groups) self.now.drives.items }
         ensures { IsTrue result ↔ IsFit D.units self.now }
     {
         let _groups = self.groups.members(0);
@@ -64,7 +72,10 @@ impl<D: Drive> Parts<D> {
         if self.extents.owners(0).len() != self.shape.extents as usize {
             return false;
         }
-        have_units(&self.drives, self.shape.drive_units()) && self.groups.agrees(&self.extents)
+        if !have_units(&self.drives, self.shape.drive_units()) {
+            return false;
+        }
+        have_unit_bytes(&self.drives, self.shape.unit_bytes()) && self.groups.agrees(&self.extents)
     }
 
     /// Reads the effective unit of a slot, with a buffer of two units' length.

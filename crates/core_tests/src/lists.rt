@@ -1,7 +1,6 @@
 // The parts of a stopped array: a step's list of single writes, carried out in part, and a restart after it.
 ghost use Rattle.std.specs.Prelude.{◌≡◌, ℕ, Some, [], ◌∷◌, length, slice_get, IsTrue};
 ghost use Rattle.extent_groups.specs.declared.class.Class.TheVariants.{Mirrored, Parity};
-ghost use Rattle.extent_groups.specs.Calls.{AreSized};
 ghost use Rattle.extent_groups.specs.Stores.{IsSlotOf};
 ghost use Rattle.array_parts.specs.Fit.{IsFit};
 ghost use Rattle.array_parts.specs.Memory.{held_units};
@@ -63,13 +62,6 @@ fn claims_of(rt: &impl Abort, alloc: Global, slots: &[u16]) -> Vec<Plain> {
         assert!(rt; claims.push(Plain { slot: *slot }).is_ok());
     }
     claims
-}
-
-// Whether each unit of the drives has `size` bytes.
-fn are_sized(drives: &[MemDrive], size: usize) -> bool
-    ensures { IsTrue result → AreSized held_units size drives.now }
-{
-    drives.iter().all(|drive| drive.unit_bytes() == size)
 }
 
 // Whether the slot is one of a mirrored group.
@@ -155,7 +147,7 @@ impl Stop {
     fn is_ready(&self) -> bool
         ensures { IsTrue result → IsFit held_units self.now.parts }
     {
-        are_sized(&self.parts.drives, self.parts.groups.shape().unit_bytes()) && self.parts.is_fit()
+        self.parts.is_fit()
     }
 
     /// Loses these drives.

@@ -42,8 +42,8 @@ fn spot_of(members: u8, position: u16, unit: u16) -> Spot
     }
 }
 
-/// The two copies of an index of a mirrored group.
-pub(crate) fn two_copies(members: u8, index: u16) -> Copies
+/// Where the two copies of a mirrored slot lie, by the members of its group and the slot's index in it, below 128.
+pub fn two_copies(members: u8, index: u16) -> Copies
     requires some { 1 ≤ members }
     requires low { index < 128 }
     ensures { result ≡ copies_of members index }
@@ -72,8 +72,8 @@ fn passed_over(parity: u8, others: u8) -> u8
     if others < parity { others } else { others + 1 }
 }
 
-/// The stripe of an index of a parity group.
-pub(crate) fn one_stripe(members: u8, index: u16) -> Stripe
+/// Where a parity slot lies, by the members of its group and the slot's index in it, below 128.
+pub fn one_stripe(members: u8, index: u16) -> Stripe
     requires some { 2 ≤ members }
     requires low { index < 128 }
     ensures { result ≡ stripe_of members index }

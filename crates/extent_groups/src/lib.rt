@@ -15,10 +15,10 @@ mod wipe;
 
 pub use change::{are_there, put_check, swap_check};
 pub use class::{Class, Member};
-pub use geometry::{Copies, Spot, Stripe};
+pub use geometry::{Copies, Spot, Stripe, one_stripe, two_copies};
 pub use place::{Place, read_front, read_place, write_gathered, write_place};
 pub use plan::{PlanRefusal, Planned, is_there, write_of};
 pub use refusal::{GroupRefusal, StoreRefusal};
 pub use role::Role;
-pub use table::{GROUPS, GroupTable, SLOTS};
+pub use table::{GROUPS, GroupTable, SLOTS, count_slots};
 pub use wipe::wipe_extent;

@@ -67,7 +67,7 @@ pub(crate) fn count_parity(class: Class, members: u16, segments: u16) -> u16
 }
 
 /// How many slots a group of `members` members and `segments` segments has.
-pub(crate) fn count_slots(class: Class, members: u16, segments: u16) -> u16
+pub fn count_slots(class: Class, members: u16, segments: u16) -> u16
     requires some { 1 ≤ members }
     requires few { members ≤ 8 }
     requires short { segments ≤ 8 }

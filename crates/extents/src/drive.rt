@@ -22,6 +22,10 @@ pub trait Drive {
     fn units(&self) -> u32
         ensures { result ≡ length (units self.now) };
 
+    /// Bytes of each of the drive's units.
+    fn unit_bytes(&self) -> usize
+        ensures { IsSized result (units self.now) };
+
     /// Whether the drive is lost.
     fn is_lost(&self) -> bool
         ensures { result ≡ lost self.now };

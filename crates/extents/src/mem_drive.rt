@@ -55,13 +55,6 @@ impl MemDrive {
         })
     }
 
-    /// Bytes of each of the drive's units.
-    pub fn unit_bytes(&self) -> usize
-        ensures { IsSized result self.now.units }
-    {
-        self.units.size()
-    }
-
     /// Loses the drive, its units unread from then on.
     pub fn lose(&mut self)
         ensures units { self.new.units ≡ self.old.units }
@@ -149,6 +142,10 @@ impl Drive for MemDrive {
 
     fn units(&self) -> u32 {
         self.units.count()
+    }
+
+    fn unit_bytes(&self) -> usize {
+        self.units.size()
     }
 
     fn is_lost(&self) -> bool {

@@ -66,13 +66,6 @@ impl<B: Backing + Drop> FileDrive<B> {
 }
 
 impl<B: Backing> FileDrive<B> {
-    /// Bytes of each unit.
-    pub fn unit_bytes(&self) -> usize
-        ensures { IsSized result self.now.cache.units }
-    {
-        self.cache.unit_bytes()
-    }
-
     /// Makes all writes that were Ok durable. No other call does. Refused where the drive is lost or the backing fails now, and
     /// then the drive is lost.
     pub fn sync(&mut self) -> Result<(), DriveLost>
@@ -119,6 +112,10 @@ impl<B: Backing> Drive for FileDrive<B> {
 
     fn units(&self) -> u32 {
         self.cache.units()
+    }
+
+    fn unit_bytes(&self) -> usize {
+        self.cache.unit_bytes()
     }
 
     fn is_lost(&self) -> bool {

@@ -1,6 +1,5 @@
 // Drives whose units are written manually, and scans of them.
 ghost use Rattle.std.specs.Prelude.{◌≡◌, IsTrue};
-ghost use Rattle.extent_groups.specs.Calls.{AreSized};
 ghost use Rattle.extent_groups.specs.Stores.{unit_bytes};
 ghost use Rattle.array_parts.specs.Fit.{IsFit};
 ghost use Rattle.array_parts.specs.Memory.{held_units};
@@ -33,20 +32,10 @@ pub(crate) struct Slots {
     pub(crate) placed: Vec<Placed>,
 }
 
-// Whether each unit of the drives has `size` bytes.
-fn are_sized(drives: &[MemDrive], size: usize) -> bool
-    ensures { IsTrue result → AreSized held_units size drives.now }
-{
-    drives.iter().all(|drive| drive.unit_bytes() == size)
-}
-
 /// Whether the parts fit one another.
 pub(crate) fn are_fit(parts: &Parts<MemDrive>) -> bool
     ensures { IsTrue result → IsFit held_units parts.now }
 {
-    if !are_sized(&parts.drives, parts.groups.shape().unit_bytes()) {
-        return false;
-    }
     parts.is_fit()
 }
 

@@ -1,8 +1,6 @@
 // Both classes over drives in memory and over plain ones: what is read and written is the same, with drives lost too.
 ghost use Rattle.std.specs.Prelude.{◌≡◌, ◌*◌, length, IsTrue};
-ghost use Rattle.extent_groups.specs.Calls.{AreSized};
 ghost use Rattle.extent_groups.specs.Stores.{unit_bytes};
-ghost use Rattle.extents.specs.Units.{IsSized};
 ghost use Rattle.array_parts.specs.Fit.{IsFit};
 
 use crate::plain::PlainDrive;
@@ -22,10 +20,6 @@ trait Tried: Drive + Drop {
     /// A drive of zeros that is lost at the call of this number, counted from 1.
     fn made(rt: &impl Abort, alloc: Global, shape: &Shape, call: u64) -> Self;
 
-    /// Whether each unit has this length.
-    fn has(&self, size: usize) -> bool
-        ensures { IsTrue result → IsSized size (Self.units self.now) };
-
     /// Loses the drive, at its next call at the latest.
     fn lose_it(&mut self);
 }
@@ -40,10 +34,6 @@ impl Tried for MemDrive {
         drive
     }
 
-    fn has(&self, size: usize) -> bool {
-        self.unit_bytes() == size
-    }
-
     fn lose_it(&mut self) {
         self.lose();
     }
@@ -55,20 +45,9 @@ impl Tried for PlainDrive {
         PlainDrive::new(rt, alloc, shape, call - 1)
     }
 
-    fn has(&self, size: usize) -> bool {
-        self.is_sized(size)
-    }
-
     fn lose_it(&mut self) {
         self.end();
     }
-}
-
-/// Whether each unit of the drives has `size` bytes.
-fn have_size<D: Tried>(drives: &[D], size: usize) -> bool
-    ensures { IsTrue result → AreSized D.units size drives.now }
-{
-    drives.iter().all(|drive| drive.has(size))
 }
 
 /// Slots 0 to 5 are mirrored on drives 0 to 2, and slots 128 to 135 have parity on drives 1 to 3. Slots 128, 129, 132 and 133
@@ -140,7 +119,7 @@ impl<D: Tried> Trial<D> {
         if self.unit.len() != size || self.scratch.len() != 2 * size {
             return false;
         }
-        have_size(&self.parts.drives, size) && self.parts.is_fit()
+        self.parts.is_fit()
     }
 
     /// Lets a group enter, of the extent of its number on each of these drives.

@@ -50,34 +50,39 @@ impl Unit {
 pub(crate) struct PlainDrive {
     units: Vec<Unit>,
     count: u32,
+    size: usize,
     left: u64,
     lost: bool,
     ghost counted: { length units.items ≡ count },
+    ghost sized: { IsSized size units.items },
+}
+
+// Whether each of the units has so many bytes.
+fn are_sized(units: &[Unit], size: usize) -> bool
+    ensures { IsTrue result → IsSized size units.now }
+{
+    units.iter().all(|unit| unit.len() == size)
 }
 
 impl PlainDrive {
     /// A drive of zeros, with the units of this shape, that answers as many calls.
     pub(crate) fn new(rt: &impl Abort, alloc: Global, shape: &Shape, left: u64) -> PlainDrive {
         let count = shape.drive_units();
+        let size = shape.unit_bytes();
         let mut units = Vec::new(alloc);
         for _unit in 0..count {
-            let bytes = zeros(rt, alloc, shape.unit_bytes());
+            let bytes = zeros(rt, alloc, size);
             assert!(rt; units.push(Unit { bytes }).is_ok());
         }
         assert!(rt; units.len() == count as usize);
+        assert!(rt; are_sized(&units, size));
         PlainDrive {
             units,
             count,
+            size,
             left,
             lost: false,
         }
-    }
-
-    /// Whether each unit has this length.
-    pub(crate) fn is_sized(&self, size: usize) -> bool
-        ensures { IsTrue result → IsSized size self.now.units.items }
-    {
-        self.units.iter().all(|unit| unit.len() == size)
     }
 
     /// Loses the drive at its next call.
@@ -112,6 +117,10 @@ impl Drive for PlainDrive {
 
     fn units(&self) -> u32 {
         self.count
+    }
+
+    fn unit_bytes(&self) -> usize {
+        self.size
     }
 
     fn is_lost(&self) -> bool {

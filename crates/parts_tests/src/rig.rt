@@ -1,7 +1,6 @@
 // The parts of an array of drives in memory, with buffers for their calls.
 ghost use Rattle.std.specs.Prelude.{◌≡◌, ◌*◌, ◌<◌, ◌≤◌, ℕ, length, slice_get, None, Some, IsTrue};
 ghost use Rattle.extent_groups.specs.declared.class.Member.{Member};
-ghost use Rattle.extent_groups.specs.Calls.{AreSized};
 ghost use Rattle.extent_groups.specs.Faults.{put_fault};
 ghost use Rattle.extent_groups.specs.Groups.{AreThere, IsFree};
 ghost use Rattle.extent_groups.specs.Stores.{unit_bytes};
@@ -117,14 +116,7 @@ fn are_on(drives: usize, members: &[Member]) -> bool
         .all(|member| (member.drive as usize) < drives)
 }
 
-/// Whether each unit of the drives has `size` bytes.
-fn are_sized(drives: &[MemDrive], size: usize) -> bool
-    ensures { IsTrue result → AreSized held_units size drives.now }
-{
-    drives.iter().all(|drive| drive.unit_bytes() == size)
-}
-
-/// Whether the slot is one of a made group.
+//// Whether the slot is one of a made group.
 pub(crate) fn is_slot(groups: &GroupTable, slot: u16) -> bool
     ensures { IsTrue result → IsSlot groups.now slot }
 {
@@ -145,7 +137,6 @@ pub(crate) fn restart_parts(
     parts: Parts<MemDrive>,
     claims: Vec<Plain>,
 ) -> Restarted {
-    assert!(rt; are_sized(&parts.drives, parts.groups.shape().unit_bytes()));
     assert!(rt; parts.is_fit());
     restart(alloc, parts, claims)
 }
@@ -202,9 +193,6 @@ impl Rig {
     {
         let size = self.parts.groups.shape().unit_bytes();
         if self.unit.len() != size || self.scratch.len() != 2 * size {
-            return false;
-        }
-        if !are_sized(&self.parts.drives, size) {
             return false;
         }
         self.parts.is_fit()

@@ -1,6 +1,5 @@
 // The parts of an array that is stopped, and restarts of them.
 ghost use Rattle.std.specs.Prelude.{◌≡◌, ◌∷◌, [], ℕ, Some, IsTrue, slice_get};
-ghost use Rattle.extent_groups.specs.Calls.{AreSized};
 ghost use Rattle.array_parts.specs.Fit.{IsFit};
 ghost use Rattle.array_parts.specs.Memory.{held_units};
 ghost use Rattle.array_parts.specs.Micros.{AreWrites};
@@ -21,18 +20,11 @@ pub(crate) type Stopped = Parts<MemDrive>;
 /// The array of a restart; or its fault, with the parts and the claims.
 pub(crate) type Restarted = Result<Memory, (ScanFault, Stopped, Vec<Plain>)>;
 
-// Whether each unit of the drives has `size` bytes.
-fn are_sized(drives: &[MemDrive], size: usize) -> bool
-    ensures { IsTrue result → AreSized held_units size drives.now }
-{
-    drives.iter().all(|drive| drive.unit_bytes() == size)
-}
-
 // Whether the parts fit one another.
 fn is_ready(parts: &Stopped) -> bool
     ensures { IsTrue result → IsFit held_units parts.now }
 {
-    are_sized(&parts.drives, parts.groups.shape().unit_bytes()) && parts.is_fit()
+    parts.is_fit()
 }
 
 // Whether what the entry writes is a unit, to a place of one of the drives.

@@ -65,6 +65,10 @@ impl<'a> Drive for Recorder<'a> {
         self.drive.units()
     }
 
+    fn unit_bytes(&self) -> usize {
+        self.drive.unit_bytes()
+    }
+
     fn is_lost(&self) -> bool {
         self.drive.is_lost()
     }

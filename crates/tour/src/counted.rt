@@ -41,6 +41,10 @@ impl<D: Drive> Drive for Counted<D> {
         self.drive.units()
     }
 
+    fn unit_bytes(&self) -> usize {
+        self.drive.unit_bytes()
+    }
+
     fn is_lost(&self) -> bool {
         self.drive.is_lost()
     }
@@ -57,13 +61,6 @@ impl<D: Drive> Drive for Counted<D> {
 }
 
 impl Counted<MemDrive> {
-    /// Bytes of each unit: no call of `Drive` says so.
-    pub(crate) fn unit_bytes(&self) -> usize
-        ensures { IsSized result self.now.drive.units }
-    {
-        self.drive.unit_bytes()
-    }
-
     /// Loses the drive.
     pub(crate) fn lose(&mut self)
         ensures lost { is_gone self.new.drive.condition ≡ true }

@@ -5,7 +5,7 @@ ghost use Rattle.tour.specs.Counted.{counted_units};
 
 use crate::counted::Counted;
 use crate::desk::Desk;
-use crate::volume::{Volume, are_sized};
+use crate::volume::Volume;
 use crate::watched::Watched;
 use anyhow::{Result, bail, ensure};
 use array_parts::Parts;
@@ -17,9 +17,6 @@ use step_core::{MemDrive, TakeBack};
 fn are_fit(parts: &Parts<Counted<MemDrive>>) -> bool
     ensures { IsTrue result → IsFit counted_units parts.now }
 {
-    if !are_sized(&parts.drives, parts.groups.shape().unit_bytes()) {
-        return false;
-    }
     parts.is_fit()
 }
 
