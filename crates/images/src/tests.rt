@@ -1,5 +1,5 @@
 use crate::{ImageRefusal, image_of, load};
-use extents::Shape;
+use extents::{Drive, Shape};
 use std::alloc::Alloc;
 use std::process::Abort;
 

@@ -14,5 +14,5 @@ mod why;
 pub use bench::Bench;
 pub use laws::line_laws;
 pub use replies::reply;
-pub use texts::{put, put_number};
+pub use texts::{put, put_fault, put_listing, put_number};
 pub use why::{Failure, Why};

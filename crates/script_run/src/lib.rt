@@ -11,4 +11,5 @@ mod split;
 mod stop;
 
 pub use end::End;
-pub use run::run_script;
+pub use run::{run_and_leave, run_script};
+pub use script_bench::Bench;

@@ -10,6 +10,7 @@ use crate::end::End;
 use crate::halt::Halt;
 use crate::script::Script;
 use crate::stop::Stop;
+use script_bench::Bench;
 use std::alloc::{AllocError, Global};
 use std::io::{Read, Write};
 
@@ -24,14 +25,29 @@ pub fn run_script<R: Read, W: Write>(alloc: Global, reader: &mut R, writer: &mut
     ensures { IfSome (R.remaining reader.old) (λ script.
         SaysBy result script (R.remaining reader.new) (W.contents writer.old) (W.contents writer.new)) }
 {
+    let (end, _bench) = run_and_leave(alloc, reader, writer);
+    end
+}
+
+/// Runs a script as `run_script` does, and returns the array that it leaves; none where it made none.
+pub fn run_and_leave<R: Read, W: Write>(
+    alloc: Global,
+    reader: &mut R,
+    writer: &mut W,
+) -> (End, Option<Bench>)
+    ensures { IfSome (R.remaining reader.old) (λ script.
+        SaysBy result.0 script (R.remaining reader.new) (W.contents writer.old) (W.contents writer.new)) }
+{
     let Ok(mut chunk) = zeros(alloc, CHUNK) else {
-        return End::Memory
+        return (End::Memory, None);
     };
     let Ok(payload) = zeros(alloc, LONGEST_PAYLOAD) else {
-        return End::Memory
+        return (End::Memory, None);
     };
     let mut script = Script::new(alloc, payload);
-    turns(alloc, reader, writer, &mut chunk, &mut script).end()
+    let end = turns(alloc, reader, writer, &mut chunk, &mut script).end();
+    let Script { bench, .. } = script;
+    (end, bench)
 }
 
 // Turn after turn, up to the end.

@@ -1,7 +1,7 @@
 use Rattle.std.proofs.Common.{None}
 use Rattle.script_bench.specs.Carrying.{Stands}
 use Rattle.script_run.proofs.Ends.{run_said}
-use Rattle.script_run.proofs.run.run_script.Goals as goal
+use Rattle.script_run.proofs.run.run_and_leave.Goals as goal
 
 pub returns : goal.returns
 returns g c =
