@@ -1,0 +1,139 @@
+//! Drives from images, and images from drives.
+use crate::table::Table;
+use crate::trouble::Trouble;
+use crate::words::Files;
+use array_parts::Parts;
+use extents::{Drive, MemDrive, Shape};
+use file_drive::{Backing, OnFile};
+use images::{ImageRefusal, image_of, load};
+use std::alloc::Global;
+use std::fs::{self, File, OpenOptions};
+use std::io;
+
+/// The word for a lost drive.
+const LOST: &str = "-";
+
+/// The trouble of a file that can't be read.
+fn unread(error: &io::Error, file: usize) -> Trouble {
+    match error.kind() {
+        io::ErrorKind::OutOfMemory => Trouble::Memory,
+        _ => Trouble::Read(file),
+    }
+}
+
+/// The bytes of a file, which is given by its number among the files.
+pub(crate) fn bytes_of(
+    rt: &HostRuntime,
+    files: Files<'_>,
+    file: usize,
+) -> Result<Vec<u8>, Trouble> {
+    match fs::read(rt, files.name(file)) {
+        Ok(bytes) => Ok(bytes),
+        Err(error) => Err(unread(&error, file)),
+    }
+}
+
+// A drive that is lost.
+fn lost(alloc: Global, shape: &Shape) -> Result<MemDrive, Trouble> {
+    let mut drive = MemDrive::new(alloc, shape)?;
+    drive.lose();
+    Ok(drive)
+}
+
+// The drive of an image.
+fn drive_of(
+    rt: &HostRuntime,
+    files: Files<'_>,
+    file: usize,
+    shape: &Shape,
+) -> Result<MemDrive, Trouble> {
+    if files.name(file) == LOST {
+        return lost(rt.alloc(), shape);
+    }
+    let image = bytes_of(rt, files, file)?;
+    match load(rt.alloc(), shape, &image) {
+        Ok(drive) => Ok(drive),
+        Err(ImageRefusal::Memory) => Err(Trouble::Memory),
+        Err(ImageRefusal::Length) => Err(Trouble::Length(file)),
+    }
+}
+
+/// The parts of the array of a table, its drives those of the images.
+pub(crate) fn parts_of(rt: &HostRuntime, files: Files<'_>) -> Result<Parts<MemDrive>, Trouble> {
+    let text = bytes_of(rt, files, 0)?;
+    let Table {
+        shape,
+        groups,
+        extents,
+        drives: count,
+    } = Table::parse(rt.alloc(), &text)?;
+    if files.images.len() != usize::from(count) {
+        return Err(Trouble::Count);
+    }
+    let mut drives = Vec::new(rt.alloc());
+    for number in 0..files.images.len() {
+        drives.push(drive_of(rt, files, number.saturating_add(1), &shape)?)?;
+    }
+    Ok(Parts {
+        shape,
+        groups,
+        extents,
+        drives,
+        note: None,
+    })
+}
+
+// Makes the file empty, and opens it for writing.
+fn emptied(rt: &HostRuntime, name: &str) -> io::Result<File> {
+    OpenOptions::new()
+        .write(true)
+        .create(true)
+        .truncate(true)
+        .open(rt, name)
+}
+
+// Writes a file by one write, and makes it durable.
+fn put_file(rt: &HostRuntime, name: &str, bytes: &[u8]) -> io::Result<()> {
+    let mut backing = OnFile {
+        file: emptied(rt, name)?,
+    };
+    let count = backing.write_at(0, bytes)?;
+    if count != bytes.len() {
+        return Err(io::Error::from(io::ErrorKind::WriteZero));
+    }
+    backing.sync()
+}
+
+/// Writes a file whole: its bytes are durable where this is Ok.
+pub(crate) fn write_file(
+    rt: &HostRuntime,
+    files: Files<'_>,
+    file: usize,
+    bytes: &[u8],
+) -> Result<(), Trouble> {
+    match put_file(rt, files.name(file), bytes) {
+        Ok(()) => Ok(()),
+        Err(error) => match error.kind() {
+            io::ErrorKind::OutOfMemory => Err(Trouble::Memory),
+            _ => Err(Trouble::Write(file)),
+        },
+    }
+}
+
+/// Writes the image of each drive. A lost drive's file is left empty, so that no older image is taken for it.
+pub(crate) fn write_images(
+    rt: &HostRuntime,
+    files: Files<'_>,
+    parts: &mut Parts<MemDrive>,
+) -> Result<(), Trouble> {
+    let mut file = 0usize;
+    for drive in parts.drives.iter_mut() {
+        let size = drive.unit_bytes();
+        file = file.saturating_add(1);
+        match image_of(rt.alloc(), drive, size)? {
+            Some(image) => write_file(rt, files, file, &image)?,
+            None => write_file(rt, files, file, &[])?,
+        }
+    }
+    Ok(())
+}

@@ -1,0 +1,91 @@
+//! Why the program ends early.
+use crate::words::Files;
+use std::alloc::{AllocError, AllocFailed};
+use std::io;
+
+/// Why nothing was answered. A file is given by its place among the words of the command line, from 0.
+#[derive(Clone, Copy, Debug)]
+pub(crate) enum Trouble {
+    /// The words ask for nothing that the program does.
+    Words,
+    /// A line of the table, from 1, isn't what it should be.
+    Line(usize),
+    /// There are not as many images as the table has drives.
+    Count,
+    /// The table's groups don't fit the drives.
+    Misfit,
+    /// The file's length isn't that of an image.
+    Length(usize),
+    /// The block's number is past the array's last block.
+    Block,
+    /// The file can't be read.
+    Read(usize),
+    /// The file can't be written.
+    Write(usize),
+    /// Standard output can't be written.
+    Output,
+    Memory,
+}
+
+impl Trouble {
+    /// The status that the program ends with: 2 for what was asked for or given, 4 out of memory, 5 for a read or write that failed.
+    pub(crate) fn status(self) -> u8 {
+        match self {
+            Trouble::Memory => 4,
+            Trouble::Read(_) | Trouble::Write(_) | Trouble::Output => 5,
+            _ => 2,
+        }
+    }
+
+    // What is wrong, apart from the file.
+    fn text(self) -> &'static str {
+        match self {
+            Trouble::Words => "raid_images save|check|map|block B|salvage|picture TABLE IMAGE..",
+            Trouble::Line(_) => "a line of the table can't be parsed",
+            Trouble::Count => "the table has another number of drives than there are images",
+            Trouble::Misfit => "the table's groups don't fit one another",
+            Trouble::Length(_) => "isn't of an image's length",
+            Trouble::Block => "no such block",
+            Trouble::Read(_) => "can't be read",
+            Trouble::Write(_) => "can't be written",
+            Trouble::Output => "standard output can't be written",
+            Trouble::Memory => "out of memory",
+        }
+    }
+
+    // The number of the file that it is about.
+    fn file(self) -> Option<usize> {
+        match self {
+            Trouble::Line(_) => Some(0),
+            Trouble::Length(file) | Trouble::Read(file) | Trouble::Write(file) => Some(file),
+            _ => None,
+        }
+    }
+
+    /// Says on standard error what is wrong, in one line.
+    pub(crate) fn report(self, rt: &HostRuntime, files: Option<Files<'_>>) -> io::Result<()> {
+        let text = self.text();
+        match (self.file(), files) {
+            (Some(file), Some(files)) => {
+                let name = files.name(file);
+                match self {
+                    Trouble::Line(line) => eprintln!(rt; "{name}: line {line} can't be parsed"),
+                    _ => eprintln!(rt; "{name} {text}"),
+                }
+            }
+            _ => eprintln!(rt; "{text}"),
+        }
+    }
+}
+
+impl From<AllocError> for Trouble {
+    fn from(_: AllocError) -> Trouble {
+        Trouble::Memory
+    }
+}
+
+impl<T: Drop> From<AllocFailed<T>> for Trouble {
+    fn from(_: AllocFailed<T>) -> Trouble {
+        Trouble::Memory
+    }
+}
