@@ -2,7 +2,7 @@
 use Rattle.std.proofs.Common.{◌≡◌, true, refl}
 use Rattle.array_model.specs.Views.{Kept, Nothing, Pending, Moving, Newest, Unmade}
 use Rattle.array_model.specs.Changes.{hop_given}
-use Rattle.array_core.specs.Waits.{is_fresh}
+use Rattle.disk_array.specs.Waits.{is_fresh}
 
 pub no_hop : (k : Kept) → is_fresh k ≡ true → hop_given k ≡ 0
 no_hop Nothing e = refl

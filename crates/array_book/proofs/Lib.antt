@@ -1,3 +1,4 @@
+pub mod Settles
 pub mod Halves
 pub mod Shown
 pub mod Telling

@@ -9,7 +9,7 @@ use Rattle.flat_machine.proofs.Newest.{newest_told}
 use Rattle.array_model.specs.Represents.{ShowsArray}
 use Rattle.array_model.specs.Views.{ArrayView, key_at}
 use Rattle.migrator.specs.Ages.{IsOldest, IsMarked}
-use Rattle.tiering.proofs.Marks.{mirrored_record}
+use Rattle.background.proofs.Marks.{mirrored_record}
 use Rattle.cleaner.specs.declared.moves.Move.{Move}
 use Rattle.array_book.specs.Kept.{KeptView, IsKept}
 use Rattle.array_book.specs.Planned.{IsPlugOf, IsCleanOf, IsOldestMirrored, IsFirstBehind, IsRegrouped, IsPlanned, IsDone, IsNext, NoDemotion, turn_of}

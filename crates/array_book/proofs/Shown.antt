@@ -20,10 +20,10 @@ use Rattle.array_model.specs.Represents.{ShowsArray}
 use Rattle.array_model.specs.Views.{ArrayView, IsWhole, key_at, with_parts}
 use Rattle.migrator.specs.Ages.{Marked}
 use Rattle.migrator.specs.Slots.{class_at}
-use Rattle.tiering.specs.Marking.{AreMarked, is_mirrors}
-use Rattle.tiering.specs.declared.outcome.Outcome.TheVariants as outcome
-use Rattle.tiering.proofs.Emitting.{HasEmitted, alike_left, commit_emits}
-use Rattle.tiering.proofs.Marks.{marks_keep}
+use Rattle.background.specs.Marking.{AreMarked, is_mirrors}
+use Rattle.background.specs.declared.outcome.Outcome.TheVariants as outcome
+use Rattle.background.proofs.Emitting.{HasEmitted, alike_left, commit_emits}
+use Rattle.background.proofs.Marks.{marks_keep}
 use Rattle.map_join.specs.Maps.{IsMapOf}
 use Rattle.step_core.specs.Headline.{bytes_of}
 use Rattle.step_core.proofs.Standing.{headers_tell, one_scan}

@@ -10,7 +10,7 @@ use Rattle.array_model.specs.Views.{ArrayView, key_at}
 use Rattle.array_model.specs.Represents.{ShowsArray}
 use Rattle.migrator.specs.Ages.{Marked, written}
 use Rattle.migrator.specs.Slots.{End, class_at}
-use Rattle.tiering.specs.Marking.{AreMarked, is_mirrors}
+use Rattle.background.specs.Marking.{AreMarked, is_mirrors}
 use Rattle.step_core.specs.Headline.{bytes_of}
 
 -- the array, the order of last writes with marks on the blocks in mirrored groups, and the end of the write log

@@ -2,6 +2,9 @@ pub mod Kept
 pub mod Takes
 pub mod Planned
 pub mod Numbers
+pub mod SettleNumbers
+pub mod Settling
+pub mod Passes
 pub mod Running
 pub mod Outcomes
 pub mod Given

@@ -2,11 +2,11 @@
 ghost use Rattle.array_model.specs.Views.{key_at};
 
 use crate::claim::Claim;
+use background::count_live;
 use extents::Drive;
 use map_join::{Live, Newest, Record};
 use slot_words::Naming;
 use step_core::Array;
-use tiering::count_live;
 
 // The tables of an array.
 #[derive(Drop)]

@@ -8,16 +8,16 @@ ghost use Rattle.slot_words.specs.Places.{slots_of};
 ghost use Rattle.slot_words.specs.Steps.{given_half as right_given, kept_half as right_kept};
 
 use crate::claim::{Claim, Sizes};
+use crate::ended::Ended;
 use crate::kept::Kept;
+use background::ages_of;
 use extents::Drive;
 use map_words::MapWords;
 use migrator::{LogEnd, mirror_slots};
-use settling::Ended;
 use slot_words::SlotWords;
 use std::alloc::Global;
 use std::sync::Mutex;
 use step_core::Array;
-use tiering::ages_of;
 
 /// An array guarded by a lock, its slot words, and the maps of two controllers. While it is in a Book no group of it is made.
 pub struct Book<

@@ -12,11 +12,12 @@ ghost use Rattle.array_model.specs.Views.{key_at};
 ghost use Rattle.array_model.specs.Represents.{ShowsArray};
 ghost use Rattle.migrator.specs.Slots.{class_at, end_at};
 ghost use Rattle.step_core.specs.Refused.{IsRefused};
-ghost use Rattle.tiering.specs.Marking.{is_mirrors};
+ghost use Rattle.background.specs.Marking.{is_mirrors};
 ghost use Rattle.array_book.specs.Kept.{IsKept, Agrees, HasNoted, OnlyArray, order_after};
 ghost use Rattle.array_book.specs.Outcomes.{WasFilled, WasCopied, WasCommitted, WasRefused, WasGivenUp, WasLearned, WasUnlearned};
 
 use crate::claim::{Claim, Sizes};
+use background::is_mirrored;
 use extent_groups::GroupTable;
 use extents::Drive;
 use flat_machine::Refusal;
@@ -26,7 +27,6 @@ use slot_words::{Naming, SlotWords};
 use std::alloc::Global;
 use std::marker::Model;
 use step_core::{Array, Done, Reading, Ticket};
-use tiering::is_mirrored;
 
 /// An array, the order of last writes with marks on the blocks in mirrored groups, and the end of the write log.
 pub struct Kept<D: Drive, N: Naming + Sizes> {

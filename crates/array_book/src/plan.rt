@@ -6,12 +6,12 @@ ghost use Rattle.array_book.specs.Outcomes.{State, WasPlanned};
 use crate::asks::Running;
 use crate::claim::Sizes;
 use crate::kept::Kept;
+use background::Any;
 use cleaner::{Move, clean_plan_unplugged, plug_plan_counted};
 use extent_groups::SLOTS;
 use extents::Drive;
 use migrator::{Free, first_append};
 use slot_words::Naming;
-use tiering::Any;
 
 // A block that is to be moved.
 #[derive(Drop)]

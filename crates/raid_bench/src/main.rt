@@ -3,7 +3,7 @@
 
 mod task;
 
-use script_run::{End, run_script};
+use script_io::{End, run_script};
 use std::process::ExitCode;
 use std::{env, io};
 use storm::{end_storm, run_storm};

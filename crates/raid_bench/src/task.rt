@@ -3,7 +3,7 @@ ghost use Rattle.std.specs.Prelude.{◌≡◌, ◌∷◌, [], ℕ, IfOk, IfSome,
 ghost use Rattle.raid_bench.specs.Asked.{IsAsked, AreStorm, IsStorm};
 
 use clap::{Arg, Command, Error};
-use script_words::number_of;
+use script_syntax::number_of;
 use std::alloc::{AllocError, Global};
 
 /// What the program is asked to do.

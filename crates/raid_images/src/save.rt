@@ -5,9 +5,9 @@ use crate::trouble::Trouble;
 use crate::words::Files;
 use array_parts::Parts;
 use extents::MemDrive;
-use script_run::{Bench, run_and_leave};
+use script_io::{Bench, run_and_leave};
 use std::alloc::Global;
-use tiering::Tiers;
+use background::Tiers;
 
 // The parts of the array that a script leaves.
 fn parts_of(alloc: Global, bench: Bench) -> Result<Parts<MemDrive>, Trouble> {

@@ -4,8 +4,8 @@ use crate::trouble::Trouble;
 use array_parts::Parts;
 use extent_groups::{Class, GROUPS, GroupTable, Member, are_there};
 use extents::{Drive, ExtentTable, Shape};
-use script_bench::{put, put_number};
-use script_words::{Command, Named, Verb, number_of, read_command};
+use script_exec::{put, put_number};
+use script_syntax::{Command, Named, Verb, number_of, read_command};
 use std::alloc::{AllocError, Global};
 
 /// An array's sizes, its groups, and the owners of extents, without the drives.

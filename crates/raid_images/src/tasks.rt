@@ -6,7 +6,7 @@ use crate::words::Files;
 use extents::MemDrive;
 use header_scan::ScanFault;
 use map_join::BlockMap;
-use script_bench::{put, put_fault, put_listing, put_number};
+use script_exec::{put, put_fault, put_listing, put_number};
 use std::alloc::{AllocError, Global};
 use std::io::Write;
 use step_core::{Array, Plain, Refusal};

@@ -82,7 +82,7 @@ pub(crate) fn block_of(given: &ArgMatches<'_>) -> Result<u32, Trouble> {
     let Some(word) = given.get_str("block") else {
         return Err(Trouble::Words);
     };
-    match script_words::number_of(word.as_bytes()) {
+    match script_syntax::number_of(word.as_bytes()) {
         Some(block) if block < 65_536 => Ok(block as u32),
         Some(_) => Err(Trouble::Block),
         None => Err(Trouble::Words),

@@ -18,17 +18,17 @@ use Rattle.flat_machine.specs.History.{IsStep}
 use Rattle.flat_machine.specs.Scans.{ScanAnswer, Told, NotTold, ScanCase, RestartAnswer, Restarted, NotRestarted, RestartCase}
 use Rattle.flat_machine.proofs.Newest.{same_map}
 use Rattle.flat_machine.proofs.Keeps.{new_history}
-use Rattle.tiering.specs.Tiered.{Tiered, begun}
-use Rattle.tiering.specs.Steps.{TierStep, TierCase, order_behind}
-use Rattle.tiering.specs.Steps as tier
-use Rattle.regrouping.specs.declared.outcome.Regrouped.{Regrouped}
-use Rattle.regrouping.specs.Regrouping.{BalanceCase, RebuildCase}
-use Rattle.script_words.specs.Order.{Order}
-use Rattle.script_words.specs.Order as o
+use Rattle.background.specs.Tiered.{Tiered, begun}
+use Rattle.background.specs.Steps.{TierStep, TierCase, order_behind}
+use Rattle.background.specs.Steps as tier
+use Rattle.background.specs.declared.regrouped.Regrouped.{Regrouped}
+use Rattle.background.specs.Regrouping.{BalanceCase, RebuildCase}
+use Rattle.script_syntax.specs.Order.{Order}
+use Rattle.script_syntax.specs.Order as o
 use Rattle.header_scan.specs.declared.fault.ScanFault.TheVariants.{Gone}
-use Rattle.script_bench.specs.State.{Position, State, IsDue, IsInRange, IsArrayInRange, block_count, nothing_taken}
-use Rattle.script_bench.specs.Text.{answer_text, asked_version, outcome_text, regrouped_text, difference_text, fault_text, listing, record_text}
-use Rattle.script_bench.specs.Answers.{Answers, AreNoGroups, Begins, Commits, Compares, Merges, Regroups, Restarts, Scans, ShowsMap, Steps, Takes, TellsScan, TierSteps, members_named, restart_text, tiers_behind, with_flat, with_taken}
+use Rattle.script_exec.specs.State.{Position, State, IsDue, IsInRange, IsArrayInRange, block_count, nothing_taken}
+use Rattle.script_exec.specs.Text.{answer_text, asked_version, outcome_text, regrouped_text, difference_text, fault_text, listing, record_text}
+use Rattle.script_exec.specs.Answers.{Answers, AreNoGroups, Begins, Commits, Compares, Merges, Regroups, Restarts, Scans, ShowsMap, Steps, Takes, TellsScan, TierSteps, members_named, restart_text, tiers_behind, with_flat, with_taken}
 use Rattle.script_laws.specs.Once.{Settles}
 use Rattle.script_laws.specs.Steady.{IsReached}
 use Rattle.script_laws.specs.Bench.{AreDistinct, IsOneBench, IsTiered}

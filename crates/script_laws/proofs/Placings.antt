@@ -7,9 +7,9 @@ use Rattle.flat_machine.specs.Steps.{FlatAnswer, Claimed, Taken, Released, Fille
 use Rattle.flat_machine.specs.Steps as step
 use Rattle.flat_machine.specs.Cases.{Case, Runs}
 use Rattle.flat_machine.specs.History.{IsStep}
-use Rattle.tiering.specs.Placing.{Put, Fresh, Again, PlaceCase, put_step, put_answer, back_steps, back_answers}
-use Rattle.tiering.specs.declared.outcome.Outcome.{Outcome}
-use Rattle.tiering.specs.declared.outcome.Outcome.TheVariants.{Placed, Refused, NoRoom, Nothing}
+use Rattle.background.specs.Placing.{Put, Fresh, Again, PlaceCase, put_step, put_answer, back_steps, back_answers}
+use Rattle.background.specs.declared.outcome.Outcome.{Outcome}
+use Rattle.background.specs.declared.outcome.Outcome.TheVariants.{Placed, Refused, NoRoom, Nothing}
 use Rattle.script_laws.specs.Once.{Settles}
 use Rattle.script_laws.specs.Steady.{IsReached}
 use Rattle.script_laws.proofs.Trees.{Ends, Picks, Then, ends, picks, then, settles_by}

@@ -17,11 +17,11 @@ use Rattle.migrator.specs.Slots.{IsMirrored, class_at}
 use Rattle.migrator.specs.First.{IsFirst, IsFirstAppend}
 use Rattle.cleaner.specs.declared.moves.Move.{Move}
 use Rattle.cleaner.specs.Plans.{IsPlugPlan, IsCleanPlan}
-use Rattle.tiering.specs.Tiered.{Tiered}
-use Rattle.tiering.specs.Placing.{Fresh, Again, PlaceCase}
-use Rattle.tiering.specs.Steps.{TierStep, Write, Demote, Plug, Clean, TierCase, WriteCase, DemoteCase, PlugCase, CleanCase, WritesAt, AppendsAt, MovesTo, GoesDown, Demotes, WritesIn, WritesBehind, Writes, Plugs, Cleans, Stays, IsFreeMirror, order_after}
-use Rattle.tiering.specs.declared.outcome.Outcome.{Outcome}
-use Rattle.tiering.specs.declared.outcome.Outcome.TheVariants.{Placed, NoRoom, Nothing}
+use Rattle.background.specs.Tiered.{Tiered}
+use Rattle.background.specs.Placing.{Fresh, Again, PlaceCase}
+use Rattle.background.specs.Steps.{TierStep, Write, Demote, Plug, Clean, TierCase, WriteCase, DemoteCase, PlugCase, CleanCase, WritesAt, AppendsAt, MovesTo, GoesDown, Demotes, WritesIn, WritesBehind, Writes, Plugs, Cleans, Stays, IsFreeMirror, order_after}
+use Rattle.background.specs.declared.outcome.Outcome.{Outcome}
+use Rattle.background.specs.declared.outcome.Outcome.TheVariants.{Placed, NoRoom, Nothing}
 use Rattle.script_laws.specs.Once.{Settles}
 use Rattle.script_laws.specs.Steady.{IsReached}
 use Rattle.script_laws.specs.Bench.{AreDistinct, IsTiered}

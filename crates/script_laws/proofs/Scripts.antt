@@ -1,10 +1,10 @@
 -- A script says one text, and ends in one way.
 use Rattle.std.proofs.Common.{◌≡◌, ℕ, ◌+◌, List, [], ◌∷◌, ◌++◌, sym, ap, ◌∙◌, subst, None}
-use Rattle.script_bench.specs.State.{State}
-use Rattle.script_bench.specs.Meaning.{Meaning, Skip, Do, Wrong, Means}
-use Rattle.script_run.specs.Says.{Goes, Tells, Says, lines_of}
-use Rattle.script_run.specs.declared.end.End.{End}
-use Rattle.script_bench.proofs.Once.{means_once}
+use Rattle.script_exec.specs.State.{State}
+use Rattle.script_exec.specs.Meaning.{Meaning, Skip, Do, Wrong, Means}
+use Rattle.script_io.specs.Says.{Goes, Tells, Says, lines_of}
+use Rattle.script_io.specs.declared.end.End.{End}
+use Rattle.script_exec.proofs.Once.{means_once}
 use Rattle.script_laws.specs.Bench.{IsOneBench}
 use Rattle.script_laws.proofs.Answers.{answers_settle}
 

@@ -2,8 +2,8 @@
 #![tactic(auto)]
 
 ghost use Rattle.std.specs.Prelude.{◌≡◌, ℕ, List};
-ghost use Rattle.script_run.specs.Says.{Says};
-ghost use Rattle.script_run.specs.declared.end.End.{End};
+ghost use Rattle.script_io.specs.Says.{Says};
+ghost use Rattle.script_io.specs.declared.end.End.{End};
 
 /// A script says one text, and ends in one way.
 pub fn said_laws()

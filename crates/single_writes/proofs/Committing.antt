@@ -31,9 +31,9 @@ use Rattle.array_model.proofs.Committing.{commit_gone, commit_ok, commit_slot, c
 use Rattle.array_model.proofs.Fares.{fared, leaves, gone_back, lost_leaves}
 use Rattle.array_model.proofs.Kepts.{ticket_held}
 use Rattle.array_model.proofs.Newest.{newest_told}
-use Rattle.array_core.specs.Laws.{only_more}
-use Rattle.array_core.specs.Refused.{OnlyLoses}
-use Rattle.array_core.proofs.Ready.{as_refused}
+use Rattle.disk_array.specs.Laws.{only_more}
+use Rattle.disk_array.specs.Refused.{OnlyLoses}
+use Rattle.disk_array.proofs.Ready.{as_refused}
 use Rattle.single_writes.specs.Lists.{IsUnitList, IsStepList}
 use Rattle.single_writes.proofs.Gone.{gone_behind}
 use Rattle.single_writes.proofs.Steps.{still_shown, micro_of}

@@ -22,9 +22,9 @@ use Rattle.array_model.specs.Views.{ArrayView, IsWhole, key_at, with_parts}
 use Rattle.array_model.proofs.Copies.{copy_passes, copy_slot, copy_gone}
 use Rattle.array_model.proofs.Fares.{fared, leaves, gone_back, lost_leaves}
 use Rattle.array_model.proofs.Finds.{newest_write}
-use Rattle.array_core.specs.Laws.{only_more}
-use Rattle.array_core.specs.Refused.{OnlyLoses}
-use Rattle.array_core.proofs.Ready.{as_refused}
+use Rattle.disk_array.specs.Laws.{only_more}
+use Rattle.disk_array.specs.Refused.{OnlyLoses}
+use Rattle.disk_array.proofs.Ready.{as_refused}
 use Rattle.array_parts.proofs.Calls.{lost_more}
 use Rattle.single_writes.specs.Lists.{IsUnitList, IsStepList}
 use Rattle.single_writes.proofs.Gone.{not_gone, not_before, gone_behind}

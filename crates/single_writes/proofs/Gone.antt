@@ -10,7 +10,7 @@ use Rattle.array_parts.proofs.Reading.{slot_there}
 use Rattle.array_model.specs.Represents.{ShowsArray}
 use Rattle.array_model.specs.Views.{ArrayView, IsWhole}
 use Rattle.array_model.proofs.Fares.{gone_before, loses_more}
-use Rattle.array_core.specs.Refused.{OnlyLoses}
+use Rattle.disk_array.specs.Refused.{OnlyLoses}
 use Rattle.flat_machine.specs.Cases.{IsGoneIn}
 use Rattle.flat_machine.specs.Flat.{Flat}
 use Rattle.flat_machine.specs.declared.refusal.Refusal.{Refusal}

@@ -33,8 +33,8 @@ use Rattle.array_model.specs.Represents.{ShowsArray}
 use Rattle.array_model.specs.Views.{ArrayView, with_parts}
 use Rattle.array_model.proofs.Fares.{fared, leaves, gone_back, lost_shows, lost_leaves}
 use Rattle.array_model.proofs.Fills.{fill_passes, fill_slot, fill_gone}
-use Rattle.array_core.specs.Refused.{OnlyLoses}
-use Rattle.array_core.proofs.Ready.{as_refused}
+use Rattle.disk_array.specs.Refused.{OnlyLoses}
+use Rattle.disk_array.proofs.Ready.{as_refused}
 use Rattle.header_scan.specs.Stops.{IsMicro, IsNotedList}
 use Rattle.single_writes.specs.Lists.{IsUnitList, IsStepList, IsListFor, CanRun}
 

@@ -11,7 +11,7 @@ use Rattle.array_parts.specs.Fit.{IsFit}
 use Rattle.array_parts.specs.Micros.{IsWritten, KeepsGroups, writes_in, note_after}
 use Rattle.array_parts.specs.Slots.{cells_in}
 use Rattle.array_parts.specs.Views.{PartsView, view_of}
-use Rattle.array_core.specs.Refused.{OnlyLoses}
+use Rattle.disk_array.specs.Refused.{OnlyLoses}
 use Rattle.array_model.specs.Adopted.{HasParts}
 use Rattle.array_model.specs.Represents.{ShowsArray}
 use Rattle.array_model.specs.Views.{ArrayView}

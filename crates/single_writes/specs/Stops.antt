@@ -7,7 +7,7 @@ use Rattle.array_parts.specs.declared.parts.Parts.{Parts}
 use Rattle.array_parts.specs.Fit.{IsFit}
 use Rattle.array_parts.specs.Micros.{IsWritten}
 use Rattle.array_parts.specs.Views.{view_of}
-use Rattle.array_core.specs.Refused.{OnlyLoses}
+use Rattle.disk_array.specs.Refused.{OnlyLoses}
 use Rattle.array_model.specs.Changes.{MayRefuse}
 use Rattle.array_model.specs.Represents.{ShowsArray}
 use Rattle.array_model.specs.Views.{ArrayView}

@@ -4,7 +4,7 @@ ghost use Rattle.extent_groups.specs.Stores.{unit_bytes};
 ghost use Rattle.flat_machine.specs.declared.refusal.Refusal.TheVariants as refusal;
 ghost use Rattle.array_parts.specs.Slots.{IsSlot};
 ghost use Rattle.array_parts.specs.Views.{FoundGone, IsLost};
-ghost use Rattle.array_core.specs.Refused.{OnlyLoses};
+ghost use Rattle.disk_array.specs.Refused.{OnlyLoses};
 ghost use Rattle.single_writes.specs.Lists.{IsUnitList};
 
 use array_parts::{Micro, Note};

@@ -6,7 +6,7 @@ ghost use Rattle.flat_machine.specs.Flat as flat;
 ghost use Rattle.flat_machine.specs.Steps as say;
 ghost use Rattle.array_model.specs.Changes.{MayRefuse};
 ghost use Rattle.array_model.specs.Represents.{ShowsArray};
-ghost use Rattle.array_core.specs.Refused.{OnlyLoses};
+ghost use Rattle.disk_array.specs.Refused.{OnlyLoses};
 ghost use Rattle.single_writes.specs.Intents.{IsAsked, MayTake, IsTaken, slot_of, step_of};
 ghost use Rattle.single_writes.specs.Lists.{CanRun, IsListFor, IsStepList};
 ghost use Rattle.map_join.specs.declared.records.Record.{Record};

@@ -8,7 +8,7 @@ ghost use Rattle.flat_machine.specs.declared.refusal.Refusal.TheVariants as refu
 ghost use Rattle.array_parts.specs.Shows.{IsUnit};
 ghost use Rattle.array_parts.specs.Slots.{IsSlot};
 ghost use Rattle.array_parts.specs.Views.{cells_of, FoundGone};
-ghost use Rattle.array_core.specs.Refused.{OnlyLoses};
+ghost use Rattle.disk_array.specs.Refused.{OnlyLoses};
 
 use extents::{Drive, HEADER_BYTES, Header, Kind};
 use flat_machine::Refusal;

@@ -20,8 +20,8 @@ use Rattle.array_model.specs.Views.{ArrayView, WorldView, SameSizes}
 use Rattle.array_model.proofs.Hands.{as_world}
 use Rattle.step_core.specs.declared.step.Answer.{Answer}
 use Rattle.step_core.specs.declared.step.Answer.TheVariants as answer
-use Rattle.array_core.specs.Reads.{WasFound, WasFoundIn, WasGone, WasNotFound, version_in}
-use Rattle.array_core.specs.Refused.{IsRefused, OnlyLoses}
+use Rattle.disk_array.specs.Reads.{WasFound, WasFoundIn, WasGone, WasNotFound, version_in}
+use Rattle.disk_array.specs.Refused.{IsRefused, OnlyLoses}
 use Rattle.step_core.specs.Told.{flat_answer, read_answer}
 use Rattle.step_core.proofs.Worlds.{stays_world, refused_world}
 

@@ -34,7 +34,7 @@ use Rattle.array_model.proofs.Slots.{worker_hand, ticket_hand, block_hand, one_s
 use Rattle.flat_machine.proofs.Holding.{step_holds, once_any}
 use Rattle.flat_machine.specs.History.{IsStep}
 use Rattle.slot_tables.proofs.Places.{set_twice}
-use Rattle.array_core.specs.Losing.{WasLost}
+use Rattle.disk_array.specs.Losing.{WasLost}
 use Rattle.step_core.specs.Passed.{given_old}
 
 -- a ticket that goes in at its slot, and the one that comes out of it put back; and a claim in a ticket's stead

@@ -7,7 +7,7 @@ use Rattle.step_core.specs.declared.step.Step.TheVariants as step
 use Rattle.extent_groups.specs.Groups.{Groups}
 use Rattle.flat_machine.specs.declared.refusal.Refusal.{Refusal}
 use Rattle.flat_machine.specs.Flat.{Payload, Trim}
-pub use Rattle.array_core.specs.Reads.{version_in, version_of, seen_of, Lesson}
+pub use Rattle.disk_array.specs.Reads.{version_in, version_of, seen_of, Lesson}
 use Rattle.flat_machine.specs.Steps.{FlatStep, Claim, Release, Fill, Copy, Commit, Discard, Read, ReadAt, Make, Unmake, MoveExtent, AddDrive, FlatAnswer, Claimed, Taken, Released, NotHeld, Filled, Copied, Committed, Discarded, Found, FoundAt, MadeGroup, UnmadeGroup, MovedExtent, AddedDrive, Lose, LostDrive, Refused}
 
 -- each answer, as plain data

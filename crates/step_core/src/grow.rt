@@ -9,7 +9,7 @@ ghost use Rattle.step_core.specs.Told.{flat_answer};
 
 use crate::step::Answer;
 use crate::world::{World, refused};
-use array_core::DRIVES;
+use disk_array::DRIVES;
 use extents::MemDrive;
 use flat_machine::Refusal;
 use std::alloc::{AllocError, Global};

@@ -10,11 +10,11 @@ mod units;
 mod unmake;
 mod world;
 
-pub use array_core::{
+pub use array_parts::Units;
+pub use disk_array::{
     Apart, Array, At, Done, Emitted, Hold, NotAdopted, Plain, Reading, TakeBack, Ticket,
     claims_are_free,
 };
-pub use array_parts::Units;
 pub use extent_groups::GroupTable;
 pub use extents::{Drive, DriveLost, ExtentTable, MemDrive, Shape, ShapeRefusal};
 pub use flat_machine::{Class, Member, Refusal};

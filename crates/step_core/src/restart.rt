@@ -9,8 +9,8 @@ ghost use Rattle.array_model.specs.Represents.{ShowsArray, Represents};
 ghost use Rattle.slot_tables.specs.Adopted.{IsIdle, WasRestarted};
 
 use crate::world::World;
-use array_core::{Array, Hands};
 use array_model::Hand;
+use disk_array::{Array, Hands};
 use extents::MemDrive;
 use map_join::BlockMap;
 use slot_tables::{NotAdopted, Plain};

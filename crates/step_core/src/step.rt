@@ -1,5 +1,5 @@
 // Steps of a world, and their answers.
-use array_core::At;
+use disk_array::At;
 use flat_machine::{Class, Member, Refusal};
 use map_join::Record;
 

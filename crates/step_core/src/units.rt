@@ -1,7 +1,7 @@
 // A world has its array's units, for any caller that scans them.
 ghost use Rattle.array_parts.specs.Views.{cells_of};
-ghost use Rattle.array_core.specs.Refused.{OnlyLosesOf};
-ghost use Rattle.array_core.specs.Laws.{world_itself, world_more};
+ghost use Rattle.disk_array.specs.Refused.{OnlyLosesOf};
+ghost use Rattle.disk_array.specs.Laws.{world_itself, world_more};
 
 use crate::world::World;
 use array_parts::Units;

@@ -11,7 +11,7 @@ ghost use Rattle.step_core.specs.Told.{flat_answer};
 
 use crate::step::Answer;
 use crate::world::{World, refused};
-use array_core::Hands;
+use disk_array::Hands;
 use extent_groups::SLOTS;
 use flat_machine::Refusal;
 use slot_tables::Plain;

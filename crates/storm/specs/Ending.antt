@@ -2,8 +2,8 @@
 use Rattle.std.specs.Prelude.{ℕ, ◌++◌, List}
 use Rattle.map_join.specs.Maps.{IsMapOf}
 use Rattle.map_words.specs.declared.view.View.{View}
-use Rattle.settling.specs.declared.fault.SettleFault.TheVariants as settle_fault
-use Rattle.settling.specs.Settling.{taken_by, shares_of, IsUnsettled}
+use Rattle.array_book.specs.declared.settle_fault.SettleFault.TheVariants as settle_fault
+use Rattle.array_book.specs.Settling.{taken_by, shares_of, IsUnsettled}
 use Rattle.storm.specs.declared.outcome.Storm.{Storm}
 use Rattle.storm.specs.declared.outcome.Storm.TheVariants.{Agreed, Differs}
 

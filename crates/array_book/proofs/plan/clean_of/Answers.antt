@@ -4,7 +4,7 @@ use Rattle.extent_groups.specs.Groups.{Groups}
 use Rattle.cleaner.specs.Counts.{AreLiveCounts}
 use Rattle.cleaner.specs.Plans.{IsPlugPlan, IsCleanPlan}
 use Rattle.migrator.specs.First.{IsFirstAppend}
-use Rattle.tiering.proofs.Counts.{kept_counts}
+use Rattle.background.proofs.Counts.{kept_counts}
 use Rattle.array_book.specs.Kept.{KeptView}
 use Rattle.array_book.specs.Planned.{IsPlugOf, IsCleanOf}
 use Rattle.array_book.proofs.plan.clean_of.Goals as goal

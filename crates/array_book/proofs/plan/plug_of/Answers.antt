@@ -3,7 +3,7 @@ use Rattle.array_model.specs.Views.{key_at}
 use Rattle.extent_groups.specs.Groups.{Groups}
 use Rattle.cleaner.specs.Counts.{AreLiveCounts}
 use Rattle.cleaner.specs.Plans.{IsPlugPlan}
-use Rattle.tiering.proofs.Counts.{kept_counts}
+use Rattle.background.proofs.Counts.{kept_counts}
 use Rattle.array_book.specs.Kept.{KeptView}
 use Rattle.array_book.specs.Planned.{IsPlugOf}
 use Rattle.array_book.proofs.plan.plug_of.Goals as goal

@@ -8,8 +8,8 @@ use Rattle.extents.specs.declared.header.Header.TheVariants.{Is}
 use Rattle.array_model.specs.Changes.{commit_reason, commit_record, kind_given}
 use Rattle.array_model.specs.Views.{key_at, kept_at}
 use Rattle.array_model.proofs.Committing.{commit_refused}
-use Rattle.array_core.specs.Laws.{only_more}
-use Rattle.array_core.proofs.Ready.{length_again}
+use Rattle.disk_array.specs.Laws.{only_more}
+use Rattle.disk_array.proofs.Ready.{length_again}
 use Rattle.single_writes.proofs.Committing.{commit_flat, commit_unread}
 use Rattle.single_writes.proofs.Steps.{list_flat, run_flat}
 use Rattle.single_writes.proofs.plan.plan_commit.Goals as goal

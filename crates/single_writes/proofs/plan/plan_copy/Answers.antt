@@ -5,8 +5,8 @@ use Rattle.flat_machine.specs.Flat.{Stored, content_in, waiting_unit}
 use Rattle.array_parts.specs.Shows.{IsUnit}
 use Rattle.array_model.specs.Changes.{copy_reason}
 use Rattle.array_model.proofs.Copies.{copy_refused}
-use Rattle.array_core.specs.Laws.{only_more}
-use Rattle.array_core.proofs.Ready.{length_again}
+use Rattle.disk_array.specs.Laws.{only_more}
+use Rattle.disk_array.proofs.Ready.{length_again}
 use Rattle.single_writes.proofs.Copying.{copy_flat, copy_unread}
 use Rattle.single_writes.proofs.Steps.{list_flat, run_flat}
 use Rattle.single_writes.proofs.plan.plan_copy.Goals as goal

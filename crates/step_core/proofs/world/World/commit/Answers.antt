@@ -8,7 +8,7 @@ use Rattle.array_model.specs.Views.{ArrayView, WorldView, hand_at, key_at}
 use Rattle.array_model.specs.Represents.{ShowsArray, is_ticket}
 use Rattle.array_model.proofs.Hands.{as_world}
 use Rattle.array_model.specs.declared.hand.Hand.{Hand}
-use Rattle.array_core.specs.Refused.{IsRefused}
+use Rattle.disk_array.specs.Refused.{IsRefused}
 use Rattle.step_core.proofs.Worlds.{block_there, hands_passed, hands_back, commit_world, commit_as}
 use Rattle.step_core.proofs.Refusals.{was_refused, refused_same, refused_sizes}
 use Rattle.step_core.proofs.world.World.commit.Goals as goal

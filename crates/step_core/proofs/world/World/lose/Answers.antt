@@ -3,7 +3,7 @@ use Rattle.flat_machine.specs.Steps.{LostDrive}
 use Rattle.flat_machine.specs.Cases.{LoseCase}
 use Rattle.array_model.specs.Views.{ArrayView, WorldView, with_parts}
 use Rattle.array_model.proofs.Hands.{as_world}
-use Rattle.array_core.specs.Losing.{WasLost}
+use Rattle.disk_array.specs.Losing.{WasLost}
 use Rattle.step_core.proofs.Worlds.{lose_world}
 use Rattle.step_core.proofs.world.World.lose.Goals as goal
 

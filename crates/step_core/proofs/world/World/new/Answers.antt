@@ -1,4 +1,4 @@
-use Rattle.array_core.proofs.Beginnings.{new_world}
+use Rattle.disk_array.proofs.Beginnings.{new_world}
 use Rattle.step_core.proofs.world.World.new.Goals as goal
 
 pub returns-in-Ok-clause-ok : goal.returns-in-Ok-clause-ok

@@ -6,7 +6,7 @@ use Rattle.array_model.proofs.Fares.{itself}
 use Rattle.slot_tables.specs.Adopted.{how_many}
 use Rattle.slot_tables.specs.Shut.{one_of, count_in, IsFirstNotHeld, emptied}
 use Rattle.slot_tables.specs.declared.hold.Plain.{Plain}
-use Rattle.array_core.proofs.Closing.{on_err, unmake_wants, first_stray, workers_of, unmake_world}
+use Rattle.disk_array.proofs.Closing.{on_err, unmake_wants, first_stray, workers_of, unmake_world}
 use Rattle.step_core.proofs.world.World.unmake.Goals as goal
 
 pub returns-in-Some-first_not_held-clause-ok : goal.returns-in-Some-first_not_held-clause-ok

@@ -1,0 +1,56 @@
+// What workers return when they have ended, and all of it joined.
+ghost use Rattle.std.specs.Prelude.{◌≡◌, ◌+◌, ◌++◌, ◌∷◌, [], IfSome, IfNone, map};
+ghost use Rattle.array_book.specs.Settling.{taken_by, shares_of};
+ghost use Rattle.array_book.specs.Passes.{joined};
+
+use map_words::{MapWords, Taker};
+use slot_words::{Pass, SlotWords};
+
+/// What a worker returns.
+#[derive(Drop)]
+pub struct Ended<N: slot_words::Naming, A: map_words::Naming, B: map_words::Naming> {
+    pub pass: Pass<N>,
+    pub even: Taker<A>,
+    pub odd: Taker<B>,
+}
+
+/// The first that ended, and the others.
+pub fn parted<N: slot_words::Naming, A: map_words::Naming, B: map_words::Naming>(
+    ended: Vec<Ended<N, A, B>>,
+) -> Option<(Ended<N, A, B>, Vec<Ended<N, A, B>>)>
+    ensures some { IfSome result (λ r. ended.items ≡ r.0 ∷ r.1.items) }
+    ensures none { IfNone result (ended.items ≡ []) }
+{
+    let mut rest = ended;
+    if rest.is_empty() {
+        return None;
+    }
+    let first = rest.remove(0);
+    Some((first, rest))
+}
+
+/// Joins all that ended into the first.
+pub fn join_all<N: slot_words::Naming, A: map_words::Naming, B: map_words::Naming>(
+    words: &SlotWords<N>,
+    even: &MapWords<A>,
+    odd: &MapWords<B>,
+    first: &mut Ended<N, A, B>,
+    rest: Vec<Ended<N, A, B>>,
+)
+    ensures pass { first.new.pass ≡ joined first.old.pass (map (λ e. e.pass) rest.items) }
+    ensures even { first.new.even.taken ≡ first.old.even.taken ++ taken_by (map (λ e. e.even) rest.items) }
+    ensures odd { first.new.odd.taken ≡ first.old.odd.taken ++ taken_by (map (λ e. e.odd) rest.items) }
+    ensures shares { (first.new.even.share ≡ first.old.even.share + shares_of (map (λ e. e.even) rest.items))
+        × (first.new.odd.share ≡ first.old.odd.share + shares_of (map (λ e. e.odd) rest.items)) }
+{
+    for other in rest {
+        let Ended {
+            pass,
+            even: one,
+            odd: two,
+        } = other;
+        words.join(&mut first.pass, pass);
+        even.join(&mut first.even, one);
+        odd.join(&mut first.odd, two);
+    }
+}

@@ -1,5 +1,0 @@
-use Rattle.std.proofs.Common.{rules}
-use Rattle.array_core.proofs.array.Array.unmake_fault.Goals as goal
-
-pub loop-index-preserved : goal.loop-index-preserved
-loop-index-preserved g c = search rules

@@ -1,6 +1,0 @@
-use Rattle.std.proofs.Common.{◌≢◌, ℕ, ◌<◌, None}
-use Rattle.extent_groups.specs.Groups.{group_at}
-use Rattle.array_core.proofs.make.lowest_free.Given as goal
-
-abbrev pub invariant-loop-number : goal.invariant-loop-number
-invariant-loop-number l = (h : ℕ) → h < l.number → group_at l.groups h ≢ None

@@ -1,0 +1,10 @@
+pub mod Plans
+pub mod Placings
+pub mod Emitting
+pub mod Freeing
+pub mod Marks
+pub mod Words
+pub mod Hinted
+pub mod Counts
+pub mod Standing
+pub mod Moving

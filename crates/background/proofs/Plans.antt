@@ -1,0 +1,97 @@
+-- Plans of an array, stated over the flat state that it represents.
+use Rattle.std.proofs.Common.{ℕ, ◌<◌, Bool, List, refl, sym, ap, ◌∙◌, subst, Option, Some, inr, Result, Ok, Err, IfOk, OnErr}
+use Rattle.extent_groups.specs.Groups.{Groups, Agree}
+use Rattle.array_model.specs.Represents.{Represents}
+use Rattle.array_model.specs.Views.{WorldView, IsWhole}
+use Rattle.flat_machine.specs.Flat.{Flat}
+use Rattle.flat_machine.specs.Cases.{MoveCase}
+use Rattle.flat_machine.specs.Moves.{MovePasses}
+use Rattle.rebalancer.specs.declared.shift.Shift.{Shift}
+use Rattle.rebalancer.specs.Balancing.{IsBalance}
+use Rattle.rebalancer.specs.Rebuilding.{IsRebuild}
+use Rattle.step_core.specs.Told.{flat_answer}
+use Rattle.step_core.specs.declared.step.Answer.{Answer}
+use Rattle.step_core.specs.declared.step.Answer.TheVariants as answer
+use Rattle.background.specs.declared.regrouped.Regrouped.{Regrouped}
+use Rattle.background.specs.declared.regrouped.Regrouped.TheVariants.{Moved, Refused, Nothing}
+use Rattle.background.specs.Regrouping.{AreOwners, AreLost, AreLostOf, IsBalanceOf, IsRebuildOf, ShiftCase, BalanceCase, RebuildCase, outcome_of}
+
+module _ (v : WorldView) (F : Flat) (whole : IsWhole v.array) (rep : Represents v F) where
+  owners_are : AreOwners F v.array.parts.owners
+  owners_are = record {
+    agree = subst (λ (z : Groups). Agree z v.array.parts.owners) (sym rep.array.tables.groups) whole.agree;
+    rows = whole.rows ∙ sym rep.array.tables.drives;
+    wide = whole.wide ∙ ap (λ (z : Groups). z.extents) (sym rep.array.tables.groups);
+  }
+
+  lost_are : (lost : List Bool) → AreLostOf v.array.parts lost → AreLost F lost
+  lost_are lost are = record { many = are.many; each = λ d low. are.each d low ∙ sym (ap (λ f. f d) rep.array.tables.lost) }
+
+  pub balance_of : (lost : List Bool) (plan : Option Shift) → AreLostOf v.array.parts lost → IsBalance v.array.parts.owners v.array.parts.groups lost plan → IsBalanceOf F plan
+  balance_of lost plan are is = record {
+    owners = v.array.parts.owners;
+    owners_are = owners_are;
+    lost = lost;
+    lost_are = lost_are lost are;
+    is = subst (λ (z : Groups). IsBalance v.array.parts.owners z lost plan) (sym rep.array.tables.groups) is;
+  }
+
+  pub rebuild_of : (lost : List Bool) (drive : ℕ) (plan : Option Shift) → AreLostOf v.array.parts lost → IsRebuild v.array.parts.owners v.array.parts.groups lost drive plan → IsRebuildOf F drive plan
+  rebuild_of lost drive plan are is = record {
+    owners = v.array.parts.owners;
+    owners_are = owners_are;
+    lost = lost;
+    lost_are = lost_are lost are;
+    is = subst (λ (z : Groups). IsRebuild v.array.parts.owners z lost drive plan) (sym rep.array.tables.groups) is;
+  }
+
+-- what comes of the shift that a plan names is what comes of the plan
+pub as_balance : (F G : Flat) (s : Shift) (outcome : Regrouped) → IsBalanceOf F (Some s) → ShiftCase F s outcome G → BalanceCase F outcome G
+as_balance F G s (Moved t) plan case = (s, plan, case)
+as_balance F G s (Refused r) plan case = (s, plan, case)
+as_balance F G s Nothing plan case = absurd case
+
+pub as_rebuild : (F G : Flat) (drive : ℕ) (s : Shift) (outcome : Regrouped) → drive < F.drives → IsRebuildOf F drive (Some s) → ShiftCase F s outcome G → RebuildCase F drive outcome G
+as_rebuild F G drive s (Moved t) there plan case = (there, (s, plan, case))
+as_rebuild F G drive s (Refused r) there plan case = inr (there, (s, plan, case))
+as_rebuild F G drive s Nothing there plan case = absurd case
+
+-- an answer to a move is what comes of the shift
+pub as_shift : (F G : Flat) (s : Shift) (told : Answer) → MoveCase F s.group s.member s.to (flat_answer told) G → ShiftCase F s (outcome_of s told) G
+as_shift F G s answer.Shifted case = (refl, case)
+as_shift F G s (answer.Refused r) case = case
+as_shift F G s (answer.Claimed t) case = absurd case
+as_shift F G s (answer.Taken t) case = absurd case
+as_shift F G s (answer.Released t) case = absurd case
+as_shift F G s (answer.NotHeld t) case = absurd case
+as_shift F G s (answer.Filled t) case = absurd case
+as_shift F G s (answer.Copied t) case = absurd case
+as_shift F G s (answer.Committed r) case = absurd case
+as_shift F G s (answer.Discarded t) case = absurd case
+as_shift F G s (answer.Read found) case = absurd case
+as_shift F G s (answer.Found seen) case = absurd case
+as_shift F G s (answer.Made g) case = absurd case
+as_shift F G s (answer.Unmade g) case = absurd case
+as_shift F G s (answer.Added d) case = absurd case
+as_shift F G s (answer.Lost d) case = absurd case
+
+-- a shift that a plan to balance asks for is that plan's case, in every state that a world represents
+pub all_balanced : {E : Type 0} (r : Result Regrouped E) (v w : WorldView) (s : Shift) → ((F : Flat) → Represents v F → IsBalanceOf F (Some s))
+    → IfOk r (λ outcome. (F : Flat) → Represents v F → (G : Flat) × ShiftCase F s outcome G × Represents w G)
+    → IfOk r (λ outcome. (F : Flat) → Represents v F → (G : Flat) × BalanceCase F outcome G × Represents w G)
+all_balanced (Ok outcome) v w s plan ok = λ F rep. let y = ok F rep in (y.0, as_balance F y.0 s outcome (plan F rep) y.1, y.2)
+all_balanced (Err e) v w s plan ok = tt
+
+pub all_rebuilt : {E : Type 0} (r : Result Regrouped E) (v w : WorldView) (drive : ℕ) (s : Shift) → ((F : Flat) → Represents v F → drive < F.drives)
+    → ((F : Flat) → Represents v F → IsRebuildOf F drive (Some s))
+    → IfOk r (λ outcome. (F : Flat) → Represents v F → (G : Flat) × ShiftCase F s outcome G × Represents w G)
+    → IfOk r (λ outcome. (F : Flat) → Represents v F → (G : Flat) × RebuildCase F drive outcome G × Represents w G)
+all_rebuilt (Ok outcome) v w drive s there plan ok = λ F rep. let y = ok F rep in (y.0, as_rebuild F y.0 drive s outcome (there F rep) (plan F rep) y.1, y.2)
+all_rebuilt (Err e) v w drive s there plan ok = tt
+
+-- if the move is out of memory, so is the call by its plan
+pub all_wanted : {T E : Type 0} (r : Result T E) (v : WorldView) (s : Shift) (P : Flat → Option Shift → Type 0) → ((F : Flat) → Represents v F → P F (Some s))
+    → OnErr r ((F : Flat) → Represents v F → MovePasses F s.group s.member s.to)
+    → OnErr r ((F : Flat) → Represents v F → (t : Shift) × P F (Some t) × MovePasses F t.group t.member t.to)
+all_wanted (Ok x) v s P plan wants = tt
+all_wanted (Err e) v s P plan wants = λ F rep. (s, plan F rep, wants F rep)

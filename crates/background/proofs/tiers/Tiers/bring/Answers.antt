@@ -1,0 +1,25 @@
+use Rattle.background.proofs.Standing.{writes_here, stops_here, writes_behind, stops_behind}
+use Rattle.background.proofs.tiers.Tiers.bring.Goals as goal
+use Rattle.background.specs.Placing.{content_of}
+
+pub returns-in-Some-clause-ok : goal.returns-in-Some-clause-ok
+returns-in-Some-clause-ok c =
+    let a = c.args in
+    writes_here a.self.now c.free_mirror.new.self c.put.new.self a.worker a.block c.in-Some.slot (content_of a.given) c.put.result c.in-Some.ensures.first c.put.ensures.ok
+
+pub returns-in-Some-clause-err : goal.returns-in-Some-clause-err
+returns-in-Some-clause-err c =
+    let a = c.args in
+    stops_here a.self.now c.free_mirror.new.self c.put.new.self a.worker a.block c.in-Some.slot (content_of a.given) c.put.result c.in-Some.ensures.first c.put.ensures.err
+
+pub returns-in-Ok-clause-ok : goal.returns-in-Ok-clause-ok
+returns-in-Ok-clause-ok c =
+    let a = c.args in
+    writes_behind a.self.now c.free_mirror.new.self c.demote.new.self c.write_behind.new.self a.worker a.block (content_of a.given) c.in-Ok.field-0 c.write_behind.result
+    c.in_default.ensures.first c.in-Ok.ensures.ok c.write_behind.ensures.ok
+
+pub returns-in-Ok-clause-err : goal.returns-in-Ok-clause-err
+returns-in-Ok-clause-err c =
+    let a = c.args in
+    stops_behind a.self.now c.free_mirror.new.self c.demote.new.self c.write_behind.new.self a.worker a.block (content_of a.given) c.in-Ok.field-0 c.write_behind.result
+    c.in_default.ensures.first c.in-Ok.ensures.ok c.write_behind.ensures.err

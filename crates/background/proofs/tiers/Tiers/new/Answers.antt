@@ -1,0 +1,13 @@
+use Rattle.std.proofs.Common.{ap, ◌∙◌, subst}
+use Rattle.array_model.specs.Views.{ArrayView, key_at}
+use Rattle.migrator.specs.Ages.{by_number}
+use Rattle.background.specs.Marking.{AreMarked}
+use Rattle.background.proofs.Standing.{begins}
+use Rattle.background.proofs.tiers.Tiers.new.Goals as goal
+
+pub returns-clause-ok : goal.returns-clause-ok
+returns-clause-ok c F rep =
+    let array = ap (λ (a : ArrayView). a.parts.groups.blocks) c.array.ensures in
+    let new = c.in_ok-recency.ensures in
+    begins c.args.world F c.in_ok-recency.recency c.new-2.result c.in_ok-hints.hints (new.order ∙ ap by_number array)
+    (new.long ∙ array) (subst (λ (a : ArrayView). AreMarked c.in_ok-recency.recency.marks a.parts.groups (key_at a)) c.array.ensures new.marks) c.new-2.ensures c.in_ok-hints.ensures rep

@@ -1,0 +1,13 @@
+use Rattle.background.proofs.Standing.{finds_again, finds_none}
+use Rattle.background.proofs.tiers.Tiers.write_behind.Goals as goal
+use Rattle.background.specs.Placing.{content_of}
+
+pub returns-in-Some-clause-ok : goal.returns-in-Some-clause-ok
+returns-in-Some-clause-ok c =
+    let a = c.args in
+    finds_again a.self.now c.free_mirror.new.self c.put.new.self a.worker a.block c.in-Some.slot (content_of a.given) c.put.result c.in-Some.ensures.first c.put.ensures.ok
+
+pub returns-in-None-clause-ok : goal.returns-in-None-clause-ok
+returns-in-None-clause-ok c =
+    let a = c.args in
+    finds_none a.self.now c.free_mirror.new.self a.worker a.block (content_of a.given) c.in-None.ensures.first

@@ -1,0 +1,9 @@
+pub mod Tiered
+pub mod Regrouping
+pub mod Placing
+pub mod Steps
+pub mod Marking
+pub mod Bits
+pub mod Hints
+pub mod Stands
+pub mod Inside

@@ -1,0 +1,41 @@
+-- Which blocks are marked in the order of last writes: those that lie in mirrored groups.
+use Rattle.std.specs.Prelude.{◌≡◌, ◌↔◌, ℕ, ◌<◌, Bool, true, false, List, slice_set, Option, Some}
+use Rattle.extent_groups.specs.declared.class.Class.{Class}
+use Rattle.extent_groups.specs.declared.class.Class.TheVariants.{Mirrored}
+use Rattle.extent_groups.specs.Groups.{Groups}
+use Rattle.migrator.specs.Ages.{IsMarked}
+use Rattle.migrator.specs.Slots.{class_at, IsMirrored}
+use Rattle.flat_machine.specs.Flat.{Flat}
+use Rattle.background.specs.Placing.{Put, Fresh, Again, PlaceCase}
+use Rattle.background.specs.Steps.{order_after}
+use Rattle.background.specs.Tiered.{Tiered}
+use Rattle.background.specs.declared.outcome.Outcome.{Outcome}
+use Rattle.background.specs.declared.outcome.Outcome.TheVariants.{Placed}
+
+-- just the blocks whose newest place is in a mirrored group are marked
+abbrev pub AreMarked : List Bool → Groups → (ℕ → ℕ) → Type 0
+AreMarked marks groups keys = (b : ℕ) → IsMarked marks b ↔ IsMirrored groups keys b
+
+-- exactly the blocks below a bound whose newest place is in a mirrored group are marked, for loops
+abbrev pub AreMarkedBelow : List Bool → Groups → (ℕ → ℕ) → ℕ → Type 0
+AreMarkedBelow marks groups keys bound = (b : ℕ) → IsMarked marks b ↔ ((b < bound) × IsMirrored groups keys b)
+
+-- whether a class is that of mirrored groups
+abbrev pub is_mirrors : Option Class → Bool
+is_mirrors (Some Mirrored) = true
+is_mirrors _ = false
+
+-- the marks after a placing of the block, by what came of it
+abbrev pub marks_after : Groups → List Bool → ℕ → Outcome → List Bool
+marks_after groups marks b (Placed r) = slice_set marks b (is_mirrors (class_at groups (Some r)))
+marks_after groups marks b _ = marks
+
+-- the order of last writes after a placing: only a fresh content is a write
+abbrev pub order_put : List ℕ → ℕ → Put → Outcome → List ℕ
+order_put order b (Fresh x) outcome = order_after order b outcome
+order_put order b Again outcome = order
+
+-- a block goes into a slot, and the write is noted where it is one
+abbrev pub PutsAt : Tiered → ℕ → ℕ → Put → ℕ → Outcome → Tiered → Type 0
+PutsAt T w b what s outcome U = (G : Flat) × PlaceCase T.flat w s b what outcome G
+    × (U ≡ record T { flat = G; order = order_put T.order b what outcome })

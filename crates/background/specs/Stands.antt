@@ -1,0 +1,20 @@
+-- When a world with what is kept next to it represents a flat state with the same.
+use Rattle.std.specs.Prelude.{◌≡◌, ℕ, length}
+use Rattle.array_model.specs.Represents.{Represents}
+use Rattle.array_model.specs.Views.{key_at}
+use Rattle.background.specs.Hints.{IsHinted}
+use Rattle.background.specs.Marking.{AreMarked}
+use Rattle.background.specs.Steps.{IsFreeMirror}
+use Rattle.background.specs.Tiered.{Tiered}
+use Rattle.background.specs.declared.tiers.Tiers.{Tiers}
+
+-- the world represents the flat state; the order has a place for each block, and marks on exactly those in mirrored groups; and
+-- each free slot of a mirrored group is hinted
+pub record StandsFor (tiers : Tiers) (T : Tiered) : Type 0 where
+  pub world : Represents tiers.world T.flat
+  pub order : tiers.recency.order ≡ T.order
+  pub long : length T.order ≡ T.flat.groups.blocks
+  pub end : tiers.end ≡ T.end
+  pub marked : length tiers.recency.marks ≡ T.flat.groups.blocks
+  pub marks : AreMarked tiers.recency.marks T.flat.groups (key_at tiers.world.array)
+  pub hints : (s : ℕ) → IsFreeMirror T.flat s → IsHinted tiers.hints s

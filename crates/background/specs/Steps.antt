@@ -1,0 +1,174 @@
+-- What a worker does by a plan: write a block, demote the oldest, plug a hole, clean a group.
+use Rattle.std.specs.Prelude.{◌≡◌, ◌⊎◌, ℕ, List, Option, Some, None}
+use Rattle.map_join.specs.Maps.{IsMapOf}
+use Rattle.extent_groups.specs.declared.class.Class.TheVariants.{Mirrored}
+use Rattle.extent_groups.specs.Stores.{IsSlotOf}
+use Rattle.flat_machine.specs.Flat.{Flat, Content, Waiting, IsFree}
+use Rattle.flat_machine.specs.Flat as f
+use Rattle.flat_machine.specs.Steps.{FlatStep, FlatAnswer, Committed}
+use Rattle.flat_machine.specs.Steps as step
+use Rattle.flat_machine.specs.Cases.{Case}
+use Rattle.migrator.specs.Ages.{written, IsOldest}
+use Rattle.migrator.specs.Slots.{End, end_at, IsMirrored}
+use Rattle.migrator.specs.First.{IsFirst, IsFirstAppend}
+use Rattle.cleaner.specs.declared.moves.Move.{Move}
+use Rattle.cleaner.specs.Plans.{IsPlugPlan, IsCleanPlan}
+use Rattle.background.specs.Tiered.{Tiered}
+use Rattle.background.specs.Placing.{Put, Fresh, Again, PlaceCase, PlaceStops}
+use Rattle.background.specs.declared.outcome.Outcome.{Outcome}
+use Rattle.background.specs.declared.outcome.Outcome.TheVariants.{Placed, NoRoom, Nothing}
+
+-- a worker comes first, then what goes in
+pub data TierStep : Type 0 where
+  Write : ℕ → ℕ → Content → TierStep
+  Demote : ℕ → TierStep
+  Plug : ℕ → TierStep
+  Clean : ℕ → TierStep
+
+-- the order of last writes after a write of the block with this outcome
+abbrev pub order_after : List ℕ → ℕ → Outcome → List ℕ
+order_after order b (Placed r) = written order b
+order_after order b _ = order
+
+-- the log's end after a move to the slot with this outcome
+abbrev pub end_after : End → ℕ → Outcome → End
+end_after end s (Placed r) = end_at s
+end_after end s _ = end
+
+-- a free slot of a mirrored group
+abbrev pub IsFreeMirror : Flat → ℕ → Type 0
+IsFreeMirror F slot = IsSlotOf Mirrored F.groups slot × IsFree F slot
+
+-- a fresh content goes into a slot, and the write is noted
+abbrev pub WritesAt : Tiered → ℕ → ℕ → Content → ℕ → Outcome → Tiered → Type 0
+WritesAt T w b x s outcome U = (G : Flat) × PlaceCase T.flat w s b (Fresh x) outcome G
+    × (U ≡ record T { flat = G; order = order_after T.order b outcome })
+
+-- the block is copied to where the log goes on, and the log's end is noted
+abbrev pub AppendsAt : Tiered → ℕ → ℕ → ℕ → Outcome → Tiered → Type 0
+AppendsAt T w b s outcome U = (G : Flat) × PlaceCase T.flat w s b Again outcome G
+    × (U ≡ record T { flat = G; end = end_after T.end s outcome })
+
+-- the block is copied into the slot
+abbrev pub MovesTo : Tiered → ℕ → ℕ → ℕ → Outcome → Tiered → Type 0
+MovesTo T w b s outcome U = (G : Flat) × PlaceCase T.flat w s b Again outcome G × (U ≡ record T { flat = G })
+
+-- nothing is done, with this outcome
+pub record Stays (T : Tiered) (is outcome : Outcome) (U : Tiered) : Type 0 where
+  pub told : outcome ≡ is
+  pub same : U ≡ T
+
+-- a block is demoted to the first free slot where the log goes on, if there is one
+abbrev pub GoesDown : Tiered → ℕ → ℕ → Option ℕ → Outcome → Tiered → Type 0
+GoesDown T w b None outcome U = Stays T NoRoom outcome U
+GoesDown T w b (Some s) outcome U = AppendsAt T w b s outcome U
+
+-- the block that is to be demoted goes down, if there is one
+abbrev pub Demotes : Tiered → (ℕ → ℕ) → ℕ → Option ℕ → Outcome → Tiered → Type 0
+Demotes T keys w None outcome U = Stays T Nothing outcome U
+Demotes T keys w (Some b) outcome U =
+    (slot : Option ℕ) × IsFirstAppend T.end T.flat.groups keys (IsFree T.flat) slot × GoesDown T w b slot outcome U
+
+-- demote: of the blocks in mirrored groups, the one that was written longest ago goes down
+pub record DemoteCase (T : Tiered) (w : ℕ) (outcome : Outcome) (U : Tiered) : Type 0 where
+  pub keys : ℕ → ℕ
+  pub map_of : IsMapOf T.flat.emitted keys
+  pub chosen : Option ℕ
+  pub oldest : IsOldest T.order (IsMirrored T.flat.groups keys) chosen
+  pub done : Demotes T keys w chosen outcome U
+
+-- into the lowest free slot of mirrored groups, if there is one
+abbrev pub WritesIn : Tiered → ℕ → ℕ → Content → Option ℕ → Outcome → Tiered → Type 0
+WritesIn T w b x None outcome U = Stays T NoRoom outcome U
+WritesIn T w b x (Some s) outcome U = WritesAt T w b x s outcome U
+
+-- a slot is looked for once more, after one demotion with any outcome
+pub record WritesBehind (T : Tiered) (w b : ℕ) (x : Content) (outcome : Outcome) (U : Tiered) : Type 0 where
+  pub demoted : Outcome
+  pub between : Tiered
+  pub down : DemoteCase T w demoted between
+  pub slot : Option ℕ
+  pub first : IsFirst (IsFreeMirror between.flat) slot
+  pub done : WritesIn between w b x slot outcome U
+
+abbrev pub Writes : Tiered → ℕ → ℕ → Content → Option ℕ → Outcome → Tiered → Type 0
+Writes T w b x None outcome U = WritesBehind T w b x outcome U
+Writes T w b x (Some s) outcome U = WritesAt T w b x s outcome U
+
+-- write: a fresh content goes into the lowest free slot of mirrored groups, after one demotion where there is none
+pub record WriteCase (T : Tiered) (w b : ℕ) (x : Content) (outcome : Outcome) (U : Tiered) : Type 0 where
+  pub slot : Option ℕ
+  pub first : IsFirst (IsFreeMirror T.flat) slot
+  pub done : Writes T w b x slot outcome U
+
+-- a hole is plugged as planned
+abbrev pub Plugs : Tiered → ℕ → Option Move → Outcome → Tiered → Type 0
+Plugs T w None outcome U = Stays T Nothing outcome U
+Plugs T w (Some move) outcome U = MovesTo T w move.block move.to outcome U
+
+-- plug: a block of the emptiest source goes into the lowest hole of the fullest group that has one
+pub record PlugCase (T : Tiered) (w : ℕ) (outcome : Outcome) (U : Tiered) : Type 0 where
+  pub keys : ℕ → ℕ
+  pub map_of : IsMapOf T.flat.emitted keys
+  pub plan : Option Move
+  pub planned : IsPlugPlan T.flat.groups keys T.end.group plan
+  pub done : Plugs T w plan outcome U
+
+-- a block leaves a group as planned
+abbrev pub Cleans : Tiered → ℕ → Option Move → Outcome → Tiered → Type 0
+Cleans T w None outcome U = Stays T Nothing outcome U
+Cleans T w (Some move) outcome U = AppendsAt T w move.block move.to outcome U
+
+-- clean: where nothing can be plugged, a block of the emptiest group with a hole goes to where the log goes on
+pub record CleanCase (T : Tiered) (w : ℕ) (outcome : Outcome) (U : Tiered) : Type 0 where
+  pub keys : ℕ → ℕ
+  pub map_of : IsMapOf T.flat.emitted keys
+  pub append : Option ℕ
+  pub first : IsFirstAppend T.end T.flat.groups keys (λ _. Unit {0}) append
+  pub plan : Option Move
+  pub planned : IsCleanPlan T.flat.groups keys T.end.group append plan
+  pub done : Cleans T w plan outcome U
+
+-- what a step does, and its outcome
+abbrev pub TierCase : Tiered → TierStep → Outcome → Tiered → Type 0
+TierCase T (Write w b x) outcome U = WriteCase T w b x outcome U
+TierCase T (Demote w) outcome U = DemoteCase T w outcome U
+TierCase T (Plug w) outcome U = PlugCase T w outcome U
+TierCase T (Clean w) outcome U = CleanCase T w outcome U
+
+-- an allocation failed on the way into some slot: the slot is released
+pub record PutStops (T : Tiered) (w : ℕ) (what : Put) (U : Tiered) : Type 0 where
+  pub slot : ℕ
+  pub block : ℕ
+  pub left : Flat
+  pub stops : PlaceStops T.flat w slot block what left
+  pub same : U ≡ record T { flat = left }
+
+-- an allocation of a write failed, after a demotion: the slot is released
+pub record StopsBehind (T : Tiered) (w : ℕ) (x : Content) (U : Tiered) : Type 0 where
+  pub demoted : Outcome
+  pub between : Tiered
+  pub down : DemoteCase T w demoted between
+  pub stops : PutStops between w (Fresh x) U
+
+-- what is left of a step that ran out of memory
+abbrev pub TierStops : Tiered → TierStep → Tiered → Type 0
+TierStops T (Write w b x) U = PutStops T w (Fresh x) U ⊎ (PutStops T w Again U ⊎ StopsBehind T w x U)
+TierStops T (Demote w) U = PutStops T w Again U
+TierStops T (Plug w) U = PutStops T w Again U
+TierStops T (Clean w) U = PutStops T w Again U
+
+-- the order of last writes after a commit, by what waited in the slot: a commit of a fresh content is a write
+abbrev pub order_behind : List ℕ → ℕ → FlatAnswer → Option Waiting → List ℕ
+order_behind order b (Committed r) (Some (f.Fresh x)) = written order b
+order_behind order b _ _ = order
+
+-- a commit by itself, noted where it is a write
+pub record CommitNoted (T : Tiered) (w s b : ℕ) (answer : FlatAnswer) (U : Tiered) : Type 0 where
+  pub case : Case T.flat (step.Commit w s b) answer U.flat
+  pub noted : U.order ≡ order_behind T.order b answer (T.flat.tickets s)
+  pub same : U.end ≡ T.end
+
+-- a step of the flat machine by itself, which notes nothing
+abbrev pub StepNoted : Tiered → FlatStep → FlatAnswer → Tiered → Type 0
+StepNoted T taken answer U = (G : Flat) × Case T.flat taken answer G × (U ≡ record T { flat = G })

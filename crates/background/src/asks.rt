@@ -1,0 +1,121 @@
+// What the plans ask of a running array, answered by its tables.
+ghost use Rattle.std.specs.Prelude.{◌≡◌, true};
+ghost use Rattle.std.specs.Prelude.{◌↔◌, ◌<◌, ◌≤◌, IsTrue};
+ghost use Rattle.array_model.specs.Views.{key_at};
+ghost use Rattle.extent_groups.specs.declared.class.Class.TheVariants.{Mirrored};
+ghost use Rattle.extent_groups.specs.Stores.{IsSlotOf};
+ghost use Rattle.map_join.specs.Live.{IsLive, IsLiveCount};
+ghost use Rattle.background.specs.Inside.{IsFreeHere};
+
+use extent_groups::{Class, GroupTable, SLOTS};
+use map_join::{Live, Newest, Record};
+use migrator::Free;
+use step_core::{Array, Drive, Hold, World};
+
+// The tables of a world.
+#[derive(Drop)]
+pub(crate) struct Running<'a> {
+    pub(crate) world: &'a World,
+}
+
+impl<'a> Newest for Running<'a> {
+    ghost keys = { λ r. key_at r.world.now.array };
+
+    fn newest(&self, block: u32) -> Option<Record> {
+        self.world.whole();
+        let array = self.world.array();
+        if block >= array.shape().blocks {
+            return None;
+        }
+        array.newest(block)
+    }
+}
+
+impl<'a> Live for Running<'a> {
+    ghost keys = { λ r. key_at r.world.now.array };
+
+    fn block_at(&self, slot: u16) -> Option<u32> {
+        self.world.array().block_at(slot)
+    }
+
+    fn count_live(&self, group: u16, slots: u16) -> u16 {
+        count_live(self.world.array(), group, slots)
+    }
+}
+
+/// How many of a group's first `slots` slots are newest places of an array's blocks. A table has the count of all of a group's
+/// slots, so that needs no search. Fewer slots are read one after another.
+pub fn count_live<D: Drive, C: Hold>(array: &Array<D, C>, group: u16, slots: u16) -> u16
+    requires group { group < 512 }
+    requires slots { slots ≤ 128 }
+    ensures { IsLiveCount (key_at array.now) group slots result }
+{
+    if slots >= array.groups().slots_of(group) {
+        return array.live_count(group);
+    }
+    count_among(array, group, slots)
+}
+
+// How many of a group's first `slots` slots are newest places, by a lookup of each slot.
+fn count_among<D: Drive, C: Hold>(array: &Array<D, C>, group: u16, slots: u16) -> u16
+    requires group { group < 512 }
+    requires slots { slots ≤ 128 }
+    ensures { IsLiveCount (key_at array.now) group slots result }
+{
+    let mut count = 0;
+    for index in 0..slots {
+        if is_live(array, SLOTS * group + index) {
+            count += 1;
+        }
+    }
+    count
+}
+
+// Whether the slot is the newest place of a block.
+fn is_live<D: Drive, C: Hold>(array: &Array<D, C>, slot: u16) -> bool
+    ensures { IsTrue result ↔ IsLive (key_at array.now) slot }
+{
+    array.block_at(slot).is_some()
+}
+
+impl<'a> Free for Running<'a> {
+    ghost free = { λ r slot. IsFreeHere r.world.now slot };
+
+    fn is_free(&self, slot: u16) -> bool {
+        self.world.is_free(slot)
+    }
+}
+
+// The free slots of mirrored groups.
+#[derive(Drop)]
+pub(crate) struct Mirrors<'a> {
+    pub(crate) world: &'a World,
+}
+
+impl<'a> Free for Mirrors<'a> {
+    ghost free = { λ m slot. IsSlotOf Mirrored m.world.now.array.parts.groups slot × IsFreeHere m.world.now slot };
+
+    fn is_free(&self, slot: u16) -> bool {
+        is_mirror(self.world.array().groups(), slot) && self.world.is_free(slot)
+    }
+}
+
+// Whether the slot is one of a mirrored group.
+fn is_mirror(groups: &GroupTable, slot: u16) -> bool
+    ensures { IsTrue result ↔ IsSlotOf Mirrored groups.now slot }
+{
+    let _members = groups.members(slot / SLOTS);
+    groups.class_of(slot / SLOTS) == Some(Class::Mirrored)
+        && slot % SLOTS < groups.slots_of(slot / SLOTS)
+}
+
+/// Every slot, held or not.
+pub struct Any;
+
+impl Free for Any {
+    ghost free = { λ any slot. Unit {0} };
+
+    fn is_free(&self, _slot: u16) -> bool {
+        true
+    }
+}

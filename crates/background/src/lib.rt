@@ -1,0 +1,24 @@
+//! What a worker does by a plan: it writes a block into the mirrored level, demotes the oldest into the parity level, plugs a
+//! hole, cleans a group.
+#![tactic(auto)]
+
+mod asks;
+mod bits;
+mod hints;
+mod notes;
+mod outcome;
+mod place;
+mod plans;
+mod put;
+mod regroup;
+mod regrouped;
+mod tiers;
+mod write;
+
+pub use asks::{Any, count_live};
+pub use hints::FreeHints;
+pub use notes::{ages_of, is_mirrored};
+pub use outcome::Outcome;
+pub use regroup::{balance, rebuild};
+pub use regrouped::Regrouped;
+pub use tiers::Tiers;

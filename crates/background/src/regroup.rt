@@ -1,0 +1,94 @@
+//! One extent after another, by a plan.
+ghost use Rattle.std.specs.Prelude.{◌≡◌, ◌+◌, ◌<◌, ◌≤◌, Bool, IfOk, IfSome, List, OnErr, Some};
+ghost use Rattle.array_model.specs.Represents.{Represents};
+ghost use Rattle.array_model.specs.Views.{SameSizes, IsWhole};
+ghost use Rattle.flat_machine.specs.Flat.{Flat};
+ghost use Rattle.flat_machine.specs.Cases.{IsWanted};
+ghost use Rattle.flat_machine.specs.Steps.{MoveExtent};
+ghost use Rattle.rebalancer.specs.Balancing.{IsBalance, Evens, sum_of_squares};
+ghost use Rattle.rebalancer.specs.Rebuilding.{IsRebuild};
+ghost use Rattle.background.specs.Regrouping.{AreLostOf, BalanceCase, IsBalanceOf, IsRebuildOf, RebuildCase, ShiftCase, IfMoved, outcome_of};
+
+use crate::Regrouped;
+use rebalancer::{Shift, balance_plan, rebuild_plan};
+use std::alloc::{AllocError, Global};
+use step_core::{Answer, Refusal, World};
+
+/// Moves one extent from a drive of greatest load to one of least, of those pairs whose loads (extents in groups) are two
+/// apart or more; `Nothing` where there is no such pair, or none that may be moved.
+pub fn balance(alloc: Global, world: &mut World) -> Result<Regrouped, AllocError>
+    ensures ok { IfOk result (λ outcome. (F : Flat) → Represents world.old F → (G : Flat) × BalanceCase F outcome G × Represents world.new G) }
+    ensures evens { IfOk result (λ outcome. IfMoved outcome (sum_of_squares world.new.array.parts.owners + 2 ≤ sum_of_squares world.old.array.parts.owners)) }
+    ensures err { OnErr result (world.new ≡ world.old) }
+    ensures wants { OnErr result ((F : Flat) → Represents world.old F → (s : Shift) × IsBalanceOf F (Some s) × IsWanted F (MoveExtent s.group s.member s.to)) }
+    ensures room { SameSizes world.old.array world.new.array }
+{
+    match plan_balance(world) {
+        Some(shift) => carry_out(alloc, world, shift),
+        None => Ok(Regrouped::Nothing),
+    }
+}
+
+/// Rebuilds one extent of a lost drive on a present one: that of the lowest group that has one there, on the drive of least
+/// load that has room and no member of the group. `Nothing` where the drive isn't lost, no group is on it, or that group has
+/// no such drive; refused as a bad member where there is no drive of that number.
+pub fn rebuild(alloc: Global, world: &mut World, drive: u8) -> Result<Regrouped, AllocError>
+    ensures ok { IfOk result (λ outcome. (F : Flat) → Represents world.old F → (G : Flat) × RebuildCase F drive outcome G × Represents world.new G) }
+    ensures err { OnErr result (world.new ≡ world.old) }
+    ensures wants { OnErr result ((F : Flat) → Represents world.old F → (s : Shift) × IsRebuildOf F drive (Some s) × IsWanted F (MoveExtent s.group s.member s.to)) }
+    ensures room { SameSizes world.old.array world.new.array }
+{
+    if drive >= world.array().drive_count() {
+        return Ok(Regrouped::Refused(Refusal::BadMember));
+    }
+    match plan_rebuild(world, drive) {
+        Some(shift) => carry_out(alloc, world, shift),
+        None => Ok(Regrouped::Nothing),
+    }
+}
+
+fn plan_balance(world: &World) -> Option<Shift>
+    ensures plan { (lost : List Bool) × AreLostOf world.now.array.parts lost × IsBalance world.now.array.parts.owners world.now.array.parts.groups lost result }
+    ensures evens { IfSome result (Evens world.now.array.parts.groups world.now.array.parts.owners) }
+    ensures whole { IsWhole world.now.array }
+{
+    world.whole();
+    let array = world.array();
+    balance_plan(array.extents(), array.groups(), &array.lost())
+}
+
+fn plan_rebuild(world: &World, drive: u8) -> Option<Shift>
+    requires { drive < 16 }
+    ensures plan { (lost : List Bool) × AreLostOf world.now.array.parts lost × IsRebuild world.now.array.parts.owners world.now.array.parts.groups lost drive result }
+    ensures whole { IsWhole world.now.array }
+{
+    world.whole();
+    let array = world.array();
+    rebuild_plan(array.extents(), array.groups(), &array.lost(), drive)
+}
+
+// Moves the member that a plan names.
+fn carry_out(alloc: Global, world: &mut World, shift: Shift) -> Result<Regrouped, AllocError>
+    ensures ok { IfOk result (λ outcome. (F : Flat) → Represents world.old F → (G : Flat) × ShiftCase F shift outcome G × Represents world.new G) }
+    ensures evens { Evens world.old.array.parts.groups world.old.array.parts.owners shift
+        → IfOk result (λ outcome. IfMoved outcome (sum_of_squares world.new.array.parts.owners + 2 ≤ sum_of_squares world.old.array.parts.owners)) }
+    ensures err { OnErr result (world.new ≡ world.old) }
+    ensures wants { OnErr result ((F : Flat) → Represents world.old F → IsWanted F (MoveExtent shift.group shift.member shift.to)) }
+    ensures room { SameSizes world.old.array world.new.array }
+{
+    match world.move_extent(alloc, shift.group, shift.member, shift.to) {
+        Ok(answer) => Ok(outcome_in(shift, answer)),
+        Err(_) => Err(AllocError),
+    }
+}
+
+// What comes of it; it answers that the member was moved, or a refusal.
+fn outcome_in(shift: Shift, answer: Answer) -> Regrouped
+    ensures { result ≡ outcome_of shift answer }
+{
+    match answer {
+        Answer::Shifted => Regrouped::Moved(shift),
+        Answer::Refused(refusal) => Regrouped::Refused(refusal),
+        _ => Regrouped::Nothing,
+    }
+}

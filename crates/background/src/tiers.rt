@@ -1,0 +1,110 @@
+//! A world, and what is kept next to it for the plans.
+ghost use Rattle.std.specs.Prelude.{◌≡◌, ◌<◌, IfOk, OnErr};
+ghost use Rattle.array_model.specs.Represents.{Represents};
+ghost use Rattle.array_model.specs.Views.{SameSizes};
+ghost use Rattle.flat_machine.specs.Flat.{Flat};
+ghost use Rattle.step_core.specs.Told.{flat_answer};
+ghost use Rattle.background.specs.Stands.{StandsFor};
+ghost use Rattle.flat_machine.specs.Steps as f;
+ghost use Rattle.background.specs.Steps.{CommitNoted, StepNoted};
+ghost use Rattle.background.specs.Tiered.{Tiered, begun};
+
+use crate::FreeHints;
+use crate::hints::hint_made;
+use crate::notes::{ages_of, mark_answer, note_answer};
+use migrator::{LogEnd, MarkedAges};
+use std::alloc::{AllocError, Global};
+use step_core::{Answer, Class, Member, World};
+
+/// A world; the order in which its blocks were last written since the array was made or restarted, those in mirrored groups
+/// marked; the end of its write log; and which slots may be free. Commits, releases, and making or dissolving a group go by the
+/// calls here: if the world itself is called for one of them, the order, the marks and the free slots are out of date. Its
+/// other steps may go by the world.
+#[derive(Drop)]
+pub struct Tiers {
+    pub world: World,
+    pub recency: MarkedAges,
+    pub end: LogEnd,
+    pub hints: FreeHints,
+}
+
+impl Tiers {
+    /// The world with no write noted and nothing appended. It takes memory by the number of blocks; no step takes any later,
+    /// but what the world's steps take.
+    pub fn new(alloc: Global, world: World) -> Result<Tiers, AllocError>
+        ensures same { IfOk result (λ tiers. tiers.world ≡ world) }
+        ensures ok { IfOk result (λ tiers. (F : Flat) → Represents world F → StandsFor tiers (begun F)) }
+    {
+        let recency = ages_of(alloc, world.array())?;
+        let hints = FreeHints::new(alloc)?;
+        Ok(Tiers {
+            world,
+            recency,
+            end: LogEnd::new(),
+            hints,
+        })
+    }
+
+    /// Commits a slot that waits for the worker, and notes the write where what waited was a fresh payload.
+    pub fn commit(
+        &mut self,
+        alloc: Global,
+        worker: u8,
+        slot: u16,
+        block: u32,
+    ) -> Result<Answer, AllocError>
+        requires { block < self.old.world.array.parts.groups.blocks }
+        ensures ok { IfOk result (λ answer. (T : Tiered) → StandsFor self.old T
+            → (U : Tiered) × CommitNoted T worker slot block (flat_answer answer) U × StandsFor self.new U) }
+        ensures err { OnErr result (self.new ≡ self.old) }
+        ensures room { SameSizes self.old.world.array self.new.world.array }
+    {
+        let answer = self.world.commit(alloc, worker, slot, block)?;
+        note_answer(&mut self.recency, block, &answer);
+        mark_answer(
+            &mut self.recency,
+            self.world.array().groups(),
+            block,
+            &answer,
+        );
+        Ok(answer)
+    }
+
+    /// Releases a slot that the worker holds.
+    pub fn release(&mut self, worker: u8, slot: u16) -> Answer
+        ensures flat { (T : Tiered) → StandsFor self.old T
+            → (U : Tiered) × StepNoted T (f.Release worker slot) (flat_answer result) U × StandsFor self.new U }
+        ensures room { SameSizes self.old.world.array self.new.world.array }
+    {
+        let answer = self.world.release(worker, slot);
+        self.hints.add(slot);
+        answer
+    }
+
+    /// Makes a group.
+    pub fn make(
+        &mut self,
+        alloc: Global,
+        class: Class,
+        members: &[Member],
+    ) -> Result<Answer, AllocError>
+        ensures ok { IfOk result (λ answer. (T : Tiered) → StandsFor self.old T
+            → (U : Tiered) × StepNoted T (f.Make class members.now) (flat_answer answer) U × StandsFor self.new U) }
+        ensures err { OnErr result (self.new ≡ self.old) }
+        ensures room { SameSizes self.old.world.array self.new.world.array }
+    {
+        let answer = self.world.make(alloc, class, members)?;
+        hint_made(&mut self.hints, &answer);
+        Ok(answer)
+    }
+
+    /// Unmakes a group of which the worker holds all slots.
+    pub fn unmake(&mut self, alloc: Global, worker: u8, group: u16) -> Result<Answer, AllocError>
+        ensures ok { IfOk result (λ answer. (T : Tiered) → StandsFor self.old T
+            → (U : Tiered) × StepNoted T (f.Unmake worker group) (flat_answer answer) U × StandsFor self.new U) }
+        ensures err { OnErr result (self.new ≡ self.old) }
+        ensures room { SameSizes self.old.world.array self.new.world.array }
+    {
+        self.world.unmake(alloc, worker, group)
+    }
+}

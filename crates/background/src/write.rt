@@ -1,0 +1,106 @@
+//! Blocks that are written into the mirrored level.
+ghost use Rattle.std.specs.Prelude.{◌≡◌, ℕ, ◌<◌, IfOk, OnErr, Option, length};
+ghost use Rattle.array_model.specs.Views.{SameSizes};
+ghost use Rattle.flat_machine.specs.Flat.{Payload, Trim};
+ghost use Rattle.migrator.specs.First.{IsFirst};
+ghost use Rattle.background.specs.Placing.{Fresh, content_of};
+ghost use Rattle.background.specs.Inside.{IsGivenFor};
+ghost use Rattle.background.specs.Stands.{StandsFor};
+ghost use Rattle.background.specs.Steps.{IsFreeMirror, PutStops, TierCase, TierStops, WritesIn};
+ghost use Rattle.background.specs.Steps as t;
+ghost use Rattle.background.specs.Tiered.{Tiered};
+
+use crate::asks::Mirrors;
+use crate::place::Given;
+use crate::{Outcome, Tiers};
+use std::alloc::{AllocError, Global};
+
+impl Tiers {
+    /// Writes a payload as the block's next version into the lowest free slot of mirrored groups, and notes the write. Where no
+    /// slot is free there, one block is demoted first; `NoRoom` where that frees none.
+    pub fn write(
+        &mut self,
+        alloc: Global,
+        worker: u8,
+        block: u32,
+        payload: &[u8],
+    ) -> Result<Outcome, AllocError>
+        requires block { block < self.old.world.array.parts.groups.blocks }
+        requires payload { length payload.now ≡ self.old.world.array.parts.groups.payload }
+        ensures ok { IfOk result (λ outcome. (T : Tiered) → StandsFor self.old T
+            → (U : Tiered) × TierCase T (t.Write worker block (Payload payload.now)) outcome U × StandsFor self.new U) }
+        ensures err { OnErr result ((T : Tiered) → StandsFor self.old T
+            → (U : Tiered) × TierStops T (t.Write worker block (Payload payload.now)) U × StandsFor self.new U) }
+        ensures room { SameSizes self.old.world.array self.new.world.array }
+    {
+        self.bring(alloc, worker, block, Given::Payload(payload))
+    }
+
+    /// Trims a block, which holds nothing then, as a write does that has no payload.
+    pub fn trim(&mut self, alloc: Global, worker: u8, block: u32) -> Result<Outcome, AllocError>
+        requires { block < self.old.world.array.parts.groups.blocks }
+        ensures ok { IfOk result (λ outcome. (T : Tiered) → StandsFor self.old T
+            → (U : Tiered) × TierCase T (t.Write worker block Trim) outcome U × StandsFor self.new U) }
+        ensures err { OnErr result ((T : Tiered) → StandsFor self.old T
+            → (U : Tiered) × TierStops T (t.Write worker block Trim) U × StandsFor self.new U) }
+        ensures room { SameSizes self.old.world.array self.new.world.array }
+    {
+        self.bring(alloc, worker, block, Given::Trim)
+    }
+
+    // Writes what is given.
+    fn bring(
+        &mut self,
+        alloc: Global,
+        worker: u8,
+        block: u32,
+        given: Given,
+    ) -> Result<Outcome, AllocError>
+        requires block { block < self.old.world.array.parts.groups.blocks }
+        requires given { IsGivenFor self.old.world.array.parts.groups.payload given }
+        ensures ok { IfOk result (λ outcome. (T : Tiered) → StandsFor self.old T
+            → (U : Tiered) × TierCase T (t.Write worker block (content_of given.entry)) outcome U × StandsFor self.new U) }
+        ensures err { OnErr result ((T : Tiered) → StandsFor self.old T
+            → (U : Tiered) × TierStops T (t.Write worker block (content_of given.entry)) U × StandsFor self.new U) }
+        ensures room { SameSizes self.old.world.array self.new.world.array }
+    {
+        if let Some(slot) = self.free_mirror() {
+            return self.put(alloc, worker, slot, block, Some(given));
+        }
+        match self.demote(alloc, worker) {
+            Ok(_) => self.write_behind(alloc, worker, block, given),
+            Err(_) => Err(AllocError),
+        }
+    }
+
+    // Looks for a slot once more.
+    fn write_behind(
+        &mut self,
+        alloc: Global,
+        worker: u8,
+        block: u32,
+        given: Given,
+    ) -> Result<Outcome, AllocError>
+        requires block { block < self.old.world.array.parts.groups.blocks }
+        requires given { IsGivenFor self.old.world.array.parts.groups.payload given }
+        ensures ok { IfOk result (λ outcome. (T : Tiered) → StandsFor self.old T → (slot : Option ℕ) × IsFirst (IsFreeMirror T.flat) slot
+            × ((U : Tiered) × WritesIn T worker block (content_of given.entry) slot outcome U × StandsFor self.new U)) }
+        ensures err { OnErr result ((T : Tiered) → StandsFor self.old T
+            → (U : Tiered) × PutStops T worker (Fresh (content_of given.entry)) U × StandsFor self.new U) }
+        ensures room { SameSizes self.old.world.array self.new.world.array }
+    {
+        match self.free_mirror() {
+            Some(slot) => self.put(alloc, worker, slot, block, Some(given)),
+            None => Ok(Outcome::NoRoom),
+        }
+    }
+
+    // The lowest free slot of mirrored groups.
+    fn free_mirror(&mut self) -> Option<u16>
+        ensures first { (T : Tiered) → StandsFor self.old T → IsFirst (IsFreeMirror T.flat) result × StandsFor self.new T }
+        ensures same { self.new.world ≡ self.old.world }
+    {
+        let mirrors = Mirrors { world: &self.world };
+        self.hints.first(&mirrors)
+    }
+}

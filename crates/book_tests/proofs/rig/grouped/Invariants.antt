@@ -1,8 +1,0 @@
-use Rattle.std.proofs.Common.{◌≡◌}
-use Rattle.array_model.specs.Represents.{ShowsArray}
-use Rattle.flat_machine.specs.Flat.{Flat}
-use Rattle.book_tests.proofs.rig.grouped.Given as goal
-
--- the array shows a state, and has its sizes
-abbrev pub invariant-loop-class : goal.invariant-loop-class
-invariant-loop-class g l = ((F : Flat) × ShowsArray l.array F) × (l.array.parts.groups.blocks ≡ 16) × (l.array.parts.groups.payload ≡ 40)

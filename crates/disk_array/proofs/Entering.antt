@@ -1,0 +1,27 @@
+-- What comes of a group that couldn't be made: there was no memory for the places of its slots, or a drive was lost.
+use Rattle.std.proofs.Common.{◌≡◌, ℕ, ◌⊎◌, inl, inr, List, sym, subst, None}
+use Rattle.extent_groups.specs.declared.class.Class.{Class}
+use Rattle.extent_groups.specs.declared.class.Member.{Member}
+use Rattle.flat_machine.specs.declared.refusal.Refusal.{Refusal}
+use Rattle.flat_machine.specs.declared.refusal.Refusal.TheVariants.{Memory}
+use Rattle.flat_machine.specs.Flat.{Flat}
+use Rattle.flat_machine.specs.Groups.{IsLowestFree}
+use Rattle.flat_machine.specs.Steps.{Make, Refused}
+use Rattle.flat_machine.specs.Cases.{IsWanted, MakeCase}
+use Rattle.array_parts.specs.Views.{FoundLost}
+use Rattle.array_model.specs.Changes.{MayRefuse}
+use Rattle.array_model.specs.Making.{IsMakeReason}
+use Rattle.array_model.specs.Represents.{ShowsArray}
+use Rattle.array_model.specs.Views.{ArrayView, with_parts}
+use Rattle.array_model.proofs.Makings.{make_lost, make_passes}
+use Rattle.disk_array.proofs.Ready.{as_refused}
+
+pub not_made : (a b : ArrayView) (F : Flat) (class : Class) (members : List Member) (g : ℕ) (q : Refusal) → IsMakeReason a members None → IsLowestFree a.parts.groups g
+    → b ≡ with_parts a b.parts → ((q ≡ Memory) × (b.parts ≡ a.parts)) ⊎ (FoundLost a.parts members b.parts q) → ShowsArray a F
+    → MayRefuse q (IsWanted F (Make class members)) ((G : Flat) × MakeCase F class members (Refused q) G × ShowsArray b G)
+not_made a b F class members g q reason lowest rest (inl none) shows =
+    subst (λ z. MayRefuse z (IsWanted F (Make class members)) ((G : Flat) × MakeCase F class members (Refused z) G × ShowsArray b G)) (sym none.0)
+    (g, make_passes a F members g reason lowest shows)
+not_made a b F class members g q reason lowest rest (inr found) shows =
+    as_refused q (IsWanted F (Make class members)) (λ G. MakeCase F class members (Refused q) G) b (with_parts a b.parts) rest
+    (make_lost a b.parts F class members g q reason lowest found shows)

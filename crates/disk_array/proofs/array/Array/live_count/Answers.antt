@@ -1,0 +1,16 @@
+use Rattle.std.proofs.Common.{◌≤◌, sym, subst, get_or}
+use Rattle.map_join.specs.Live.{IsLiveCount}
+use Rattle.extent_groups.specs.Groups.{group_at, slots_in}
+use Rattle.array_model.specs.Views.{ArrayView, key_at}
+use Rattle.disk_array.specs.Inside.{seen}
+use Rattle.disk_array.proofs.Living.{live_counted}
+use Rattle.disk_array.proofs.array.Array.live_count.Goals as goal
+
+pub returns : goal.returns
+returns g c slots enough =
+    let d = g.D.Drive in
+    let now = seen d.units d.lost d.failures c.self.inside in
+    let n = c.from.result in
+    let few = subst (λ (v : ArrayView). slots_in v.parts.groups.segments (group_at v.parts.groups c.args.group) ≤ slots) (sym c.self.view_is) enough in
+    let counted = live_counted now c.self.inside.live c.args.group slots c.self.invariant.0 c.requires c.self.invariant.2.live few in
+    rw (c.from.ensures) (subst (λ (v : ArrayView). IsLiveCount (key_at v) c.args.group slots (get_or c.self.inside.live c.args.group 0)) c.self.view_is counted)

@@ -1,0 +1,18 @@
+use Rattle.std.proofs.Common.{◌≡◌, false, length, subst, rules}
+use Rattle.array_parts.specs.Views.{lost_of}
+use Rattle.flat_machine.specs.Moves.{IsMoveReason}
+use Rattle.array_model.proofs.Regroups.{move_refused}
+use Rattle.disk_array.proofs.Regrouping.{move_told}
+use Rattle.disk_array.proofs.array.Array.move_extent.Goals as goal
+
+pub returns-in-Some-clause-flat : goal.returns-in-Some-clause-flat
+returns-in-Some-clause-flat g c F shows =
+    move_refused c.args.self.now F c.args.group c.args.member c.args.to c.in-Some.refusal
+    (subst (IsMoveReason c.args.self.now.parts.groups (length c.args.self.now.parts.drives) c.args.group c.args.member c.args.to) c.in-Some.is c.move_fault.ensures.reason) shows
+
+pub returns-clause-flat : goal.returns-clause-flat
+returns-clause-flat g c F shows =
+    let v = c.args.self.now in
+    let reason = subst (IsMoveReason v.parts.groups (length v.parts.drives) c.args.group c.args.member c.args.to) c.in_default.is c.move_fault.ensures.reason in
+    let present : lost_of v.parts c.args.to.drive ≡ false = search rules in
+    move_told v c.shift.new.self F c.args.group c.args.member c.args.to c.shift.result reason present c.shift.ensures.ok c.shift.ensures.err c.shift.ensures.rest shows

@@ -1,0 +1,27 @@
+-- An array as plain data, and what it keeps by itself for the calls of its drives.
+use Rattle.std.specs.Prelude.{◌≡◌, ℕ, ◌*◌, Bool, List, length, vec_len}
+use Rattle.extents.specs.Failures.{Failures}
+use Rattle.extent_groups.specs.Stores.{unit_bytes}
+use Rattle.array_parts.specs.Fit.{IsFit}
+use Rattle.array_parts.specs.Views.{view_of}
+use Rattle.array_model.specs.Views.{ArrayView}
+use Rattle.disk_array.specs.declared.array.Array.TheInside.{Inside}
+use Rattle.slot_tables.specs.Kept.{kepts_of, HavePlaces}
+use Rattle.slot_tables.specs.Counted.{AreCounts}
+
+abbrev pub seen : {D C : Type 0} → (D → List (List ℕ)) → (D → Bool) → (D → Failures) → Inside D C → ArrayView
+seen units lost failures a = record {
+  parts = view_of units lost failures a.parts;
+  log = a.log.items;
+  keys = a.keys.items;
+  kept = kepts_of a.places.items;
+}
+
+-- the drives are those of the tables, and there is a buffer of a unit's length and one of two units'; there are places for
+-- the slots of each made group, and the counts are those of the places
+pub record IsReady {D C : Type 0} (units : D → List (List ℕ)) (a : Inside D C) : Type 0 where
+  pub fit : IsFit units a.parts
+  pub unit : length a.unit.items ≡ unit_bytes a.parts.groups
+  pub scratch : length a.scratch.items ≡ 2 * unit_bytes a.parts.groups
+  pub places : HavePlaces a.parts.groups (vec_len a.places)
+  pub live : AreCounts (kepts_of a.places.items) a.live

@@ -1,0 +1,72 @@
+// An array has no claim of a slot that someone else has one of.
+ghost use Rattle.std.specs.Prelude.{◌≡◌, ◌≢◌, ℕ, ◌<◌, vec_len, slice_index_or, true};
+ghost use Rattle.array_model.specs.Represents.{ShowsArray};
+ghost use Rattle.array_model.specs.Views.{ArrayView, Nothing, kept_at};
+ghost use Rattle.flat_machine.specs.Flat.{Flat, Worker, IsKept};
+ghost use Rattle.disk_array.specs.Claimed.{with_claim};
+ghost use Rattle.slot_tables.specs.Kept.{kepts_of, AreOf};
+
+use crate::array::Array;
+use extents::Drive;
+use slot_tables::{Hold, Place};
+
+/// Knows that two claims are never of one slot.
+pub trait Apart<C: Hold> {
+    /// Promises that the slots of the two claims differ.
+    fn apart(&self, one: &mut C, other: &mut C)
+        ensures differ { C.names one.old ≢ C.names other.old }
+        ensures same { (one.new ≡ one.old) × (other.new ≡ other.old) };
+}
+
+impl<D: Drive, C: Hold> Array<D, C> {
+    /// Promises that the array keeps nothing of the claim's slot, since it would have a claim of it too. It takes no more
+    /// than one `apart`, and no loop.
+    pub fn apart_from<W: Apart<C>>(&mut self, words: &W, claim: &mut C)
+        ensures free { kept_at self.old (C.names claim.old) ≡ Nothing }
+        ensures flat { (F : Flat) → ShowsArray self.old F → IsKept F (C.names claim.old) → ⊥ }
+        ensures same { (self.new ≡ self.old) × (claim.new ≡ claim.old) }
+    {
+        let slot = claim.slot();
+        apart_at(&mut self.places, words, slot, claim);
+    }
+}
+
+// Where a claim is kept at the place, it and the other are of different slots; so none is.
+#[tactic(auto, using(slot_tables::proofs::Places::kept_past))]
+fn apart_at<C: Hold, W: Apart<C>>(places: &mut Vec<Place<C>>, words: &W, slot: u16, claim: &mut C)
+    requires of { C.names claim.old ≡ slot }
+    requires claims { AreOf C.names places.old.items }
+    ensures free { slice_index_or (kepts_of places.old.items) slot Nothing ≡ Nothing }
+    ensures same { (places.new.items ≡ places.old.items) × (claim.new ≡ claim.old) }
+{
+    if usize::from(slot) >= places.len() {
+        return;
+    }
+    match &mut places[usize::from(slot)] {
+        Place::Free => {}
+        Place::Pending(_, kept) => {
+            words.apart(kept, claim);
+            unreachable!()
+        }
+        Place::Moving(_, _, kept) => {
+            words.apart(kept, claim);
+            unreachable!()
+        }
+        Place::Newest(_, kept) => {
+            words.apart(kept, claim);
+            unreachable!()
+        }
+        Place::Unmade(kept) => {
+            words.apart(kept, claim);
+            unreachable!()
+        }
+    }
+}
+
+/// What an array shows leaves free which slots workers have claims of: with one more it is shown by the same array.
+pub fn claims_are_free()
+    ensures shows { (array : ArrayView) (F : Flat) (slot worker : ℕ) → ShowsArray array F → ShowsArray array (with_claim F slot worker) }
+    ensures holds { (F : Flat) (slot worker : ℕ) → (with_claim F slot worker).held slot (Worker worker) ≡ true }
+{
+    // The law is the contract: there is nothing to do.
+}

@@ -1,0 +1,156 @@
+// What an array has its drives do for a slot, and for a group that is made. All but its parts stays as it was, and what it keeps of
+// a group's number that is made.
+ghost use Rattle.std.specs.Prelude.{◌≡◌, ◌⊎◌, ◌*◌, ◌≤◌, length, vec_len, vec_capacity, OnOk, OnErr, IfOk, IfErr, Some, None};
+ghost use Rattle.extents.specs.declared.shape.TheConstants.{HEADER_BYTES};
+ghost use Rattle.extent_groups.specs.Faults.{put_fault};
+ghost use Rattle.extent_groups.specs.Groups.{AreThere};
+ghost use Rattle.extent_groups.specs.Stores.{unit_bytes, unit_of, header_of, AreSound, KeepsUnits};
+ghost use Rattle.flat_machine.specs.Flat.{Payload, Trim, content_under, waiting_unit};
+ghost use Rattle.flat_machine.specs.Groups.{IsLowestFree};
+ghost use Rattle.array_parts.specs.Slots.{IsSlot};
+ghost use Rattle.disk_array.specs.Refused.{OnlyLoses};
+ghost use Rattle.array_parts.specs.Views.{cells_of, seen_of, FoundGone, WasPut, WasCopied, WasNotCarried, WasRead, SawUnit, Entered, FoundLost};
+ghost use Rattle.array_model.specs.Views.{with_parts, IsWhole};
+ghost use Rattle.array_model.specs.Making.{IsMakeReason};
+ghost use Rattle.array_model.specs.Changes.{opened_view, IsOpened};
+ghost use Rattle.slot_tables.specs.Shut.{AreShutOf};
+
+use crate::array::Array;
+use array_parts::Sight;
+use extent_groups::{Class, Member};
+use extents::{Drive, Kind};
+use flat_machine::Refusal;
+use map_join::Record;
+use slot_tables::{Hold, grow_to, open_number};
+
+impl<D: Drive, C: Hold> Array<D, C> {
+    // Writes a payload under a blank header.
+    pub(crate) fn put(&mut self, slot: u16, payload: &[u8]) -> Result<(), Refusal>
+        requires slot { IsSlot self.old.parts.groups slot }
+        requires payload { length payload.now ≡ self.old.parts.groups.payload }
+        ensures ok { OnOk result (WasPut self.old.parts self.new.parts slot (waiting_unit self.old.parts.groups.payload (Payload payload.now))) }
+        ensures err { IfErr result (FoundGone self.old.parts self.new.parts slot) }
+        ensures rest { self.new ≡ with_parts self.old self.new.parts }
+        ensures whole { IsWhole self.old }
+    {
+        let unit: &mut [u8] = &mut self.unit;
+        let scratch: &mut [u8] = &mut self.scratch;
+        self.parts.put(slot, payload, unit, scratch)
+    }
+
+    // Writes a unit that waits to be a trim.
+    pub(crate) fn put_trim(&mut self, slot: u16) -> Result<(), Refusal>
+        requires { IsSlot self.old.parts.groups slot }
+        ensures ok { OnOk result (WasPut self.old.parts self.new.parts slot (waiting_unit self.old.parts.groups.payload Trim)) }
+        ensures err { IfErr result (FoundGone self.old.parts self.new.parts slot) }
+        ensures rest { self.new ≡ with_parts self.old self.new.parts }
+        ensures whole { IsWhole self.old }
+    {
+        let unit: &mut [u8] = &mut self.unit;
+        let scratch: &mut [u8] = &mut self.scratch;
+        self.parts.put_trim(slot, unit, scratch)
+    }
+
+    // Writes what a slot holds into a slot where it waits, and returns its kind.
+    pub(crate) fn carry(&mut self, from: u16, to: u16) -> Result<Kind, Refusal>
+        requires from { IsSlot self.old.parts.groups from }
+        requires to { IsSlot self.old.parts.groups to }
+        ensures ok { IfOk result (WasCopied self.old.parts self.new.parts from to) }
+        ensures err { IfErr result (WasNotCarried self.old.parts self.new.parts from to) }
+        ensures rest { self.new ≡ with_parts self.old self.new.parts }
+        ensures whole { IsWhole self.old }
+    {
+        let unit: &mut [u8] = &mut self.unit;
+        let scratch: &mut [u8] = &mut self.scratch;
+        self.parts.copy(from, to, unit, scratch)
+    }
+
+    // Reads what a slot holds: its kind, and the payload.
+    pub(crate) fn payload_at(&mut self, slot: u16, payload: &mut [u8]) -> Result<Kind, Refusal>
+        requires slot { IsSlot self.old.parts.groups slot }
+        requires payload { length payload.old ≡ self.old.parts.groups.payload }
+        ensures ok { IfOk result (λ kind. WasRead self.old.parts self.new.parts slot (content_under kind payload.new)) }
+        ensures err { IfErr result (FoundGone self.old.parts self.new.parts slot) }
+        ensures rest { self.new ≡ with_parts self.old self.new.parts }
+        ensures whole { IsWhole self.old }
+    {
+        let unit: &mut [u8] = &mut self.unit;
+        let scratch: &mut [u8] = &mut self.scratch;
+        self.parts.payload(slot, payload, unit, scratch)
+    }
+
+    // Looks for a record at its place, and reads the payload where it is there.
+    pub(crate) fn sight(&mut self, asked: &Record, payload: &mut [u8]) -> Result<Sight, Refusal>
+        requires slot { IsSlot self.old.parts.groups asked.now.place }
+        requires payload { length payload.old ≡ self.old.parts.groups.payload }
+        ensures ok { IfOk result (λ sight. SawUnit self.old.parts self.new.parts asked.now (seen_of sight payload.new)) }
+        ensures err { IfErr result (FoundGone self.old.parts self.new.parts asked.now.place) }
+        ensures rest { self.new ≡ with_parts self.old self.new.parts }
+        ensures whole { IsWhole self.old }
+    {
+        let unit: &mut [u8] = &mut self.unit;
+        let scratch: &mut [u8] = &mut self.scratch;
+        self.parts.see(asked, payload, unit, scratch)
+    }
+
+    // Makes a group under a free number, of members that pass every check, and takes out the claims that were
+    // kept of that number. Where there is no memory for its places, all is as it was.
+    pub(crate) fn enter(
+        &mut self,
+        number: u16,
+        class: Class,
+        members: Vec<Member>,
+        claims: &mut Vec<C>,
+    ) -> Result<(), Refusal>
+        requires free { IsLowestFree self.old.parts.groups number }
+        requires there { AreThere self.old.parts.owners members.items }
+        requires fine { put_fault self.old.parts.owners members.items ≡ None }
+        requires reason { IsMakeReason self.old members.items None }
+        requires none { vec_len claims.old ≡ 0 }
+        requires room { 128 ≤ vec_capacity claims.old }
+        ensures ok { OnOk result (Entered self.old.parts number class members.items self.new.parts) }
+        ensures opened { OnOk result ((self.new ≡ opened_view self.old self.new.parts self.new.kept) × IsOpened number self.old.kept self.new.kept × AreShutOf C.names self.old number claims.new.items) }
+        ensures err { IfErr result (λ refusal. ((refusal ≡ Refusal.Memory) × (self.new.parts ≡ self.old.parts)) ⊎ (FoundLost self.old.parts members.items self.new.parts refusal)) }
+        ensures rest { OnErr result ((self.new ≡ with_parts self.old self.new.parts) × (claims.new ≡ claims.old)) }
+        ensures whole { IsWhole self.old }
+    {
+        let Ok(()) = grow_to(&mut self.places, number) else {
+            return Err(Refusal::Memory);
+        };
+        match self.parts.enter(number, class, members, &mut self.unit) {
+            Ok(()) => {
+                open_number(&mut self.places, number, claims);
+                Ok(())
+            }
+            Err(refusal) => Err(refusal),
+        }
+    }
+
+    // Reads a slot's effective unit into a buffer of the caller's.
+    pub(crate) fn unit_at(&mut self, slot: u16, unit: &mut [u8]) -> Result<(), Refusal>
+        requires slot { IsSlot self.old.parts.groups slot }
+        requires unit { length unit.old ≡ unit_bytes self.old.parts.groups }
+        ensures ok { OnOk result (unit_of self.new.parts.groups (cells_of self.new.parts) slot ≡ Some unit.new) }
+        ensures gone { IfErr result (λ e. (e ≡ Refusal.Gone slot) × (unit_of self.new.parts.groups (cells_of self.new.parts) slot ≡ None)) }
+        ensures units { AreSound self.old.parts.groups (cells_of self.old.parts) → KeepsUnits self.old.parts.groups (cells_of self.old.parts) (cells_of self.new.parts) }
+        ensures sound { AreSound self.old.parts.groups (cells_of self.old.parts) → AreSound self.new.parts.groups (cells_of self.new.parts) }
+        ensures loses { OnlyLoses self.old self.new }
+    {
+        let scratch: &mut [u8] = &mut self.scratch;
+        self.parts.read(slot, unit, scratch)
+    }
+
+    // Reads the header of a slot's effective unit into a buffer of the caller's.
+    pub(crate) fn header_at(&mut self, slot: u16, header: &mut [u8]) -> Result<(), Refusal>
+        requires slot { IsSlot self.old.parts.groups slot }
+        requires header { length header.old ≡ HEADER_BYTES }
+        ensures ok { OnOk result (header_of self.new.parts.groups (cells_of self.new.parts) slot ≡ Some header.new) }
+        ensures gone { IfErr result (λ e. (e ≡ Refusal.Gone slot) × (unit_of self.new.parts.groups (cells_of self.new.parts) slot ≡ None)) }
+        ensures units { AreSound self.old.parts.groups (cells_of self.old.parts) → KeepsUnits self.old.parts.groups (cells_of self.old.parts) (cells_of self.new.parts) }
+        ensures sound { AreSound self.old.parts.groups (cells_of self.old.parts) → AreSound self.new.parts.groups (cells_of self.new.parts) }
+        ensures loses { OnlyLoses self.old self.new }
+    {
+        let scratch: &mut [u8] = &mut self.scratch;
+        self.parts.read_header(slot, header, scratch)
+    }
+}

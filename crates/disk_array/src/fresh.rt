@@ -1,0 +1,25 @@
+// Whether what waits under a ticket is fresh or a copy.
+ghost use Rattle.std.specs.Prelude.{◌≡◌};
+ghost use Rattle.array_model.specs.Views.{kept_at};
+ghost use Rattle.disk_array.specs.Waits as waits;
+
+use crate::array::Array;
+use crate::ticket::Ticket;
+use extents::Drive;
+use slot_tables::{Hold, Place, place_at};
+
+impl<D: Drive, C: Hold> Array<D, C> {
+    /// Whether a fresh payload or trim waits at the ticket's slot: its commit emits a record of hop 0.
+    pub fn is_fresh(&self, ticket: &Ticket) -> bool
+        ensures { result ≡ waits.is_fresh (kept_at self.now ticket.now) }
+    {
+        match place_at(&self.places, ticket.slot()) {
+            Some(Place::Pending(_, _)) => true,
+            Some(Place::Free) => false,
+            Some(Place::Moving(_, _, _)) => false,
+            Some(Place::Newest(_, _)) => false,
+            Some(Place::Unmade(_)) => false,
+            None => false,
+        }
+    }
+}

@@ -1,0 +1,38 @@
+// An array's units by slot number, for a scan.
+ghost use Rattle.array_parts.specs.Views.{cells_of};
+ghost use Rattle.disk_array.specs.Refused.{OnlyLoses};
+ghost use Rattle.disk_array.specs.Laws.{only_itself, only_more};
+
+use crate::array::Array;
+use array_parts::Units;
+use extent_groups::GroupTable;
+use extents::Drive;
+use flat_machine::Refusal;
+use slot_tables::Hold;
+
+impl<D: Drive, C: Hold> Units for Array<D, C> {
+    ghost groups = { λ a. a.parts.groups };
+
+    ghost cells = { λ a. cells_of a.parts };
+
+    ghost fits = { λ a. Unit {0} };
+
+    ghost leaves = { λ a b. OnlyLoses a b };
+
+    fn groups(&self) -> &GroupTable {
+        &self.parts.groups
+    }
+
+    // An array has buffers of its own: the caller's stays as it is.
+    fn unit(&mut self, slot: u16, unit: &mut [u8], _scratch: &mut [u8]) -> Result<(), Refusal> {
+        self.unit_at(slot, unit)
+    }
+
+    fn header(&mut self, slot: u16, header: &mut [u8], _scratch: &mut [u8]) -> Result<(), Refusal> {
+        self.header_at(slot, header)
+    }
+
+    ghost none = { λ a. only_itself a };
+
+    ghost more = { λ a b c one two. only_more a b c one two };
+}

@@ -1,5 +1,0 @@
-use Rattle.std.proofs.Common.{rules}
-use Rattle.script_bench.proofs.carry.carry_out.Goals as goal
-
-pub returns-in-Copy-clause-carried : goal.returns-in-Copy-clause-carried
-returns-in-Copy-clause-carried c = search rules

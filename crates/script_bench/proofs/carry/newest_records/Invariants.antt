@@ -1,6 +1,0 @@
-use Rattle.array_model.specs.Views.{key_at}
-use Rattle.script_bench.proofs.Newest.{AreListed}
-use Rattle.script_bench.proofs.carry.newest_records.Given as goal
-
-abbrev pub invariant-loop-block : goal.invariant-loop-block
-invariant-loop-block g l = AreListed (key_at l.array) l.block l.records.items

@@ -1,0 +1,9 @@
+use Rattle.background.specs.Steps as tier
+use Rattle.script_syntax.specs.Order as o
+use Rattle.script_exec.proofs.Carried.{told_tier}
+use Rattle.script_exec.proofs.carry.clean.Goals as goal
+
+pub returns-clause-carried : goal.returns-clause-carried
+returns-clause-carried c =
+    told_tier c.put_outcome.result c.args.bench.now c.clean.new.self (o.Clean c.args.worker) (tier.Clean c.args.worker) c.in_ok-outcome.outcome _ _ c.put_outcome.ensures.told
+    c.in_ok-outcome.ensures.ok (λ P text t steps. steps)

@@ -1,0 +1,27 @@
+use Rattle.std.proofs.Common.{◌≡◌, ◌+◌, ◌++◌, ◌∷◌, [], None, Some, sym, subst, arith, rules}
+use Rattle.map_join.specs.Record.{record_at}
+use Rattle.array_model.specs.Views.{key_at}
+use Rattle.array_model.proofs.Newest.{told_past}
+use Rattle.script_exec.proofs.Newest.{AreListed, none_more, one_more, all_listed}
+use Rattle.script_exec.proofs.carry.newest_records.Goals as goal
+use Rattle.script_exec.proofs.carry.newest_records.Goals.{in-Some+in_ok-push, in_default}
+
+pub loop-block-preserved : goal.loop-block-preserved
+loop-block-preserved g c =
+    let keys = key_at c.args.array.now in
+    let at = c.loop-block in
+    elim c.match-newest.branch [
+      | in-Some+in_ok-push w ↦
+          (let told : record_at at.block (keys at.block) ≡ Some w.in-Some.record = search rules in
+          let items : c.match-newest.records.items ≡ at.records.items ++ w.in-Some.record ∷ [] = search rules in
+          subst (AreListed keys (at.block + 1)) (sym items) (one_more keys at.block at.records.items w.in-Some.record told at.invariant))
+      | in_default w ↦
+          (let none : record_at at.block (keys at.block) ≡ None = search rules in
+          let items : c.match-newest.records.items ≡ at.records.items = search rules in
+          subst (AreListed keys (at.block + 1)) (sym items) (none_more keys at.block at.records.items none at.invariant))
+    ]
+
+pub returns : goal.returns
+returns g c =
+    all_listed (key_at c.args.array.now) c.loop-block.block c.loop-block.records.items
+    (λ b past. told_past c.args.array.now b c.whole.ensures.room (omega (arith, past, c.loop-block-test.false, c.shape-block-end.ensures.of_blocks))) c.loop-block.invariant

@@ -1,0 +1,45 @@
+use Rattle.std.proofs.Common.{ℕ, nat_le, codes, refl, sym, ap, subst, ◌∙◌, rules, Some}
+use Rattle.extents.specs.Failures.{no_failures}
+use Rattle.extent_groups.specs.Groups.{Groups}
+use Rattle.flat_machine.specs.Flat.{new_flat}
+use Rattle.background.specs.Tiered.{begun}
+use Rattle.background.specs.Stands.{StandsFor}
+use Rattle.background.specs.declared.tiers.Tiers.{Tiers}
+use Rattle.script_exec.specs.State.{State, nothing_taken}
+use Rattle.script_exec.proofs.replies.begin.Goals as goal
+
+-- the state of a new array
+abbrev begun_state : Groups → ℕ → State
+begun_state groups drives = Some (record { tiers = begun (new_flat groups drives (nat_le drives) (λ _. no_failures)); taken = nothing_taken })
+
+pub returns-in-Ok-put-clause-replied : goal.returns-in-Ok-put-clause-replied
+returns-in-Ok-put-clause-replied c =
+    let some = c.in-Some.ensures.some in
+    let sizes = c.in-Ok.ensures.sizes in
+    let groups = c.in-Ok.world.array.parts.groups in
+    record {
+      due = refl;
+      range = record { within = search rules; fit = some.2 };
+      carried = record {
+        text = codes "array";
+        next = begun_state groups c.in-Some.drives;
+        answers = record {
+          groups = groups;
+          none = record {
+            of_extents = sym sizes.of_extents ∙ some.1.of_extents;
+            of_segments = sym sizes.of_segments ∙ some.1.of_segments;
+            of_payload = sym sizes.of_payload ∙ some.1.of_payload;
+            of_blocks = sym sizes.of_blocks ∙ some.1.of_blocks;
+            empty = c.in-Ok.ensures.empty;
+          };
+          text_is = refl;
+          state_is = ap (begun_state groups) some.0;
+        };
+        stands = record {
+          tiers = subst (λ (t : Tiers). StandsFor t (begun (new_flat groups c.in-Some.drives (nat_le c.in-Some.drives) (λ _. no_failures)))) (sym c.new-in-Ok-put.ensures.tiers)
+              (c.in-Ok-new.ensures.ok _ c.in-Ok.ensures.ok);
+          maps = c.new-in-Ok-put.ensures.maps;
+        };
+        out = c.in-Ok-put.ensures.told;
+      };
+    }

@@ -1,0 +1,31 @@
+use Rattle.std.proofs.Common.{◌≤◌, length, arith, ap, sym, ◌∙◌, refl, rules, Some}
+use Rattle.extent_groups.specs.Groups.{Groups}
+use Rattle.step_core.specs.Views.{ArrayView}
+use Rattle.script_syntax.specs.Order.{order_of}
+use Rattle.script_exec.proofs.Said.{buffer_size, unsaid, replied}
+use Rattle.script_exec.proofs.replies.later.Goals as goal
+
+pub returns-in-Ok-false-clause-replied : goal.returns-in-Ok-false-clause-replied
+returns-in-Ok-false-clause-replied c P stands =
+    let stand = rw c.in-Some.is at stands in
+    let groups = stand.tiers.world.array.tables.groups ∙ ap (λ (a : ArrayView). a.parts.groups) (sym c.array.ensures) in
+    let size = ap (λ (z : Groups). z.payload) groups ∙ sym c.shape-shape.ensures.of_payload in
+    let room : c.shape-shape.result.payload ≤ length c.args.payload.now = omega arith in
+    unsaid P _ c.args.line.now c.args.out.now.items
+    (buffer_size P c.shape-shape.result.payload c.args.payload.now size room)
+    (rw c.in-Ok-false.field-0-test at c.in-Ok-false.ensures)
+
+pub returns-in-Ok-carry_out-clause-replied : goal.returns-in-Ok-carry_out-clause-replied
+returns-in-Ok-carry_out-clause-replied c P stands =
+    let stand = rw c.in-Some.is at stands in
+    let groups = stand.tiers.world.array.tables.groups ∙ ap (λ (a : ArrayView). a.parts.groups) (sym c.array.ensures) in
+    let size = ap (λ (z : Groups). z.payload) groups ∙ sym c.shape-shape.ensures.of_payload in
+    let room : c.shape-shape.result.payload ≤ length c.args.payload.now = omega arith in
+    let bytes = c.read_command.new.payload in
+    replied P (Some c.carry_out.new.bench) _ _ c.args.line.now c.args.out.now.items c.carry_out.new.out.items (order_of c.read_command.new.command bytes)
+    (buffer_size P c.shape-shape.result.payload c.args.payload.now size room)
+    (ap (λ (z : Groups). z.blocks) groups ∙ sym c.shape-shape.ensures.of_blocks)
+    (rw c.in-Ok-true.field-0-test at c.in-Ok-true.ensures) (search rules) ((c.if-not-is_in_range.ensures bytes).0 refl) (c.in-Ok-carry_out.ensures.carried P stand)
+
+pub returns-in-Array-clause-replied : goal.returns-in-Array-clause-replied
+returns-in-Array-clause-replied c = search rules

@@ -1,0 +1,145 @@
+//! Commands on the four block maps. They leave the world as it is.
+ghost use Rattle.std.specs.Prelude.{◌≡◌, ℕ, ◌<◌, ◌++◌, ◌∷◌, [], List, length, codes, OnOk, IfOk, Some, slice_index_or};
+ghost use Rattle.map_join.specs.declared.records.Record.{Record};
+ghost use Rattle.map_join.specs.Record.{record_at};
+ghost use Rattle.map_join.specs.Maps.{at, IsDifference};
+ghost use Rattle.flat_machine.specs.Flat.{put};
+ghost use Rattle.script_exec.specs.Carrying.{AreMapsOf, Carries, IsMap};
+ghost use Rattle.script_syntax.specs.Order as o;
+ghost use Rattle.script_exec.specs.Text.{record_text};
+ghost use Rattle.script_exec.specs.Prefix.{IsPrefix};
+
+use crate::bench::Bench;
+use crate::texts::{put, put_difference, put_listing, put_record};
+use map_join::{BlockMap, MapRefusal, Record};
+use std::alloc::{AllocError, Global};
+use std::mem;
+
+/// Takes a record into a map, and appends the map's record of that block.
+pub fn take(
+    alloc: Global,
+    bench: &mut Bench,
+    map: usize,
+    record: Record,
+    out: &mut Vec<u8>,
+) -> Result<(), AllocError>
+    requires written { 0 < «record».version }
+    requires map { IsMap map }
+    ensures carried { OnOk result (Carries bench.old bench.new (o.Take map «record») out.old.items out.new.items) }
+    ensures kept { IsPrefix out.old.items out.new.items }
+{
+    let Ok(newest) = take_into(alloc, &mut bench.maps, map, record) else {
+        return Err(AllocError)
+    };
+    put_took(out, &newest)
+}
+
+// Takes the record into one of the maps, and gives that map's record of its block.
+fn take_into(
+    alloc: Global,
+    maps: &mut [BlockMap],
+    map: usize,
+    record: Record,
+) -> Result<Record, MapRefusal>
+    requires written { 0 < «record».version }
+    requires four { length maps.old ≡ 4 }
+    requires map { IsMap map }
+    ensures taken { OnOk result ((taken : ℕ → List Record) → AreMapsOf maps.old taken →
+        AreMapsOf maps.new (put taken map (taken map ++ «record» ∷ []))) }
+    ensures newest { IfOk result (λ newest.
+        record_at «record».block (at (slice_index_or maps.new map []) «record».block) ≡ Some newest) }
+{
+    match maps[map].take(alloc, record) {
+        Ok(()) => {}
+        Err(refusal) => return Err(refusal),
+    }
+    Ok(maps[map].get(record.block).unwrap_or(record))
+}
+
+/// Joins a map with another one, or with itself, which leaves it as it is.
+pub fn merge(
+    alloc: Global,
+    bench: &mut Bench,
+    into: usize,
+    from: usize,
+    out: &mut Vec<u8>,
+) -> Result<(), AllocError>
+    requires into { IsMap into }
+    requires from { IsMap from }
+    ensures carried { OnOk result (Carries bench.old bench.new (o.Merge into from) out.old.items out.new.items) }
+    ensures kept { IsPrefix out.old.items out.new.items }
+{
+    match join(alloc, &mut bench.maps, into, from) {
+        Ok(()) => {}
+        Err(_) => return Err(AllocError),
+    }
+    put(out, b"merged")
+}
+
+// Joins one of the maps with another one.
+fn join(alloc: Global, maps: &mut [BlockMap], into: usize, from: usize) -> Result<(), MapRefusal>
+    requires four { length maps.old ≡ 4 }
+    requires into { IsMap into }
+    requires from { IsMap from }
+    ensures { OnOk result ((taken : ℕ → List Record) → AreMapsOf maps.old taken →
+        AreMapsOf maps.new (put taken into (taken into ++ taken from))) }
+{
+    if into == from {
+        return Ok(());
+    }
+    let mut joined = mem::replace(&mut maps[into], BlockMap::new(alloc));
+    let merged = joined.merge(alloc, &maps[from]);
+    maps[into] = joined;
+    merged
+}
+
+/// Appends the lowest block of which two maps have different keys, if there is one.
+pub fn same(
+    bench: &mut Bench,
+    left: usize,
+    right: usize,
+    out: &mut Vec<u8>,
+) -> Result<(), AllocError>
+    requires left { IsMap left }
+    requires right { IsMap right }
+    ensures carried { OnOk result (Carries bench.old bench.new (o.Same left right) out.old.items out.new.items) }
+    ensures kept { IsPrefix out.old.items out.new.items }
+{
+    put_difference(out, difference(&bench.maps, left, right))
+}
+
+// The lowest block of which two of the maps have different keys.
+fn difference(maps: &[BlockMap], left: usize, right: usize) -> Option<u32>
+    requires four { length maps.now ≡ 4 }
+    requires left { IsMap left }
+    requires right { IsMap right }
+    ensures { IsDifference (at (slice_index_or maps.now left [])) (at (slice_index_or maps.now right [])) result }
+{
+    maps[left].lowest_difference(&maps[right])
+}
+
+/// Lists a map's records.
+pub fn show(
+    alloc: Global,
+    bench: &mut Bench,
+    map: usize,
+    out: &mut Vec<u8>,
+) -> Result<(), AllocError>
+    requires { IsMap map }
+    ensures carried { OnOk result (Carries bench.old bench.new (o.Show map) out.old.items out.new.items) }
+    ensures kept { IsPrefix out.old.items out.new.items }
+{
+    let Ok(records) = bench.maps[map].to_list(alloc) else {
+        return Err(AllocError)
+    };
+    put_listing(out, b"map ", &records)
+}
+
+// The answer to a record that was taken.
+fn put_took(out: &mut Vec<u8>, newest: &Record) -> Result<(), AllocError>
+    ensures told { OnOk result (out.new.items ≡ out.old.items ++ (codes "took " ++ record_text newest.now)) }
+    ensures kept { IsPrefix out.old.items out.new.items }
+{
+    put(out, b"took ")?;
+    put_record(out, newest)
+}

@@ -1,0 +1,149 @@
+//! A line that is read for its words, and the reply to it.
+ghost use Rattle.std.specs.Prelude.{◌≡◌, ◌≤◌, length, Some, None};
+ghost use Rattle.script_exec.specs.State.{Position, State};
+ghost use Rattle.script_exec.specs.Carrying.{Stands, MakesBench};
+ghost use Rattle.script_exec.specs.Replies.{Replies, Starts};
+ghost use Rattle.script_exec.specs.Prefix.{IsPrefix};
+ghost use Rattle.script_syntax.specs.Order as o;
+
+use crate::bench::Bench;
+use crate::carry::{carry_out, is_in_range};
+use crate::limits::array_in_range;
+use crate::scans::restart;
+use crate::texts::put;
+use crate::why::{Failure, Why};
+use background::Tiers;
+use script_syntax::{Command, Verb, read_command};
+use std::alloc::Global;
+use step_core::World;
+
+/// Appends the answer to a line's command. The buffer is for a payload: of a fill, or what a read finds.
+pub fn reply(
+    alloc: Global,
+    bench: &mut Option<Bench>,
+    payload: &mut [u8],
+    line: &[u8],
+    out: &mut Vec<u8>,
+) -> Result<(), Failure>
+    requires { 65536 ≤ length payload.old }
+    ensures replied { (state : State) → Stands bench.old state →
+        Replies result state bench.new line.now out.old.items out.new.items }
+    ensures kept { IsPrefix out.old.items out.new.items }
+{
+    if bench.is_some() {
+        return later(alloc, bench, payload, line, out);
+    }
+    start(alloc, bench, line, out)
+}
+
+// The reply where there is no array yet. Kept out of line, since its frame has room for a bench.
+#[inline(never)]
+fn start(
+    alloc: Global,
+    bench: &mut Option<Bench>,
+    line: &[u8],
+    out: &mut Vec<u8>,
+) -> Result<(), Failure>
+    requires { bench.old ≡ None }
+    ensures replied { (state : State) → Stands bench.old state →
+        Replies result state bench.new line.now out.old.items out.new.items }
+    ensures kept { IsPrefix out.old.items out.new.items }
+{
+    match first(alloc, line, out) {
+        Ok(made) => {
+            *bench = Some(made);
+            Ok(())
+        }
+        Err(failure) => Err(failure),
+    }
+}
+
+// The first command makes the array.
+fn first(alloc: Global, line: &[u8], out: &mut Vec<u8>) -> Result<Bench, Failure>
+    ensures replied { Starts result line.now out.old.items out.new.items }
+    ensures kept { IsPrefix out.old.items out.new.items }
+{
+    let mut command = Command::new(alloc);
+    match read_command(alloc, line, &mut [], &mut command) {
+        Ok(true) => {}
+        Ok(false) => return Err(Failure::Wrong(Why::Form)),
+        Err(_) => return Err(Failure::Memory),
+    }
+    match command.verb {
+        Verb::Array => {
+            let [drives, extents, segments, payload, blocks] = command.numbers;
+            begin(alloc, drives, extents, segments, payload, blocks, out)
+        }
+        _ => Err(Failure::Wrong(Why::Form)),
+    }
+}
+
+// A new array with these sizes.
+fn begin(
+    alloc: Global,
+    drives: u64,
+    extents: u64,
+    segments: u64,
+    payload: u64,
+    blocks: u64,
+    out: &mut Vec<u8>,
+) -> Result<Bench, Failure>
+    ensures replied { MakesBench result (o.Array drives extents segments payload blocks) out.old.items out.new.items }
+    ensures kept { IsPrefix out.old.items out.new.items }
+{
+    let Some((drives, shape)) = array_in_range(drives, extents, segments, payload, blocks) else {
+        return Err(Failure::Wrong(Why::Range));
+    };
+    let Ok(world) = World::new(alloc, shape, drives) else {
+        return Err(Failure::Memory)
+    };
+    let Ok(tiers) = Tiers::new(alloc, world) else {
+        return Err(Failure::Memory)
+    };
+    match put(out, b"array") {
+        Ok(()) => Ok(Bench::new(alloc, tiers)),
+        Err(_) => Err(Failure::Memory),
+    }
+}
+
+// Every later command is for the array and the maps.
+fn later(
+    alloc: Global,
+    bench: &mut Option<Bench>,
+    payload: &mut [u8],
+    line: &[u8],
+    out: &mut Vec<u8>,
+) -> Result<(), Failure>
+    requires { 65536 ≤ length payload.old }
+    ensures replied { (P : Position) → Stands bench.old (Some P) →
+        Replies result (Some P) bench.new line.now out.old.items out.new.items }
+    ensures kept { IsPrefix out.old.items out.new.items }
+{
+    let Some(standing) = bench else {
+        return Err(Failure::Wrong(Why::Form))
+    };
+    let shape = standing.tiers.world.array().shape();
+    let payload = &mut payload[..shape.payload as usize];
+    let mut command = Command::new(alloc);
+    match read_command(alloc, line, payload, &mut command) {
+        Ok(true) => {}
+        Ok(false) => return Err(Failure::Wrong(Why::Form)),
+        Err(_) => return Err(Failure::Memory),
+    }
+    if let Verb::Array = command.verb {
+        return Err(Failure::Wrong(Why::Form));
+    }
+    if !is_in_range(&command, shape.blocks) {
+        return Err(Failure::Wrong(Why::Range));
+    }
+    if let Verb::Restart = command.verb {
+        return match restart(alloc, bench, out) {
+            Ok(()) => Ok(()),
+            Err(_) => Err(Failure::Memory),
+        };
+    }
+    match carry_out(alloc, standing, payload, &command, out) {
+        Ok(()) => Ok(()),
+        Err(_) => Err(Failure::Memory),
+    }
+}

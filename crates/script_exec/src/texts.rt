@@ -1,0 +1,319 @@
+//! The texts of answers, appended to a buffer.
+ghost use Rattle.std.specs.Prelude.{◌≡◌, ◌≢◌, ◌%◌, ◌∷◌, ◌++◌, [], OnOk, codes, decimal, length, Some, None};
+ghost use Rattle.hex.specs.Hex.{encode_lower};
+ghost use Rattle.step_core.specs.Told.{read_answer, flat_answer, seen_of};
+ghost use Rattle.script_exec.specs.Text.{answer_text, data_text, detail, difference_text, fault_detail, fault_text, found_text, header_text, outcome_text, regrouped_text, shift_text, seen_text, listing, record_or_none, record_text, records_text};
+ghost use Rattle.script_exec.specs.Prefix.{IsPrefix};
+ghost use Rattle.flat_machine.specs.Steps as s;
+
+use background::{Outcome, Regrouped};
+use header_scan::ScanFault;
+use hex_lanes::encode_hex;
+use itoa::Buffer;
+use map_join::Record;
+use rebalancer::Shift;
+use std::alloc::AllocError;
+use step_core::{Answer, At, Refusal};
+
+/// The bytes whose digits are put in one step.
+const STEP: usize = 8;
+
+/// The most bytes whose digits are put step by step.
+const MOST_STEPPED: usize = 64;
+
+/// The bytes of a record.
+const RECORD_BYTES: usize = 12;
+
+/// The bytes of a record, filled up to whole steps.
+const STEPPED_BYTES: usize = 16;
+
+/// The digits of a record in hex.
+const RECORD_DIGITS: usize = 24;
+
+/// Appends a text unchanged.
+pub fn put(out: &mut Vec<u8>, text: &[u8]) -> Result<(), AllocError>
+    ensures told { OnOk result (out.new.items ≡ out.old.items ++ text.now) }
+    ensures kept { IsPrefix out.old.items out.new.items }
+{
+    out.extend_from_slice(text)
+}
+
+/// A number in decimal.
+pub fn put_number(out: &mut Vec<u8>, number: u64) -> Result<(), AllocError>
+    ensures told { OnOk result (out.new.items ≡ out.old.items ++ decimal number) }
+    ensures kept { IsPrefix out.old.items out.new.items }
+{
+    let mut buffer = Buffer::new();
+    out.extend_from_slice(buffer.format(number).as_bytes())
+}
+
+/// Bytes in hex.
+pub fn put_hex(out: &mut Vec<u8>, bytes: &[u8]) -> Result<(), AllocError>
+    ensures told { OnOk result (out.new.items ≡ out.old.items ++ encode_lower bytes.now) }
+    ensures kept { IsPrefix out.old.items out.new.items }
+{
+    if bytes.len() <= MOST_STEPPED && bytes.len() % STEP == 0 {
+        return put_short_hex(out, bytes);
+    }
+    let start = out.len();
+    let Some(end) = start.checked_add(2 * bytes.len()) else {
+        return Err(AllocError);
+    };
+    out.resize(end, 0)?;
+    encode_hex(bytes, &mut out[start..]);
+    Ok(())
+}
+
+// The digits of a few whole steps of bytes, for which no room is filled with zeros before.
+fn put_short_hex(out: &mut Vec<u8>, bytes: &[u8]) -> Result<(), AllocError>
+    requires { length bytes.now % 8 ≡ 0 }
+    ensures told { OnOk result (out.new.items ≡ out.old.items ++ encode_lower bytes.now) }
+    ensures kept { IsPrefix out.old.items out.new.items }
+{
+    for step in 0..bytes.len() / STEP {
+        let at = STEP * step;
+        put_step(out, &bytes[at..at + STEP])?;
+    }
+    Ok(())
+}
+
+// The digits of one step.
+#[inline(always)]
+fn put_step(out: &mut Vec<u8>, bytes: &[u8]) -> Result<(), AllocError>
+    requires { length bytes.now ≡ 8 }
+    ensures told { OnOk result (out.new.items ≡ out.old.items ++ encode_lower bytes.now) }
+    ensures kept { IsPrefix out.old.items out.new.items }
+{
+    let mut digits = [0; 2 * STEP];
+    encode_hex(bytes, &mut digits);
+    put(out, &digits)
+}
+
+/// A record in hex.
+pub fn put_record(out: &mut Vec<u8>, record: &Record) -> Result<(), AllocError>
+    ensures told { OnOk result (out.new.items ≡ out.old.items ++ record_text «record».now) }
+    ensures kept { IsPrefix out.old.items out.new.items }
+{
+    // Two whole steps take less time than one and the digits of four single bytes.
+    let mut bytes = [0; STEPPED_BYTES];
+    bytes[..RECORD_BYTES].copy_from_slice(&record.to_bytes());
+    let mut digits = [0; 2 * STEPPED_BYTES];
+    encode_hex(&bytes, &mut digits);
+    put(out, &digits[..RECORD_DIGITS])
+}
+
+/// A word and a number.
+pub fn put_numbered(out: &mut Vec<u8>, word: &[u8], number: u64) -> Result<(), AllocError>
+    ensures told { OnOk result (out.new.items ≡ out.old.items ++ (word.now ++ decimal number)) }
+    ensures kept { IsPrefix out.old.items out.new.items }
+{
+    put(out, word)?;
+    put_number(out, number)
+}
+
+// A version and its payload.
+fn put_data(out: &mut Vec<u8>, version: u32, payload: &[u8]) -> Result<(), AllocError>
+    ensures told { OnOk result (out.new.items ≡ out.old.items ++ data_text version payload.now) }
+    ensures kept { IsPrefix out.old.items out.new.items }
+{
+    put_numbered(out, b"data ", u64::from(version))?;
+    out.push(b' ')?;
+    put_hex(out, payload)
+}
+
+/// Appends what a read of a block into a buffer returned.
+pub fn put_found(
+    out: &mut Vec<u8>,
+    found: Result<Option<u32>, Refusal>,
+    payload: &[u8],
+) -> Result<(), AllocError>
+    ensures told { OnOk result (out.new.items ≡ out.old.items ++ answer_text 0 (read_answer found payload.now)) }
+    ensures kept { IsPrefix out.old.items out.new.items }
+{
+    match found {
+        Ok(Some(version)) => put_data(out, version, payload),
+        Ok(None) => put(out, b"none"),
+        Err(refusal) => put_refusal(out, &refusal),
+    }
+}
+
+// What is seen at the place of a record of this version.
+fn put_seen(out: &mut Vec<u8>, version: u32, seen: &At) -> Result<(), AllocError>
+    ensures told { OnOk result (out.new.items ≡ out.old.items ++ seen_text version (seen_of seen.now)) }
+    ensures kept { IsPrefix out.old.items out.new.items }
+{
+    match seen {
+        At::Data(payload) => put_data(out, version, payload),
+        At::Trimmed => put_numbered(out, b"trimmed ", u64::from(version)),
+        At::Stale(Some(header)) => put_header(out, header),
+        At::Stale(None) => put(out, b"stale none"),
+    }
+}
+
+// A header that is found in another one's place.
+fn put_header(out: &mut Vec<u8>, header: &Record) -> Result<(), AllocError>
+    ensures told { OnOk result (out.new.items ≡ out.old.items ++ (codes "stale " ++ header_text header.now)) }
+    ensures kept { IsPrefix out.old.items out.new.items }
+{
+    put_numbered(out, b"stale ", u64::from(header.block))?;
+    put_numbered(out, b" ", u64::from(header.version))?;
+    put_numbered(out, b" ", u64::from(header.hop))?;
+    put_numbered(out, b" ", u64::from(header.place))
+}
+
+/// The answer to a step. What is read at a record's place has the version that was asked for.
+pub fn put_answer(out: &mut Vec<u8>, answer: &Answer, asked: u32) -> Result<(), AllocError>
+    ensures told { OnOk result (out.new.items ≡ out.old.items ++ answer_text asked (flat_answer answer.now)) }
+    ensures kept { IsPrefix out.old.items out.new.items }
+{
+    match answer {
+        Answer::Claimed(slot) => put_numbered(out, b"claimed ", u64::from(*slot)),
+        Answer::Taken(slot) => put_numbered(out, b"taken ", u64::from(*slot)),
+        Answer::Released(slot) => put_numbered(out, b"released ", u64::from(*slot)),
+        Answer::NotHeld(slot) => put_numbered(out, b"notheld ", u64::from(*slot)),
+        Answer::Filled(slot) => put_numbered(out, b"filled ", u64::from(*slot)),
+        Answer::Copied(slot) => put_numbered(out, b"copied ", u64::from(*slot)),
+        Answer::Committed(record) => put_emitted(out, record),
+        Answer::Discarded(slot) => put_numbered(out, b"discarded ", u64::from(*slot)),
+        Answer::Read(Some((version, payload))) => put_data(out, *version, payload),
+        Answer::Read(None) => put(out, b"none"),
+        Answer::Found(seen) => put_seen(out, asked, seen),
+        Answer::Made(group) => put_numbered(out, b"made ", u64::from(*group)),
+        Answer::Unmade(group) => put_numbered(out, b"unmade ", u64::from(*group)),
+        Answer::Shifted => put(out, b"moved"),
+        Answer::Added(drive) => put_numbered(out, b"added ", u64::from(*drive)),
+        Answer::Lost(drive) => put_numbered(out, b"lost ", u64::from(*drive)),
+        Answer::Refused(refusal) => put_refusal(out, refusal),
+    }
+}
+
+/// What comes of a step by a plan.
+pub fn put_outcome(out: &mut Vec<u8>, outcome: Outcome) -> Result<(), AllocError>
+    ensures told { OnOk result (out.new.items ≡ out.old.items ++ outcome_text outcome) }
+    ensures kept { IsPrefix out.old.items out.new.items }
+{
+    match outcome {
+        Outcome::Placed(record) => put_emitted(out, &record),
+        Outcome::Refused(refusal) => put_refusal(out, &refusal),
+        Outcome::NoRoom => put(out, b"noroom"),
+        Outcome::Nothing => put(out, b"nothing"),
+    }
+}
+
+/// What comes of a shift by a plan.
+pub fn put_regrouped(out: &mut Vec<u8>, outcome: Regrouped) -> Result<(), AllocError>
+    ensures told { OnOk result (out.new.items ≡ out.old.items ++ regrouped_text outcome) }
+    ensures kept { IsPrefix out.old.items out.new.items }
+{
+    match outcome {
+        Regrouped::Moved(shift) => put_shift(out, shift),
+        Regrouped::Refused(refusal) => put_refusal(out, &refusal),
+        Regrouped::Nothing => put(out, b"nothing"),
+    }
+}
+
+// The group, the number of its member, and the extent that this is now.
+fn put_shift(out: &mut Vec<u8>, shift: Shift) -> Result<(), AllocError>
+    ensures told { OnOk result (out.new.items ≡ out.old.items ++ shift_text shift) }
+    ensures kept { IsPrefix out.old.items out.new.items }
+{
+    put_numbered(out, b"moved ", u64::from(shift.group))?;
+    put_numbered(out, b" ", u64::from(shift.member))?;
+    put_numbered(out, b" ", u64::from(shift.to.drive))?;
+    put_numbered(out, b".", u64::from(shift.to.extent))
+}
+
+// A record that was emitted.
+fn put_emitted(out: &mut Vec<u8>, record: &Record) -> Result<(), AllocError>
+    ensures told { OnOk result (out.new.items ≡ out.old.items ++ answer_text 0 (s.Committed «record».now)) }
+    ensures kept { IsPrefix out.old.items out.new.items }
+{
+    put(out, b"record ")?;
+    put_record(out, record)
+}
+
+/// A refusal: its number, and what it names.
+fn put_refusal(out: &mut Vec<u8>, refusal: &Refusal) -> Result<(), AllocError>
+    ensures told { OnOk result (out.new.items ≡ out.old.items ++ answer_text 0 (s.Refused refusal.now)) }
+    ensures kept { IsPrefix out.old.items out.new.items }
+{
+    put_numbered(out, b"refused ", u64::from(refusal.number()))?;
+    put_detail(out, refusal)
+}
+
+// The record, the slot or the drive that a refusal names.
+fn put_detail(out: &mut Vec<u8>, refusal: &Refusal) -> Result<(), AllocError>
+    ensures told { OnOk result (out.new.items ≡ out.old.items ++ detail refusal.now) }
+    ensures kept { IsPrefix out.old.items out.new.items }
+{
+    match refusal {
+        Refusal::Outrun(record) | Refusal::Ahead(Some(record)) => {
+            put(out, b" ")?;
+            put_record(out, record)
+        }
+        Refusal::Ahead(None) => put(out, b" none"),
+        Refusal::Gone(slot) | Refusal::SlotsHeld(slot) => put_numbered(out, b" ", u64::from(*slot)),
+        Refusal::DriveLost(drive) => put_numbered(out, b" ", u64::from(*drive)),
+        _ => Ok(()),
+    }
+}
+
+/// A scan's fault: its number, and what it names. Out of memory has no text: it is an `AllocError`.
+pub fn put_fault(out: &mut Vec<u8>, fault: &ScanFault) -> Result<(), AllocError>
+    ensures told { OnOk result (out.new.items ≡ out.old.items ++ fault_text fault.now) }
+    ensures memory { OnOk result (fault.now ≢ ScanFault.Memory) }
+    ensures kept { IsPrefix out.old.items out.new.items }
+{
+    if let ScanFault::Memory = fault {
+        return Err(AllocError);
+    }
+    put_numbered(out, b"scan fault ", u64::from(fault.number()))?;
+    put_fault_detail(out, fault)
+}
+
+// The slots and the block that a scan's fault names.
+fn put_fault_detail(out: &mut Vec<u8>, fault: &ScanFault) -> Result<(), AllocError>
+    ensures told { OnOk result (out.new.items ≡ out.old.items ++ fault_detail fault.now) }
+    ensures kept { IsPrefix out.old.items out.new.items }
+{
+    match fault {
+        ScanFault::Memory => Ok(()),
+        ScanFault::BadHeader(slot)
+        | ScanFault::Gone(slot)
+        | ScanFault::NoClaim(slot)
+        | ScanFault::BadNote(slot) => { put_numbered(out, b" ", u64::from(*slot)) }
+        ScanFault::WrongSlot(slot, told) => {
+            put_numbered(out, b" ", u64::from(*slot))?;
+            put_numbered(out, b" ", u64::from(*told))
+        }
+        ScanFault::Twice(block, first, second) => {
+            put_numbered(out, b" ", u64::from(*block))?;
+            put_numbered(out, b" ", u64::from(*first))?;
+            put_numbered(out, b" ", u64::from(*second))
+        }
+    }
+}
+
+/// The lowest block of which two maps differ, if they do.
+pub fn put_difference(out: &mut Vec<u8>, lowest: Option<u32>) -> Result<(), AllocError>
+    ensures told { OnOk result (out.new.items ≡ out.old.items ++ difference_text lowest) }
+    ensures kept { IsPrefix out.old.items out.new.items }
+{
+    match lowest {
+        None => put(out, b"same"),
+        Some(block) => put_numbered(out, b"differs ", u64::from(block)),
+    }
+}
+
+/// How many records, and the records.
+pub fn put_listing(out: &mut Vec<u8>, word: &[u8], records: &[Record]) -> Result<(), AllocError>
+    ensures told { OnOk result (out.new.items ≡ out.old.items ++ (word.now ++ listing records.now)) }
+    ensures kept { IsPrefix out.old.items out.new.items }
+{
+    put_numbered(out, word, records.len() as u64)?;
+    for record in records {
+        put(out, b" ")?;
+        put_record(out, record)?;
+    }
+    Ok(())
+}

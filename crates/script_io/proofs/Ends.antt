@@ -1,0 +1,287 @@
+-- How turns lead to a script's end.
+use Rattle.std.proofs.Common.{◌≡◌, ℕ, List, [], ◌++◌, ◌⊎◌, Option, Some, None, refl, sym, ap, ◌∙◌, inl, inr, append_assoc, append-nil, take, arith}
+use Rattle.std.specs.Prelude.{IfSome}
+use Rattle.std.specs.Io.KnownBytes.{Appends, Consumes, IsAtEnd, Keeps}
+use Rattle.std.proofs.KnownBytes.{Appends-nil, Appends-trans}
+use Rattle.script_io.specs.Opens.{AreLines}
+use Rattle.script_exec.specs.State.{State}
+use Rattle.script_exec.specs.Carrying.{Stands}
+use Rattle.script_io.specs.Says.{Says, Tells, lines_of}
+use Rattle.script_io.specs.Feeding.{IsCut, IsScript, Leads, Left}
+use Rattle.script_io.specs.Turns.{AllSaid, Concludes, GoesOn, IsAllSaid, IsFronted, IsPartSaid, IsPartWritten, PartSaid, SaysBy, TurnsTo, end_of}
+use Rattle.script_io.specs.declared.end.End.{End}
+use Rattle.script_io.specs.declared.end.End.TheVariants as end
+use Rattle.script_io.specs.declared.halt.Halt.{Halt}
+use Rattle.script_io.specs.declared.halt.Halt.TheVariants as halt
+use Rattle.script_io.specs.declared.script.Script.{Script}
+use Rattle.script_io.proofs.Opens.{count_more, lines_more, text_join, text_more}
+use Rattle.script_io.proofs.Feeds.{cut_behind, cut_more, leads_left, leads_more, leads_none}
+
+-- whole lines before a prefix of the rest
+ends_behind : (whole front rest : List ℕ) → AreLines whole → AreLines front ⊎ (rest ≡ []) → AreLines (whole ++ front) ⊎ (rest ≡ [])
+ends_behind whole front rest lines (inl more) = inl (lines_more whole front lines more)
+ends_behind whole front rest lines (inr none) = inr none
+
+fronted_behind : (n : ℕ) (state : State) (text whole out : List ℕ) (m : ℕ) (next : State) (rest told : List ℕ) → AreLines whole
+    → Leads n state whole out m next → text ≡ whole ++ rest → IsFronted m next rest told → IsFronted n state text (out ++ told)
+fronted_behind n state text whole out m next rest told lines leads is f = record {
+  front = whole ++ f.front;
+  rest = f.rest;
+  text_is = text_join text whole rest f.front f.rest is f.text_is;
+  ends = ends_behind whole f.front f.rest lines f.ends;
+  last = f.last;
+  told = leads f.front told f.last f.told;
+}
+
+-- a reader that is at its end gave all
+at_end : (last : Halt) (before after : Option (List ℕ)) (buffer : List ℕ) (old : Script) (state : State) (held now : Option (List ℕ))
+    → Consumes before after (take 0 buffer) → IsAtEnd after → Concludes last old state [] held now → AllSaid last before old state held now
+at_end last None after buffer old state held now consumed done said = tt
+at_end last (Some xs) None buffer old state held now consumed done said = absurd consumed
+at_end last (Some xs) (Some ys) buffer old state held now consumed done said =
+    let none : xs ≡ [] = consumed ∙ done in rw none said
+
+pub turn_closed : (last : Halt) (before after : Option (List ℕ)) (buffer : List ℕ) (old : Script) (state : State) (new : Script)
+    (held now : Option (List ℕ)) → Consumes before after (take 0 buffer) → IsAtEnd after → Concludes last old state [] held now
+    → TurnsTo (Some last) before after old state new held now
+turn_closed (halt.ReadBroke broke) before after buffer old state new held now consumed done said = absurd said
+turn_closed halt.Whole before after buffer old state new held now consumed done said =
+    at_end halt.Whole before after buffer old state held now consumed done said
+turn_closed halt.Fault before after buffer old state new held now consumed done said =
+    at_end halt.Fault before after buffer old state held now consumed done said
+turn_closed halt.Memory before after buffer old state new held now consumed done said =
+    at_end halt.Memory before after buffer old state held now consumed done said
+turn_closed (halt.WriteBroke broke) before after buffer old state new held now consumed done said =
+    at_end (halt.WriteBroke broke) before after buffer old state held now consumed done said
+
+-- a chunk that was read, and what came of it
+pub turn_on : (result : Option Halt) (before after : Option (List ℕ)) (chunk : List ℕ) (old : Script) (state : State) (new : Script)
+    (held now : Option (List ℕ)) → Consumes before after chunk → GoesOn result old state new chunk held now
+    → TurnsTo result before after old state new held now
+turn_on None None after chunk old state new held now consumed on = (on.next, on.stands)
+turn_on None (Some xs) None chunk old state new held now consumed on = absurd consumed
+turn_on None (Some xs) (Some ys) chunk old state new held now consumed on = record {
+  next = on.next;
+  stands = on.stands;
+  whole = on.whole;
+  lines = on.lines;
+  text_is = rw consumed (text_more old.line.items chunk on.whole new.line.items [] ys on.text_is);
+  counted = on.counted;
+  open_line = on.open_line;
+  short = on.short;
+  soon = on.soon;
+  bytes = on.bytes;
+  wrote = on.wrote;
+  leads = on.leads;
+}
+turn_on (Some halt.Fault) None after chunk old state new held now consumed on = tt
+turn_on (Some halt.Fault) (Some xs) None chunk old state new held now consumed on = absurd consumed
+turn_on (Some halt.Fault) (Some xs) (Some ys) chunk old state new held now consumed on = record {
+  out = on.bytes;
+  wrote = on.wrote;
+  told = rw consumed (on.told ys);
+}
+turn_on (Some halt.Memory) None after chunk old state new held now consumed on = tt
+turn_on (Some halt.Memory) (Some xs) None chunk old state new held now consumed on = absurd consumed
+turn_on (Some halt.Memory) (Some xs) (Some ys) chunk old state new held now consumed on = record {
+  bytes = on.bytes;
+  wrote = on.wrote;
+  cut =
+      let more : IsCut old.number state ((old.line.items ++ chunk) ++ ys) on.bytes =
+      cut_more old.number state (old.line.items ++ chunk) on.bytes ys on.cut in
+      rw (consumed, ← append_assoc old.line.items chunk ys) more;
+}
+turn_on (Some (halt.WriteBroke broke)) None after chunk old state new held now consumed on = tt
+turn_on (Some (halt.WriteBroke broke)) (Some xs) None chunk old state new held now consumed on = absurd consumed
+turn_on (Some (halt.WriteBroke broke)) (Some xs) (Some ys) chunk old state new held now consumed on = record {
+  bytes = on.bytes;
+  part = on.part;
+  fronted = rw consumed (on.fronted ys);
+}
+turn_on (Some halt.Whole) before after chunk old state new held now consumed on = absurd on
+turn_on (Some (halt.ReadBroke broke)) before after chunk old state new held now consumed on = absurd on
+
+-- nothing was read nor written
+pub part_none : (before after : Option (List ℕ)) (script : Script) (state : State) (held : Option (List ℕ)) → Keeps before after
+    → IsScript script → Stands script.bench state → PartSaid before after script state script held held
+part_none None after script state held kept good stands = (state, stands)
+part_none (Some xs) None script state held kept good stands = absurd kept
+part_none (Some xs) (Some ys) script state held kept good stands = record {
+  next = state;
+  stands = stands;
+  whole = [];
+  lines = inl refl;
+  text_is = ap (λ rest. script.line.items ++ rest) (sym kept);
+  counted = omega arith;
+  open_line = good.open_line;
+  short = good.short;
+  soon = good.soon;
+  bytes = [];
+  wrote = Appends-nil held;
+  leads = leads_none script.number state;
+}
+
+-- one part after the other
+join_parts : (xs ys zs : List ℕ) (old : Script) (state : State) (mid new : Script) (held wrote now : Option (List ℕ))
+    (a : IsPartSaid old state mid xs ys held wrote) → IsPartSaid mid a.next new ys zs wrote now → IsPartSaid old state new xs zs held now
+join_parts xs ys zs old state mid new held wrote now a b = record {
+  next = b.next;
+  stands = b.stands;
+  whole = a.whole ++ b.whole;
+  lines = lines_more a.whole b.whole a.lines b.lines;
+  text_is = text_join (old.line.items ++ xs) a.whole (mid.line.items ++ ys) b.whole (new.line.items ++ zs) a.text_is b.text_is;
+  counted = let more = count_more a.whole b.whole a.lines in omega (arith, more, a.counted, b.counted);
+  open_line = b.open_line;
+  short = b.short;
+  soon = b.soon;
+  bytes = a.bytes ++ b.bytes;
+  wrote = Appends-trans held wrote now a.bytes b.bytes a.wrote b.wrote;
+  leads = leads_more old.number state a.whole a.bytes mid.number a.next b.whole b.bytes new.number b.next a.leads b.leads;
+}
+
+-- a part that is written after bytes that are
+part_behind : (held wrote now : Option (List ℕ)) (first second : List ℕ) → Appends held wrote first → IsPartWritten wrote now second
+    → IsPartWritten held now (first ++ second)
+part_behind held wrote now first second appended part = record {
+  written = first ++ part.written;
+  unwritten = part.unwritten;
+  bytes_is = ap (λ xs. first ++ xs) part.bytes_is ∙ sym (append_assoc first part.written part.unwritten);
+  some = part.some;
+  wrote = Appends-trans held wrote now first part.written appended part.wrote;
+}
+
+-- the rest after a part
+join_said : (xs ys : List ℕ) (old : Script) (state : State) (mid : Script) (held wrote now : Option (List ℕ)) (last : End)
+    (a : IsPartSaid old state mid xs ys held wrote) → IsAllSaid mid a.next ys wrote now last → IsAllSaid old state xs held now last
+join_said xs ys old state mid held wrote now last a b = record {
+  out = a.bytes ++ b.out;
+  wrote = Appends-trans held wrote now a.bytes b.out a.wrote b.wrote;
+  told =
+      leads_left old.number state (old.line.items ++ xs) a.whole a.bytes mid.number a.next (mid.line.items ++ ys) b.out last
+      a.leads a.text_is b.told;
+}
+
+join_all : (last : Halt) (xs ys : List ℕ) (old : Script) (state : State) (mid : Script) (held wrote now : Option (List ℕ))
+    (a : IsPartSaid old state mid xs ys held wrote) → Concludes last mid a.next ys wrote now → Concludes last old state xs held now
+join_all halt.Whole xs ys old state mid held wrote now a b = join_said xs ys old state mid held wrote now end.Whole a b
+join_all halt.Fault xs ys old state mid held wrote now a b = join_said xs ys old state mid held wrote now end.Fault a b
+join_all halt.Memory xs ys old state mid held wrote now a b = record {
+  bytes = a.bytes ++ b.bytes;
+  wrote = Appends-trans held wrote now a.bytes b.bytes a.wrote b.wrote;
+  cut =
+      cut_behind old.number state (old.line.items ++ xs) a.whole a.bytes mid.number a.next (mid.line.items ++ ys) b.bytes
+      a.lines a.leads a.text_is b.cut;
+}
+join_all (halt.WriteBroke broke) xs ys old state mid held wrote now a b = record {
+  bytes = a.bytes ++ b.bytes;
+  part = part_behind held wrote now a.bytes b.bytes a.wrote b.part;
+  fronted =
+      fronted_behind old.number state (old.line.items ++ xs) a.whole a.bytes mid.number a.next (mid.line.items ++ ys) b.bytes
+      a.lines a.leads a.text_is b.fronted;
+}
+join_all (halt.ReadBroke broke) xs ys old state mid held wrote now a b = absurd b
+
+-- parts after a part
+parts_join : (before mid_in after : Option (List ℕ)) (old : Script) (state : State) (mid new : Script) (held wrote now : Option (List ℕ))
+    → PartSaid before mid_in old state mid held wrote
+    → ((s : State) → Stands mid.bench s → PartSaid mid_in after mid s new wrote now) → PartSaid before after old state new held now
+parts_join None None after old state mid new held wrote now a b = let c = b a.0 a.1 in (c.0, c.1)
+parts_join None (Some ys) None old state mid new held wrote now a b = absurd (b a.0 a.1)
+parts_join None (Some ys) (Some zs) old state mid new held wrote now a b = let c = b a.0 a.1 in (c.next, c.stands)
+parts_join (Some xs) None after old state mid new held wrote now a b = absurd a
+parts_join (Some xs) (Some ys) None old state mid new held wrote now a b = absurd (b a.next a.stands)
+parts_join (Some xs) (Some ys) (Some zs) old state mid new held wrote now a b =
+    join_parts xs ys zs old state mid new held wrote now a (b a.next a.stands)
+
+all_join : (last : Halt) (before mid_in : Option (List ℕ)) (old : Script) (state : State) (mid : Script) (held wrote now : Option (List ℕ))
+    → PartSaid before mid_in old state mid held wrote
+    → ((s : State) → Stands mid.bench s → AllSaid last mid_in mid s wrote now) → AllSaid last before old state held now
+all_join last None mid_in old state mid held wrote now a b = tt
+all_join last (Some xs) None old state mid held wrote now a b = absurd a
+all_join last (Some xs) (Some ys) old state mid held wrote now a b =
+    join_all last xs ys old state mid held wrote now a (b a.next a.stands)
+
+-- a turn after turns
+pub turn_after : (result : Option Halt) (before mid_in after : Option (List ℕ)) (old : Script) (state : State) (mid new : Script)
+    (held wrote now : Option (List ℕ)) → PartSaid before mid_in old state mid held wrote
+    → ((s : State) → Stands mid.bench s → TurnsTo result mid_in after mid s new wrote now) → TurnsTo result before after old state new held now
+turn_after None before mid_in after old state mid new held wrote now a b = parts_join before mid_in after old state mid new held wrote now a b
+turn_after (Some (halt.ReadBroke broke)) before mid_in after old state mid new held wrote now a b =
+    parts_join before mid_in after old state mid new held wrote now a b
+turn_after (Some halt.Whole) before mid_in after old state mid new held wrote now a b = all_join halt.Whole before mid_in old state mid held wrote now a b
+turn_after (Some halt.Fault) before mid_in after old state mid new held wrote now a b = all_join halt.Fault before mid_in old state mid held wrote now a b
+turn_after (Some halt.Memory) before mid_in after old state mid new held wrote now a b = all_join halt.Memory before mid_in old state mid held wrote now a b
+turn_after (Some (halt.WriteBroke broke)) before mid_in after old state mid new held wrote now a b =
+    all_join (halt.WriteBroke broke) before mid_in old state mid held wrote now a b
+
+-- what a run from the script's start came to
+said_of : (script : List ℕ) (start : Script) (held now : Option (List ℕ)) (last : End) → start.number ≡ 1 → start.line.items ≡ []
+    → IsAllSaid start None script held now last → (out : List ℕ) × Appends held now out × Says script out last
+said_of script start held now last number line said =
+    let told : Left start.number None start.line.items script said.out last = said.told in
+    (said.out, said.wrote, rw (number, line) at told)
+
+-- a text after no open line
+at_start : (line script text : List ℕ) → line ≡ [] → line ++ script ≡ text → script ≡ text
+at_start line script text none is = ap (λ xs. xs ++ script) (sym none) ∙ is
+
+-- a script of which nothing was read
+pub none_said : (before after held : Option (List ℕ)) → IfSome before (λ script. SaysBy end.Memory script after held held)
+none_said None after held = tt
+none_said (Some script) after held = record {
+  whole = [];
+  rest = script;
+  script_is = refl;
+  lines = inl refl;
+  out = [];
+  wrote = Appends-nil held;
+  says = (refl, refl);
+}
+
+pub run_said : (last : Halt) (before after : Option (List ℕ)) (start new : Script) (held now : Option (List ℕ)) → start.number ≡ 1
+    → start.line.items ≡ [] → TurnsTo (Some last) before after start None new held now
+    → IfSome before (λ script. SaysBy (end_of last) script after held now)
+run_said last None after start new held now number line turned = tt
+run_said halt.Whole (Some xs) after start new held now number line turned =
+    let s = said_of xs start held now end.Whole number line turned in record { out = s.0; wrote = s.1; says = s.2 }
+run_said halt.Fault (Some xs) after start new held now number line turned =
+    let s = said_of xs start held now end.Fault number line turned in record { out = s.0; wrote = s.1; says = s.2 }
+run_said halt.Memory (Some xs) after start new held now number line turned =
+    let cut = turned.cut in record {
+      whole = cut.whole;
+      rest = cut.rest;
+      script_is = at_start start.line.items xs (cut.whole ++ cut.rest) line cut.text_is;
+      lines = cut.lines;
+      out = turned.bytes;
+      wrote = turned.wrote;
+      says = let told : Tells start.number None (lines_of cut.whole) turned.bytes end.Whole = cut.told in rw number at told;
+    }
+run_said (halt.WriteBroke broke) (Some xs) after start new held now number line turned =
+    let f = turned.fronted in record {
+      front = f.front;
+      rest = f.rest;
+      script_is = at_start start.line.items xs (f.front ++ f.rest) line f.text_is;
+      ends = f.ends;
+      out = turned.bytes;
+      last = f.last;
+      says = let told : Tells start.number None (lines_of f.front) turned.bytes f.last = f.told in rw number at told;
+      part = turned.part;
+    }
+run_said (halt.ReadBroke broke) (Some xs) None start new held now number line turned = absurd turned
+run_said (halt.ReadBroke broke) (Some xs) (Some ys) start new held now number line turned = record {
+  whole = turned.whole;
+  line = new.line.items;
+  rest = ys;
+  script_is = at_start start.line.items xs (turned.whole ++ (new.line.items ++ ys)) line turned.text_is;
+  left_is = refl;
+  lines = turned.lines;
+  open_line = turned.open_line;
+  short = turned.short;
+  soon = λ some. let number_is = turned.counted in let soon = turned.soon some in omega (arith, number, number_is, soon);
+  out = turned.bytes;
+  wrote = turned.wrote;
+  says =
+      let told : Tells start.number None (lines_of (turned.whole ++ [])) (turned.bytes ++ []) end.Whole =
+      turned.leads [] [] end.Whole (refl, refl) in
+      rw (number, append-nil turned.whole, append-nil turned.bytes) at told;
+}

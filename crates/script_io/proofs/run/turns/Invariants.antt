@@ -1,0 +1,20 @@
+use Rattle.std.proofs.Common.{◌≡◌, []}
+use Rattle.script_exec.specs.State.{State}
+use Rattle.script_exec.specs.Carrying.{Stands}
+use Rattle.script_io.specs.Feeding.{IsScript, most_left}
+use Rattle.script_io.specs.Turns.{PartSaid}
+use Rattle.script_io.proofs.run.turns.Given as goal
+
+-- what was read so far is answered and written
+abbrev pub invariant-loop-halt : goal.invariant-loop-halt
+invariant-loop-halt g l =
+    let remaining = g.R.Read.remaining in
+    let contents = g.W.Write.contents in record {
+      good : IsScript l.script;
+      written : l.script.out.items ≡ [];
+      said : (state : State) → Stands l.fn.script.bench state → PartSaid (remaining l.fn.reader) (remaining l.reader)
+          l.fn.script state l.script (contents l.fn.writer) (contents l.writer);
+    }
+
+abbrev pub decreases-loop-halt : goal.decreases-loop-halt
+decreases-loop-halt g l = most_left l.script

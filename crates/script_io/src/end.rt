@@ -1,0 +1,32 @@
+//! How a script ends.
+ghost use Rattle.std.specs.Prelude.{◌≡◌};
+ghost use Rattle.script_io.specs.Status.{status_of};
+
+/// How a script ends.
+#[derive(Clone, Copy, Debug, PartialEq, Eq)]
+pub enum End {
+    /// Every line was answered.
+    Whole,
+    /// A line was wrong.
+    Fault,
+    /// There was no memory.
+    Memory,
+    /// A read answered an error.
+    ReadFault,
+    /// A write answered an error, or took no byte.
+    WriteFault,
+}
+
+impl End {
+    /// The status that the program ends with.
+    pub fn status(self) -> u8
+        ensures { result ≡ status_of self }
+    {
+        match self {
+            End::Whole => 0,
+            End::Fault => 2,
+            End::Memory => 4,
+            End::ReadFault | End::WriteFault => 5,
+        }
+    }
+}

@@ -1,0 +1,31 @@
+//! Why no more of a script is read.
+ghost use Rattle.std.specs.Prelude.{◌≡◌};
+ghost use Rattle.script_io.specs.Turns.{end_of};
+
+use crate::calls::{ReadBroke, WriteBroke};
+use crate::end::End;
+
+/// Why no more of a script is read. For a call that failed it takes what only that call can give.
+#[derive(Drop)]
+pub enum Halt {
+    Whole,
+    Fault,
+    Memory,
+    ReadBroke(ReadBroke),
+    WriteBroke(WriteBroke),
+}
+
+impl Halt {
+    /// How the script ends by it.
+    pub fn end(self) -> End
+        ensures { result ≡ end_of self }
+    {
+        match self {
+            Halt::Whole => End::Whole,
+            Halt::Fault => End::Fault,
+            Halt::Memory => End::Memory,
+            Halt::ReadBroke(_) => End::ReadFault,
+            Halt::WriteBroke(_) => End::WriteFault,
+        }
+    }
+}

@@ -1,0 +1,149 @@
+//! A script from a reader to a writer.
+ghost use Rattle.std.specs.Prelude.{◌≡◌, ◌+◌, ◌<◌, ◌≤◌, [], length, Some, IfSome, IsNone, IfOk};
+ghost use Rattle.script_exec.specs.State.{State};
+ghost use Rattle.script_exec.specs.Carrying.{Stands};
+ghost use Rattle.script_io.specs.Feeding.{IsScript, most_left};
+ghost use Rattle.script_io.specs.Turns.{Concludes, GoesOn, SaysBy, TurnsTo};
+
+use crate::calls::{read_some, write_out};
+use crate::end::End;
+use crate::halt::Halt;
+use crate::script::Script;
+use crate::stop::Stop;
+use script_exec::Bench;
+use std::alloc::{AllocError, Global};
+use std::io::{Read, Write};
+
+/// How many bytes are read at once.
+const CHUNK: usize = 65_536;
+
+/// The longest payload.
+const LONGEST_PAYLOAD: usize = 65_536;
+
+/// Reads a script, and writes its answers, those to the lines that were read before the next read.
+pub fn run_script<R: Read, W: Write>(alloc: Global, reader: &mut R, writer: &mut W) -> End
+    ensures { IfSome (R.remaining reader.old) (λ script.
+        SaysBy result script (R.remaining reader.new) (W.contents writer.old) (W.contents writer.new)) }
+{
+    let (end, _bench) = run_and_leave(alloc, reader, writer);
+    end
+}
+
+/// Runs a script as `run_script` does, and returns the array that it leaves; none where it made none.
+pub fn run_and_leave<R: Read, W: Write>(
+    alloc: Global,
+    reader: &mut R,
+    writer: &mut W,
+) -> (End, Option<Bench>)
+    ensures { IfSome (R.remaining reader.old) (λ script.
+        SaysBy result.0 script (R.remaining reader.new) (W.contents writer.old) (W.contents writer.new)) }
+{
+    let Ok(mut chunk) = zeros(alloc, CHUNK) else {
+        return (End::Memory, None);
+    };
+    let Ok(payload) = zeros(alloc, LONGEST_PAYLOAD) else {
+        return (End::Memory, None);
+    };
+    let mut script = Script::new(alloc, payload);
+    let end = turns(alloc, reader, writer, &mut chunk, &mut script).end();
+    let Script { bench, .. } = script;
+    (end, bench)
+}
+
+// Turn after turn, up to the end.
+fn turns<R: Read, W: Write>(
+    alloc: Global,
+    reader: &mut R,
+    writer: &mut W,
+    chunk: &mut [u8],
+    script: &mut Script,
+) -> Halt
+    requires room { 0 < length chunk.old }
+    requires good { IsScript script.old }
+    requires written { script.old.out.items ≡ [] }
+    ensures { (state : State) → Stands script.old.bench state →
+        TurnsTo (Some result) (R.remaining reader.old) (R.remaining reader.new) script.old state script.new
+        (W.contents writer.old) (W.contents writer.new) }
+{
+    loop {
+        if let Some(halt) = turn(alloc, reader, writer, chunk, script) {
+            return halt;
+        }
+    }
+}
+
+// One read, the answers to the lines that end in it, and their write.
+fn turn<R: Read, W: Write>(
+    alloc: Global,
+    reader: &mut R,
+    writer: &mut W,
+    chunk: &mut [u8],
+    script: &mut Script,
+) -> Option<Halt>
+    requires room { 0 < length chunk.old }
+    requires good { IsScript script.old }
+    requires written { script.old.out.items ≡ [] }
+    ensures stays { IsNone result → IsScript script.new }
+    ensures written { IsNone result → script.new.out.items ≡ [] }
+    ensures fewer { IsNone result → most_left script.new < most_left script.old }
+    ensures said { (state : State) → Stands script.old.bench state →
+        TurnsTo result (R.remaining reader.old) (R.remaining reader.new) script.old state script.new
+        (W.contents writer.old) (W.contents writer.new) }
+{
+    match read_some(reader, chunk) {
+        Ok(0) => Some(close(alloc, writer, script)),
+        Ok(count) => go_on(alloc, writer, script, &chunk[..count]),
+        Err(broke) => Some(Halt::ReadBroke(broke)),
+    }
+}
+
+// The answers to the lines that end in a chunk.
+fn go_on<W: Write>(alloc: Global, writer: &mut W, script: &mut Script, chunk: &[u8]) -> Option<Halt>
+    requires good { IsScript script.old }
+    requires written { script.old.out.items ≡ [] }
+    ensures stays { IsNone result → IsScript script.new }
+    ensures written { IsNone result → script.new.out.items ≡ [] }
+    ensures fewer { IsNone result → most_left script.new + length chunk.now ≤ most_left script.old }
+    ensures said { (state : State) → Stands script.old.bench state →
+        GoesOn result script.old state script.new chunk.now (W.contents writer.old) (W.contents writer.new) }
+{
+    let fed = script.feed(alloc, chunk);
+    match write_out(writer, &script.out) {
+        Ok(()) => {}
+        Err(broke) => return Some(Halt::WriteBroke(broke)),
+    }
+    match fed {
+        Ok(()) => {
+            script.out.clear();
+            None
+        }
+        Err(Stop::Fault) => Some(Halt::Fault),
+        Err(Stop::Memory) => Some(Halt::Memory),
+    }
+}
+
+// The answer to the last line.
+fn close<W: Write>(alloc: Global, writer: &mut W, script: &mut Script) -> Halt
+    requires good { IsScript script.old }
+    requires written { script.old.out.items ≡ [] }
+    ensures { (state : State) → Stands script.old.bench state →
+        Concludes result script.old state [] (W.contents writer.old) (W.contents writer.new) }
+{
+    let finished = script.finish(alloc);
+    match write_out(writer, &script.out) {
+        Ok(()) => {}
+        Err(broke) => return Halt::WriteBroke(broke),
+    }
+    match finished {
+        Ok(()) => Halt::Whole,
+        Err(Stop::Fault) => Halt::Fault,
+        Err(Stop::Memory) => Halt::Memory,
+    }
+}
+
+// A buffer of `size` zeros.
+fn zeros(alloc: Global, size: usize) -> Result<Vec<u8>, AllocError>
+    ensures { IfOk result (λ zeros. length zeros.items ≡ size) }
+{
+    vec![in alloc; 0u8; size]
+}

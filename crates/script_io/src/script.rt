@@ -1,0 +1,180 @@
+//! A script that is fed in pieces.
+ghost use Rattle.std.specs.Prelude.{◌≡◌, ◌+◌, ◌≤◌, [], ◌∷◌, ◌++◌, length, OnOk, None};
+ghost use Rattle.script_io.specs.Opens.{IsOpen};
+ghost use Rattle.script_exec.specs.State.{State};
+ghost use Rattle.script_exec.specs.Carrying.{Stands};
+
+use crate::line::{MOST_BYTES, MOST_LINES, answer_line, wrong};
+use crate::split::split_line;
+use crate::stop::Stop;
+use script_exec::{Bench, Why};
+use std::alloc::Global;
+use std::mem::replace;
+
+/// The state of a script: the number of its open line, the bench, a buffer for a payload, the bytes of the open line, and the
+/// whole answers that are not yet written.
+#[derive(Drop)]
+pub struct Script {
+    pub number: u64,
+    pub bench: Option<Bench>,
+    pub payload: Vec<u8>,
+    pub line: Vec<u8>,
+    pub out: Vec<u8>,
+}
+
+impl Script {
+    ghost use Rattle.script_io.specs.Feeding.{Answered, Closes, Faults, Feeds, IsScript, most_left};
+
+    /// A script of which nothing was read. The buffer is for payloads.
+    pub fn new(alloc: Global, payload: Vec<u8>) -> Script
+        requires { 65536 ≤ length payload.items }
+        ensures good { IsScript result }
+        ensures number { result.number ≡ 1 }
+        ensures bench { result.bench ≡ None }
+        ensures line { result.line.items ≡ [] }
+        ensures out { result.out.items ≡ [] }
+    {
+        Script {
+            number: 1,
+            bench: None,
+            payload,
+            line: Vec::new(alloc),
+            out: Vec::new(alloc),
+        }
+    }
+
+    /// Reads the next bytes, and answers the lines that end in them.
+    pub fn feed(&mut self, alloc: Global, chunk: &[u8]) -> Result<(), Stop>
+        requires { IsScript self.old }
+        ensures keeps { OnOk result (IsScript self.new) }
+        ensures fewer { OnOk result (most_left self.new + length chunk.now ≤ most_left self.old) }
+        ensures fed { (state : State) → Stands self.old.bench state → Feeds result self.old state self.new chunk.now }
+    {
+        let mut rest = chunk;
+        while let Some((part, behind)) = split_line(rest) {
+            match self.take_line(alloc, part) {
+                Ok(()) => {}
+                Err(stop) => return Err(stop),
+            }
+            rest = behind;
+        }
+        self.take_in(rest)
+    }
+
+    /// Answers the last line, which has no end, where there is one.
+    pub fn finish(&mut self, alloc: Global) -> Result<(), Stop>
+        requires { IsScript self.old }
+        ensures { (state : State) → Stands self.old.bench state → Closes result self.old state self.new }
+    {
+        if self.line.is_empty() {
+            return Ok(());
+        }
+        self.answer_open(alloc)
+    }
+
+    // More bytes of the open line.
+    fn take_in(&mut self, part: &[u8]) -> Result<(), Stop>
+        requires good { IsScript self.old }
+        requires part { IsOpen part.now }
+        ensures keeps { OnOk result (IsScript self.new) }
+        ensures fewer { OnOk result (most_left self.new + length part.now ≤ most_left self.old) }
+        ensures fed { (state : State) → Stands self.old.bench state → Feeds result self.old state self.new part.now }
+    {
+        if part.is_empty() {
+            return Ok(());
+        }
+        if self.number > MOST_LINES {
+            return self.tell_fault(Why::Many);
+        }
+        if part.len() > MOST_BYTES - self.line.len() {
+            return self.tell_fault(Why::Long);
+        }
+        match self.line.extend_from_slice(part) {
+            Ok(()) => Ok(()),
+            Err(_) => Err(Stop::Memory),
+        }
+    }
+
+    // Reports a fault of the open line. Without memory for all of it, nothing of it is kept.
+    fn tell_fault(&mut self, why: Why) -> Result<(), Stop>
+        ensures { Faults result why self.old self.new }
+    {
+        let before = self.out.len();
+        match wrong(&mut self.out, self.number, why) {
+            Err(Stop::Memory) => {
+                self.out.truncate(before);
+                Err(Stop::Memory)
+            }
+            told => told,
+        }
+    }
+
+    // Answers the line that ends after these bytes. Where they are all of it, it is answered where it lies.
+    fn take_line(&mut self, alloc: Global, part: &[u8]) -> Result<(), Stop>
+        requires good { IsScript self.old }
+        requires part { IsOpen part.now }
+        ensures keeps { OnOk result (IsScript self.new) }
+        ensures fewer { OnOk result (most_left self.new + (length part.now + 1) ≤ most_left self.old) }
+        ensures fed { (state : State) → Stands self.old.bench state →
+            Feeds result self.old state self.new (part.now ++ 10 ∷ []) }
+    {
+        if !self.line.is_empty() {
+            return match self.take_in(part) {
+                Ok(()) => self.answer_open(alloc),
+                Err(stop) => Err(stop),
+            };
+        }
+        self.answer(alloc, part)
+    }
+
+    // Answers the open line, which ends here, and keeps its memory for the next one.
+    fn answer_open(&mut self, alloc: Global) -> Result<(), Stop>
+        requires { IsScript self.old }
+        ensures keeps { OnOk result (IsScript self.new) }
+        ensures fewer { OnOk result (most_left self.new + 1 ≤ most_left self.old) }
+        ensures told { (state : State) → Stands self.old.bench state →
+            Answered result self.old state self.old.line.items self.new }
+    {
+        let line = replace(&mut self.line, Vec::new(alloc));
+        match self.answer(alloc, &line) {
+            Ok(()) => {
+                self.line = line;
+                self.line.clear();
+                Ok(())
+            }
+            Err(stop) => Err(stop),
+        }
+    }
+
+    // Appends a line's answer to the whole answers. Without memory for all of its answer, nothing of it is kept.
+    fn answer(&mut self, alloc: Global, line: &[u8]) -> Result<(), Stop>
+        requires good { IsScript self.old }
+        requires none { self.old.line.items ≡ [] }
+        ensures keeps { OnOk result (IsScript self.new) }
+        ensures none { self.new.line.items ≡ [] }
+        ensures fewer { OnOk result (most_left self.new + (length line.now + 1) ≤ most_left self.old) }
+        ensures told { (state : State) → Stands self.old.bench state →
+            Answered result self.old state line.now self.new }
+    {
+        let whole = self.out.len();
+        let told = answer_line(
+            alloc,
+            self.number,
+            &mut self.bench,
+            &mut self.payload,
+            line,
+            &mut self.out,
+        );
+        match told {
+            Ok(()) => {
+                self.number += 1;
+                Ok(())
+            }
+            Err(Stop::Fault) => Err(Stop::Fault),
+            Err(Stop::Memory) => {
+                self.out.truncate(whole);
+                Err(Stop::Memory)
+            }
+        }
+    }
+}

@@ -1,0 +1,51 @@
+//! Where the lines of a text end.
+ghost use Rattle.std.specs.Prelude.{◌≡◌, ◌==◌, ◌∷◌, ◌++◌, ◌≤◌, length, IfSome, IfNone, not};
+ghost use Rattle.std.specs.List.{prefix_len};
+ghost use Rattle.memchr.specs.Find.{IsFirstByte, is_byte};
+ghost use Rattle.script_io.specs.Opens.{IsOpen};
+
+use memchr::memchr;
+use std::simd::prelude::*;
+
+/// What ends a line.
+const LINE_END: u8 = b'\n';
+
+/// The bytes of a first look.
+const LOOK: usize = 32;
+
+/// The bytes before the first line's end, and those after it.
+pub fn split_line(text: &[u8]) -> Option<(&[u8], &[u8])>
+    ensures some { IfSome result (λ parts. IsOpen parts.0.now × (text.now ≡ parts.0.now ++ 10 ∷ parts.1.now)) }
+    ensures none { IfNone result (IsOpen text.now) }
+{
+    match line_end(text) {
+        Some(at) => Some((&text[..at], &text[at + 1..])),
+        None => None,
+    }
+}
+
+// The first line's end. Most lines are short, so their first bytes are looked at by themselves.
+fn line_end(text: &[u8]) -> Option<usize>
+    ensures { IsFirstByte (is_byte 10) text.now result }
+{
+    if text.len() >= LOOK {
+        let front = open_bytes(u8x32::from_slice(text));
+        if front < LOOK {
+            return Some(front);
+        }
+    }
+    memchr(LINE_END, text)
+}
+
+// How many bytes are before the first line's end.
+#[inline(always)]
+fn open_bytes(bytes: u8x32) -> usize
+    ensures { result ≡ prefix_len (λ byte. not (byte == 10)) bytes }
+{
+    let ends = bytes.simd_eq(u8x32::splat(LINE_END)).to_bitmask();
+    if ends == 0 {
+        LOOK
+    } else {
+        ends.trailing_zeros() as usize
+    }
+}

@@ -1,0 +1,60 @@
+//! Numbers as a script writes them: `0`, or a digit 1 to 9 and at most nine digits more.
+ghost use Rattle.std.specs.Prelude.{◌≡◌, ◌↔◌, ◌≤◌, ◌∷◌, ℕ, List, IfSome, IfNone, IsTrue, decimal, length};
+ghost use Rattle.script_syntax.specs.Number.{IsNumeral, IsWritable};
+ghost use Rattle.script_syntax.specs.Parts.{text_of};
+ghost use Rattle.script_syntax.specs.Words.{words, words_left};
+
+use crate::parts::SPACE;
+
+/// The digit zero.
+const ZERO: u64 = b'0' as u64;
+
+/// The most digits of a number.
+const MOST_DIGITS: usize = 10;
+
+/// The number that is the first word of the text, and the text after it where there is one.
+pub fn cut_number(text: &[u8]) -> Option<(u64, Option<&[u8]>)>
+    ensures some { IfSome result (λ found. IsWritable found.0
+        × (words text.now ≡ decimal found.0 ∷ words_left (text_of found.1))) }
+    ensures none { IfNone result ((n : ℕ) (rest : List (List ℕ)) → IsWritable n →
+        words text.now ≡ decimal n ∷ rest → ⊥) }
+{
+    let most = text.len().min(MOST_DIGITS + 1);
+    let mut number: u64 = 0;
+    for at in 0..most {
+        let digit = u64::from(text[at]).wrapping_sub(ZERO);
+        if digit > 9 {
+            return if text[at] == SPACE && is_numeral(text, at) {
+                Some((number, Some(&text[at + 1..])))
+            } else {
+                None
+            };
+        }
+        number = 10 * number + digit;
+    }
+    if is_numeral(text, text.len()) {
+        Some((number, None))
+    } else {
+        None
+    }
+}
+
+// Whether `count` leading digits may be a number: 1 to 10 of them, and no zero leads two or more.
+fn is_numeral(text: &[u8], count: usize) -> bool
+    requires { count ≤ length text.now }
+    ensures { IsTrue result ↔ IsNumeral text.now count }
+{
+    count == 1 || count > 1 && count <= MOST_DIGITS && text[0] != b'0'
+}
+
+/// The number that the word spells, if it spells one.
+pub fn number_of(word: &[u8]) -> Option<u64>
+    ensures some { IfSome result (λ n. IsWritable n × (word.now ≡ decimal n)) }
+    ensures none { IfNone result ((n : ℕ) → IsWritable n → word.now ≡ decimal n → ⊥) }
+{
+    match cut_number(word) {
+        Some((number, None)) => Some(number),
+        Some((_, Some(_))) => None,
+        None => None,
+    }
+}

@@ -1,5 +1,0 @@
-use Rattle.script_words.proofs.Numbers.{nothing_left}
-use Rattle.script_words.proofs.words.is_end.Goals as goal
-
-pub returns : goal.returns
-returns c = nothing_left c.args.text c.is_none.result c.is_none.ensures

@@ -1,5 +1,0 @@
-use Rattle.extent_groups.specs.Groups.{Agree}
-use Rattle.store_tests.proofs.plans.a_lost_drive_is_emptied_group_by_group.Given as goal
-
-abbrev pub invariant-loop-group : goal.invariant-loop-group
-invariant-loop-group g l = Agree l.tables.groups l.tables.extents

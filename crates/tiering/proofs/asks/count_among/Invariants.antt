@@ -1,6 +1,0 @@
-use Rattle.array_model.specs.Views.{key_at}
-use Rattle.tiering.proofs.Counts.{IsCounted}
-use Rattle.tiering.proofs.asks.count_among.Given as goal
-
-abbrev pub invariant-loop-index : goal.invariant-loop-index
-invariant-loop-index g l = IsCounted (key_at l.array) l.group l.slots l.index l.count

@@ -1,6 +1,0 @@
-use Rattle.tiering.proofs.Standing.{cleans}
-use Rattle.tiering.proofs.tiers.Tiers.clean.Goals as goal
-
-pub returns-in-Some-clause-ok : goal.returns-in-Some-clause-ok
-returns-in-Some-clause-ok c =
-    cleans c.args.self.now c.append.new.self c.args.worker c.in-Some.plan c.append.result c.in-Some.ensures.plan c.append.ensures.ok

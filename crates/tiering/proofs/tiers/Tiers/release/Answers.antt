@@ -1,7 +1,0 @@
-use Rattle.tiering.proofs.Standing.{releases}
-use Rattle.tiering.proofs.tiers.Tiers.release.Goals as goal
-
-pub returns-clause-flat : goal.returns-clause-flat
-returns-clause-flat c =
-    let a = c.args in
-    releases a.self.now c.release-answer.new.self c.add.new.self a.worker a.slot c.release-answer.result c.release-answer.ensures.flat c.add.ensures.here c.add.ensures.others

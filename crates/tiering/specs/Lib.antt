@@ -1,8 +1,0 @@
-pub mod Tiered
-pub mod Placing
-pub mod Steps
-pub mod Marking
-pub mod Bits
-pub mod Hints
-pub mod Stands
-pub mod Inside

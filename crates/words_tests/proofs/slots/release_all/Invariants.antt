@@ -1,5 +1,0 @@
-use Rattle.std.proofs.Common.{vec_len}
-use Rattle.words_tests.proofs.slots.release_all.Given as goal
-
-abbrev pub decreases-loop-claim : goal.decreases-loop-claim
-decreases-loop-claim g l = vec_len l.claims
