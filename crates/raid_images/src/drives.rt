@@ -1,4 +1,6 @@
 //! Drives from images, and images from drives.
+ghost use Rattle.std.specs.Prelude.{◌≡◌, None, IfOk};
+
 use crate::table::Table;
 use crate::trouble::Trouble;
 use crate::words::Files;
@@ -59,7 +61,9 @@ fn drive_of(
 }
 
 /// The parts of the array of a table, its drives those of the images.
-pub(crate) fn parts_of(rt: &HostRuntime, files: Files<'_>) -> Result<Parts<MemDrive>, Trouble> {
+pub(crate) fn parts_of(rt: &HostRuntime, files: Files<'_>) -> Result<Parts<MemDrive>, Trouble>
+    ensures { IfOk result (λ parts. parts.note ≡ None) }
+{
     let text = bytes_of(rt, files, 0)?;
     let Table {
         shape,

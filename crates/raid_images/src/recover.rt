@@ -1,13 +1,17 @@
 //! An array rebuilt from its drives.
-ghost use Rattle.std.specs.Prelude.{◌≡◌, None, IfOk};
+ghost use Rattle.std.specs.Prelude.{◌≡◌, None, IfOk, IsNone};
+ghost use Rattle.array_parts.specs.Fit.{IsFit};
+ghost use Rattle.array_parts.specs.Losses.{LosesOnly};
 ghost use Rattle.array_parts.specs.Memory.{held_units, held_lost, held_failures};
-ghost use Rattle.header_scan.specs.Restarts.{WasMade, StandsForOne};
+ghost use Rattle.header_scan.specs.Restarts.{AreAllSound};
+ghost use Rattle.raid_images.specs.Recovered.{IsRecovered};
 
 use array_parts::Parts;
 use extent_groups::{GROUPS, GroupTable, SLOTS};
 use extents::MemDrive;
 use header_scan::{ScanFault, restart, scan_groups};
 use map_join::BlockMap;
+use soundness::find_unsound;
 use std::alloc::{AllocError, Global};
 use step_core::{Array, Plain};
 
@@ -34,14 +38,35 @@ fn claims_of(alloc: Global, groups: &GroupTable) -> Result<Vec<Plain>, AllocErro
     Ok(claims)
 }
 
-/// The array that the drives hold, rebuilt from the headers of sound parts.
+// The lowest slot that isn't sound, if there is one.
+fn find(alloc: Global, parts: &mut Parts<MemDrive>) -> Result<Option<u16>, AllocError>
+    requires fit { IsFit held_units parts.old }
+    ensures none { IfOk result (λ found. IsNone found → AreAllSound held_units held_lost parts.new) }
+    ensures only { LosesOnly held_units held_lost held_failures parts.old parts.new }
+    ensures fit { IsFit held_units parts.new }
+{
+    let size = parts.groups.shape().unit_bytes();
+    let mut unit = vec![in alloc; 0u8; size]?;
+    let mut other = vec![in alloc; 0u8; size]?;
+    Ok(find_unsound(parts, &mut unit, &mut other))
+}
+
+/// The array that the drives hold, rebuilt from the headers of sound parts. Soundness is tested first.
 pub(crate) fn recover(
     alloc: Global,
     parts: Parts<MemDrive>,
-) -> Result<Array<MemDrive, Plain>, Lacking> {
+) -> Result<Array<MemDrive, Plain>, Lacking>
+    requires { parts.note ≡ None }
+    ensures { IfOk result (IsRecovered parts) }
+{
     let mut parts = parts;
     if !parts.is_fit() {
         return Err(Lacking::Misfit);
+    }
+    match find(alloc, &mut parts) {
+        Ok(None) => {}
+        Ok(Some(slot)) => return Err(Lacking::Unsound(slot)),
+        Err(_) => return Err(Lacking::Fault(ScanFault::Memory)),
     }
     let Ok(claims) = claims_of(alloc, &parts.groups) else {
         return Err(Lacking::Fault(ScanFault::Memory));

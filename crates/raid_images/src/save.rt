@@ -4,10 +4,10 @@ use crate::table::put_table;
 use crate::trouble::Trouble;
 use crate::words::Files;
 use array_parts::Parts;
+use background::Tiers;
 use extents::MemDrive;
 use script_io::{Bench, run_and_leave};
 use std::alloc::Global;
-use background::Tiers;
 
 // The parts of the array that a script leaves.
 fn parts_of(alloc: Global, bench: Bench) -> Result<Parts<MemDrive>, Trouble> {
