@@ -1,5 +1,5 @@
 -- The slots below one are sound: over losses, with one slot more, and as far as all groups go.
-use Rattle.std.proofs.Common.{◌≡◌, ℕ, ◌+◌, ◌*◌, ◌/◌, ◌%◌, ◌<◌, ◌≤◌, inl, inr, true, Option, Some, None, IfSome, length, sym, ap, subst, arith}
+use Rattle.std.proofs.Common.{◌≡◌, ℕ, ◌+◌, ◌*◌, ◌/◌, ◌%◌, ◌<◌, ◌≤◌, inl, inr, Option, Some, None, IfSome, length, sym, ap, subst, arith}
 use Rattle.std.proofs.lemmas.Bool.{cases_order}
 use Rattle.extent_groups.specs.declared.place.Place.{Place}
 use Rattle.extent_groups.specs.Groups.{Groups, AreGroups, group_at, class_in, slots_in}
@@ -11,7 +11,7 @@ use Rattle.extent_groups.proofs.Bounds.{made_low}
 use Rattle.extent_groups.proofs.Fading.{faded, fade_sound, row_fades}
 use Rattle.extent_groups.proofs.LayoutLaw.{slot_of}
 use Rattle.extent_groups.proofs.Places.{same_or_not}
-use Rattle.soundness.specs.Sound.{IsSoundSlot, IsUnsoundSlot, AreSoundBelow, IsFirstUnsound, IsTested}
+use Rattle.soundness.specs.Sound.{IsSoundSlot, IsUnsoundSlot, AreSoundBelow, IsFirstUnsound}
 
 -- a sound site is sound after losses
 sound_fades : (n : ℕ) (c new : Cells) (t : Site) → ((x : Place) → FadesAt c new x) → IsSoundAt n c t → IsSoundAt n new t
@@ -27,7 +27,7 @@ unsound_before t c new None fades is = tt
 unsound_before t c new (Some slot) fades is = let bad = is.unsound in (bad.0, bad.1, λ sound. bad.2 (sound_fades (unit_bytes t) c new bad.0 fades sound))
 
 -- one slot more
-pub below_more : (t : Groups) (c : Cells) (slot end : ℕ) → end ≡ slot + 1 → IsTested t c slot true → AreSoundBelow t c slot → AreSoundBelow t c end
+pub below_more : (t : Groups) (c : Cells) (slot end : ℕ) → end ≡ slot + 1 → (AreSoundBelow t c slot → IsSoundSlot t c slot) → AreSoundBelow t c slot → AreSoundBelow t c end
 below_more t c slot end e tested below other low = elim (same_or_not other slot) [
   | inl q ↦ subst (IsSoundSlot t c) (sym q) (tested below)
   | inr ne ↦ below other (omega (arith, low, ne, e))

@@ -1,5 +1,5 @@
 -- Which slots are sound, and which is the lowest that isn't.
-use Rattle.std.specs.Prelude.{◌≡◌, ℕ, ◌<◌, Bool, true, false, Some}
+use Rattle.std.specs.Prelude.{◌≡◌, ℕ, ◌<◌, Some}
 use Rattle.extent_groups.specs.Groups.{Groups}
 use Rattle.extent_groups.specs.Cells.{Cells}
 use Rattle.extent_groups.specs.Units.{Site, site_of, IsSoundAt}
@@ -21,8 +21,3 @@ AreSoundBelow groups c end = (slot : ℕ) → slot < end → IsSoundSlot groups 
 pub record IsFirstUnsound (groups : Groups) (c : Cells) (slot : ℕ) : Type 0 where
   pub unsound : IsUnsoundSlot groups c slot
   pub lower : AreSoundBelow groups c slot
-
--- what a test of a slot says: true where the slot is sound, if every lower one is; false where it isn't sound
-abbrev pub IsTested : Groups → Cells → ℕ → Bool → Type 0
-IsTested groups c slot true = AreSoundBelow groups c slot → IsSoundSlot groups c slot
-IsTested groups c slot false = IsUnsoundSlot groups c slot

@@ -6,4 +6,4 @@ mod rows;
 mod search;
 mod slots;
 
-pub use search::find_unsound;
+pub use search::{find_unsound, is_sound};

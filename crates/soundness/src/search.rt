@@ -1,18 +1,41 @@
-// The lowest slot that isn't sound.
-ghost use Rattle.std.specs.Prelude.{◌≡◌, ◌+◌, ◌*◌, length, IfSome, IsNone};
+// Whether a slot is sound, and the lowest that isn't.
+ghost use Rattle.std.specs.Prelude.{◌≡◌, ◌+◌, ◌*◌, false, length, IsTrue, IfSome, IsNone};
+ghost use Rattle.std.specs.Bool.{MatchBool};
 ghost use Rattle.extent_groups.specs.Groups.{AreGroups};
 ghost use Rattle.extent_groups.specs.Cells.{cells};
 ghost use Rattle.extent_groups.specs.Calls.{NoPlace, KeepsDrives};
 ghost use Rattle.extent_groups.specs.Stores.{unit_bytes, AreDrives, AreSound};
 ghost use Rattle.array_parts.specs.Fit.{IsFit};
 ghost use Rattle.array_parts.specs.Losses.{AllFare, LosesOnly};
-ghost use Rattle.array_parts.specs.Slots.{cells_in};
-ghost use Rattle.soundness.specs.Sound.{AreSoundBelow, IsFirstUnsound, IsUnsoundSlot};
+ghost use Rattle.array_parts.specs.Slots.{IsSlot, cells_in};
+ghost use Rattle.soundness.specs.Sound.{AreSoundBelow, IsFirstUnsound, IsSoundSlot, IsUnsoundSlot};
 
-use crate::slots::test_slot;
+use crate::slots::{is_lowest, is_slot_sound};
 use array_parts::Parts;
 use extent_groups::{GROUPS, GroupTable, SLOTS};
 use extents::Drive;
+
+// Tests a slot whose lower slots are sound, with two buffers of a unit's length. Each row is read once, at its lowest slot.
+fn test_slot<D: Drive>(
+    groups: &GroupTable,
+    drives: &mut [D],
+    slot: u16,
+    unit: &mut [u8],
+    other: &mut [u8],
+) -> bool
+    requires slot { IsSlot groups.now slot }
+    requires drives { AreDrives D.units groups.now drives.old }
+    requires unit { length unit.old ≡ unit_bytes groups.now }
+    requires other { length other.old ≡ unit_bytes groups.now }
+    ensures sound { IsTrue result → AreSoundBelow groups.now (cells D.units D.lost drives.new) slot → IsSoundSlot groups.now (cells D.units D.lost drives.new) slot }
+    ensures unsound { result ≡ false → IsUnsoundSlot groups.now (cells D.units D.lost drives.new) slot }
+    ensures touched { KeepsDrives D.units D.lost D.failures NoPlace drives.old drives.new }
+{
+    if !is_lowest(groups, slot) {
+        return true;
+    }
+    is_slot_sound(groups, drives, slot, unit, other)
+}
 
 // The lowest slot of a group that isn't sound, with two buffers of a unit's length.
 fn first_of_group<D: Drive>(
@@ -64,11 +87,32 @@ fn first_unsound<D: Drive>(
     None
 }
 
-/// Finds the lowest slot that isn't sound: its two copies differ, or its parity row doesn't add up to zero. Borrows two buffers
-/// of a unit's length. Reads each copy and each unit of a row once, up to the slot that it finds.
+/// Whether a slot is sound: its two copies are equal, or its parity row adds up to zero. Borrows two buffers of a unit's length,
+/// and reads both copies, or the whole row. A copy or a row with a lost drive has nothing to compare, and is sound.
+pub fn is_sound<D: Drive>(
+    parts: &mut Parts<D>,
+    slot: u16,
+    unit: &mut [u8],
+    other: &mut [u8],
+) -> bool
+    requires fit { IsFit D.units parts.old }
+    requires slot { IsSlot parts.old.groups slot }
+    requires unit { length unit.old ≡ unit_bytes parts.old.groups }
+    requires other { length other.old ≡ unit_bytes parts.old.groups }
+    ensures sound { MatchBool result (IsSoundSlot parts.new.groups (cells_in D.units D.lost parts.new) slot) (IsUnsoundSlot parts.new.groups (cells_in D.units D.lost parts.new) slot) }
+    ensures only { LosesOnly D.units D.lost D.failures parts.old parts.new }
+    ensures fares { AllFare D.lost D.failures parts.old.drives.items parts.new.drives.items }
+    ensures fit { IsFit D.units parts.new }
+{
+    let drives: &mut [D] = &mut parts.drives;
+    is_slot_sound(&parts.groups, drives, slot, unit, other)
+}
+
+/// Finds the lowest slot that isn't sound; none where all are. Borrows two buffers of a unit's length. Reads each copy and each
+/// unit of a row once, up to the slot that it finds.
 ///
-/// A copy or a row with a lost drive has nothing to compare, and is sound. Later losses leave sound slots sound, so after None
-/// the parts are as `header_scan`'s calls ask. A half-made write shows as unsound: finish a note first, by `Parts::finish`.
+/// Later losses leave sound slots sound, so parts without a note and with no such slot are as `scan` and `restart` ask. A write
+/// that a stop left half made may be found: finish its note first, by `Parts::finish`.
 pub fn find_unsound<D: Drive>(
     parts: &mut Parts<D>,
     unit: &mut [u8],

@@ -1,4 +1,4 @@
-use Rattle.std.proofs.Common.{◌+◌, ◌*◌, ◌<◌, ◌≡◌, arith}
+use Rattle.std.proofs.Common.{◌+◌, ◌*◌, ◌<◌, ◌≡◌, refl, arith}
 use Rattle.extent_groups.specs.Groups.{group_at, slots_in}
 use Rattle.extent_groups.proofs.StoreCalls.{drives_kept}
 use Rattle.extent_groups.proofs.DriveCalls.{keeps_trans}
@@ -18,7 +18,7 @@ test_slot-requires-clause-drives g c = drives_kept c.args.groups.now c.loop-inde
 
 pub returns-then-not-test_slot-clause-some : goal.returns-then-not-test_slot-clause-some
 returns-then-not-test_slot-clause-some g c = λ was. record {
-  unsound = c.if-not-test_slot.ensures.tested;
+  unsound = c.if-not-test_slot.ensures.unsound refl;
   lower = below_fades c.args.groups.now _ _ _ (kept_fades c.test_slot.ensures.touched) (c.loop-index.invariant.below was);
 }
 
@@ -27,7 +27,7 @@ returns-then-not-test_slot-clause-touched g c = keeps_trans c.loop-index.invaria
 
 pub loop-index-preserved : goal.loop-index-preserved
 loop-index-preserved g c = record {
-  below = λ was. below_more c.args.groups.now _ (128 * c.args.group + c.loop-index.index) (128 * c.args.group + (c.loop-index.index + 1)) (omega arith) c.if-not-test_slot.ensures.tested
+  below = λ was. below_more c.args.groups.now _ (128 * c.args.group + c.loop-index.index) (128 * c.args.group + (c.loop-index.index + 1)) (omega arith) (c.if-not-test_slot.ensures.sound refl)
       (below_fades c.args.groups.now _ _ _ (kept_fades c.test_slot.ensures.touched) (c.loop-index.invariant.below was));
   touched = keeps_trans c.loop-index.invariant.touched c.test_slot.ensures.touched;
 }
