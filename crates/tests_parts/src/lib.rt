@@ -6,6 +6,8 @@ mod alike;
 #[cfg(test)]
 mod entries;
 #[cfg(test)]
+mod flips;
+#[cfg(test)]
 mod plain;
 #[cfg(test)]
 mod restarts;

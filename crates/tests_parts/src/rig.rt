@@ -14,6 +14,7 @@ use extents::{Drive, ExtentTable, Header, Kind, MemDrive, Shape};
 use flat_machine::Refusal;
 use header_scan::{ScanFault, restart, scan, scan_groups};
 use map_join::{BlockMap, Record};
+use soundness::{find_unsound, is_sound};
 use std::alloc::Global;
 use std::process::Abort;
 use step_core::{Array, Plain};
@@ -311,6 +312,26 @@ impl Rig {
         scan_groups(alloc, &mut self.parts, first, end)
     }
 
+    /// The lowest slot that isn't sound.
+    pub(crate) fn find_unsound(&mut self, rt: &impl Abort) -> Option<u16> {
+        assert!(rt; self.is_ready());
+        let size = self.unit.len();
+        find_unsound(&mut self.parts, &mut self.unit, &mut self.scratch[..size])
+    }
+
+    /// Whether a slot is sound.
+    pub(crate) fn is_sound(&mut self, rt: &impl Abort, slot: u16) -> bool {
+        assert!(rt; self.is_ready());
+        assert!(rt; is_slot(&self.parts.groups, slot));
+        let size = self.unit.len();
+        is_sound(
+            &mut self.parts,
+            slot,
+            &mut self.unit,
+            &mut self.scratch[..size],
+        )
+    }
+
     /// Makes a group of an extent of this number on each of these drives in turn.
     pub(crate) fn make(
         &mut self,
@@ -462,5 +483,18 @@ impl Rig {
         assert!(rt; drive.unit_bytes() == self.unit.len());
         assert!(rt; at < drive.units());
         drive.write_unit(at, &self.unit).is_ok()
+    }
+
+    /// Flips the bits of a byte of the unit at an address of a drive, on the drive itself.
+    pub(crate) fn flip(&mut self, rt: &impl Abort, drive: usize, at: u32, byte: usize) {
+        assert!(rt; self.peek(rt, drive, at));
+        assert!(rt; byte < self.unit.len());
+        self.unit[byte] ^= 0xFF;
+        let Some(drive) = self.parts.drives.get_mut(drive) else {
+            panic!(rt; "no drive")
+        };
+        assert!(rt; drive.unit_bytes() == self.unit.len());
+        assert!(rt; at < drive.units());
+        assert!(rt; drive.write_unit(at, &self.unit).is_ok());
     }
 }
