@@ -1,9 +1,9 @@
 -- Entering the blocks of records, one after the other.
-use Rattle.std.proofs.Common.{◌≡◌, ◌≢◌, ℕ, zero, suc, ◌+◌, ◌<◌, ◌≤◌, ◌⊎◌, inl, inr, Option, Some, None, List, length, Contains, replicate, refl, sym, ◌∙◌, ap, subst, arith, unwrap_or, get_or}
+use Rattle.std.proofs.Common.{◌≡◌, ◌≢◌, ℕ, zero, suc, ◌+◌, ◌<◌, inl, inr, Option, Some, None, List, length, Contains, replicate, refl, sym, ◌∙◌, ap, subst, arith, unwrap_or, get_or}
 use Rattle.std.specs.Prelude.{slice_get, slice_set}
 use Rattle.std.proofs.lemmas.Option.{same_Some, slice_get_within, slice_get-get_or, get_or_from_slice_get}
 use Rattle.map_join.specs.declared.records.Record.{Record}
-use Rattle.map_join.specs.Live.{IsBlockAt, IsLive, LiesAt}
+use Rattle.map_join.specs.Live.{IsBlockAt}
 use Rattle.map_join.specs.Maps.{Entries, at, IsListOf}
 use Rattle.map_join.specs.Record.{record_at}
 use Rattle.map_join.proofs.Listing.{key_told}

@@ -1,23 +1,23 @@
 -- What a place of a group's member is, from the role of its offset.
-use Rattle.std.proofs.Common.{◌≡◌, ◌≢◌, ℕ, zero, suc, ◌+◌, ◌-◌, ◌*◌, ◌/◌, ◌%◌, ◌<◌, ◌≤◌, ◌⊎◌, inl, inr, Bool, true, false, Option, Some, None, List, length, refl, sym, ◌∙◌, ap, subst, arith, nat_lt, get_or}
+use Rattle.std.proofs.Common.{◌≡◌, ◌≢◌, ℕ, zero, suc, ◌+◌, ◌*◌, ◌/◌, ◌%◌, ◌<◌, ◌≤◌, inl, inr, true, false, Option, Some, None, List, length, refl, sym, ◌∙◌, ap, subst, arith, nat_lt, get_or}
 use Rattle.std.specs.Prelude.{slice_get, map, option_map, ◌==◌, if◌then◌else◌}
 use Rattle.std.proofs.lemmas.Bool.Decides.{nat_tests}
-use Rattle.std.proofs.lemmas.Option.{same_Some, none-some, slice_get_within, slice_get-map, slice_get-get_or, get_or_from_slice_get}
+use Rattle.std.proofs.lemmas.Option.{same_Some, none-some, slice_get-map, slice_get-get_or, get_or_from_slice_get}
 use Rattle.extent_groups.specs.declared.class.Class.{Class}
 use Rattle.extent_groups.specs.declared.class.Class.TheVariants.{Mirrored, Parity}
 use Rattle.extent_groups.specs.declared.class.Member.{Member}
 use Rattle.extent_groups.specs.declared.geometry.Spot.{Spot}
 use Rattle.extent_groups.specs.declared.role.Role.TheVariants.{Slot, ParityUnit, Unused}
 use Rattle.extent_groups.specs.declared.place.Place.{Place}
-use Rattle.extent_groups.specs.Geometry.{slot_count, copies_of, stripe_of, copy_index, stripe_index, parity_of}
+use Rattle.extent_groups.specs.Geometry.{slot_count, copies_of, stripe_of, stripe_index, parity_of}
 use Rattle.extent_groups.specs.Groups.{Group, Groups, group_at, members_in, members_of, slots_in, IsFormed, AreGroups}
 use Rattle.extent_groups.specs.Roles.{LiesAt, IsRole, IsRoleIn}
-use Rattle.extent_groups.specs.Units.{Site, Pair, InStripe, place_of, place_at, site_in, site_of, site_of_index}
+use Rattle.extent_groups.specs.Units.{Site, place_of, place_at, site_in, site_of, site_of_index}
 use Rattle.extent_groups.specs.Layout.{IsOf}
 use Rattle.extent_groups.proofs.Bounds.{slot_count_small}
 use Rattle.extent_groups.proofs.GeometryLaws.{copies_law, stripe_law}
-use Rattle.extent_groups.proofs.LayoutLaw.{Tie, lies, slot_of, one_address}
-use Rattle.extent_groups.proofs.Roles.{mirrored_is, parity_is}
+use Rattle.extent_groups.proofs.LayoutLaw.{lies, slot_of, one_address}
+use Rattle.extent_groups.proofs.Roles.{parity_is}
 use Rattle.picture.specs.Marks.{IsFirst, IsSecond, IsParity, HasAt, is_second_of, is_second_in}
 
 -- a slot's role gives an index of the group
@@ -143,8 +143,8 @@ parity_here t g m x at group are made there low class is =
         site_in s Parity group.members row.index,
         site_here t g row.index group made small below ∙ ap (λ z. Some z) site,
         ap (λ o. slice_get (map (place_of s o) group.members) (stripe_of n row.index).parity) row.row
-        ∙ ap (λ k. slice_get (map (place_of s x) group.members) k) (row.parity ∙ sym is)
-        ∙ slice_get-map (place_of s x) group.members m ∙ ap (option_map (place_of s x)) there,
+            ∙ ap (λ k. slice_get (map (place_of s x) group.members) k) (row.parity ∙ sym is)
+            ∙ slice_get-map (place_of s x) group.members m ∙ ap (option_map (place_of s x)) there,
       ),
       omega arith,
     )
@@ -180,6 +180,13 @@ spot_of s ms m x i at formed there low below of =
       | inr e ↦ inr (same_spot s ms m x at (copies_of (length ms) i).second formed there low law.second_inside e)
     ]
 
+-- two members with one place are one group's
+one_owner : (t : Groups) (g h m k x y : ℕ) (a b : Member) → AreGroups t → slice_get (members_of t g) m ≡ Some a → slice_get (members_of t h) k ≡ Some b → x < 2 * t.segments → y < 2 * t.segments
+    → place_of t.segments x a ≡ place_of t.segments y b → g ≡ h
+one_owner t g h m k x y a b are there theirs low other is =
+    let extent = (one_address (2 * t.segments) a.extent b.extent x y (ap (λ (z : Place). z.address) is) low other).0 in
+    are.apart g h m k a b there theirs (ap (λ (z : Place). z.drive) is) extent
+
 -- a slot with a place of a member is one of the member's group
 same_group : (t : Groups) (g m x slot : ℕ) (at : Member) (site : Site) → AreGroups t → slice_get (members_of t g) m ≡ Some at → x < 2 * t.segments → site_of t slot ≡ Some site
     → IsOf site (place_of t.segments x at) → g ≡ slot / 128
@@ -188,8 +195,7 @@ same_group t g m x slot at site are there low is of =
     let two : 2 ≤ length z.group.members = omega (arith, (are.formed (slot / 128) z.group z.made).enough) in
     let l = lies t.segments z.group.class z.group.members (slot % 128) (place_of t.segments x at) two z.below (subst (λ s. IsOf s (place_of t.segments x at)) (sym z.site) of) in
     let theirs = subst (λ ms. slice_get ms l.number ≡ Some l.member) (sym (ap members_in z.made)) l.there in
-    let extent = (one_address (2 * t.segments) at.extent l.member.extent x l.offset (ap (λ (y : Place). y.address) l.is) low l.low).0 in
-    are.apart g (slot / 128) m l.number at l.member there theirs (ap (λ (y : Place). y.drive) l.is) extent
+    one_owner t g (slot / 128) m l.number x l.offset at l.member are there theirs low l.low l.is
 
 -- a place of no slot's role is no slot's
 unused_here : (t : Groups) (g m x : ℕ) (at : Member) (group : Group) → AreGroups t → group_at t g ≡ Some group → slice_get (members_of t g) m ≡ Some at → slice_get group.members m ≡ Some at

@@ -1,9 +1,8 @@
 -- What a unit of a drive is, by the owners of the extents and the sites of the slots.
-use Rattle.std.specs.Prelude.{◌≡◌, ℕ, ◌/◌, ◌<◌, ◌==◌, Bool, false, Option, Some, None, List, length, slice_get}
+use Rattle.std.specs.Prelude.{◌≡◌, ℕ, ◌/◌, ◌==◌, Bool, false, Option, Some, None, List, length, slice_get}
 use Rattle.extents.specs.Owners.{Owners, owner_of}
 use Rattle.extent_groups.specs.declared.class.Class.{Class}
 use Rattle.extent_groups.specs.declared.class.Class.TheVariants.{Mirrored, Parity}
-use Rattle.extent_groups.specs.declared.class.Member.{Member}
 use Rattle.extent_groups.specs.declared.place.Place.{Place}
 use Rattle.extent_groups.specs.Geometry.{copies_of}
 use Rattle.extent_groups.specs.Groups.{Group, Groups, members_of, Stands}

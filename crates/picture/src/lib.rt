@@ -2,7 +2,12 @@
 #![tactic(auto)]
 
 mod blocks;
+mod drawing;
+mod legend;
 mod mark;
+mod shapes;
+mod style;
 
 pub use blocks::blocks_by_slot;
+pub use drawing::{End, draw};
 pub use mark::{Mark, mark_of};

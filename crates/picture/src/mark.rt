@@ -49,7 +49,11 @@ fn block_at(blocks: &[Option<u32>], slot: u16) -> Option<u32>
     ensures { result ≡ block_in blocks.now slot }
 {
     let slot = slot as usize;
-    if slot < blocks.len() { blocks[slot] } else { None }
+    if slot < blocks.len() {
+        blocks[slot]
+    } else {
+        None
+    }
 }
 
 // Whether a member has the second copy of an index.
@@ -74,13 +78,7 @@ fn slot_of(groups: &GroupTable, group: u16, index: u16) -> u16
 }
 
 // What lies at an offset of a group's member.
-fn mark_in(
-    groups: &GroupTable,
-    blocks: &[Option<u32>],
-    group: u16,
-    member: u8,
-    offset: u16,
-) -> Mark
+fn mark_in(groups: &GroupTable, blocks: &[Option<u32>], group: u16, member: u8, offset: u16) -> Mark
     requires member { member < length (members_of groups.now group) }
     requires offset { offset < extent_units groups.now.segments }
     ensures { (m : Member) → slice_get (members_of groups.now group) member ≡ Some m
