@@ -6,6 +6,7 @@ use crate::words::Files;
 use extents::MemDrive;
 use header_scan::ScanFault;
 use map_join::BlockMap;
+use picture::draw;
 use script_exec::{put, put_fault, put_listing, put_number};
 use std::alloc::{AllocError, Global};
 use std::io::Write;
@@ -142,8 +143,11 @@ pub(crate) fn picture(rt: &HostRuntime, files: Files<'_>) -> Result<u8, Trouble>
         Ok(array) => array,
         Err(lacking) => return say_lacking(rt, &lacking),
     };
-    let Ok(_map) = array.map(rt.alloc()) else {
+    let Ok(map) = array.map(rt.alloc()) else {
         return Err(Trouble::Memory);
     };
+    let (groups, extents, lost) = (array.groups(), array.extents(), array.lost());
+    let drawn = draw(rt.alloc(), groups, extents, &map, &lost, None)?;
+    say(rt, drawn.as_bytes())?;
     Ok(FINE)
 }

@@ -15,6 +15,8 @@ mod geometry;
 #[cfg(test)]
 mod groups;
 #[cfg(test)]
+mod pictures;
+#[cfg(test)]
 mod plans;
 #[cfg(test)]
 mod recorded;
