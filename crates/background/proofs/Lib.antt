@@ -1,4 +1,4 @@
-pub mod Plans
+pub mod Regrouping
 pub mod Placings
 pub mod Emitting
 pub mod Freeing

@@ -2,7 +2,7 @@ use Rattle.std.proofs.Common.{Bool, List, Option, Some, subst}
 use Rattle.rebalancer.specs.declared.shift.Shift.{Shift}
 use Rattle.rebalancer.specs.Balancing.{IsBalance}
 use Rattle.background.specs.Regrouping.{AreLostOf, IsBalanceOf}
-use Rattle.background.proofs.Plans.{balance_of, all_balanced, all_wanted}
+use Rattle.background.proofs.Regrouping.{balance_of, all_balanced, all_wanted}
 use Rattle.background.proofs.regroup.balance.Goals as goal
 
 pub returns-in-Some-clause-ok : goal.returns-in-Some-clause-ok

@@ -2,7 +2,7 @@ use Rattle.std.proofs.Common.{◌<◌, Bool, List, Option, Some, subst, arith, l
 use Rattle.rebalancer.specs.declared.shift.Shift.{Shift}
 use Rattle.rebalancer.specs.Rebuilding.{IsRebuild}
 use Rattle.background.specs.Regrouping.{AreLostOf, IsRebuildOf}
-use Rattle.background.proofs.Plans.{rebuild_of, all_rebuilt, all_wanted}
+use Rattle.background.proofs.Regrouping.{rebuild_of, all_rebuilt, all_wanted}
 use Rattle.background.proofs.regroup.rebuild.Goals as goal
 
 pub returns-in-Some-clause-ok : goal.returns-in-Some-clause-ok
