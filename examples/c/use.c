@@ -29,6 +29,7 @@ static void join_two_controllers(void) {
     uint8_t list[6 * RECORD], joined[6 * RECORD];
     size_t first = list_of(ours, 3, list);
     size_t both = first + list_of(theirs, 3, list + first);
+    struct behkuna_record newest = {0};
     size_t count = 0;
     uint32_t block = 0;
 
@@ -48,6 +49,9 @@ static void join_two_controllers(void) {
     printf("join of 71 bytes %u\n", behkuna_join(list, both - 1, joined, sizeof joined, &count));
     printf("join of a part %u", behkuna_agree(list, first, list, both, &block));
     printf(", they differ at block %u\n", block);
+    printf("newest of block 3: %u", behkuna_newest(list, both, 3, &newest));
+    printf(", version %u at place %u\n", newest.version, newest.place);
+    printf("newest of block 4: %u\n", behkuna_newest(list, both, 4, &newest));
     printf("the join agrees %u\n", behkuna_agree(list, both, joined, length, &block));
 }
 

@@ -33,7 +33,8 @@ enum behkuna_status {
     BEHKUNA_VERSION = 5,   /* a record has version 0 */
     BEHKUNA_NO_HEADER = 6, /* the bytes are no header */
     BEHKUNA_DIFFERS = 7,   /* two lists of records have different maps */
-    BEHKUNA_RANGE = 8      /* a number is out of its range */
+    BEHKUNA_RANGE = 8,     /* a number is out of its range */
+    BEHKUNA_ABSENT = 9     /* no record of the list has the block */
 };
 
 /* ---- Records ---------------------------------------------------------------------------------------------------------- */
@@ -84,9 +85,12 @@ uint32_t behkuna_header_encode(const struct behkuna_header *header, uint8_t byte
 
 /* ---- Lists of records, twelve bytes each ------------------------------------------------------------------------------ */
 
+/* A list of records is the form in which a block map crosses; the kit lets no pointer to a map cross to C. The order of its
+   records and duplicates in it mean nothing. A record appended to a list is taken into its map, and a list appended to
+   another is merged into it. behkuna_join gives the shortest list of the same map. */
+
 /* The newest record of each block of a list, in the blocks' order, as a list at the start of joined. *count is its length in
-   bytes. It depends neither on the order of the records nor on duplicates: the join of the lists of two controllers, one
-   after the other, is the map of both.
+   bytes.
    BEHKUNA_LENGTH: records_len is no multiple of 12, tested first. BEHKUNA_VERSION: a record has version 0. BEHKUNA_MEMORY.
    BEHKUNA_ROOM: joined_len is less than *count. But for BEHKUNA_DONE and BEHKUNA_ROOM *count is 0. */
 uint32_t behkuna_join(const uint8_t *records, size_t records_len, uint8_t *joined, size_t joined_len, size_t *count);
@@ -95,6 +99,10 @@ uint32_t behkuna_join(const uint8_t *records, size_t records_len, uint8_t *joine
    BEHKUNA_DIFFERS: they don't; *block is the lowest block of which they differ, and is written with this status alone.
    BEHKUNA_LENGTH, BEHKUNA_VERSION, BEHKUNA_MEMORY: as of behkuna_join, of ours before theirs. */
 uint32_t behkuna_agree(const uint8_t *ours, size_t ours_len, const uint8_t *theirs, size_t theirs_len, uint32_t *block);
+
+/* The newest record of one block of a list. It takes time by the list's length, and no memory.
+   BEHKUNA_ABSENT: no record has the block. BEHKUNA_LENGTH, BEHKUNA_VERSION: as of behkuna_join. */
+uint32_t behkuna_newest(const uint8_t *records, size_t records_len, uint32_t block, struct behkuna_record *record);
 
 /* ---- Geometry --------------------------------------------------------------------------------------------------------- */
 

@@ -48,6 +48,7 @@ pub struct Status(pub u32);
 pub const FAULT: u32 = 2;
 pub const ROOM: u32 = 3;
 pub const DIFFERS: u32 = 7;
+pub const ABSENT: u32 = 9;
 
 extern "C" {
     fn behkuna_record_encode(record: &Record, bytes: &mut [u8; 12]) -> u32;
@@ -58,6 +59,7 @@ extern "C" {
     fn behkuna_header_encode(header: &Header, bytes: &mut [u8; 32]) -> u32;
     fn behkuna_join(records: *const u8, records_len: usize, joined: *mut u8, joined_len: usize, count: &mut usize) -> u32;
     fn behkuna_agree(ours: *const u8, ours_len: usize, theirs: *const u8, theirs_len: usize, block: &mut u32) -> u32;
+    fn behkuna_newest(records: *const u8, records_len: usize, block: u32, record: &mut Record) -> u32;
     fn behkuna_slot_count(group_class: u32, members: u32, segments: u32, slots: &mut u16) -> u32;
     fn behkuna_two_copies(members: u32, segments: u32, index: u32, copies: &mut Copies) -> u32;
     fn behkuna_one_stripe(members: u32, segments: u32, index: u32, stripe: &mut Stripe) -> u32;
@@ -126,6 +128,15 @@ pub fn difference(ours: &[u8], theirs: &[u8]) -> Result<Option<u32>, Status> {
     match unsafe { behkuna_agree(ours.as_ptr(), ours.len(), theirs.as_ptr(), theirs.len(), &mut block) } {
         DIFFERS => Ok(Some(block)),
         status => if_done(status, None),
+    }
+}
+
+/// The newest record of a block in a list, if one has the block.
+pub fn newest(records: &[u8], block: u32) -> Result<Option<Record>, Status> {
+    let mut record = Record::default();
+    match unsafe { behkuna_newest(records.as_ptr(), records.len(), block, &mut record) } {
+        ABSENT => Ok(None),
+        status => if_done(status, Some(record)),
     }
 }
 

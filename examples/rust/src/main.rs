@@ -3,7 +3,7 @@
 mod behkuna;
 mod heap;
 
-use behkuna::{difference, join, one_stripe, run_script, slot_count, two_copies, xor_into, Header, Record, Status};
+use behkuna::{difference, join, newest, one_stripe, run_script, slot_count, two_copies, xor_into, Header, Record, Status};
 use std::collections::BTreeMap;
 
 const RECORD: usize = 12;
@@ -30,6 +30,7 @@ fn join_two_controllers() -> Result<(), Status> {
         println!("{newest:?} key {}", newest.key());
     }
     println!("part {:?}, join {:?}", difference(&ours, &both)?, difference(&both, &joined)?);
+    println!("block 3 {:?}, block 4 {:?}", newest(&both, 3)?, newest(&both, 4)?);
     println!("71 bytes {:?}, version 0 {:?}", join(&both[..71]), join(&[0; RECORD]));
     println!("{:?} {:?}", Record::of_key(3, 8_589_934_597)?, Record::of_key(3, 4_294_967_295));
     Ok(())
@@ -82,7 +83,7 @@ impl Random {
 
 fn join_many() -> Result<(), Status> {
     let mut random = Random(1);
-    let mut newest = BTreeMap::new();
+    let mut wanted = BTreeMap::new();
     let mut list = Vec::new();
     for _ in 0..20_000 {
         let one = record(
@@ -92,12 +93,12 @@ fn join_many() -> Result<(), Status> {
             random.below(65_536) as u16,
         );
         list.extend(one.encode()?);
-        let kept = newest.entry(one.block).or_insert(one);
+        let kept = wanted.entry(one.block).or_insert(one);
         if (one.version, one.hop, one.place) > (kept.version, kept.hop, kept.place) {
             *kept = one;
         }
     }
-    let wanted: Vec<Record> = newest.into_values().collect();
+    let wanted: Vec<Record> = wanted.into_values().collect();
     println!("20000 records as a BTreeMap {}", join(&list)? == list_of(&wanted)?);
     Ok(())
 }
