@@ -72,10 +72,12 @@ Joins is.Done bytes old new count = (joined : List ℕ) × IsJoinOf bytes joined
 Joins is.Room bytes old new count = (joined : List ℕ) × IsJoinOf bytes joined × LacksRoom joined old new count
 Joins status bytes old new count = Refuses status bytes × (new ≡ old) × (count ≡ 0)
 
--- two lists have one map, or the lowest block of which their maps differ; else that block is as before
+-- two lists have one map, or maps that differ, and then first at this block; or the first list is refused, or is one and the
+-- second is refused
 abbrev pub Compares : Status → List ℕ → List ℕ → ℕ → ℕ → Type 0
 Compares is.Done ours theirs old new =
     (mine yours : ℕ → ℕ) × IsMapOfBytes ours mine × IsMapOfBytes theirs yours × IsSame mine yours × (new ≡ old)
 Compares is.Differs ours theirs old new =
     (mine yours : ℕ → ℕ) × IsMapOfBytes ours mine × IsMapOfBytes theirs yours × IsLowestDifference mine yours new
-Compares status ours theirs old new = (Refuses status ours ⊎ Refuses status theirs) × (new ≡ old)
+Compares status ours theirs old new =
+    (Refuses status ours ⊎ (((mine : ℕ → ℕ) × IsMapOfBytes ours mine) × Refuses status theirs)) × (new ≡ old)

@@ -1,4 +1,4 @@
-use Rattle.std.proofs.Common.{rules, refl, sym, subst, ◌≡◌, ◌∙◌, Ok, Err}
+use Rattle.std.proofs.Common.{rules}
 use Rattle.behkuna.specs.declared.status.Status.TheVariants as is
 use Rattle.behkuna.proofs.header.behkuna_header_encode.Goals as goal
 

@@ -1,4 +1,4 @@
-use Rattle.std.proofs.Common.{rules, refl, sym, subst, ◌≡◌, ◌∙◌, Ok, Err}
+use Rattle.std.proofs.Common.{rules, refl}
 use Rattle.map_join.specs.Maps.{at}
 use Rattle.behkuna.specs.declared.status.Status.TheVariants as is
 use Rattle.behkuna.proofs.join.behkuna_agree.Goals as goal

@@ -1,4 +1,4 @@
-use Rattle.std.proofs.Common.{rules, subst, arith}
+use Rattle.std.proofs.Common.{rules, subst}
 use Rattle.std.proofs.lemmas.List.{take_all}
 use Rattle.map_join.specs.declared.records.Record.{Record}
 use Rattle.behkuna.specs.Lists.{AreRecords}

@@ -1,4 +1,4 @@
-use Rattle.std.proofs.Common.{rules, refl, sym, subst, ◌≡◌, ◌∙◌, Ok, Err}
+use Rattle.std.proofs.Common.{sym, subst}
 use Rattle.map_join.specs.Maps.{at}
 use Rattle.behkuna.specs.Lists.{AreWritten}
 use Rattle.behkuna.proofs.Lists.{written}

@@ -1,4 +1,4 @@
-use Rattle.std.proofs.Common.{rules, refl, ◌*◌, ◌/◌, ◌∷◌, [], ◌++◌, length, arith, subst}
+use Rattle.std.proofs.Common.{refl, ◌*◌, ◌∷◌, [], ◌++◌, arith, subst}
 use Rattle.std.proofs.lemmas.List.{take_all}
 use Rattle.behkuna.specs.Lists.{AreRecords}
 use Rattle.behkuna.proofs.Lists.{next}

@@ -1,4 +1,4 @@
-use Rattle.std.proofs.Common.{ℕ, ◌*◌, List, take}
+use Rattle.std.proofs.Common.{◌*◌, List, take}
 use Rattle.map_join.specs.declared.records.Record.{Record}
 use Rattle.map_join.specs.Maps.{at, IsMapOf}
 use Rattle.behkuna.specs.Lists.{AreRecords}
