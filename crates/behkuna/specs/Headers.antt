@@ -15,9 +15,14 @@ Shows seen Blank = seen.kind ≡ 0
 Shows seen (Is r Data) = (seen.kind ≡ 1) × (as_record seen.record ≡ r)
 Shows seen (Is r Trim) = (seen.kind ≡ 2) × (as_record seen.record ≡ r)
 
+-- the same of a header that was decoded: of a blank one the record is zeros
+abbrev pub Decoded : UnitHeader → Header → Type 0
+Decoded seen Blank = (seen.kind ≡ 0) × (as_record seen.record ≡ record { block = 0; version = 0; hop = 0; place = 0 })
+Decoded seen header = Shows seen header
+
 -- the bytes spell the header; where they spell none, it stays
 abbrev pub DecodesHeader : Status → List ℕ → UnitHeader → UnitHeader → Type 0
-DecodesHeader is.Done bytes old new = (header : Header) × Shows new header × Spells bytes header
+DecodesHeader is.Done bytes old new = (header : Header) × Decoded new header × Spells bytes header
 DecodesHeader is.NoHeader bytes old new = ((header : Header) → Spells bytes header → ⊥) × (new ≡ old)
 DecodesHeader _ bytes old new = ⊥
 

@@ -2,7 +2,7 @@
 ghost use Rattle.std.specs.Prelude.{IfOk, IfErr};
 ghost use Rattle.extents.specs.Header.{IsWritten};
 ghost use Rattle.behkuna.specs.Status.{Returns};
-ghost use Rattle.behkuna.specs.Headers.{DecodesHeader, EncodesHeader, IsNoHeader, Shows};
+ghost use Rattle.behkuna.specs.Headers.{Decoded, DecodesHeader, EncodesHeader, IsNoHeader, Shows};
 
 use crate::record::StampedRecord;
 use crate::status::Status;
@@ -28,7 +28,7 @@ pub struct UnitHeader {
 impl UnitHeader {
     /// The header's kind and record.
     fn of(header: Header) -> UnitHeader
-        ensures { Shows result header }
+        ensures { Decoded result header }
     {
         match header {
             Header::Blank => UnitHeader {
