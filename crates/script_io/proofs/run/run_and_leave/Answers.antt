@@ -6,5 +6,5 @@ use Rattle.script_io.proofs.run.run_and_leave.Goals as goal
 pub returns : goal.returns
 returns g c =
     let stands : Stands c.new-script.result.bench None = rw c.new-script.ensures.bench tt in
-    rw c.end.ensures (run_said c.turns.result _ _ c.new-script.result c.turns.new.script _ _ c.new-script.ensures.number c.new-script.ensures.line
+    rw c.end-end.ensures (run_said c.turns.result _ _ c.new-script.result c.turns.new.script _ _ c.new-script.ensures.number c.new-script.ensures.line
     (c.turns.ensures None stands))
