@@ -1,0 +1,20 @@
+use Rattle.std.proofs.Common.{refl, ◌*◌, ◌∷◌, [], ◌++◌, arith, subst}
+use Rattle.std.proofs.lemmas.List.{take_all}
+use Rattle.behkuna.specs.Lists.{AreRecords}
+use Rattle.behkuna.proofs.Lists.{next}
+use Rattle.behkuna.proofs.join.map_of.Goals as goal
+
+pub loop-index-init : goal.loop-index-init
+loop-index-init c = ([], refl, c.new-map.ensures.map_of)
+
+pub loop-index-preserved : goal.loop-index-preserved
+loop-index-preserved c =
+    let was = c.loop-index.invariant in
+    let told = c.in-Ok.ensures.ok in
+    (was.0 ++ c.in-Ok.record ∷ [], next c.args.records.now c.loop-index.index was.0 c.in-Ok.record was.1 told.0 told.1, c.in-Ok-take.ensures.map_of was.0 was.2)
+
+pub returns-clause-ok : goal.returns-clause-ok
+returns-clause-ok c =
+    let was = c.loop-index.invariant in
+    let whole = take_all (12 * c.loop-index.index) c.args.records.now (omega (arith, c.if-records-ne0.false, c.loop-index-test.false)) in
+    (was.0, subst (λ xs. AreRecords xs was.0) whole was.1, was.2)

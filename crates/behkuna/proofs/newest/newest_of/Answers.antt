@@ -1,0 +1,21 @@
+use Rattle.std.proofs.Common.{refl, ◌*◌, ◌∷◌, [], ◌++◌, arith, subst}
+use Rattle.std.proofs.lemmas.List.{take_all}
+use Rattle.behkuna.specs.Lists.{AreRecords}
+use Rattle.behkuna.proofs.Greatest.{nothing}
+use Rattle.behkuna.proofs.Lists.{next}
+use Rattle.behkuna.proofs.newest.newest_of.Goals as goal
+
+pub loop-index-init : goal.loop-index-init
+loop-index-init c = ([], refl, nothing c.args.block)
+
+pub loop-index-preserved : goal.loop-index-preserved
+loop-index-preserved c =
+    let was = c.loop-index.invariant in
+    let here = c.in-Ok.ensures.ok in
+    (was.0 ++ c.in-Ok.record ∷ [], next c.args.records.now c.loop-index.index was.0 c.in-Ok.record was.1 here.0 here.1, c.newer-newest.ensures was.0 was.2)
+
+pub returns-clause-ok : goal.returns-clause-ok
+returns-clause-ok c =
+    let was = c.loop-index.invariant in
+    let whole = take_all (12 * c.loop-index.index) c.args.records.now (omega (arith, c.if-records-ne0.false, c.loop-index-test.false)) in
+    (was.0, subst (λ xs. AreRecords xs was.0) whole was.1, was.2)

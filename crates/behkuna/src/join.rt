@@ -1,0 +1,120 @@
+// Joins of lists of records, twelve bytes each.
+ghost use Rattle.std.specs.Prelude.{◌≡◌, ◌<◌, ◌/◌, length, IfOk, IfErr};
+ghost use Rattle.map_join.specs.Record.{Spells};
+ghost use Rattle.behkuna.specs.declared.status.Status.TheVariants.{Version};
+ghost use Rattle.map_join.specs.Maps.{at};
+ghost use Rattle.behkuna.specs.Status.{Returns};
+ghost use Rattle.behkuna.specs.Lists.{AreRecords, AreWritten, Compares, HasVersionZero, IsJoinOf, IsMapOfBytes, Joins, Refuses, piece};
+
+use crate::bytes::put_out;
+use crate::status::Status;
+use map_join::{BlockMap, Record};
+use std::alloc::{AllocError, Global};
+
+/// Bytes of a record.
+pub(crate) const RECORD: usize = 12;
+
+// The record of this number in a list.
+pub(crate) fn record_at(records: &[u8], index: usize) -> Result<Record, Status>
+    requires { index < length records.now / RECORD }
+    ensures ok { IfOk result (λ r. Spells (piece records.now index) r × (0 < r.version)) }
+    ensures err { IfErr result (λ status. (status ≡ Version) × HasVersionZero records.now) }
+{
+    match Record::of_bytes(&records[RECORD * index..RECORD * index + RECORD]) {
+        Ok(record) => Ok(record),
+        Err(_) => Err(Status::Version),
+    }
+}
+
+// The map of a list of records.
+fn map_of(alloc: Global, records: &[u8]) -> Result<BlockMap, Status>
+    ensures ok { IfOk result (λ map. IsMapOfBytes records.now (at map)) }
+    ensures err { IfErr result (λ status. Refuses status records.now) }
+{
+    if records.len() % RECORD != 0 {
+        return Err(Status::Length);
+    }
+    let mut map = BlockMap::new(alloc);
+    for index in 0..records.len() / RECORD {
+        let record = match record_at(records, index) {
+            Ok(record) => record,
+            Err(status) => return Err(status),
+        };
+        let Ok(()) = map.take(alloc, record) else {
+            return Err(Status::Memory);
+        };
+    }
+    Ok(map)
+}
+
+// The bytes of a list of records.
+fn bytes_of(alloc: Global, records: &[Record]) -> Result<Vec<u8>, AllocError>
+    requires { AreWritten records.now }
+    ensures { IfOk result (λ bytes. AreRecords bytes.items records.now) }
+{
+    let mut bytes = Vec::new(alloc);
+    for record in records {
+        bytes.extend_from_slice(&record.to_bytes())?;
+    }
+    Ok(bytes)
+}
+
+// The join of a list of records.
+fn joined_of(alloc: Global, records: &[u8]) -> Result<Vec<u8>, Status>
+    ensures ok { IfOk result (λ joined. IsJoinOf records.now joined.items) }
+    ensures err { IfErr result (λ status. Refuses status records.now) }
+{
+    let map = match map_of(alloc, records) {
+        Ok(map) => map,
+        Err(status) => return Err(status),
+    };
+    let Ok(list) = map.to_list(alloc) else {
+        return Err(Status::Memory);
+    };
+    let Ok(bytes) = bytes_of(alloc, &list) else {
+        return Err(Status::Memory);
+    };
+    Ok(bytes)
+}
+
+/// The newest record of each block of a list of records, in the blocks' order, at the start of a buffer; the count is of bytes.
+/// Length, where the list has a part of a record; Version, where one of its records has version 0; Memory; Room, where the
+/// buffer is too short, and then the count says how many bytes are needed. But for Done the buffer stays, and but for Done and
+/// Room the count is 0.
+#[unsafe(no_mangle)]
+pub extern "C" fn behkuna_join(
+    alloc: Global,
+    records: &[u8],
+    joined: &mut [u8],
+    count: &mut usize,
+) -> u32
+    ensures { Returns result (λ status. Joins status records.now joined.old joined.new count.new) }
+{
+    *count = 0;
+    match joined_of(alloc, records) {
+        Ok(bytes) => put_out(&bytes, joined, count).number(),
+        Err(status) => status.number(),
+    }
+}
+
+/// Whether two lists of records have one map. Differs, where they don't, and then the lowest block of which their maps have
+/// different keys is written; Length, Version and Memory as `behkuna_join` has them, of the first list before the second. But
+/// for Differs the block stays.
+#[unsafe(no_mangle)]
+pub extern "C" fn behkuna_agree(alloc: Global, ours: &[u8], theirs: &[u8], block: &mut u32) -> u32
+    ensures { Returns result (λ status. Compares status ours.now theirs.now block.old block.new) }
+{
+    let ours = match map_of(alloc, ours) {
+        Ok(map) => map,
+        Err(status) => return status.number(),
+    };
+    let theirs = match map_of(alloc, theirs) {
+        Ok(map) => map,
+        Err(status) => return status.number(),
+    };
+    let Some(lowest) = ours.lowest_difference(&theirs) else {
+        return Status::Done.number();
+    };
+    *block = lowest;
+    Status::Differs.number()
+}

@@ -1,0 +1,69 @@
+// The newest record of one block in a list of records.
+ghost use Rattle.std.specs.Prelude.{◌≡◌, ◌<◌, ◌≤◌, ◌++◌, ◌∷◌, [], List, IfOk, IfErr};
+ghost use Rattle.map_join.specs.Record.{key_of};
+ghost use Rattle.behkuna.specs.Status.{Returns};
+ghost use Rattle.behkuna.specs.Lists.{AreRecords, IsNoList};
+ghost use Rattle.behkuna.specs.Newest.{FindsNewest, IsNewest};
+
+use crate::join::{RECORD, record_at};
+use crate::record::StampedRecord;
+use crate::status::Status;
+use map_join::Record;
+
+// The newest record of a block in a list that ends with this record, by the newest before it.
+fn newer(block: u32, newest: Option<Record>, record: Record) -> Option<Record>
+    ensures { (records : List Record) → IsNewest records block newest → IsNewest (records ++ «record» ∷ []) block result }
+{
+    if record.block != block {
+        return newest;
+    }
+    match newest {
+        Some(kept) => Some(later(kept, record)),
+        None => Some(record),
+    }
+}
+
+// The record of the greater key, the first where the keys are the same.
+fn later(kept: Record, record: Record) -> Record
+    ensures kept { key_of «record» ≤ key_of kept → result ≡ kept }
+    ensures newer { key_of kept < key_of «record» → result ≡ «record» }
+{
+    if record.key() <= kept.key() {
+        return kept;
+    }
+    record
+}
+
+// The newest record of a block in a list of records, if one has the block.
+fn newest_of(records: &[u8], block: u32) -> Result<Option<Record>, Status>
+    ensures ok { IfOk result (λ newest. (list : List Record) × AreRecords records.now list × IsNewest list block newest) }
+    ensures err { IfErr result (λ status. IsNoList status records.now) }
+{
+    if records.len() % RECORD != 0 {
+        return Err(Status::Length);
+    }
+    let mut newest = None;
+    for index in 0..records.len() / RECORD {
+        match record_at(records, index) {
+            Ok(record) => newest = newer(block, newest, record),
+            Err(status) => return Err(status),
+        }
+    }
+    Ok(newest)
+}
+
+/// The newest record of a block in a list of records, without memory. Absent, where none has the block; Length and Version as
+/// `behkuna_join` has them. But for Done the record stays.
+#[unsafe(no_mangle)]
+pub extern "C" fn behkuna_newest(records: &[u8], block: u32, record: &mut StampedRecord) -> u32
+    ensures { Returns result (λ status. FindsNewest status records.now block «record».old «record».new) }
+{
+    match newest_of(records, block) {
+        Ok(Some(newest)) => {
+            *record = StampedRecord::of(newest);
+            Status::Done.number()
+        }
+        Ok(None) => Status::Absent.number(),
+        Err(status) => status.number(),
+    }
+}

@@ -1,0 +1,37 @@
+// What a call comes to.
+ghost use Rattle.std.specs.Prelude.{◌≡◌};
+ghost use Rattle.behkuna.specs.Status.{number_of};
+
+/// What a call comes to. A call returns the number; `behkuna.h` has the numbers too.
+#[derive(Clone, Copy)]
+pub enum Status {
+    /// The call did what it is for.
+    Done = 0,
+    /// Bytes of another length than wanted.
+    Length = 1,
+    /// A line of the script is wrong: the answers up to it are there, and the fault after them.
+    Fault = 2,
+    /// The buffer is too short: the count says how many bytes are needed.
+    Room = 3,
+    /// Out of memory.
+    Memory = 4,
+    /// A record has version 0.
+    Version = 5,
+    /// The bytes are no header.
+    NoHeader = 6,
+    /// Two lists of records have different maps.
+    Differs = 7,
+    /// A number is out of its range.
+    Range = 8,
+    /// No record of the list has the block.
+    Absent = 9,
+}
+
+impl Status {
+    /// The status as a call returns it, 0 to 9.
+    pub fn number(self) -> u32
+        ensures { result ≡ number_of self }
+    {
+        self as u32
+    }
+}
