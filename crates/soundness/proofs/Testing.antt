@@ -9,11 +9,22 @@ use Rattle.extent_groups.specs.declared.class.Class.TheVariants.{Mirrored, Parit
 use Rattle.extent_groups.specs.declared.class.Member.{Member}
 use Rattle.extent_groups.specs.Geometry.{slot_count, stripe_of}
 use Rattle.extent_groups.specs.Groups.{Group, Groups, AreGroups, group_at, class_in, members_in, members_of}
-use Rattle.extent_groups.specs.Cells.{Cells}
-use Rattle.extent_groups.specs.Units.{Site, site_in, site_of, site_of_index, places_of, total, row_of, IsSoundAt}
+use Rattle.extent_groups.specs.Cells.{Cells, held}
+use Rattle.extent_groups.specs.declared.place.Place.{Place}
+use Rattle.extent_groups.specs.Calls.{DidRead}
+use Rattle.extent_groups.specs.Units.{Site, Pair, site_in, site_of, site_of_index, places_of, total, row_of, IsSoundAt}
 use Rattle.extent_groups.specs.Stores.{unit_bytes}
 use Rattle.extent_groups.proofs.LayoutLaw.{slot_of}
 use Rattle.soundness.specs.Sound.{IsAnswer, IsSoundSlot, AreSoundBelow}
+
+-- two places were read: a pair is sound exactly where their units are equal
+pub pair_sound : (n : ℕ) (c one two : Cells) (p q : Place) (u v : List ℕ) (b : Bool) → DidRead c one p u true → DidRead one two q v true → (IsTrue b → u ≡ v) → (u ≡ v → IsTrue b)
+    → (IsTrue b ↔ IsSoundAt n two (Pair p q))
+pair_sound n c one two p q u v b first second same is =
+    let here : held two p ≡ Some u = second.same refl p ∙ first.here in (
+      λ yes x y ex ey. sym (same_Some u x (sym here ∙ ex)) ∙ same yes ∙ same_Some v y (sym second.here ∙ ey),
+      λ sound. is (sound u v here second.here),
+    )
 
 -- a test of a slot's site is one of the slot
 pub tested : (t : Groups) (c : Cells) (slot n : ℕ) (site : Site) (b : Bool) → site_of t slot ≡ Some site → n ≡ unit_bytes t → (IsTrue b ↔ IsSoundAt n c site) → IsAnswer t c slot b
