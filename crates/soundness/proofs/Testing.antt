@@ -1,7 +1,6 @@
 -- What a test of a site says of its slot, and that the slots of a row are as sound as the lowest of them.
 use Rattle.std.proofs.Common.{◌≡◌, ◌≢◌, ℕ, ◌+◌, ◌-◌, ◌*◌, ◌/◌, ◌%◌, ◌<◌, ◌≤◌, Bool, true, false, Some, None, List, length, refl, sym, ◌∙◌, ap, subst, arith, nat_lt, if◌then◌else◌}
 use Rattle.std.specs.Prelude.{IsTrue, ◌↔◌, replicate}
-use Rattle.std.specs.Bool.{MatchBool}
 use Rattle.std.proofs.Math.Nat.{mod-eq-sub-mul-div, mod-le, mul-div-le, mul-div_cancel_left}
 use Rattle.std.proofs.lemmas.Bool.Decides.{nat_tests}
 use Rattle.std.proofs.lemmas.Option.{same_Some}
@@ -10,15 +9,25 @@ use Rattle.extent_groups.specs.declared.class.Class.TheVariants.{Mirrored, Parit
 use Rattle.extent_groups.specs.declared.class.Member.{Member}
 use Rattle.extent_groups.specs.Geometry.{slot_count, stripe_of}
 use Rattle.extent_groups.specs.Groups.{Group, Groups, AreGroups, group_at, class_in, members_in, members_of}
-use Rattle.extent_groups.specs.Cells.{Cells}
-use Rattle.extent_groups.specs.Units.{Site, site_in, site_of, site_of_index, places_of, total, row_of, IsSoundAt}
+use Rattle.extent_groups.specs.Cells.{Cells, held}
+use Rattle.extent_groups.specs.declared.place.Place.{Place}
+use Rattle.extent_groups.specs.Calls.{DidRead}
+use Rattle.extent_groups.specs.Units.{Site, Pair, site_in, site_of, site_of_index, places_of, total, row_of, IsSoundAt}
 use Rattle.extent_groups.specs.Stores.{unit_bytes}
 use Rattle.extent_groups.proofs.LayoutLaw.{slot_of}
-use Rattle.soundness.specs.Sound.{IsSoundSlot, IsUnsoundSlot, AreSoundBelow}
+use Rattle.soundness.specs.Sound.{IsAnswer, IsSoundSlot, AreSoundBelow}
+
+-- two places were read: a pair is sound exactly where their units are equal
+pub pair_sound : (n : ℕ) (c one two : Cells) (p q : Place) (u v : List ℕ) (b : Bool) → DidRead c one p u true → DidRead one two q v true → (IsTrue b → u ≡ v) → (u ≡ v → IsTrue b)
+    → (IsTrue b ↔ IsSoundAt n two (Pair p q))
+pair_sound n c one two p q u v b first second same is =
+    let here : held two p ≡ Some u = second.same refl p ∙ first.here in (
+      λ yes x y ex ey. sym (same_Some u x (sym here ∙ ex)) ∙ same yes ∙ same_Some v y (sym second.here ∙ ey),
+      λ sound. is (sound u v here second.here),
+    )
 
 -- a test of a slot's site is one of the slot
-pub tested : (t : Groups) (c : Cells) (slot n : ℕ) (site : Site) (b : Bool) → site_of t slot ≡ Some site → n ≡ unit_bytes t → (IsTrue b ↔ IsSoundAt n c site)
-    → MatchBool b (IsSoundSlot t c slot) (IsUnsoundSlot t c slot)
+pub tested : (t : Groups) (c : Cells) (slot n : ℕ) (site : Site) (b : Bool) → site_of t slot ≡ Some site → n ≡ unit_bytes t → (IsTrue b ↔ IsSoundAt n c site) → IsAnswer t c slot b
 tested t c slot n site true at size iff = λ other there.
     subst (IsSoundAt (unit_bytes t) c) (same_Some _ _ (sym at ∙ there)) (subst (λ m. IsSoundAt m c site) size (iff.0 refl))
 tested t c slot n site false at size iff = (site, at, λ sound. let both : false ≡ true = iff.1 (subst (λ m. IsSoundAt m c site) (sym size) sound) in cc)

@@ -1,5 +1,6 @@
 -- Which slots are sound, and which is the lowest that isn't.
-use Rattle.std.specs.Prelude.{◌≡◌, ℕ, ◌<◌, Some}
+use Rattle.std.specs.Prelude.{◌≡◌, ℕ, ◌<◌, Bool, Some}
+use Rattle.std.specs.Bool.{MatchBool}
 use Rattle.extent_groups.specs.Groups.{Groups}
 use Rattle.extent_groups.specs.Cells.{Cells}
 use Rattle.extent_groups.specs.Units.{Site, site_of, IsSoundAt}
@@ -12,6 +13,10 @@ IsSoundSlot groups c slot = (site : Site) → site_of groups slot ≡ Some site 
 -- the slot has a site, and that isn't sound
 abbrev pub IsUnsoundSlot : Groups → Cells → ℕ → Type 0
 IsUnsoundSlot groups c slot = (site : Site) × (site_of groups slot ≡ Some site) × (IsSoundAt (unit_bytes groups) c site → ⊥)
+
+-- the answer says whether the slot is sound
+abbrev pub IsAnswer : Groups → Cells → ℕ → Bool → Type 0
+IsAnswer groups c slot answer = MatchBool answer (IsSoundSlot groups c slot) (IsUnsoundSlot groups c slot)
 
 -- every slot below this one is sound
 abbrev pub AreSoundBelow : Groups → Cells → ℕ → Type 0

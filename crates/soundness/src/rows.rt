@@ -20,7 +20,8 @@ fn add_row<D: Drive>(
 ) -> bool
     requires laid { IsLaid D.units groups.now group offset (length sum.old) drives.old }
     requires part { length part.old ≡ length sum.old }
-    ensures sum { total (length sum.old) (length (row_at groups.now group offset)) (row_of (cells D.units D.lost drives.new) (row_at groups.now group offset)) ≡ if_ok result sum.new }
+    ensures sum { total (length sum.old) (length (row_at groups.now group offset))
+        (row_of (cells D.units D.lost drives.new) (row_at groups.now group offset)) ≡ if_ok result sum.new }
     ensures touched { KeepsDrives D.units D.lost D.failures NoPlace drives.old drives.new }
 {
     sum.fill(0);
@@ -53,7 +54,8 @@ pub(crate) fn is_row_sound<D: Drive>(
 ) -> bool
     requires laid { IsLaid D.units groups.now group at.now.offset (length sum.old) drives.old }
     requires part { length part.old ≡ length sum.old }
-    ensures sound { IsTrue result ↔ IsSoundAt (length sum.old) (cells D.units D.lost drives.new) (InStripe (row_at groups.now group at.now.offset) at.now.parity at.now.member) }
+    ensures sound { IsTrue result
+        ↔ IsSoundAt (length sum.old) (cells D.units D.lost drives.new) (InStripe (row_at groups.now group at.now.offset) at.now.parity at.now.member) }
     ensures touched { KeepsDrives D.units D.lost D.failures NoPlace drives.old drives.new }
 {
     if !add_row(groups, drives, group, at.offset, sum, part) {

@@ -1,6 +1,5 @@
 // Whether a slot is sound, and the lowest that isn't.
 ghost use Rattle.std.specs.Prelude.{◌≡◌, ◌+◌, ◌*◌, false, length, IsTrue, IfSome, IsNone};
-ghost use Rattle.std.specs.Bool.{MatchBool};
 ghost use Rattle.extent_groups.specs.Groups.{AreGroups};
 ghost use Rattle.extent_groups.specs.Cells.{cells};
 ghost use Rattle.extent_groups.specs.Calls.{NoPlace, KeepsDrives};
@@ -8,7 +7,7 @@ ghost use Rattle.extent_groups.specs.Stores.{unit_bytes, AreDrives, AreSound};
 ghost use Rattle.array_parts.specs.Fit.{IsFit};
 ghost use Rattle.array_parts.specs.Losses.{AllFare, LosesOnly};
 ghost use Rattle.array_parts.specs.Slots.{IsSlot, cells_in};
-ghost use Rattle.soundness.specs.Sound.{AreSoundBelow, IsFirstUnsound, IsSoundSlot, IsUnsoundSlot};
+ghost use Rattle.soundness.specs.Sound.{AreSoundBelow, IsAnswer, IsFirstUnsound, IsSoundSlot, IsUnsoundSlot};
 
 use crate::slots::{is_lowest, is_slot_sound};
 use array_parts::Parts;
@@ -27,7 +26,8 @@ fn test_slot<D: Drive>(
     requires drives { AreDrives D.units groups.now drives.old }
     requires unit { length unit.old ≡ unit_bytes groups.now }
     requires other { length other.old ≡ unit_bytes groups.now }
-    ensures sound { IsTrue result → AreSoundBelow groups.now (cells D.units D.lost drives.new) slot → IsSoundSlot groups.now (cells D.units D.lost drives.new) slot }
+    ensures sound { IsTrue result → AreSoundBelow groups.now (cells D.units D.lost drives.new) slot
+        → IsSoundSlot groups.now (cells D.units D.lost drives.new) slot }
     ensures unsound { result ≡ false → IsUnsoundSlot groups.now (cells D.units D.lost drives.new) slot }
     ensures touched { KeepsDrives D.units D.lost D.failures NoPlace drives.old drives.new }
 {
@@ -49,8 +49,10 @@ fn first_of_group<D: Drive>(
     requires drives { AreDrives D.units groups.now drives.old }
     requires unit { length unit.old ≡ unit_bytes groups.now }
     requires other { length other.old ≡ unit_bytes groups.now }
-    ensures some { AreSoundBelow groups.now (cells D.units D.lost drives.old) (128 * group) → IfSome result (IsFirstUnsound groups.now (cells D.units D.lost drives.new)) }
-    ensures none { AreSoundBelow groups.now (cells D.units D.lost drives.old) (128 * group) → IsNone result → AreSoundBelow groups.now (cells D.units D.lost drives.new) (128 * group + 128) }
+    ensures some { AreSoundBelow groups.now (cells D.units D.lost drives.old) (128 * group)
+        → IfSome result (IsFirstUnsound groups.now (cells D.units D.lost drives.new)) }
+    ensures none { AreSoundBelow groups.now (cells D.units D.lost drives.old) (128 * group)
+        → IsNone result → AreSoundBelow groups.now (cells D.units D.lost drives.new) (128 * group + 128) }
     ensures touched { KeepsDrives D.units D.lost D.failures NoPlace drives.old drives.new }
 {
     for index in 0..groups.slots_of(group) {
@@ -99,7 +101,7 @@ pub fn is_sound<D: Drive>(
     requires slot { IsSlot parts.old.groups slot }
     requires unit { length unit.old ≡ unit_bytes parts.old.groups }
     requires other { length other.old ≡ unit_bytes parts.old.groups }
-    ensures sound { MatchBool result (IsSoundSlot parts.new.groups (cells_in D.units D.lost parts.new) slot) (IsUnsoundSlot parts.new.groups (cells_in D.units D.lost parts.new) slot) }
+    ensures sound { IsAnswer parts.new.groups (cells_in D.units D.lost parts.new) slot result }
     ensures only { LosesOnly D.units D.lost D.failures parts.old parts.new }
     ensures fares { AllFare D.lost D.failures parts.old.drives.items parts.new.drives.items }
     ensures fit { IsFit D.units parts.new }

@@ -1,12 +1,11 @@
 // One slot of either class.
 ghost use Rattle.std.specs.Prelude.{◌≡◌, false, length};
-ghost use Rattle.std.specs.Bool.{MatchBool};
 ghost use Rattle.extent_groups.specs.declared.class.Class.TheVariants.{Mirrored, Parity};
 ghost use Rattle.extent_groups.specs.Cells.{Cells, cells};
 ghost use Rattle.extent_groups.specs.Calls.{NoPlace, KeepsDrives};
 ghost use Rattle.extent_groups.specs.Stores.{unit_bytes, IsSlotOf, AreDrives};
 ghost use Rattle.array_parts.specs.Slots.{IsSlot};
-ghost use Rattle.soundness.specs.Sound.{IsSoundSlot, IsUnsoundSlot, AreSoundBelow};
+ghost use Rattle.soundness.specs.Sound.{IsAnswer, IsSoundSlot, AreSoundBelow};
 
 use crate::pairs::is_pair_sound;
 use crate::rows::is_row_sound;
@@ -25,7 +24,7 @@ fn is_mirrored_sound<D: Drive>(
     requires drives { AreDrives D.units groups.now drives.old }
     requires unit { length unit.old ≡ unit_bytes groups.now }
     requires other { length other.old ≡ unit_bytes groups.now }
-    ensures sound { MatchBool result (IsSoundSlot groups.now (cells D.units D.lost drives.new) slot) (IsUnsoundSlot groups.now (cells D.units D.lost drives.new) slot) }
+    ensures sound { IsAnswer groups.now (cells D.units D.lost drives.new) slot result }
     ensures touched { KeepsDrives D.units D.lost D.failures NoPlace drives.old drives.new }
 {
     let (first, second) = groups.pair_of(slot);
@@ -44,7 +43,7 @@ fn is_parity_sound<D: Drive>(
     requires drives { AreDrives D.units groups.now drives.old }
     requires unit { length unit.old ≡ unit_bytes groups.now }
     requires other { length other.old ≡ unit_bytes groups.now }
-    ensures sound { MatchBool result (IsSoundSlot groups.now (cells D.units D.lost drives.new) slot) (IsUnsoundSlot groups.now (cells D.units D.lost drives.new) slot) }
+    ensures sound { IsAnswer groups.now (cells D.units D.lost drives.new) slot result }
     ensures touched { KeepsDrives D.units D.lost D.failures NoPlace drives.old drives.new }
 {
     let at = groups.row_of(slot);
@@ -63,7 +62,7 @@ pub(crate) fn is_slot_sound<D: Drive>(
     requires drives { AreDrives D.units groups.now drives.old }
     requires unit { length unit.old ≡ unit_bytes groups.now }
     requires other { length other.old ≡ unit_bytes groups.now }
-    ensures sound { MatchBool result (IsSoundSlot groups.now (cells D.units D.lost drives.new) slot) (IsUnsoundSlot groups.now (cells D.units D.lost drives.new) slot) }
+    ensures sound { IsAnswer groups.now (cells D.units D.lost drives.new) slot result }
     ensures touched { KeepsDrives D.units D.lost D.failures NoPlace drives.old drives.new }
     ensures drives { AreDrives D.units groups.now drives.new }
 {

@@ -1,8 +1,8 @@
-use Rattle.std.proofs.Common.{◌+◌, length, refl, ap, arith, ◌∙◌}
+use Rattle.std.proofs.Common.{◌+◌, length, refl, ap, arith, rules, ◌∙◌}
 use Rattle.std.proofs.lemmas.List.{length-map}
 use Rattle.extent_groups.specs.Groups.{members_of}
 use Rattle.extent_groups.specs.Units.{place_of}
-use Rattle.extent_groups.proofs.DriveCalls.{keeps_place, keeps_trans}
+use Rattle.extent_groups.proofs.DriveCalls.{keeps_none, keeps_place, keeps_trans}
 use Rattle.parity_store.proofs.Laid.{still_laid}
 use Rattle.soundness.proofs.Adding.{row_more, row_missing}
 use Rattle.soundness.proofs.rows.add_row.Goals as goal
@@ -26,3 +26,6 @@ loop-number-preserved g c = record {
   sum = row_more _ c.loop-number.number (c.loop-number.number + 1) _ _ _ c.place-place.result c.loop-number.sum c.read_place.new.unit c.xor_into.new.into refl c.place-place.ensures.place c.if-not-read_place.ensures.read c.loop-number.invariant.sum c.xor_into.ensures;
   touched = keeps_trans c.loop-number.invariant.touched c.read_place.ensures.drives;
 }
+
+pub loop-number-init : goal.loop-number-init
+loop-number-init g c = record { sum = search rules; touched = keeps_none c.args.drives.now }
