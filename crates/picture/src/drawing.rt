@@ -230,7 +230,7 @@ fn put_page(out: &mut String, width: u32, height: u32) -> Result<(), AllocError>
 /// An SVG document that shows of each unit what it is, of each live unit its block, which drives are lost and where the log ends.
 /// The first 16 drives are drawn. A drive past the end of `lost` isn't lost. A red unit with a question mark has an owner that
 /// doesn't have its extent as a member. The document is 560 to 1,582 pixels wide and at most 9,500 high. It has at most 160 bytes
-/// for each unit of a group, 400 for each extent and 5,000 for the rest. Refused exactly where an allocation fails.
+/// for each unit of a group, 400 for each extent and 9,000 for the rest. Refused exactly where an allocation fails.
 pub fn draw(
     alloc: Global,
     groups: &GroupTable,
