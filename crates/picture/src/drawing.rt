@@ -6,9 +6,9 @@ ghost use Rattle.extents.specs.Sizes.{extent_units};
 use crate::blocks::blocks_by_slot;
 use crate::legend::{legend_height, put_legend};
 use crate::mark::{Mark, mark_of};
-use crate::shapes::{put_cross, put_frame, put_rect, put_strip, put_unit};
+use crate::shapes::{put_box, put_cross, put_frame, put_rect, put_unit};
 use crate::style::{
-    CELL, EXTENT, FREE, LINE, MARGIN, NUMBERS, PITCH, Rows, STRIP, TOP, Tint, WHITE, tint_of,
+    CELL, EXTENT, FREE, MARGIN, NUMBERS, PITCH, Rows, STRIP, TOP, Tint, WHITE, tint_of,
 };
 use extent_groups::{Class, GROUPS, GroupTable, SLOTS};
 use extents::{DRIVES, ExtentTable};
@@ -83,8 +83,7 @@ fn put_members(
     requires { IsExtent scene.now.extents.now drive extent }
 {
     let tint = tint_of(scene.groups, group);
-    put_rect(out, 0, 0, EXTENT, scene.rows.height, LINE)?;
-    put_strip(out, group, tint.dark, scene.rows.height)?;
+    put_box(out, group, tint, EXTENT, scene.rows.height)?;
     if scene.is_write_group(group) {
         put_frame(out, 0, 0, STRIP - 1, scene.rows.height)?;
     }
@@ -114,15 +113,11 @@ fn put_extent(out: &mut String, scene: &Scene<'_>, drive: u8, extent: u16) -> Re
 
 // A drive's name, above its column.
 fn put_name(out: &mut String, drive: u8, lost: bool) -> Result<(), AllocError> {
-    if lost {
-        return write!(
-            out,
-            "<text x=\"41\" y=\"-8\" font-size=\"11\" fill=\"#b8322a\">drive {drive}, lost</text>\n"
-        );
-    }
+    let style = if lost { "fill=\"#b8322a\"" } else { "" };
+    let state = if lost { ", lost" } else { "" };
     write!(
         out,
-        "<text x=\"41\" y=\"-8\" font-size=\"11\">drive {drive}</text>\n"
+        "<text x=\"41\" y=\"-8\" font-size=\"11\" {style}>drive {drive}{state}</text>\n"
     )
 }
 
@@ -147,16 +142,15 @@ fn put_drive(out: &mut String, scene: &Scene<'_>, drive: u8, lost: bool) -> Resu
 
 // The extents' numbers, at least 10 pixels apart.
 fn put_numbers(out: &mut String, rows: Rows) -> Result<(), AllocError> {
-    let x = MARGIN + NUMBERS - 8;
-    let y = TOP + rows.height / 2;
+    let y = TOP + rows.height / 2 + 3;
     let step = 10 / rows.pitch.max(1) + 1;
     write!(
         out,
-        "<g transform=\"translate({x} {y})\" text-anchor=\"end\" fill=\"#616e7c\">\n"
+        "<g transform=\"translate(46 {y})\" text-anchor=\"end\" fill=\"#616e7c\">\n"
     )?;
     for extent in 0..rows.extents {
         if extent % step == 0 {
-            let foot = u32::from(extent) * u32::from(rows.pitch) + 3;
+            let foot = u32::from(extent) * u32::from(rows.pitch);
             write!(out, "<text y=\"{foot}\">{extent}</text>\n")?;
         }
     }
@@ -164,31 +158,50 @@ fn put_numbers(out: &mut String, rows: Rows) -> Result<(), AllocError> {
 }
 
 // How many groups are of a class.
-fn count_groups(groups: &GroupTable, class: Class) -> usize {
-    (0..GROUPS as u16)
-        .filter(|group| groups.class_of(*group) == Some(class))
-        .count()
+fn count_groups(groups: &GroupTable, class: Class) -> u16 {
+    let mut count = 0u16;
+    for group in 0..GROUPS as u16 {
+        if groups.class_of(group) == Some(class) {
+            count = count.saturating_add(1);
+        }
+    }
+    count
+}
+
+// How many slots have a live block.
+fn count_live(blocks: &[Option<u32>]) -> u32 {
+    let mut count = 0u32;
+    for block in blocks {
+        if block.is_some() {
+            count = count.saturating_add(1);
+        }
+    }
+    count
 }
 
 // The titles.
 fn put_titles(out: &mut String, scene: &Scene<'_>, drives: usize) -> Result<(), AllocError> {
+    write!(
+        out,
+        "<g text-anchor=\"start\" font-size=\"11\">\n<text x=\"24\" y=\"32\" font-size=\"16\" font-weight=\"bold\">Array of {drives} drives</text>\n"
+    )?;
+    put_sizes(out, scene)?;
+    put_groups(out, scene.groups)?;
+    write!(
+        out,
+        "</g>\n<text x=\"46\" y=\"100\" text-anchor=\"end\" fill=\"#616e7c\">extent</text>\n"
+    )
+}
+
+// The sizes of a drive, and how many blocks are live.
+fn put_sizes(out: &mut String, scene: &Scene<'_>) -> Result<(), AllocError> {
     let extents = scene.groups.shape().extents;
     let segments = scene.groups.shape().segments;
-    let live = scene.blocks.iter().filter(|block| block.is_some()).count();
+    let live = count_live(scene.blocks);
     write!(
         out,
-        "<text x=\"46\" y=\"100\" text-anchor=\"end\" fill=\"#616e7c\">extent</text>\n"
-    )?;
-    write!(
-        out,
-        "<g text-anchor=\"start\" font-size=\"11\">\n<text x=\"{MARGIN}\" y=\"32\" font-size=\"16\" font-weight=\"bold\">Array of {drives} drives</text>\n"
-    )?;
-    write!(
-        out,
-        "<text x=\"{MARGIN}\" y=\"50\">Extents of a drive: {extents}. Segments of an extent: {segments}. Live blocks: {live}.</text>\n"
-    )?;
-    put_groups(out, scene.groups)?;
-    write!(out, "</g>\n")
+        "<text x=\"24\" y=\"50\">Extents of a drive: {extents}. Segments of an extent: {segments}. Live blocks: {live}.</text>\n"
+    )
 }
 
 // How many groups of each class there are, with the colours of the class.
@@ -197,7 +210,7 @@ fn put_groups(out: &mut String, groups: &GroupTable) -> Result<(), AllocError> {
     let parity = count_groups(groups, Class::Parity);
     write!(
         out,
-        "<text x=\"{MARGIN}\" y=\"66\">Mirrored groups (blue to violet): {mirrored}. Parity groups (green to brown): {parity}.</text>\n"
+        "<text x=\"24\" y=\"66\">Mirrored groups (blue to violet): {mirrored}. Parity groups (green to brown): {parity}.</text>\n"
     )
 }
 
@@ -217,7 +230,7 @@ fn put_page(out: &mut String, width: u32, height: u32) -> Result<(), AllocError>
 /// An SVG document that shows of each unit what it is, of each live unit its block, which drives are lost and where the log ends.
 /// The first 16 drives are drawn. A drive past the end of `lost` isn't lost. A red unit with a question mark has an owner that
 /// doesn't have its extent as a member. The document is 560 to 1,582 pixels wide and at most 9,500 high. It has at most 160 bytes
-/// for each unit of a group, 400 for each extent and 5,000 for the rest. Refused exactly where an allocation fails.
+/// for each unit of a group, 400 for each extent and 9,000 for the rest. Refused exactly where an allocation fails.
 pub fn draw(
     alloc: Global,
     groups: &GroupTable,

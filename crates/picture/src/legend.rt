@@ -2,8 +2,8 @@
 ghost use Rattle.std.specs.Prelude.{◌≤◌};
 
 use crate::mark::Mark;
-use crate::shapes::{put_cross, put_frame, put_rect, put_strip, put_unit};
-use crate::style::{BLUE, CELL, FREE, GREEN, LINE, MARGIN, STRIP, Tint};
+use crate::shapes::{put_box, put_cross, put_frame, put_rect, put_unit};
+use crate::style::{BLUE, CELL, FREE, GREEN, MARGIN, STRIP, Tint};
 use std::alloc::AllocError;
 
 /// The width of an entry.
@@ -63,8 +63,7 @@ pub(crate) fn legend_height(width: u32) -> u32 {
 fn put_sample(out: &mut String, sample: Sample) -> Result<(), AllocError> {
     match sample {
         Sample::Unit(mark, group, tint) => {
-            put_rect(out, 0, 0, STRIP + CELL, 15, LINE)?;
-            put_strip(out, group, tint.dark, 15)?;
+            put_box(out, group, tint, STRIP + CELL, 15)?;
             put_unit(out, mark, tint, 0, 14)
         }
         Sample::Free => put_rect(out, 0, 0, STRIP + CELL, 15, FREE),

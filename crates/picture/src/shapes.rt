@@ -1,6 +1,6 @@
 // What the picture is made of, appended to its text.
 use crate::mark::Mark;
-use crate::style::{CELL, FREE, GREY, RED, STRIP, Tint, WHITE};
+use crate::style::{CELL, FREE, GREY, LINE, RED, STRIP, Tint, WHITE};
 use std::alloc::AllocError;
 
 // A filled rectangle.
@@ -36,30 +36,44 @@ pub(crate) fn put_frame(
 pub(crate) fn put_cross(out: &mut String, width: u32, height: u32) -> Result<(), AllocError> {
     write!(
         out,
-        "<rect width=\"{width}\" height=\"{height}\" fill=\"#{RED:06x}\" fill-opacity=\"0.12\"/>\n"
-    )?;
-    write!(
-        out,
-        "<path d=\"M0 0L{width} {height}M{width} 0L0 {height}\" stroke=\"#{RED:06x}\" stroke-width=\"2.5\" fill=\"none\"/>\n"
+        "<path d=\"M0 0L{width} {height}V0L0 {height}Z\" stroke=\"#b8322a\" stroke-width=\"2\" fill=\"#b8322a\" fill-opacity=\"0.15\"/>\n"
     )
 }
 
-// A group's number, in the strip left of an extent of this height.
-pub(crate) fn put_strip(
+// A number, in the middle above a place, with an attribute for its style.
+fn put_number(
+    out: &mut String,
+    x: u32,
+    y: u32,
+    style: &str,
+    number: u32,
+) -> Result<(), AllocError> {
+    write!(out, "<text x=\"{x}\" y=\"{y}\" {style}>{number}</text>\n")
+}
+
+// A character, in the middle above a place.
+fn put_letter(out: &mut String, x: u32, y: u32, ink: u32, letter: &str) -> Result<(), AllocError> {
+    write!(
+        out,
+        "<text x=\"{x}\" y=\"{y}\" fill=\"#{ink:06x}\">{letter}</text>\n"
+    )
+}
+
+// The box of an extent, with its group's number in a strip left of its units.
+pub(crate) fn put_box(
     out: &mut String,
     group: u16,
-    dark: u32,
+    tint: Tint,
+    width: u32,
     height: u32,
 ) -> Result<(), AllocError> {
-    put_rect(out, 0, 0, STRIP - 1, height, dark)?;
+    put_rect(out, 0, 0, width, height, LINE)?;
+    put_rect(out, 0, 0, STRIP - 1, height, tint.dark)?;
     if height < 10 {
         return Ok(());
     }
-    let y = height / 2 + 3;
-    write!(
-        out,
-        "<text x=\"10\" y=\"{y}\" fill=\"#ffffff\" font-weight=\"bold\">{group}</text>\n"
-    )
+    let style = "fill=\"#ffffff\" font-weight=\"bold\"";
+    put_number(out, 10, height / 2 + 3, style, u32::from(group))
 }
 
 // The colour of a unit.
@@ -75,20 +89,16 @@ fn fill_of(mark: Mark, tint: Tint) -> u32 {
     }
 }
 
-// What is written into a unit, with the middle of its foot at a place.
+// What is written into a unit, in the middle above a place.
 fn put_word(out: &mut String, mark: Mark, dark: u32, x: u32, y: u32) -> Result<(), AllocError> {
     match mark {
-        Mark::Unit(_, Some(block)) => write!(out, "<text x=\"{x}\" y=\"{y}\">{block}</text>\n"),
-        Mark::SecondCopy(_, Some(block)) => write!(
-            out,
-            "<text x=\"{x}\" y=\"{y}\" fill=\"#{dark:06x}\" font-style=\"italic\">{block}</text>\n"
-        ),
-        Mark::Unit(_, None) | Mark::SecondCopy(_, None) => write!(
-            out,
-            "<text x=\"{x}\" y=\"{y}\" fill=\"#{dark:06x}\">&#183;</text>\n"
-        ),
-        Mark::Parity(_) => write!(out, "<text x=\"{x}\" y=\"{y}\" fill=\"#ffffff\">P</text>\n"),
-        Mark::Stray(_) => write!(out, "<text x=\"{x}\" y=\"{y}\" fill=\"#ffffff\">?</text>\n"),
+        Mark::Unit(_, Some(block)) => put_number(out, x, y, "", block),
+        Mark::SecondCopy(_, Some(block)) => {
+            put_number(out, x, y, "fill=\"#3e4c59\" font-style=\"italic\"", block)
+        }
+        Mark::Unit(_, None) | Mark::SecondCopy(_, None) => put_letter(out, x, y, dark, "&#183;"),
+        Mark::Parity(_) => put_letter(out, x, y, WHITE, "P"),
+        Mark::Stray(_) => put_letter(out, x, y, WHITE, "?"),
         Mark::Free | Mark::Unused(_) => Ok(()),
     }
 }

@@ -161,7 +161,7 @@ impl Rows {
             line,
             height: u32::from(height) + 1,
             pitch: height + gap,
-            total: shape.extents * u32::from(height + gap),
+            total: shape.extents.saturating_mul(u32::from(height + gap)),
         }
     }
 }
