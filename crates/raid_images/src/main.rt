@@ -36,7 +36,10 @@ fn ended(rt: &HostRuntime, trouble: Trouble, files: Option<Files<'_>>) -> ExitCo
 
 // Does what the words ask for.
 fn run(rt: &HostRuntime, matches: &ArgMatches<'_>) -> ExitCode {
-    let Some((verb, given)) = matches.subcommand() else {
+    let Some(verb) = matches.subcommand_name() else {
+        return ended(rt, Trouble::Words, None);
+    };
+    let Some(given) = matches.subcommand_matches(verb) else {
         return ended(rt, Trouble::Words, None);
     };
     let files = match files_of(given) {
