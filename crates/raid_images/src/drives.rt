@@ -26,7 +26,7 @@ fn unread(error: &io::Error, file: usize) -> Trouble {
 /// The bytes of a file, which is given by its number among the files.
 pub(crate) fn bytes_of(
     rt: &HostRuntime,
-    files: Files<'_>,
+    files: Files<'_, '_>,
     file: usize,
 ) -> Result<Vec<u8>, Trouble> {
     match fs::read(rt, files.name(file)) {
@@ -45,7 +45,7 @@ fn lost(alloc: Global, shape: &Shape) -> Result<MemDrive, Trouble> {
 // The drive of an image.
 fn drive_of(
     rt: &HostRuntime,
-    files: Files<'_>,
+    files: Files<'_, '_>,
     file: usize,
     shape: &Shape,
 ) -> Result<MemDrive, Trouble> {
@@ -61,7 +61,7 @@ fn drive_of(
 }
 
 /// The parts of the array of a table, its drives those of the images.
-pub(crate) fn parts_of(rt: &HostRuntime, files: Files<'_>) -> Result<Parts<MemDrive>, Trouble>
+pub(crate) fn parts_of(rt: &HostRuntime, files: Files<'_, '_>) -> Result<Parts<MemDrive>, Trouble>
     ensures { IfOk result (λ parts. parts.note ≡ None) }
 {
     let text = bytes_of(rt, files, 0)?;
@@ -111,7 +111,7 @@ fn put_file(rt: &HostRuntime, name: &str, bytes: &[u8]) -> io::Result<()> {
 /// Writes a file whole: its bytes are durable where this is Ok.
 pub(crate) fn write_file(
     rt: &HostRuntime,
-    files: Files<'_>,
+    files: Files<'_, '_>,
     file: usize,
     bytes: &[u8],
 ) -> Result<(), Trouble> {
@@ -127,7 +127,7 @@ pub(crate) fn write_file(
 /// Writes the image of each drive. A lost drive's file is left empty, so that no older image is taken for it.
 pub(crate) fn write_images(
     rt: &HostRuntime,
-    files: Files<'_>,
+    files: Files<'_, '_>,
     parts: &mut Parts<MemDrive>,
 ) -> Result<(), Trouble> {
     let mut file = 0usize;

@@ -28,14 +28,14 @@ fn main(rt: HostRuntime) -> ExitCode {
 }
 
 // Says what is wrong, and ends with its status.
-fn ended(rt: &HostRuntime, trouble: Trouble, files: Option<Files<'_>>) -> ExitCode {
+fn ended(rt: &HostRuntime, trouble: Trouble, files: Option<Files<'_, '_>>) -> ExitCode {
     // Nothing is left to do where standard error can't be written.
     let _ = trouble.report(rt, files);
     ExitCode::from(trouble.status())
 }
 
 // Does what the words ask for.
-fn run(rt: &HostRuntime, matches: &ArgMatches<'_>) -> ExitCode {
+fn run<'w>(rt: &HostRuntime, matches: &ArgMatches<'w>) -> ExitCode {
     let Some(verb) = matches.subcommand_name() else {
         return ended(rt, Trouble::Words, None);
     };

@@ -22,7 +22,7 @@ fn parts_of(alloc: Global, bench: Bench) -> Result<Parts<MemDrive>, Trouble> {
 /// Answers the script on standard input, and leaves the table and the images of its array; the status is the script's. Nothing
 /// is written where the script made no array, or has another number of drives than there are files, or ended out of memory or by
 /// a failed read or write.
-pub(crate) fn save(rt: &HostRuntime, files: Files<'_>) -> Result<u8, Trouble> {
+pub(crate) fn save(rt: &HostRuntime, files: Files<'_, '_>) -> Result<u8, Trouble> {
     let (end, bench) = run_and_leave(rt.alloc(), &mut rt.stdin(), &mut rt.stdout());
     let status = end.status();
     let Some(bench) = bench else {

@@ -50,7 +50,7 @@ fn say_lacking(rt: &HostRuntime, lacking: &Lacking) -> Result<u8, Trouble> {
 }
 
 /// Says whether the array is sound: the copies of each slot are equal, each row adds up to its parity, and a map can be read.
-pub(crate) fn check(rt: &HostRuntime, files: Files<'_>) -> Result<u8, Trouble> {
+pub(crate) fn check(rt: &HostRuntime, files: Files<'_, '_>) -> Result<u8, Trouble> {
     match recover(rt.alloc(), parts_of(rt, files)?) {
         Ok(_array) => {
             say(rt, b"sound\n")?;
@@ -71,7 +71,7 @@ fn put_map(alloc: Global, out: &mut Vec<u8>, map: &BlockMap) -> Result<(), Troub
 }
 
 /// Prints the array's map.
-pub(crate) fn map(rt: &HostRuntime, files: Files<'_>) -> Result<u8, Trouble> {
+pub(crate) fn map(rt: &HostRuntime, files: Files<'_, '_>) -> Result<u8, Trouble> {
     let array = match recover(rt.alloc(), parts_of(rt, files)?) {
         Ok(array) => array,
         Err(lacking) => return say_lacking(rt, &lacking),
@@ -103,7 +103,7 @@ fn say_block(rt: &HostRuntime, array: Array<MemDrive, Plain>, block: u32) -> Res
 }
 
 /// Prints the payload of a block; nothing where it was never written, or was trimmed.
-pub(crate) fn block(rt: &HostRuntime, files: Files<'_>, block: u32) -> Result<u8, Trouble> {
+pub(crate) fn block(rt: &HostRuntime, files: Files<'_, '_>, block: u32) -> Result<u8, Trouble> {
     match recover(rt.alloc(), parts_of(rt, files)?) {
         Ok(array) => say_block(rt, array, block),
         Err(lacking) => say_lacking(rt, &lacking),
@@ -121,7 +121,7 @@ fn put_group(out: &mut Vec<u8>, group: u16, fault: &ScanFault) -> Result<(), All
 
 /// Prints the map of the groups that can be scanned, after the fault of each that can't. A block whose newest place is in such a
 /// group has an older record in the map, or none.
-pub(crate) fn salvage_map(rt: &HostRuntime, files: Files<'_>) -> Result<u8, Trouble> {
+pub(crate) fn salvage_map(rt: &HostRuntime, files: Files<'_, '_>) -> Result<u8, Trouble> {
     let mut parts = parts_of(rt, files)?;
     let mut map = BlockMap::new(rt.alloc());
     let faults = match salvage(rt.alloc(), &mut parts, &mut map) {
@@ -138,7 +138,7 @@ pub(crate) fn salvage_map(rt: &HostRuntime, files: Files<'_>) -> Result<u8, Trou
 }
 
 /// Prints a picture of the array, in SVG.
-pub(crate) fn picture(rt: &HostRuntime, files: Files<'_>) -> Result<u8, Trouble> {
+pub(crate) fn picture(rt: &HostRuntime, files: Files<'_, '_>) -> Result<u8, Trouble> {
     let array = match recover(rt.alloc(), parts_of(rt, files)?) {
         Ok(array) => array,
         Err(lacking) => return say_lacking(rt, &lacking),

@@ -63,7 +63,7 @@ impl Trouble {
     }
 
     /// Says on standard error what is wrong, in one line.
-    pub(crate) fn report(self, rt: &HostRuntime, files: Option<Files<'_>>) -> io::Result<()> {
+    pub(crate) fn report(self, rt: &HostRuntime, files: Option<Files<'_, '_>>) -> io::Result<()> {
         let text = self.text();
         match (self.file(), files) {
             (Some(file), Some(files)) => {

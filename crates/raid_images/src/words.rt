@@ -6,16 +6,16 @@ use std::alloc::{AllocError, Global};
 
 /// The files that are asked about.
 #[derive(Clone, Copy)]
-pub(crate) struct Files<'a> {
+pub(crate) struct Files<'m, 'w> {
     /// The table's file.
-    pub(crate) table: &'a str,
+    pub(crate) table: &'w str,
     /// The images' files, in the drives' order; `-` for a lost drive.
-    pub(crate) images: &'a [&'a str],
+    pub(crate) images: &'m [&'w str],
 }
 
-impl<'a> Files<'a> {
+impl<'m, 'w> Files<'m, 'w> {
     /// The file of a number: 0 is the table, 1 the first image.
-    pub(crate) fn name(&self, number: usize) -> &'a str {
+    pub(crate) fn name(&self, number: usize) -> &'w str {
         if number == 0 {
             return self.table;
         }
@@ -70,7 +70,7 @@ fn read<'a>(alloc: Global, words: &'a [String]) -> Result<ArgMatches<'a>, Error>
 }
 
 /// The files that a command names.
-pub(crate) fn files_of<'a>(given: &'a ArgMatches<'a>) -> Result<Files<'a>, Trouble> {
+pub(crate) fn files_of<'m, 'w>(given: &'m ArgMatches<'w>) -> Result<Files<'m, 'w>, Trouble> {
     match (given.get_str("table"), given.get_strs("images")) {
         (Some(table), Some(images)) => Ok(Files { table, images }),
         _ => Err(Trouble::Words),
