@@ -2,7 +2,7 @@
 //! with its number G.
 use crate::trouble::Trouble;
 use array_parts::Parts;
-use extent_groups::{Class, GROUPS, GroupTable, Member, are_there};
+use extent_groups::{Class, GROUPS, GroupRefusal, GroupTable, Member, are_there};
 use extents::{Drive, ExtentTable, Shape};
 use script_exec::{put, put_number};
 use script_syntax::{Command, Named, Verb, number_of, read_command};
@@ -98,7 +98,11 @@ impl Table {
         let entered = self
             .groups
             .put_group(alloc, &mut self.extents, group, class, &members);
-        Ok(entered.is_ok())
+        match entered {
+            Ok(()) => Ok(true),
+            Err(GroupRefusal::Memory) => Err(AllocError),
+            Err(_) => Ok(false),
+        }
     }
 
     // Takes the line of a group; false where it isn't one, or where the group can't be entered.
