@@ -1,15 +1,13 @@
 -- The map of a list that grows by one record.
-use Rattle.std.proofs.Common.{◌≡◌, ℕ, ◌<◌, ◌≤◌, max, true, false, cond, List, [], ◌∷◌, ◌++◌, Contains, ◌⊎◌, inl, inr, sym, ap, ◌∙◌, arith, ◌^◌, Option, Some, None, unwrap_or, subst, Result, Ok, Err, OnOk}
+use Rattle.std.proofs.Common.{◌≡◌, ℕ, ◌<◌, ◌≤◌, max, true, false, List, [], ◌∷◌, ◌++◌, Contains, ◌⊎◌, inl, inr, sym, ap, ◌∙◌, arith, subst, Result, Ok, Err, OnOk}
 use Rattle.std.proofs.lemmas.List.Elements.{Contains-append_left, Contains-append_right, Contains-append_cases, Contains-push_cases, Contains-push}
 use Rattle.std.proofs.lemmas.Bool.{cases_eq}
 use Rattle.std.proofs.lemmas.Bool.Decides.{nat_tests}
-use Rattle.std.proofs.lemmas.Option.{same_Some}
 use Rattle.std.specs.Ordering.{nat_cmp, is_eq}
-use Rattle.map_join.specs.Keys.{AreKeys}
 use Rattle.map_join.specs.declared.records.Record.{Record}
 use Rattle.map_join.specs.declared.block_map.MapRefusal.{MapRefusal}
 use Rattle.map_join.specs.Record.{key_of}
-use Rattle.map_join.specs.Maps.{Entries, find, at, IsSame, join, lone, only, IsMapOf}
+use Rattle.map_join.specs.Maps.{IsSame, join, lone, only, IsMapOf}
 
 -- two numbers compare as equal where they are one, and else not
 pub tied : (a b : ℕ) → a ≡ b → is_eq (nat_cmp a b) ≡ true
@@ -101,45 +99,3 @@ together xs ys M N joined is ours theirs = record { told = told; most = most }
         go : Contains xs q ⊎ Contains ys q → key_of q ≤ joined q.block
         go (inl there) = let e = is q.block in let below = ours.most q there in omega arith
         go (inr there) = let e = is q.block in let below = theirs.most q there in omega arith
-
--- a map of which one block's key was set, the rest being as before
-abbrev pub HasSet : Entries → Entries → ℕ → ℕ → Type 0
-HasSet m n here key = (q : ℕ) → find n q ≡ cond (is_eq (nat_cmp here q)) (Some key) (find m q)
-
-set_here : (m n : Entries) (here key : ℕ) → HasSet m n here key → (block : ℕ) → block ≡ here → find n block ≡ Some key
-set_here m n here key new block is = new block ∙ ap (λ b. cond b (Some key) (find m block)) (tied here block (sym is))
-
-set_else : (m n : Entries) (here key : ℕ) → HasSet m n here key → (block : ℕ) → (block ≡ here → ⊥) → find n block ≡ find m block
-set_else m n here key new block ne = new block ∙ ap (λ b. cond b (Some key) (find m block)) (apart here block (λ p. ne (sym p)))
-
--- the greater of a key and the one that was found is the greater of that key and the map's
-greatest : (m : Entries) (here key : ℕ) → max key (unwrap_or (find m here) key) ≡ max (at m here) key
-greatest m here key = go (find m here)
-  where
-    go : (o : Option ℕ) → max key (unwrap_or o key) ≡ max (unwrap_or o 0) key
-    go None = grind arith
-    go (Some had) = grind arith
-
--- set to the greater of its own and a key, it is the join
-pub raised : (m n : Entries) (here key : ℕ) → HasSet m n here (max key (unwrap_or (find m here) key)) → IsSame (at n) (join (at m) (lone here key))
-raised m n here key new block = go (cases_eq block here)
-  where
-    go : (block ≡ here) ⊎ (block ≡ here → ⊥) → at n block ≡ max (at m block) (lone here key block)
-    go (inl is) =
-        let e = lone_here here key block is in
-        let same : at m block ≡ at m here = ap (at m) is in
-        let most = greatest m here key in
-        let there : at n block ≡ max key (unwrap_or (find m here) key) = ap (λ o. unwrap_or o 0) (set_here m n here _ new block is) in
-        grind arith
-    go (inr ne) =
-        let e = lone_else here key block ne in
-        let there : at n block ≡ at m block = ap (λ o. unwrap_or o 0) (set_else m n here _ new block ne) in
-        grind arith
-
--- where that key is a record's, its numbers are keys of records as before
-pub insert_keys : (m n : Entries) (here key : ℕ) → 2 ^ 32 ≤ key → AreKeys m → HasSet m n here key → AreKeys n
-insert_keys m n here key big keys new block had has = go (cases_eq block here)
-  where
-    go : (block ≡ here) ⊎ (block ≡ here → ⊥) → 2 ^ 32 ≤ had
-    go (inl is) = let same : key ≡ had = same_Some _ _ (sym (set_here m n here key new block is) ∙ has) in omega arith
-    go (inr ne) = keys block had (sym (set_else m n here key new block ne) ∙ has)

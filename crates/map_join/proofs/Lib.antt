@@ -1,10 +1,11 @@
-pub mod Copies
+pub mod Differing
 pub mod Fronts
 pub mod Joins
+pub mod Lanes
 pub mod Listing
 pub mod Merging
+pub mod Paged
 pub mod Placing
 pub mod Rising
 pub mod Spelling
 pub mod Tabled
-pub mod Walks

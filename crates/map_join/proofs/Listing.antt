@@ -1,20 +1,18 @@
--- The list of a map's records.
-use Rattle.std.proofs.Common.{◌≡◌, ℕ, zero, suc, ◌^◌, ◌<◌, ◌≤◌, true, List, [], ◌∷◌, map, length, get_or, Contains, All, refl, sym, ap, ◌∙◌, subst, arith, Option, Some, None, MatchOption, unwrap_or, ◌⊎◌, inl, inr}
-use Rattle.std.proofs.lemmas.List.Elements.{All-head, All-tail, All-contains_itself, All-weaker, Contains-get_or}
-use Rattle.std.proofs.lemmas.List.{get_or-map, length-map}
-use Rattle.std.proofs.lemmas.Map.Keys.{IsDistinct-from_sorted, IsStrictlyIncreasing-from_sorted}
-use Rattle.std.proofs.lemmas.Map.Views.{Contains-from_lookup, lookup-from_Contains}
-use Rattle.std.proofs.lemmas.Cmp.{nat_cmp_total, eq_by_cmp_equiv}
+-- The list of a map's records, page after page.
+use Rattle.std.proofs.Common.{◌≡◌, ℕ, zero, suc, ◌+◌, ◌*◌, ◌/◌, ◌^◌, ◌<◌, ◌≤◌, List, [], ◌∷◌, ◌++◌, map, length, get_or, slice_index, Contains, refl, sym, ap, ◌∙◌, subst, arith, Option, Some, None, MatchOption, ◌⊎◌, inl, inr}
+use Rattle.std.proofs.lemmas.Bool.{cases_lt}
 use Rattle.std.proofs.lemmas.Bool.Decides.{nat_tests}
+use Rattle.std.proofs.lemmas.List.{get_or-map, length-map, map-append}
+use Rattle.std.proofs.lemmas.List.Elements.{Contains-get_or, Contains-append_left, Contains-push, Contains-push_cases}
 use Rattle.std.proofs.lemmas.Option.{same_Some}
-use Rattle.std.specs.List.{filter_map}
-use Rattle.std.specs.List.Sorted.{IsStrictlySortedBy, IsStrictlyIncreasing}
-use Rattle.std.specs.Map.{keys_of}
-use Rattle.std.specs.Ordering.{nat_cmp, eq_by_cmp}
+use Rattle.std.specs.List.Sorted.{IsStrictlyIncreasing}
 use Rattle.map_join.specs.declared.records.Record.{Record}
 use Rattle.map_join.specs.Record.{record_of, record_at, key_of}
-use Rattle.map_join.specs.Keys.{AreKeys}
-use Rattle.map_join.specs.Maps.{Entries, find, at, IsListOf}
+use Rattle.map_join.specs.Maps.{Lanes, Entries, at, lanes_of, IsListOf}
+use Rattle.map_join.specs.Pages.{IsPageOf, IsListBelow}
+use Rattle.map_join.proofs.Fronts.{IsMet, met_page, unmet, met_below, met_at, front_at, front_else}
+use Rattle.map_join.proofs.Paged.{at_lane, at_none}
+use Rattle.map_join.proofs.Rising.{rising_push}
 
 -- the record of an entry
 abbrev pub recorded : ℕ × ℕ → Record
@@ -38,34 +36,23 @@ told_key block key least = go key least
     go zero l = refl
     go (suc n) l = rw (told block (suc n) (l (omega arith))) (same (suc n))
 
--- the keys of a map are such
-pub least_at : (es : Entries) (block key : ℕ) → AreKeys es → key ≡ at es block → 0 < key → 2 ^ 32 ≤ key
-least_at es block key keys is some = go (find es block) refl
+-- a key that has a record
+pub record_told : (block key : ℕ) (r : Record) → record_at block key ≡ Some r → (2 ^ 32 ≤ key) × (record_of block key ≡ r)
+record_told block key r is = by_size (cases_lt key (2 ^ 32))
   where
-    go : (o : Option ℕ) → find es block ≡ o → 2 ^ 32 ≤ key
-    go None e = absurd (let z : key ≡ 0 = is ∙ ap (λ q. unwrap_or q 0) e in omega (arith, z, some))
-    go (Some k) e = let l = keys block k e in let z : key ≡ k = is ∙ ap (λ q. unwrap_or q 0) e in omega (arith, z, l)
+    none_some : None ≡ Some r → ⊥
+    none_some e = cc
 
--- an entry's number is a record's key
-abbrev pub HasKey : ℕ × ℕ → Type 0
-HasKey e = 2 ^ 32 ≤ e.1
+    by_size : (key < 2 ^ 32) ⊎ (2 ^ 32 ≤ key) → (2 ^ 32 ≤ key) × (record_of block key ≡ r)
+    by_size (inl small) = absurd (none_some (sym (untold block key small) ∙ is))
+    by_size (inr big) = (big, same_Some _ _ (sym (told block key big) ∙ is))
 
-all_told : (es : Entries) → All HasKey es → filter_map (λ (e : ℕ × ℕ). record_at e.0 e.1) es ≡ map recorded es
-all_told [] keys = refl
-all_told (e ∷ es) keys =
-    let here = told e.0 e.1 (All-head HasKey e es keys) in
-    let rest = all_told es (All-tail HasKey e es keys) in
-    rw (here, rest) refl
+-- the key that a map has of a block whose key has a record
+pub key_told : (es : Entries) (block : ℕ) (r : Record) → record_at block (at es block) ≡ Some r → (key : ℕ) × (at es block ≡ key) × (recorded (block, key) ≡ r)
+key_told es block r is = (at es block, refl, (record_told block (at es block) r is).1)
 
-blocks : (es : Entries) → map (λ (r : Record). r.block) (map recorded es) ≡ keys_of es
-blocks [] = refl
-blocks (e ∷ es) = ap (λ t. e.0 ∷ t) (blocks es)
-
-member_map : {X Y : Type 0} (g : X → Y) (xs : List X) (x : X) → Contains xs x → Contains (map g xs) (g x)
-member_map g xs x h =
-    let long = length-map xs g in
-    let lt = h.1 in
-    (h.0, omega arith, get_or-map g xs h.0 x (g x) h.1 ∙ ap g h.2)
+own_block : (block key : ℕ) (r : Record) → record_at block key ≡ Some r → r.block ≡ block
+own_block block key r is = sym (ap (λ (q : Record). q.block) (record_told block key r is).1)
 
 map_member : {X Y : Type 0} (g : X → Y) (xs : List X) (d : X) (y : Y) → Contains (map g xs) y → (x : X) × (Contains xs x) × (g x ≡ y)
 map_member g xs d y h =
@@ -74,60 +61,119 @@ map_member g xs d y h =
     let inside : h.0 < length xs = omega arith in
     (get_or xs h.0 d, Contains-get_or xs h.0 d inside, sym (get_or-map g xs h.0 d y inside) ∙ h.2)
 
--- what a map's entries have, it finds, and the other way round
-pub finds : (es : Entries) → IsStrictlySortedBy nat_cmp (keys_of es) → (block key : ℕ) → Contains es (block, key) → find es block ≡ Some key
-finds es sorted block key has = lookup-from_Contains (eq_by_cmp_equiv nat_cmp_total) block key es (IsDistinct-from_sorted nat_cmp (keys_of es) sorted) has
-
-pub found : (es : Entries) (block key : ℕ) → find es block ≡ Some key → Contains es (block, key)
-found es block key is = Contains-from_lookup (λ x y t. same x y t) block key es is
+-- one block more has no record
+pub list_skip : (M : ℕ → ℕ) (bound : ℕ) (xs : List Record) → record_at bound (M bound) ≡ None → IsListBelow bound M xs → IsListBelow (bound + 1) M xs
+list_skip M bound xs none h = record {
+  rising = h.rising;
+  each = λ r. ((λ c. let e = (h.each r).0 c in (omega (arith, e.0), e.1)), (λ w. from r w.0 w.1 (cases_lt r.block bound)));
+}
   where
-    same : (x y : ℕ) → eq_by_cmp nat_cmp x y ≡ true → x ≡ y
-    same x y t = grind (arith, nat_tests)
+    none_some : (r : Record) → None ≡ Some r → ⊥
+    none_some r e = cc
 
-have_keys : (es : Entries) → IsStrictlySortedBy nat_cmp (keys_of es) → AreKeys es → All HasKey es
-have_keys es sorted keys = All-weaker (Contains es) HasKey (λ e has. keys e.0 e.1 (finds es sorted e.0 e.1 has)) es (All-contains_itself es)
+    from : (r : Record) → r.block < bound + 1 → record_at r.block (M r.block) ≡ Some r → (r.block < bound) ⊎ (bound ≤ r.block) → Contains xs r
+    from r lt is (inl l) = (h.each r).1 (l, is)
+    from r lt is (inr le) = let e : r.block ≡ bound = omega arith in absurd (none_some r (sym none ∙ ap (λ b. record_at b (M b)) (sym e) ∙ is))
 
--- the key that a map has of a block whose key has a record
-pub key_told : (es : Entries) (block : ℕ) (r : Record) → record_at block (at es block) ≡ Some r → (key : ℕ) × (find es block ≡ Some key) × (recorded (block, key) ≡ r)
-key_told es block r is = go (find es block) refl
+-- or has one
+pub list_push : (M : ℕ → ℕ) (bound : ℕ) (xs : List Record) (r : Record) → record_at bound (M bound) ≡ Some r → IsListBelow bound M xs
+    → IsListBelow (bound + 1) M (xs ++ r ∷ [])
+list_push M bound xs r is h = record {
+  rising = subst IsStrictlyIncreasing (sym (map-append (λ (q : Record). q.block) xs (r ∷ []))) (rising_push (map (λ q. q.block) xs) r.block h.rising lower);
+  each = λ q. ((λ c. to q (Contains-push_cases xs r q c)), (λ w. from q w.0 w.1 (cases_lt q.block bound)));
+}
   where
-    go : (o : Option ℕ) → find es block ≡ o → (key : ℕ) × (find es block ≡ Some key) × (recorded (block, key) ≡ r)
-    go None e =
-        let none : record_at block (at es block) ≡ None = ap (λ o. record_at block (unwrap_or o 0)) e ∙ untold block 0 (omega arith) in
-        absurd (some_none (sym is ∙ none))
-      where
-        some_none : Some r ≡ None → ⊥
-        some_none e = cc
-    go (Some key) e =
-        let at_key : record_at block (at es block) ≡ record_at block key = ap (λ o. record_at block (unwrap_or o 0)) e in
-        (key, e, by_size (key_cases key) (sym at_key ∙ is))
-      where
-        key_cases : (k : ℕ) → (2 ^ 32 ≤ k) ⊎ (k < 2 ^ 32)
-        key_cases k = grind arith
+    own : r.block ≡ bound
+    own = own_block bound (M bound) r is
 
-        by_size : (2 ^ 32 ≤ key) ⊎ (key < 2 ^ 32) → record_at block key ≡ Some r → record_of block key ≡ r
-        by_size (inl big) t = same_Some _ _ (sym (told block key big) ∙ t)
-        by_size (inr small) t = absurd (some_none (sym t ∙ untold block key small))
-          where
-            some_none : Some r ≡ None → ⊥
-            some_none e = cc
+    lower : (n : ℕ) → Contains (map (λ (q : Record). q.block) xs) n → n < r.block
+    lower n has =
+        let x = map_member (λ (q : Record). q.block) xs r n has in
+        let l = (h.each x.0).0 x.1 in
+        omega (arith, l.0, x.2, own)
 
--- the records of all entries are the list of the map
-pub listed : (es : Entries) → IsStrictlySortedBy nat_cmp (keys_of es) → AreKeys es → IsListOf (at es) (filter_map (λ (e : ℕ × ℕ). record_at e.0 e.1) es)
-listed es sorted keys = subst (IsListOf (at es)) (sym (all_told es (have_keys es sorted keys))) (record { rising = rising; each = λ r. (there r, back r) })
-  where
-    rising : IsStrictlyIncreasing (map (λ (r : Record). r.block) (map recorded es))
-    rising = subst IsStrictlyIncreasing (sym (blocks es)) (IsStrictlyIncreasing-from_sorted (keys_of es) sorted)
+    to : (q : Record) → Contains xs q ⊎ (r ≡ q) → (q.block < bound + 1) × (record_at q.block (M q.block) ≡ Some q)
+    to q (inl c) = let e = (h.each q).0 c in (omega (arith, e.0), e.1)
+    to q (inr e) = subst (λ (p : Record). (p.block < bound + 1) × (record_at p.block (M p.block) ≡ Some p)) e
+        (omega (arith, own), ap (λ b. record_at b (M b)) own ∙ is)
 
-    there : (r : Record) → Contains (map recorded es) r → record_at r.block (at es r.block) ≡ Some r
-    there r has =
-        let e = map_member recorded es (0, 0) r has in
-        let is : find es e.0.0 ≡ Some e.0.1 = finds es sorted e.0.0 e.0.1 e.1 in
-        let big = keys e.0.0 e.0.1 is in
-        let here : record_at e.0.0 (at es e.0.0) ≡ Some (recorded e.0) = ap (λ o. record_at e.0.0 (unwrap_or o 0)) is ∙ told e.0.0 e.0.1 big in
-        subst (λ (q : Record). record_at q.block (at es q.block) ≡ Some q) e.2 here
+    from : (q : Record) → q.block < bound + 1 → record_at q.block (M q.block) ≡ Some q → (q.block < bound) ⊎ (bound ≤ q.block) → Contains (xs ++ r ∷ []) q
+    from q lt t (inl l) = Contains-append_left xs (r ∷ []) q ((h.each q).1 (l, t))
+    from q lt t (inr le) =
+        let e : q.block ≡ bound = omega arith in
+        let same : r ≡ q = same_Some r q (sym is ∙ ap (λ b. record_at b (M b)) (sym e) ∙ t) in
+        subst (Contains (xs ++ r ∷ [])) same (Contains-push xs r)
 
-    back : (r : Record) → record_at r.block (at es r.block) ≡ Some r → Contains (map recorded es) r
-    back r is =
-        let k = key_told es r.block r is in
-        subst (Contains (map recorded es)) k.2 (member_map recorded es (r.block, k.0) (found es r.block k.0 k.1))
+-- the record of a lane
+pub told_lane : (M : ℕ → ℕ) (number lane : ℕ) (keys : Lanes) (block : ℕ) (result : Option Record) → IsPageOf M number keys → lane < 64
+    → block ≡ 64 * number + lane → result ≡ record_at block (slice_index keys lane) → record_at (64 * number + lane) (M (64 * number + lane)) ≡ result
+told_lane M number lane keys block result own lt here is =
+    ap (record_at (64 * number + lane)) (own lane lt) ∙ ap (λ b. record_at b (slice_index keys lane)) (sym here) ∙ sym is
+
+pub lane_more : (M : ℕ → ℕ) (bound lane : ℕ) (xs ys : List Record) (r : Record) → ys ≡ xs ++ r ∷ [] → record_at (bound + lane) (M (bound + lane)) ≡ Some r
+    → IsListBelow (bound + lane) M xs → IsListBelow (bound + (lane + 1)) M ys
+lane_more M bound lane xs ys r is told h =
+    subst (λ zs. IsListBelow (bound + (lane + 1)) M zs) (sym is) (subst (λ b. IsListBelow b M (xs ++ r ∷ [])) (omega arith) (list_push M (bound + lane) xs r told h))
+
+pub lane_skip : (M : ℕ → ℕ) (bound lane : ℕ) (xs ys : List Record) → ys ≡ xs → record_at (bound + lane) (M (bound + lane)) ≡ None
+    → IsListBelow (bound + lane) M xs → IsListBelow (bound + (lane + 1)) M ys
+lane_skip M bound lane xs ys is none h =
+    subst (λ zs. IsListBelow (bound + (lane + 1)) M zs) (sym is) (subst (λ b. IsListBelow b M xs) (omega arith) (list_skip M (bound + lane) xs none h))
+
+-- no record is that of the map without blocks
+pub list_none : IsListOf (at []) []
+list_none = record {
+  rising = λ k lt. absurd (omega (arith, lt));
+  each = λ r. ((λ has. absurd (omega (arith, has.1))), (λ is. let t = (record_told r.block (at [] r.block) r is).0 in let z = at_none r.block in absurd (omega arith)));
+}
+
+module _ (es front : Entries) (number : ℕ) (keys : Lanes) (rest : Entries) (met : IsMet es front number keys rest) where
+  pub page_of : IsPageOf (at es) number keys
+  page_of lane lt = at_lane es number lane lt ∙ ap (λ o. lanes_of o lane) (met_page es front number keys rest met)
+
+  -- what is listed of the pages in front are the records of the lower blocks
+  pub list_start : (xs : List Record) → IsListOf (at front) xs → IsListBelow (64 * number) (at es) xs
+  list_start xs h = record { rising = h.rising; each = λ r. ((λ c. to r ((h.each r).0 c)), (λ w. from r w.0 w.1)) }
+    where
+      to : (r : Record) → record_at r.block (at front r.block) ≡ Some r → (r.block < 64 * number) × (record_at r.block (at es r.block) ≡ Some r)
+      to r is = by (cases_lt (r.block / 64) number)
+        where
+          by : (r.block / 64 < number) ⊎ (number ≤ r.block / 64) → (r.block < 64 * number) × (record_at r.block (at es r.block) ≡ Some r)
+          by (inl lt) = (omega arith, ap (record_at r.block) (met_below es front number keys rest met r.block lt) ∙ is)
+          by (inr le) =
+              let z = unmet es front number keys rest met r.block le in
+              let t = (record_told r.block (at front r.block) r is).0 in
+              absurd (omega arith)
+
+      from : (r : Record) → r.block < 64 * number → record_at r.block (at es r.block) ≡ Some r → Contains xs r
+      from r lt is = (h.each r).1 (ap (record_at r.block) (sym (met_below es front number keys rest met r.block (omega arith))) ∙ is)
+
+  -- with the page's own records they are those of the pages up to it
+  pub list_end : (xs : List Record) → IsListBelow (64 * number + 64) (at es) xs → IsListOf (at (front ++ (number, keys) ∷ [])) xs
+  list_end xs h = record { rising = h.rising; each = λ r. ((λ c. let e = (h.each r).0 c in to r e.0 e.1), (λ w. from r w)) }
+    where
+      more : Entries
+      more = front ++ (number, keys) ∷ []
+
+      same : (b : ℕ) → b < 64 * number + 64 → at more b ≡ at es b
+      same b lt = by (cases_lt (b / 64) number)
+        where
+          by : (b / 64 < number) ⊎ (number ≤ b / 64) → at more b ≡ at es b
+          by (inl l) = front_else es front number keys rest met b (λ e. absurd (omega arith)) ∙ sym (met_below es front number keys rest met b l)
+          by (inr le) =
+              let is : b / 64 ≡ number = omega arith in
+              front_at es front number keys rest met b is ∙ sym (met_at es front number keys rest met b is)
+
+      to : (r : Record) → r.block < 64 * number + 64 → record_at r.block (at es r.block) ≡ Some r → record_at r.block (at more r.block) ≡ Some r
+      to r lt is = ap (record_at r.block) (same r.block lt) ∙ is
+
+      from : (r : Record) → record_at r.block (at more r.block) ≡ Some r → Contains xs r
+      from r is = by (cases_lt r.block (64 * number + 64))
+        where
+          by : (r.block < 64 * number + 64) ⊎ (64 * number + 64 ≤ r.block) → Contains xs r
+          by (inl lt) = (h.each r).1 (lt, ap (record_at r.block) (sym (same r.block lt)) ∙ is)
+          by (inr le) =
+              let e = front_else es front number keys rest met r.block (λ q. absurd (omega arith)) in
+              let z = unmet es front number keys rest met r.block (omega arith) in
+              let t = (record_told r.block (at more r.block) r is).0 in
+              absurd (omega arith)

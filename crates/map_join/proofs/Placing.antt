@@ -1,31 +1,18 @@
--- Where the newest records of a map lie, by its entries.
-use Rattle.std.proofs.Common.{◌≡◌, ℕ, ◌+◌, ◌*◌, ◌/◌, ◌%◌, ◌<◌, ◌≤◌, ◌↔◌, List, Bool, length, get_or, [], ◌∷◌, ◌++◌, Contains, ◌⊎◌, inl, inr, refl, sym, ap, ◌∙◌, subst, arith, Option, Some, None, unwrap_or, MatchOption, true, false, replicate}
+-- Where the newest records of a map lie, by its pages.
+use Rattle.std.proofs.Common.{◌≡◌, ℕ, ◌+◌, ◌*◌, ◌/◌, ◌%◌, ◌^◌, ◌<◌, ◌≤◌, ◌↔◌, List, Bool, length, get_or, slice_index, [], ◌∷◌, ◌++◌, ◌⊎◌, inl, inr, sym, ap, ◌∙◌, subst, arith, Option, Some, None, MatchOption, true, false, replicate}
+use Rattle.std.proofs.lemmas.Bool.{cases_eq}
 use Rattle.std.proofs.lemmas.Option.{slice_get_within, get_or_from_slice_get, slice_get-get_or}
 use Rattle.std.proofs.lemmas.List.{get_or-replicate, length-replicate, length_push}
-use Rattle.std.proofs.lemmas.List.Elements.{Contains-push_cases, Contains-append_left, Contains-push}
 use Rattle.map_join.specs.declared.records.Record.{Record}
-use Rattle.map_join.specs.Keys.{AreKeys}
-use Rattle.map_join.specs.Maps.{Entries, at, AreInOrder, IsSame}
-use Rattle.map_join.specs.Record.{record_of, record_at}
+use Rattle.map_join.specs.Maps.{Lanes, Entries, at}
+use Rattle.map_join.specs.Record.{record_of}
 use Rattle.map_join.specs.Lists.{IsCount, ListsBelow}
 use Rattle.map_join.specs.Live.{LiesAt, IsLive, IsBlockAt, IsLiveIn, IsLiveCount}
-use Rattle.map_join.specs.Marks.{IsPlaced, IsSet, IsMarkedIn}
+use Rattle.map_join.specs.Marks.{IsPlacedAt, IsPlacedBelow, IsPlaced, IsSet, IsMarkedIn}
+use Rattle.map_join.proofs.Fronts.{IsMet, unmet, front_at, front_else}
+use Rattle.map_join.proofs.Listing.{told, record_told, page_of}
+use Rattle.map_join.proofs.Paged.{at_none, number_of, lane_of}
 use Rattle.map_join.proofs.Rising.{count_same, below_more, below_skip}
-use Rattle.map_join.proofs.Listing.{told, found, finds, key_told}
-use Rattle.map_join.proofs.Walks.{first_at, key_first}
-
--- a map that has no key has no entry
-pub none_where_zero : (es : Entries) → AreKeys es → IsSame (at es) (λ _. 0) → es ≡ []
-none_where_zero [] keys none = refl
-none_where_zero (e ∷ es) keys none =
-    let here = first_at e.0 e.1 es in
-    let big = key_first e.0 e.1 es keys in
-    let zero = none e.0 in
-    absurd (omega arith)
-
--- a call that fails only where there is an entry
-pub only_without : (es inside : Entries) (ok : Bool) → AreKeys inside → inside ≡ es → (inside ≡ [] → ok ≡ true) → IsSame (at es) (λ _. 0) → ok ≡ true
-only_without es inside ok keys is fails none = fails (none_where_zero inside keys (λ block. ap (λ (xs : Entries). at xs block) is ∙ none block))
 
 -- no index of such a list is set
 pub none_set : (n index : ℕ) → IsSet (replicate n false) index → ⊥
@@ -37,91 +24,115 @@ none_set n index is =
     let both : true ≡ false = sym one ∙ other in
     cc
 
--- an entry's block lies where its key says
-pub lies : (es : Entries) → AreInOrder es → AreKeys es → (block key slot : ℕ) → Contains es (block, key) → key % 65536 ≡ slot → LiesAt (at es) block slot
-lies es order keys block key slot has is =
-    let there = finds es order block key has in (
-      record_of block key,
-      ap (λ o. record_at block (unwrap_or o 0)) there ∙ told block key (keys block key there),
-      is,
-    )
+-- a slot is live exactly where some block's key says so
+pub lies : (keys : ℕ → ℕ) (slot block : ℕ) → IsPlacedAt keys slot block → LiesAt keys block slot
+lies keys slot block p = (record_of block (keys block), told block (keys block) p.0, p.1)
 
--- a slot is live exactly where some entry's key says so
-pub live_placed : (es : Entries) → AreInOrder es → AreKeys es → (slot : ℕ) → IsPlaced es slot → IsLive (at es) slot
-live_placed es order keys slot p = (p.0.0, lies es order keys p.0.0 p.0.1 slot p.1 p.2)
+pub live_placed : (keys : ℕ → ℕ) (slot : ℕ) → IsPlaced keys slot → IsLive keys slot
+live_placed keys slot p = (p.0, lies keys slot p.0 p.1)
 
-pub placed_live : (es : Entries) (slot : ℕ) → IsLive (at es) slot → IsPlaced es slot
-placed_live es slot live =
-    let k = key_told es live.0 live.1.0 live.1.1 in
-    ((live.0, k.0), found es live.0 k.0 k.1, ap (λ (r : Record). r.place) k.2 ∙ live.1.2)
+pub placed_live : (keys : ℕ → ℕ) (slot : ℕ) → IsLive keys slot → IsPlaced keys slot
+placed_live keys slot live =
+    let r = record_told live.0 (keys live.0) live.1.0 live.1.1 in
+    (live.0, (r.0, ap (λ (q : Record). q.place) r.1 ∙ live.1.2))
 
--- one entry more
-pub placed_more : (front : Entries) (e : ℕ × ℕ) (slot : ℕ) → IsPlaced (front ++ e ∷ []) slot → IsPlaced front slot ⊎ (e.1 % 65536 ≡ slot)
-placed_more front e slot p = go (Contains-push_cases front e p.0 p.1)
+-- keys of which none is placed at a slot, and one more
+pub placed_skip : (keys : ℕ → ℕ) (bound slot : ℕ) → (IsPlacedBelow bound keys slot → ⊥) → (IsPlacedAt keys slot bound → ⊥) → IsPlacedBelow (bound + 1) keys slot → ⊥
+placed_skip keys bound slot none ne p = go (cases_eq p.0 bound)
   where
-    go : Contains front p.0 ⊎ (e ≡ p.0) → IsPlaced front slot ⊎ (e.1 % 65536 ≡ slot)
-    go (inl has) = inl (p.0, has, p.2)
-    go (inr is) = inr (ap (λ (x : ℕ × ℕ). x.1 % 65536) is ∙ p.2)
+    go : (p.0 ≡ bound) ⊎ (p.0 ≡ bound → ⊥) → ⊥
+    go (inl is) = ne (subst (IsPlacedAt keys slot) is p.2)
+    go (inr other) = none (p.0, (let l = p.1 in omega arith), p.2)
 
-pub placed_still : (front : Entries) (e : ℕ × ℕ) (slot : ℕ) → IsPlaced front slot → IsPlaced (front ++ e ∷ []) slot
-placed_still front e slot p = (p.0, Contains-append_left front (e ∷ []) p.0 p.1, p.2)
+-- the places of a map with one page more are those of the map and those of the page
+module _ (es front : Entries) (number : ℕ) (keys : Lanes) (rest : Entries) (met : IsMet es front number keys rest) (slot : ℕ) where
+  abbrev pub more : Entries
+  more = front ++ (number, keys) ∷ []
 
-pub placed_last : (front : Entries) (e : ℕ × ℕ) (slot : ℕ) → e.1 % 65536 ≡ slot → IsPlaced (front ++ e ∷ []) slot
-placed_last front e slot is = (e, Contains-push front e, is)
+  pub placed_more : IsPlaced (at more) slot → IsPlaced (at front) slot ⊎ IsPlacedBelow 64 (slice_index keys) slot
+  placed_more p = go (cases_eq (p.0 / 64) number)
+    where
+      go : (p.0 / 64 ≡ number) ⊎ (p.0 / 64 ≡ number → ⊥) → IsPlaced (at front) slot ⊎ IsPlacedBelow 64 (slice_index keys) slot
+      go (inl is) = inr (p.0 % 64, omega arith, subst (λ k. (2 ^ 32 ≤ k) × (k % 65536 ≡ slot)) (front_at es front number keys rest met p.0 is) p.1)
+      go (inr ne) = inl (p.0, subst (λ k. (2 ^ 32 ≤ k) × (k % 65536 ≡ slot)) (front_else es front number keys rest met p.0 ne) p.1)
 
-pub not_placed : (front : Entries) (e : ℕ × ℕ) (slot : ℕ) → (IsPlaced front slot → ⊥) → (e.1 % 65536 ≡ slot → ⊥) → IsPlaced (front ++ e ∷ []) slot → ⊥
-not_placed front e slot none ne p = go (placed_more front e slot p)
-  where
-    go : IsPlaced front slot ⊎ (e.1 % 65536 ≡ slot) → ⊥
-    go (inl was) = none was
-    go (inr is) = ne is
+  pub placed_still : IsPlaced (at front) slot → IsPlaced (at more) slot
+  placed_still p = go (cases_eq (p.0 / 64) number)
+    where
+      go : (p.0 / 64 ≡ number) ⊎ (p.0 / 64 ≡ number → ⊥) → IsPlaced (at more) slot
+      go (inl is) = let z = unmet es front number keys rest met p.0 (omega arith) in let big = p.1.0 in absurd (omega arith)
+      go (inr ne) = (p.0, subst (λ k. (2 ^ 32 ≤ k) × (k % 65536 ≡ slot)) (sym (front_else es front number keys rest met p.0 ne)) p.1)
+
+  pub placed_last : IsPlacedBelow 64 (slice_index keys) slot → IsPlaced (at more) slot
+  placed_last p =
+      let block : ℕ = 64 * number + p.0 in
+      let here : at more block ≡ slice_index keys p.0 =
+      front_at es front number keys rest met block (number_of number p.0 p.1) ∙ ap (slice_index keys) (lane_of number p.0 p.1) in
+      (block, subst (λ k. (2 ^ 32 ≤ k) × (k % 65536 ≡ slot)) (sym here) p.2)
+
+  pub placed_here : (lane : ℕ) → lane < 64 → IsPlacedAt (slice_index keys) slot lane → IsPlacedAt (at es) slot (64 * number + lane)
+  placed_here lane low p = subst (λ k. (2 ^ 32 ≤ k) × (k % 65536 ≡ slot)) (sym (page_of es front number keys rest met lane low)) p
+
+  pub not_placed : (IsPlaced (at front) slot → ⊥) → (IsPlacedBelow 64 (slice_index keys) slot → ⊥) → IsPlaced (at more) slot → ⊥
+  not_placed none ne p = go (placed_more p)
+    where
+      go : IsPlaced (at front) slot ⊎ IsPlacedBelow 64 (slice_index keys) slot → ⊥
+      go (inl was) = none was
+      go (inr is) = ne is
+
+pub none_placed : (slot : ℕ) → IsPlaced (at []) slot → ⊥
+none_placed slot p = let z = at_none p.0 in let big = p.1.0 in absurd (omega arith)
 
 -- a block, or none, that was found by the keys lies there
-pub block_at : (es : Entries) → AreInOrder es → AreKeys es → (slot : ℕ) (result : Option ℕ)
-    → MatchOption result (IsPlaced es slot → ⊥) (λ block. (key : ℕ) × Contains es (block, key) × (key % 65536 ≡ slot)) → IsBlockAt (at es) slot result
-block_at es order keys slot None none = λ live. none (placed_live es slot live)
-block_at es order keys slot (Some block) there = lies es order keys block there.0 slot there.1 there.2
+pub block_at : (keys : ℕ → ℕ) (slot : ℕ) (result : Option ℕ) → MatchOption result (IsPlaced keys slot → ⊥) (IsPlacedAt keys slot) → IsBlockAt keys slot result
+block_at keys slot None none = λ live. none (placed_live keys slot live)
+block_at keys slot (Some block) there = lies keys slot block there
 
--- marks say which of a group's indexes are places of the entries in the prefix
-abbrev pub AreMarks : Entries → ℕ → List Bool → Type 0
-AreMarks front group marks = (index : ℕ) → index < 128 → IsSet marks index ↔ IsPlaced front (128 * group + index)
+-- marks say which of a group's indexes are places of the keys
+abbrev pub AreMarks : (ℕ → ℕ) → ℕ → List Bool → Type 0
+AreMarks keys group marks = (index : ℕ) → index < 128 → IsSet marks index ↔ IsPlaced keys (128 * group + index)
 
-pub marks_none : (marks : List Bool) (group : ℕ) → ((index : ℕ) → IsSet marks index → ⊥) → AreMarks [] group marks
-marks_none marks group none index l = ((λ t. absurd (none index t)), (λ p. let e = p.1 in absurd (omega (arith, e.1))))
+pub marks_none : (marks : List Bool) (group : ℕ) → ((index : ℕ) → IsSet marks index → ⊥) → AreMarks (at []) group marks
+marks_none marks group none index l = ((λ t. absurd (none index t)), (λ p. absurd (none_placed (128 * group + index) p)))
 
-pub marks_more : (front : Entries) (e : ℕ × ℕ) (group : ℕ) (was now : List Bool) (place : ℕ) → place ≡ e.1 % 65536 → AreMarks front group was
-    → ((index : ℕ) → index < 128 → IsSet now index ↔ (IsSet was index ⊎ (place ≡ 128 * group + index))) → AreMarks (front ++ e ∷ []) group now
-marks_more front e group was now place is before step index l = ((λ t. to ((step index l).0 t)), (λ p. (step index l).1 (from (placed_more front e (128 * group + index) p))))
+pub marks_more : (es front : Entries) (number : ℕ) (keys : Lanes) (rest : Entries) → IsMet es front number keys rest → (read : Lanes) → read ≡ keys
+    → (group : ℕ) (was now : List Bool) → AreMarks (at front) group was
+    → ((index : ℕ) → index < 128 → IsSet now index ↔ (IsSet was index ⊎ IsPlacedBelow 64 (slice_index read) (128 * group + index)))
+    → AreMarks (at (front ++ (number, keys) ∷ [])) group now
+marks_more es front number keys rest met read own group was now before step index l =
+    ((λ t. to ((step index l).0 t)), (λ p. (step index l).1 (from (placed_more es front number keys rest met (128 * group + index) p))))
   where
-    to : IsSet was index ⊎ (place ≡ 128 * group + index) → IsPlaced (front ++ e ∷ []) (128 * group + index)
-    to (inl t) = placed_still front e (128 * group + index) ((before index l).0 t)
-    to (inr h) = placed_last front e (128 * group + index) (sym is ∙ h)
+    slot : ℕ
+    slot = 128 * group + index
 
-    from : IsPlaced front (128 * group + index) ⊎ (e.1 % 65536 ≡ 128 * group + index) → IsSet was index ⊎ (place ≡ 128 * group + index)
+    to : IsSet was index ⊎ IsPlacedBelow 64 (slice_index read) slot → IsPlaced (at (front ++ (number, keys) ∷ [])) slot
+    to (inl t) = placed_still es front number keys rest met slot ((before index l).0 t)
+    to (inr h) = placed_last es front number keys rest met slot (subst (λ (xs : Lanes). IsPlacedBelow 64 (slice_index xs) slot) own h)
+
+    from : IsPlaced (at front) slot ⊎ IsPlacedBelow 64 (slice_index keys) slot → IsSet was index ⊎ IsPlacedBelow 64 (slice_index read) slot
     from (inl p) = inl ((before index l).1 p)
-    from (inr h) = inr (is ∙ h)
+    from (inr h) = inr (subst (λ (xs : Lanes). IsPlacedBelow 64 (slice_index xs) slot) (sym own) h)
 
 -- counted marks count live slots
-pub counted : (es : Entries) → AreInOrder es → AreKeys es → (group slots count : ℕ) (marks : List Bool) → slots ≤ 128 → AreMarks es group marks
-    → IsCount (IsMarkedIn marks group slots) count → IsLiveCount (at es) group slots count
-counted es order keys group slots count marks few told h = count_same (IsMarkedIn marks group slots) (IsLiveIn (at es) group slots) count to from h
+pub counted : (keys : ℕ → ℕ) (group slots count : ℕ) (marks : List Bool) → slots ≤ 128 → AreMarks keys group marks
+    → IsCount (IsMarkedIn marks group slots) count → IsLiveCount keys group slots count
+counted keys group slots count marks few told h = count_same (IsMarkedIn marks group slots) (IsLiveIn keys group slots) count to from h
   where
     slot_is : (slot : ℕ) → slot / 128 ≡ group → 128 * group + slot % 128 ≡ slot
     slot_is slot e = omega arith
 
-    to : (slot : ℕ) → IsMarkedIn marks group slots slot → IsLiveIn (at es) group slots slot
+    to : (slot : ℕ) → IsMarkedIn marks group slots slot → IsLiveIn keys group slots slot
     to slot m = record {
       own = m.own;
       among = m.among;
-      live = live_placed es order keys slot
-          (subst (IsPlaced es) (slot_is slot m.own) ((told (slot % 128) (omega (arith, m.among))).0 m.marked));
+      live = live_placed keys slot (subst (IsPlaced keys) (slot_is slot m.own) ((told (slot % 128) (omega (arith, m.among))).0 m.marked));
     }
 
-    from : (slot : ℕ) → IsLiveIn (at es) group slots slot → IsMarkedIn marks group slots slot
+    from : (slot : ℕ) → IsLiveIn keys group slots slot → IsMarkedIn marks group slots slot
     from slot m = record {
       own = m.own;
       among = m.among;
-      marked = (told (slot % 128) (omega (arith, m.among))).1 (subst (IsPlaced es) (sym (slot_is slot m.own)) (placed_live es slot m.live));
+      marked = (told (slot % 128) (omega (arith, m.among))).1 (subst (IsPlaced keys) (sym (slot_is slot m.own)) (placed_live keys slot m.live));
     }
 
 -- what is read of the marks

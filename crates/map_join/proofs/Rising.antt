@@ -13,7 +13,7 @@ use Rattle.std.proofs.lemmas.Map.Keys.{IsDistinct-from_sorted, sorted_from_stric
 use Rattle.std.proofs.lemmas.Map.Made.{is_member-Decides, length-le_from_is_member}
 use Rattle.map_join.specs.Lists.{Lists, ListsBelow, IsCount}
 
-rising_push : (xs : List ℕ) (a : ℕ) → IsStrictlyIncreasing xs → ((n : ℕ) → Contains xs n → n < a) → IsStrictlyIncreasing (xs ++ a ∷ [])
+pub rising_push : (xs : List ℕ) (a : ℕ) → IsStrictlyIncreasing xs → ((n : ℕ) → Contains xs n → n < a) → IsStrictlyIncreasing (xs ++ a ∷ [])
 rising_push xs a rising below k within = by (cases_lt (k + 1) (length xs))
   where
     front : (j : ℕ) → j < length xs → get_or (xs ++ a ∷ []) j 0 ≡ get_or xs j 0

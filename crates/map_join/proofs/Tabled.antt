@@ -1,72 +1,52 @@
--- The map of a table of keys by block, by its entries.
-use Rattle.std.proofs.Common.{◌==◌, ◌&&◌, ◌≡◌, ℕ, zero, suc, ◌+◌, ◌^◌, ◌<◌, ◌≤◌, Bool, true, false, List, [], ◌∷◌, ◌++◌, drop, length, get_or, slice_index, Option, Some, None, unwrap_or, refl, sym, ap, ◌∙◌, subst, arith}
+-- The map of a table of keys by block, page after page.
+use Rattle.std.proofs.Common.{◌==◌, ◌&&◌, ◌≡◌, ℕ, zero, suc, ◌+◌, ◌-◌, ◌*◌, min, take, drop, ◌/◌, ◌%◌, ◌<◌, ◌≤◌, Bool, true, false, List, [], ◌∷◌, length, get_or, slice_index, refl, sym, ap, ◌∙◌, arith, ◌⊎◌, inl, inr}
+use Rattle.std.proofs.lemmas.Bool.{cases_eq, cases_lt}
 use Rattle.std.proofs.lemmas.Bool.Decides.{nat_tests}
-use Rattle.std.proofs.lemmas.List.{at_drop_more, drop_all}
-use Rattle.std.proofs.Math.Seq.{append_snoc}
-use Rattle.std.proofs.lemmas.Option.{same_Some, none-some}
-use Rattle.std.specs.BTreeMap.{BTreeMap, IsFromIterResult, get}
+use Rattle.std.proofs.lemmas.List.{get_or_past, get_or-take, get_or-drop, length-take}
 use Rattle.std.specs.List.{list_all}
-use Rattle.std.specs.Map.{update, update_all}
-use Rattle.std.specs.Ordering.{nat_cmp, eq_by_cmp}
-use Rattle.map_join.specs.Keys.{AreKeys}
-use Rattle.map_join.specs.Maps.{Entries, at, IsSame}
-use Rattle.map_join.specs.Tables.{IsTable, entries_from}
+use Rattle.map_join.specs.Maps.{IsSame}
+use Rattle.map_join.specs.Pages.{HasKey, IsPageOf, with_page}
+use Rattle.map_join.proofs.Paged.{with_here, with_else}
 
--- the key that an entry of the table gives its block: none where the entry is 0
-abbrev pub told_of : ℕ → Option ℕ
-told_of zero = None
-told_of (suc n) = Some (suc n)
+-- a map has the keys of a table's first pages
+pub record IsTabled (keys : List ℕ) (pages : ℕ) (M : ℕ → ℕ) : Type 0 where
+  pub below : (block : ℕ) → block < 64 * pages → M block ≡ slice_index keys block
+  pub rest : (block : ℕ) → 64 * pages ≤ block → M block ≡ 0
 
--- entries that are inserted in turn
-abbrev pub inserted : (ℕ → Option ℕ) → Entries → ℕ → Option ℕ
-inserted f es q = update_all (eq_by_cmp nat_cmp) f es q
+pub tabled_none : (keys : List ℕ) (M : ℕ → ℕ) → IsSame M (λ _. 0) → IsTabled keys 0 M
+tabled_none keys M none = record { below = λ block lt. absurd (omega arith); rest = λ block le. none block }
 
--- one entry
-abbrev pub updated : (ℕ → Option ℕ) → ℕ → ℕ → ℕ → Option ℕ
-updated f block key q = update (eq_by_cmp nat_cmp) f block (Some key) q
-
-here : (f : ℕ → Option ℕ) (block key : ℕ) → updated f block key block ≡ Some key
-here f block key = grind (arith, nat_tests)
-
-elsewhere : (f : ℕ → Option ℕ) (block key q : ℕ) → (block ≡ q → ⊥) → updated f block key q ≡ f q
-elsewhere f block key q ne = grind (arith, nat_tests)
-
--- a block below the first keeps what it had
-below : (keys : List ℕ) (first q : ℕ) (f : ℕ → Option ℕ) → q < first → inserted f (entries_from first keys) q ≡ f q
-below [] first q f l = refl
-below (zero ∷ keys) first q f l = below keys (first + 1) q f (omega arith)
-below (suc n ∷ keys) first q f l = below keys (first + 1) q (updated f first (suc n)) (omega arith) ∙ elsewhere f first (suc n) q (λ e. omega (arith, e, l))
-
--- the map has for a block of the table the key in its entry
-tabled : (keys : List ℕ) (first i q : ℕ) (f : ℕ → Option ℕ) → first + i ≡ q → f q ≡ None → inserted f (entries_from first keys) q ≡ told_of (get_or keys i 0)
-tabled [] first i q f is none = none
-tabled (zero ∷ keys) first zero q f is none = below keys (first + 1) q f (omega arith) ∙ none
-tabled (suc n ∷ keys) first zero q f is none =
-    below keys (first + 1) q (updated f first (suc n)) (omega arith) ∙ ap (updated f first (suc n)) (same is) ∙ here f first (suc n)
+-- one page more
+pub tabled_page : (keys table : List ℕ) (pages : ℕ) (M N : ℕ → ℕ) → IsPageOf (slice_index keys) pages table → IsSame N (with_page M pages (slice_index table))
+    → IsTabled keys pages M → IsTabled keys (pages + 1) N
+tabled_page keys table pages M N own now was = record { below = λ b lt. below b lt (cases_eq (b / 64) pages); rest = rest }
   where
-    same : first + 0 ≡ q → q ≡ first
-    same e = omega (arith, e)
-tabled (zero ∷ keys) first (suc i) q f is none = tabled keys (first + 1) i q f (omega arith) none
-tabled (suc n ∷ keys) first (suc i) q f is none =
-    tabled keys (first + 1) i q (updated f first (suc n)) (omega arith) (elsewhere f first (suc n) q (λ e. omega (arith, e, is)) ∙ none)
+    below : (b : ℕ) → b < 64 * (pages + 1) → (b / 64 ≡ pages) ⊎ (b / 64 ≡ pages → ⊥) → N b ≡ slice_index keys b
+    below b lt (inl is) =
+        let whole : 64 * pages + b % 64 ≡ b = omega arith in
+        now b ∙ with_here M pages (slice_index table) b is ∙ sym (own (b % 64) (omega arith)) ∙ ap (slice_index keys) whole
+    below b lt (inr ne) = now b ∙ with_else M pages (slice_index table) b ne ∙ was.below b (omega arith)
 
--- the map of all entries has of each block the key in the table
-looked : (keys : List ℕ) (m : BTreeMap ℕ ℕ) → IsFromIterResult nat_cmp (entries_from 0 keys) m → (block : ℕ) → get nat_cmp m block ≡ told_of (slice_index keys block)
-looked keys m is block = is.0 block ∙ tabled keys 0 block block (λ _. None) (omega arith) refl
+    rest : (b : ℕ) → 64 * (pages + 1) ≤ b → N b ≡ 0
+    rest b le = now b ∙ with_else M pages (slice_index table) b (λ is. absurd (omega arith)) ∙ was.rest b (omega arith)
 
-told_key : (key : ℕ) → unwrap_or (told_of key) 0 ≡ key
-told_key zero = refl
-told_key (suc n) = refl
-
-pub table_map : (keys : List ℕ) (m : BTreeMap ℕ ℕ) → IsFromIterResult nat_cmp (entries_from 0 keys) m → IsSame (at m.entries) (slice_index keys)
-table_map keys m is block = ap (λ o. unwrap_or o 0) (looked keys m is block) ∙ told_key (slice_index keys block)
-
-pub table_keys : (keys : List ℕ) (m : BTreeMap ℕ ℕ) → IsTable keys → IsFromIterResult nat_cmp (entries_from 0 keys) m → AreKeys m.entries
-table_keys keys m table is block key found = go (slice_index keys block) (table block) (sym (looked keys m is block) ∙ found)
+-- or one that has no key
+pub tabled_blank : (keys table : List ℕ) (pages : ℕ) (M : ℕ → ℕ) → IsPageOf (slice_index keys) pages table → IsSame (slice_index table) (λ _. 0)
+    → IsTabled keys pages M → IsTabled keys (pages + 1) M
+tabled_blank keys table pages M own none was = record { below = λ b lt. below b lt (cases_lt b (64 * pages)); rest = λ b le. was.rest b (omega arith) }
   where
-    go : (n : ℕ) → (0 < n → 2 ^ 32 ≤ n) → told_of n ≡ Some key → 2 ^ 32 ≤ key
-    go zero least e = absurd (none-some key e)
-    go (suc n) least e = subst (λ (k : ℕ). 2 ^ 32 ≤ k) (same_Some (suc n) key e) (least (omega arith))
+    below : (b : ℕ) → b < 64 * (pages + 1) → (b < 64 * pages) ⊎ (64 * pages ≤ b) → M b ≡ slice_index keys b
+    below b lt (inl l) = was.below b l
+    below b lt (inr le) =
+        let whole : 64 * pages + b % 64 ≡ b = omega arith in
+        was.rest b le ∙ sym (none (b % 64)) ∙ sym (own (b % 64) (omega arith)) ∙ ap (slice_index keys) whole
+
+pub tabled_all : (keys : List ℕ) (pages : ℕ) (M : ℕ → ℕ) → length keys ≤ 64 * pages → IsTabled keys pages M → IsSame M (slice_index keys)
+tabled_all keys pages M long done b = go (cases_lt b (64 * pages))
+  where
+    go : (b < 64 * pages) ⊎ (64 * pages ≤ b) → M b ≡ slice_index keys b
+    go (inl lt) = done.below b lt
+    go (inr le) = done.rest b le ∙ sym (get_or_past keys b 0 (omega arith))
 
 -- a table has no key exactly where each is 0
 pub all_zero : (keys : List ℕ) → list_all (λ (key : ℕ). key == 0) keys ≡ true → IsSame (slice_index keys) (λ _. 0)
@@ -78,41 +58,46 @@ all_zero (key ∷ keys) all (suc block) = all_zero keys (rest (key == 0) all) bl
     rest true e = e
     rest false e = cc
 
-pub some_key : (keys : List ℕ) → list_all (λ (key : ℕ). key == 0) keys ≡ false → IsSame (slice_index keys) (λ _. 0) → ⊥
-some_key [] all none = not_both all
+has_key : (keys : List ℕ) → list_all (λ (key : ℕ). key == 0) keys ≡ false → (lane : ℕ) × (lane < length keys) × (0 < get_or keys lane 0)
+has_key [] all = absurd (not_both all)
   where
     not_both : true ≡ false → ⊥
     not_both e = cc
-some_key (key ∷ keys) all none = some_key keys (rest (key == 0) first all) (λ block. none (suc block))
-  where
-    first : (key == 0) ≡ true
-    first = let z = none 0 in grind (arith, nat_tests)
+has_key (suc key ∷ keys) all = (0, omega arith, omega arith)
+has_key (zero ∷ keys) all = let found = has_key keys all in (suc found.0, (let l = found.1 in omega arith), found.2)
 
-    rest : (t : Bool) → t ≡ true → (t && list_all (λ (key : ℕ). key == 0) keys) ≡ false → list_all (λ (key : ℕ). key == 0) keys ≡ false
-    rest true is e = e
-    rest false is e = cc
+pub some_key : (keys : List ℕ) → length keys ≤ 64 → list_all (λ (key : ℕ). key == 0) keys ≡ false → HasKey keys
+some_key keys few all = let found = has_key keys all in (found.0, (let l = found.1 in omega arith), found.2)
 
--- what is entered and what is left are all entries, one key on
-abbrev pub Entered : List ℕ → Entries → ℕ → Type 0
-Entered keys front block = front ++ entries_from block (drop block keys) ≡ entries_from 0 keys
+-- the part of a table that is a page's
+abbrev pub part : List ℕ → ℕ → ℕ → List ℕ
+part keys pages stop = take (stop - pages * 64) (drop (pages * 64) keys)
 
--- the next key and the entries left after it
-opened : (keys : List ℕ) (front : Entries) (block : ℕ) → block < length keys → Entered keys front block
-    → front ++ entries_from block (slice_index keys block ∷ drop (block + 1) keys) ≡ entries_from 0 keys
-opened keys front block l so = sym (at_drop_more (λ xs. front ++ entries_from block xs) keys block 0 l) ∙ so
+module _ (keys : List ℕ) (pages stop : ℕ) (is : stop ≡ min (pages * 64 + 64) (length keys)) where
+  part_few : length (part keys pages stop) ≤ 64
+  part_few = let long = length-take (stop - pages * 64) (drop (pages * 64) keys) in omega arith
 
-pub step_past : (keys : List ℕ) (front : Entries) (block : ℕ) → block < length keys → slice_index keys block ≡ 0 → Entered keys front block → Entered keys front (block + 1)
-step_past keys front block l is so = sym (ap (λ key. front ++ entries_from block (key ∷ drop (block + 1) keys)) is) ∙ opened keys front block l so
+  pub table_page : IsPageOf (slice_index keys) pages (part keys pages stop)
+  table_page lane lt = go (cases_lt lane (stop - pages * 64))
+    where
+      rest : List ℕ
+      rest = drop (pages * 64) keys
 
-pub step_entered : (keys : List ℕ) (front : Entries) (block key : ℕ) → block < length keys → slice_index keys block ≡ key → (key ≡ 0 → ⊥) → Entered keys front block → Entered keys (front ++ (block, key) ∷ []) (block + 1)
-step_entered keys front block zero l is some so = absurd (some refl)
-step_entered keys front block (suc n) l is some so =
-    append_snoc front (block, suc n) (entries_from (block + 1) (drop (block + 1) keys))
-    ∙ sym (ap (λ key. front ++ entries_from block (key ∷ drop (block + 1) keys)) is) ∙ opened keys front block l so
+      go : (lane < stop - pages * 64) ⊎ (stop - pages * 64 ≤ lane) → get_or keys (64 * pages + lane) 0 ≡ get_or (part keys pages stop) lane 0
+      go (inl l) =
+          let order : pages * 64 + lane ≡ 64 * pages + lane = omega arith in
+          sym (get_or-take (stop - pages * 64) rest lane 0 l ∙ get_or-drop (pages * 64) keys lane 0 ∙ ap (λ i. get_or keys i 0) order)
+      go (inr le) =
+          let long = length-take (stop - pages * 64) rest in
+          get_or_past keys (64 * pages + lane) 0 (omega arith) ∙ sym (get_or_past (part keys pages stop) lane 0 (omega arith))
 
-pub all_entered : (keys : List ℕ) (front : Entries) (block : ℕ) → length keys ≤ block → Entered keys front block → front ≡ entries_from 0 keys
-all_entered keys front block past so = sym (right front) ∙ ap (λ xs. front ++ entries_from block xs) (sym (drop_all block keys past)) ∙ so
-  where
-    right : (es : Entries) → es ++ [] ≡ es
-    right [] = refl
-    right (e ∷ es) = ap (λ t. e ∷ t) (right es)
+  pub part_key : list_all (λ (key : ℕ). key == 0) (part keys pages stop) ≡ false → HasKey (part keys pages stop)
+  part_key all = some_key (part keys pages stop) part_few all
+
+  -- then the table has a key too
+  pub table_key : HasKey (part keys pages stop) → IsSame (slice_index keys) (λ _. 0) → false ≡ true
+  table_key some none =
+      let e = table_page some.0 some.1 in
+      let z = none (64 * pages + some.0) in
+      let above = some.2 in
+      absurd (omega arith)

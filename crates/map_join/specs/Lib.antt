@@ -1,7 +1,7 @@
 pub mod Record
 pub mod Maps
 pub mod Faults
-pub mod Keys
+pub mod Pages
 pub mod Lists
 pub mod Live
 pub mod Marks

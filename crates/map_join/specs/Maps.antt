@@ -1,26 +1,35 @@
 -- Maps from blocks to keys, their order and join, and the map of a list of records.
-use Rattle.std.specs.Prelude.{◌≡◌, ◌≢◌, ◌↔◌, ℕ, ◌<◌, ◌≤◌, max, ◌==◌, if◌then◌else◌, List, map, Option, Some, None, unwrap_or, Contains}
+use Rattle.std.specs.Prelude.{◌≡◌, ◌≢◌, ◌↔◌, ℕ, ◌<◌, ◌≤◌, ◌/◌, ◌%◌, max, ◌==◌, if◌then◌else◌, List, slice_index, map, Option, Some, None, Contains}
 use Rattle.std.specs.Map.{lookup, keys_of}
 use Rattle.std.specs.Ordering.{nat_cmp, is_eq}
 use Rattle.std.specs.List.Sorted.{IsStrictlyIncreasing, IsStrictlySortedBy}
 use Rattle.map_join.specs.declared.records.Record.{Record}
 use Rattle.map_join.specs.Record.{key_of, record_at}
 
--- what a block map shows: its blocks in order, each with its key
+-- the keys of a page, which are those of 64 consecutive blocks, 0 where a block has none
+abbrev pub Lanes : Type 0
+Lanes = List ℕ
+
+-- what a block map shows: its pages in order, each with its number, which is that of its blocks divided by 64
 abbrev pub Entries : Type 0
-Entries = List (ℕ × ℕ)
+Entries = List (ℕ × Lanes)
 
--- the key that a map has of a block, if any
-abbrev pub find : Entries → ℕ → Option ℕ
-find m block = lookup (λ b. is_eq (nat_cmp block b)) m
+-- the page that a map has of a number, if any
+abbrev pub find : Entries → ℕ → Option Lanes
+find m number = lookup (λ n. is_eq (nat_cmp number n)) m
 
--- the blocks of the entries rise
+-- the numbers of the pages rise
 abbrev pub AreInOrder : Entries → Type 0
 AreInOrder m = IsStrictlySortedBy nat_cmp (keys_of m)
 
+-- the key in a lane of a page, 0 where there is no page
+abbrev pub lanes_of : Option Lanes → ℕ → ℕ
+lanes_of None lane = 0
+lanes_of (Some keys) lane = slice_index keys lane
+
 -- a block map as a function: the block's key, or 0
-abbrev pub at : Entries → ℕ → ℕ
-at m block = unwrap_or (find m block) 0
+unfoldable pub at : Entries → ℕ → ℕ
+at m block = lanes_of (find m (block / 64)) (block % 64)
 
 -- two maps give each block the same key
 abbrev pub IsSame : (ℕ → ℕ) → (ℕ → ℕ) → Type 0

@@ -1,10 +1,17 @@
 -- Marks on the indexes of a group, as a walk of a map leaves them.
-use Rattle.std.specs.Prelude.{◌≡◌, ℕ, ◌/◌, ◌%◌, ◌<◌, Bool, true, Some, List, Contains, slice_get}
-use Rattle.map_join.specs.Maps.{Entries}
+use Rattle.std.specs.Prelude.{◌≡◌, ℕ, ◌/◌, ◌%◌, ◌^◌, ◌<◌, ◌≤◌, Bool, true, Some, List, slice_get}
 
--- some entry's key has the slot as its place
-abbrev pub IsPlaced : Entries → ℕ → Type 0
-IsPlaced entries slot = (e : ℕ × ℕ) × Contains entries e × (e.1 % 65536 ≡ slot)
+-- the block's key is a record's, and has the slot as its place
+abbrev pub IsPlacedAt : (ℕ → ℕ) → ℕ → ℕ → Type 0
+IsPlacedAt keys slot block = (2 ^ 32 ≤ keys block) × (keys block % 65536 ≡ slot)
+
+-- some key below a bound has
+abbrev pub IsPlacedBelow : ℕ → (ℕ → ℕ) → ℕ → Type 0
+IsPlacedBelow bound keys slot = (block : ℕ) × (block < bound) × IsPlacedAt keys slot block
+
+-- some block's key has
+abbrev pub IsPlaced : (ℕ → ℕ) → ℕ → Type 0
+IsPlaced keys slot = (block : ℕ) × IsPlacedAt keys slot block
 
 -- the index is marked
 abbrev pub IsSet : List Bool → ℕ → Type 0

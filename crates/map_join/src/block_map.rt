@@ -1,40 +1,38 @@
-// A block map: of each block the greatest key that it took.
-ghost use Rattle.std.specs.Prelude.{◌≡◌, ◌≢◌, ◌==◌, ℕ, ◌<◌, ◌≤◌, ◌^◌, List, [], ◌∷◌, ◌++◌, IsOk, IfOk, IfSome, IfNone, MatchOption, OnOk, OnErr, IsTrue, ◌↔◌, max, unwrap_or, length, slice_index};
+// A block map: of each block the greatest key that it took, in pages of 64 consecutive blocks.
+ghost use Rattle.std.specs.Prelude.{◌≡◌, ◌≢◌, ◌==◌, ℕ, ◌+◌, ◌*◌, ◌/◌, ◌%◌, ◌<◌, ◌≤◌, ◌^◌, List, [], ◌∷◌, ◌++◌, IsOk, IfOk, IfSome, MatchOption, OnOk, OnErr, IsTrue, ◌↔◌, max, length, slice_index, Some, None};
 ghost use Rattle.map_join.specs.Record.{record_at, key_of};
-ghost use Rattle.map_join.specs.Maps.{at, IsSame, IsBelow, join, lone, only, IsMapOf, IsListOf, IsPartlyJoined, IsDifference, AreInOrder};
+ghost use Rattle.map_join.specs.Maps.{find, at, lanes_of, IsSame, IsBelow, join, lone, only, IsMapOf, IsListOf, IsPartlyJoined, IsDifference};
 ghost use Rattle.map_join.specs.Numbers.{refusal_number};
-ghost use Rattle.std.specs.List.{filter_map, list_all};
-ghost use Rattle.std.specs.Ordering.{nat_cmp};
-ghost use Rattle.std.specs.BTreeMap.{IsOrdered, IsUnchanged, IsFromIterResult, Updates, get};
-ghost use Rattle.map_join.specs.Tables.{IsTable, entries_from};
+ghost use Rattle.map_join.specs.Pages.{HasKey, AreNumbers, HasSet, IsRaised, with_page, paged, IsPageOf, IsDifferenceOf, IsFirstBlock, lower_of, IsListBelow};
+ghost use Rattle.map_join.specs.Tables.{IsTable};
 
+use crate::page::{LANES, Page, block_of, covers_lanes, differing_lane, has_none};
 use crate::records::Record;
-use std::alloc::{AllocError, AllocFailed, Global};
+use std::alloc::{AllocError, Global};
 use std::collections::BTreeMap;
-use std::collections::btree_map::Iter;
 use std::marker::Model;
 
 /// The greatest key taken of each block.
 #[derive(Drop)]
 pub struct BlockMap {
-    pub(crate) keys: BTreeMap<u32, u64>,
+    pub(crate) pages: BTreeMap<u32, Page>,
 }
 
 impl Model for BlockMap {
     ghost use Rattle.map_join.specs.Maps.{Entries};
-    ghost use Rattle.map_join.specs.Keys.{AreKeys};
+    ghost use Rattle.map_join.specs.Pages.{AreNumbers};
 
     ghost Value = { Entries };
 
-    ghost view = { λ a. a.keys.entries };
+    ghost view = { λ a. a.pages.entries };
 
-    ghost invariant = { λ a. AreKeys a.keys.entries };
+    ghost invariant = { λ a. AreNumbers a.pages.entries };
 }
 
 /// Why a map did not grow.
 #[derive(Clone, Copy, Debug, PartialEq, Eq)]
 pub enum MapRefusal {
-    /// There is no memory for one more block.
+    /// There is no memory for one more page of 64 blocks.
     Memory,
 }
 
@@ -56,12 +54,12 @@ impl BlockMap {
         ensures map_of { IsMapOf [] (at result) }
     {
         BlockMap {
-            keys: BTreeMap::new(alloc),
+            pages: BTreeMap::new(alloc),
         }
     }
 
     /// The map of a table of keys by block, block 0's first. A block with entry 0 or past the end of the table has no key. The
-    /// map is built in one pass, which takes a fraction of the time of a call of `take` for each key. Allocates only where
+    /// map is built page by page, which takes a fraction of the time of a call of `take` for each key. Allocates only where
     /// there is a key.
     pub fn of_table(alloc: Global, keys: &[u64]) -> Result<BlockMap, MapRefusal>
         requires many { length keys.now ≤ 2 ^ 32 }
@@ -69,13 +67,32 @@ impl BlockMap {
         ensures table { IfOk result (λ map. IsSame (at map) (slice_index keys.now)) }
         ensures there { IsSame (slice_index keys.now) (λ _. 0) → IsOk result }
     {
-        if has_none(keys) {
-            return Ok(BlockMap::new(alloc));
+        let mut map = BlockMap::new(alloc);
+        for number in 0..keys.len().div_ceil(LANES) {
+            let start = number * LANES;
+            let table = &keys[start..(start + LANES).min(keys.len())];
+            if has_none(table) {
+                continue;
+            }
+            let Ok(()) = map.put_table(alloc, number as u32, table) else {
+                return Err(MapRefusal::Memory);
+            };
         }
-        let Ok(keys) = entered(alloc, keys) else {
-            return Err(MapRefusal::Memory);
-        };
-        Ok(BlockMap { keys })
+        Ok(map)
+    }
+
+    // Gives the map a page of the keys of a table.
+    fn put_table(&mut self, alloc: Global, number: u32, table: &[u64]) -> Result<(), MapRefusal>
+        requires number { number < 2 ^ 26 }
+        requires many { length table.now ≤ 64 }
+        requires written { IsTable table.now }
+        requires some { HasKey table.now }
+        ensures { OnOk result (IsSame (at self.new) (with_page (at self.old) number (slice_index table.now))) }
+    {
+        match Page::of_table(alloc, table) {
+            Ok(page) => put_page(&mut self.pages, number, page),
+            Err(_) => Err(MapRefusal::Memory),
+        }
     }
 
     /// The newest record of the block that the map took.
@@ -91,7 +108,7 @@ impl BlockMap {
         ensures value { result ≡ at self.now block }
         ensures least { 0 < result → 2 ^ 32 ≤ result }
     {
-        self.keys.get(&block).copied().unwrap_or(0)
+        lanes_in(&self.pages, block / 64)[(block % 64) as usize]
     }
 
     /// Joins the map with one record. Allocates only if the map has no key of the record's block.
@@ -104,23 +121,26 @@ impl BlockMap {
         // So a map that took some records, and then this one, is the map of them all.
         ensures map_of { OnOk result ((records : List Record) → IsMapOf records (at self.old) → IsMapOf (records ++ «record» ∷ []) (at self.new)) }
     {
-        self.raise(record.block, record.key())
+        self.raise(alloc, record.block, record.key())
     }
 
     // Gives a block the key, where that is above its own.
-    fn raise(&mut self, block: u32, key: u64) -> Result<(), MapRefusal>
+    fn raise(&mut self, alloc: Global, block: u32, key: u64) -> Result<(), MapRefusal>
         requires { 2 ^ 32 ≤ key }
         ensures ok { OnOk result (IsSame (at self.new) (join (at self.old) (lone block key))) }
         ensures err { OnErr result (self.new ≡ self.old) }
         ensures there { 0 < at self.old block → IsOk result }
     {
-        let Ok(()) = raise_key(&mut self.keys, block, key) else {
-            return Err(MapRefusal::Memory);
-        };
-        Ok(())
+        raise_key(
+            &mut self.pages,
+            alloc,
+            block / 64,
+            (block % 64) as usize,
+            key,
+        )
     }
 
-    /// Joins the map with another: block after block, or by one copy if it holds none itself. Allocates only for blocks that it
+    /// Joins the map with another: page after page, or by one copy if it holds none itself. Allocates only for blocks that it
     /// doesn't have.
     pub fn merge(&mut self, alloc: Global, other: &BlockMap) -> Result<(), MapRefusal>
         ensures ok { OnOk result (IsSame (at self.new) (join (at self.old) (at other.now))) }
@@ -134,11 +154,11 @@ impl BlockMap {
         ensures map_of { OnOk result ((ours theirs : List Record) →
             IsMapOf ours (at self.old) → IsMapOf theirs (at other.now) → IsMapOf (ours ++ theirs) (at self.new)) }
     {
-        if self.keys.is_empty() {
+        if self.pages.is_empty() {
             return self.take_over(alloc, other);
         }
-        for (block, key) in other.keys.iter() {
-            match self.raise(*block, *key) {
+        for (number, page) in other.pages.iter() {
+            match self.join_page(*number, page) {
                 Ok(()) => {}
                 Err(refusal) => return Err(refusal),
             }
@@ -146,18 +166,25 @@ impl BlockMap {
         Ok(())
     }
 
+    // Gives each block of a page the greater of its keys.
+    fn join_page(&mut self, number: u32, page: &Page) -> Result<(), MapRefusal>
+        requires { number < 2 ^ 26 }
+        ensures ok { OnOk result (IsSame (at self.new) (join (at self.old) (paged number (slice_index page.now)))) }
+        ensures err { OnErr result (self.new ≡ self.old) }
+        ensures absent { OnErr result (find self.old number ≡ None) }
+        ensures some { HasKey page.now }
+    {
+        raise_page(&mut self.pages, number, page)
+    }
+
     // Gives a map that holds no block all keys of another.
     fn take_over(&mut self, alloc: Global, other: &BlockMap) -> Result<(), MapRefusal>
         requires { self.old ≡ [] }
         ensures ok { OnOk result (self.new ≡ other.now) }
-        ensures err { OnErr result (self.new ≡ self.old) }
         ensures partly { OnErr result (IsPartlyJoined (at self.old) (at other.now) (at self.new)) }
     {
-        if other.keys.len() == 0 {
-            return Ok(());
-        }
-        match copied_keys(alloc, &other.keys) {
-            Ok(keys) => self.keys = keys,
+        match copied_pages(alloc, &other.pages) {
+            Ok(pages) => self.pages = pages,
             Err(_) => return Err(MapRefusal::Memory),
         }
         Ok(())
@@ -167,16 +194,15 @@ impl BlockMap {
     pub fn agrees(&self, other: &BlockMap) -> bool
         ensures { IsTrue result ↔ IsSame (at self.now) (at other.now) }
     {
-        same_keys(&self.keys, &other.keys)
+        self.lowest_difference(other).is_none()
     }
 
     /// Whether the map's key of every block is at least the other's.
     pub fn covers(&self, other: &BlockMap) -> bool
         ensures { IsTrue result ↔ IsBelow (at other.now) (at self.now) }
     {
-        let mut ours = self.keys.iter();
-        for (block, theirs) in other.keys.iter() {
-            if key_ahead(&mut ours, *block) < *theirs {
+        for (number, page) in other.pages.iter() {
+            if !covers_lanes(lanes_in(&self.pages, *number), page.lanes()) {
                 return false;
             }
         }
@@ -187,17 +213,9 @@ impl BlockMap {
     pub fn lowest_difference(&self, other: &BlockMap) -> Option<u32>
         ensures { IsDifference (at self.now) (at other.now) result }
     {
-        let mut theirs = other.keys.iter();
-        for (block, key) in self.keys.iter() {
-            let Some((their_block, their_key)) = theirs.next() else {
-                return Some(*block);
-            };
-            if *block != *their_block || *key != *their_key {
-                return Some((*block).min(*their_block));
-            }
-        }
-        let (block, _) = theirs.next()?;
-        Some(*block)
+        let ours = first_difference(&self.pages, &other.pages);
+        let theirs = first_difference(&other.pages, &self.pages);
+        lower(ours, theirs)
     }
 
     /// The newest record of each block, in the blocks' order. Allocates only if the map has a block.
@@ -205,10 +223,14 @@ impl BlockMap {
         ensures list { IfOk result (λ list. IsListOf (at self.now) list.items) }
         ensures there { IsSame (at self.now) (λ _. 0) → IsOk result }
     {
-        match listed(alloc, &self.keys) {
-            Ok(list) => Ok(list),
-            Err(_) => Err(MapRefusal::Memory),
+        let mut list = Vec::new(alloc);
+        for (number, page) in self.pages.iter() {
+            match list_page(&mut list, *number, page.lanes()) {
+                Ok(()) => {}
+                Err(_) => return Err(MapRefusal::Memory),
+            }
         }
+        Ok(list)
     }
 
     /// A second map with the same keys. Allocates only if the map has a block.
@@ -216,91 +238,129 @@ impl BlockMap {
         ensures copy { IfOk result (λ copy. copy ≡ self.now) }
         ensures there { IsSame (at self.now) (λ _. 0) → IsOk result }
     {
-        match copied_keys(alloc, &self.keys) {
-            Ok(keys) => Ok(BlockMap { keys }),
+        match copied_pages(alloc, &self.pages) {
+            Ok(pages) => Ok(BlockMap { pages }),
             Err(_) => Err(MapRefusal::Memory),
         }
     }
 }
 
-// Whether a table has no key.
-fn has_none(keys: &[u64]) -> bool
-    ensures { result ≡ list_all (λ key. key == 0) keys.now }
+// What is read where there is no page.
+static NO_KEYS: [u64; LANES] = [0; LANES];
+
+// The keys of a page, all 0 where it isn't there.
+fn lanes_in(pages: &BTreeMap<u32, Page>, number: u32) -> &[u64; LANES]
+    ensures value { IsSame (slice_index result.now) (lanes_of (find pages.now.entries number)) }
+    ensures least { IsTable result.now }
 {
-    keys.iter().all(|key| *key == 0)
+    match pages.get(&number) {
+        Some(page) => page.lanes(),
+        None => &NO_KEYS,
+    }
 }
 
-// The entries of a table that has keys by block.
-fn entered(alloc: Global, keys: &[u64]) -> Result<BTreeMap<u32, u64>, AllocError>
-    requires { length keys.now ≤ 2 ^ 32 }
-    ensures { IfOk result (IsFromIterResult nat_cmp (entries_from 0 keys.now)) }
+// Gives a block of a page the greater of its key and this one. A page that is there needs no memory.
+fn raise_key(
+    pages: &mut BTreeMap<u32, Page>,
+    alloc: Global,
+    number: u32,
+    lane: usize,
+    key: u64,
+) -> Result<(), MapRefusal>
+    requires lane { lane < 64 }
+    requires key { 2 ^ 32 ≤ key }
+    ensures ok { OnOk result (IsRaised pages.old.entries pages.new.entries number (lone lane key)) }
+    ensures err { OnErr result (pages.new.entries ≡ pages.old.entries) }
+    ensures absent { OnErr result (find pages.old.entries number ≡ None) }
 {
-    let mut entries = Vec::with_capacity(alloc, keys.len())?;
-    for (block, key) in keys.iter().enumerate() {
-        if *key != 0 {
-            entries.push((block as u32, *key))?;
+    if let Some(page) = pages.get_mut(&number) {
+        page.raise(lane, key);
+        return Ok(());
+    }
+    match Page::of_key(alloc, lane, key) {
+        Ok(page) => put_page(pages, number, page),
+        Err(_) => Err(MapRefusal::Memory),
+    }
+}
+
+// Gives each block of a page the greater of its keys. A page that is there needs no memory.
+fn raise_page(pages: &mut BTreeMap<u32, Page>, number: u32, theirs: &Page) -> Result<(), MapRefusal>
+    ensures ok { OnOk result (IsRaised pages.old.entries pages.new.entries number (slice_index theirs.now)) }
+    ensures err { OnErr result (pages.new.entries ≡ pages.old.entries) }
+    ensures absent { OnErr result (find pages.old.entries number ≡ None) }
+    ensures some { HasKey theirs.now }
+{
+    let _keys = theirs.lanes();
+    if let Some(page) = pages.get_mut(&number) {
+        page.join(theirs);
+        return Ok(());
+    }
+    match theirs.clone() {
+        Ok(page) => put_page(pages, number, page),
+        Err(_) => Err(MapRefusal::Memory),
+    }
+}
+
+// Makes this the page of its number.
+fn put_page(pages: &mut BTreeMap<u32, Page>, number: u32, page: Page) -> Result<(), MapRefusal>
+    ensures ok { OnOk result (HasSet pages.old.entries pages.new.entries number page) }
+    ensures err { OnErr result (pages.new.entries ≡ pages.old.entries) }
+{
+    match pages.insert(number, page) {
+        Ok(_) => Ok(()),
+        Err(_) => Err(MapRefusal::Memory),
+    }
+}
+
+// The lowest block of which the first has a key and the second has not the same.
+fn first_difference(ours: &BTreeMap<u32, Page>, theirs: &BTreeMap<u32, Page>) -> Option<u32>
+    requires { AreNumbers ours.now.entries }
+    ensures { IsDifferenceOf (at ours.now.entries) (at theirs.now.entries) result }
+{
+    for (number, page) in ours.iter() {
+        if let Some(lane) = differing_lane(page.lanes(), lanes_in(theirs, *number)) {
+            return Some(block_of(*number, lane));
         }
     }
-    entries.into_iter().collect(alloc)
+    None
 }
 
-// Gives a block the greater of its key and this one, by one search for its place.
-fn raise_key(keys: &mut BTreeMap<u32, u64>, block: u32, key: u64) -> Result<(), AllocFailed<u32>>
-    ensures ok { OnOk result (Updates nat_cmp keys.old keys.new block
-        (Some (max key (unwrap_or (get nat_cmp keys.old block) key)))) }
-    ensures err { OnErr result (IsUnchanged keys.old keys.new) }
-    ensures absent { OnErr result (get nat_cmp keys.old block ≡ None) }
+// The lower of two blocks, where there are any.
+fn lower(ours: Option<u32>, theirs: Option<u32>) -> Option<u32>
+    ensures { result ≡ lower_of ours theirs }
 {
-    let had = keys.entry(block)?.or_insert(key);
-    *had = key.max(*had);
+    match (ours, theirs) {
+        (Some(one), Some(other)) => Some(one.min(other)),
+        (None, other) => other,
+        (one, None) => one,
+    }
+}
+
+// Adds the records of a page to a list.
+fn list_page(list: &mut Vec<Record>, number: u32, keys: &[u64; LANES]) -> Result<(), AllocError>
+    requires { number < 2 ^ 26 }
+    ensures { OnOk result ((M : ℕ → ℕ) → IsPageOf M number keys.now → IsListBelow (64 * number) M list.old.items
+        → IsListBelow (64 * number + 64) M list.new.items) }
+{
+    for lane in 0..64 {
+        if let Some(record) = Record::of_key(block_of(number, lane), keys[lane as usize]) {
+            list.push(record)?;
+        }
+    }
     Ok(())
 }
 
-// Whether both have the same entries. `==` says nothing of the blocks' order, `len` does.
-fn same_keys(ours: &BTreeMap<u32, u64>, theirs: &BTreeMap<u32, u64>) -> bool
-    ensures same { IsTrue result ↔ (ours.now.entries ≡ theirs.now.entries) }
-    ensures ordered { IsOrdered nat_cmp ours.now × IsOrdered nat_cmp theirs.now }
+// A copy of the pages. Allocates only if there are any.
+fn copied_pages(
+    alloc: Global,
+    pages: &BTreeMap<u32, Page>,
+) -> Result<BTreeMap<u32, Page>, AllocError>
+    ensures ok { IfOk result (λ copy. copy.entries ≡ pages.now.entries) }
+    ensures err { OnErr result ((block : ℕ) × IsFirstBlock (at pages.now.entries) block) }
 {
-    ours.len() == theirs.len() && *ours == *theirs
-}
-
-// The key of a block, or 0, by going past the entries of all lower blocks, and past the first that is not lower.
-fn key_ahead(entries: &mut Iter<'_, u32, u64>, block: u32) -> u64
-    requires { AreInOrder entries.old }
-    ensures key { result ≡ at entries.old block }
-    ensures ahead { AreInOrder entries.new }
-    ensures rest { 0 < result →
-        (higher : ℕ) → block < higher → at entries.new higher ≡ at entries.old higher }
-{
-    while let Some((here, key)) = entries.next() {
-        if *here >= block {
-            return if *here == block { *key } else { 0 };
-        }
-    }
-    0
-}
-
-// The record of each entry.
-fn listed(alloc: Global, keys: &BTreeMap<u32, u64>) -> Result<Vec<Record>, AllocError>
-    ensures ok { IfOk result (λ list. list.items ≡ filter_map (λ e. record_at e.0 e.1) keys.now.entries) }
-    ensures there { keys.now.entries ≡ [] → IsOk result }
-    ensures ordered { IsOrdered nat_cmp keys.now }
-{
-    if keys.len() == 0 {
-        return Ok(Vec::new(alloc));
-    }
-    keys.iter()
-        .filter_map(|(block, key)| Record::of_key(*block, *key))
-        .collect(alloc)
-}
-
-// A copy of the entries. Allocates only if there are any.
-fn copied_keys(alloc: Global, keys: &BTreeMap<u32, u64>) -> Result<BTreeMap<u32, u64>, AllocError>
-    ensures ok { IfOk result (λ copy. copy.entries ≡ keys.now.entries) }
-    ensures there { keys.now.entries ≡ [] → IsOk result }
-{
-    if keys.len() == 0 {
+    let Some((_number, page)) = pages.iter().next() else {
         return Ok(BTreeMap::new(alloc));
-    }
-    keys.clone()
+    };
+    let _keys = page.lanes();
+    pages.clone()
 }

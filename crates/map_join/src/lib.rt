@@ -4,6 +4,7 @@
 mod block_map;
 mod laws;
 mod newest;
+mod page;
 mod records;
 
 pub use block_map::{BlockMap, MapRefusal};

@@ -1,14 +1,15 @@
 // What knows where the newest records of blocks lie: a map joined from records, or an array that keeps one.
-ghost use Rattle.std.specs.Prelude.{◌≡◌, ◌↔◌, ◌⊎◌, ℕ, ◌+◌, ◌*◌, ◌%◌, ◌<◌, ◌≤◌, MatchOption, Contains};
-ghost use Rattle.std.specs.Ordering.{nat_cmp};
-ghost use Rattle.std.specs.BTreeMap.{IsOrdered};
+ghost use Rattle.std.specs.Prelude.{◌≡◌, ◌↔◌, ◌⊎◌, ℕ, ◌+◌, ◌*◌, ◌%◌, ◌<◌, ◌≤◌, MatchOption, IfSome, slice_index};
 ghost use Rattle.map_join.specs.Record.{record_at};
 ghost use Rattle.map_join.specs.Maps.{at};
 ghost use Rattle.map_join.specs.Lists.{IsCount};
 ghost use Rattle.map_join.specs.Live.{IsBlockAt, IsLiveCount};
-ghost use Rattle.map_join.specs.Marks.{IsPlaced, IsSet, IsMarkedIn};
+ghost use Rattle.map_join.specs.Marks.{IsPlacedAt, IsPlacedBelow, IsPlaced, IsSet, IsMarkedIn};
+ghost use Rattle.map_join.specs.Pages.{AreNumbers};
+ghost use Rattle.map_join.specs.Tables.{IsTable};
 
 use crate::block_map::BlockMap;
+use crate::page::{LANES, Page, block_of};
 use crate::records::Record;
 use std::collections::BTreeMap;
 
@@ -50,11 +51,11 @@ impl Live for BlockMap {
     ghost keys = { at };
 
     fn block_at(&self, slot: u16) -> Option<u32> {
-        placed_at(&self.keys, slot)
+        placed_at(&self.pages, slot)
     }
 
     fn count_live(&self, group: u16, slots: u16) -> u16 {
-        let marks = places_in(&self.keys, group);
+        let marks = places_in(&self.pages, group);
         count_marks(&marks, group, slots)
     }
 }
@@ -67,30 +68,57 @@ fn place_in(key: u64) -> u16
 }
 
 // The first block whose key has the slot as its place.
-fn placed_at(keys: &BTreeMap<u32, u64>, slot: u16) -> Option<u32>
-    ensures at { MatchOption result (IsPlaced keys.now.entries slot → ⊥)
-        (λ block. (key : ℕ) × Contains keys.now.entries (block, key) × (key % 65536 ≡ slot)) }
-    ensures ordered { IsOrdered nat_cmp keys.now }
+fn placed_at(pages: &BTreeMap<u32, Page>, slot: u16) -> Option<u32>
+    requires { AreNumbers pages.now.entries }
+    ensures { MatchOption result (IsPlaced (at pages.now.entries) slot → ⊥) (IsPlacedAt (at pages.now.entries) slot) }
 {
-    for (block, key) in keys.iter() {
-        if place_in(*key) == slot {
-            return Some(*block);
+    for (number, page) in pages.iter() {
+        if let Some(lane) = placed_lane(page.lanes(), slot) {
+            return Some(block_of(*number, lane));
+        }
+    }
+    None
+}
+
+// The first lane whose key has the slot as its place.
+fn placed_lane(keys: &[u64; LANES], slot: u16) -> Option<u32>
+    requires { IsTable keys.now }
+    ensures at { MatchOption result (IsPlacedBelow 64 (slice_index keys.now) slot → ⊥) (IsPlacedAt (slice_index keys.now) slot) }
+    ensures low { IfSome result (λ lane. lane < 64) }
+{
+    for lane in 0..64 {
+        let key = keys[lane as usize];
+        if key != 0 && place_in(key) == slot {
+            return Some(lane);
         }
     }
     None
 }
 
 // Which of the group's indexes are places in keys.
-fn places_in(keys: &BTreeMap<u32, u64>, group: u16) -> [bool; 128]
+fn places_in(pages: &BTreeMap<u32, Page>, group: u16) -> [bool; 128]
     requires { group < 512 }
-    ensures marks { (index : ℕ) → index < 128 → IsSet result index ↔ IsPlaced keys.now.entries (128 * group + index) }
-    ensures ordered { IsOrdered nat_cmp keys.now }
+    ensures { (index : ℕ) → index < 128 → IsSet result index ↔ IsPlaced (at pages.now.entries) (128 * group + index) }
 {
     let mut marks = no_marks();
-    for (_block, key) in keys.iter() {
-        mark_place(&mut marks, group, place_in(*key));
+    for (_number, page) in pages.iter() {
+        mark_lanes(&mut marks, group, page.lanes());
     }
     marks
+}
+
+// Marks the places of the keys of a page.
+fn mark_lanes(marks: &mut [bool; 128], group: u16, keys: &[u64; LANES])
+    requires group { group < 512 }
+    requires least { IsTable keys.now }
+    ensures { (index : ℕ) → index < 128 → IsSet marks.new index ↔ (IsSet marks.old index ⊎ IsPlacedBelow 64 (slice_index keys.now) (128 * group + index)) }
+{
+    for lane in 0..LANES {
+        let key = keys[lane];
+        if key != 0 {
+            mark_place(marks, group, place_in(key));
+        }
+    }
 }
 
 // No index is marked.

@@ -1,9 +1,7 @@
-use Rattle.std.proofs.Common.{◌≡◌, ◌++◌, ℕ, ◌<◌, ◌+◌, ◌*◌, ◌↔◌}
-use Rattle.map_join.specs.Maps.{Entries}
-use Rattle.map_join.specs.Marks.{IsPlaced, IsSet}
+use Rattle.std.proofs.Common.{◌≡◌, ◌++◌}
+use Rattle.map_join.specs.Maps.{Entries, at}
+use Rattle.map_join.proofs.Placing.{AreMarks}
 use Rattle.map_join.proofs.newest.places_in.Given as goal
 
-abbrev pub invariant-loop-block : goal.invariant-loop-block
-invariant-loop-block l =
-    (front : Entries) × (front ++ l._block-iterator ≡ l.keys.entries)
-    × ((index : ℕ) → index < 128 → IsSet l.marks index ↔ IsPlaced front (128 * l.group + index))
+abbrev pub invariant-loop-number : goal.invariant-loop-number
+invariant-loop-number l = (front : Entries) × (front ++ l._number-iterator ≡ l.pages.entries) × AreMarks (at front) l.group l.marks

@@ -6,4 +6,4 @@ use Rattle.map_join.proofs.newest.BlockMapLive.block_at.Goals as goal
 
 pub returns : goal.returns
 returns c = subst (λ (es : Entries). IsBlockAt (at es) c.args.slot c.placed_at.result) c.self.view_is
-    (block_at c.self.inside.keys.entries c.placed_at.ensures.ordered c.self.invariant c.args.slot c.placed_at.result c.placed_at.ensures.at)
+    (block_at (at c.self.inside.pages.entries) c.args.slot c.placed_at.result c.placed_at.ensures)

@@ -6,4 +6,4 @@ use Rattle.map_join.proofs.newest.BlockMapLive.count_live.Goals as goal
 
 pub returns : goal.returns
 returns c = subst (λ (es : Entries). IsLiveCount (at es) c.args.group c.args.slots c.count_marks.result) c.self.view_is
-    (counted c.self.inside.keys.entries c.places_in-marks.ensures.ordered c.self.invariant c.args.group c.args.slots c.count_marks.result c.places_in-marks.result c.requires.slots c.places_in-marks.ensures.marks c.count_marks.ensures)
+    (counted (at c.self.inside.pages.entries) c.args.group c.args.slots c.count_marks.result c.places_in-marks.result c.requires.slots c.places_in-marks.ensures c.count_marks.ensures)
