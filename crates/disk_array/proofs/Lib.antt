@@ -2,6 +2,7 @@ pub mod Adopters
 pub mod Resting
 pub mod Ready
 pub mod Living
+pub mod Uncounted
 pub mod News
 pub mod BlockReads
 pub mod Learnings

@@ -70,6 +70,9 @@ fn count_newest<C: Hold>(places: &[Place<C>], group: u16) -> u16
     requires { group < 512 }
     ensures { result ≡ newest_below (kepts_of places.now) group 128 }
 {
+    if usize::from(SLOTS * group) >= places.len() {
+        return 0;
+    }
     let mut count = 0;
     for index in 0..SLOTS {
         if is_live(places, SLOTS * group + index) {

@@ -1,11 +1,14 @@
-// The exclusive or of two runs of bytes: by lanes as far as whole vectors go, then byte by byte.
+// The exclusive or of two runs of bytes: by lanes of 32 and of 8 bytes as far as these go, then byte by byte.
 ghost use Rattle.std.specs.Prelude.{◌≡◌, length};
 ghost use Rattle.extent_groups.specs.Units.{plus};
 
-use std::simd::u8x32;
+use std::simd::{u8x8, u8x32};
 
 /// Bytes of one vector.
 const LANES: usize = 32;
+
+/// Bytes of one step after the vectors. A unit has whole steps, so no byte of it is left over.
+const STEP: usize = 8;
 
 /// Puts the exclusive or of both into the first, byte by byte.
 pub fn xor_into(into: &mut [u8], from: &[u8])
@@ -18,7 +21,14 @@ pub fn xor_into(into: &mut [u8], from: &[u8])
         let lanes = u8x32::from_slice(&into[at..]) ^ u8x32::from_slice(&from[at..]);
         lanes.copy_to_slice(&mut into[at..]);
     }
-    for i in LANES * whole..into.len() {
+    // Four steps are a vector.
+    let steps = into.len() / STEP;
+    for step in 4 * whole..steps {
+        let at = STEP * step;
+        let lanes = u8x8::from_slice(&into[at..]) ^ u8x8::from_slice(&from[at..]);
+        lanes.copy_to_slice(&mut into[at..]);
+    }
+    for i in STEP * steps..into.len() {
         into[i] ^= from[i];
     }
 }

@@ -26,7 +26,9 @@ pub use parity::read_parity;
 pub use way::Way;
 
 // Reads the first bytes of a slot's effective unit, `buffer.len()` of them, with another buffer for each member's and one of a
-// unit's length or, for a whole unit, an empty one; false where the unit's drive and another member's are lost.
+// unit's length or, for a whole unit, an empty one; false where the unit's drive and another member's are lost. Inlined, so that
+// a header's copy has a constant length.
+#[inline(always)]
 fn read_fronts<D: Drive>(
     groups: &GroupTable,
     drives: &mut [D],

@@ -21,6 +21,8 @@ fn clear(unit: &mut [u8])
 
 /// Reads the first bytes of a unit of a stripe, `front.len()` of them, or adds up those of all others where its drive is lost.
 /// Takes a buffer for each, and one of a unit's length or, for whole units, an empty one. False where one of these is lost too.
+/// Inlined, as the read of the unit itself is short.
+#[inline(always)]
 pub(crate) fn read_stripe<D: Drive>(
     groups: &GroupTable,
     drives: &mut [D],

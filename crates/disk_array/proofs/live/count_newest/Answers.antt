@@ -3,6 +3,7 @@ use Rattle.array_model.specs.Views.{Nothing}
 use Rattle.slot_tables.specs.Kept.{kepts_of}
 use Rattle.slot_tables.specs.Counted.{newest_in}
 use Rattle.slot_tables.proofs.Counts.{below_none, more_below, newest_none, newest_one, no_more}
+use Rattle.disk_array.proofs.Uncounted.{none_past}
 use Rattle.disk_array.proofs.live.count_newest.Goals as goal
 use Rattle.disk_array.proofs.live.count_newest.Goals.{then-is_live, else-is_live}
 
@@ -31,3 +32,8 @@ loop-index-preserved g c =
           let count = w.count-is in
           omega (arith, more, none, count)
     ]
+
+pub returns-then-from-places : goal.returns-then-from-places
+returns-then-from-places g c =
+    let past = c.if-from-places.true in
+    sym (none_past c.args.places.now c.args.group 128 (omega (arith, past)))

@@ -1,4 +1,4 @@
-use Rattle.std.proofs.Common.{◌+◌, ◌*◌, refl, ◌∙◌, ap, arith, get_or, set}
+use Rattle.std.proofs.Common.{◌≡◌, ◌+◌, ◌*◌, ◌/◌, length, refl, ◌∙◌, ap, arith, get_or, set}
 use Rattle.std.specs.Prelude.{bit_xor}
 use Rattle.std.specs.Simd.Lanes.{zip2, chunk, put_chunk}
 use Rattle.parity_store.proofs.Mixed.{mixed_more, mixed_block, mixed_all}
@@ -9,6 +9,18 @@ loop-block-preserved c =
     let at = 32 * c.loop-block.block in
     ap (λ t. put_chunk at t (zip2 bit_xor (chunk at 32 t) (chunk at 32 c.args.from.now))) c.loop-block.invariant
     ∙ mixed_block at (32 * (c.loop-block.block + 1)) 32 c.args.into.now c.args.from.now (omega arith) (omega (arith, c.loop-block-test.true)) c.requires
+
+pub loop-step-init : goal.loop-step-init
+loop-step-init c =
+    let all : c.loop-block.block ≡ length c.args.into.now / 32 = omega (arith, c.loop-block-test.false, c.loop-block.auto.block-end) in
+    let same : 8 * (4 * (length c.args.into.now / 32)) ≡ 32 * (length c.args.into.now / 32) = omega arith in
+    rw same (rw all at c.loop-block.invariant)
+
+pub loop-step-preserved : goal.loop-step-preserved
+loop-step-preserved c =
+    let at = 8 * c.loop-step.step in
+    ap (λ t. put_chunk at t (zip2 bit_xor (chunk at 8 t) (chunk at 8 c.args.from.now))) c.loop-step.invariant
+    ∙ mixed_block at (8 * (c.loop-step.step + 1)) 8 c.args.into.now c.args.from.now (omega arith) (omega (arith, c.loop-step-test.true)) c.requires
 
 pub loop-i-preserved : goal.loop-i-preserved
 loop-i-preserved c =
