@@ -1,10 +1,11 @@
-// Loaded before a program: fails the N-th call that opens, reads, writes or syncs a file (FAIL=N) with an input/output error.
+// Loaded before a program: fails the N-th call that opens, reads, writes, syncs, renames or removes a file (FAIL=N) with an input/output error.
 // After a failed call the file that REFUSED names exists. Standard input, output and error are left alone.
 #define _GNU_SOURCE
 #include <dlfcn.h>
 #include <errno.h>
 #include <fcntl.h>
 #include <stdarg.h>
+#include <stdio.h>
 #include <stdlib.h>
 #include <sys/types.h>
 #include <unistd.h>
@@ -63,4 +64,14 @@ ssize_t pwrite64(int file, const void *from, size_t bytes, off64_t at) {
 int fdatasync(int file) {
     NEXT(fdatasync);
     return fails() ? -1 : next(file);
+}
+
+int rename(const char *from, const char *to) {
+    NEXT(rename);
+    return fails() ? -1 : next(from, to);
+}
+
+int unlink(const char *path) {
+    NEXT(unlink);
+    return fails() ? -1 : next(path);
 }

@@ -47,10 +47,10 @@ abbrev pub HasVersionZero : List ℕ → Type 0
 HasVersionZero bytes =
     (index : ℕ) × (index < length bytes / 12) × (big_number 4 (drop 4 (piece bytes index)) ≡ 0)
 
--- the bytes are no list of records
+-- the bytes are no list of records; a part of a record is found before a version
 abbrev pub IsNoList : Status → List ℕ → Type 0
 IsNoList is.Length bytes = length bytes % 12 ≢ 0
-IsNoList is.Version bytes = HasVersionZero bytes
+IsNoList is.Version bytes = (length bytes % 12 ≡ 0) × HasVersionZero bytes
 IsNoList _ bytes = ⊥
 
 -- or memory ran out

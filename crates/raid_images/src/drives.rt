@@ -3,17 +3,14 @@ ghost use Rattle.std.specs.Prelude.{◌≡◌, None, IfOk};
 
 use crate::table::Table;
 use crate::trouble::Trouble;
-use crate::words::Files;
+use crate::words::{Files, LOST};
 use array_parts::Parts;
 use extents::{Drive, MemDrive, Shape};
 use file_drive::{Backing, OnFile};
 use images::{ImageRefusal, image_of, load};
-use std::alloc::Global;
+use std::alloc::{AllocError, Global};
 use std::fs::{self, File, OpenOptions};
 use std::io;
-
-/// The word for a lost drive.
-const LOST: &str = "-";
 
 /// The trouble of a file that can't be read.
 fn unread(error: &io::Error, file: usize) -> Trouble {
@@ -87,6 +84,14 @@ pub(crate) fn parts_of(rt: &HostRuntime, files: Files<'_, '_>) -> Result<Parts<M
     })
 }
 
+// The name under which a file is written, until all are.
+fn fresh_name(alloc: Global, name: &str) -> Result<String, AllocError> {
+    let mut fresh = String::new(alloc);
+    fresh.push_str(name)?;
+    fresh.push_str(".new")?;
+    Ok(fresh)
+}
+
 // Makes the file empty, and opens it for writing.
 fn emptied(rt: &HostRuntime, name: &str) -> io::Result<File> {
     OpenOptions::new()
@@ -96,7 +101,7 @@ fn emptied(rt: &HostRuntime, name: &str) -> io::Result<File> {
         .open(rt, name)
 }
 
-// Writes a file by one write, and makes it durable.
+// Writes a file by one write, and syncs it.
 fn put_file(rt: &HostRuntime, name: &str, bytes: &[u8]) -> io::Result<()> {
     let mut backing = OnFile {
         file: emptied(rt, name)?,
@@ -108,23 +113,53 @@ fn put_file(rt: &HostRuntime, name: &str, bytes: &[u8]) -> io::Result<()> {
     backing.sync()
 }
 
-/// Writes a file whole: its bytes are durable where this is Ok.
+// The trouble of a file that can't be written.
+fn unwritten(error: &io::Error, file: usize) -> Trouble {
+    match error.kind() {
+        io::ErrorKind::OutOfMemory => Trouble::Memory,
+        _ => Trouble::Write(file),
+    }
+}
+
+/// Writes and syncs a file under its name with `.new` appended. The file of the name itself stays.
 pub(crate) fn write_file(
     rt: &HostRuntime,
     files: Files<'_, '_>,
     file: usize,
     bytes: &[u8],
 ) -> Result<(), Trouble> {
-    match put_file(rt, files.name(file), bytes) {
+    let fresh = fresh_name(rt.alloc(), files.name(file))?;
+    match put_file(rt, &fresh, bytes) {
         Ok(()) => Ok(()),
-        Err(error) => match error.kind() {
-            io::ErrorKind::OutOfMemory => Err(Trouble::Memory),
-            _ => Err(Trouble::Write(file)),
-        },
+        Err(error) => Err(unwritten(&error, file)),
     }
 }
 
-/// Writes the image of each drive. A lost drive's file is left empty, so that no older image is taken for it.
+// Gives a file that was written its name.
+fn rename_file(rt: &HostRuntime, files: Files<'_, '_>, file: usize) -> Result<(), Trouble> {
+    let name = files.name(file);
+    let fresh = fresh_name(rt.alloc(), name)?;
+    match fs::rename(rt, &fresh, name) {
+        Ok(()) => Ok(()),
+        Err(error) => Err(unwritten(&error, file)),
+    }
+}
+
+/// Gives all files that were written their names, after the older table was removed; the table comes last. So wherever this
+/// stops there is no table next to images of two arrays.
+pub(crate) fn rename_all(rt: &HostRuntime, files: Files<'_, '_>) -> Result<(), Trouble> {
+    if let Err(error) = fs::remove_file(rt, files.table) {
+        if error.kind() != io::ErrorKind::NotFound {
+            return Err(unwritten(&error, 0));
+        }
+    }
+    for number in 0..files.images.len() {
+        rename_file(rt, files, number.saturating_add(1))?;
+    }
+    rename_file(rt, files, 0)
+}
+
+/// Writes the image of each drive, by `write_file`. A lost drive's file is empty, so that no older image is taken for it.
 pub(crate) fn write_images(
     rt: &HostRuntime,
     files: Files<'_, '_>,

@@ -8,7 +8,9 @@ use std::io;
 pub(crate) enum Trouble {
     /// The words ask for nothing that the program does.
     Words,
-    /// A line of the table, from 1, isn't what it should be.
+    /// Two of the files to be written have one name, or one has the word for a lost drive.
+    Names,
+    /// A line of the table, from 1, isn't one, or is of a group that can't be entered.
     Line(usize),
     /// There are not as many images as the table has drives.
     Count,
@@ -41,7 +43,8 @@ impl Trouble {
     fn text(self) -> &'static str {
         match self {
             Trouble::Words => "raid_images save|check|map|block B|salvage|picture TABLE IMAGE..",
-            Trouble::Line(_) => "a line of the table can't be parsed",
+            Trouble::Names => "each file to be written needs a name of its own, and not `-`",
+            Trouble::Line(_) => "a line of the table isn't one, or its group can't be entered",
             Trouble::Count => "the table has another number of drives than there are images",
             Trouble::Misfit => "the table's groups don't fit one another",
             Trouble::Length(_) => "isn't of an image's length",
@@ -69,7 +72,9 @@ impl Trouble {
             (Some(file), Some(files)) => {
                 let name = files.name(file);
                 match self {
-                    Trouble::Line(line) => eprintln!(rt; "{name}: line {line} can't be parsed"),
+                    Trouble::Line(line) => eprintln!(rt;
+                        "{name}: line {line} isn't a table's, or its group can't be entered"
+                    ),
                     _ => eprintln!(rt; "{name} {text}"),
                 }
             }

@@ -4,6 +4,9 @@ use clap::error::ErrorKind;
 use clap::{Arg, ArgAction, ArgMatches, Command, Error};
 use std::alloc::{AllocError, Global};
 
+/// The word for a lost drive.
+pub(crate) const LOST: &str = "-";
+
 /// The files that are asked about.
 #[derive(Clone, Copy)]
 pub(crate) struct Files<'m, 'w> {
@@ -23,6 +26,17 @@ impl<'m, 'w> Files<'m, 'w> {
             Some(image) => image,
             None => "",
         }
+    }
+
+    /// Whether each file has a name of its own, and none is the word for a lost drive.
+    pub(crate) fn can_be_written(&self) -> bool {
+        for (number, image) in self.images.iter().enumerate() {
+            let is_taken = self.images[..number].iter().any(|other| *other == *image);
+            if is_taken || *image == self.table || *image == LOST {
+                return false;
+            }
+        }
+        true
     }
 }
 
