@@ -20,10 +20,10 @@ use Rattle.array_model.specs.Represents.{ShowsArray}
 use Rattle.array_model.specs.Views.{ArrayView, IsWhole, key_at, with_parts}
 use Rattle.migrator.specs.Ages.{Marked}
 use Rattle.migrator.specs.Slots.{class_at}
-use Rattle.background.specs.Marking.{AreMarked, is_mirrors}
-use Rattle.background.specs.declared.outcome.Outcome.TheVariants as outcome
+use Rattle.background.specs.Marking.{AreMarked, IsNoted, is_mirrors}
+use Rattle.background.specs.declared.planner.Planner.{Planner}
 use Rattle.background.proofs.Emitting.{HasEmitted, alike_left, commit_emits}
-use Rattle.background.proofs.Marks.{marks_keep}
+use Rattle.background.proofs.Marks.{marked_emitted}
 use Rattle.map_join.specs.Maps.{IsMapOf}
 use Rattle.step_core.specs.Headline.{bytes_of}
 use Rattle.step_core.proofs.Standing.{headers_tell, one_scan}
@@ -54,41 +54,53 @@ pub still_of : (a b c : ArrayView) → b ≡ a → IsStill b c → IsStill a c
 still_of a b c same is = subst (λ (x : ArrayView). IsStill x c) same is
 
 -- with another array that shows a state, of the same groups and keys, what is kept holds
-pub kept_with : (blocks payload : ℕ) (k l : KeptView) → book.IsKept blocks payload k → IsStill k.array l.array → l.ages ≡ k.ages
+pub kept_with : (blocks payload : ℕ) (k l : KeptView) → book.IsKept blocks payload k → IsStill k.array l.array → l.planner ≡ k.planner
     → (G : Flat) × ShowsArray l.array G → book.IsKept blocks payload l
-kept_with blocks payload k l is still ages shown = record {
+kept_with blocks payload k l is still planner shown = record {
   flat = shown.0;
   shows = shown.1;
   blocks = ap (λ (z : Groups). z.blocks) still.groups ∙ is.blocks;
   payload = ap (λ (z : Groups). z.payload) still.groups ∙ is.payload;
-  order = ap (λ (m : Marked). length m.order) ages ∙ is.order;
-  long = ap (λ (m : Marked). length m.marks) ages ∙ is.long;
-  marked = subst (λ (m : Marked). AreMarked m.marks l.array.parts.groups (key_at l.array)) (sym ages)
-      (subst (λ (z : Groups). AreMarked k.ages.marks z (key_at l.array)) (sym still.groups)
-      (subst (λ (ks : List ℕ). AreMarked k.ages.marks k.array.parts.groups (λ b. slice_index ks b)) (sym still.keys) is.marked));
+  order = ap (λ (p : Planner). length p.ages.order) planner ∙ is.order;
+  long = ap (λ (p : Planner). length p.ages.marks) planner ∙ is.long;
+  marked = subst (λ (p : Planner). AreMarked p.ages.marks l.array.parts.groups (key_at l.array)) (sym planner)
+      (subst (λ (z : Groups). AreMarked k.planner.ages.marks z (key_at l.array)) (sym still.groups)
+      (subst (λ (ks : List ℕ). AreMarked k.planner.ages.marks k.array.parts.groups (λ b. slice_index ks b)) (sym still.keys) is.marked));
 }
 
--- with an array that committed a record, which is noted and marked, it holds too
+-- a commit is noted: the order has a place for its block
+pub noted_of : (blocks payload : ℕ) (k : KeptView) (groups : Groups) (after : Marked) (w s b : ℕ) (r : Record) (is : book.IsKept blocks payload k) (G : Flat) → b < blocks
+    → CommitCase is.flat w s b (say.Committed r) G → (r.block < length k.planner.ages.order → IsNoted groups k.planner.ages after r) → IsNoted groups k.planner.ages after r
+noted_of blocks payload k groups after w s b r is G low case noted =
+    let emits = commit_emits is.flat G w s b r is.shows.history.records case in
+    let block : r.block ≡ b = emits.newest.1 in
+    let order : length k.planner.ages.order ≡ blocks = is.order in
+    noted (omega (arith, block, order, low))
+
+-- with an array that committed a record, which is noted, it holds too
 pub kept_committed : (blocks payload : ℕ) (k l : KeptView) (w s b : ℕ) (r : Record) (is : book.IsKept blocks payload k) → b < blocks
-    → l.array.parts.groups ≡ k.array.parts.groups → length l.ages.order ≡ length k.ages.order
-    → l.ages.marks ≡ slice_set k.ages.marks r.block (is_mirrors (class_at l.array.parts.groups (Some r)))
+    → l.array.parts.groups ≡ k.array.parts.groups → length l.planner.ages.order ≡ length k.planner.ages.order
+    → (r.block < length k.planner.ages.order → IsNoted l.array.parts.groups k.planner.ages l.planner.ages r)
     → (G : Flat) × CommitCase is.flat w s b (say.Committed r) G × ShowsArray l.array G → book.IsKept blocks payload l
-kept_committed blocks payload k l w s b r is low same order marks shown = record {
+kept_committed blocks payload k l w s b r is low same order noted shown = record {
   flat = shown.0;
   shows = shown.2;
   blocks = ap (λ (z : Groups). z.blocks) same ∙ is.blocks;
   payload = ap (λ (z : Groups). z.payload) same ∙ is.payload;
   order = order ∙ is.order;
-  long = ap length marks ∙ length-set k.ages.marks r.block (is_mirrors (class_at l.array.parts.groups (Some r))) ∙ is.long;
+  long = ap length marks ∙ length-set k.planner.ages.marks r.block (is_mirrors (class_at l.array.parts.groups (Some r))) ∙ is.long;
   marked = subst (λ (ms : List Bool). AreMarked ms l.array.parts.groups (key_at l.array)) (sym marks)
-      (subst (λ (n : ℕ). AreMarked (slice_set k.ages.marks n (is_mirrors (class_at l.array.parts.groups (Some r)))) l.array.parts.groups (key_at l.array)) (sym emits.newest.1)
-      (subst (λ (z : Groups). AreMarked (slice_set k.ages.marks b (is_mirrors (class_at z (Some r)))) z (key_at l.array)) shown.2.tables.groups
-      (marks_keep is.flat shown.0 (key_at k.array) (key_at l.array) k.ages.marks b (outcome.Placed r) shown.2.history.records (let long = is.long in omega (arith, long, low))
-      is.shows.history.map shown.2.history.map emits (subst (λ (z : Groups). AreMarked k.ages.marks z (key_at k.array)) (sym is.shows.tables.groups) is.marked))));
+      (subst (λ (n : ℕ). AreMarked (slice_set k.planner.ages.marks n (is_mirrors (class_at l.array.parts.groups (Some r)))) l.array.parts.groups (key_at l.array)) (sym emits.newest.1)
+      (subst (λ (z : Groups). AreMarked (slice_set k.planner.ages.marks b (is_mirrors (class_at z (Some r)))) z (key_at l.array)) shown.2.tables.groups
+      (marked_emitted is.flat shown.0 (key_at k.array) (key_at l.array) k.planner.ages.marks b r shown.2.history.records (let long = is.long in omega (arith, long, low))
+      is.shows.history.map shown.2.history.map emits (subst (λ (z : Groups). AreMarked k.planner.ages.marks z (key_at k.array)) (sym is.shows.tables.groups) is.marked))));
 }
   where
     emits : HasEmitted is.flat shown.0 b r
     emits = commit_emits is.flat shown.0 w s b r is.shows.history.records shown.1
+
+    marks : l.planner.ages.marks ≡ slice_set k.planner.ages.marks r.block (is_mirrors (class_at l.array.parts.groups (Some r)))
+    marks = (noted_of blocks payload k l.array.parts.groups l.planner.ages w s b r is shown.0 low shown.1 noted).1
 
 -- a worker whose ticket it is, where there is one
 pub ticket_of_some : (F : Flat) (a : ArrayView) (s : ℕ) → ShowsArray a F → (w : ℕ) × (F.tickets s ≢ None → F.held s (Ticket w) ≡ true)

@@ -1,5 +1,5 @@
 -- What is seen of an array under a lock, with its order of last writes and the end of its write log; and what is always true of it.
-use Rattle.std.specs.Prelude.{◌≡◌, ℕ, ◌<◌, ◌==◌, if◌then◌else◌, List, length, slice_set, Some}
+use Rattle.std.specs.Prelude.{◌≡◌, ℕ, ◌<◌, length}
 use Rattle.map_join.specs.declared.records.Record.{Record}
 use Rattle.map_join.specs.Maps.{IsMapOf, IsSame}
 use Rattle.map_join.specs.Record.{record_of}
@@ -8,16 +8,14 @@ use Rattle.flat_machine.specs.Flat.{Flat}
 use Rattle.flat_machine.specs.Scanned.{IsScanned}
 use Rattle.array_model.specs.Views.{ArrayView, key_at}
 use Rattle.array_model.specs.Represents.{ShowsArray}
-use Rattle.migrator.specs.Ages.{Marked, written}
-use Rattle.migrator.specs.Slots.{End, class_at}
-use Rattle.background.specs.Marking.{AreMarked, is_mirrors}
+use Rattle.background.specs.Marking.{AreMarked, IsNoted}
+use Rattle.background.specs.declared.planner.Planner.{Planner}
 use Rattle.step_core.specs.Headline.{bytes_of}
 
--- the array, the order of last writes with marks on the blocks in mirrored groups, and the end of the write log
+-- the array, and what its plans go by
 pub record KeptView : Type 0 where
   pub array : ArrayView
-  pub ages : Marked
-  pub end : End
+  pub planner : Planner
 
 -- what is true whenever the lock is free: the array shows some flat state, and has these sizes; the order and the marks are of its
 -- blocks, and exactly the blocks whose newest place is in a mirrored group are marked
@@ -26,9 +24,9 @@ pub record IsKept (many size : ℕ) (k : KeptView) : Type 0 where
   pub shows : ShowsArray k.array flat
   pub blocks : k.array.parts.groups.blocks ≡ many
   pub payload : k.array.parts.groups.payload ≡ size
-  pub order : length k.ages.order ≡ many
-  pub long : length k.ages.marks ≡ many
-  pub marked : AreMarked k.ages.marks k.array.parts.groups (key_at k.array)
+  pub order : length k.planner.ages.order ≡ many
+  pub long : length k.planner.ages.marks ≡ many
+  pub marked : AreMarked k.planner.ages.marks k.array.parts.groups (key_at k.array)
 
 -- no block's newest place is gone
 abbrev pub AreHere : ArrayView → Type 0
@@ -42,14 +40,8 @@ pub record Agrees (a : ArrayView) : Type 0 where
 
 -- the array is another, and nothing else changed
 abbrev pub OnlyArray : KeptView → KeptView → Type 0
-OnlyArray before after = (after.ages ≡ before.ages) × (after.end ≡ before.end)
-
--- the order of last writes after a commit: a fresh payload, whose record has no hop, is noted
-abbrev pub order_after : List ℕ → Record → List ℕ
-order_after order r = if r.hop == 0 then written order r.block else order
+OnlyArray before after = after.planner ≡ before.planner
 
 -- the commit of a record is noted: by the order of last writes, and by its block's mark
 abbrev pub HasNoted : KeptView → KeptView → Record → Type 0
-HasNoted before after r =
-    (after.ages.order ≡ order_after before.ages.order r)
-    × (after.ages.marks ≡ slice_set before.ages.marks r.block (is_mirrors (class_at after.array.parts.groups (Some r))))
+HasNoted before after r = IsNoted after.array.parts.groups before.planner.ages after.planner.ages r

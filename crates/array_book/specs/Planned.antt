@@ -1,36 +1,15 @@
 -- What a worker moves next: what the definitions of demotions, plugs and cleans choose of what lies under the lock.
 use Rattle.std.specs.Prelude.{◌≡◌, ◌⊎◌, ℕ, ◌+◌, ◌/◌, ◌%◌, ◌<◌, ◌==◌, if◌then◌else◌, Option, Some, None, Bool, true, false, List, length, count_by}
-use Rattle.array_model.specs.Views.{key_at, kept_at, is_kept}
+use Rattle.array_model.specs.Views.{kept_at, is_kept}
 use Rattle.cleaner.specs.declared.moves.Move.{Move}
-use Rattle.cleaner.specs.Plans.{IsPlugPlan, IsCleanPlan}
-use Rattle.migrator.specs.Ages.{IsOldest}
-use Rattle.migrator.specs.First.{IsFirstAppend}
-use Rattle.migrator.specs.Slots.{IsMirrored}
+use Rattle.background.specs.Planning.{IsOldestMirrored, IsNextAppend, IsPlugOf, IsCleanOf}
 use Rattle.array_book.specs.declared.plan.Plan.{Plan}
 use Rattle.array_book.specs.Kept.{KeptView}
-
--- the plug, or none
-abbrev pub IsPlugOf : KeptView → Option Move → Type 0
-IsPlugOf k move = IsPlugPlan k.array.parts.groups (key_at k.array) k.end.group move
-
--- the clean, or none: into the first slot, held or not, where the log goes on
-abbrev pub IsCleanOf : KeptView → Option Move → Type 0
-IsCleanOf k move =
-    (append : Option ℕ) × IsFirstAppend k.end k.array.parts.groups (key_at k.array) (λ slot. Unit {0}) append
-    × IsCleanPlan k.array.parts.groups (key_at k.array) k.end.group append move
 
 -- a slot's turn where the log goes on: those of the write group come first, then all others by number
 abbrev pub turn_of : Option ℕ → ℕ → ℕ
 turn_of None slot = 128 + slot
 turn_of (Some group) slot = if group == (slot / 128) then slot % 128 else 128 + slot
-
--- the first of these slots where the log goes on
-abbrev pub IsFirstBehind : KeptView → (ℕ → Type 0) → Option ℕ → Type 0
-IsFirstBehind k free slot = IsFirstAppend k.end k.array.parts.groups (key_at k.array) free slot
-
--- the block in a mirrored group that was written longest ago, or none where no block is in one
-abbrev pub IsOldestMirrored : KeptView → Option ℕ → Type 0
-IsOldestMirrored k block = IsOldest k.ages.order (IsMirrored k.array.parts.groups (key_at k.array)) block
 
 -- fewer than `low` of these slots are free: those that the array holds, plus `low`, are more than all of them
 abbrev pub WantsDemotion : KeptView → List ℕ → ℕ → Type 0
@@ -38,10 +17,10 @@ WantsDemotion k mirrors low = length mirrors < count_by (λ slot. is_kept (kept_
 
 -- that block goes to where the log goes on
 pub record IsDemotion (k : KeptView) (plan : Plan) : Type 0 where
-  pub oldest : IsOldestMirrored k (Some plan.block)
-  pub slot : IsFirstBehind k (λ slot. Unit {0}) plan.slot
+  pub oldest : IsOldestMirrored k.array k.planner (Some plan.block)
+  pub slot : IsNextAppend k.array k.planner (λ slot. Unit {0}) plan.slot
   pub demotes : plan.demotes ≡ true
-  pub group : plan.group ≡ k.end.group
+  pub group : plan.group ≡ k.planner.end.group
   pub appends : plan.appends ≡ true
 
 -- the move's block goes to the move's slot, and the log goes on after it or doesn't
@@ -53,12 +32,12 @@ pub record IsMoveBy (move : Move) (after : Bool) (plan : Plan) : Type 0 where
 
 -- no demotion is due: there are enough free slots, or no block is in a mirrored group
 abbrev pub NoDemotion : KeptView → List ℕ → ℕ → Type 0
-NoDemotion k mirrors low = WantsDemotion k mirrors low → IsOldestMirrored k None
+NoDemotion k mirrors low = WantsDemotion k mirrors low → IsOldestMirrored k.array k.planner None
 
 -- a plug, after which the log goes on where it did before it, or a clean
 abbrev pub IsRegrouped : KeptView → Plan → Type 0
 IsRegrouped k plan =
-    (move : Move) × ((IsPlugOf k (Some move) × IsMoveBy move false plan) ⊎ (IsCleanOf k (Some move) × IsMoveBy move true plan))
+    (move : Move) × ((IsPlugOf k.array k.planner (Some move) × IsMoveBy move false plan) ⊎ (IsCleanOf k.array k.planner (Some move) × IsMoveBy move true plan))
 
 -- a demotion where one is due, also where there is no slot for it, and else a plug or a clean
 abbrev pub IsPlanned : List ℕ → ℕ → KeptView → Plan → Type 0
@@ -67,10 +46,10 @@ IsPlanned mirrors low k plan = (WantsDemotion k mirrors low × IsDemotion k plan
 -- no demotion is due, and there is no plug and no clean
 pub record IsDone (mirrors : List ℕ) (low : ℕ) (k : KeptView) : Type 0 where
   pub demotion : NoDemotion k mirrors low
-  pub plug : IsPlugOf k None
-  pub clean : IsCleanOf k None
+  pub plug : IsPlugOf k.array k.planner None
+  pub clean : IsCleanOf k.array k.planner None
 
 -- the next slot of a plan is that one where the log goes on, of those whose turn comes later; none of a plug or a clean
 abbrev pub IsNext : KeptView → Plan → ℕ → Option ℕ → Type 0
-IsNext k plan slot next = (plan.demotes ≡ true → IsFirstBehind k (λ other. turn_of plan.group slot < turn_of plan.group other) next)
+IsNext k plan slot next = (plan.demotes ≡ true → IsNextAppend k.array k.planner (λ other. turn_of plan.group slot < turn_of plan.group other) next)
     × (plan.demotes ≡ false → next ≡ None)

@@ -10,10 +10,10 @@ ghost use Rattle.slot_words.specs.Steps.{given_half as right_given, kept_half as
 use crate::claim::{Claim, Sizes};
 use crate::ended::Ended;
 use crate::kept::Kept;
-use background::ages_of;
+use background::Planner;
 use extents::Drive;
 use map_words::MapWords;
-use migrator::{LogEnd, mirror_slots};
+use migrator::mirror_slots;
 use slot_words::SlotWords;
 use std::alloc::Global;
 use std::sync::Mutex;
@@ -66,15 +66,11 @@ impl<D: Drive, N: slot_words::Naming + Sizes, A: map_words::Naming, B: map_words
         let Ok(mirrors) = mirror_slots(alloc, array.groups()) else {
             return Err((array, words, maps));
         };
-        let Ok(ages) = ages_of(alloc, &array) else {
+        let Ok(planner) = Planner::new(alloc, &array) else {
             return Err((array, words, maps));
         };
         let (even, odd) = maps;
-        let kept = Kept {
-            array,
-            ages,
-            end: LogEnd::new(),
-        };
+        let kept = Kept { array, planner };
         Ok(Book {
             words,
             even,

@@ -1,5 +1,5 @@
 // What lies under a Book's lock, and the calls that borrow it.
-ghost use Rattle.std.specs.Prelude.{◌≡◌, ◌≢◌, ℕ, ◌<◌, ◌≤◌, length, slice_set, IfOk, IfErr, MatchResult, true, Some, None};
+ghost use Rattle.std.specs.Prelude.{◌≡◌, ◌≢◌, ℕ, ◌<◌, ◌≤◌, length, IfOk, IfErr, MatchResult, true, None};
 ghost use Rattle.map_join.specs.Record.{key_of, record_at};
 ghost use Rattle.flat_machine.specs.Steps as say;
 ghost use Rattle.flat_machine.specs.Flat.{Flat, Payload, Trim, Worker, Ticket as ticket_of};
@@ -10,29 +10,25 @@ ghost use Rattle.map_join.specs.declared.records.Record.{Record};
 ghost use Rattle.array_model.specs.Changes.{MayRefuse, commit_record};
 ghost use Rattle.array_model.specs.Views.{key_at};
 ghost use Rattle.array_model.specs.Represents.{ShowsArray};
-ghost use Rattle.migrator.specs.Slots.{class_at, end_at};
+ghost use Rattle.migrator.specs.Slots.{end_at};
 ghost use Rattle.step_core.specs.Refused.{IsRefused};
-ghost use Rattle.background.specs.Marking.{is_mirrors};
-ghost use Rattle.array_book.specs.Kept.{IsKept, Agrees, HasNoted, OnlyArray, order_after};
+ghost use Rattle.array_book.specs.Kept.{IsKept, Agrees, HasNoted, OnlyArray};
 ghost use Rattle.array_book.specs.Outcomes.{WasFilled, WasCopied, WasCommitted, WasRefused, WasGivenUp, WasLearned, WasUnlearned};
 
 use crate::claim::{Claim, Sizes};
-use background::is_mirrored;
-use extent_groups::GroupTable;
+use background::Planner;
 use extents::Drive;
 use flat_machine::Refusal;
 use map_join::Record;
-use migrator::{LogEnd, MarkedAges};
 use slot_words::{Naming, SlotWords};
 use std::alloc::Global;
 use std::marker::Model;
 use step_core::{Array, Done, Reading, Ticket};
 
-/// An array, the order of last writes with marks on the blocks in mirrored groups, and the end of the write log.
+/// An array, and what its plans go by.
 pub struct Kept<D: Drive, N: Naming + Sizes> {
     pub(crate) array: Array<D, Claim<N>>,
-    pub(crate) ages: MarkedAges,
-    pub(crate) end: LogEnd,
+    pub(crate) planner: Planner,
 }
 
 impl<D: Drive, N: Naming + Sizes> Model for Kept<D, N> {
@@ -40,9 +36,9 @@ impl<D: Drive, N: Naming + Sizes> Model for Kept<D, N> {
 
     ghost Value = { KeptView };
 
-    ghost view = { λ k. record { array = k.array; ages = k.ages; end = k.end } };
+    ghost view = { λ k. record { array = k.array; planner = k.planner } };
 
-    ghost invariant = { λ k. IsKept N.blocks N.payload (record { array = k.array; ages = k.ages; end = k.end }) };
+    ghost invariant = { λ k. IsKept N.blocks N.payload (record { array = k.array; planner = k.planner }) };
 }
 
 impl<D: Drive, N: Naming + Sizes> Kept<D, N> {
@@ -149,8 +145,8 @@ pub fn commit_in<D: Drive, N: Naming + Sizes>(
     ensures record { IfOk result (λ done. done.emitted ≡ commit_record kept.old.array ticket block (record_at block (key_at kept.old.array block))) }
     ensures written { IfOk result (λ done. 0 < done.emitted.version) }
     ensures noted { IfOk result (λ done. HasNoted kept.old kept.new done.emitted) }
-    ensures err { IfErr result (λ e. (e.1 ≡ ticket) × IsRefused kept.old.array kept.new.array e.0 × (kept.new.ages ≡ kept.old.ages)) }
-    ensures end { kept.new.end ≡ kept.old.end }
+    ensures err { IfErr result (λ e. (e.1 ≡ ticket) × IsRefused kept.old.array kept.new.array e.0 × (kept.new.planner.ages ≡ kept.old.planner.ages)) }
+    ensures end { kept.new.planner.end ≡ kept.old.planner.end }
     ensures answered { MatchResult result (λ done. WasCommitted N.blocks N.payload ticket block done.emitted)
         (λ e. e.0 ≢ refusal.Memory → WasRefused N.blocks N.payload ticket block e.0) }
     ensures flat { (F : Flat) (w : ℕ) → ShowsArray kept.old.array F → (F.tickets ticket ≢ None → F.held ticket (ticket_of w) ≡ true)
@@ -162,25 +158,11 @@ pub fn commit_in<D: Drive, N: Naming + Sizes>(
 {
     match kept.array.commit(alloc, ticket, block) {
         Ok(done) => {
-            let record = done.emitted.record();
-            note(&mut kept.ages, kept.array.groups(), record);
+            kept.planner.note(&kept.array, done.emitted.record());
             Ok(done)
         }
         Err(refused) => Err(refused),
     }
-}
-
-// Notes a write, and marks its block by the group where it lies.
-fn note(ages: &mut MarkedAges, groups: &GroupTable, told: Record)
-    requires { «told».block < length ages.old.order }
-    ensures order { ages.new.order ≡ order_after ages.old.order «told» }
-    ensures length { length ages.new.order ≡ length ages.old.order }
-    ensures marks { ages.new.marks ≡ slice_set ages.old.marks «told».block (is_mirrors (class_at groups.now (Some «told»))) }
-{
-    if told.hop == 0 {
-        ages.wrote(told.block);
-    }
-    ages.mark(told.block, is_mirrored(groups, Some(told)));
 }
 
 /// Commits a ticket under which a fresh payload or trim waits. Where none does it is refused, as there is no such ticket.
@@ -195,8 +177,8 @@ pub(crate) fn commit_fresh_in<D: Drive, N: Naming + Sizes>(
     ensures ok { IfOk result (λ done. (done.emitted.block ≡ block) × (0 < done.emitted.version) × (done.emitted.hop ≡ 0)) }
     ensures committed { IfOk result (λ done. WasCommitted N.blocks N.payload ticket block done.emitted) }
     ensures noted { IfOk result (λ done. HasNoted kept.old kept.new done.emitted) }
-    ensures err { IfErr result (λ e. (e.1 ≡ ticket) × (kept.new.ages ≡ kept.old.ages)) }
-    ensures end { kept.new.end ≡ kept.old.end }
+    ensures err { IfErr result (λ e. (e.1 ≡ ticket) × (kept.new.planner.ages ≡ kept.old.planner.ages)) }
+    ensures end { kept.new.planner.end ≡ kept.old.planner.end }
 {
     if !kept.array.is_fresh(&ticket) {
         return Err((Refusal::NoTicket, ticket));
@@ -245,8 +227,8 @@ pub fn read_in<D: Drive, N: Naming + Sizes>(
 
 /// Notes that a slot was appended: the write log goes on after it.
 pub fn appended_in<D: Drive, N: Naming + Sizes>(kept: &mut Kept<D, N>, slot: u16)
-    ensures end { kept.new.end ≡ end_at slot }
-    ensures rest { (kept.new.array ≡ kept.old.array) × (kept.new.ages ≡ kept.old.ages) }
+    ensures end { kept.new.planner.end ≡ end_at slot }
+    ensures rest { (kept.new.array ≡ kept.old.array) × (kept.new.planner.ages ≡ kept.old.planner.ages) }
 {
-    kept.end.appended(slot);
+    kept.planner.appended(slot);
 }

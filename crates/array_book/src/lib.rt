@@ -1,7 +1,6 @@
 //! An array guarded by a lock, next to words that need none: workers in threads, and two controllers' maps that settle.
 #![tactic(auto)]
 
-mod asks;
 mod book;
 mod claim;
 mod closing;

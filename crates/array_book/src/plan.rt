@@ -1,16 +1,16 @@
 // What a worker moves next, and into which slot.
 ghost use Rattle.std.specs.Prelude.{◌≡◌, ◌↔◌, ◌<◌, MatchOption, IsTrue, true, false, Some, None};
-ghost use Rattle.array_book.specs.Planned.{IsPlanned, IsDone, IsOldestMirrored, IsFirstBehind, IsPlugOf, IsCleanOf, IsMoveBy, IsNext, IsRegrouped, WantsDemotion, NoDemotion, turn_of};
+ghost use Rattle.background.specs.Planning.{IsOldestMirrored, IsNextAppend, IsPlugOf, IsCleanOf};
+ghost use Rattle.array_book.specs.Planned.{IsPlanned, IsDone, IsMoveBy, IsNext, IsRegrouped, WantsDemotion, NoDemotion, turn_of};
 ghost use Rattle.array_book.specs.Outcomes.{State, WasPlanned};
 
-use crate::asks::Running;
 use crate::claim::Sizes;
 use crate::kept::Kept;
 use background::Any;
-use cleaner::{Move, clean_plan_unplugged, plug_plan_counted};
+use cleaner::Move;
 use extent_groups::SLOTS;
 use extents::Drive;
-use migrator::{Free, first_append};
+use migrator::Free;
 use slot_words::Naming;
 
 // A block that is to be moved.
@@ -45,16 +45,7 @@ pub(crate) fn slot_after<D: Drive, N: Naming + Sizes>(
         group: plan.group,
         turn: turn_of(plan.group, slot),
     };
-    first_behind(kept, &after)
-}
-
-// The first of these slots where the write log goes on.
-fn first_behind<D: Drive, N: Naming + Sizes, F: Free>(kept: &Kept<D, N>, free: &F) -> Option<u16>
-    ensures { IsFirstBehind kept.now (F.free free.now) result }
-{
-    let array = &kept.array;
-    let running = Running { array };
-    first_append(&kept.end, array.groups(), &running, free)
+    kept.planner.next_append(&kept.array, &after)
 }
 
 // The slots whose turn comes after this one.
@@ -108,11 +99,12 @@ fn due_demotion<D: Drive, N: Naming + Sizes>(
     low: u32,
 ) -> Option<u32>
     ensures block { MatchOption result (Unit {0}) (λ block. block < N.blocks) }
-    ensures due { MatchOption result (NoDemotion kept.old mirrors.now low) (λ block. WantsDemotion kept.old mirrors.now low × IsOldestMirrored kept.old (Some block)) }
+    ensures due { MatchOption result (NoDemotion kept.old mirrors.now low)
+        (λ block. WantsDemotion kept.old mirrors.now low × IsOldestMirrored kept.old.array kept.old.planner (Some block)) }
     ensures same { kept.new ≡ kept.old }
 {
     if wants_demotion(kept, mirrors, low) {
-        oldest_mirrored(kept)
+        kept.planner.oldest_mirrored(&kept.array)
     } else {
         None
     }
@@ -121,13 +113,13 @@ fn due_demotion<D: Drive, N: Naming + Sizes>(
 // A plug, or where there is none a clean.
 fn regrouped<D: Drive, N: Naming + Sizes>(kept: &Kept<D, N>) -> Option<Plan>
     ensures block { MatchOption result (Unit {0}) (λ plan. plan.block < N.blocks) }
-    ensures moves { MatchOption result (IsPlugOf kept.now None × IsCleanOf kept.now None) (IsRegrouped kept.now) }
+    ensures moves { MatchOption result (IsPlugOf kept.now.array kept.now.planner None × IsCleanOf kept.now.array kept.now.planner None) (IsRegrouped kept.now) }
 {
-    kept.stands();
-    if let Some(plan) = plug_of(kept) {
+    let array = &kept.array;
+    if let Some(plan) = kept.planner.plug(array) {
         return Some(moved(plan, false));
     }
-    match clean_of(kept) {
+    match kept.planner.clean_unplugged(array) {
         Some(plan) => Some(moved(plan, true)),
         None => None,
     }
@@ -136,14 +128,14 @@ fn regrouped<D: Drive, N: Naming + Sizes>(kept: &Kept<D, N>) -> Option<Plan>
 // The plan of a demotion.
 fn demotion<D: Drive, N: Naming + Sizes>(kept: &Kept<D, N>, block: u32) -> Plan
     ensures block { result.block ≡ block }
-    ensures slot { IsFirstBehind kept.now (λ slot. Unit {0}) result.slot }
-    ensures goes { (result.demotes ≡ true) × (result.group ≡ kept.now.end.group) × (result.appends ≡ true) }
+    ensures slot { IsNextAppend kept.now.array kept.now.planner (λ slot. Unit {0}) result.slot }
+    ensures goes { (result.demotes ≡ true) × (result.group ≡ kept.now.planner.end.group) × (result.appends ≡ true) }
 {
     Plan {
         block,
-        slot: first_behind(kept, &Any),
+        slot: kept.planner.next_append(&kept.array, &Any),
         demotes: true,
-        group: kept.end.group(),
+        group: kept.planner.end.group(),
         appends: true,
     }
 }
@@ -177,45 +169,4 @@ fn wants_demotion<D: Drive, N: Naming + Sizes>(kept: &Kept<D, N>, mirrors: &[u16
         }
     }
     false
-}
-
-// The block in a mirrored group that was written longest ago.
-fn oldest_mirrored<D: Drive, N: Naming + Sizes>(kept: &mut Kept<D, N>) -> Option<u32>
-    ensures block { MatchOption result (Unit {0}) (λ block. block < N.blocks) }
-    ensures oldest { IsOldestMirrored kept.old result }
-    ensures same { kept.new ≡ kept.old }
-{
-    kept.ages.oldest_marked()
-}
-
-// A hole that can be plugged.
-fn plug_of<D: Drive, N: Naming + Sizes>(kept: &Kept<D, N>) -> Option<Move>
-    ensures { IsPlugOf kept.now result }
-{
-    let array = &kept.array;
-    let running = Running { array };
-    plug_plan_counted(
-        array.groups(),
-        &running,
-        array.live_counts(),
-        kept.end.group(),
-    )
-}
-
-// A group that can be cleaned, where there is no hole that can be plugged.
-fn clean_of<D: Drive, N: Naming + Sizes>(kept: &Kept<D, N>) -> Option<Move>
-    requires { IsPlugOf kept.now None }
-    ensures { IsCleanOf kept.now result }
-{
-    let array = &kept.array;
-    let running = Running { array };
-    let groups = array.groups();
-    let append = first_append(&kept.end, groups, &running, &Any);
-    clean_plan_unplugged(
-        groups,
-        &running,
-        array.live_counts(),
-        kept.end.group(),
-        append,
-    )
 }

@@ -52,11 +52,7 @@ pub fn settle<D: Drive, N: slot_words::Naming + Sizes, A: map_words::Naming, B: 
     } = book;
     let kept = kept.into_inner();
     kept.stands();
-    let Kept {
-        array,
-        ages: _,
-        end: _,
-    } = kept;
+    let Kept { array, planner: _ } = kept;
     let Some((mut first, rest)) = parted(ended) else {
         let settled = Settled {
             array,

@@ -537,10 +537,10 @@ fn commit_and_append<D: Drive, N: slot_words::Naming + Sizes>(
     ensures ok { IfOk result (λ done. (done.emitted.block ≡ plan.now.block) × (0 < done.emitted.version)) }
     ensures answered { MatchResult result (λ done. WasCommitted N.blocks N.payload ticket plan.now.block done.emitted)
         (λ e. e.0 ≢ refusal.Memory → WasRefused N.blocks N.payload ticket plan.now.block e.0) }
-    ensures err { OnErr result ((kept.new.end ≡ kept.old.end) × (kept.new.ages ≡ kept.old.ages)) }
+    ensures err { OnErr result ((kept.new.planner.end ≡ kept.old.planner.end) × (kept.new.planner.ages ≡ kept.old.planner.ages)) }
     ensures ticket { IfErr result (λ e. e.1 ≡ ticket) }
-    ensures appended { IfOk result (λ done. plan.now.appends ≡ true → kept.new.end ≡ end_at done.emitted.place) }
-    ensures stays { plan.now.appends ≡ false → kept.new.end ≡ kept.old.end }
+    ensures appended { IfOk result (λ done. plan.now.appends ≡ true → kept.new.planner.end ≡ end_at done.emitted.place) }
+    ensures stays { plan.now.appends ≡ false → kept.new.planner.end ≡ kept.old.planner.end }
     ensures noted { IfOk result (λ done. HasNoted kept.old kept.new done.emitted) }
 {
     match commit_in(kept, alloc, ticket, plan.block) {

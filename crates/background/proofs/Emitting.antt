@@ -1,5 +1,5 @@
 -- What a step, and a placing, says of the records and the groups: a commit emits one record, and nothing else emits any.
-use Rattle.std.proofs.Common.{◌≡◌, ◌⊎◌, inl, inr, ℕ, ◌+◌, ◌<◌, ◌≤◌, arith, List, [], ◌∷◌, ◌++◌, Contains, refl, sym, ap, ◌∙◌, subst, Option, Some, None}
+use Rattle.std.proofs.Common.{◌≡◌, ◌≢◌, ◌⊎◌, inl, inr, ℕ, ◌+◌, ◌<◌, ◌≤◌, arith, List, [], ◌∷◌, ◌++◌, Contains, refl, sym, ap, ◌∙◌, subst, Option, Some, None}
 use Rattle.std.proofs.lemmas.List.Elements.{Contains-push, Contains-push_cases}
 use Rattle.map_join.specs.declared.records.Record.{Record}
 use Rattle.map_join.specs.Record.{key_of, IsRecord}
@@ -115,11 +115,6 @@ commit_emits F G w s b r all case = go (F.tickets s) case.2.2
             let place = f.place in
             omega arith
 
--- what a placing says of records and groups, by what came of it
-abbrev pub Emits : Flat → Flat → ℕ → Outcome → Type 0
-Emits F G b (outcome.Placed r) = HasEmitted F G b r
-Emits F G b _ = IsAlike F G
-
 -- a record that was emitted between two states that are alike with others
 emits_between : (F H I G : Flat) (b : ℕ) (r : Record) → IsAlike F H → HasEmitted H I b r → IsAlike I G → HasEmitted F G b r
 emits_between F H I G b r before is behind = record {
@@ -153,15 +148,19 @@ place_refused F G w s b what k (inr run) =
     let back = alike_given run.2.2.2.0 G w s run.2.2.2.2 in
     alike_more F run.0 G claimed (alike_more run.0 run.2.0 G put (alike_more run.2.0 run.2.2.0 G refused (alike_more run.2.2.0 run.2.2.2.0 G discarded back)))
 
-pub place_emits : (F G : Flat) (w s b : ℕ) (what : Put) (o : Outcome) → ((q : Record) → Contains F.emitted q → IsRecord q) → PlaceCase F w s b what o G → Emits F G b o
-place_emits F G w s b what (outcome.Placed r) all case =
+-- a placing emits its record, and none where none comes of it
+pub place_emits : (F G : Flat) (w s b : ℕ) (what : Put) (r : Record) → ((q : Record) → Contains F.emitted q → IsRecord q) → PlaceCase F w s b what (outcome.Placed r) G → HasEmitted F G b r
+place_emits F G w s b what r all case =
     let run = case.run in
     let before = alike_more F run.0 run.2.0 (alike_claimed F run.0 w s s run.1) (alike_put run.0 run.2.0 what w s b run.2.1) in
     let later : (q : Record) → Contains run.2.0.emitted q → IsRecord q = λ q has. all q (subst (λ rs. Contains rs q) before.emitted has) in
     emits_between F run.2.0 run.2.2.0 G b r before (commit_emits run.2.0 run.2.2.0 w s b r later run.2.2.1) (alike_back run.2.2.0 G w case.old run.2.2.2)
-place_emits F G w s b what (outcome.Refused k) all case = place_refused F G w s b what k case
-place_emits F G w s b what outcome.NoRoom all case = alike_more F case.0 G (alike_left F case.0 case.1.2) (alike_same case.0 G case.2)
-place_emits F G w s b what outcome.Nothing all case = absurd case
+
+pub place_alike : (F G : Flat) (w s b : ℕ) (what : Put) (o : Outcome) → ((r : Record) → o ≢ outcome.Placed r) → PlaceCase F w s b what o G → IsAlike F G
+place_alike F G w s b what (outcome.Placed r) other case = absurd (other r refl)
+place_alike F G w s b what (outcome.Refused k) other case = place_refused F G w s b what k case
+place_alike F G w s b what outcome.NoRoom other case = alike_more F case.0 G (alike_left F case.0 case.1.2) (alike_same case.0 G case.2)
+place_alike F G w s b what outcome.Nothing other case = absurd case
 
 -- a step that emits no record, changes no group and frees no slot
 abbrev pub IsCalm : FlatStep → Type 0

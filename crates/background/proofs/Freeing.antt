@@ -138,13 +138,9 @@ refused_place F G w s b what k (inr run) =
     (refused_frees run.2.0 run.2.2.0 (step.Commit w s b) k run.2.2.1 n (discard_frees run.2.2.0 run.2.2.2.0 w s s run.2.2.2.1 n free))))
     run.1.1 run.2.2.2.2
 
--- the old place of a block that was placed, if any
-abbrev pub LeavesOld : (F : Flat) (w s b : ℕ) (what : Put) (o : Outcome) (G : Flat) → PlaceCase F w s b what o G → ℕ → Type 0
-LeavesOld F w s b what (outcome.Placed r) G case n = IsPlaceIn case.old n
-LeavesOld F w s b what _ G case n = ⊥
-
-pub place_frees : (F G : Flat) (w s b : ℕ) (what : Put) (o : Outcome) → (case : PlaceCase F w s b what o G) → Frees F G (LeavesOld F w s b what o G case)
-place_frees F G w s b what (outcome.Placed r) case n free = go (back_frees run.2.2.0 G w case.old run.2.2.2 n free)
+-- a placing frees the block's old place, and no slot where nothing comes of it
+pub place_frees : (F G : Flat) (w s b : ℕ) (what : Put) (r : Record) (case : PlaceCase F w s b what (outcome.Placed r) G) → Frees F G (IsPlaceIn case.old)
+place_frees F G w s b what r case n free = go (back_frees run.2.2.0 G w case.old run.2.2.2 n free)
   where
     run : Runs F (step.Claim w s ∷ put_step what w s b ∷ step.Commit w s b ∷ back_steps w case.old)
         (step.Claimed s ∷ put_answer what s ∷ step.Committed r ∷ back_answers case.old) G
@@ -154,9 +150,12 @@ place_frees F G w s b what (outcome.Placed r) case n free = go (back_frees run.2
     go (inl there) =
         inl (claim_frees F run.0 w s s run.1 n (put_frees run.0 run.2.0 what w s b run.2.1 n (commit_frees run.2.0 run.2.2.0 w s b r run.2.2.1 n there)))
     go (inr old) = inr old
-place_frees F G w s b what (outcome.Refused k) case n free = inl (refused_place F G w s b what k case n free)
-place_frees F G w s b what outcome.NoRoom case n free = inl (left_frees F case.0 case.1.2 n (same_frees case.0 G case.2 n free))
-place_frees F G w s b what outcome.Nothing case n free = absurd case
+
+pub place_keeps : (F G : Flat) (w s b : ℕ) (what : Put) (o : Outcome) → ((r : Record) → o ≢ outcome.Placed r) → PlaceCase F w s b what o G → FreesNone F G
+place_keeps F G w s b what (outcome.Placed r) other case = absurd (other r refl)
+place_keeps F G w s b what (outcome.Refused k) other case = refused_place F G w s b what k case
+place_keeps F G w s b what outcome.NoRoom other case = λ n free. left_frees F case.0 case.1.2 n (same_frees case.0 G case.2 n free)
+place_keeps F G w s b what outcome.Nothing other case = absurd case
 
 -- a step that releases no slot, makes no group and commits nothing
 pub step_frees : (F G : Flat) (taken : FlatStep) (answer : FlatAnswer) → IsCalm taken → Case F taken answer G → FreesNone F G

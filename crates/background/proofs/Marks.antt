@@ -1,7 +1,8 @@
 -- The marks are those of the blocks in mirrored groups, after each step.
 use Rattle.std.proofs.Common.{◌≡◌, ◌≢◌, ◌⊎◌, inl, inr, ℕ, ◌/◌, ◌%◌, is_some, ◌+◌, ◌<◌, max, arith, Bool, true, false, ◌↔◌, List, [], ◌∷◌, ◌++◌, length, slice_set, get_or, replicate, Contains, refl, sym, ap, ◌∙◌, subst, Option, Some, None}
+use Rattle.std.specs.Prelude.{MatchOption}
 use Rattle.std.proofs.lemmas.Bool.{cases_eq}
-use Rattle.std.proofs.lemmas.List.{length-set, length-replicate, get_or-replicate}
+use Rattle.std.proofs.lemmas.List.{length-replicate, get_or-replicate}
 use Rattle.std.proofs.lemmas.Option.{same_Some, slice_get_within, get_or_from_slice_get}
 use Rattle.map_join.specs.declared.records.Record.{Record}
 use Rattle.map_join.specs.Record.{record_at, record_of, IsRecord}
@@ -16,12 +17,12 @@ use Rattle.flat_machine.specs.Groups.{class_below}
 use Rattle.flat_machine.specs.Flat.{Flat, class_of}
 use Rattle.flat_machine.specs.History.{IsHistory}
 use Rattle.flat_machine.proofs.Newest.{newest_told, newest_unique, same_map, told_key}
-use Rattle.migrator.specs.Ages.{IsMarked}
+use Rattle.array_model.specs.Views.{ArrayView, key_at, IsWhole}
+use Rattle.array_model.proofs.Newest.{block_inside}
+use Rattle.migrator.specs.Ages.{Marked, IsMarked, IsOldest}
 use Rattle.migrator.specs.Slots.{class_at, IsMirrored}
-use Rattle.background.specs.Marking.{AreMarked, AreMarkedBelow, is_mirrors, marks_after}
-use Rattle.background.specs.declared.outcome.Outcome.{Outcome}
-use Rattle.background.specs.declared.outcome.Outcome.TheVariants as outcome
-use Rattle.background.proofs.Emitting.{IsAlike, HasEmitted, Emits}
+use Rattle.background.specs.Marking.{AreMarked, AreMarkedBelow, is_mirrors}
+use Rattle.background.proofs.Emitting.{IsAlike, HasEmitted}
 
 -- a class is that of mirrored groups exactly where the test says so
 pub mirrors_iff : (class : Option Class) → (is_mirrors class ≡ true) ↔ (class ≡ Some Mirrored)
@@ -63,9 +64,10 @@ marked_alike F G M N marks before behind is marked =
     let same : M ≡ N = same_map F.emitted M N before (subst (λ rs. IsMapOf rs N) is.emitted behind) in
     subst (AreMarked marks G.groups) same (subst (λ groups. AreMarked marks groups M) (sym is.groups) marked)
 
-marked_emitted : (F G : Flat) (M N : ℕ → ℕ) (marks : List Bool) (b : ℕ) (r : Record) → ((q : Record) → Contains G.emitted q → IsRecord q) → b < length marks
+-- after a placing or a commit that emitted a record of the block
+pub marked_emitted : (F G : Flat) (M N : ℕ → ℕ) (marks : List Bool) (b : ℕ) (r : Record) → ((q : Record) → Contains G.emitted q → IsRecord q) → b < length marks
     → IsMapOf F.emitted M → IsMapOf G.emitted N → HasEmitted F G b r → AreMarked marks F.groups M
-    → AreMarked (marks_after G.groups marks b (outcome.Placed r)) G.groups N
+    → AreMarked (slice_set marks b (is_mirrors (class_at G.groups (Some r)))) G.groups N
 marked_emitted F G M N marks b r all inside before behind is marked c = go (cases_eq c b)
   where
     m : Bool
@@ -87,20 +89,6 @@ marked_emitted F G M N marks b r all inside before behind is marked c = go (case
     go : (c ≡ b) ⊎ (c ≡ b → ⊥) → IsMarked (slice_set marks b m) c ↔ IsMirrored G.groups N c
     go (inl same) = subst (λ n. IsMarked (slice_set marks b m) n ↔ IsMirrored G.groups N n) (sym same) here
     go (inr other) = through _ _ _ (set_other marks b c m other) (through _ _ _ (marked c) (still other))
-
--- after a placing or a commit, by what came of it
-pub marks_keep : (F G : Flat) (M N : ℕ → ℕ) (marks : List Bool) (b : ℕ) (o : Outcome) → ((q : Record) → Contains G.emitted q → IsRecord q) → b < length marks
-    → IsMapOf F.emitted M → IsMapOf G.emitted N → Emits F G b o → AreMarked marks F.groups M → AreMarked (marks_after G.groups marks b o) G.groups N
-marks_keep F G M N marks b (outcome.Placed r) all inside before behind is marked = marked_emitted F G M N marks b r all inside before behind is marked
-marks_keep F G M N marks b (outcome.Refused k) all inside before behind is marked = marked_alike F G M N marks before behind is marked
-marks_keep F G M N marks b outcome.NoRoom all inside before behind is marked = marked_alike F G M N marks before behind is marked
-marks_keep F G M N marks b outcome.Nothing all inside before behind is marked = marked_alike F G M N marks before behind is marked
-
-pub long_keep : (groups : Groups) (marks : List Bool) (b : ℕ) (o : Outcome) → length (marks_after groups marks b o) ≡ length marks
-long_keep groups marks b (outcome.Placed r) = length-set marks b (is_mirrors (class_at groups (Some r)))
-long_keep groups marks b (outcome.Refused k) = refl
-long_keep groups marks b outcome.NoRoom = refl
-long_keep groups marks b outcome.Nothing = refl
 
 -- marking one block after another: none at first, and all in the end
 pub below_none : (marks : List Bool) (groups : Groups) (keys : ℕ → ℕ) → ((b : ℕ) → IsMarked marks b → ⊥) → AreMarkedBelow marks groups keys 0
@@ -133,6 +121,24 @@ below_all marks groups keys bound inside marked b = ((λ h. ((marked b).0 h).1),
 pub mirrored_record : (groups : Groups) (o : Option Record) → class_at groups o ≡ Some Mirrored → (r : Record) × (o ≡ Some r)
 mirrored_record groups None is = absurd (cc)
 mirrored_record groups (Some r) is = (r, refl)
+
+-- of two ways to say the same of blocks the oldest are the same
+oldest_by : (order : List ℕ) (P Q : ℕ → Type 0) (chosen : Option ℕ) → ((b : ℕ) → P b ↔ Q b) → IsOldest order P chosen → IsOldest order Q chosen
+oldest_by order P Q None same h = λ c has q. h c has ((same c).1 q)
+oldest_by order P Q (Some b) same h = record { passes = (same b).0 h.passes; among = h.among; oldest = λ c has q ne. h.oldest c has ((same c).1 q) ne }
+
+-- the oldest of the marked blocks is the oldest in mirrored groups, and one of the array's
+pub oldest_found : (a : ArrayView) (m : Marked) (found chosen : Option ℕ) → IsWhole a → IsOldest m.order (IsMarked m.marks) found
+    → (MatchOption found (Unit {0}) (λ b. b < a.parts.groups.blocks) → chosen ≡ found) → AreMarked m.marks a.parts.groups (key_at a)
+    → IsOldest m.order (IsMirrored a.parts.groups (key_at a)) chosen
+oldest_found a m found chosen whole oldest same marked = subst (IsOldest m.order (IsMirrored a.parts.groups (key_at a))) (sym (same (inside found is))) is
+  where
+    is : IsOldest m.order (IsMirrored a.parts.groups (key_at a)) found
+    is = oldest_by m.order (IsMarked m.marks) (IsMirrored a.parts.groups (key_at a)) found marked oldest
+
+    inside : (o : Option ℕ) → IsOldest m.order (IsMirrored a.parts.groups (key_at a)) o → MatchOption o (Unit {0}) (λ b. b < a.parts.groups.blocks)
+    inside None h = tt
+    inside (Some b) h = let r = mirrored_record a.parts.groups (record_at b (key_at a b)) h.passes in block_inside a b r.0 whole.room r.1
 
 -- the newest place of a block is in a group that is made, so its class stays where another group is made
 place_made : (F : Flat) (M : ℕ → ℕ) (b : ℕ) (r : Record) → IsHistory F M → record_at b (M b) ≡ Some r → group_at F.groups (r.place / 128) ≢ None

@@ -84,7 +84,7 @@ stands_moved t v T G g k to stands rep some leaves =
       long = stands.long ∙ sym blocks;
       end = stands.end;
       marked = stands.marked ∙ sym blocks;
-      marks = marked_moved T.flat G (key_at t.world.array) (key_at v.array) t.recency.marks g k to some groups
+      marks = marked_moved T.flat G (key_at t.world.array) (key_at v.array) t.planner.ages.marks g k to some groups
           (same_map T.flat.emitted (key_at t.world.array) (key_at v.array) stands.world.array.history.map (subst (λ rs. IsMapOf rs (key_at v.array)) emitted rep.array.history.map)) stands.marks;
       hints = λ s free. stands.hints s (
         slot_was T.flat.groups g k to some s (subst (λ z. IsSlotOf Mirrored z s) groups free.0),

@@ -1,10 +1,11 @@
 -- What represents a flat state with what is kept next to it, after each part of a step.
-use Rattle.std.proofs.Common.{◌≡◌, ◌≢◌, ◌⊎◌, ℕ, ◌+◌, ◌/◌, ◌%◌, ◌<◌, if◌then◌else◌, arith, ◌↔◌, inl, inr, List, length, refl, sym, ap, ◌∙◌, subst, Option, Some, None, Result, Ok, Err}
+use Rattle.std.proofs.Common.{◌≡◌, ◌≢◌, ◌⊎◌, ℕ, ◌+◌, ◌/◌, ◌%◌, ◌<◌, if◌then◌else◌, arith, ◌↔◌, inl, inr, List, length, slice_set, refl, sym, ap, ◌∙◌, subst, Option, Some, None, Result, Ok, Err}
 use Rattle.std.specs.Prelude.{IfOk, OnErr, MatchOption, Contains}
+use Rattle.std.proofs.lemmas.List.{length-set}
 use Rattle.std.proofs.lemmas.List.FromFn.{length-range_with_len}
 use Rattle.map_join.specs.declared.records.Record.{Record}
 use Rattle.map_join.specs.Maps.{IsMapOf}
-use Rattle.map_join.specs.Record.{IsRecord, record_at}
+use Rattle.map_join.specs.Record.{IsRecord}
 use Rattle.extent_groups.specs.Groups.{Group, Groups, group_at, class_in, slots_in, with_group}
 use Rattle.extent_groups.proofs.GroupsLemmas.{group_same, group_other}
 use Rattle.extent_groups.proofs.Bounds.{made_low}
@@ -22,13 +23,12 @@ use Rattle.flat_machine.proofs.Unmakes.{number_within}
 use Rattle.flat_machine.specs.Steps as step
 use Rattle.flat_machine.specs.Cases.{Case, CommitWith, Leaves, made}
 use Rattle.flat_machine.specs.Steps.{FlatStep, FlatAnswer}
-use Rattle.array_model.specs.Views.{ArrayView, WorldView, key_at, IsWhole, SameSizes}
-use Rattle.array_model.proofs.Newest.{block_inside}
+use Rattle.array_model.specs.Views.{ArrayView, WorldView, key_at}
 use Rattle.array_model.specs.Represents.{Represents, ShowsArray}
-use Rattle.flat_machine.proofs.Pairs.{unequal}
+use Rattle.flat_machine.proofs.Pairs.{put_here, unequal}
 use Rattle.array_model.proofs.Hands.{free_iff}
-use Rattle.migrator.specs.Ages.{Marked, by_number, written, IsMarked, IsOldest}
-use Rattle.migrator.specs.Slots.{End, at_start, IsMirrored}
+use Rattle.migrator.specs.Ages.{Marked, by_number, written, IsOldest}
+use Rattle.migrator.specs.Slots.{End, at_start, class_at, IsMirrored}
 use Rattle.migrator.specs.First.{IsLowest, IsFirst, IsFirstAppend, IsFreeBehind, IsFreeFresh}
 use Rattle.cleaner.specs.declared.moves.Move.{Move}
 use Rattle.cleaner.specs.Plans.{IsPlugPlan, IsCleanPlan}
@@ -36,29 +36,27 @@ use Rattle.step_core.specs.declared.step.Answer.{Answer}
 use Rattle.step_core.specs.declared.step.Answer.TheVariants as answer
 use Rattle.step_core.specs.Told.{flat_answer}
 use Rattle.background.specs.Tiered.{Tiered, begun}
-use Rattle.background.specs.Placing.{Put, Fresh, Again, PlaceCase, PlaceStops}
-use Rattle.background.specs.Steps.{Write, Demote, StepNoted, AppendsAt, MovesTo, WritesAt, WritesIn, PutStops, TierStops, DemoteCase, PlugCase, CleanCase, WriteCase, CommitNoted, IsFreeMirror, end_after, order_behind}
+use Rattle.background.specs.Placing.{Put, Fresh, Again, PlaceCase, PlaceStops, put_step, put_answer}
+use Rattle.background.specs.Steps.{Write, StepNoted, AppendsAt, MovesTo, WritesAt, WritesIn, PutStops, TierStops, DemoteCase, PlugCase, Cleans, CleanCase, WriteCase, CommitNoted, IsFreeMirror, end_after, order_behind}
 use Rattle.background.specs.Stands.{StandsFor}
-use Rattle.background.specs.Inside.{IsFreeHere, CommitIs, order_told, outcome_of}
-use Rattle.background.specs.Marking.{AreMarked, PutsAt, marks_after, order_put}
+use Rattle.background.specs.Inside.{IsFreeHere, CommitIs, outcome_of}
+use Rattle.background.specs.Marking.{AreMarked, IsNoted, PutsAt, is_mirrors, order_noted, order_put}
+use Rattle.background.specs.Planning.{IsOldestMirrored, IsNextAppend, IsPlugOf, IsCleanOf}
+use Rattle.background.specs.declared.planner.Planner.{Planner}
 use Rattle.background.specs.declared.outcome.Outcome.{Outcome}
 use Rattle.background.specs.declared.outcome.Outcome.TheVariants.{NoRoom, Nothing}
 use Rattle.background.specs.declared.outcome.Outcome.TheVariants as outcome
 use Rattle.background.proofs.Placings.{commit_is}
-use Rattle.background.proofs.Emitting.{IsAlike, Emits, IsCalm, alike_left, alike_released, calm_alike, commit_emits, place_emits, stops_alike}
-use Rattle.background.proofs.Freeing.{unmade_frees, Frees, FreesNone, IsPlaceIn, LeavesOld, left_frees, refused_frees, release_frees, commit_frees, stops_free, place_frees, step_frees, made_frees}
+use Rattle.background.proofs.Emitting.{IsAlike, HasEmitted, IsCalm, alike_left, alike_released, calm_alike, commit_emits, place_emits, place_alike, stops_alike}
+use Rattle.background.proofs.Freeing.{unmade_frees, Frees, FreesNone, IsPlaceIn, left_frees, release_frees, commit_frees, stops_free, place_frees, place_keeps, step_frees, made_frees}
 use Rattle.background.specs.Hints.{IsHinted}
-use Rattle.background.proofs.Marks.{marked_alike, marked_made, marked_unmade, marks_keep, long_keep, mirrored_record}
+use Rattle.background.proofs.Marks.{marked_alike, marked_emitted, marked_made, marked_unmade}
 use Rattle.step_core.proofs.Worlds.{refused_leaves}
 use Rattle.background.specs.declared.tiers.Tiers.{Tiers}
 
 -- the groups of the state are the world's
 groups_of : (t : Tiers) (T : Tiered) → StandsFor t T → T.flat.groups ≡ t.world.array.parts.groups
 groups_of t T stands = stands.world.array.tables.groups
-
-pub same_blocks : (u v : WorldView) (F G : Flat) → Represents u F → Represents v G → SameSizes u.array v.array → G.groups.blocks ≡ F.groups.blocks
-same_blocks u v F G before after same =
-    ap (λ (z : Groups). z.blocks) after.array.tables.groups ∙ same.blocks ∙ sym (ap (λ (z : Groups). z.blocks) before.array.tables.groups)
 
 -- the keys are the map of what the state emitted
 pub map_of : (t : Tiers) (T : Tiered) → StandsFor t T → IsMapOf T.flat.emitted (key_at t.world.array)
@@ -72,7 +70,7 @@ abbrev pub Stops : WorldView → WorldView → ℕ → ℕ → ℕ → Put → T
 Stops u v w s b what = (F : Flat) → Represents u F → (G : Flat) × PlaceStops F w s b what G × Represents v G
 
 -- the order has a place for the block
-block_there : (t : Tiers) (T : Tiered) (b : ℕ) → StandsFor t T → b < t.world.array.parts.groups.blocks → b < length t.recency.order
+block_there : (t : Tiers) (T : Tiered) (b : ℕ) → StandsFor t T → b < t.world.array.parts.groups.blocks → b < length t.planner.ages.order
 block_there t T b stands inside =
     subst (λ n. b < n) (sym (ap length stands.order ∙ stands.long ∙ ap (λ (z : Groups). z.blocks) (groups_of t T stands))) inside
 
@@ -91,43 +89,52 @@ hints_still : (F G : Flat) (hints : List ℕ) → G.groups ≡ F.groups → Free
 hints_still F G hints groups frees hinted = hints_keep F G hints hints (λ s. ⊥) groups (λ s free. inl (frees s free)) (λ s no. absurd no) (λ s h. h) hinted
 
 -- the place that a block had before it was placed
-left_in : (F : Flat) (w s b : ℕ) (what : Put) (o : Outcome) (G : Flat) (case : PlaceCase F w s b what o G) (hints : List ℕ) (left : Option Record)
-    → ((q : Record) → Contains F.emitted q → IsRecord q) → IsNewest F.emitted b left → MatchOption left (Unit {0}) (λ r. IsHinted hints r.place)
-    → (n : ℕ) → LeavesOld F w s b what o G case n → IsHinted hints n
-left_in F w s b what (outcome.Placed r) G case hints left all newest hinted n at =
-    go left case.old (newest_unique F.emitted b all left case.old newest case.newest) hinted at
+left_in : (emitted : List Record) (b : ℕ) (hints : List ℕ) (old left : Option Record) → ((q : Record) → Contains emitted q → IsRecord q) → IsNewest emitted b old
+    → IsNewest emitted b left → MatchOption left (Unit {0}) (λ r. IsHinted hints r.place) → (n : ℕ) → IsPlaceIn old n → IsHinted hints n
+left_in emitted b hints old left all was is hinted n at = go left old (newest_unique emitted b all left old is was) hinted at
   where
     go : (o p : Option Record) → o ≡ p → MatchOption o (Unit {0}) (λ q. IsHinted hints q.place) → IsPlaceIn p n → IsHinted hints n
     go None None same hinted at = absurd at
     go None (Some q) same hinted at = absurd (cc)
     go (Some p) None same hinted at = absurd at
     go (Some p) (Some q) same hinted at = subst (IsHinted hints) (ap (λ (z : Record). z.place) (same_Some p q same) ∙ sym at) hinted
-left_in F w s b what (outcome.Refused k) G case hints left all newest hinted n at = absurd at
-left_in F w s b what outcome.NoRoom G case hints left all newest hinted n at = absurd at
-left_in F w s b what outcome.Nothing G case hints left all newest hinted n at = absurd at
 
--- what is marked after what is noted
-pub marks_noted : (groups : Groups) (a world : ArrayView) (was mid now : Marked) (b : ℕ) (o : Outcome) → groups ≡ a.parts.groups → a ≡ world
-    → length mid.order ≡ length was.order → mid.marks ≡ was.marks → (b < length mid.order → now.marks ≡ marks_after groups mid.marks b o)
-    → b < length was.order → now.marks ≡ marks_after world.parts.groups was.marks b o
-marks_noted groups a world was mid now b o tables same long kept marked there =
-    marked (subst (λ n. b < n) (sym long) there) ∙ ap (λ z. marks_after z mid.marks b o) (tables ∙ ap (λ (x : ArrayView). x.parts.groups) same)
-    ∙ ap (λ ms. marks_after world.parts.groups ms b o) kept
+-- the commit of a record is noted in a planner, if its order has a place for the block
+abbrev pub Notes : Groups → Planner → Planner → Record → Type 0
+Notes groups before after r = r.block < length before.ages.order → IsNoted groups before.ages after.ages r
 
--- the marks after a placing or a commit
-marked_in : (t u : Tiers) (T : Tiered) (G : Flat) (b : ℕ) (o : Outcome) → u.recency.marks ≡ marks_after u.world.array.parts.groups t.recency.marks b o
-    → Represents u.world G → SameSizes t.world.array u.world.array → StandsFor t T → length u.recency.marks ≡ G.groups.blocks
-marked_in t u T G b o noted rep same stands =
-    ap length noted ∙ long_keep u.world.array.parts.groups t.recency.marks b o ∙ stands.marked ∙ sym (same_blocks t.world u.world T.flat G stands.world rep same)
+-- what is kept next to the world after a commit that was noted
+stands_noted : (t u : Tiers) (T : Tiered) (G : Flat) (b : ℕ) (r : Record) (order : List ℕ) → Notes u.world.array.parts.groups t.planner u.planner r
+    → length u.planner.ages.order ≡ length t.planner.ages.order → u.planner.end ≡ t.planner.end → b < t.world.array.parts.groups.blocks
+    → StandsFor t T → Represents u.world G → HasEmitted T.flat G b r → order_noted T.order r ≡ order → ((s : ℕ) → IsFreeMirror G s → IsHinted u.hints s)
+    → StandsFor u (record T { flat = G; order = order })
+stands_noted t u T G b r order notes long end inside stands rep emits as_said hints = record {
+  world = rep;
+  order = told;
+  long = ap length (sym told) ∙ long ∙ ap length stands.order ∙ stands.long ∙ sym blocks;
+  end = end ∙ stands.end;
+  marked = ap length marks ∙ length-set t.planner.ages.marks b (is_mirrors (class_at G.groups (Some r))) ∙ stands.marked ∙ sym blocks;
+  marks = subst (λ ms. AreMarked ms G.groups (key_at u.world.array)) (sym marks)
+      (marked_emitted T.flat G (key_at t.world.array) (key_at u.world.array) t.planner.ages.marks b r rep.array.history.records within
+      stands.world.array.history.map rep.array.history.map emits stands.marks);
+  hints = hints;
+}
+  where
+    noted : IsNoted u.world.array.parts.groups t.planner.ages u.planner.ages r
+    noted = notes (subst (λ n. n < length t.planner.ages.order) (sym emits.newest.1) (block_there t T b stands inside))
 
-marks_in : (t u : Tiers) (T : Tiered) (G : Flat) (b : ℕ) (o : Outcome) → u.recency.marks ≡ marks_after u.world.array.parts.groups t.recency.marks b o
-    → Represents u.world G → b < t.world.array.parts.groups.blocks → Emits T.flat G b o → StandsFor t T → AreMarked u.recency.marks G.groups (key_at u.world.array)
-marks_in t u T G b o noted rep inside emits stands =
-    let before = stands.world.array.history in
-    let behind = rep.array.history in
-    let within = subst (λ n. b < n) (sym (stands.marked ∙ ap (λ (z : Groups). z.blocks) (groups_of t T stands))) inside in
-    subst (λ ms. AreMarked ms G.groups (key_at u.world.array)) (sym (noted ∙ ap (λ (z : Groups). marks_after z t.recency.marks b o) (sym rep.array.tables.groups)))
-    (marks_keep T.flat G (key_at t.world.array) (key_at u.world.array) t.recency.marks b o behind.records within before.map behind.map emits stands.marks)
+    told : u.planner.ages.order ≡ order
+    told = noted.0 ∙ ap (λ l. order_noted l r) stands.order ∙ as_said
+
+    blocks : G.groups.blocks ≡ T.flat.groups.blocks
+    blocks = ap (λ (z : Groups). z.blocks) emits.groups
+
+    within : b < length t.planner.ages.marks
+    within = subst (λ n. b < n) (sym (stands.marked ∙ ap (λ (z : Groups). z.blocks) (groups_of t T stands))) inside
+
+    marks : u.planner.ages.marks ≡ slice_set t.planner.ages.marks b (is_mirrors (class_at G.groups (Some r)))
+    marks = noted.1 ∙ ap (λ z. slice_set t.planner.ages.marks r.block (is_mirrors (class_at z (Some r)))) (sym rep.array.tables.groups)
+        ∙ ap (λ n. slice_set t.planner.ages.marks n (is_mirrors (class_at G.groups (Some r)))) emits.newest.1
 
 -- another world next to what is kept, for a state with the same groups and records, and no more free slots
 pub stands_alike : (t : Tiers) (v : WorldView) (T : Tiered) (G : Flat) → StandsFor t T → Represents v G → IsAlike T.flat G → FreesNone T.flat G
@@ -139,48 +146,78 @@ stands_alike t v T G stands rep alike frees =
       long = stands.long ∙ sym blocks;
       end = stands.end;
       marked = stands.marked ∙ sym blocks;
-      marks = marked_alike T.flat G (key_at t.world.array) (key_at v.array) t.recency.marks stands.world.array.history.map rep.array.history.map alike stands.marks;
+      marks = marked_alike T.flat G (key_at t.world.array) (key_at v.array) t.planner.ages.marks stands.world.array.history.map rep.array.history.map alike stands.marks;
       hints = hints_still T.flat G t.hints alike.groups frees stands.hints;
     }
 
--- neither a placing nor a commit changes groups
-same_groups : (t u : Tiers) (T : Tiered) (G : Flat) (b : ℕ) (o : Outcome) → Emits T.flat G b o → G.groups ≡ T.flat.groups
-same_groups t u T G b (outcome.Placed r) emits = emits.groups
-same_groups t u T G b (outcome.Refused k) emits = emits.groups
-same_groups t u T G b outcome.NoRoom emits = emits.groups
-same_groups t u T G b outcome.Nothing emits = emits.groups
+-- after a step that leaves the state but for drives that failed, and after one that emits no record, changes no group and frees
+-- no slot
+pub stands_left : (t : Tiers) (v : WorldView) (T : Tiered) (G : Flat) → StandsFor t T → Represents v G → Leaves T.flat G → StandsFor (record t { world = v }) (record T { flat = G })
+stands_left t v T G stands rep leaves = stands_alike t v T G stands rep (alike_left T.flat G leaves) (left_frees T.flat G leaves)
+
+-- what is noted of a commit by its record is what is noted by what waited
+order_is : (F G : Flat) (w s b : ℕ) (order : List ℕ) (r : Record) → Case F (step.Commit w s b) (step.Committed r) G
+    → order_noted order r ≡ order_behind order b (step.Committed r) (F.tickets s)
+order_is F G w s b order r case = go (F.tickets s) case.2.2
+  where
+    go : (c : Option Waiting) → CommitWith F w s b case.2.0 c (step.Committed r) G → order_noted order r ≡ order_behind order b (step.Committed r) c
+    go None with = absurd with
+    go (Some (waiting.Fresh x)) with = ap (order_noted order) with.3
+    go (Some (waiting.Moved c v h x)) with =
+        ap (order_noted order) with.3 ∙ ap (λ t. if t then written order b else order) (unequal (h + 1) 0 (λ e. absurd (omega (arith, e))))
+
+-- and what waits is what was put in
+order_waits : (F G : Flat) (what : Put) (w s b : ℕ) (order : List ℕ) (r : Record) → Case F (put_step what w s b) (put_answer what s) G
+    → order_behind order b (step.Committed r) (G.tickets s) ≡ order_put order b what (outcome.Placed r)
+order_waits F G (Fresh x) w s b order r case =
+    ap (order_behind order b (step.Committed r)) (ap (λ (y : Flat). y.tickets s) case.3.same ∙ put_here F.tickets s (Some (waiting.Fresh x)))
+order_waits F G Again w s b order r case =
+    ap (order_behind order b (step.Committed r))
+    (ap (λ (y : Flat). y.tickets s) case.1.6.same ∙ put_here F.tickets s (Some (waiting.Moved b case.1.0.version case.1.0.hop case.1.1.content)))
+
+-- where nothing is placed no write is noted
+order_stays : (order : List ℕ) (b : ℕ) (what : Put) (o : Outcome) → ((r : Record) → o ≢ outcome.Placed r) → order ≡ order_put order b what o
+order_stays order b Again o other = refl
+order_stays order b (Fresh x) (outcome.Placed r) other = absurd (other r refl)
+order_stays order b (Fresh x) (outcome.Refused k) other = refl
+order_stays order b (Fresh x) outcome.NoRoom other = refl
+order_stays order b (Fresh x) outcome.Nothing other = refl
+
+-- what a placing does for each state that is stood for
+abbrev pub PutsTo : Tiers → Tiers → ℕ → ℕ → ℕ → Put → Outcome → Type 0
+PutsTo t u w s b what o = (T : Tiered) → StandsFor t T → (U : Tiered) × PutsAt T w b what s o U × StandsFor u U
 
 -- what a placing says of a world is true with what is noted of it
-pub puts : (t u : Tiers) (w s b : ℕ) (what : Put) (o : Outcome) (left : Option Record) → Places t.world u.world w s b what o → SameSizes t.world.array u.world.array
-    → (b < length t.recency.order → u.recency.order ≡ order_put t.recency.order b what o) → length u.recency.order ≡ length t.recency.order
-    → (b < length t.recency.order → u.recency.marks ≡ marks_after u.world.array.parts.groups t.recency.marks b o) → u.end ≡ t.end → b < t.world.array.parts.groups.blocks
-    → ((F : Flat) → ShowsArray t.world.array F → IsNewest F.emitted b left) → MatchOption left (Unit {0}) (λ r. IsHinted u.hints r.place)
-    → ((n : ℕ) → IsHinted t.hints n → IsHinted u.hints n)
-    → (T : Tiered) → StandsFor t T → (U : Tiered) × PutsAt T w b what s o U × StandsFor u U
-puts t u w s b what o left places same order long marks end inside newest hinted others T stands =
+pub puts : (t u : Tiers) (w s b : ℕ) (what : Put) (r : Record) (left : Option Record) → Places t.world u.world w s b what (outcome.Placed r)
+    → Notes u.world.array.parts.groups t.planner u.planner r → length u.planner.ages.order ≡ length t.planner.ages.order → u.planner.end ≡ t.planner.end
+    → b < t.world.array.parts.groups.blocks → ((F : Flat) → ShowsArray t.world.array F → IsNewest F.emitted b left)
+    → MatchOption left (Unit {0}) (λ q. IsHinted u.hints q.place) → ((n : ℕ) → IsHinted t.hints n → IsHinted u.hints n)
+    → PutsTo t u w s b what (outcome.Placed r)
+puts t u w s b what r left places notes long end inside newest hinted others T stands =
     let p = places T.flat stands.world in
-    let there = block_there t T b stands inside in
-    let noted = order there ∙ ap (λ l. order_put l b what o) stands.order in
-    let emits = place_emits T.flat p.0 w s b what o stands.world.array.history.records p.1 in (
-      record T { flat = p.0; order = order_put T.order b what o },
+    let records = stands.world.array.history.records in
+    let run = p.1.run in
+    let emits = place_emits T.flat p.0 w s b what r records p.1 in (
+      record T { flat = p.0; order = order_put T.order b what (outcome.Placed r) },
       (p.0, p.1, refl),
-      record {
-        world = p.2;
-        order = noted;
-        long = ap length (sym noted) ∙ long ∙ ap length stands.order ∙ stands.long ∙ sym (same_blocks t.world u.world T.flat p.0 stands.world p.2 same);
-        end = end ∙ stands.end;
-        marked = marked_in t u T p.0 b o (marks there) p.2 same stands;
-        marks = marks_in t u T p.0 b o (marks there) p.2 inside emits stands;
-        hints = hints_keep T.flat p.0 t.hints u.hints (LeavesOld T.flat w s b what o p.0 p.1) (same_groups t u T p.0 b o emits)
-            (place_frees T.flat p.0 w s b what o p.1)
-            (left_in T.flat w s b what o p.0 p.1 u.hints left stands.world.array.history.records (newest T.flat stands.world.array) hinted)
-            others stands.hints;
-      },
+      stands_noted t u T p.0 b r (order_put T.order b what (outcome.Placed r)) notes long end inside stands p.2 emits
+          (order_is run.2.0 run.2.2.0 w s b T.order r run.2.2.1 ∙ order_waits run.0 run.2.0 what w s b T.order r run.2.1)
+          (hints_keep T.flat p.0 t.hints u.hints (IsPlaceIn p.1.old) emits.groups (place_frees T.flat p.0 w s b what r p.1)
+          (left_in T.flat.emitted b u.hints p.1.old left records p.1.newest (newest T.flat stands.world.array) hinted) others stands.hints),
     )
 
-pub puts_stop : (t : Tiers) (v : WorldView) (w s b : ℕ) (what : Put) → Stops t.world v w s b what → SameSizes t.world.array v.array
+pub puts_none : (t : Tiers) (v : WorldView) (w s b : ℕ) (what : Put) (o : Outcome) → ((r : Record) → o ≢ outcome.Placed r) → Places t.world v w s b what o
+    → PutsTo t (record t { world = v }) w s b what o
+puts_none t v w s b what o other places T stands =
+    let p = places T.flat stands.world in (
+      record T { flat = p.0 },
+      (p.0, p.1, ap (λ l. record T { flat = p.0; order = l }) (order_stays T.order b what o other)),
+      stands_alike t v T p.0 stands p.2 (place_alike T.flat p.0 w s b what o other p.1) (place_keeps T.flat p.0 w s b what o other p.1),
+    )
+
+pub puts_stop : (t : Tiers) (v : WorldView) (w s b : ℕ) (what : Put) → Stops t.world v w s b what
     → (T : Tiered) → StandsFor t T → (U : Tiered) × PutStops T w what U × StandsFor (record t { world = v }) U
-puts_stop t v w s b what places same T stands =
+puts_stop t v w s b what places T stands =
     let p = places T.flat stands.world in (
       record T { flat = p.0 },
       record { slot = s; block = b; left = p.0; stops = p.1; same = refl },
@@ -188,23 +225,31 @@ puts_stop t v w s b what places same T stands =
     )
 
 -- after a placing the log goes on elsewhere
-pub appends : (t m : Tiers) (end : End) (w s b : ℕ) (o : Outcome) → ((T : Tiered) → StandsFor t T → (U : Tiered) × PutsAt T w b Again s o U × StandsFor m U)
-    → end ≡ end_after m.end s o → (T : Tiered) → StandsFor t T → (U : Tiered) × AppendsAt T w b s o U × StandsFor (record m { end = end }) U
-appends t m end w s b o puts noted T stands =
-    let p = puts T stands in
-    let st : StandsFor m (record T { flat = p.1.0 }) = subst (StandsFor m) p.1.2 p.2 in (
-      record T { flat = p.1.0; end = end_after T.end s o },
-      (p.1.0, p.1.1, refl),
+pub appends : (t m : Tiers) (p : Planner) (w s b : ℕ) (o : Outcome) → PutsTo t m w s b Again o
+    → p.ages ≡ m.planner.ages → p.end ≡ end_after m.planner.end s o
+    → (T : Tiered) → StandsFor t T → (U : Tiered) × AppendsAt T w b s o U × StandsFor (record m { planner = p }) U
+appends t m p w s b o puts same noted T stands =
+    let d = puts T stands in
+    let st : StandsFor m (record T { flat = d.1.0 }) = subst (StandsFor m) d.1.2 d.2 in (
+      record T { flat = d.1.0; end = end_after T.end s o },
+      (d.1.0, d.1.1, refl),
       record {
         world = st.world;
-        order = st.order;
+        order = ap (λ (g : Marked). g.order) same ∙ st.order;
         long = st.long;
         end = noted ∙ ap (λ (e : End). end_after e s o) st.end;
-        marked = st.marked;
-        marks = st.marks;
+        marked = ap (λ (g : Marked). length g.marks) same ∙ st.marked;
+        marks = subst (λ (g : Marked). AreMarked g.marks d.1.0.groups (key_at m.world.array)) (sym same) st.marks;
         hints = st.hints;
       },
     )
+
+-- where nothing is placed it goes on there
+pub end_stays : (end : End) (s : ℕ) (o : Outcome) → ((r : Record) → o ≢ outcome.Placed r) → end ≡ end_after end s o
+end_stays end s (outcome.Placed r) other = absurd (other r refl)
+end_stays end s (outcome.Refused k) other = refl
+end_stays end s outcome.NoRoom other = refl
+end_stays end s outcome.Nothing other = refl
 
 -- of two ways to say the same of slots the lowest are the same
 lowest_as : (P Q : ℕ → Type 0) (n : ℕ) → ((m : ℕ) → P m ↔ Q m) → IsLowest P n → IsLowest Q n
@@ -225,159 +270,140 @@ append_as end groups keys P Q (Some n) same (inr h) =
       lowest_as (IsFreeFresh end groups keys P) (IsFreeFresh end groups keys Q) n (λ m. ((λ x. (x.0, (same m).0 x.1)), (λ x. (x.0, (same m).1 x.1)))) h.1,
     )
 
--- the oldest of the marked blocks is the state's oldest in mirrored groups, and one of its blocks
-mirrored_inside : (t : Tiers) (T : Tiered) (b : ℕ) → StandsFor t T → IsMirrored T.flat.groups (key_at t.world.array) b → IsWhole t.world.array → b < t.world.array.parts.groups.blocks
-mirrored_inside t T b stands is whole =
-    let r = mirrored_record T.flat.groups (record_at b (key_at t.world.array b)) is in block_inside t.world.array b r.0 whole.room r.1
-
-oldest_by : (order : List ℕ) (P Q : ℕ → Type 0) (chosen : Option ℕ) → ((b : ℕ) → P b ↔ Q b) → IsOldest order P chosen → IsOldest order Q chosen
-oldest_by order P Q None same h = λ c has q. h c has ((same c).1 q)
-oldest_by order P Q (Some b) same h = record { passes = (same b).0 h.passes; among = h.among; oldest = λ c has q ne. h.oldest c has ((same c).1 q) ne }
-
-pub oldest_is : (t : Tiers) (found chosen : Option ℕ) → IsWhole t.world.array → IsOldest t.recency.order (IsMarked t.recency.marks) found
-    → (MatchOption found (Unit {0}) (λ b. b < t.world.array.parts.groups.blocks) → chosen ≡ found)
-    → (T : Tiered) → StandsFor t T → IsOldest T.order (IsMirrored T.flat.groups (key_at t.world.array)) chosen
-oldest_is t found chosen whole oldest same T stands = subst (IsOldest T.order (IsMirrored T.flat.groups (key_at t.world.array))) (sym (same (inside found is))) is
-  where
-    is : IsOldest T.order (IsMirrored T.flat.groups (key_at t.world.array)) found
-    is = oldest_by T.order (IsMarked t.recency.marks) (IsMirrored T.flat.groups (key_at t.world.array)) found stands.marks
-        (subst (λ order. IsOldest order (IsMarked t.recency.marks) found) stands.order oldest)
-
-    inside : (o : Option ℕ) → IsOldest T.order (IsMirrored T.flat.groups (key_at t.world.array)) o → MatchOption o (Unit {0}) (λ b. b < t.world.array.parts.groups.blocks)
-    inside None h = tt
-    inside (Some b) h = mirrored_inside t T b stands h.passes whole
-
-append_with : (t : Tiers) (T : Tiered) (P : ℕ → Type 0) (slot : Option ℕ) → StandsFor t T
-    → IsFirstAppend t.end t.world.array.parts.groups (key_at t.world.array) P slot → IsFirstAppend T.end T.flat.groups (key_at t.world.array) P slot
-append_with t T P slot stands h =
-    subst (λ end. IsFirstAppend end T.flat.groups (key_at t.world.array) P slot) stands.end
-    (subst (λ groups. IsFirstAppend t.end groups (key_at t.world.array) P slot) (sym (groups_of t T stands)) h)
-
-pub append_is : (t : Tiers) (T : Tiered) (slot : Option ℕ) → StandsFor t T
-    → IsFirstAppend t.end t.world.array.parts.groups (key_at t.world.array) (IsFreeHere t.world) slot
-    → IsFirstAppend T.end T.flat.groups (key_at t.world.array) (IsFree T.flat) slot
-append_is t T slot stands h =
-    append_as T.end T.flat.groups (key_at t.world.array) (IsFreeHere t.world) (IsFree T.flat) slot (λ s. free_iff t.world T.flat s stands.world)
-    (append_with t T (IsFreeHere t.world) slot stands h)
-
 -- which block is the oldest, for each state that is stood for
 abbrev pub OldestIs : Tiers → Option ℕ → Type 0
 OldestIs t chosen = (T : Tiered) → StandsFor t T → IsOldest T.order (IsMirrored T.flat.groups (key_at t.world.array)) chosen
 
+pub oldest_is : (t : Tiers) (a : ArrayView) (chosen : Option ℕ) → a ≡ t.world.array
+    → (AreMarked t.planner.ages.marks a.parts.groups (key_at a) → IsOldestMirrored a t.planner chosen) → OldestIs t chosen
+oldest_is t a chosen same oldest T stands =
+    let groups = groups_of t T stands in
+    let keys = key_at t.world.array in
+    let marks = subst (λ z. AreMarked t.planner.ages.marks z keys) groups stands.marks in
+    let here = subst (λ (x : ArrayView). AreMarked t.planner.ages.marks x.parts.groups (key_at x)) (sym same) marks in
+    let is = subst (λ (x : ArrayView). IsOldestMirrored x t.planner chosen) same (oldest here) in
+    subst (λ order. IsOldest order (IsMirrored T.flat.groups keys) chosen) stands.order (subst (λ z. IsOldest t.planner.ages.order (IsMirrored z keys) chosen) (sym groups) is)
+
+-- what is so of the world's groups and the planner's end is so of the state's
+as_state : (P : Groups → End → Type 0) (t : Tiers) (T : Tiered) → StandsFor t T → P t.world.array.parts.groups t.planner.end → P T.flat.groups T.end
+as_state P t T stands h = subst (P T.flat.groups) stands.end (subst (λ z. P z t.planner.end) (sym (groups_of t T stands)) h)
+
+append_is : (t : Tiers) (p : Planner) (a : ArrayView) (T : Tiered) (slot : Option ℕ) → a ≡ t.world.array → p ≡ t.planner → StandsFor t T
+    → IsNextAppend a p (IsFreeHere t.world) slot → IsFirstAppend T.end T.flat.groups (key_at t.world.array) (IsFree T.flat) slot
+append_is t p a T slot array planner stands h =
+    let here = subst (λ (x : ArrayView). IsNextAppend x t.planner (IsFreeHere t.world) slot) array
+    (subst (λ (q : Planner). IsNextAppend a q (IsFreeHere t.world) slot) planner h) in
+    append_as T.end T.flat.groups (key_at t.world.array) (IsFreeHere t.world) (IsFree T.flat) slot (λ s. free_iff t.world T.flat s stands.world)
+    (as_state (λ groups end. IsFirstAppend end groups (key_at t.world.array) (IsFreeHere t.world) slot) t T stands here)
+
 -- a placing by a plan is the case of its step
-pub demotes : {E : Type 0} (t m u : Tiers) (w b s : ℕ) (r : Result Outcome E) → m ≡ t
-    → OldestIs t (Some b)
-    → IsFirstAppend m.end m.world.array.parts.groups (key_at m.world.array) (IsFreeHere m.world) (Some s)
-    → IfOk r (λ o. (T : Tiered) → StandsFor m T → (U : Tiered) × AppendsAt T w b s o U × StandsFor u U)
+pub demotes : {E : Type 0} (t u : Tiers) (p : Planner) (a : ArrayView) (w b s : ℕ) (r : Result Outcome E) → a ≡ t.world.array → p ≡ t.planner → OldestIs t (Some b)
+    → IsNextAppend a p (IsFreeHere t.world) (Some s)
+    → IfOk r (λ o. (T : Tiered) → StandsFor (record t { planner = p }) T → (U : Tiered) × AppendsAt T w b s o U × StandsFor u U)
     → IfOk r (λ o. (T : Tiered) → StandsFor t T → (U : Tiered) × DemoteCase T w o U × StandsFor u U)
-demotes t m u w b s (Err e) same oldest first done = tt
-demotes t m u w b s (Ok o) same oldest first done = λ T stands.
-    let there = subst (λ n. StandsFor n T) (sym same) stands in
-    let d = done T there in (
+demotes t u p a w b s (Err e) array planner oldest next done = tt
+demotes t u p a w b s (Ok o) array planner oldest next done = λ T stands.
+    let d = done T (subst (λ (q : Planner). StandsFor (record t { planner = q }) T) (sym planner) stands) in (
       d.0,
       record {
         keys = key_at t.world.array;
         map_of = map_of t T stands;
         chosen = Some b;
         oldest = oldest T stands;
-        done = (
-          Some s,
-          append_is t T (Some s) stands
-              (subst (λ (n : Tiers). IsFirstAppend n.end n.world.array.parts.groups (key_at n.world.array) (IsFreeHere n.world) (Some s)) same first),
-          d.1,
-        );
+        done = (Some s, append_is t p a T (Some s) array planner stands next, d.1);
       },
       d.2,
     )
 
-pub demotes_nowhere : (t m : Tiers) (w b : ℕ) → m ≡ t → OldestIs t (Some b)
-    → IsFirstAppend m.end m.world.array.parts.groups (key_at m.world.array) (IsFreeHere m.world) None
-    → (T : Tiered) → StandsFor t T → (U : Tiered) × DemoteCase T w NoRoom U × StandsFor m U
-demotes_nowhere t m w b same oldest first T stands = (
+pub demotes_nowhere : (t : Tiers) (p : Planner) (a : ArrayView) (w b : ℕ) → a ≡ t.world.array → p ≡ t.planner → OldestIs t (Some b)
+    → IsNextAppend a p (IsFreeHere t.world) None
+    → (T : Tiered) → StandsFor t T → (U : Tiered) × DemoteCase T w NoRoom U × StandsFor (record t { planner = p }) U
+demotes_nowhere t p a w b array planner oldest next T stands = (
   T,
   record {
     keys = key_at t.world.array;
     map_of = map_of t T stands;
     chosen = Some b;
     oldest = oldest T stands;
-    done = (
-      None,
-      append_is t T None stands
-          (subst (λ (n : Tiers). IsFirstAppend n.end n.world.array.parts.groups (key_at n.world.array) (IsFreeHere n.world) None) same first),
-      record { told = refl; same = refl },
-    );
+    done = (None, append_is t p a T None array planner stands next, record { told = refl; same = refl });
   },
-  subst (λ n. StandsFor n T) (sym same) stands,
+  subst (λ (q : Planner). StandsFor (record t { planner = q }) T) (sym planner) stands,
 )
 
-plug_is : (t : Tiers) (T : Tiered) (plan : Option Move) → StandsFor t T
-    → IsPlugPlan t.world.array.parts.groups (key_at t.world.array) t.end.group plan → IsPlugPlan T.flat.groups (key_at t.world.array) T.end.group plan
-plug_is t T plan stands h =
-    subst (λ (e : End). IsPlugPlan T.flat.groups (key_at t.world.array) e.group plan) stands.end
-    (subst (λ groups. IsPlugPlan groups (key_at t.world.array) t.end.group plan) (sym (groups_of t T stands)) h)
+pub demotes_nothing : (t : Tiers) (p : Planner) (w : ℕ) → p ≡ t.planner → OldestIs t None
+    → (T : Tiered) → StandsFor t T → (U : Tiered) × DemoteCase T w Nothing U × StandsFor (record t { planner = p }) U
+demotes_nothing t p w planner oldest T stands = (
+  T,
+  record {
+    keys = key_at t.world.array;
+    map_of = map_of t T stands;
+    chosen = None;
+    oldest = oldest T stands;
+    done = record { told = refl; same = refl };
+  },
+  subst (λ (q : Planner). StandsFor (record t { planner = q }) T) (sym planner) stands,
+)
 
-pub plugs : {E : Type 0} (t u : Tiers) (w : ℕ) (plan : Move) (r : Result Outcome E)
-    → IsPlugPlan t.world.array.parts.groups (key_at t.world.array) t.end.group (Some plan)
+plug_is : (t : Tiers) (a : ArrayView) (T : Tiered) (plan : Option Move) → a ≡ t.world.array → StandsFor t T → IsPlugOf a t.planner plan
+    → IsPlugPlan T.flat.groups (key_at t.world.array) T.end.group plan
+plug_is t a T plan array stands h =
+    as_state (λ groups end. IsPlugPlan groups (key_at t.world.array) end.group plan) t T stands (subst (λ (x : ArrayView). IsPlugOf x t.planner plan) array h)
+
+pub plugs : {E : Type 0} (t u : Tiers) (a : ArrayView) (w : ℕ) (plan : Move) (r : Result Outcome E) → a ≡ t.world.array → IsPlugOf a t.planner (Some plan)
     → IfOk r (λ o. (T : Tiered) → StandsFor t T → (U : Tiered) × MovesTo T w plan.block plan.to o U × StandsFor u U)
     → IfOk r (λ o. (T : Tiered) → StandsFor t T → (U : Tiered) × PlugCase T w o U × StandsFor u U)
-plugs t u w plan (Err e) planned done = tt
-plugs t u w plan (Ok o) planned done = λ T stands.
+plugs t u a w plan (Err e) array planned done = tt
+plugs t u a w plan (Ok o) array planned done = λ T stands.
     let d = done T stands in (
       d.0,
       record {
         keys = key_at t.world.array;
         map_of = map_of t T stands;
         plan = Some plan;
-        planned = plug_is t T (Some plan) stands planned;
+        planned = plug_is t a T (Some plan) array stands planned;
         done = d.1;
       },
       d.2,
     )
 
-pub plugs_nothing : (t : Tiers) (w : ℕ) → IsPlugPlan t.world.array.parts.groups (key_at t.world.array) t.end.group None
+pub plugs_nothing : (t : Tiers) (a : ArrayView) (w : ℕ) → a ≡ t.world.array → IsPlugOf a t.planner None
     → (T : Tiered) → StandsFor t T → (U : Tiered) × PlugCase T w Nothing U × StandsFor t U
-plugs_nothing t w planned T stands = (
+plugs_nothing t a w array planned T stands = (
   T,
   record {
     keys = key_at t.world.array;
     map_of = map_of t T stands;
     plan = None;
-    planned = plug_is t T None stands planned;
+    planned = plug_is t a T None array stands planned;
     done = record { told = refl; same = refl };
   },
   stands,
 )
 
--- what a clean is planned by: the first of the slots where the log goes on, held or not
-abbrev pub CleanPlanned : Tiers → Option Move → Type 0
-CleanPlanned t plan =
-    (append : Option ℕ) × IsFirstAppend t.end t.world.array.parts.groups (key_at t.world.array) (λ _. Unit {0}) append
-    × IsCleanPlan t.world.array.parts.groups (key_at t.world.array) t.end.group append plan
+-- what a clean is planned by
+clean_case : (t : Tiers) (a : ArrayView) (w : ℕ) (T U : Tiered) (plan : Option Move) (o : Outcome) → a ≡ t.world.array → StandsFor t T → IsCleanOf a t.planner plan
+    → Cleans T w plan o U → CleanCase T w o U
+clean_case t a w T U plan o array stands planned done =
+    let here = subst (λ (x : ArrayView). IsCleanOf x t.planner plan) array planned in record {
+      keys = key_at t.world.array;
+      map_of = map_of t T stands;
+      append = here.0;
+      first = as_state (λ groups end. IsFirstAppend end groups (key_at t.world.array) (λ _. Unit {0}) here.0) t T stands here.1;
+      plan = plan;
+      planned = as_state (λ groups end. IsCleanPlan groups (key_at t.world.array) end.group here.0 plan) t T stands here.2;
+      done = done;
+    }
 
-clean_is : (t : Tiers) (T : Tiered) (append : Option ℕ) (plan : Option Move) → StandsFor t T
-    → IsCleanPlan t.world.array.parts.groups (key_at t.world.array) t.end.group append plan → IsCleanPlan T.flat.groups (key_at t.world.array) T.end.group append plan
-clean_is t T append plan stands h =
-    subst (λ (e : End). IsCleanPlan T.flat.groups (key_at t.world.array) e.group append plan) stands.end
-    (subst (λ groups. IsCleanPlan groups (key_at t.world.array) t.end.group append plan) (sym (groups_of t T stands)) h)
-
-pub cleans : {E : Type 0} (t u : Tiers) (w : ℕ) (plan : Move) (r : Result Outcome E) → CleanPlanned t (Some plan)
+pub cleans : {E : Type 0} (t u : Tiers) (a : ArrayView) (w : ℕ) (plan : Move) (r : Result Outcome E) → a ≡ t.world.array → IsCleanOf a t.planner (Some plan)
     → IfOk r (λ o. (T : Tiered) → StandsFor t T → (U : Tiered) × AppendsAt T w plan.block plan.to o U × StandsFor u U)
     → IfOk r (λ o. (T : Tiered) → StandsFor t T → (U : Tiered) × CleanCase T w o U × StandsFor u U)
-cleans t u w plan (Err e) planned done = tt
-cleans t u w plan (Ok o) planned done = λ T stands.
-    let d = done T stands in (
-      d.0,
-      record {
-        keys = key_at t.world.array;
-        map_of = map_of t T stands;
-        append = planned.0;
-        first = append_with t T (λ _. Unit {0}) planned.0 stands planned.1;
-        plan = Some plan;
-        planned = clean_is t T planned.0 (Some plan) stands planned.2;
-        done = d.1;
-      },
-      d.2,
-    )
+cleans t u a w plan (Err e) array planned done = tt
+cleans t u a w plan (Ok o) array planned done = λ T stands.
+    let d = done T stands in (d.0, clean_case t a w T d.0 (Some plan) o array stands planned d.1, d.2)
+
+pub cleans_nothing : (t : Tiers) (a : ArrayView) (w : ℕ) → a ≡ t.world.array → IsCleanOf a t.planner None
+    → (T : Tiered) → StandsFor t T → (U : Tiered) × CleanCase T w Nothing U × StandsFor t U
+cleans_nothing t a w array planned T stands = (T, clean_case t a w T T None Nothing array stands planned (record { told = refl; same = refl }), stands)
 
 -- which slot is the first free one of mirrored groups, for each state that is represented; what is kept represents that state too
 abbrev pub FirstFree : Tiers → Tiers → Option ℕ → Type 0
@@ -439,18 +465,11 @@ pub stops_here : {E : Type 0} (t m u : Tiers) (w b s : ℕ) (x : Content) (r : R
 stops_here t m u w b s x (Ok o) first stopped = tt
 stops_here t m u w b s x (Err e) first stopped = λ T stands. let d = stopped T (first T stands).1 in (d.0, inl d.1, d.2)
 
--- a demotion that ran out of memory
-pub stops_down : {E : Type 0} (t m u : Tiers) (w b : ℕ) (x : Content) (r : Result Outcome E) → FirstFree t m None
-    → OnErr r ((T : Tiered) → StandsFor m T → (U : Tiered) × TierStops T (Demote w) U × StandsFor u U)
-    → OnErr r ((T : Tiered) → StandsFor t T → (U : Tiered) × TierStops T (Write w b x) U × StandsFor u U)
-stops_down t m u w b x (Ok o) none stopped = tt
-stops_down t m u w b x (Err e) none stopped = λ T stands. let d = stopped T (none T stands).1 in (d.0, inr (inl d.1), d.2)
-
--- a new order has a place for each block, and marks where there are any to be
-pub begins : (v : WorldView) (F : Flat) (ages : Marked) (end : End) (hints : List ℕ) → ages.order ≡ by_number v.array.parts.groups.blocks → length ages.marks ≡ v.array.parts.groups.blocks
-    → AreMarked ages.marks v.array.parts.groups (key_at v.array) → end ≡ at_start
-    → ((s : ℕ) → s < 65536 → IsHinted hints s) → Represents v F → StandsFor (record { world = v; recency = ages; end = end; hints = hints }) (begun F)
-begins v F ages end hints is long marked start all_hinted rep =
+-- a new planner has a place for each block, and marks where there are any to be
+pub begins : (v : WorldView) (F : Flat) (p : Planner) (hints : List ℕ) → p.ages.order ≡ by_number v.array.parts.groups.blocks → length p.ages.marks ≡ v.array.parts.groups.blocks
+    → AreMarked p.ages.marks v.array.parts.groups (key_at v.array) → p.end ≡ at_start
+    → ((s : ℕ) → s < 65536 → IsHinted hints s) → Represents v F → StandsFor (record { world = v; planner = p; hints = hints }) (begun F)
+begins v F p hints is long marked start all_hinted rep =
     let groups : v.array.parts.groups ≡ F.groups = sym rep.array.tables.groups in
     let all : v.array.parts.groups.blocks ≡ F.groups.blocks = ap (λ (z : Groups). z.blocks) groups in record {
       world = rep;
@@ -458,82 +477,41 @@ begins v F ages end hints is long marked start all_hinted rep =
       long = length-range_with_len 0 F.groups.blocks;
       end = start;
       marked = long ∙ all;
-      marks = subst (λ z. AreMarked ages.marks z (key_at v.array)) groups marked;
+      marks = subst (λ z. AreMarked p.ages.marks z (key_at v.array)) groups marked;
       hints = λ s free.
           let low = made_low F.groups (s / 128) Mirrored rep.array.history.groups.table.numbers free.0.made in
           all_hinted s (omega arith);
     }
 
--- what is noted of a commit by its answer is what is noted by what waited
-order_is : (F G : Flat) (w s b : ℕ) (order : List ℕ) (a : Answer) → Case F (step.Commit w s b) (flat_answer a) G
-    → order_told order b a ≡ order_behind order b (flat_answer a) (F.tickets s)
-order_is F G w s b order (answer.Committed r) case = go (F.tickets s) case.2.2
-  where
-    go : (c : Option Waiting) → CommitWith F w s b case.2.0 c (step.Committed r) G → order_told order b (answer.Committed r) ≡ order_behind order b (step.Committed r) c
-    go None with = absurd with
-    go (Some (waiting.Fresh x)) with = ap (λ (q : Record). order_told order b (answer.Committed q)) with.3
-    go (Some (waiting.Moved c v h x)) with =
-        ap (λ (q : Record). order_told order b (answer.Committed q)) with.3
-        ∙ ap (λ t. if t then written order b else order) (unequal (h + 1) 0 (λ e. absurd (omega (arith, e))))
-order_is F G w s b order (answer.Refused k) case = refl
-order_is F G w s b order (answer.Claimed t) case = refl
-order_is F G w s b order (answer.Taken t) case = refl
-order_is F G w s b order (answer.Released t) case = refl
-order_is F G w s b order (answer.NotHeld t) case = refl
-order_is F G w s b order (answer.Filled t) case = refl
-order_is F G w s b order (answer.Copied t) case = refl
-order_is F G w s b order (answer.Discarded t) case = refl
-order_is F G w s b order (answer.Read read) case = refl
-order_is F G w s b order (answer.Found seen) case = refl
-order_is F G w s b order (answer.Made g) case = refl
-order_is F G w s b order (answer.Unmade g) case = refl
-order_is F G w s b order answer.Shifted case = refl
-order_is F G w s b order (answer.Added d) case = refl
-order_is F G w s b order (answer.Lost d) case = refl
-
--- what a commit emits, by its answer
-commit_tells : (F G : Flat) (w s b : ℕ) (a : Answer) → ((q : Record) → Contains F.emitted q → IsRecord q) → Case F (step.Commit w s b) (flat_answer a) G → Emits F G b (outcome_of a)
-commit_tells F G w s b a all case = go (outcome_of a) (commit_is F G w s b a case)
-  where
-    go : (o : Outcome) → CommitIs F w s b o G → Emits F G b o
-    go (outcome.Placed r) is = commit_emits F G w s b r all is
-    go (outcome.Refused k) is = alike_left F G (refused_leaves F G (step.Commit w s b) k is)
-    go outcome.NoRoom is = absurd is
-    go outcome.Nothing is = absurd is
-
-commit_leaves : (F G : Flat) (w s b : ℕ) (a : Answer) → Case F (step.Commit w s b) (flat_answer a) G → FreesNone F G
-commit_leaves F G w s b a case = go (outcome_of a) (commit_is F G w s b a case)
-  where
-    go : (o : Outcome) → CommitIs F w s b o G → FreesNone F G
-    go (outcome.Placed r) is = commit_frees F G w s b r is
-    go (outcome.Refused k) is = refused_frees F G (step.Commit w s b) k is
-    go outcome.NoRoom is = absurd is
-    go outcome.Nothing is = absurd is
-
-pub notes : (t u : Tiers) (w s b : ℕ) (a : Answer) → b < t.world.array.parts.groups.blocks
-    → ((F : Flat) → Represents t.world F → (G : Flat) × Case F (step.Commit w s b) (flat_answer a) G × Represents u.world G)
-    → SameSizes t.world.array u.world.array → (b < length t.recency.order → u.recency.order ≡ order_told t.recency.order b a) → length u.recency.order ≡ length t.recency.order
-    → (b < length t.recency.order → u.recency.marks ≡ marks_after u.world.array.parts.groups t.recency.marks b (outcome_of a)) → u.end ≡ t.end → u.hints ≡ t.hints
-    → (T : Tiered) → StandsFor t T → (U : Tiered) × CommitNoted T w s b (flat_answer a) U × StandsFor u U
-notes t u w s b a inside commits same order long marks end kept T stands =
-    let c = commits T.flat stands.world in
-    let there = block_there t T b stands inside in
-    let emits = commit_tells T.flat c.0 w s b a stands.world.array.history.records c.1 in
-    let told : u.recency.order ≡ order_behind T.order b (flat_answer a) (T.flat.tickets s) =
-    order there ∙ ap (λ l. order_told l b a) stands.order ∙ order_is T.flat c.0 w s b T.order a c.1 in (
-      record { flat = c.0; order = order_behind T.order b (flat_answer a) (T.flat.tickets s); end = T.end },
+-- what a commit says of a world is true with what is noted of its record
+pub commits : (t : Tiers) (v : WorldView) (p : Planner) (w s b : ℕ) (r : Record) → b < t.world.array.parts.groups.blocks
+    → ((F : Flat) → Represents t.world F → (G : Flat) × Case F (step.Commit w s b) (step.Committed r) G × Represents v G)
+    → Notes v.array.parts.groups t.planner p r → length p.ages.order ≡ length t.planner.ages.order → p.end ≡ t.planner.end
+    → (T : Tiered) → StandsFor t T → (U : Tiered) × CommitNoted T w s b (step.Committed r) U × StandsFor (record t { world = v; planner = p }) U
+commits t v p w s b r inside cases notes long end T stands =
+    let c = cases T.flat stands.world in
+    let emits = commit_emits T.flat c.0 w s b r stands.world.array.history.records c.1 in (
+      record T { flat = c.0; order = order_behind T.order b (step.Committed r) (T.flat.tickets s) },
       record { case = c.1; noted = refl; same = refl },
-      record {
-        world = c.2;
-        order = told;
-        long = ap length (sym told) ∙ long ∙ ap length stands.order ∙ stands.long ∙ sym (same_blocks t.world u.world T.flat c.0 stands.world c.2 same);
-        end = end ∙ stands.end;
-        marked = marked_in t u T c.0 b (outcome_of a) (marks there) c.2 same stands;
-        marks = marks_in t u T c.0 b (outcome_of a) (marks there) c.2 inside emits stands;
-        hints = subst (λ h. (n : ℕ) → IsFreeMirror c.0 n → IsHinted h n) (sym kept)
-            (hints_still T.flat c.0 t.hints (same_groups t u T c.0 b (outcome_of a) emits) (commit_leaves T.flat c.0 w s b a c.1) stands.hints);
-      },
+      stands_noted t (record t { world = v; planner = p }) T c.0 b r (order_behind T.order b (step.Committed r) (T.flat.tickets s)) notes long end inside stands c.2 emits
+          (order_is T.flat c.0 w s b T.order r c.1) (hints_still T.flat c.0 t.hints emits.groups (commit_frees T.flat c.0 w s b r c.1) stands.hints),
     )
+
+-- and where it is refused nothing is noted
+pub commits_none : (t : Tiers) (v : WorldView) (w s b : ℕ) (a : Answer) → ((r : Record) → a ≢ answer.Committed r)
+    → ((F : Flat) → Represents t.world F → (G : Flat) × Case F (step.Commit w s b) (flat_answer a) G × Represents v G)
+    → (T : Tiered) → StandsFor t T → (U : Tiered) × CommitNoted T w s b (flat_answer a) U × StandsFor (record t { world = v }) U
+commits_none t v w s b a other cases T stands =
+    let c = cases T.flat stands.world in
+    let done = go a c.0 other c.1 (commit_is T.flat c.0 w s b a c.1) c.2 in
+    (record T { flat = c.0 }, done.0, done.1)
+  where
+    go : (x : Answer) (G : Flat) → ((r : Record) → x ≢ answer.Committed r) → Case T.flat (step.Commit w s b) (flat_answer x) G → CommitIs T.flat w s b (outcome_of x) G
+        → Represents v G → CommitNoted T w s b (flat_answer x) (record T { flat = G }) × StandsFor (record t { world = v }) (record T { flat = G })
+    go (answer.Committed r) G other case is rep = absurd (other r refl)
+    go (answer.Refused k) G other case is rep =
+        (record { case = case; noted = refl; same = refl }, stands_left t v T G stands rep (refused_leaves T.flat G (step.Commit w s b) k case))
+    go _ G other case is rep = absurd is
 
 -- after a group that is made
 stands_made : (t : Tiers) (v : WorldView) (hints : List ℕ) (T : Tiered) (G : Flat) (class : Class) (members : List Member) (g : ℕ) → StandsFor t T → Represents v G
@@ -545,7 +523,7 @@ stands_made t v hints T G class members g stands rep free new others leaves = re
   long = stands.long ∙ sym blocks;
   end = stands.end;
   marked = stands.marked ∙ sym blocks;
-  marks = marked_made T.flat G (key_at t.world.array) (key_at v.array) t.recency.marks g group
+  marks = marked_made T.flat G (key_at t.world.array) (key_at v.array) t.planner.ages.marks g group
       stands.world.array.history rep.array.history.map (ap (λ (x : Flat). x.emitted) leaves.same) groups free stands.marks;
   hints = λ s is. hinted s is (cases_eq (s / 128) g);
 }
@@ -585,11 +563,6 @@ more_hints t v hints T G others st = record {
   hints = λ s free. others s (st.hints s free);
 }
 
--- after a step that leaves the state but for drives that failed, and after one that emits no record, changes no group and frees
--- no slot
-pub stands_left : (t : Tiers) (v : WorldView) (T : Tiered) (G : Flat) → StandsFor t T → Represents v G → Leaves T.flat G → StandsFor (record t { world = v }) (record T { flat = G })
-stands_left t v T G stands rep leaves = stands_alike t v T G stands rep (alike_left T.flat G leaves) (left_frees T.flat G leaves)
-
 pub makes : (t : Tiers) (v : WorldView) (hints : List ℕ) (class : Class) (members : List Member) (a : Answer)
     → ((F : Flat) → Represents t.world F → (G : Flat) × Case F (step.Make class members) (flat_answer a) G × Represents v G)
     → ((g s : ℕ) → a ≡ answer.Made g → g < 512 → s / 128 ≡ g → IsHinted hints s) → ((s : ℕ) → IsHinted t.hints s → IsHinted hints s)
@@ -615,7 +588,7 @@ stands_unmade t v T G w g stands rep made claimed leaves = record {
   long = stands.long ∙ sym blocks;
   end = stands.end;
   marked = stands.marked ∙ sym blocks;
-  marks = marked_unmade T.flat G (key_at t.world.array) (key_at v.array) t.recency.marks g stands.world.array.history.map rep.array.history
+  marks = marked_unmade T.flat G (key_at t.world.array) (key_at v.array) t.planner.ages.marks g stands.world.array.history.map rep.array.history
       (ap (λ (x : Flat). x.emitted) leaves.same) groups inside stands.marks;
   hints = λ s is. hinted s is (cases_eq (s / 128) g);
 }
@@ -685,7 +658,7 @@ releases t v hints w slot a takes new others T stands =
           long = stands.long ∙ sym blocks;
           end = stands.end;
           marked = stands.marked ∙ sym blocks;
-          marks = marked_alike T.flat G (key_at t.world.array) (key_at v.array) t.recency.marks stands.world.array.history.map rep.array.history.map alike stands.marks;
+          marks = marked_alike T.flat G (key_at t.world.array) (key_at v.array) t.planner.ages.marks stands.world.array.history.map rep.array.history.map alike stands.marks;
           hints = hints_keep T.flat G t.hints hints (λ n. n ≡ slot) alike.groups (release_frees T.flat G w slot s case)
               (λ n same. subst (IsHinted hints) (sym same) new) others stands.hints;
         }

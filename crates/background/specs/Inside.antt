@@ -1,5 +1,5 @@
 -- What the crate's own calls say of a world's tables, and of parts of a placing.
-use Rattle.std.specs.Prelude.{◌≡◌, ℕ, ◌==◌, if◌then◌else◌, List, [], ◌∷◌, length, true, Option, Some, None}
+use Rattle.std.specs.Prelude.{◌≡◌, ℕ, [], ◌∷◌, length, true, Option, Some, None}
 use Rattle.map_join.specs.declared.records.Record.{Record}
 use Rattle.flat_machine.specs.declared.refusal.Refusal.{Refusal}
 use Rattle.flat_machine.specs.Flat.{Flat, Worker, IsNewest}
@@ -7,7 +7,6 @@ use Rattle.flat_machine.specs.Steps.{FlatAnswer, Released, Committed, Discarded}
 use Rattle.flat_machine.specs.Steps as step
 use Rattle.flat_machine.specs.Cases.{Case, Runs}
 use Rattle.array_model.specs.Views.{WorldView, kept_at, hand_at, has_no_holder}
-use Rattle.migrator.specs.Ages.{written}
 use Rattle.step_core.specs.declared.step.Answer.{Answer}
 use Rattle.step_core.specs.declared.step.Answer.TheVariants as answer
 use Rattle.background.specs.Placing.{Put, put_answer, back_steps, back_answers}
@@ -29,11 +28,6 @@ refusal_of _ = None
 abbrev pub put_told : Put → ℕ → Option Refusal → FlatAnswer
 put_told what s (Some k) = step.Refused k
 put_told what s None = put_answer what s
-
--- the order of last writes after a commit, by its answer: the record of a fresh content has no hop
-abbrev pub order_told : List ℕ → ℕ → Answer → List ℕ
-order_told order b (answer.Committed r) = if r.hop == 0 then written order b else order
-order_told order b _ = order
 
 -- what comes of a commit with this answer
 abbrev pub outcome_of : Answer → Outcome

@@ -3,6 +3,7 @@ pub mod Regrouping
 pub mod Placing
 pub mod Steps
 pub mod Marking
+pub mod Planning
 pub mod Bits
 pub mod Hints
 pub mod Stands

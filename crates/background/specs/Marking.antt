@@ -1,16 +1,16 @@
 -- Which blocks are marked in the order of last writes: those that lie in mirrored groups.
-use Rattle.std.specs.Prelude.{◌≡◌, ◌↔◌, ℕ, ◌<◌, Bool, true, false, List, slice_set, Option, Some}
+use Rattle.std.specs.Prelude.{◌≡◌, ◌↔◌, ℕ, ◌<◌, ◌==◌, if◌then◌else◌, Bool, true, false, List, slice_set, Option, Some}
+use Rattle.map_join.specs.declared.records.Record.{Record}
 use Rattle.extent_groups.specs.declared.class.Class.{Class}
 use Rattle.extent_groups.specs.declared.class.Class.TheVariants.{Mirrored}
 use Rattle.extent_groups.specs.Groups.{Groups}
-use Rattle.migrator.specs.Ages.{IsMarked}
+use Rattle.migrator.specs.Ages.{IsMarked, Marked, written}
 use Rattle.migrator.specs.Slots.{class_at, IsMirrored}
 use Rattle.flat_machine.specs.Flat.{Flat}
 use Rattle.background.specs.Placing.{Put, Fresh, Again, PlaceCase}
 use Rattle.background.specs.Steps.{order_after}
 use Rattle.background.specs.Tiered.{Tiered}
 use Rattle.background.specs.declared.outcome.Outcome.{Outcome}
-use Rattle.background.specs.declared.outcome.Outcome.TheVariants.{Placed}
 
 -- just the blocks whose newest place is in a mirrored group are marked
 abbrev pub AreMarked : List Bool → Groups → (ℕ → ℕ) → Type 0
@@ -25,10 +25,14 @@ abbrev pub is_mirrors : Option Class → Bool
 is_mirrors (Some Mirrored) = true
 is_mirrors _ = false
 
--- the marks after a placing of the block, by what came of it
-abbrev pub marks_after : Groups → List Bool → ℕ → Outcome → List Bool
-marks_after groups marks b (Placed r) = slice_set marks b (is_mirrors (class_at groups (Some r)))
-marks_after groups marks b _ = marks
+-- the order of last writes after a commit: a fresh content, whose record has no hop, is a write
+abbrev pub order_noted : List ℕ → Record → List ℕ
+order_noted order r = if r.hop == 0 then written order r.block else order
+
+-- the commit of a record is noted: by the order of last writes, and by its block's mark
+abbrev pub IsNoted : Groups → Marked → Marked → Record → Type 0
+IsNoted groups before after r =
+    (after.order ≡ order_noted before.order r) × (after.marks ≡ slice_set before.marks r.block (is_mirrors (class_at groups (Some r))))
 
 -- the order of last writes after a placing: only a fresh content is a write
 abbrev pub order_put : List ℕ → ℕ → Put → Outcome → List ℕ

@@ -12,9 +12,9 @@ use Rattle.background.specs.declared.tiers.Tiers.{Tiers}
 -- each free slot of a mirrored group is hinted
 pub record StandsFor (tiers : Tiers) (T : Tiered) : Type 0 where
   pub world : Represents tiers.world T.flat
-  pub order : tiers.recency.order ≡ T.order
+  pub order : tiers.planner.ages.order ≡ T.order
   pub long : length T.order ≡ T.flat.groups.blocks
-  pub end : tiers.end ≡ T.end
-  pub marked : length tiers.recency.marks ≡ T.flat.groups.blocks
-  pub marks : AreMarked tiers.recency.marks T.flat.groups (key_at tiers.world.array)
+  pub end : tiers.planner.end ≡ T.end
+  pub marked : length tiers.planner.ages.marks ≡ T.flat.groups.blocks
+  pub marks : AreMarked tiers.planner.ages.marks T.flat.groups (key_at tiers.world.array)
   pub hints : (s : ℕ) → IsFreeMirror T.flat s → IsHinted tiers.hints s

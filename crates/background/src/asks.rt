@@ -1,4 +1,4 @@
-// What the plans ask of a running array, answered by its tables.
+// What the plans ask of an array, answered by its tables, and which slots are free.
 ghost use Rattle.std.specs.Prelude.{◌≡◌, true};
 ghost use Rattle.std.specs.Prelude.{◌↔◌, ◌<◌, ◌≤◌, IsTrue};
 ghost use Rattle.array_model.specs.Views.{key_at};
@@ -8,44 +8,31 @@ ghost use Rattle.map_join.specs.Live.{IsLive, IsLiveCount};
 ghost use Rattle.background.specs.Inside.{IsFreeHere};
 
 use extent_groups::{Class, GroupTable, SLOTS};
-use map_join::{Live, Newest, Record};
+use map_join::Live;
 use migrator::Free;
 use step_core::{Array, Drive, Hold, World};
 
-// The tables of a world.
+// The tables of an array.
 #[derive(Drop)]
-pub(crate) struct Running<'a> {
-    pub(crate) world: &'a World,
+pub(crate) struct Running<'a, D: Drive, C: Hold> {
+    pub(crate) array: &'a Array<D, C>,
 }
 
-impl<'a> Newest for Running<'a> {
-    ghost keys = { λ r. key_at r.world.now.array };
-
-    fn newest(&self, block: u32) -> Option<Record> {
-        self.world.whole();
-        let array = self.world.array();
-        if block >= array.shape().blocks {
-            return None;
-        }
-        array.newest(block)
-    }
-}
-
-impl<'a> Live for Running<'a> {
-    ghost keys = { λ r. key_at r.world.now.array };
+impl<'a, D: Drive, C: Hold> Live for Running<'a, D, C> {
+    ghost keys = { λ r. key_at r.array.now };
 
     fn block_at(&self, slot: u16) -> Option<u32> {
-        self.world.array().block_at(slot)
+        self.array.block_at(slot)
     }
 
     fn count_live(&self, group: u16, slots: u16) -> u16 {
-        count_live(self.world.array(), group, slots)
+        count_live(self.array, group, slots)
     }
 }
 
-/// How many of a group's first `slots` slots are newest places of an array's blocks. A table has the count of all of a group's
-/// slots, so that needs no search. Fewer slots are read one after another.
-pub fn count_live<D: Drive, C: Hold>(array: &Array<D, C>, group: u16, slots: u16) -> u16
+// How many of a group's first `slots` slots are newest places of an array's blocks. A table has the count of all of a group's
+// slots, so that needs no search. Fewer slots are read one after another.
+fn count_live<D: Drive, C: Hold>(array: &Array<D, C>, group: u16, slots: u16) -> u16
     requires group { group < 512 }
     requires slots { slots ≤ 128 }
     ensures { IsLiveCount (key_at array.now) group slots result }
@@ -78,8 +65,14 @@ fn is_live<D: Drive, C: Hold>(array: &Array<D, C>, slot: u16) -> bool
     array.block_at(slot).is_some()
 }
 
-impl<'a> Free for Running<'a> {
-    ghost free = { λ r slot. IsFreeHere r.world.now slot };
+// The slots that nobody holds in a world.
+#[derive(Drop)]
+pub(crate) struct Unheld<'a> {
+    pub(crate) world: &'a World,
+}
+
+impl<'a> Free for Unheld<'a> {
+    ghost free = { λ u slot. IsFreeHere u.world.now slot };
 
     fn is_free(&self, slot: u16) -> bool {
         self.world.is_free(slot)

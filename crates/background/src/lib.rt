@@ -5,9 +5,9 @@
 mod asks;
 mod bits;
 mod hints;
-mod notes;
 mod outcome;
 mod place;
+mod planner;
 mod plans;
 mod put;
 mod regroup;
@@ -15,10 +15,10 @@ mod regrouped;
 mod tiers;
 mod write;
 
-pub use asks::{Any, count_live};
+pub use asks::Any;
 pub use hints::FreeHints;
-pub use notes::{ages_of, is_mirrored};
 pub use outcome::Outcome;
+pub use planner::Planner;
 pub use regroup::{balance, rebuild};
 pub use regrouped::Regrouped;
 pub use tiers::Tiers;

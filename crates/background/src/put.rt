@@ -9,14 +9,13 @@ ghost use Rattle.background.specs.Steps.{PutStops};
 ghost use Rattle.background.specs.Tiered.{Tiered};
 
 use crate::hints::hint_left;
-use crate::notes::{mark_placed, note_put};
 use crate::place::{Given, place};
 use crate::{Outcome, Tiers};
 use std::alloc::{AllocError, Global};
 
 impl Tiers {
-    // Puts the block into the slot: what is given, which is noted as a write, else a copy of the block's last
-    // write. A block that is written too is noted first: then the order's oldest mark isn't sought twice.
+    // Puts the block into the slot: what is given, else a copy of the block's last write. Its commit is noted, and its old place
+    // hinted.
     pub(crate) fn put(
         &mut self,
         alloc: Global,
@@ -35,17 +34,12 @@ impl Tiers {
     {
         let left = self.world.array().newest(block);
         match place(&mut self.world, alloc, worker, slot, block, given) {
-            Ok(outcome) => {
+            Ok(Outcome::Placed(record)) => {
                 hint_left(&mut self.hints, left);
-                note_put(&mut self.recency, block, given, &outcome);
-                mark_placed(
-                    &mut self.recency,
-                    self.world.array().groups(),
-                    block,
-                    &outcome,
-                );
-                Ok(outcome)
+                self.planner.note(self.world.array(), record);
+                Ok(Outcome::Placed(record))
             }
+            Ok(other) => Ok(other),
             Err(_) => Err(AllocError),
         }
     }

@@ -9,22 +9,18 @@ ghost use Rattle.flat_machine.specs.Steps as f;
 ghost use Rattle.background.specs.Steps.{CommitNoted, StepNoted};
 ghost use Rattle.background.specs.Tiered.{Tiered, begun};
 
-use crate::FreeHints;
 use crate::hints::hint_made;
-use crate::notes::{ages_of, mark_answer, note_answer};
-use migrator::{LogEnd, MarkedAges};
+use crate::{FreeHints, Planner};
 use std::alloc::{AllocError, Global};
 use step_core::{Answer, Class, Member, World};
 
-/// A world; the order in which its blocks were last written since the array was made or restarted, those in mirrored groups
-/// marked; the end of its write log; and which slots may be free. Commits, releases, and making or dissolving a group go by the
-/// calls here: if the world itself is called for one of them, the order, the marks and the free slots are out of date. Its
-/// other steps may go by the world.
+/// A world; what its plans go by; and which slots may be free. Commits, releases, and making or dissolving a group go by the
+/// calls here: if the world itself is called for one of them, the planner and the free slots are out of date. Its other steps may
+/// go by the world.
 #[derive(Drop)]
 pub struct Tiers {
     pub world: World,
-    pub recency: MarkedAges,
-    pub end: LogEnd,
+    pub planner: Planner,
     pub hints: FreeHints,
 }
 
@@ -35,12 +31,11 @@ impl Tiers {
         ensures same { IfOk result (λ tiers. tiers.world ≡ world) }
         ensures ok { IfOk result (λ tiers. (F : Flat) → Represents world F → StandsFor tiers (begun F)) }
     {
-        let recency = ages_of(alloc, world.array())?;
+        let planner = Planner::new(alloc, world.array())?;
         let hints = FreeHints::new(alloc)?;
         Ok(Tiers {
             world,
-            recency,
-            end: LogEnd::new(),
+            planner,
             hints,
         })
     }
@@ -60,14 +55,11 @@ impl Tiers {
         ensures room { SameSizes self.old.world.array self.new.world.array }
     {
         let answer = self.world.commit(alloc, worker, slot, block)?;
-        note_answer(&mut self.recency, block, &answer);
-        mark_answer(
-            &mut self.recency,
-            self.world.array().groups(),
-            block,
-            &answer,
-        );
-        Ok(answer)
+        let Answer::Committed(record) = answer else {
+            return Ok(answer);
+        };
+        self.planner.note(self.world.array(), record);
+        Ok(Answer::Committed(record))
     }
 
     /// Releases a slot that the worker holds.

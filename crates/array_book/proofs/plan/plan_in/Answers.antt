@@ -1,7 +1,8 @@
 use Rattle.std.proofs.Common.{◌≡◌, None, Option, subst, rules}
 use Rattle.std.specs.Prelude.{MatchOption}
 use Rattle.array_book.specs.Kept.{KeptView}
-use Rattle.array_book.specs.Planned.{IsPlugOf, IsCleanOf, IsRegrouped, IsPlanned, IsDone, NoDemotion}
+use Rattle.background.specs.Planning.{IsPlugOf, IsCleanOf}
+use Rattle.array_book.specs.Planned.{IsRegrouped, IsPlanned, IsDone, NoDemotion}
 use Rattle.array_book.proofs.Answering.{state_of}
 use Rattle.array_book.proofs.Planning.{planned_else}
 use Rattle.array_book.proofs.plan.plan_in.Goals as goal
@@ -17,7 +18,7 @@ returns-in-None-clause-planned g c =
     let r = c.regrouped.result in
     let same : c.due_demotion.new.kept ≡ k = search rules in
     let none : NoDemotion k c.args.mirrors.now c.args.low = search rules in
-    let moves = subst (λ (k : KeptView). MatchOption r (IsPlugOf k None × IsCleanOf k None) (IsRegrouped k)) same c.regrouped.ensures.moves in
+    let moves = subst (λ (k : KeptView). MatchOption r (IsPlugOf k.array k.planner None × IsCleanOf k.array k.planner None) (IsRegrouped k)) same c.regrouped.ensures.moves in
     planned_else c.args.mirrors.now c.args.low k r none moves
 
 pub returns-in-None-clause-seen : goal.returns-in-None-clause-seen

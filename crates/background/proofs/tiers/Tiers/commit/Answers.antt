@@ -1,15 +1,18 @@
-use Rattle.std.proofs.Common.{length, refl, ap, ◌∙◌}
-use Rattle.background.specs.Inside.{outcome_of}
-use Rattle.background.proofs.Standing.{marks_noted, notes}
+use Rattle.std.proofs.Common.{subst, rules}
+use Rattle.array_model.specs.Views.{ArrayView}
+use Rattle.background.proofs.Placings.{Commits}
+use Rattle.background.proofs.Standing.{Notes, commits, commits_none}
 use Rattle.background.proofs.tiers.Tiers.commit.Goals as goal
+
+pub returns-in_default-clause-ok : goal.returns-in_default-clause-ok
+returns-in_default-clause-ok c =
+    let a = c.args in
+    commits_none a.self.now c.commit.new.self a.worker a.slot a.block c.in_ok-answer.answer (λ r is. search rules) c.in_ok-answer.ensures.ok
 
 pub returns-clause-ok : goal.returns-clause-ok
 returns-clause-ok c =
     let a = c.args in
-    let noted = c.note_answer.ensures in
-    let marked = c.mark_answer.ensures in
-    notes a.self.now (record { world = c.commit.new.self; recency = c.mark_answer.new.recency; end = a.self.now.end; hints = a.self.now.hints }) a.worker a.slot a.block c.in_ok-answer.answer
-    c.requires c.in_ok-answer.ensures.ok c.commit.ensures.room (λ there. marked.order ∙ noted.order there) (ap length marked.order ∙ noted.long)
-    (marks_noted c.groups.result.now c.array.result.now c.commit.new.self.array a.self.now.recency c.note_answer.new.recency c.mark_answer.new.recency a.block
-    (outcome_of c.in_ok-answer.answer) c.groups.ensures c.array.ensures noted.long noted.marks marked.marks)
-    refl refl
+    let r = c.in-Committed.record in
+    commits a.self.now c.commit.new.self c.note.new.self a.worker a.slot a.block r c.requires
+    (subst (Commits a.self.now.world c.commit.new.self a.worker a.slot a.block) c.in-Committed.is c.in_ok-answer.ensures.ok)
+    (subst (λ (x : ArrayView). Notes x.parts.groups a.self.now.planner c.note.new.self r) c.array.ensures c.note.ensures.noted) c.note.ensures.long c.note.ensures.end

@@ -1,22 +1,36 @@
-use Rattle.std.proofs.Common.{subst}
+use Rattle.std.proofs.Common.{subst, Some, None}
 use Rattle.std.specs.Prelude.{OnErr}
 use Rattle.background.specs.Placing.{Again}
 use Rattle.background.specs.Stands.{StandsFor}
 use Rattle.background.specs.Steps.{PutStops}
 use Rattle.background.specs.Tiered.{Tiered}
-use Rattle.background.proofs.Standing.{demotes, demotes_nowhere}
+use Rattle.background.specs.declared.planner.Planner.{Planner}
+use Rattle.background.proofs.Standing.{demotes, demotes_nothing, demotes_nowhere, oldest_is}
 use Rattle.background.proofs.tiers.Tiers.demote.Goals as goal
+
+pub returns-in_default-clause-ok : goal.returns-in_default-clause-ok
+returns-in_default-clause-ok c =
+    let t = c.args.self.now in
+    let array = c.array-array in
+    demotes_nothing t c.oldest_mirrored.new.self c.args.worker c.oldest_mirrored.ensures.same (oldest_is t array.result.now None array.ensures c.in_default.ensures.oldest)
 
 pub returns-in_default-next_append-clause-ok : goal.returns-in_default-next_append-clause-ok
 returns-in_default-next_append-clause-ok c =
-    demotes_nowhere c.args.self.now c.oldest_mirrored.new.self c.args.worker c.in-Some.block c.oldest_mirrored.ensures.same c.in-Some.ensures.oldest c.in_default-next_append.ensures
+    let t = c.args.self.now in
+    let array = c.array-array in
+    demotes_nowhere t c.oldest_mirrored.new.self array.result.now c.args.worker c.in-Some.block array.ensures c.oldest_mirrored.ensures.same
+    (oldest_is t array.result.now (Some c.in-Some.block) array.ensures c.in-Some.ensures.oldest) c.in_default-next_append.ensures
 
 pub returns-clause-ok : goal.returns-clause-ok
 returns-clause-ok c =
-    demotes c.args.self.now c.oldest_mirrored.new.self c.append.new.self c.args.worker c.in-Some.block c.in-Some-next_append.slot c.append.result
-    c.oldest_mirrored.ensures.same c.in-Some.ensures.oldest c.in-Some-next_append.ensures c.append.ensures.ok
+    let t = c.args.self.now in
+    let array = c.array-array in
+    demotes t c.append.new.self c.oldest_mirrored.new.self array.result.now c.args.worker c.in-Some.block c.in-Some-next_append.slot c.append.result
+    array.ensures c.oldest_mirrored.ensures.same (oldest_is t array.result.now (Some c.in-Some.block) array.ensures c.in-Some.ensures.oldest)
+    c.in-Some-next_append.ensures c.append.ensures.ok
 
 pub returns-clause-err : goal.returns-clause-err
 returns-clause-err c =
-    subst (λ t. OnErr c.append.result ((T : Tiered) → StandsFor t T → (U : Tiered) × PutStops T c.args.worker Again U × StandsFor c.append.new.self U))
+    let t = c.args.self.now in
+    subst (λ (q : Planner). OnErr c.append.result ((T : Tiered) → StandsFor (record t { planner = q }) T → (U : Tiered) × PutStops T c.args.worker Again U × StandsFor c.append.new.self U))
     c.oldest_mirrored.ensures.same c.append.ensures.err

@@ -8,6 +8,7 @@ use Rattle.background.proofs.tiers.Tiers.new.Goals as goal
 pub returns-clause-ok : goal.returns-clause-ok
 returns-clause-ok c F rep =
     let array = ap (λ (a : ArrayView). a.parts.groups.blocks) c.array.ensures in
-    let new = c.in_ok-recency.ensures in
-    begins c.args.world F c.in_ok-recency.recency c.new-2.result c.in_ok-hints.hints (new.order ∙ ap by_number array)
-    (new.long ∙ array) (subst (λ (a : ArrayView). AreMarked c.in_ok-recency.recency.marks a.parts.groups (key_at a)) c.array.ensures new.marks) c.new-2.ensures c.in_ok-hints.ensures rep
+    let new = c.in_ok-planner.ensures in
+    let p = c.in_ok-planner.planner in
+    begins c.args.world F p c.in_ok-hints.hints (new.order ∙ ap by_number array) (new.long ∙ array)
+    (subst (λ (a : ArrayView). AreMarked p.ages.marks a.parts.groups (key_at a)) c.array.ensures new.marks) new.end c.in_ok-hints.ensures rep

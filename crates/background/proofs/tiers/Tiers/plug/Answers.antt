@@ -1,5 +1,9 @@
-use Rattle.background.proofs.Standing.{plugs}
+use Rattle.background.proofs.Standing.{plugs, plugs_nothing}
 use Rattle.background.proofs.tiers.Tiers.plug.Goals as goal
 
 pub returns-in-Some-clause-ok : goal.returns-in-Some-clause-ok
-returns-in-Some-clause-ok c = plugs c.args.self.now c.put.new.self c.args.worker c.in-Some.plan c.put.result c.in-Some.ensures.plan c.put.ensures.ok
+returns-in-Some-clause-ok c =
+    plugs c.args.self.now c.put.new.self c.array.result.now c.args.worker c.in-Some.plan c.put.result c.array.ensures c.in-Some.ensures.plan c.put.ensures.ok
+
+pub returns-in-None-clause-ok : goal.returns-in-None-clause-ok
+returns-in-None-clause-ok c = plugs_nothing c.args.self.now c.array.result.now c.args.worker c.array.ensures c.in-None.ensures.plan

@@ -6,12 +6,12 @@ use Rattle.array_model.proofs.Newest.{block_inside}
 use Rattle.migrator.specs.Slots.{class_at}
 use Rattle.background.specs.Marking.{AreMarkedBelow, is_mirrors}
 use Rattle.background.proofs.Marks.{below_none, below_more, below_all, mirrored_record}
-use Rattle.background.proofs.notes.mark_stored.Goals as goal
+use Rattle.background.proofs.planner.mark_stored.Goals as goal
 
 pub loop-block-init : goal.loop-block-init
 loop-block-init g c =
     let array = c.args.array.now in
-    (refl, refl, below_none c.args.recency.now.marks array.parts.groups (key_at array) c.requires.none)
+    (refl, refl, below_none c.args.ages.now.marks array.parts.groups (key_at array) c.requires.none)
 
 pub mark-requires : goal.mark-requires
 mark-requires g c =
@@ -31,9 +31,9 @@ loop-block-preserved g c =
     let newest = c.newest.ensures.value in
     let told = c.is_mirrored-marked.ensures ∙ ap (λ z. is_mirrors (class_at z c.newest.result)) tables ∙ ap (λ o. is_mirrors (class_at array.parts.groups o)) newest in (
       c.mark.ensures.order ∙ at.invariant.0,
-      ap length c.mark.ensures.marks ∙ length-set at.recency.marks at.block c.is_mirrored-marked.result ∙ at.invariant.1,
+      ap length c.mark.ensures.marks ∙ length-set at.ages.marks at.block c.is_mirrored-marked.result ∙ at.invariant.1,
       subst (λ ms. AreMarkedBelow ms array.parts.groups (key_at array) (at.block + 1)) (sym c.mark.ensures.marks)
-          (below_more at.recency.marks array.parts.groups (key_at array) at.block c.is_mirrored-marked.result (omega arith) told at.invariant.2),
+          (below_more at.ages.marks array.parts.groups (key_at array) at.block c.is_mirrored-marked.result (omega arith) told at.invariant.2),
     )
 
 pub returns : goal.returns
@@ -44,7 +44,7 @@ returns g c =
     let test = c.loop-block-test.false in
     record {
       order = at.invariant.0;
-      marks = below_all at.recency.marks array.parts.groups (key_at array) at.block
+      marks = below_all at.ages.marks array.parts.groups (key_at array) at.block
           (λ b is. let r = mirrored_record array.parts.groups (record_at b (key_at array b)) is in let inside = block_inside array b r.0 c.whole.ensures.room r.1 in omega arith)
           at.invariant.2;
       long = at.invariant.1;
