@@ -8,10 +8,10 @@ use Rattle.flat_machine.specs.Flat.{Flat, Content, Worker, Ticket}
 use Rattle.flat_machine.specs.Steps as say
 use Rattle.flat_machine.specs.Cases.{IsBehind, DiscardCase}
 use Rattle.flat_machine.specs.Learning.{UnlearnedCase}
-use Rattle.array_model.specs.Changes.{MayRefuse}
-use Rattle.array_model.specs.Represents.{ShowsArray}
-use Rattle.array_model.specs.Views.{ArrayView}
-use Rattle.array_model.proofs.OneMore.{shows_one_more, holds_one_more}
+use Rattle.slot_tables.specs.Changes.{MayRefuse}
+use Rattle.slot_tables.specs.Represents.{ShowsArray}
+use Rattle.slot_tables.specs.Views.{ArrayView}
+use Rattle.slot_tables.proofs.OneMore.{shows_one_more, holds_one_more}
 use Rattle.step_core.specs.Claimed.{with_claim}
 use Rattle.step_core.specs.Told.{Lesson}
 use Rattle.array_book.specs.Kept.{KeptView, IsKept}

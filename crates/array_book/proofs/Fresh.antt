@@ -1,7 +1,7 @@
 -- What waits fresh at a slot gets a record without a hop.
 use Rattle.std.proofs.Common.{◌≡◌, true, refl}
-use Rattle.array_model.specs.Views.{Kept, Nothing, Pending, Moving, Newest, Unmade}
-use Rattle.array_model.specs.Changes.{hop_given}
+use Rattle.slot_tables.specs.Views.{Kept, Nothing, Pending, Moving, Newest, Unmade}
+use Rattle.slot_tables.specs.Changes.{hop_given}
 use Rattle.disk_array.specs.Waits.{is_fresh}
 
 pub no_hop : (k : Kept) → is_fresh k ≡ true → hop_given k ≡ 0

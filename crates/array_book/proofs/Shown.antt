@@ -15,9 +15,9 @@ use Rattle.flat_machine.specs.Learning.{LearnedCase, UnlearnedCase}
 use Rattle.flat_machine.specs.Cases.{IsBehind, IsLearned, FillCase, FillPasses, CopyCase, CopyPasses, CommitCase, DiscardCase}
 use Rattle.extents.specs.declared.header.Kind.{Kind}
 use Rattle.array_parts.specs.Views.{WasPut, WasCopied}
-use Rattle.array_model.specs.Changes.{MayRefuse, fill_view, copy_view, discard_view}
-use Rattle.array_model.specs.Represents.{ShowsArray}
-use Rattle.array_model.specs.Views.{ArrayView, IsWhole, key_at, with_parts}
+use Rattle.slot_tables.specs.Changes.{MayRefuse, fill_view, copy_view, discard_view}
+use Rattle.slot_tables.specs.Represents.{ShowsArray}
+use Rattle.slot_tables.specs.Views.{ArrayView, IsWhole, key_at, with_parts}
 use Rattle.migrator.specs.Ages.{Marked}
 use Rattle.migrator.specs.Slots.{class_at}
 use Rattle.background.specs.Marking.{AreMarked, IsNoted, is_mirrors}

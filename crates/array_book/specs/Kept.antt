@@ -6,8 +6,8 @@ use Rattle.map_join.specs.Record.{record_of}
 use Rattle.array_parts.specs.Views.{IsLost}
 use Rattle.flat_machine.specs.Flat.{Flat}
 use Rattle.flat_machine.specs.Scanned.{IsScanned}
-use Rattle.array_model.specs.Views.{ArrayView, key_at}
-use Rattle.array_model.specs.Represents.{ShowsArray}
+use Rattle.slot_tables.specs.Views.{ArrayView, key_at}
+use Rattle.slot_tables.specs.Represents.{ShowsArray}
 use Rattle.background.specs.Marking.{AreMarked, IsNoted}
 use Rattle.background.specs.declared.planner.Planner.{Planner}
 use Rattle.step_core.specs.Headline.{bytes_of}

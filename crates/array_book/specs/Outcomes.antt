@@ -7,7 +7,7 @@ use Rattle.flat_machine.specs.Flat.{Flat, Content, Payload, Trim}
 use Rattle.flat_machine.specs.Steps.{FlatStep, FlatAnswer, Fill, Copy, Commit, Discard, Filled, Copied, Committed, Discarded, Refused}
 use Rattle.flat_machine.specs.Cases.{Case}
 use Rattle.flat_machine.specs.Learning.{LearnedCase, UnlearnedCase}
-use Rattle.array_model.specs.Represents.{ShowsArray}
+use Rattle.slot_tables.specs.Represents.{ShowsArray}
 use Rattle.step_core.specs.Told.{Lesson}
 use Rattle.array_book.specs.declared.plan.Plan.{Plan}
 use Rattle.array_book.specs.declared.worker.Migration.{Migration}

@@ -1,6 +1,6 @@
 -- What a worker moves next: what the definitions of demotions, plugs and cleans choose of what lies under the lock.
 use Rattle.std.specs.Prelude.{◌≡◌, ◌⊎◌, ℕ, ◌+◌, ◌/◌, ◌%◌, ◌<◌, ◌==◌, if◌then◌else◌, Option, Some, None, Bool, true, false, List, length, count_by}
-use Rattle.array_model.specs.Views.{kept_at, is_kept}
+use Rattle.slot_tables.specs.Views.{kept_at, is_kept}
 use Rattle.cleaner.specs.declared.moves.Move.{Move}
 use Rattle.background.specs.Planning.{IsOldestMirrored, IsNextAppend, IsPlugOf, IsCleanOf}
 use Rattle.array_book.specs.declared.plan.Plan.{Plan}

@@ -1,6 +1,6 @@
 // An array guarded by a lock, next to the words that need none.
 ghost use Rattle.std.specs.Prelude.{◌≡◌, ◌⊎◌, ℕ, ◌≤◌, length, IfOk, IfErr, IfSome, IfNone};
-ghost use Rattle.array_model.specs.Represents.{ShowsArray};
+ghost use Rattle.slot_tables.specs.Represents.{ShowsArray};
 ghost use Rattle.flat_machine.specs.Flat.{Flat};
 ghost use Rattle.map_words.specs.Places.{blocks_of};
 ghost use Rattle.map_words.specs.Steps.{given_half as share_given, kept_half as share_kept};

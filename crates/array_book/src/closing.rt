@@ -1,6 +1,6 @@
 // The maps of both controllers' words, closed and compared with an array's.
 ghost use Rattle.std.specs.Prelude.{◌≡◌, ◌++◌, IfOk, IfErr, OnOk};
-ghost use Rattle.array_model.specs.Views.{key_at};
+ghost use Rattle.slot_tables.specs.Views.{key_at};
 ghost use Rattle.map_join.specs.Maps.{at, join, IsMapOf, IsSame};
 ghost use Rattle.map_words.specs.TakeRule.{whole};
 ghost use Rattle.array_book.specs.Settling.{IsUnsettled, IsUnclosed, IsDiffering};

@@ -7,9 +7,9 @@ ghost use Rattle.flat_machine.specs.Cases.{FillCase, FillPasses, CopyCase, CopyP
 ghost use Rattle.flat_machine.specs.Learning.{LearnedCase, UnlearnedCase};
 ghost use Rattle.flat_machine.specs.declared.refusal.Refusal.TheVariants as refusal;
 ghost use Rattle.map_join.specs.declared.records.Record.{Record};
-ghost use Rattle.array_model.specs.Changes.{MayRefuse, commit_record};
-ghost use Rattle.array_model.specs.Views.{key_at};
-ghost use Rattle.array_model.specs.Represents.{ShowsArray};
+ghost use Rattle.slot_tables.specs.Changes.{MayRefuse, commit_record};
+ghost use Rattle.slot_tables.specs.Views.{key_at};
+ghost use Rattle.slot_tables.specs.Represents.{ShowsArray};
 ghost use Rattle.migrator.specs.Slots.{end_at};
 ghost use Rattle.step_core.specs.Refused.{IsRefused};
 ghost use Rattle.array_book.specs.Kept.{IsKept, Agrees, HasNoted, OnlyArray};

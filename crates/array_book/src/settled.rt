@@ -1,7 +1,7 @@
 // What is left of a Book when its workers have ended.
 ghost use Rattle.std.specs.Prelude.{◌≡◌, ◌++◌, map, IfOk, IfErr, MatchResult};
-ghost use Rattle.array_model.specs.Represents.{ShowsArray};
-ghost use Rattle.array_model.specs.Views.{key_at};
+ghost use Rattle.slot_tables.specs.Represents.{ShowsArray};
+ghost use Rattle.slot_tables.specs.Views.{key_at};
 ghost use Rattle.flat_machine.specs.Flat.{Flat};
 ghost use Rattle.map_join.specs.Maps.{IsMapOf};
 ghost use Rattle.map_words.specs.TakeRule.{whole};

@@ -17,8 +17,8 @@ use Rattle.flat_machine.specs.Groups.{class_below}
 use Rattle.flat_machine.specs.Flat.{Flat, class_of}
 use Rattle.flat_machine.specs.History.{IsHistory}
 use Rattle.flat_machine.proofs.Newest.{newest_told, newest_unique, same_map, told_key}
-use Rattle.array_model.specs.Views.{ArrayView, key_at, IsWhole}
-use Rattle.array_model.proofs.Newest.{block_inside}
+use Rattle.slot_tables.specs.Views.{ArrayView, key_at, IsWhole}
+use Rattle.slot_tables.proofs.Newest.{block_inside}
 use Rattle.migrator.specs.Ages.{Marked, IsMarked, IsOldest}
 use Rattle.migrator.specs.Slots.{class_at, IsMirrored}
 use Rattle.background.specs.Marking.{AreMarked, AreMarkedBelow, is_mirrors}

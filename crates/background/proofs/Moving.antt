@@ -21,8 +21,8 @@ use Rattle.flat_machine.specs.Cases.{Leaves, MoveCase}
 use Rattle.flat_machine.proofs.Newest.{same_map}
 use Rattle.flat_machine.proofs.Regroups.{element, group_of_member}
 use Rattle.flat_machine.proofs.Unmakes.{number_within}
-use Rattle.array_model.specs.Represents.{Represents}
-use Rattle.array_model.specs.Views.{WorldView, key_at}
+use Rattle.slot_tables.specs.Represents.{Represents}
+use Rattle.slot_tables.specs.Views.{WorldView, key_at}
 use Rattle.migrator.specs.Slots.{class_at}
 use Rattle.step_core.proofs.Worlds.{refused_leaves}
 use Rattle.background.specs.Marking.{AreMarked}

@@ -10,8 +10,8 @@ use Rattle.flat_machine.specs.Steps as step
 use Rattle.flat_machine.specs.Cases.{Case, Leaves, Runs, FillCase, CopyCase, CommitCase, CommitWith, place_passed}
 use Rattle.flat_machine.proofs.Newest.{newest_unique}
 use Rattle.flat_machine.proofs.Pairs.{itself, with_here}
-use Rattle.array_model.specs.Views.{WorldView}
-use Rattle.array_model.specs.Represents.{Represents}
+use Rattle.slot_tables.specs.Views.{WorldView}
+use Rattle.slot_tables.specs.Represents.{Represents}
 use Rattle.step_core.proofs.Worlds.{refused_leaves}
 use Rattle.step_core.specs.declared.step.Answer.{Answer}
 use Rattle.step_core.specs.declared.step.Answer.TheVariants as answer

@@ -1,8 +1,8 @@
 -- Plans of an array, stated over the flat state that it represents.
 use Rattle.std.proofs.Common.{ℕ, ◌<◌, Bool, List, refl, sym, ap, ◌∙◌, subst, Option, Some, inr, Result, Ok, Err, IfOk, OnErr}
 use Rattle.extent_groups.specs.Groups.{Groups, Agree}
-use Rattle.array_model.specs.Represents.{Represents}
-use Rattle.array_model.specs.Views.{WorldView, IsWhole}
+use Rattle.slot_tables.specs.Represents.{Represents}
+use Rattle.slot_tables.specs.Views.{WorldView, IsWhole}
 use Rattle.flat_machine.specs.Flat.{Flat}
 use Rattle.flat_machine.specs.Cases.{MoveCase}
 use Rattle.flat_machine.specs.Moves.{MovePasses}

@@ -23,10 +23,10 @@ use Rattle.flat_machine.proofs.Unmakes.{number_within}
 use Rattle.flat_machine.specs.Steps as step
 use Rattle.flat_machine.specs.Cases.{Case, CommitWith, Leaves, made}
 use Rattle.flat_machine.specs.Steps.{FlatStep, FlatAnswer}
-use Rattle.array_model.specs.Views.{ArrayView, WorldView, key_at}
-use Rattle.array_model.specs.Represents.{Represents, ShowsArray}
+use Rattle.slot_tables.specs.Views.{ArrayView, WorldView, key_at}
+use Rattle.slot_tables.specs.Represents.{Represents, ShowsArray}
 use Rattle.flat_machine.proofs.Pairs.{put_here, unequal}
-use Rattle.array_model.proofs.Hands.{free_iff}
+use Rattle.slot_tables.proofs.Hands.{free_iff}
 use Rattle.migrator.specs.Ages.{Marked, by_number, written, IsOldest}
 use Rattle.migrator.specs.Slots.{End, at_start, class_at, IsMirrored}
 use Rattle.migrator.specs.First.{IsLowest, IsFirst, IsFirstAppend, IsFreeBehind, IsFreeFresh}

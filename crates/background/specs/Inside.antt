@@ -6,7 +6,7 @@ use Rattle.flat_machine.specs.Flat.{Flat, Worker, IsNewest}
 use Rattle.flat_machine.specs.Steps.{FlatAnswer, Released, Committed, Discarded}
 use Rattle.flat_machine.specs.Steps as step
 use Rattle.flat_machine.specs.Cases.{Case, Runs}
-use Rattle.array_model.specs.Views.{WorldView, kept_at, hand_at, has_no_holder}
+use Rattle.slot_tables.specs.Views.{WorldView, kept_at, hand_at, has_no_holder}
 use Rattle.step_core.specs.declared.step.Answer.{Answer}
 use Rattle.step_core.specs.declared.step.Answer.TheVariants as answer
 use Rattle.background.specs.Placing.{Put, put_answer, back_steps, back_answers}

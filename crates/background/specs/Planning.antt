@@ -1,6 +1,6 @@
 -- What the plans of an array choose, by its tables, the order of last writes and the end of its write log.
 use Rattle.std.specs.Prelude.{ℕ, Option}
-use Rattle.array_model.specs.Views.{ArrayView, key_at}
+use Rattle.slot_tables.specs.Views.{ArrayView, key_at}
 use Rattle.cleaner.specs.declared.moves.Move.{Move}
 use Rattle.cleaner.specs.Plans.{IsPlugPlan, IsCleanPlan}
 use Rattle.migrator.specs.Ages.{IsOldest}

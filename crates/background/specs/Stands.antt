@@ -1,7 +1,7 @@
 -- When a world with what is kept next to it represents a flat state with the same.
 use Rattle.std.specs.Prelude.{◌≡◌, ℕ, length}
-use Rattle.array_model.specs.Represents.{Represents}
-use Rattle.array_model.specs.Views.{key_at}
+use Rattle.slot_tables.specs.Represents.{Represents}
+use Rattle.slot_tables.specs.Views.{key_at}
 use Rattle.background.specs.Hints.{IsHinted}
 use Rattle.background.specs.Marking.{AreMarked}
 use Rattle.background.specs.Steps.{IsFreeMirror}

@@ -1,8 +1,8 @@
 // A block goes into a slot: claim, fill, trim or copy, commit, and back with its old place.
 ghost use Rattle.std.specs.Prelude.{◌≡◌, ◌<◌, IfOk, OnErr, true};
 ghost use Rattle.step_core.specs.Told.{flat_answer};
-ghost use Rattle.array_model.specs.Represents.{Represents};
-ghost use Rattle.array_model.specs.Views.{SameSizes};
+ghost use Rattle.slot_tables.specs.Represents.{Represents};
+ghost use Rattle.slot_tables.specs.Views.{SameSizes};
 ghost use Rattle.flat_machine.specs.Cases.{Case, Runs};
 ghost use Rattle.flat_machine.specs.Flat.{Flat, Ticket, Worker};
 ghost use Rattle.flat_machine.specs.Steps as step;

@@ -1,6 +1,6 @@
 // What the plans of an array go by, and what they choose.
 ghost use Rattle.std.specs.Prelude.{◌≡◌, ℕ, ◌<◌, length, IfOk, MatchOption, None};
-ghost use Rattle.array_model.specs.Views.{key_at};
+ghost use Rattle.slot_tables.specs.Views.{key_at};
 ghost use Rattle.cleaner.specs.Counts.{AreLiveCounts};
 ghost use Rattle.migrator.specs.Ages.{by_number, IsMarked};
 ghost use Rattle.migrator.specs.Slots.{at_start, class_at, end_at};

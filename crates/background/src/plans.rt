@@ -1,6 +1,6 @@
 //! Blocks that go down to the parity level, or from one place in it to another.
 ghost use Rattle.std.specs.Prelude.{◌<◌, IfOk, OnErr};
-ghost use Rattle.array_model.specs.Views.{SameSizes};
+ghost use Rattle.slot_tables.specs.Views.{SameSizes};
 ghost use Rattle.background.specs.Placing.{Again};
 ghost use Rattle.background.specs.Stands.{StandsFor};
 ghost use Rattle.background.specs.Steps.{AppendsAt, PutStops, TierCase, TierStops};

@@ -1,6 +1,6 @@
 // A block goes into a slot, and what is kept next to the world follows.
 ghost use Rattle.std.specs.Prelude.{◌<◌, IfOk, OnErr};
-ghost use Rattle.array_model.specs.Views.{SameSizes};
+ghost use Rattle.slot_tables.specs.Views.{SameSizes};
 ghost use Rattle.background.specs.Inside.{IsSizedFor};
 ghost use Rattle.background.specs.Marking.{PutsAt};
 ghost use Rattle.background.specs.Placing.{put_of};

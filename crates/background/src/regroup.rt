@@ -1,7 +1,7 @@
 //! One extent after another, by a plan.
 ghost use Rattle.std.specs.Prelude.{◌≡◌, ◌+◌, ◌<◌, ◌≤◌, Bool, IfOk, IfSome, List, OnErr, Some};
-ghost use Rattle.array_model.specs.Represents.{Represents};
-ghost use Rattle.array_model.specs.Views.{SameSizes, IsWhole};
+ghost use Rattle.slot_tables.specs.Represents.{Represents};
+ghost use Rattle.slot_tables.specs.Views.{SameSizes, IsWhole};
 ghost use Rattle.flat_machine.specs.Flat.{Flat};
 ghost use Rattle.flat_machine.specs.Cases.{IsWanted};
 ghost use Rattle.flat_machine.specs.Steps.{MoveExtent};

@@ -1,7 +1,7 @@
 //! A world, and what is kept next to it for the plans.
 ghost use Rattle.std.specs.Prelude.{◌≡◌, ◌<◌, IfOk, OnErr};
-ghost use Rattle.array_model.specs.Represents.{Represents};
-ghost use Rattle.array_model.specs.Views.{SameSizes};
+ghost use Rattle.slot_tables.specs.Represents.{Represents};
+ghost use Rattle.slot_tables.specs.Views.{SameSizes};
 ghost use Rattle.flat_machine.specs.Flat.{Flat};
 ghost use Rattle.step_core.specs.Told.{flat_answer};
 ghost use Rattle.background.specs.Stands.{StandsFor};

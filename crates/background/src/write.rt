@@ -1,6 +1,6 @@
 //! Blocks that are written into the mirrored level.
 ghost use Rattle.std.specs.Prelude.{◌≡◌, ℕ, ◌<◌, IfOk, OnErr, Option, length};
-ghost use Rattle.array_model.specs.Views.{SameSizes};
+ghost use Rattle.slot_tables.specs.Views.{SameSizes};
 ghost use Rattle.flat_machine.specs.Flat.{Payload, Trim};
 ghost use Rattle.migrator.specs.First.{IsFirst};
 ghost use Rattle.background.specs.Placing.{Fresh, content_of};

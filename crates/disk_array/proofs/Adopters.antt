@@ -9,10 +9,10 @@ use Rattle.array_parts.specs.Fit.{IsFit}
 use Rattle.array_parts.specs.Views.{drive_view, view_of}
 use Rattle.array_parts.proofs.Views.{view_drives}
 use Rattle.flat_machine.specs.Restarted.{HasPlaces}
-use Rattle.array_model.specs.Views.{Nothing, IsWhole}
-use Rattle.array_model.specs.Adopted.{IsAdopted}
-use Rattle.array_model.proofs.News.{shape_sizes}
-use Rattle.array_model.proofs.Adopting.{ArePartsOf, adopted_whole}
+use Rattle.slot_tables.specs.Views.{Nothing, IsWhole}
+use Rattle.slot_tables.specs.Adopted.{IsAdopted}
+use Rattle.slot_tables.proofs.News.{shape_sizes}
+use Rattle.slot_tables.proofs.Adopting.{ArePartsOf, adopted_whole}
 use Rattle.disk_array.specs.declared.array.Array.TheInside.{Inside}
 use Rattle.slot_tables.specs.declared.ready.Ready.{Ready}
 use Rattle.slot_tables.specs.declared.place.Place.{Place}
@@ -20,7 +20,7 @@ use Rattle.slot_tables.specs.declared.place.Place.TheVariants as place
 use Rattle.disk_array.specs.Inside.{seen, IsReady}
 use Rattle.slot_tables.specs.Kept.{kepts_of, IsOf, AreOf}
 use Rattle.slot_tables.specs.Counted.{AreCounts}
-use Rattle.slot_tables.specs.Adopted.{AreReady, AreKeys, kept_for, wanted_at}
+use Rattle.slot_tables.specs.Claims.{AreReady, AreKeys, kept_for, wanted_at}
 use Rattle.disk_array.proofs.Ready.{as_many}
 use Rattle.slot_tables.proofs.Adoptions.{all_keys, wants_placed}
 use Rattle.slot_tables.proofs.Places.{kepts_many}

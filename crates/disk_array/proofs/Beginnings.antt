@@ -10,10 +10,10 @@ use Rattle.extent_groups.specs.Missing.{is_missing}
 use Rattle.flat_machine.specs.Flat.{Flat, new_flat}
 use Rattle.array_parts.specs.Losses.{failures_at}
 use Rattle.array_parts.specs.Views.{drive_lost, drive_failures, lost_of, failed_of}
-use Rattle.array_model.specs.declared.hand.Hand.{Hand}
-use Rattle.array_model.specs.declared.hand.Hand.TheVariants.{Empty}
-use Rattle.array_model.specs.Views.{ArrayView, hand_at}
-use Rattle.array_model.specs.Represents.{HandSlot, ShowsArray, Represents}
+use Rattle.slot_tables.specs.declared.hand.Hand.{Hand}
+use Rattle.slot_tables.specs.declared.hand.Hand.TheVariants.{Empty}
+use Rattle.slot_tables.specs.Views.{ArrayView, hand_at}
+use Rattle.slot_tables.specs.Represents.{HandSlot, ShowsArray, Represents}
 use Rattle.disk_array.proofs.Losings.{held_view}
 
 -- each drive is there, and has no fuse

@@ -11,12 +11,12 @@ use Rattle.flat_machine.specs.Flat.{Flat, Content, Payload, Trim, IsNewest, last
 use Rattle.flat_machine.specs.Steps.{Read, Found, Refused}
 use Rattle.flat_machine.specs.Cases.{ReadCase, IsWanted, IsGoneIn, found_in, found_of}
 use Rattle.flat_machine.proofs.Newest.{newest_unique}
-use Rattle.array_model.specs.Changes.{MayRefuse}
-use Rattle.array_model.specs.Represents.{ShowsArray}
-use Rattle.array_model.specs.Views.{ArrayView, IsWhole, with_parts, key_at}
-use Rattle.array_model.proofs.Fares.{fared, itself, gone_as, gone_back, lost_shows, lost_leaves}
-use Rattle.array_model.proofs.Finds.{read_none, read_some}
-use Rattle.array_model.proofs.Newest.{newest_is}
+use Rattle.slot_tables.specs.Changes.{MayRefuse}
+use Rattle.slot_tables.specs.Represents.{ShowsArray}
+use Rattle.slot_tables.specs.Views.{ArrayView, IsWhole, with_parts, key_at}
+use Rattle.slot_tables.proofs.Fares.{fared, itself, gone_as, gone_back, lost_shows, lost_leaves}
+use Rattle.slot_tables.proofs.Finds.{read_none, read_some}
+use Rattle.slot_tables.proofs.Newest.{newest_is}
 use Rattle.disk_array.specs.Reads.{WasFound, WasFoundIn, WasGone, WasNotFound, version_in, version_of}
 
 -- the newest record of a block is the one that the array has

@@ -16,16 +16,16 @@ use Rattle.flat_machine.specs.declared.refusal.Refusal.TheVariants.{Memory, NoGr
 use Rattle.flat_machine.proofs.Holding.{step_holds, once_any}
 use Rattle.flat_machine.proofs.Pairs.{turned_just, just_one, Any}
 use Rattle.flat_machine.proofs.Unmakes.{held_in, held_past, held_else}
-use Rattle.array_model.specs.declared.hand.Hand.{Hand}
-use Rattle.array_model.specs.declared.hand.Hand.TheVariants.{Empty}
-use Rattle.array_model.specs.Changes.{IsClosed, opened_view}
-use Rattle.array_model.specs.Represents.{HandSlot, ShowsArray, Represents, is_claim}
-use Rattle.array_model.specs.Views.{Kept, Nothing, Pending, Moving, Newest, Unmade, ArrayView, WorldView, IsWhole, hand_at, is_kept, kept_at, key_at}
-use Rattle.array_model.proofs.Fares.{itself}
-use Rattle.array_model.proofs.Kepts.{kept_iff, unkept}
-use Rattle.array_model.proofs.Unmaking.{unmade_case}
-use Rattle.array_model.proofs.Wholes.{slot_of_class}
-use Rattle.slot_tables.specs.Adopted.{how_many}
+use Rattle.slot_tables.specs.declared.hand.Hand.{Hand}
+use Rattle.slot_tables.specs.declared.hand.Hand.TheVariants.{Empty}
+use Rattle.slot_tables.specs.Changes.{IsClosed, opened_view}
+use Rattle.slot_tables.specs.Represents.{HandSlot, ShowsArray, Represents, is_claim}
+use Rattle.slot_tables.specs.Views.{Kept, Nothing, Pending, Moving, Newest, Unmade, ArrayView, WorldView, IsWhole, hand_at, is_kept, kept_at, key_at}
+use Rattle.slot_tables.proofs.Fares.{itself}
+use Rattle.slot_tables.proofs.Kepts.{kept_iff, unkept}
+use Rattle.slot_tables.proofs.Unmaking.{unmade_case}
+use Rattle.slot_tables.proofs.Wholes.{slot_of_class}
+use Rattle.slot_tables.specs.Claims.{how_many}
 use Rattle.slot_tables.specs.Shut.{one_of, count_in, CanUnmake, HasStranger, IsGiven, IsUnmakeReason, AreWorkers, IsFirstNotHeld, emptied}
 use Rattle.slot_tables.proofs.Shutting.{is_first, first_of, of_first, first_one, one_first, free_kept}
 

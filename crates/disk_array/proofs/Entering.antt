@@ -9,11 +9,11 @@ use Rattle.flat_machine.specs.Groups.{IsLowestFree}
 use Rattle.flat_machine.specs.Steps.{Make, Refused}
 use Rattle.flat_machine.specs.Cases.{IsWanted, MakeCase}
 use Rattle.array_parts.specs.Views.{FoundLost}
-use Rattle.array_model.specs.Changes.{MayRefuse}
-use Rattle.array_model.specs.Making.{IsMakeReason}
-use Rattle.array_model.specs.Represents.{ShowsArray}
-use Rattle.array_model.specs.Views.{ArrayView, with_parts}
-use Rattle.array_model.proofs.Makings.{make_lost, make_passes}
+use Rattle.slot_tables.specs.Changes.{MayRefuse}
+use Rattle.slot_tables.specs.Making.{IsMakeReason}
+use Rattle.slot_tables.specs.Represents.{ShowsArray}
+use Rattle.slot_tables.specs.Views.{ArrayView, with_parts}
+use Rattle.slot_tables.proofs.Makings.{make_lost, make_passes}
 use Rattle.disk_array.proofs.Ready.{as_refused}
 
 pub not_made : (a b : ArrayView) (F : Flat) (class : Class) (members : List Member) (g : ℕ) (q : Refusal) → IsMakeReason a members None → IsLowestFree a.parts.groups g

@@ -13,15 +13,15 @@ use Rattle.flat_machine.specs.Flat.{Flat, Content, content_under, last_write}
 use Rattle.flat_machine.specs.Steps.{Seen, Data, Stale}
 use Rattle.flat_machine.specs.Cases.{IsAhead, IsBehind}
 use Rattle.flat_machine.specs.Learning.{LearnedCase, UnlearnedCase}
-use Rattle.array_model.specs.Changes.{MayRefuse}
-use Rattle.array_model.specs.Reads.{WasSeen}
-use Rattle.array_model.specs.Represents.{ShowsArray}
-use Rattle.array_model.specs.Views.{ArrayView, with_parts, key_at}
+use Rattle.slot_tables.specs.Changes.{MayRefuse}
+use Rattle.slot_tables.specs.Reads.{WasSeen}
+use Rattle.slot_tables.specs.Represents.{ShowsArray}
+use Rattle.slot_tables.specs.Views.{ArrayView, with_parts, key_at}
 use Rattle.flat_machine.proofs.Gones.{gone_stays}
-use Rattle.array_model.proofs.Fares.{fared, itself, gone_as, gone_back, leaves_more, loses_itself, loses_more, lost_shows, lost_leaves}
-use Rattle.array_model.proofs.Finds.{newest_write}
-use Rattle.array_model.proofs.Newest.{newest_told, newest_is}
-use Rattle.array_model.proofs.Seeing.{seen_case}
+use Rattle.slot_tables.proofs.Fares.{fared, itself, gone_as, gone_back, leaves_more, loses_itself, loses_more, lost_shows, lost_leaves}
+use Rattle.slot_tables.proofs.Finds.{newest_write}
+use Rattle.slot_tables.proofs.Newest.{newest_told, newest_is}
+use Rattle.slot_tables.proofs.Seeing.{seen_case}
 use Rattle.disk_array.specs.Refused.{IsRefused}
 
 -- the payload that was seen is that of a vector that it was written to

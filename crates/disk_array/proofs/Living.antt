@@ -5,9 +5,9 @@ use Rattle.map_join.specs.Lists.{ListsBelow}
 use Rattle.map_join.specs.Live.{IsLive, IsBlockAt, IsLiveIn, IsLiveCount}
 use Rattle.map_join.proofs.Rising.{below_none, below_more, below_skip, below_all, count_same}
 use Rattle.extent_groups.specs.Groups.{group_at, slots_in}
-use Rattle.array_model.specs.Views.{Kept, Nothing, Pending, Moving, Newest, Unmade, ArrayView, IsWhole, block_in, kept_at, key_at}
-use Rattle.array_model.proofs.Newest.{lies_at}
-use Rattle.array_model.proofs.Wholes.{slot_of_class}
+use Rattle.slot_tables.specs.Views.{Kept, Nothing, Pending, Moving, Newest, Unmade, ArrayView, IsWhole, block_in, kept_at, key_at}
+use Rattle.slot_tables.proofs.Newest.{lies_at}
+use Rattle.slot_tables.proofs.Wholes.{slot_of_class}
 use Rattle.slot_tables.specs.Counted.{is_newest, newest_in, newest_below, AreCounts}
 use Rattle.slot_tables.proofs.Counts as counts
 

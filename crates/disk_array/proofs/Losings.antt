@@ -22,8 +22,8 @@ use Rattle.array_parts.specs.Slots.{cells_in, missing_in}
 use Rattle.array_parts.specs.Views.{DriveView, PartsView, drive_view, view_of, lost_of}
 use Rattle.array_parts.proofs.Calls.{kept_shows, same_tables}
 use Rattle.array_parts.proofs.Views.{view_lost, view_failures, view_length}
-use Rattle.array_model.specs.Represents.{InTables, ShowsArray}
-use Rattle.array_model.specs.Views.{ArrayView, IsWhole, key_at, with_parts}
+use Rattle.slot_tables.specs.Represents.{InTables, ShowsArray}
+use Rattle.slot_tables.specs.Views.{ArrayView, IsWhole, key_at, with_parts}
 use Rattle.disk_array.specs.declared.array.Array.TheInside.{Inside}
 use Rattle.disk_array.specs.Inside.{seen, IsReady}
 use Rattle.slot_tables.specs.Kept.{AreOf}

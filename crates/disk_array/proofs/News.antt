@@ -14,7 +14,7 @@ use Rattle.extent_groups.proofs.Fresh.{no_members}
 use Rattle.array_parts.specs.Fit.{HaveUnits}
 use Rattle.extent_groups.specs.Stores.{AreDrives}
 use Rattle.array_parts.specs.Views.{drive_view, drive_units}
-use Rattle.array_model.specs.Views.{Nothing, IsNew}
+use Rattle.slot_tables.specs.Views.{Nothing, IsNew}
 use Rattle.disk_array.specs.declared.array.Array.TheInside.{Inside}
 use Rattle.slot_tables.specs.declared.tables.Tables.{Tables}
 use Rattle.disk_array.specs.Inside.{seen, IsReady}

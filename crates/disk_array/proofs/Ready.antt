@@ -10,10 +10,10 @@ use Rattle.extent_groups.specs.Stores.{unit_bytes}
 use Rattle.array_parts.specs.declared.parts.Parts.{Parts}
 use Rattle.array_parts.specs.Fit.{IsFit}
 use Rattle.flat_machine.specs.Flat.{Flat}
-use Rattle.array_model.specs.Changes.{MayRefuse}
-use Rattle.array_model.specs.Represents.{ShowsArray}
-use Rattle.array_model.specs.Views.{ArrayView, IsWhole, Kept, Nothing}
-use Rattle.array_model.proofs.Wholes.{whole_parts}
+use Rattle.slot_tables.specs.Changes.{MayRefuse}
+use Rattle.slot_tables.specs.Represents.{ShowsArray}
+use Rattle.slot_tables.specs.Views.{ArrayView, IsWhole, Kept, Nothing}
+use Rattle.slot_tables.proofs.Wholes.{whole_parts}
 use Rattle.disk_array.specs.declared.array.Array.TheInside.{Inside}
 use Rattle.slot_tables.specs.declared.place.Place.{Place}
 use Rattle.disk_array.specs.Inside.{seen, IsReady}

@@ -10,11 +10,11 @@ use Rattle.flat_machine.specs.Flat.{Flat}
 use Rattle.flat_machine.specs.Moves.{IsMoveReason}
 use Rattle.flat_machine.specs.Steps.{MoveExtent, MovedExtent, Refused}
 use Rattle.flat_machine.specs.Cases.{IsWanted, MoveCase}
-use Rattle.array_model.specs.Changes.{MayRefuse}
-use Rattle.array_model.specs.Represents.{ShowsArray}
-use Rattle.array_model.specs.Views.{ArrayView, with_parts, IsWhole}
-use Rattle.array_model.proofs.Fills.{as_shown}
-use Rattle.array_model.proofs.Regroups.{added_whole, move_case, move_passes, move_stopped}
+use Rattle.slot_tables.specs.Changes.{MayRefuse}
+use Rattle.slot_tables.specs.Represents.{ShowsArray}
+use Rattle.slot_tables.specs.Views.{ArrayView, with_parts, IsWhole}
+use Rattle.slot_tables.proofs.Fills.{as_shown}
+use Rattle.slot_tables.proofs.Regroups.{added_whole, move_case, move_passes, move_stopped}
 use Rattle.disk_array.proofs.Ready.{as_refused}
 
 -- whether a drive was added or not, the array is whole, and its groups are as they were

@@ -3,9 +3,9 @@ use Rattle.std.proofs.Common.{◌≡◌, ℕ, ◌<◌, ◌/◌, ◌==◌, true, 
 use Rattle.std.proofs.lemmas.Bool.Decides.{nat_tests}
 use Rattle.map_join.specs.Record.{record_of}
 use Rattle.flat_machine.specs.Flat.{Flat, Shut}
-use Rattle.array_model.specs.Views.{Kept, Nothing, Pending, Moving, Newest, Unmade, ArrayView, kept_at, key_at}
-use Rattle.array_model.specs.Represents.{ArraySlot, ShowsArray, is_newest}
-use Rattle.slot_tables.specs.Adopted.{how_many, claims_in, AreClaimsOf, AreOfPlaces}
+use Rattle.slot_tables.specs.Views.{Kept, Nothing, Pending, Moving, Newest, Unmade, ArrayView, kept_at, key_at}
+use Rattle.slot_tables.specs.Represents.{ArraySlot, ShowsArray, is_newest}
+use Rattle.slot_tables.specs.Claims.{how_many, claims_in, AreClaimsOf, AreOfPlaces}
 
 -- they are those of its newest places, one of each
 pub claims_rest : {C : Type 0} (names : C → ℕ) (claims : List C) (a : ArrayView) (F : Flat) → ShowsArray a F → ((s : ℕ) → F.tickets s ≡ None) → ((s g : ℕ) → F.held s (Shut g) ≡ false)

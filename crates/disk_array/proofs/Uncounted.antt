@@ -1,7 +1,7 @@
 -- Groups past the end of the places have no newest place.
 use Rattle.std.proofs.Common.{◌≡◌, ℕ, zero, suc, ◌+◌, ◌*◌, ◌≤◌, List, length, get_or, ap, arith}
 use Rattle.slot_tables.specs.declared.place.Place.{Place}
-use Rattle.array_model.specs.Views.{Nothing}
+use Rattle.slot_tables.specs.Views.{Nothing}
 use Rattle.slot_tables.specs.Kept.{kepts_of}
 use Rattle.slot_tables.specs.Counted.{newest_in, newest_below}
 use Rattle.slot_tables.proofs.Places.{kept_past}

@@ -4,7 +4,7 @@ use Rattle.extents.specs.Failures.{Failures}
 use Rattle.extent_groups.specs.Stores.{unit_bytes}
 use Rattle.array_parts.specs.Fit.{IsFit}
 use Rattle.array_parts.specs.Views.{view_of}
-use Rattle.array_model.specs.Views.{ArrayView}
+use Rattle.slot_tables.specs.Views.{ArrayView}
 use Rattle.disk_array.specs.declared.array.Array.TheInside.{Inside}
 use Rattle.slot_tables.specs.Kept.{kepts_of, HavePlaces}
 use Rattle.slot_tables.specs.Counted.{AreCounts}

@@ -1,8 +1,8 @@
 -- Losses of an array's drives, one after another, are losses.
 use Rattle.std.specs.Prelude.{refl}
 use Rattle.std.proofs.Common.{ap, ◌∙◌}
-use Rattle.array_model.specs.Views.{ArrayView, WorldView, with_parts}
-use Rattle.array_model.proofs.Fares.{loses_itself, loses_more}
+use Rattle.slot_tables.specs.Views.{ArrayView, WorldView, with_parts}
+use Rattle.slot_tables.proofs.Fares.{loses_itself, loses_more}
 use Rattle.disk_array.specs.Refused.{OnlyLoses, OnlyLosesOf}
 
 -- where nothing happens nothing is lost

@@ -7,8 +7,8 @@ use Rattle.array_parts.specs.Views.{WasRead, FoundGone}
 use Rattle.flat_machine.specs.declared.refusal.Refusal.{Refusal}
 use Rattle.flat_machine.specs.Flat.{Content, Payload, Trim}
 use Rattle.flat_machine.specs.Steps.{Version, Seen, Data, Stale}
-use Rattle.array_model.specs.Reads.{WasNotRead}
-use Rattle.array_model.specs.Views.{ArrayView, key_at}
+use Rattle.slot_tables.specs.Reads.{WasNotRead}
+use Rattle.slot_tables.specs.Views.{ArrayView, key_at}
 use Rattle.disk_array.specs.declared.read.At.{At}
 use Rattle.disk_array.specs.declared.read.At.TheVariants as at
 

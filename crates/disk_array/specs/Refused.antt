@@ -3,7 +3,7 @@ use Rattle.std.specs.Prelude.{◌≡◌}
 use Rattle.flat_machine.specs.declared.refusal.Refusal.{Refusal}
 use Rattle.flat_machine.specs.declared.refusal.Refusal.TheVariants.{Gone, DriveLost}
 use Rattle.array_parts.specs.Views.{Loses}
-use Rattle.array_model.specs.Views.{ArrayView, WorldView, with_parts}
+use Rattle.slot_tables.specs.Views.{ArrayView, WorldView, with_parts}
 
 -- all but its drives, of which some may have been lost
 abbrev pub OnlyLoses : ArrayView → ArrayView → Type 0

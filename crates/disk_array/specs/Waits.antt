@@ -1,6 +1,6 @@
 -- What waits at a slot.
 use Rattle.std.specs.Prelude.{Bool, true, false}
-use Rattle.array_model.specs.Views.{Kept, Nothing, Pending, Moving, Newest, Unmade}
+use Rattle.slot_tables.specs.Views.{Kept, Nothing, Pending, Moving, Newest, Unmade}
 
 -- a fresh payload or trim waits there
 abbrev pub is_fresh : Kept → Bool

@@ -5,10 +5,10 @@ ghost use Rattle.array_parts.specs.Fit.{IsFit};
 ghost use Rattle.array_parts.specs.Views.{view_of};
 ghost use Rattle.flat_machine.specs.Flat.{Flat, Shut};
 ghost use Rattle.flat_machine.specs.Restarted.{HasPlaces, TellMap, restarted};
-ghost use Rattle.array_model.specs.Represents.{ShowsArray};
-ghost use Rattle.array_model.specs.Views.{key_at};
-ghost use Rattle.array_model.specs.Adopted.{IsAdopted, HasParts};
-ghost use Rattle.slot_tables.specs.Adopted.{AreClaimsOf, AreShared, AreOfPlaces, IsNotAdopted};
+ghost use Rattle.slot_tables.specs.Represents.{ShowsArray};
+ghost use Rattle.slot_tables.specs.Views.{key_at};
+ghost use Rattle.slot_tables.specs.Adopted.{IsAdopted, HasParts};
+ghost use Rattle.slot_tables.specs.Claims.{AreClaimsOf, AreShared, AreOfPlaces, IsNotAdopted};
 
 use crate::array::Array;
 use crate::live::counted;

@@ -1,7 +1,7 @@
 // An array has no claim of a slot that someone else has one of.
 ghost use Rattle.std.specs.Prelude.{◌≡◌, ◌≢◌, ℕ, ◌<◌, vec_len, slice_index_or, true};
-ghost use Rattle.array_model.specs.Represents.{ShowsArray};
-ghost use Rattle.array_model.specs.Views.{ArrayView, Nothing, kept_at};
+ghost use Rattle.slot_tables.specs.Represents.{ShowsArray};
+ghost use Rattle.slot_tables.specs.Views.{ArrayView, Nothing, kept_at};
 ghost use Rattle.flat_machine.specs.Flat.{Flat, Worker, IsKept};
 ghost use Rattle.disk_array.specs.Claimed.{with_claim};
 ghost use Rattle.slot_tables.specs.Kept.{kepts_of, AreOf};

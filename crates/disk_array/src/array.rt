@@ -11,8 +11,8 @@ ghost use Rattle.array_parts.specs.Fit.{HaveUnits};
 ghost use Rattle.array_parts.specs.Views.{drive_view, lost_of, failed_of};
 ghost use Rattle.flat_machine.specs.Groups.{class_at, IsEmpty};
 ghost use Rattle.flat_machine.specs.Flat.{Flat, new_flat, put, IsKept, IsNewest};
-ghost use Rattle.array_model.specs.Views.{kept_at, key_at, block_in, is_kept, is_waiting, IsWhole};
-ghost use Rattle.array_model.specs.Represents.{ShowsArray};
+ghost use Rattle.slot_tables.specs.Views.{kept_at, key_at, block_in, is_kept, is_waiting, IsWhole};
+ghost use Rattle.slot_tables.specs.Represents.{ShowsArray};
 
 use crate::live::none_live;
 use array_parts::Parts;
@@ -41,7 +41,7 @@ pub struct Array<D: Drive, C: Hold> {
 }
 
 impl<D: Drive, C: Hold> Model for Array<D, C> {
-    ghost use Rattle.array_model.specs.Views.{ArrayView, IsWhole};
+    ghost use Rattle.slot_tables.specs.Views.{ArrayView, IsWhole};
     ghost use Rattle.slot_tables.specs.Kept.{AreOf};
     ghost use Rattle.disk_array.specs.Inside.{seen, IsReady};
 

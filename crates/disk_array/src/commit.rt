@@ -7,13 +7,13 @@ ghost use Rattle.extents.specs.declared.header.Header.TheVariants.{Is};
 ghost use Rattle.flat_machine.specs.Steps as say;
 ghost use Rattle.flat_machine.specs.Flat.{Flat, Ticket as ticket_of, IsNewest};
 ghost use Rattle.flat_machine.specs.Cases.{CommitCase, IsWanted, next_version};
-ghost use Rattle.array_model.specs.Views.{Nothing, Newest, is_waiting, kept_at, key_at, with_parts};
+ghost use Rattle.slot_tables.specs.Views.{Nothing, Newest, is_waiting, kept_at, key_at, with_parts};
 ghost use Rattle.array_parts.specs.Views.{WasCarried};
 ghost use Rattle.slot_tables.specs.Kept.{kepts_of, AreOf};
 ghost use Rattle.slot_tables.specs.Counted.{AreCounts};
 ghost use Rattle.disk_array.specs.Refused.{IsRefused};
-ghost use Rattle.array_model.specs.Changes.{commit_view, commit_reason, commit_record, kind_given, version_reason, stamp_reason, passed, IsPlaceOf, MayRefuse};
-ghost use Rattle.array_model.specs.Represents.{ShowsArray};
+ghost use Rattle.slot_tables.specs.Changes.{commit_view, commit_reason, commit_record, kind_given, version_reason, stamp_reason, passed, IsPlaceOf, MayRefuse};
+ghost use Rattle.slot_tables.specs.Represents.{ShowsArray};
 
 use crate::array::Array;
 use crate::live::{one_fewer, one_more};

@@ -7,9 +7,9 @@ ghost use Rattle.flat_machine.specs.Steps as say;
 ghost use Rattle.flat_machine.specs.Flat.{Flat, Worker};
 ghost use Rattle.flat_machine.specs.Cases.{CopyCase, CopyPasses};
 ghost use Rattle.array_parts.specs.Views.{WasCopied};
-ghost use Rattle.array_model.specs.Changes.{copy_view, copy_reason, MayRefuse};
-ghost use Rattle.array_model.specs.Views.{with_parts, key_at};
-ghost use Rattle.array_model.specs.Represents.{ShowsArray};
+ghost use Rattle.slot_tables.specs.Changes.{copy_view, copy_reason, MayRefuse};
+ghost use Rattle.slot_tables.specs.Views.{with_parts, key_at};
+ghost use Rattle.slot_tables.specs.Represents.{ShowsArray};
 ghost use Rattle.disk_array.specs.Refused.{IsRefused};
 
 use crate::array::Array;

@@ -3,8 +3,8 @@ ghost use Rattle.std.specs.Prelude.{◌≡◌, ◌≢◌, ℕ, MatchResult, IfOk
 ghost use Rattle.flat_machine.specs.Steps as say;
 ghost use Rattle.flat_machine.specs.Flat.{Flat, Ticket as ticket_of};
 ghost use Rattle.flat_machine.specs.Cases.{DiscardCase};
-ghost use Rattle.array_model.specs.Changes.{discard_view};
-ghost use Rattle.array_model.specs.Represents.{ShowsArray};
+ghost use Rattle.slot_tables.specs.Changes.{discard_view};
+ghost use Rattle.slot_tables.specs.Represents.{ShowsArray};
 
 use crate::array::Array;
 use crate::ticket::Ticket;

@@ -10,9 +10,9 @@ ghost use Rattle.flat_machine.specs.Groups.{IsLowestFree};
 ghost use Rattle.array_parts.specs.Slots.{IsSlot};
 ghost use Rattle.disk_array.specs.Refused.{OnlyLoses};
 ghost use Rattle.array_parts.specs.Views.{cells_of, seen_of, FoundGone, WasPut, WasCopied, WasNotCarried, WasRead, SawUnit, Entered, FoundLost};
-ghost use Rattle.array_model.specs.Views.{with_parts, IsWhole};
-ghost use Rattle.array_model.specs.Making.{IsMakeReason};
-ghost use Rattle.array_model.specs.Changes.{opened_view, IsOpened};
+ghost use Rattle.slot_tables.specs.Views.{with_parts, IsWhole};
+ghost use Rattle.slot_tables.specs.Making.{IsMakeReason};
+ghost use Rattle.slot_tables.specs.Changes.{opened_view, IsOpened};
 ghost use Rattle.slot_tables.specs.Shut.{AreShutOf};
 
 use crate::array::Array;

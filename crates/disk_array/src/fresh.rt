@@ -1,6 +1,6 @@
 // Whether what waits under a ticket is fresh or a copy.
 ghost use Rattle.std.specs.Prelude.{◌≡◌};
-ghost use Rattle.array_model.specs.Views.{kept_at};
+ghost use Rattle.slot_tables.specs.Views.{kept_at};
 ghost use Rattle.disk_array.specs.Waits as waits;
 
 use crate::array::Array;

@@ -8,9 +8,9 @@ ghost use Rattle.flat_machine.specs.Cases.{AddCase, IsWanted, most_drives};
 ghost use Rattle.flat_machine.specs.Flat.{Flat};
 ghost use Rattle.flat_machine.specs.Moves.{with_new_drive};
 ghost use Rattle.flat_machine.specs.Steps as say;
-ghost use Rattle.array_model.specs.Changes.{MayRefuse};
-ghost use Rattle.array_model.specs.Represents.{ShowsArray};
-ghost use Rattle.array_model.specs.Views.{with_parts};
+ghost use Rattle.slot_tables.specs.Changes.{MayRefuse};
+ghost use Rattle.slot_tables.specs.Represents.{ShowsArray};
+ghost use Rattle.slot_tables.specs.Views.{with_parts};
 
 use crate::array::Array;
 use extents::Drive;

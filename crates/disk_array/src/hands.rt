@@ -1,11 +1,10 @@
 // What workers have in hand of each slot, their tickets too: each ticket comes out where one went in.
 ghost use Rattle.std.specs.Prelude.{◌≡◌, ℕ, length, slice_set, IfOk, MatchOption, true, false};
-ghost use Rattle.array_model.specs.Views.{hand_at};
-ghost use Rattle.array_model.specs.Represents.{is_ticket};
+ghost use Rattle.slot_tables.specs.Views.{hand_at};
+ghost use Rattle.slot_tables.specs.Represents.{is_ticket};
 
 use crate::ticket::Ticket;
-use array_model::Hand;
-use slot_tables::SLOTS;
+use slot_tables::{Hand, SLOTS};
 use std::alloc::{AllocError, Global};
 use std::marker::Model;
 
@@ -18,7 +17,7 @@ pub struct Hands {
 
 impl Model for Hands {
     ghost use Rattle.std.specs.Prelude.{◌≡◌, List, length};
-    ghost use Rattle.array_model.specs.declared.hand.Hand.{Hand};
+    ghost use Rattle.slot_tables.specs.declared.hand.Hand.{Hand};
 
     ghost Value = { List Hand };
 

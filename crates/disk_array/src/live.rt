@@ -2,7 +2,7 @@
 ghost use Rattle.std.specs.Prelude.{◌≡◌, ℕ, ◌+◌, ◌-◌, ◌/◌, ◌<◌, ◌≤◌, length, slice_index, slice_index_or, slice_set};
 ghost use Rattle.map_join.specs.Live.{IsLiveCount};
 ghost use Rattle.extent_groups.specs.Groups.{group_at, slots_in};
-ghost use Rattle.array_model.specs.Views.{Nothing, key_at};
+ghost use Rattle.slot_tables.specs.Views.{Nothing, key_at};
 ghost use Rattle.slot_tables.specs.Kept.{kepts_of};
 ghost use Rattle.slot_tables.specs.Counted.{is_newest, newest_below, AreCounts};
 

@@ -7,9 +7,9 @@ ghost use Rattle.flat_machine.specs.Groups.{IsLowestFree, IsFull};
 ghost use Rattle.flat_machine.specs.Steps as say;
 ghost use Rattle.flat_machine.specs.Flat.{Flat};
 ghost use Rattle.flat_machine.specs.Cases.{IsWanted, MakeCase};
-ghost use Rattle.array_model.specs.Changes.{opened_view, IsOpened, MayRefuse};
-ghost use Rattle.array_model.specs.Making.{told_of, IsMakeReason};
-ghost use Rattle.array_model.specs.Represents.{ShowsArray};
+ghost use Rattle.slot_tables.specs.Changes.{opened_view, IsOpened, MayRefuse};
+ghost use Rattle.slot_tables.specs.Making.{told_of, IsMakeReason};
+ghost use Rattle.slot_tables.specs.Represents.{ShowsArray};
 ghost use Rattle.disk_array.specs.Refused.{IsRefused};
 ghost use Rattle.slot_tables.specs.Shut.{AreShutOf};
 

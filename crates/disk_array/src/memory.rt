@@ -12,8 +12,8 @@ ghost use Rattle.flat_machine.specs.Groups.{IsEmpty};
 ghost use Rattle.flat_machine.specs.Moves.{with_fuse};
 ghost use Rattle.array_parts.specs.Fit.{HaveUnits};
 ghost use Rattle.array_parts.specs.Memory.{held_units};
-ghost use Rattle.array_model.specs.Represents.{ShowsArray};
-ghost use Rattle.array_model.specs.Views.{with_parts};
+ghost use Rattle.slot_tables.specs.Represents.{ShowsArray};
+ghost use Rattle.slot_tables.specs.Views.{with_parts};
 ghost use Rattle.disk_array.specs.Losing.{WasLost, WasFused};
 
 use crate::array::Array;

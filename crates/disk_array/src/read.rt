@@ -6,10 +6,10 @@ ghost use Rattle.array_parts.specs.Views.{FoundGone};
 ghost use Rattle.flat_machine.specs.Steps as say;
 ghost use Rattle.flat_machine.specs.Flat.{Flat};
 ghost use Rattle.flat_machine.specs.Cases.{IsAhead, IsWanted, ReadCase, ReadAtCase};
-ghost use Rattle.array_model.specs.Changes.{MayRefuse};
-ghost use Rattle.array_model.specs.Reads.{WasSeen};
-ghost use Rattle.array_model.specs.Represents.{ShowsArray};
-ghost use Rattle.array_model.specs.Views.{with_parts, key_at, IsWhole};
+ghost use Rattle.slot_tables.specs.Changes.{MayRefuse};
+ghost use Rattle.slot_tables.specs.Reads.{WasSeen};
+ghost use Rattle.slot_tables.specs.Represents.{ShowsArray};
+ghost use Rattle.slot_tables.specs.Views.{with_parts, key_at, IsWhole};
 ghost use Rattle.disk_array.specs.Reads.{WasFound, WasFoundIn, WasGone, WasNotFound, version_in, version_of, seen_of};
 ghost use Rattle.disk_array.specs.Refused.{IsRefused};
 

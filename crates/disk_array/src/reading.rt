@@ -3,9 +3,9 @@ ghost use Rattle.std.specs.Prelude.{◌≡◌, ◌<◌, IfErr, MatchOption, Matc
 ghost use Rattle.flat_machine.specs.Flat.{Flat, Payload, Trim, content_under};
 ghost use Rattle.flat_machine.specs.Cases.{IsBehind};
 ghost use Rattle.flat_machine.specs.Learning.{LearnedCase, UnlearnedCase};
-ghost use Rattle.array_model.specs.Changes.{MayRefuse};
-ghost use Rattle.array_model.specs.Represents.{ShowsArray};
-ghost use Rattle.array_model.specs.Views.{with_parts};
+ghost use Rattle.slot_tables.specs.Changes.{MayRefuse};
+ghost use Rattle.slot_tables.specs.Represents.{ShowsArray};
+ghost use Rattle.slot_tables.specs.Views.{with_parts};
 ghost use Rattle.disk_array.specs.Refused.{IsRefused};
 
 use crate::array::Array;

@@ -5,9 +5,9 @@ ghost use Rattle.flat_machine.specs.Cases.{IsWanted, MoveCase};
 ghost use Rattle.flat_machine.specs.Flat.{Flat};
 ghost use Rattle.flat_machine.specs.Moves.{IsMoveReason};
 ghost use Rattle.flat_machine.specs.Steps as say;
-ghost use Rattle.array_model.specs.Changes.{MayRefuse};
-ghost use Rattle.array_model.specs.Represents.{ShowsArray};
-ghost use Rattle.array_model.specs.Views.{with_parts, IsWhole};
+ghost use Rattle.slot_tables.specs.Changes.{MayRefuse};
+ghost use Rattle.slot_tables.specs.Represents.{ShowsArray};
+ghost use Rattle.slot_tables.specs.Views.{with_parts, IsWhole};
 ghost use Rattle.disk_array.specs.Refused.{IsRefused};
 ghost use Rattle.disk_array.specs.Shifting.{CanShift};
 

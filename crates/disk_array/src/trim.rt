@@ -5,9 +5,9 @@ ghost use Rattle.flat_machine.specs.Flat.{Flat, Worker, Trim, waiting_unit};
 ghost use Rattle.flat_machine.specs.Cases.{FillCase, FillPasses};
 ghost use Rattle.extents.specs.declared.header.Kind.TheVariants as kind;
 ghost use Rattle.array_parts.specs.Views.{WasPut};
-ghost use Rattle.array_model.specs.Changes.{fill_view, MayRefuse};
-ghost use Rattle.array_model.specs.Represents.{ShowsArray};
-ghost use Rattle.array_model.specs.Views.{with_parts};
+ghost use Rattle.slot_tables.specs.Changes.{fill_view, MayRefuse};
+ghost use Rattle.slot_tables.specs.Represents.{ShowsArray};
+ghost use Rattle.slot_tables.specs.Views.{with_parts};
 ghost use Rattle.disk_array.specs.Refused.{IsRefused};
 
 use crate::array::Array;

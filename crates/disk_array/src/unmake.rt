@@ -5,9 +5,9 @@ ghost use Rattle.flat_machine.specs.Steps as say;
 ghost use Rattle.flat_machine.specs.Flat.{Flat};
 ghost use Rattle.flat_machine.specs.Cases.{UnmakeCase};
 ghost use Rattle.array_parts.specs.Views.{WasTaken};
-ghost use Rattle.array_model.specs.Changes.{opened_view, IsClosed};
-ghost use Rattle.array_model.specs.Represents.{ShowsArray};
-ghost use Rattle.array_model.specs.Views.{IsWhole};
+ghost use Rattle.slot_tables.specs.Changes.{opened_view, IsClosed};
+ghost use Rattle.slot_tables.specs.Represents.{ShowsArray};
+ghost use Rattle.slot_tables.specs.Views.{IsWhole};
 ghost use Rattle.slot_tables.specs.Shut.{count_in, CanUnmake, IsUnmakeReason, AreWorkers};
 
 use crate::array::Array;

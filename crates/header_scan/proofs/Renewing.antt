@@ -17,9 +17,9 @@ use Rattle.flat_machine.specs.Flat.{Flat, Stored}
 use Rattle.flat_machine.specs.Groups.{class_at}
 use Rattle.flat_machine.specs.Restarted.{IsRestarted, TellMap, restarted}
 use Rattle.flat_machine.specs.Scanned.{IsScanned}
-use Rattle.array_model.specs.Adopted.{HasParts}
-use Rattle.array_model.specs.Represents.{ShowsArray}
-use Rattle.array_model.specs.Views.{ArrayView}
+use Rattle.slot_tables.specs.Adopted.{HasParts}
+use Rattle.slot_tables.specs.Represents.{ShowsArray}
+use Rattle.slot_tables.specs.Views.{ArrayView}
 use Rattle.step_core.specs.Adopted.{IsIdle}
 use Rattle.header_scan.specs.Faults.{between, AreFine, IsTwice}
 use Rattle.header_scan.specs.Found.{Keeps}

@@ -27,7 +27,7 @@ use Rattle.array_parts.specs.Views.{view_of, cells_of, lost_of, failed_of}
 use Rattle.array_parts.proofs.Calls.{shows_in}
 use Rattle.array_parts.proofs.Stopped.{shows_unbegun, shows_finished}
 use Rattle.array_parts.proofs.Views.{view_cells, view_length}
-use Rattle.array_model.specs.Adopted.{HasParts}
+use Rattle.slot_tables.specs.Adopted.{HasParts}
 use Rattle.header_scan.specs.Restarts.{HasUnits}
 use Rattle.header_scan.specs.Stops.{ArePuts, IsMicro, IsStopped, standing}
 use Rattle.header_scan.proofs.Placing.{classed}

@@ -21,7 +21,7 @@ use Rattle.array_parts.specs.Shows.{IsUnit}
 use Rattle.array_parts.specs.Slots.{IsSlot}
 use Rattle.array_parts.specs.Views.{PartsView, Shows, cells_of, drive_units, drive_lost}
 use Rattle.array_parts.proofs.Shows.{shown_header}
-use Rattle.array_model.proofs.Wholes.{slot_of_class}
+use Rattle.slot_tables.proofs.Wholes.{slot_of_class}
 use Rattle.flat_machine.specs.Flat.{Stored, Content, content_in}
 use Rattle.flat_machine.specs.Groups.{class_at}
 use Rattle.flat_machine.specs.History.{IsHeaderOf, IsAt}

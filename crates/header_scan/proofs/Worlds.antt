@@ -23,10 +23,10 @@ use Rattle.flat_machine.specs.Restarted.{TellMap}
 use Rattle.flat_machine.specs.Scanned.{HasHeader, IsScanned}
 use Rattle.flat_machine.specs.Scans.{Told, FindsGone, ScanCase}
 use Rattle.flat_machine.proofs.Restarts.{history_tells, tells_one}
-use Rattle.array_model.specs.Views.{ArrayView, WorldView, IsWhole, hand_at, key_at}
-use Rattle.array_model.specs.Represents.{ShowsArray, HandSlot, Represents}
-use Rattle.array_model.proofs.Fares.{fared, gone_as, gone_before, lost_shows, lost_leaves}
-use Rattle.array_model.proofs.Fills.{class_seen}
+use Rattle.slot_tables.specs.Views.{ArrayView, WorldView, IsWhole, hand_at, key_at}
+use Rattle.slot_tables.specs.Represents.{ShowsArray, HandSlot, Represents}
+use Rattle.slot_tables.proofs.Fares.{fared, gone_as, gone_before, lost_shows, lost_leaves}
+use Rattle.slot_tables.proofs.Fills.{class_seen}
 use Rattle.step_core.specs.Headline.{bytes_of}
 use Rattle.step_core.specs.Refused.{OnlyLoses, OnlyLosesOf}
 use Rattle.header_scan.specs.declared.fault.ScanFault.{ScanFault}

@@ -12,9 +12,9 @@ use Rattle.flat_machine.specs.Flat.{Flat}
 use Rattle.flat_machine.specs.Groups.{class_at}
 use Rattle.flat_machine.specs.Restarted.{IsRestarted}
 use Rattle.flat_machine.specs.Scanned.{IsScanned}
-use Rattle.array_model.specs.Adopted.{HasParts, IsAdopted}
-use Rattle.array_model.specs.Represents.{ShowsArray}
-use Rattle.array_model.specs.Views.{ArrayView}
+use Rattle.slot_tables.specs.Adopted.{HasParts, IsAdopted}
+use Rattle.slot_tables.specs.Represents.{ShowsArray}
+use Rattle.slot_tables.specs.Views.{ArrayView}
 use Rattle.step_core.specs.Adopted.{IsUnclaimed, IsIdle}
 use Rattle.step_core.specs.NotAdopted.{NotAdopted}
 use Rattle.step_core.specs.NotAdopted.TheVariants as adopted

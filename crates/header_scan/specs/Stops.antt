@@ -17,9 +17,9 @@ use Rattle.array_parts.specs.Notes.{note_view, noted_unit}
 use Rattle.array_parts.specs.Shows.{IsUnit}
 use Rattle.array_parts.specs.Slots.{IsSlot, cells_in}
 use Rattle.array_parts.specs.Views.{view_of}
-use Rattle.array_model.specs.Adopted.{HasParts}
-use Rattle.array_model.specs.Represents.{ShowsArray}
-use Rattle.array_model.specs.Views.{ArrayView}
+use Rattle.slot_tables.specs.Adopted.{HasParts}
+use Rattle.slot_tables.specs.Represents.{ShowsArray}
+use Rattle.slot_tables.specs.Views.{ArrayView}
 use Rattle.flat_machine.specs.Restarted.{IsRestarted}
 use Rattle.extents.specs.Failures.{Failures}
 use Rattle.header_scan.specs.Restarts.{HasUnits}

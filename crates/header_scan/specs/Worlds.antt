@@ -1,8 +1,8 @@
 -- Which faults a scan reports of a world.
 use Rattle.flat_machine.specs.Flat.{Flat}
 use Rattle.flat_machine.specs.Scans.{NotTold, ScanCase}
-use Rattle.array_model.specs.Views.{WorldView}
-use Rattle.array_model.specs.Represents.{Represents}
+use Rattle.slot_tables.specs.Views.{WorldView}
+use Rattle.slot_tables.specs.Represents.{Represents}
 use Rattle.header_scan.specs.declared.fault.ScanFault.{ScanFault}
 use Rattle.header_scan.specs.declared.fault.ScanFault.TheVariants.{Memory, BadHeader, WrongSlot, Twice, Gone, NoClaim, BadNote}
 

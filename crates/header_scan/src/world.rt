@@ -4,7 +4,7 @@ ghost use Rattle.map_join.specs.Maps.{at};
 ghost use Rattle.flat_machine.specs.Flat.{Flat};
 ghost use Rattle.flat_machine.specs.Restarted.{HasPlaces};
 ghost use Rattle.flat_machine.specs.Scans.{Told, ScanCase};
-ghost use Rattle.array_model.specs.Represents.{Represents};
+ghost use Rattle.slot_tables.specs.Represents.{Represents};
 ghost use Rattle.step_core.specs.Refused.{OnlyLosesOf};
 ghost use Rattle.header_scan.specs.Worlds.{IsToldOf};
 

@@ -3,7 +3,7 @@ use Rattle.extents.specs.Condition.{Held}
 use Rattle.array_parts.specs.declared.parts.Parts.{Parts}
 use Rattle.array_parts.specs.Losses.{LosesOnly}
 use Rattle.array_parts.specs.Memory.{held_units, held_lost, held_failures}
-use Rattle.array_model.specs.Views.{ArrayView}
+use Rattle.slot_tables.specs.Views.{ArrayView}
 use Rattle.header_scan.specs.Restarts.{AreAllSound, StandsForOne, WasMade}
 
 -- the array was rebuilt from the headers of these parts, less the drives that were lost in the call: the parts are sound, and the

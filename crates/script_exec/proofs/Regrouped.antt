@@ -5,7 +5,7 @@ use Rattle.flat_machine.specs.Flat.{Flat}
 use Rattle.flat_machine.specs.Steps.{MovedExtent}
 use Rattle.flat_machine.specs.Steps as step
 use Rattle.flat_machine.specs.Cases.{Leaves}
-use Rattle.array_model.proofs.Fares.{itself}
+use Rattle.slot_tables.proofs.Fares.{itself}
 use Rattle.rebalancer.specs.declared.shift.Shift.{Shift}
 use Rattle.background.specs.declared.regrouped.Regrouped.{Regrouped}
 use Rattle.background.specs.declared.regrouped.Regrouped.TheVariants.{Moved, Refused, Nothing}

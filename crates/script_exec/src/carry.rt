@@ -1,6 +1,6 @@
 //! Commands after the first one.
 ghost use Rattle.std.specs.Prelude.{◌≡◌, ◌↔◌, ◌<◌, ◌^◌, ℕ, List, IfOk, OnOk, IsTrue, length};
-ghost use Rattle.array_model.specs.Views.{key_at};
+ghost use Rattle.slot_tables.specs.Views.{key_at};
 ghost use Rattle.map_join.specs.Maps.{IsListOf};
 ghost use Rattle.script_exec.specs.Carrying.{Carries};
 ghost use Rattle.script_exec.specs.State.{IsMemberInRange, IsWithin};

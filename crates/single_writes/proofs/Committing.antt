@@ -24,13 +24,13 @@ use Rattle.array_parts.specs.Shows.{IsUnit}
 use Rattle.array_parts.specs.Slots.{IsSlot}
 use Rattle.array_parts.specs.Views.{cells_of, IsLost, FoundGone}
 use Rattle.array_parts.proofs.Shows.{unit_of_header}
-use Rattle.array_model.specs.Changes.{MayRefuse, commit_reason, commit_reason_of, commit_record, full_reason, kind_given, stamp_reason, version_given, hop_given}
-use Rattle.array_model.specs.Represents.{IsTicketOf, ShowsArray}
-use Rattle.array_model.specs.Views.{ArrayView, IsWhole, Kept, Nothing, Pending, Moving, Newest, Unmade, is_waiting, key_at, kept_at, with_parts}
-use Rattle.array_model.proofs.Committing.{commit_gone, commit_ok, commit_slot, commit_wants}
-use Rattle.array_model.proofs.Fares.{fared, leaves, gone_back, lost_leaves}
-use Rattle.array_model.proofs.Kepts.{ticket_held}
-use Rattle.array_model.proofs.Newest.{newest_told}
+use Rattle.slot_tables.specs.Changes.{MayRefuse, commit_reason, commit_reason_of, commit_record, full_reason, kind_given, stamp_reason, version_given, hop_given}
+use Rattle.slot_tables.specs.Represents.{IsTicketOf, ShowsArray}
+use Rattle.slot_tables.specs.Views.{ArrayView, IsWhole, Kept, Nothing, Pending, Moving, Newest, Unmade, is_waiting, key_at, kept_at, with_parts}
+use Rattle.slot_tables.proofs.Committing.{commit_gone, commit_ok, commit_slot, commit_wants}
+use Rattle.slot_tables.proofs.Fares.{fared, leaves, gone_back, lost_leaves}
+use Rattle.slot_tables.proofs.Kepts.{ticket_held}
+use Rattle.slot_tables.proofs.Newest.{newest_told}
 use Rattle.disk_array.specs.Laws.{only_more}
 use Rattle.disk_array.specs.Refused.{OnlyLoses}
 use Rattle.disk_array.proofs.Ready.{as_refused}

@@ -16,12 +16,12 @@ use Rattle.array_parts.specs.declared.micro.Micro.{Micro}
 use Rattle.array_parts.specs.Shows.{IsUnit}
 use Rattle.array_parts.specs.Slots.{IsSlot}
 use Rattle.array_parts.specs.Views.{cells_of, IsLost, FoundGone}
-use Rattle.array_model.specs.Changes.{copy_reason, MayRefuse}
-use Rattle.array_model.specs.Represents.{ShowsArray}
-use Rattle.array_model.specs.Views.{ArrayView, IsWhole, key_at, with_parts}
-use Rattle.array_model.proofs.Copies.{copy_passes, copy_slot, copy_gone}
-use Rattle.array_model.proofs.Fares.{fared, leaves, gone_back, lost_leaves}
-use Rattle.array_model.proofs.Finds.{newest_write}
+use Rattle.slot_tables.specs.Changes.{copy_reason, MayRefuse}
+use Rattle.slot_tables.specs.Represents.{ShowsArray}
+use Rattle.slot_tables.specs.Views.{ArrayView, IsWhole, key_at, with_parts}
+use Rattle.slot_tables.proofs.Copies.{copy_passes, copy_slot, copy_gone}
+use Rattle.slot_tables.proofs.Fares.{fared, leaves, gone_back, lost_leaves}
+use Rattle.slot_tables.proofs.Finds.{newest_write}
 use Rattle.disk_array.specs.Laws.{only_more}
 use Rattle.disk_array.specs.Refused.{OnlyLoses}
 use Rattle.disk_array.proofs.Ready.{as_refused}

@@ -7,9 +7,9 @@ use Rattle.array_parts.specs.Slots.{IsSlot}
 use Rattle.array_parts.specs.Views.{PartsView, IsLost, Loses, FoundGone, cells_of, drive_units, drive_lost}
 use Rattle.array_parts.proofs.Calls.{lost_more}
 use Rattle.array_parts.proofs.Reading.{slot_there}
-use Rattle.array_model.specs.Represents.{ShowsArray}
-use Rattle.array_model.specs.Views.{ArrayView, IsWhole}
-use Rattle.array_model.proofs.Fares.{gone_before, loses_more}
+use Rattle.slot_tables.specs.Represents.{ShowsArray}
+use Rattle.slot_tables.specs.Views.{ArrayView, IsWhole}
+use Rattle.slot_tables.proofs.Fares.{gone_before, loses_more}
 use Rattle.disk_array.specs.Refused.{OnlyLoses}
 use Rattle.flat_machine.specs.Cases.{IsGoneIn}
 use Rattle.flat_machine.specs.Flat.{Flat}

@@ -28,11 +28,11 @@ use Rattle.array_parts.specs.Slots.{IsSlot, cells_in}
 use Rattle.array_parts.specs.Views.{PartsView, view_of, cells_of, IsLost, FoundGone}
 use Rattle.array_parts.proofs.Listed.{writes_append}
 use Rattle.array_parts.proofs.Views.{view_cells}
-use Rattle.array_model.specs.Changes.{fill_reason, MayRefuse}
-use Rattle.array_model.specs.Represents.{ShowsArray}
-use Rattle.array_model.specs.Views.{ArrayView, with_parts}
-use Rattle.array_model.proofs.Fares.{fared, leaves, gone_back, lost_shows, lost_leaves}
-use Rattle.array_model.proofs.Fills.{fill_passes, fill_slot, fill_gone}
+use Rattle.slot_tables.specs.Changes.{fill_reason, MayRefuse}
+use Rattle.slot_tables.specs.Represents.{ShowsArray}
+use Rattle.slot_tables.specs.Views.{ArrayView, with_parts}
+use Rattle.slot_tables.proofs.Fares.{fared, leaves, gone_back, lost_shows, lost_leaves}
+use Rattle.slot_tables.proofs.Fills.{fill_passes, fill_slot, fill_gone}
 use Rattle.disk_array.specs.Refused.{OnlyLoses}
 use Rattle.disk_array.proofs.Ready.{as_refused}
 use Rattle.header_scan.specs.Stops.{IsMicro, IsNotedList}

@@ -12,9 +12,9 @@ use Rattle.array_parts.specs.Micros.{IsWritten, KeepsGroups, writes_in, note_aft
 use Rattle.array_parts.specs.Slots.{cells_in}
 use Rattle.array_parts.specs.Views.{PartsView, view_of}
 use Rattle.disk_array.specs.Refused.{OnlyLoses}
-use Rattle.array_model.specs.Adopted.{HasParts}
-use Rattle.array_model.specs.Represents.{ShowsArray}
-use Rattle.array_model.specs.Views.{ArrayView}
+use Rattle.slot_tables.specs.Adopted.{HasParts}
+use Rattle.slot_tables.specs.Represents.{ShowsArray}
+use Rattle.slot_tables.specs.Views.{ArrayView}
 use Rattle.header_scan.specs.Restarts.{HasUnits}
 use Rattle.header_scan.specs.Stops.{IsButLost, IsResumed, IsStopped, standing}
 use Rattle.flat_machine.specs.Restarted.{IsRestarted}

@@ -14,8 +14,8 @@ use Rattle.array_parts.specs.Fit.{IsFit}
 use Rattle.array_parts.specs.Micros.{AreWrites}
 use Rattle.array_parts.specs.Notes.{IsSlotPlan}
 use Rattle.array_parts.specs.Views.{PartsView, view_of, cells_of}
-use Rattle.array_model.specs.Represents.{ShowsArray}
-use Rattle.array_model.specs.Views.{ArrayView}
+use Rattle.slot_tables.specs.Represents.{ShowsArray}
+use Rattle.slot_tables.specs.Views.{ArrayView}
 use Rattle.header_scan.specs.Stops.{IsMicro, IsNotedList}
 
 -- a list that gives a slot a unit, over these parts: a note of the slot with the unit, and with the parity that is planned; the

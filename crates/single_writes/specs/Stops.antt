@@ -8,16 +8,16 @@ use Rattle.array_parts.specs.Fit.{IsFit}
 use Rattle.array_parts.specs.Micros.{IsWritten}
 use Rattle.array_parts.specs.Views.{view_of}
 use Rattle.disk_array.specs.Refused.{OnlyLoses}
-use Rattle.array_model.specs.Changes.{MayRefuse}
-use Rattle.array_model.specs.Represents.{ShowsArray}
-use Rattle.array_model.specs.Views.{ArrayView}
+use Rattle.slot_tables.specs.Changes.{MayRefuse}
+use Rattle.slot_tables.specs.Represents.{ShowsArray}
+use Rattle.slot_tables.specs.Views.{ArrayView}
 use Rattle.flat_machine.specs.Cases.{Case, IsWanted, Leaves}
 use Rattle.flat_machine.specs.Flat.{Flat}
 use Rattle.flat_machine.specs.Restarted.{IsRestarted}
 use Rattle.flat_machine.specs.Steps.{FlatAnswer, Refused}
 use Rattle.header_scan.specs.Restarts.{FromFinished, IsResumeFault, WasMade}
 use Rattle.header_scan.specs.Stops.{IsButLost, IsStopped, standing}
-use Rattle.slot_tables.specs.Adopted.{AreClaimsOf}
+use Rattle.slot_tables.specs.Claims.{AreClaimsOf}
 use Rattle.step_core.specs.Adopted.{AreShared}
 use Rattle.single_writes.specs.declared.intent.Intent.{Intent}
 use Rattle.single_writes.specs.declared.stop.Unfinished.{Unfinished}

@@ -1,7 +1,7 @@
 // A step that stops after some of its writes, and the array that a restart makes of what is left.
 ghost use Rattle.std.specs.Prelude.{ℕ, IfOk, IfErr};
 ghost use Rattle.flat_machine.specs.Flat.{Flat};
-ghost use Rattle.array_model.specs.Represents.{ShowsArray};
+ghost use Rattle.slot_tables.specs.Represents.{ShowsArray};
 ghost use Rattle.single_writes.specs.Intents.{IsAsked, MayTake};
 ghost use Rattle.single_writes.specs.Stops.{AreClaimsLeft, IsCutShort, IsReturned, IsWhyNone, WasResumed};
 

@@ -9,12 +9,12 @@ use Rattle.map_join.specs.Maps.{IsListOf}
 use Rattle.extent_groups.specs.Groups.{Groups}
 use Rattle.flat_machine.specs.Groups.{class_at}
 use Rattle.flat_machine.specs.Restarted.{HasPlaces}
-use Rattle.array_model.specs.Views.{Kept, Nothing, Pending, Moving, Newest, Unmade, ArrayView, kept_at}
-use Rattle.array_model.specs.Adopted.{IsPlaced}
+use Rattle.slot_tables.specs.Views.{Kept, Nothing, Pending, Moving, Newest, Unmade, ArrayView, kept_at}
+use Rattle.slot_tables.specs.Adopted.{IsPlaced}
 use Rattle.slot_tables.specs.Kept.{HavePlaces}
 use Rattle.slot_tables.proofs.Placing.{placed_slot}
 use Rattle.slot_tables.proofs.Seated.{some_here}
-use Rattle.slot_tables.specs.Adopted.{how_many, claims_in, AreKeys, AreShared, AreOfPlaces, IsKey, IsWanted, AreWanted, wanted_at, kept_for, IsLowestUnclaimed, IsUnclaimed}
+use Rattle.slot_tables.specs.Claims.{how_many, claims_in, AreKeys, AreShared, AreOfPlaces, IsKey, IsWanted, AreWanted, wanted_at, kept_for, IsLowestUnclaimed, IsUnclaimed}
 
 -- a map of an array's blocks has keys of records everywhere
 pub all_keys : (groups : Groups) (M : ℕ → ℕ) (keys : List ℕ) → HasPlaces groups M → AreKeys groups.blocks M keys → (b : ℕ) → IsKey (M b)

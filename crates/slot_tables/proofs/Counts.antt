@@ -3,8 +3,8 @@ use Rattle.std.proofs.Common.{◌≡◌, ◌≢◌, ℕ, zero, suc, ◌+◌, ◌
 use Rattle.std.proofs.Math.ListN.{set}
 use Rattle.std.proofs.lemmas.List.{length-set, get_or-set_same, get_or-set_other}
 use Rattle.std.proofs.lemmas.Bool.{cases_eq}
-use Rattle.array_model.specs.Views.{Kept, Nothing, Pending, Moving, Newest, Unmade, is_waiting}
-use Rattle.array_model.specs.Changes.{opened_of, IsOpened}
+use Rattle.slot_tables.specs.Views.{Kept, Nothing, Pending, Moving, Newest, Unmade, is_waiting}
+use Rattle.slot_tables.specs.Changes.{opened_of, IsOpened}
 use Rattle.slot_tables.specs.Counted.{is_newest, newest_in, newest_below, AreCounts}
 
 -- of one slot there is at most one newest place

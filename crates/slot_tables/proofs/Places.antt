@@ -8,7 +8,7 @@ use Rattle.std.proofs.lemmas.Option.{same_Some, slice_get-get_or}
 use Rattle.slot_tables.specs.declared.place.Place.{Place}
 use Rattle.slot_tables.specs.declared.place.Place.TheVariants as place
 use Rattle.slot_tables.specs.Kept.{kept_of, kepts_of, IsOf, AreOf}
-use Rattle.array_model.specs.Views.{Kept, Nothing}
+use Rattle.slot_tables.specs.Views.{Kept, Nothing}
 
 -- what is kept at a place
 pub kept_there : {C : Type 0} (places : List (Place C)) (s : ℕ) (d : Place C) → s < length places

@@ -11,12 +11,12 @@ use Rattle.std.proofs.lemmas.Bool.{cases_eq}
 use Rattle.std.proofs.lemmas.Option.{same_Some}
 use Rattle.std.proofs.lemmas.Bool.Decides.{nat_tests}
 use Rattle.map_join.specs.declared.records.Record.{Record}
-use Rattle.array_model.specs.Views.{Kept, Nothing, Newest}
+use Rattle.slot_tables.specs.Views.{Kept, Nothing, Newest}
 use Rattle.slot_tables.specs.declared.place.Place.{Place}
 use Rattle.slot_tables.specs.declared.place.Place.TheVariants as place
 use Rattle.slot_tables.specs.Kept.{kept_of, kepts_of, IsOf, AreOf}
 use Rattle.slot_tables.proofs.Places.{kept_past, kept_there}
-use Rattle.slot_tables.specs.Adopted.{how_many, claims_in, IsWanted, AreWanted, wanted_at, kept_for, IsClaimed}
+use Rattle.slot_tables.specs.Claims.{how_many, claims_in, IsWanted, AreWanted, wanted_at, kept_for, IsClaimed}
 
 -- one more record: its slot is its block's
 pub wanted_more : (records : List Record) (wanted : List (Option ℕ)) (r : Record) → r.place < 65536 → AreWanted records wanted

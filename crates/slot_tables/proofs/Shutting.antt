@@ -9,12 +9,12 @@ use Rattle.std.proofs.lemmas.Bool.Decides.{nat_tests}
 use Rattle.extent_groups.specs.Groups.{Groups, Group, AreGroups, group_at, slots_in}
 use Rattle.extent_groups.proofs.Bounds.{slot_count_small}
 use Rattle.flat_machine.proofs.Unmakes.{number_within}
-use Rattle.array_model.specs.declared.hand.Hand.{Hand}
-use Rattle.array_model.specs.declared.hand.Hand.TheVariants.{Empty}
-use Rattle.array_model.specs.Changes.{opened_of, IsOpened, IsClosed}
-use Rattle.array_model.specs.Represents.{is_claim}
-use Rattle.array_model.specs.Views.{Kept, Nothing, Pending, Moving, Newest, Unmade, ArrayView, hand_at, is_kept, kept_at}
-use Rattle.slot_tables.specs.Adopted.{how_many}
+use Rattle.slot_tables.specs.declared.hand.Hand.{Hand}
+use Rattle.slot_tables.specs.declared.hand.Hand.TheVariants.{Empty}
+use Rattle.slot_tables.specs.Changes.{opened_of, IsOpened, IsClosed}
+use Rattle.slot_tables.specs.Represents.{is_claim}
+use Rattle.slot_tables.specs.Views.{Kept, Nothing, Pending, Moving, Newest, Unmade, ArrayView, hand_at, is_kept, kept_at}
+use Rattle.slot_tables.specs.Claims.{how_many}
 use Rattle.slot_tables.specs.Counted.{is_newest, AreCounts}
 use Rattle.slot_tables.specs.Shut.{one_of, count_in, shut_of, closed_of, emptied, CanUnmake, IsGiven, IsFirstUngiven, IsFirstNotHeld}
 use Rattle.slot_tables.proofs.Counts.{counts_alike}

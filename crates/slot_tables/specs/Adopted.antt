@@ -1,117 +1,30 @@
--- The claims of an array that is taken apart, or put together from parts and a map.
-use Rattle.std.specs.Prelude.{◌≡◌, ℕ, ◌+◌, ◌*◌, ◌^◌, ◌<◌, ◌≤◌, ◌==◌, if◌then◌else◌, List, length, count_by, false, slice_index, slice_index_or, vec_len, vec_capacity, Contains, Option, Some, None}
-use Rattle.map_join.specs.declared.records.Record.{Record}
+-- An array that was put together from parts and a map, and the states that parts have to do with.
+use Rattle.std.specs.Prelude.{◌≡◌, ℕ, ◌<◌, length}
 use Rattle.map_join.specs.Record.{record_of}
-use Rattle.map_join.specs.Maps.{IsListOf}
-use Rattle.extent_groups.specs.Groups.{Groups}
-use Rattle.extent_groups.specs.Stores.{unit_bytes}
-use Rattle.flat_machine.specs.Flat.{Flat, Worker, Ticket}
-use Rattle.flat_machine.specs.Restarted.{restarted}
-use Rattle.array_model.specs.Views.{Kept, Nothing, Newest, ArrayView, WorldView, is_kept, kept_at}
-use Rattle.array_model.specs.Represents.{Represents}
-use Rattle.slot_tables.specs.Kept.{HavePlaces}
-use Rattle.slot_tables.specs.declared.place.Place.TheVariants as place
-use Rattle.slot_tables.specs.declared.ready.NotAdopted.{NotAdopted}
-use Rattle.slot_tables.specs.declared.ready.NotAdopted.TheVariants.{Memory, NoClaim}
-use Rattle.slot_tables.specs.declared.ready.Ready.{Ready}
-use Rattle.slot_tables.specs.declared.ready.Room.{Room}
+use Rattle.map_join.specs.Maps.{IsSame, IsListOf}
+use Rattle.array_parts.specs.Views.{PartsView, Shows, lost_of, failed_of}
+use Rattle.flat_machine.specs.Flat.{Flat}
+use Rattle.slot_tables.specs.Views.{Kept, Nothing, Pending, Moving, Newest, Unmade, ArrayView, kept_at, key_at}
 
--- how many of some claims are of a slot
-abbrev pub how_many : {C : Type 0} → (C → ℕ) → List C → ℕ → ℕ
-how_many names claims slot = count_by (λ c. names c == slot) claims
+-- what is kept of a slot by a map: the block whose place it is, if it is one's
+abbrev pub IsPlaced : (ℕ → ℕ) → ℕ → Kept → Type 0
+IsPlaced keys slot Unmade = ⊥
+IsPlaced keys slot Nothing = (b : ℕ) → 0 < keys b → (record_of b (keys b)).place ≡ slot → ⊥
+IsPlaced keys slot (Newest b) = (0 < keys b) × ((record_of b (keys b)).place ≡ slot)
+IsPlaced keys slot (Pending k) = ⊥
+IsPlaced keys slot (Moving r k) = ⊥
 
--- how many claims an array has of a slot of which this is kept
-abbrev pub claims_in : Kept → ℕ
-claims_in kept = if is_kept kept then 1 else 0
+-- an array of these parts with this map: the map's list is its log, it keeps the newest places, and nothing is pending
+pub record IsAdopted (v : PartsView) (keys : ℕ → ℕ) (a : ArrayView) : Type 0 where
+  pub parts_are : a.parts ≡ v
+  pub log : IsListOf keys a.log
+  pub keys_are : IsSame (key_at a) keys
+  pub kept : (s : ℕ) → IsPlaced keys s (kept_at a s)
 
--- the claims are those that the array had, one of each slot that it kept
-abbrev pub AreClaimsOf : {C : Type 0} → (C → ℕ) → ArrayView → List C → Type 0
-AreClaimsOf names a claims = (slot : ℕ) → how_many names claims slot ≡ claims_in (kept_at a slot)
-
--- each of the claims is in the array or left over
-abbrev pub AreShared : {C : Type 0} → (C → ℕ) → List C → ArrayView → List C → Type 0
-AreShared names claims a left = (slot : ℕ) → how_many names claims slot ≡ claims_in (kept_at a slot) + how_many names left slot
-
--- the slot is the lowest place of a map of which there is no claim
-pub record IsUnclaimed {C : Type 0} (names : C → ℕ) (claims : List C) (M : ℕ → ℕ) (slot : ℕ) : Type 0 where
-  pub block : ℕ
-  pub there : 0 < M block
-  pub place : (record_of block (M block)).place ≡ slot
-  pub none : how_many names claims slot ≡ 0
-  pub lowest : (b : ℕ) → 0 < M b → (record_of b (M b)).place < slot → 0 < how_many names claims (record_of b (M b)).place
-
--- the block whose place each slot is, by a list of records
-abbrev pub IsWanted : List Record → ℕ → Option ℕ → Type 0
-IsWanted records slot None = (r : Record) → Contains records r → r.place ≡ slot → ⊥
-IsWanted records slot (Some b) = (r : Record) × Contains records r × (r.block ≡ b) × (r.place ≡ slot)
-
-abbrev pub wanted_at : List (Option ℕ) → ℕ → Option ℕ
-wanted_at wanted slot = slice_index_or wanted slot None
-
-pub record AreWanted (records : List Record) (wanted : List (Option ℕ)) : Type 0 where
-  pub many : length wanted ≡ 65536
-  pub each : (slot : ℕ) → IsWanted records slot (wanted_at wanted slot)
-
--- what is kept of a slot that a block wants
-abbrev pub kept_for : Option ℕ → Kept
-kept_for None = Nothing
-kept_for (Some b) = Newest b
-
--- each slot that is wanted has a claim; the lowest slot that has none
-abbrev pub IsClaimed : {C : Type 0} → (C → ℕ) → List C → List (Option ℕ) → ℕ → Type 0
-IsClaimed names claims wanted slot = (b : ℕ) → wanted_at wanted slot ≡ Some b → 0 < how_many names claims slot
-
-pub record IsLowestUnclaimed {C : Type 0} (names : C → ℕ) (claims : List C) (wanted : List (Option ℕ)) (slot : ℕ) : Type 0 where
-  pub block : ℕ
-  pub wants : wanted_at wanted slot ≡ Some block
-  pub none : how_many names claims slot ≡ 0
-  pub lowest : (s : ℕ) → s < slot → IsClaimed names claims wanted s
-
--- the claims are those of the map's places, one of each
-pub record AreOfPlaces {C : Type 0} (names : C → ℕ) (M : ℕ → ℕ) (claims : List C) : Type 0 where
-  pub one : (b : ℕ) → 0 < M b → how_many names claims (record_of b (M b)).place ≡ 1
-  pub only : (slot : ℕ) → 0 < how_many names claims slot → (b : ℕ) × (0 < M b) × ((record_of b (M b)).place ≡ slot)
-
--- what a map may have of a block: nothing, or the key of a record
-pub record IsKey (key : ℕ) : Type 0 where
-  pub least : 0 < key → 2 ^ 32 ≤ key
-  pub most : key < 2 ^ 64
-
--- the keys of the first `blocks` blocks in a map
-pub record AreKeys (blocks : ℕ) (M : ℕ → ℕ) (keys : List ℕ) : Type 0 where
-  pub many : length keys ≡ blocks
-  pub same : (b : ℕ) → b < blocks → slice_index keys b ≡ M b
-  pub told : (b : ℕ) → b < blocks → IsKey (M b)
-
--- buffers for units of that many bytes, `slots` places that are free, and room for `count` claims
-pub record HasRoom {C : Type 0} (bytes slots count : ℕ) (room : Room C) : Type 0 where
-  pub unit : length room.unit.items ≡ bytes
-  pub scratch : length room.scratch.items ≡ 2 * bytes
-  pub none : vec_len room.others ≡ 0
-  pub others : count ≤ vec_capacity room.others
-  pub places : vec_len room.places ≡ slots
-  pub free : (s : ℕ) → slice_index_or room.places.items s place.Free ≡ place.Free
-
--- why no array was put together
-abbrev pub IsNotAdopted : {C : Type 0} → (C → ℕ) → List C → (ℕ → ℕ) → NotAdopted → Type 0
-IsNotAdopted names claims M Memory = Unit {0}
-IsNotAdopted names claims M (NoClaim slot) = IsUnclaimed names claims M slot
-
--- all is ready for an array of these groups and this map: its log, what each slot is wanted for, of which there are claims, its
--- keys and buffers, places that are free for the slots of its groups, and room for the claims that are left over
-pub record AreReady {C : Type 0} (names : C → ℕ) (groups : Groups) (M : ℕ → ℕ) (claims : List C) (ready : Ready C) : Type 0 where
-  pub log : IsListOf M ready.log.items
-  pub wanted : AreWanted ready.log.items ready.wanted.items
-  pub claimed : (slot : ℕ) → IsClaimed names claims ready.wanted.items slot
-  pub keys : AreKeys groups.blocks M ready.keys.items
-  pub room : HasRoom (unit_bytes groups) (vec_len ready.room.places) (length claims) ready.room
-  pub places : HavePlaces groups (vec_len ready.room.places)
-
--- no worker holds a slot, or has a ticket of one
-abbrev pub IsIdle : Flat → Type 0
-IsIdle F = (s w : ℕ) → (F.held s (Worker w) ≡ false) × (F.held s (Ticket w) ≡ false)
-
--- the world represents the state F restarted with this map
-pub record WasRestarted (F : Flat) (M : ℕ → ℕ) (w : WorldView) : Type 0 where
-  pub log : IsListOf M w.array.log
-  pub stands : Represents w (restarted F M w.array.log)
+-- the parts are a flat state's: its groups, its drives as they fare, and units that they show
+pub record HasParts (v : PartsView) (F : Flat) : Type 0 where
+  pub groups : F.groups ≡ v.groups
+  pub drives : F.drives ≡ length v.drives
+  pub lost : F.lost ≡ lost_of v
+  pub failures : F.failures ≡ failed_of v
+  pub units : Shows v F.units

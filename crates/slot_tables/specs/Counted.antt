@@ -1,6 +1,6 @@
 -- How many of each group's slots are newest places, as the array keeps it next to its places.
 use Rattle.std.specs.Prelude.{◌≡◌, ℕ, zero, suc, ◌+◌, ◌*◌, ◌<◌, Bool, true, false, if◌then◌else◌, List, length, slice_index, slice_index_or}
-use Rattle.array_model.specs.Views.{Kept, Nothing, Pending, Moving, Newest, Unmade}
+use Rattle.slot_tables.specs.Views.{Kept, Nothing, Pending, Moving, Newest, Unmade}
 
 -- a slot of which this is kept is a block's newest place
 abbrev pub is_newest : Kept → Bool

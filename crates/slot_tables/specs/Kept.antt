@@ -1,7 +1,7 @@
 -- What contracts see of the places of an array: what is kept of each slot, without the claims.
 use Rattle.std.specs.Prelude.{◌≡◌, ◌≢◌, ℕ, ◌+◌, ◌*◌, ◌-◌, ◌<◌, ◌≤◌, None, List, ◌++◌, slice_index_or, length, map, replicate}
 use Rattle.extent_groups.specs.Groups.{Groups, group_at}
-use Rattle.array_model.specs.Views.{Kept, Nothing, Pending, Moving, Newest, Unmade}
+use Rattle.slot_tables.specs.Views.{Kept, Nothing, Pending, Moving, Newest, Unmade}
 use Rattle.slot_tables.specs.declared.place.Place.{Place}
 use Rattle.slot_tables.specs.declared.place.Place.TheVariants as place
 

@@ -1,5 +1,11 @@
+pub mod Views
+pub mod Represents
+pub mod Changes
+pub mod Making
+pub mod Reads
+pub mod Adopted
 pub mod Kept
 pub mod Counted
 pub mod New
-pub mod Adopted
+pub mod Claims
 pub mod Shut

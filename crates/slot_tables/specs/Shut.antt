@@ -4,11 +4,11 @@ use Rattle.extent_groups.specs.Groups.{group_at, slots_in}
 use Rattle.flat_machine.specs.Flat.{Flat, Worker}
 use Rattle.flat_machine.specs.declared.refusal.Refusal.{Refusal}
 use Rattle.flat_machine.specs.declared.refusal.Refusal.TheVariants.{NoGroup, SlotsHeld}
-use Rattle.array_model.specs.declared.hand.Hand.{Hand}
-use Rattle.array_model.specs.declared.hand.Hand.TheVariants.{Empty}
-use Rattle.array_model.specs.Views.{Kept, Nothing, Unmade, ArrayView, kept_at, hand_at}
-use Rattle.array_model.specs.Represents.{is_shut, is_claim}
-use Rattle.slot_tables.specs.Adopted.{how_many}
+use Rattle.slot_tables.specs.declared.hand.Hand.{Hand}
+use Rattle.slot_tables.specs.declared.hand.Hand.TheVariants.{Empty}
+use Rattle.slot_tables.specs.Views.{Kept, Nothing, Unmade, ArrayView, kept_at, hand_at}
+use Rattle.slot_tables.specs.Represents.{is_shut, is_claim}
+use Rattle.slot_tables.specs.Claims.{how_many}
 
 -- how many claims are of a slot in a list of one for each of the first `count` slots of a group
 abbrev pub one_of : ℕ → ℕ → ℕ → ℕ

@@ -1,6 +1,8 @@
-//! What an array keeps of each slot: the claims in their places, and the tables of a new array and of one that is put together.
+//! What an array keeps of each slot: claims in their places, and the tables of a new array and of one that is put together. Its specs
+//! have what is seen of an array, when it represents a flat state, and that each change of it is a case of the flat machine.
 #![tactic(auto)]
 
+mod hand;
 mod hold;
 mod place;
 mod ready;
@@ -8,6 +10,7 @@ mod seats;
 mod shut;
 mod tables;
 
+pub use hand::Hand;
 pub use hold::{Hold, Plain};
 pub use place::{Place, grow_to, place_at, put_in, take_out, take_waiting};
 pub use ready::{NotAdopted, Ready, Room, prepare};

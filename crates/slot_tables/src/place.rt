@@ -2,7 +2,7 @@
 // comes out by `take_out`.
 ghost use Rattle.std.specs.Prelude.{◌≡◌, ℕ, ◌+◌, ◌*◌, ◌<◌, ◌≤◌, vec_len, vec_capacity, slice_index_or, slice_set, true, MatchOption, IsOk, OnOk};
 ghost use Rattle.slot_tables.specs.Kept.{kept_of, kepts_of, IsOf, AreOf};
-ghost use Rattle.array_model.specs.Views.{Nothing, is_waiting};
+ghost use Rattle.slot_tables.specs.Views.{Nothing, is_waiting};
 
 use crate::hold::Hold;
 use crate::tables::SLOTS as ALL_SLOTS;

@@ -6,7 +6,7 @@ ghost use Rattle.array_parts.specs.Fit.{IsFit};
 ghost use Rattle.flat_machine.specs.Restarted.{HasPlaces};
 ghost use Rattle.slot_tables.specs.declared.place.Place.TheVariants as place;
 ghost use Rattle.slot_tables.specs.Kept.{HavePlaces};
-ghost use Rattle.slot_tables.specs.Adopted.{AreReady, AreKeys, HasRoom, IsNotAdopted};
+ghost use Rattle.slot_tables.specs.Claims.{AreReady, AreKeys, HasRoom, IsNotAdopted};
 
 use crate::hold::Hold;
 use crate::place::Place;

@@ -1,8 +1,8 @@
 // Claims of a group's slots, on their way into the places of its number, and out of them.
 ghost use Rattle.std.specs.Prelude.{◌≡◌, ◌≢◌, ℕ, ◌+◌, ◌*◌, ◌<◌, ◌≤◌, ◌/◌, ◌%◌, slice_index_or, slice_set, vec_len, vec_capacity, nat_lt, true, None, IfSome, IsNone, MatchOption};
-ghost use Rattle.array_model.specs.Changes.{opened_of, IsOpened};
-ghost use Rattle.array_model.specs.Views.{Nothing, Unmade};
-ghost use Rattle.slot_tables.specs.Adopted.{how_many};
+ghost use Rattle.slot_tables.specs.Changes.{opened_of, IsOpened};
+ghost use Rattle.slot_tables.specs.Views.{Nothing, Unmade};
+ghost use Rattle.slot_tables.specs.Claims.{how_many};
 ghost use Rattle.slot_tables.specs.Kept.{kepts_of, AreOf};
 ghost use Rattle.slot_tables.specs.Shut.{one_of, shut_of, closed_of};
 

@@ -13,11 +13,11 @@ use Rattle.flat_machine.specs.Flat.{Flat}
 use Rattle.flat_machine.specs.Steps.{FlatStep, Seen, Read, Found, Refused}
 use Rattle.flat_machine.specs.Cases.{Case, ReadCase, IsWanted}
 use Rattle.flat_machine.specs.History.{IsStep}
-use Rattle.array_model.specs.Changes.{MayRefuse}
-use Rattle.array_model.specs.Reads.{WasNotRead, WasSeen}
-use Rattle.array_model.specs.Represents.{ShowsArray, Represents}
-use Rattle.array_model.specs.Views.{ArrayView, WorldView, SameSizes}
-use Rattle.array_model.proofs.Hands.{as_world}
+use Rattle.slot_tables.specs.Changes.{MayRefuse}
+use Rattle.slot_tables.specs.Reads.{WasNotRead, WasSeen}
+use Rattle.slot_tables.specs.Represents.{ShowsArray, Represents}
+use Rattle.slot_tables.specs.Views.{ArrayView, WorldView, SameSizes}
+use Rattle.slot_tables.proofs.Hands.{as_world}
 use Rattle.step_core.specs.declared.step.Answer.{Answer}
 use Rattle.step_core.specs.declared.step.Answer.TheVariants as answer
 use Rattle.disk_array.specs.Reads.{WasFound, WasFoundIn, WasGone, WasNotFound, version_in}

@@ -7,13 +7,13 @@ use Rattle.flat_machine.specs.History.{IsHistory, AreHeld}
 use Rattle.flat_machine.specs.Restarted.{TellMap, restarted}
 use Rattle.flat_machine.proofs.Newest.{map_unique}
 use Rattle.flat_machine.proofs.Restarts.{history_tells}
-use Rattle.array_model.specs.declared.hand.Hand.{Hand}
-use Rattle.array_model.specs.declared.hand.Hand.TheVariants.{Empty}
+use Rattle.slot_tables.specs.declared.hand.Hand.{Hand}
+use Rattle.slot_tables.specs.declared.hand.Hand.TheVariants.{Empty}
 use Rattle.array_parts.specs.Views.{PartsView}
-use Rattle.array_model.specs.Views.{Kept, Nothing, Pending, Moving, Newest, Unmade, ArrayView, WorldView, SameSizes, kept_at, key_at, hand_at}
-use Rattle.array_model.specs.Represents.{ShowsArray, HandSlot, Represents, is_newest}
-use Rattle.array_model.specs.Adopted.{HasParts}
-use Rattle.slot_tables.specs.Adopted.{how_many, claims_in, AreClaimsOf, IsIdle, IsNotAdopted, WasRestarted}
+use Rattle.slot_tables.specs.Views.{Kept, Nothing, Pending, Moving, Newest, Unmade, ArrayView, WorldView, SameSizes, kept_at, key_at, hand_at}
+use Rattle.slot_tables.specs.Represents.{ShowsArray, HandSlot, Represents, is_newest}
+use Rattle.slot_tables.specs.Adopted.{HasParts}
+use Rattle.slot_tables.specs.Claims.{how_many, claims_in, AreClaimsOf, IsIdle, IsNotAdopted, WasRestarted}
 use Rattle.slot_tables.specs.declared.ready.NotAdopted.{NotAdopted}
 use Rattle.slot_tables.specs.declared.ready.NotAdopted.TheVariants.{Memory, NoClaim}
 

@@ -12,7 +12,7 @@ use Rattle.flat_machine.specs.Cases.{Case, Runs}
 use Rattle.flat_machine.proofs.Gones.{AllStand, all_present}
 use Rattle.step_core.specs.Headline.{TellingRun, IsStep, StepsTo}
 use Rattle.flat_machine.specs.Flat.{Flat}
-use Rattle.array_model.specs.Views.{ArrayView, WorldView, SameSizes}
+use Rattle.slot_tables.specs.Views.{ArrayView, WorldView, SameSizes}
 
 -- a run through states whose groups are well formed
 abbrev pub StandingRun : Flat → List FlatStep → List FlatAnswer → Flat → Type 0

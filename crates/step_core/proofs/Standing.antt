@@ -16,8 +16,8 @@ use Rattle.flat_machine.specs.Flat.{Flat, Write, Stored, content_in, last_write}
 use Rattle.flat_machine.specs.Groups.{class_below, class_at}
 use Rattle.flat_machine.specs.Scanned.{HasHeader, IsScanned}
 use Rattle.flat_machine.proofs.Newest.{map_unique}
-use Rattle.array_model.specs.Represents.{ShowsArray, Represents}
-use Rattle.array_model.specs.Views.{ArrayView, WorldView, IsWhole, Nothing, Newest, Unmade, key_at}
+use Rattle.slot_tables.specs.Represents.{ShowsArray, Represents}
+use Rattle.slot_tables.specs.Views.{ArrayView, WorldView, IsWhole, Nothing, Newest, Unmade, key_at}
 use Rattle.step_core.specs.Headline.{bytes_of, LiesAt, IsOneMissed, Stands, HasHeaders}
 
 -- a slot of a group lies somewhere

@@ -22,15 +22,15 @@ use Rattle.flat_machine.proofs.Keeps as flat
 use Rattle.flat_machine.proofs.Newest.{newest_unique, place_small}
 use Rattle.flat_machine.proofs.Pairs.{turned_else, turned_just, just_one, Any, equal_back}
 use Rattle.flat_machine.proofs.Passing.{Passes, passed, passed_on}
-use Rattle.array_model.specs.declared.hand.Hand.{Hand}
-use Rattle.array_model.specs.declared.hand.Hand.TheVariants.{Empty, Holds, Waits}
-use Rattle.array_model.specs.Changes.{passed_hands}
+use Rattle.slot_tables.specs.declared.hand.Hand.{Hand}
+use Rattle.slot_tables.specs.declared.hand.Hand.TheVariants.{Empty, Holds, Waits}
+use Rattle.slot_tables.specs.Changes.{passed_hands}
 use Rattle.array_parts.specs.Views.{PartsView}
-use Rattle.array_model.specs.Views.{ArrayView, WorldView, with_parts, hand_at, key_at}
-use Rattle.array_model.specs.Represents.{HandSlot, InTables, ShowsArray, Represents, is_claim, is_ticket}
-use Rattle.array_model.proofs.Newest.{newest_told}
-use Rattle.array_model.proofs.Hands.{one_hand}
-use Rattle.array_model.proofs.Slots.{worker_hand, ticket_hand, block_hand, one_slot, shows_after}
+use Rattle.slot_tables.specs.Views.{ArrayView, WorldView, with_parts, hand_at, key_at}
+use Rattle.slot_tables.specs.Represents.{HandSlot, InTables, ShowsArray, Represents, is_claim, is_ticket}
+use Rattle.slot_tables.proofs.Newest.{newest_told}
+use Rattle.slot_tables.proofs.Hands.{one_hand}
+use Rattle.slot_tables.proofs.Slots.{worker_hand, ticket_hand, block_hand, one_slot, shows_after}
 use Rattle.flat_machine.proofs.Holding.{step_holds, once_any}
 use Rattle.flat_machine.specs.History.{IsStep}
 use Rattle.slot_tables.proofs.Places.{set_twice}

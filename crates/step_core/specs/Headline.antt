@@ -14,8 +14,8 @@ use Rattle.flat_machine.specs.Flat.{Flat, Write, HeldOnce, Content, Stored, cont
 use Rattle.flat_machine.specs.Steps.{FlatStep, FlatAnswer}
 use Rattle.flat_machine.specs.Cases.{Case, IsWanted, Runs, NeverMissesTwo, TellsPresent}
 use Rattle.flat_machine.specs.Scanned.{IsScanned}
-use Rattle.array_model.specs.Views.{WorldView, SameSizes, key_at}
-use Rattle.array_model.specs.Represents.{Represents}
+use Rattle.slot_tables.specs.Views.{WorldView, SameSizes, key_at}
+use Rattle.slot_tables.specs.Represents.{Represents}
 use Rattle.step_core.specs.declared.step.Answer.{Answer}
 use Rattle.step_core.specs.declared.step.Step.{Step}
 use Rattle.step_core.specs.Told.{flat_answer, flat_step}

@@ -1,7 +1,7 @@
 pub mod Told
 pub mod Passed
 pub mod Headline
-pub use Rattle.slot_tables.specs.Adopted
+pub use Rattle.slot_tables.specs.Claims
 pub use Rattle.slot_tables.specs.declared.ready.NotAdopted
 pub use Rattle.disk_array.specs.Refused
 pub use Rattle.disk_array.specs.Laws
@@ -9,10 +9,10 @@ pub use Rattle.disk_array.specs.Reads
 pub use Rattle.disk_array.specs.Losing
 pub use Rattle.disk_array.specs.Claimed
 pub use Rattle.disk_array.specs.Shifting
-pub use Rattle.array_model.specs.Views
-pub use Rattle.array_model.specs.Represents
-pub use Rattle.array_model.specs.Changes
-pub use Rattle.array_model.specs.Making
+pub use Rattle.slot_tables.specs.Views
+pub use Rattle.slot_tables.specs.Represents
+pub use Rattle.slot_tables.specs.Changes
+pub use Rattle.slot_tables.specs.Making
 pub use Rattle.flat_machine.specs.Groups
 pub use Rattle.flat_machine.specs.Flat
 pub use Rattle.flat_machine.specs.Steps

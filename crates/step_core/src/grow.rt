@@ -3,8 +3,8 @@ ghost use Rattle.std.specs.Prelude.{◌≡◌, false, IfOk, OnErr};
 ghost use Rattle.flat_machine.specs.Cases.{Case, IsWanted};
 ghost use Rattle.flat_machine.specs.Flat.{Flat};
 ghost use Rattle.flat_machine.specs.Steps as say;
-ghost use Rattle.array_model.specs.Represents.{Represents};
-ghost use Rattle.array_model.specs.Views.{SameSizes};
+ghost use Rattle.slot_tables.specs.Represents.{Represents};
+ghost use Rattle.slot_tables.specs.Views.{SameSizes};
 ghost use Rattle.step_core.specs.Told.{flat_answer};
 
 use crate::step::Answer;

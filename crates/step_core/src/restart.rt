@@ -4,16 +4,15 @@ ghost use Rattle.map_join.specs.declared.records.Record.{Record};
 ghost use Rattle.map_join.specs.Maps.{at, IsMapOf, IsListOf};
 ghost use Rattle.flat_machine.specs.Flat.{Flat};
 ghost use Rattle.flat_machine.specs.Restarted.{HasPlaces, restarted};
-ghost use Rattle.array_model.specs.Views.{hand_at, SameSizes};
-ghost use Rattle.array_model.specs.Represents.{ShowsArray, Represents};
-ghost use Rattle.slot_tables.specs.Adopted.{IsIdle, WasRestarted};
+ghost use Rattle.slot_tables.specs.Views.{hand_at, SameSizes};
+ghost use Rattle.slot_tables.specs.Represents.{ShowsArray, Represents};
+ghost use Rattle.slot_tables.specs.Claims.{IsIdle, WasRestarted};
 
 use crate::world::World;
-use array_model::Hand;
 use disk_array::{Array, Hands};
 use extents::MemDrive;
 use map_join::BlockMap;
-use slot_tables::{NotAdopted, Plain};
+use slot_tables::{Hand, NotAdopted, Plain};
 use std::alloc::Global;
 
 impl World {

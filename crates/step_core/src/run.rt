@@ -4,8 +4,8 @@ ghost use Rattle.flat_machine.specs.Flat.{Flat, HeldOnce};
 ghost use Rattle.flat_machine.specs.Cases.{Case, IsWanted};
 ghost use Rattle.step_core.specs.Told.{flat_answer, flat_step, FitsStep};
 ghost use Rattle.step_core.specs.declared.step.Step.{Step};
-ghost use Rattle.array_model.specs.Views.{WorldView, SameSizes, IsWhole};
-ghost use Rattle.array_model.specs.Represents.{Represents};
+ghost use Rattle.slot_tables.specs.Views.{WorldView, SameSizes, IsWhole};
+ghost use Rattle.slot_tables.specs.Represents.{Represents};
 ghost use Rattle.step_core.specs.Headline.{Stands, TellingRun, StepsTo, OfEach, HasMaps, IsOneMissed, HasHeaders, ReadsLast, IsStop};
 
 use crate::step::{Answer, Step};

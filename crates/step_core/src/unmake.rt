@@ -3,9 +3,9 @@ ghost use Rattle.std.specs.Prelude.{◌≡◌, ℕ, ◌<◌, ◌≤◌, length, 
 ghost use Rattle.flat_machine.specs.Steps as say;
 ghost use Rattle.flat_machine.specs.Flat.{Flat};
 ghost use Rattle.flat_machine.specs.Cases.{Case, IsWanted};
-ghost use Rattle.array_model.specs.Represents.{Represents, is_claim};
-ghost use Rattle.array_model.specs.Views.{hand_at, SameSizes};
-ghost use Rattle.slot_tables.specs.Adopted.{how_many};
+ghost use Rattle.slot_tables.specs.Represents.{Represents, is_claim};
+ghost use Rattle.slot_tables.specs.Views.{hand_at, SameSizes};
+ghost use Rattle.slot_tables.specs.Claims.{how_many};
 ghost use Rattle.slot_tables.specs.Shut.{one_of, IsFirstNotHeld, emptied};
 ghost use Rattle.step_core.specs.Told.{flat_answer};
 

@@ -8,19 +8,18 @@ ghost use Rattle.flat_machine.specs.Steps as say;
 ghost use Rattle.flat_machine.specs.Flat.{Flat, Payload, Trim, new_flat};
 ghost use Rattle.flat_machine.specs.Cases.{Case, IsWanted};
 ghost use Rattle.flat_machine.specs.Moves.{with_fuse};
-ghost use Rattle.array_model.specs.Views.{kept_at, hand_at, has_no_holder, IsWhole, SameSizes, with_parts};
+ghost use Rattle.slot_tables.specs.Views.{kept_at, hand_at, has_no_holder, IsWhole, SameSizes, with_parts};
 ghost use Rattle.disk_array.specs.Losing.{WasFused};
-ghost use Rattle.array_model.specs.Represents.{Represents, is_claim};
+ghost use Rattle.slot_tables.specs.Represents.{Represents, is_claim};
 ghost use Rattle.step_core.specs.Passed.{given_old};
 ghost use Rattle.step_core.specs.Told.{flat_answer, read_answer};
 
 use crate::step::Answer;
-use array_model::Hand;
 use disk_array::{Array, Hands};
 use extents::{MemDrive, Shape};
 use flat_machine::{Class, Member, Refusal};
 use map_join::Record;
-use slot_tables::Plain;
+use slot_tables::{Hand, Plain};
 use std::alloc::{AllocError, Global};
 use std::marker::Model;
 
@@ -33,7 +32,7 @@ pub struct World {
 
 impl Model for World {
     ghost use Rattle.std.specs.Prelude.{◌≡◌, length};
-    ghost use Rattle.array_model.specs.Views.{WorldView};
+    ghost use Rattle.slot_tables.specs.Views.{WorldView};
 
     ghost Value = { WorldView };
 

@@ -1,8 +1,8 @@
 -- The claims of an array that was put together by a map.
 use Rattle.std.proofs.Common.{◌≡◌, ℕ, ◌<◌, List, refl, ◌∙◌, arith}
 use Rattle.map_join.specs.Record.{record_of}
-use Rattle.array_model.specs.Views.{Kept, Nothing, Pending, Moving, Newest, Unmade, ArrayView, kept_at}
-use Rattle.array_model.specs.Adopted.{IsPlaced}
+use Rattle.slot_tables.specs.Views.{Kept, Nothing, Pending, Moving, Newest, Unmade, ArrayView, kept_at}
+use Rattle.slot_tables.specs.Adopted.{IsPlaced}
 use Rattle.step_core.specs.Adopted.{how_many, claims_in, AreClaimsOf, AreOfPlaces}
 
 -- they are those of the map's places, one of each

@@ -4,8 +4,8 @@ ghost use Rattle.map_join.specs.Maps.{at};
 ghost use Rattle.flat_machine.specs.Restarted.{HasPlaces};
 ghost use Rattle.array_parts.specs.Fit.{IsFit};
 ghost use Rattle.array_parts.specs.Memory.{held_units};
-ghost use Rattle.array_model.specs.Adopted.{IsPlaced};
-ghost use Rattle.array_model.specs.Views.{kept_at};
+ghost use Rattle.slot_tables.specs.Adopted.{IsPlaced};
+ghost use Rattle.slot_tables.specs.Views.{kept_at};
 
 use crate::restarts::{is_as_written, written};
 use crate::rig::{Memory, Rig};

@@ -2,7 +2,7 @@
 ghost use Rattle.std.specs.Prelude.{◌≡◌, None};
 ghost use Rattle.array_parts.specs.Fit.{IsFit};
 ghost use Rattle.array_parts.specs.Memory.{held_lost, held_units};
-ghost use Rattle.array_model.specs.Represents.{ShowsArray};
+ghost use Rattle.slot_tables.specs.Represents.{ShowsArray};
 ghost use Rattle.flat_machine.specs.Flat.{Flat};
 ghost use Rattle.header_scan.specs.Restarts.{AreAllSound};
 ghost use Rattle.slot_words.specs.Places.{slots_of};

@@ -1,7 +1,7 @@
 // The life of a Book over an array of 16 blocks and payloads of 40 bytes: its tables, its workers, who play a story, and how it
 // is settled.
 ghost use Rattle.std.specs.Prelude.{◌≡◌};
-ghost use Rattle.array_model.specs.Represents.{ShowsArray};
+ghost use Rattle.slot_tables.specs.Represents.{ShowsArray};
 ghost use Rattle.flat_machine.specs.Flat.{Flat};
 ghost use Rattle.map_words.specs.Places.{blocks_of};
 ghost use Rattle.slot_words.specs.Places.{slots_of};

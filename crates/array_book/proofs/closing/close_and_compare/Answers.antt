@@ -1,6 +1,6 @@
 use Rattle.std.proofs.Common.{rules}
 use Rattle.map_join.specs.Maps.{at}
-use Rattle.array_model.specs.Views.{key_at}
+use Rattle.slot_tables.specs.Views.{key_at}
 use Rattle.array_book.proofs.Settles.{settled_ok, settled_err}
 use Rattle.array_book.proofs.closing.close_and_compare.Goals as goal
 

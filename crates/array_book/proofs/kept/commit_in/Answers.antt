@@ -3,8 +3,8 @@ use Rattle.map_join.specs.declared.records.Record.{Record}
 use Rattle.flat_machine.specs.Flat.{Flat}
 use Rattle.flat_machine.specs.Steps as say
 use Rattle.flat_machine.specs.Cases.{CommitCase, IsWanted}
-use Rattle.array_model.specs.Represents.{ShowsArray}
-use Rattle.array_model.specs.Views.{ArrayView}
+use Rattle.slot_tables.specs.Represents.{ShowsArray}
+use Rattle.slot_tables.specs.Views.{ArrayView}
 use Rattle.background.specs.Marking.{IsNoted}
 use Rattle.array_book.specs.Kept.{KeptView}
 use Rattle.array_book.proofs.Answering.{state_of, may_refused}

@@ -1,9 +1,9 @@
 use Rattle.std.proofs.Common.{◌≡◌, ℕ, refl, sym, ap, ◌∙◌, subst}
 use Rattle.extents.specs.declared.header.Kind.TheVariants as kind
 use Rattle.flat_machine.specs.Flat.{Worker, Trim, IsKept}
-use Rattle.array_model.specs.Represents.{ShowsArray}
-use Rattle.array_model.specs.Views.{ArrayView}
-use Rattle.array_model.proofs.OneMore.{shows_one_more, holds_one_more}
+use Rattle.slot_tables.specs.Represents.{ShowsArray}
+use Rattle.slot_tables.specs.Views.{ArrayView}
+use Rattle.slot_tables.proofs.OneMore.{shows_one_more, holds_one_more}
 use Rattle.step_core.specs.Claimed.{with_claim}
 use Rattle.array_book.specs.Kept.{KeptView}
 use Rattle.array_book.specs.Kept as book

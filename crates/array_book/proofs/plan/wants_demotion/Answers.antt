@@ -1,7 +1,7 @@
 use Rattle.std.proofs.Common.{◌≡◌, ℕ, ◌+◌, ◌<◌, Bool, cond, List, length, take, get_or, true, arith, rules}
 use Rattle.std.specs.Prelude.{count_by}
 use Rattle.std.proofs.lemmas.List.Sums.{count_by_more_yes, sum_by-take-le}
-use Rattle.array_model.specs.Views.{kept_at, is_kept}
+use Rattle.slot_tables.specs.Views.{kept_at, is_kept}
 use Rattle.array_book.proofs.plan.wants_demotion.Goals as goal
 
 -- one more is held than may be, among those up to this one and so among all

@@ -1,6 +1,6 @@
 use Rattle.std.proofs.Common.{◌≡◌, ◌+◌, length, take}
 use Rattle.std.specs.Prelude.{count_by}
-use Rattle.array_model.specs.Views.{kept_at, is_kept}
+use Rattle.slot_tables.specs.Views.{kept_at, is_kept}
 use Rattle.array_book.proofs.plan.wants_demotion.Given as goal
 
 -- what is left to spare

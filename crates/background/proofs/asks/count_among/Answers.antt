@@ -1,5 +1,5 @@
 use Rattle.std.proofs.Common.{◌+◌, subst, sym, arith}
-use Rattle.array_model.specs.Views.{key_at}
+use Rattle.slot_tables.specs.Views.{key_at}
 use Rattle.background.proofs.Counts.{IsCounted, counted_more, counted_skip, counted_all}
 use Rattle.background.proofs.asks.count_among.Goals as goal
 use Rattle.background.proofs.asks.count_among.Goals.{then-is_live, else-is_live}

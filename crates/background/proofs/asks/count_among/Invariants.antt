@@ -1,4 +1,4 @@
-use Rattle.array_model.specs.Views.{key_at}
+use Rattle.slot_tables.specs.Views.{key_at}
 use Rattle.background.proofs.Counts.{IsCounted}
 use Rattle.background.proofs.asks.count_among.Given as goal
 

@@ -1,5 +1,5 @@
 use Rattle.std.proofs.Common.{sym, subst, ◌∙◌, rules}
-use Rattle.array_model.specs.Represents.{ShowsArray}
+use Rattle.slot_tables.specs.Represents.{ShowsArray}
 use Rattle.background.proofs.Placings.{CommitsTo, commits_placed, commits_refused}
 use Rattle.background.proofs.place.commit_in.Goals as goal
 

@@ -1,4 +1,4 @@
-use Rattle.array_model.specs.Views.{key_at}
+use Rattle.slot_tables.specs.Views.{key_at}
 use Rattle.background.proofs.Counts.{kept_counts}
 use Rattle.background.proofs.planner.live_counts.Goals as goal
 

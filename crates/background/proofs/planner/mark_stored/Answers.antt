@@ -1,8 +1,8 @@
 use Rattle.std.proofs.Common.{◌+◌, length, refl, ap, sym, subst, ◌∙◌, arith}
 use Rattle.std.proofs.lemmas.List.{length-set}
 use Rattle.map_join.specs.Record.{record_at}
-use Rattle.array_model.specs.Views.{key_at}
-use Rattle.array_model.proofs.Newest.{block_inside}
+use Rattle.slot_tables.specs.Views.{key_at}
+use Rattle.slot_tables.proofs.Newest.{block_inside}
 use Rattle.migrator.specs.Slots.{class_at}
 use Rattle.background.specs.Marking.{AreMarkedBelow, is_mirrors}
 use Rattle.background.proofs.Marks.{below_none, below_more, below_all, mirrored_record}

@@ -1,5 +1,5 @@
 use Rattle.std.proofs.Common.{◌≡◌, length}
-use Rattle.array_model.specs.Views.{key_at}
+use Rattle.slot_tables.specs.Views.{key_at}
 use Rattle.background.specs.Marking.{AreMarkedBelow}
 use Rattle.background.proofs.planner.mark_stored.Given as goal
 

@@ -1,4 +1,4 @@
-use Rattle.array_model.proofs.OneMore.{shows_one_more, holds_one_more}
+use Rattle.slot_tables.proofs.OneMore.{shows_one_more, holds_one_more}
 use Rattle.disk_array.proofs.apart.claims_are_free.Goals as goal
 
 pub returns-clause-shows : goal.returns-clause-shows

@@ -1,6 +1,6 @@
 use Rattle.std.proofs.Common.{◌/◌, get_or, arith}
-use Rattle.array_model.specs.Views.{Nothing, Newest}
-use Rattle.array_model.proofs.Kepts.{waiting_kept}
+use Rattle.slot_tables.specs.Views.{Nothing, Newest}
+use Rattle.slot_tables.proofs.Kepts.{waiting_kept}
 use Rattle.slot_tables.specs.Kept.{kepts_of}
 use Rattle.slot_tables.proofs.Counts.{counted_few, counts_more, waiting_other}
 use Rattle.slot_tables.proofs.Places.{kept_before, kept_inside, set_twice}

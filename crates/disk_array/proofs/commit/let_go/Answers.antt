@@ -1,5 +1,5 @@
 use Rattle.std.proofs.Common.{◌≡◌, ◌<◌, ◌∙◌, true, length, get_or, sym, ap, rules}
-use Rattle.array_model.specs.Views.{Nothing, Newest}
+use Rattle.slot_tables.specs.Views.{Nothing, Newest}
 use Rattle.slot_tables.specs.Kept.{kepts_of}
 use Rattle.slot_tables.proofs.Places.{kept_inside}
 use Rattle.slot_tables.specs.Counted.{is_newest}

@@ -1,5 +1,5 @@
 use Rattle.std.proofs.Common.{◌≡◌, ◌∙◌, ◌+◌, ◌*◌, get_or, refl, sym, arith}
-use Rattle.array_model.specs.Views.{Nothing}
+use Rattle.slot_tables.specs.Views.{Nothing}
 use Rattle.slot_tables.specs.Kept.{kepts_of}
 use Rattle.slot_tables.specs.Counted.{newest_in}
 use Rattle.slot_tables.proofs.Counts.{below_none, more_below, newest_none, newest_one, no_more}

@@ -1,5 +1,5 @@
 use Rattle.std.proofs.Common.{refl}
-use Rattle.array_model.proofs.Makes.{made_more, lowest_is}
+use Rattle.slot_tables.proofs.Makes.{made_more, lowest_is}
 use Rattle.disk_array.proofs.make.lowest_free.Goals as goal
 
 pub returns-then-is_free-clause-some : goal.returns-then-is_free-clause-some

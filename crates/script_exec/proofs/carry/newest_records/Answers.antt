@@ -1,7 +1,7 @@
 use Rattle.std.proofs.Common.{◌≡◌, ◌+◌, ◌++◌, ◌∷◌, [], None, Some, sym, subst, arith, rules}
 use Rattle.map_join.specs.Record.{record_at}
-use Rattle.array_model.specs.Views.{key_at}
-use Rattle.array_model.proofs.Newest.{told_past}
+use Rattle.slot_tables.specs.Views.{key_at}
+use Rattle.slot_tables.proofs.Newest.{told_past}
 use Rattle.script_exec.proofs.Newest.{AreListed, none_more, one_more, all_listed}
 use Rattle.script_exec.proofs.carry.newest_records.Goals as goal
 use Rattle.script_exec.proofs.carry.newest_records.Goals.{in-Some+in_ok-push, in_default}

@@ -1,4 +1,4 @@
-use Rattle.array_model.specs.Views.{key_at}
+use Rattle.slot_tables.specs.Views.{key_at}
 use Rattle.script_exec.proofs.Newest.{AreListed}
 use Rattle.script_exec.proofs.carry.newest_records.Given as goal
 

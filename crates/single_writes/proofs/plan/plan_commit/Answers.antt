@@ -5,9 +5,9 @@ use Rattle.map_join.specs.declared.records.Record.{Record}
 use Rattle.map_join.specs.Record.{record_at}
 use Rattle.extents.specs.Header.{header_bytes}
 use Rattle.extents.specs.declared.header.Header.TheVariants.{Is}
-use Rattle.array_model.specs.Changes.{commit_reason, commit_record, kind_given}
-use Rattle.array_model.specs.Views.{key_at, kept_at}
-use Rattle.array_model.proofs.Committing.{commit_refused}
+use Rattle.slot_tables.specs.Changes.{commit_reason, commit_record, kind_given}
+use Rattle.slot_tables.specs.Views.{key_at, kept_at}
+use Rattle.slot_tables.proofs.Committing.{commit_refused}
 use Rattle.disk_array.specs.Laws.{only_more}
 use Rattle.disk_array.proofs.Ready.{length_again}
 use Rattle.single_writes.proofs.Committing.{commit_flat, commit_unread}

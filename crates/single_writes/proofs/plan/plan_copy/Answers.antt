@@ -3,8 +3,8 @@ use Rattle.std.specs.Vec.{with_items}
 use Rattle.std.proofs.lemmas.List.{with_items_is}
 use Rattle.flat_machine.specs.Flat.{Stored, content_in, waiting_unit}
 use Rattle.array_parts.specs.Shows.{IsUnit}
-use Rattle.array_model.specs.Changes.{copy_reason}
-use Rattle.array_model.proofs.Copies.{copy_refused}
+use Rattle.slot_tables.specs.Changes.{copy_reason}
+use Rattle.slot_tables.proofs.Copies.{copy_refused}
 use Rattle.disk_array.specs.Laws.{only_more}
 use Rattle.disk_array.proofs.Ready.{length_again}
 use Rattle.single_writes.proofs.Copying.{copy_flat, copy_unread}

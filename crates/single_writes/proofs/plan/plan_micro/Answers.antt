@@ -3,8 +3,8 @@ use Rattle.std.specs.Prelude.{MatchResult}
 use Rattle.flat_machine.specs.Cases.{Case, IsWanted}
 use Rattle.flat_machine.specs.Flat.{Flat, Payload}
 use Rattle.flat_machine.specs.Steps.{Fill, Filled, Refused}
-use Rattle.array_model.specs.Changes.{MayRefuse}
-use Rattle.array_model.specs.Represents.{ShowsArray}
+use Rattle.slot_tables.specs.Changes.{MayRefuse}
+use Rattle.slot_tables.specs.Represents.{ShowsArray}
 use Rattle.single_writes.specs.declared.intent.Intent.{Intent}
 use Rattle.single_writes.specs.Intents.{MayTake, IsTaken, slot_of, step_of}
 use Rattle.single_writes.specs.Lists.{IsStepList}

@@ -6,9 +6,9 @@ use Rattle.flat_machine.specs.Flat.{Flat, Trim, waiting_unit}
 use Rattle.flat_machine.specs.Steps.{Refused}
 use Rattle.array_parts.specs.Shows.{IsUnit}
 use Rattle.array_parts.proofs.Shows.{zero_unit}
-use Rattle.array_model.specs.Changes.{fill_reason, MayRefuse}
-use Rattle.array_model.specs.Represents.{ShowsArray}
-use Rattle.array_model.proofs.Fills.{fill_passes, fill_refused}
+use Rattle.slot_tables.specs.Changes.{fill_reason, MayRefuse}
+use Rattle.slot_tables.specs.Represents.{ShowsArray}
+use Rattle.slot_tables.proofs.Fills.{fill_passes, fill_refused}
 use Rattle.single_writes.proofs.Steps.{fill_flat, list_flat, run_flat}
 use Rattle.single_writes.proofs.plan.plan_trim.Goals as goal
 

@@ -1,7 +1,7 @@
 use Rattle.std.proofs.Common.{sym, ◌∙◌, ap, subst}
-use Rattle.array_model.specs.Views.{ArrayView, kept_at}
+use Rattle.slot_tables.specs.Views.{ArrayView, kept_at}
 use Rattle.header_scan.specs.Restarts.{IsResumeFault}
-use Rattle.slot_tables.specs.Adopted.{claims_in, how_many}
+use Rattle.slot_tables.specs.Claims.{claims_in, how_many}
 use Rattle.single_writes.proofs.Stopping.{stopped, cut_short, was_stopped}
 use Rattle.single_writes.proofs.stop.stop_after.Goals as goal
 

@@ -1,6 +1,6 @@
 use Rattle.std.proofs.Common.{◌≡◌, ℕ, ◌<◌, ◌≤◌, length, slice_index}
 use Rattle.map_join.specs.Maps.{at}
-use Rattle.slot_tables.specs.Adopted.{IsKey}
+use Rattle.slot_tables.specs.Claims.{IsKey}
 use Rattle.slot_tables.proofs.ready.keys_of.Given as goal
 
 abbrev pub invariant-loop-block : goal.invariant-loop-block

@@ -3,7 +3,7 @@ use Rattle.map_join.specs.declared.records.Record.{Record}
 use Rattle.map_join.specs.Maps.{at}
 use Rattle.extents.specs.declared.shape.TheConstants.{HEADER_BYTES}
 use Rattle.slot_tables.specs.Kept.{HavePlaces}
-use Rattle.slot_tables.specs.Adopted.{AreKeys, AreWanted, HasRoom, IsClaimed, IsLowestUnclaimed}
+use Rattle.slot_tables.specs.Claims.{AreKeys, AreWanted, HasRoom, IsClaimed, IsLowestUnclaimed}
 use Rattle.slot_tables.proofs.Adoptions.{all_keys, unclaimed}
 use Rattle.slot_tables.proofs.ready.prepare.Goals as goal
 

@@ -1,5 +1,5 @@
 use Rattle.std.proofs.Common.{take}
-use Rattle.slot_tables.specs.Adopted.{AreWanted}
+use Rattle.slot_tables.specs.Claims.{AreWanted}
 use Rattle.slot_tables.proofs.seats.blocks_by_slot.Given as goal
 
 abbrev pub invariant-loop-index : goal.invariant-loop-index

@@ -1,5 +1,5 @@
 use Rattle.std.proofs.Common.{ℕ, ◌<◌}
-use Rattle.slot_tables.specs.Adopted.{IsClaimed}
+use Rattle.slot_tables.specs.Claims.{IsClaimed}
 use Rattle.slot_tables.proofs.seats.first_unclaimed.Given as goal
 
 abbrev pub invariant-loop-slot : goal.invariant-loop-slot

@@ -1,5 +1,5 @@
 use Rattle.std.proofs.Common.{get_or, refl, sym, ◌∙◌, arith}
-use Rattle.array_model.specs.Views.{Nothing}
+use Rattle.slot_tables.specs.Views.{Nothing}
 use Rattle.slot_tables.specs.Kept.{kepts_of}
 use Rattle.slot_tables.proofs.Places.{kepts_many}
 use Rattle.slot_tables.proofs.Seated.{still_wanted, none_seated, seated_one, left_one, all_seated, seats_end}

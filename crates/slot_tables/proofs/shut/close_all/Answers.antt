@@ -1,6 +1,6 @@
 use Rattle.std.proofs.Common.{◌<◌, ◌++◌, ◌∷◌, [], length, sym, ◌∙◌, arith, subst, ap}
 use Rattle.std.proofs.Math.ListN.{set}
-use Rattle.array_model.specs.Views.{Unmade}
+use Rattle.slot_tables.specs.Views.{Unmade}
 use Rattle.slot_tables.specs.Kept.{kepts_of}
 use Rattle.slot_tables.proofs.Places.{kepts_longer}
 use Rattle.slot_tables.proofs.Shutting.{AreClosing, closing_inside, one_closed}

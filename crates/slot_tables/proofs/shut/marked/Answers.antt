@@ -1,6 +1,6 @@
 use Rattle.std.proofs.Common.{◌≡◌, ◌≤◌, take, arith, rules}
 use Rattle.std.proofs.lemmas.Bool.Decides.{nat_tests}
-use Rattle.slot_tables.specs.Adopted.{how_many}
+use Rattle.slot_tables.specs.Claims.{how_many}
 use Rattle.slot_tables.specs.Shut.{one_of}
 use Rattle.slot_tables.proofs.Shutting.{no_marks, a_stranger, none_of_other, none_of_past, one_marked}
 use Rattle.slot_tables.proofs.shut.marked.Goals as goal

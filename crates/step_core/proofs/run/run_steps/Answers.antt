@@ -1,8 +1,8 @@
 use Rattle.std.proofs.Common.{length, [], rules, subst, sym, ap, ◌∙◌, refl, take, map, inl, inr, Some}
 use Rattle.std.proofs.lemmas.Option.{slice_get-get_or}
 use Rattle.flat_machine.specs.Flat.{HeldOnce}
-use Rattle.array_model.specs.Views.{WorldView, IsWhole}
-use Rattle.array_model.specs.Represents.{Represents}
+use Rattle.slot_tables.specs.Views.{WorldView, IsWhole}
+use Rattle.slot_tables.specs.Represents.{Represents}
 use Rattle.step_core.specs.Headline.{TellingRun, StepsTo, OfEach, HasMaps, IsOneMissed, HasHeaders, ReadsLast, IsStop}
 use Rattle.step_core.specs.Told.{flat_step, flat_answer}
 use Rattle.step_core.proofs.Standing.{stands, has_headers}

@@ -3,8 +3,8 @@ use Rattle.flat_machine.specs.Flat.{Flat}
 use Rattle.step_core.proofs.Runnings.{StandingRun}
 use Rattle.step_core.specs.Headline.{StepsTo}
 use Rattle.step_core.specs.Told.{flat_answer, flat_step}
-use Rattle.array_model.specs.Represents.{Represents}
-use Rattle.array_model.specs.Views.{SameSizes}
+use Rattle.slot_tables.specs.Represents.{Represents}
+use Rattle.slot_tables.specs.Views.{SameSizes}
 use Rattle.step_core.proofs.run.run_steps.Given as goal
 
 abbrev pub invariant-loop-at : goal.invariant-loop-at

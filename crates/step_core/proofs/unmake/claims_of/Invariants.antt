@@ -1,5 +1,5 @@
 use Rattle.std.proofs.Common.{◌≡◌, ℕ, ◌≤◌, vec_len, vec_capacity}
-use Rattle.slot_tables.specs.Adopted.{how_many}
+use Rattle.slot_tables.specs.Claims.{how_many}
 use Rattle.slot_tables.specs.declared.hold.Plain.{Plain}
 use Rattle.slot_tables.specs.Shut.{one_of}
 use Rattle.step_core.proofs.unmake.claims_of.Given as goal

@@ -1,5 +1,5 @@
 use Rattle.std.proofs.Common.{◌≡◌, ℕ, length}
-use Rattle.array_model.specs.Views.{hand_at}
+use Rattle.slot_tables.specs.Views.{hand_at}
 use Rattle.slot_tables.specs.Shut.{emptied}
 use Rattle.step_core.proofs.unmake.empty_first.Given as goal
 

@@ -1,5 +1,5 @@
 use Rattle.std.proofs.Common.{◌≡◌}
-use Rattle.array_model.specs.Represents.{ShowsArray}
+use Rattle.slot_tables.specs.Represents.{ShowsArray}
 use Rattle.flat_machine.specs.Flat.{Flat}
 use Rattle.tests_book.proofs.rig.grouped.Given as goal
 

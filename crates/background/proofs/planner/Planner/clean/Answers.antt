@@ -1,5 +1,5 @@
 use Rattle.std.proofs.Common.{sym, subst}
-use Rattle.array_model.specs.Views.{key_at}
+use Rattle.slot_tables.specs.Views.{key_at}
 use Rattle.extent_groups.specs.Groups.{Groups}
 use Rattle.cleaner.specs.Counts.{AreLiveCounts}
 use Rattle.background.proofs.planner.Planner.clean.Goals as goal

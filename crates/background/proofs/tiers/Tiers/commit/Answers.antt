@@ -1,5 +1,5 @@
 use Rattle.std.proofs.Common.{subst, rules}
-use Rattle.array_model.specs.Views.{ArrayView}
+use Rattle.slot_tables.specs.Views.{ArrayView}
 use Rattle.background.proofs.Placings.{Commits}
 use Rattle.background.proofs.Standing.{Notes, commits, commits_none}
 use Rattle.background.proofs.tiers.Tiers.commit.Goals as goal

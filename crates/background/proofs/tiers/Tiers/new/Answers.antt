@@ -1,5 +1,5 @@
 use Rattle.std.proofs.Common.{ap, ◌∙◌, subst}
-use Rattle.array_model.specs.Views.{ArrayView, key_at}
+use Rattle.slot_tables.specs.Views.{ArrayView, key_at}
 use Rattle.migrator.specs.Ages.{by_number}
 use Rattle.background.specs.Marking.{AreMarked}
 use Rattle.background.proofs.Standing.{begins}

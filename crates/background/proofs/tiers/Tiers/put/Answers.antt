@@ -1,6 +1,6 @@
 use Rattle.std.proofs.Common.{sym, subst, rules}
-use Rattle.array_model.specs.Represents.{ShowsArray}
-use Rattle.array_model.specs.Views.{ArrayView}
+use Rattle.slot_tables.specs.Represents.{ShowsArray}
+use Rattle.slot_tables.specs.Views.{ArrayView}
 use Rattle.background.specs.Placing.{put_of}
 use Rattle.background.proofs.Standing.{Notes, Places, puts, puts_none, puts_stop}
 use Rattle.background.proofs.tiers.Tiers.put.Goals as goal

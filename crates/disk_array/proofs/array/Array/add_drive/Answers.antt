@@ -1,7 +1,7 @@
 use Rattle.std.proofs.Common.{◌<◌, length, sym, ◌∙◌, subst, arith}
-use Rattle.array_model.specs.Represents.{ShowsArray}
-use Rattle.array_model.specs.Views.{ArrayView}
-use Rattle.array_model.proofs.Regroups.{added_shows, add_case}
+use Rattle.slot_tables.specs.Represents.{ShowsArray}
+use Rattle.slot_tables.specs.Views.{ArrayView}
+use Rattle.slot_tables.proofs.Regroups.{added_shows, add_case}
 use Rattle.flat_machine.specs.Moves.{with_new_drive}
 use Rattle.disk_array.proofs.array.Array.add_drive.Goals as goal
 

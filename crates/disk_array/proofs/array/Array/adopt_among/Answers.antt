@@ -2,7 +2,7 @@ use Rattle.std.proofs.Common.{◌≤◌, length, vec_len, sym, arith}
 use Rattle.std.proofs.lemmas.List.{length-map}
 use Rattle.map_join.specs.Maps.{at}
 use Rattle.array_parts.specs.Views.{drive_view, view_of}
-use Rattle.array_model.proofs.Adopting.{adopted_shows}
+use Rattle.slot_tables.proofs.Adopting.{adopted_shows}
 use Rattle.disk_array.specs.Inside.{seen}
 use Rattle.slot_tables.proofs.Adoptions.{all_keys, wanted_inside}
 use Rattle.slot_tables.proofs.Places.{none_kept}

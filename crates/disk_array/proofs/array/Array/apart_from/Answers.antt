@@ -1,5 +1,5 @@
 use Rattle.std.proofs.Common.{rules}
-use Rattle.array_model.proofs.Kepts.{unkept}
+use Rattle.slot_tables.proofs.Kepts.{unkept}
 use Rattle.disk_array.proofs.array.Array.apart_from.Goals as goal
 
 pub returns-clause-flat : goal.returns-clause-flat

@@ -1,7 +1,7 @@
 use Rattle.std.proofs.Common.{subst, sym}
 use Rattle.map_join.specs.Live.{IsBlockAt}
-use Rattle.array_model.specs.Views.{key_at}
-use Rattle.array_model.proofs.Newest.{lies_at}
+use Rattle.slot_tables.specs.Views.{key_at}
+use Rattle.slot_tables.proofs.Newest.{lies_at}
 use Rattle.disk_array.proofs.array.Array.block_at.Goals as goal
 
 pub returns : goal.returns

@@ -1,7 +1,7 @@
 use Rattle.std.proofs.Common.{subst, sym, ◌∙◌, arith}
-use Rattle.array_model.specs.Changes.{IsClosed}
-use Rattle.array_model.specs.Views.{ArrayView}
-use Rattle.array_model.proofs.Unmaking.{unmade_whole}
+use Rattle.slot_tables.specs.Changes.{IsClosed}
+use Rattle.slot_tables.specs.Views.{ArrayView}
+use Rattle.slot_tables.proofs.Unmaking.{unmade_whole}
 use Rattle.array_parts.proofs.Views.{view_drives}
 use Rattle.array_parts.specs.Views.{view_of}
 use Rattle.disk_array.specs.Inside.{seen}

@@ -8,12 +8,12 @@ use Rattle.flat_machine.specs.Steps.{Commit, Committed, Refused}
 use Rattle.flat_machine.specs.Cases.{CommitCase, IsWanted}
 use Rattle.array_parts.specs.Slots.{IsSlot}
 use Rattle.array_parts.specs.Views.{view_of, FoundGone, WasCarried}
-use Rattle.array_model.specs.Changes.{commit_view, commit_record, commit_reason, kind_given}
-use Rattle.array_model.specs.Represents.{ShowsArray}
-use Rattle.array_model.specs.Views.{ArrayView, IsWhole, Nothing, is_waiting, kept_at, key_at, with_parts}
-use Rattle.array_model.proofs.Fills.{as_whole, as_shown}
-use Rattle.array_model.proofs.Commits.{commit_whole, old_found, passed_apart}
-use Rattle.array_model.proofs.Committing.{commit_case, commit_gone, commit_refused, commit_slot, commit_waits, commit_wants, commit_ok}
+use Rattle.slot_tables.specs.Changes.{commit_view, commit_record, commit_reason, kind_given}
+use Rattle.slot_tables.specs.Represents.{ShowsArray}
+use Rattle.slot_tables.specs.Views.{ArrayView, IsWhole, Nothing, is_waiting, kept_at, key_at, with_parts}
+use Rattle.slot_tables.proofs.Fills.{as_whole, as_shown}
+use Rattle.slot_tables.proofs.Commits.{commit_whole, old_found, passed_apart}
+use Rattle.slot_tables.proofs.Committing.{commit_case, commit_gone, commit_refused, commit_slot, commit_waits, commit_wants, commit_ok}
 use Rattle.disk_array.specs.Inside.{seen}
 use Rattle.disk_array.proofs.Ready.{as_many, either_way, Keeps, keeps, uncarried_keeps, carried_gone, still_whole, still_ready, as_refused}
 use Rattle.disk_array.proofs.array.Array.commit.Goals as goal

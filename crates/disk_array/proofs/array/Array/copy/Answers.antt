@@ -8,11 +8,11 @@ use Rattle.extent_groups.specs.Stores.{AreDrives}
 use Rattle.flat_machine.specs.Groups.{class_at}
 use Rattle.slot_tables.proofs.Placing.{placed_slot}
 use Rattle.array_parts.specs.Views.{drive_units, WasCopied}
-use Rattle.array_model.specs.Changes.{copy_view}
-use Rattle.array_model.specs.Views.{ArrayView, Moving, Nothing, kept_at, with_parts}
-use Rattle.array_model.proofs.Fills.{as_whole, as_shown}
-use Rattle.array_model.proofs.Finds.{read_slot}
-use Rattle.array_model.proofs.Copies.{CanCopy, can_copy, copy_slot, copy_case, copy_gone, copy_refused, copy_whole}
+use Rattle.slot_tables.specs.Changes.{copy_view}
+use Rattle.slot_tables.specs.Views.{ArrayView, Moving, Nothing, kept_at, with_parts}
+use Rattle.slot_tables.proofs.Fills.{as_whole, as_shown}
+use Rattle.slot_tables.proofs.Finds.{read_slot}
+use Rattle.slot_tables.proofs.Copies.{CanCopy, can_copy, copy_slot, copy_case, copy_gone, copy_refused, copy_whole}
 use Rattle.disk_array.specs.Inside.{seen}
 use Rattle.slot_tables.specs.Counted.{is_newest}
 use Rattle.disk_array.proofs.Ready.{slot_ready, as_refused}

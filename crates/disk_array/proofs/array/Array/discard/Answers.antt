@@ -1,11 +1,11 @@
 use Rattle.std.proofs.Common.{refl, rules, subst}
 use Rattle.flat_machine.specs.Steps.{Discarded}
 use Rattle.flat_machine.specs.Cases.{DiscardCase}
-use Rattle.array_model.specs.Changes.{discard_view}
-use Rattle.array_model.specs.Views.{IsWhole, Nothing}
-use Rattle.array_model.proofs.Fills.{as_whole, as_shown}
-use Rattle.array_model.proofs.Discards.{discard_case, discard_whole}
-use Rattle.array_model.proofs.Kepts.{ticket_held}
+use Rattle.slot_tables.specs.Changes.{discard_view}
+use Rattle.slot_tables.specs.Views.{IsWhole, Nothing}
+use Rattle.slot_tables.proofs.Fills.{as_whole, as_shown}
+use Rattle.slot_tables.proofs.Discards.{discard_case, discard_whole}
+use Rattle.slot_tables.proofs.Kepts.{ticket_held}
 use Rattle.disk_array.proofs.Ready.{slot_ready}
 use Rattle.disk_array.proofs.array.Array.discard.Goals as goal
 

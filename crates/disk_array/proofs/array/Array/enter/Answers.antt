@@ -4,11 +4,11 @@ use Rattle.extent_groups.specs.Stores.{unit_bytes}
 use Rattle.flat_machine.specs.Groups.{IsLowestFree}
 use Rattle.array_parts.proofs.Views.{view_drives}
 use Rattle.array_parts.specs.Views.{view_of}
-use Rattle.array_model.specs.Changes.{IsOpened, opened_view}
-use Rattle.array_model.specs.Making.{IsMakeReason}
-use Rattle.array_model.specs.Views.{ArrayView, Nothing}
-use Rattle.array_model.proofs.Fills.{as_whole}
-use Rattle.array_model.proofs.Makings.{entered_whole}
+use Rattle.slot_tables.specs.Changes.{IsOpened, opened_view}
+use Rattle.slot_tables.specs.Making.{IsMakeReason}
+use Rattle.slot_tables.specs.Views.{ArrayView, Nothing}
+use Rattle.slot_tables.proofs.Fills.{as_whole}
+use Rattle.slot_tables.proofs.Makings.{entered_whole}
 use Rattle.disk_array.specs.Inside.{seen}
 use Rattle.slot_tables.specs.Kept.{HavePlaces}
 use Rattle.slot_tables.specs.Kept.{kepts_of}

@@ -5,9 +5,9 @@ use Rattle.flat_machine.specs.Steps.{Filled, Refused}
 use Rattle.flat_machine.specs.Cases.{FillCase, FillPasses}
 use Rattle.extent_groups.specs.Stores.{AreDrives}
 use Rattle.array_parts.specs.Views.{drive_units}
-use Rattle.array_model.specs.Changes.{fill_view}
-use Rattle.array_model.specs.Views.{ArrayView, Pending, with_parts}
-use Rattle.array_model.proofs.Fills.{fill_slot, fill_case, fill_gone, fill_refused, fill_whole, as_whole, as_shown}
+use Rattle.slot_tables.specs.Changes.{fill_view}
+use Rattle.slot_tables.specs.Views.{ArrayView, Pending, with_parts}
+use Rattle.slot_tables.proofs.Fills.{fill_slot, fill_case, fill_gone, fill_refused, fill_whole, as_whole, as_shown}
 use Rattle.disk_array.specs.Inside.{seen}
 use Rattle.disk_array.proofs.Ready.{slot_ready, as_refused}
 use Rattle.disk_array.proofs.array.Array.fill.Goals as goal

@@ -1,6 +1,6 @@
 use Rattle.std.proofs.Common.{subst}
-use Rattle.array_model.specs.Views.{ArrayView}
-use Rattle.slot_tables.specs.Adopted.{AreClaimsOf}
+use Rattle.slot_tables.specs.Views.{ArrayView}
+use Rattle.slot_tables.specs.Claims.{AreClaimsOf}
 use Rattle.disk_array.proofs.Resting.{claims_rest}
 use Rattle.disk_array.proofs.array.Array.into_parts.Goals as goal
 

@@ -1,6 +1,6 @@
 use Rattle.std.proofs.Common.{sym, subst, IsTrue, ◌↔◌}
 use Rattle.flat_machine.specs.Flat.{IsKept}
-use Rattle.array_model.proofs.Kepts.{kept_iff}
+use Rattle.slot_tables.proofs.Kepts.{kept_iff}
 use Rattle.disk_array.proofs.array.Array.is_held.Goals as goal
 
 pub returns-clause-flat : goal.returns-clause-flat

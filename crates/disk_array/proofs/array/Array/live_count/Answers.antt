@@ -1,7 +1,7 @@
 use Rattle.std.proofs.Common.{◌≤◌, sym, subst, get_or}
 use Rattle.map_join.specs.Live.{IsLiveCount}
 use Rattle.extent_groups.specs.Groups.{group_at, slots_in}
-use Rattle.array_model.specs.Views.{ArrayView, key_at}
+use Rattle.slot_tables.specs.Views.{ArrayView, key_at}
 use Rattle.disk_array.specs.Inside.{seen}
 use Rattle.disk_array.proofs.Living.{live_counted}
 use Rattle.disk_array.proofs.array.Array.live_count.Goals as goal

@@ -1,8 +1,8 @@
 use Rattle.std.proofs.Common.{refl, rules, subst, Some, None}
 use Rattle.flat_machine.specs.declared.refusal.Refusal.TheVariants.{DriveLost}
-use Rattle.array_model.specs.Making.{IsPutReason, IsMakeReason}
-use Rattle.array_model.specs.Views.{ArrayView}
-use Rattle.array_model.proofs.Makes.{reason_as, make_told}
+use Rattle.slot_tables.specs.Making.{IsPutReason, IsMakeReason}
+use Rattle.slot_tables.specs.Views.{ArrayView}
+use Rattle.slot_tables.proofs.Makes.{reason_as, make_told}
 use Rattle.disk_array.specs.Inside.{seen}
 use Rattle.disk_array.proofs.array.Array.make_fault.Given as given
 use Rattle.disk_array.proofs.array.Array.make_fault.Goals as goal

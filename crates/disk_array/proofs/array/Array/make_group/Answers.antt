@@ -6,10 +6,10 @@ use Rattle.flat_machine.specs.declared.refusal.Refusal.TheVariants.{Memory}
 use Rattle.flat_machine.specs.Steps.{MadeGroup}
 use Rattle.flat_machine.specs.Cases.{MakeCase}
 use Rattle.array_parts.specs.Views.{Entered, FoundLost}
-use Rattle.array_model.specs.Making.{IsMakeReason}
-use Rattle.array_model.specs.Views.{ArrayView}
-use Rattle.array_model.proofs.Fills.{as_shown}
-use Rattle.array_model.proofs.Makings.{make_refused, make_full, make_case, make_passes}
+use Rattle.slot_tables.specs.Making.{IsMakeReason}
+use Rattle.slot_tables.specs.Views.{ArrayView}
+use Rattle.slot_tables.proofs.Fills.{as_shown}
+use Rattle.slot_tables.proofs.Makings.{make_refused, make_full, make_case, make_passes}
 use Rattle.disk_array.proofs.Entering.{not_made}
 use Rattle.disk_array.proofs.array.Array.make_group.Goals as goal
 

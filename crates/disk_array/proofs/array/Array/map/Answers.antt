@@ -1,7 +1,7 @@
 use Rattle.std.proofs.Common.{rules, subst}
-use Rattle.array_model.specs.Views.{IsWhole}
+use Rattle.slot_tables.specs.Views.{IsWhole}
 use Rattle.flat_machine.proofs.Newest.{map_as}
-use Rattle.array_model.proofs.Newest.{map_whole}
+use Rattle.slot_tables.proofs.Newest.{map_whole}
 use Rattle.disk_array.proofs.array.Array.map.Goals as goal
 
 pub loop-block-init : goal.loop-block-init

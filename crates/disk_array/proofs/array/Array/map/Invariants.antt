@@ -1,6 +1,6 @@
 use Rattle.std.proofs.Common.{◌≡◌, ℕ, ◌<◌, ◌≤◌}
 use Rattle.map_join.specs.Maps.{at}
-use Rattle.array_model.specs.Views.{key_at}
+use Rattle.slot_tables.specs.Views.{key_at}
 use Rattle.disk_array.proofs.array.Array.map.Given as goal
 
 abbrev pub invariant-loop-block : goal.invariant-loop-block

@@ -1,7 +1,7 @@
 use Rattle.std.proofs.Common.{◌≡◌, false, length, subst, rules}
 use Rattle.array_parts.specs.Views.{lost_of}
 use Rattle.flat_machine.specs.Moves.{IsMoveReason}
-use Rattle.array_model.proofs.Regroups.{move_refused}
+use Rattle.slot_tables.proofs.Regroups.{move_refused}
 use Rattle.disk_array.proofs.Regrouping.{move_told}
 use Rattle.disk_array.proofs.array.Array.move_extent.Goals as goal
 

@@ -4,9 +4,9 @@ use Rattle.extent_groups.specs.declared.class.Member.{Member}
 use Rattle.extent_groups.specs.Faults.{swap_check_of}
 use Rattle.extent_groups.specs.Groups.{members_of}
 use Rattle.flat_machine.specs.Moves.{IsMoveReason}
-use Rattle.array_model.specs.Making.{told_of}
-use Rattle.array_model.specs.Views.{ArrayView, IsWhole}
-use Rattle.array_model.proofs.MoveReasons.{swap_reason, some_member}
+use Rattle.slot_tables.specs.Making.{told_of}
+use Rattle.slot_tables.specs.Views.{ArrayView, IsWhole}
+use Rattle.slot_tables.proofs.MoveReasons.{swap_reason, some_member}
 use Rattle.disk_array.proofs.array.Array.move_fault.Goals as goal
 
 pub returns-clause-reason : goal.returns-clause-reason

@@ -1,6 +1,6 @@
 use Rattle.std.proofs.Common.{sym, subst}
 use Rattle.flat_machine.specs.Flat.{IsNewest}
-use Rattle.array_model.proofs.Newest.{newest_told}
+use Rattle.slot_tables.proofs.Newest.{newest_told}
 use Rattle.disk_array.proofs.array.Array.newest.Goals as goal
 
 pub returns-clause-flat : goal.returns-clause-flat

@@ -14,7 +14,7 @@ use Rattle.array_parts.specs.Slots.{TellsGone}
 use Rattle.array_parts.specs.Views.{DriveView, PartsView, view_of, drive_view, FoundGone, Loses}
 use Rattle.array_parts.proofs.Calls.{loses_view, found_gone}
 use Rattle.array_parts.proofs.Views.{view_cells, view_lost}
-use Rattle.array_model.specs.Views.{ArrayView, with_parts}
+use Rattle.slot_tables.specs.Views.{ArrayView, with_parts}
 use Rattle.disk_array.specs.Inside.{seen}
 use Rattle.disk_array.proofs.Ready.{loses_keeps, still_whole, parts_ready}
 use Rattle.disk_array.proofs.array.Array.plan.Goals as goal

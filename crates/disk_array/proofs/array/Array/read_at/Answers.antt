@@ -3,9 +3,9 @@ use Rattle.extents.specs.declared.header.Kind.TheVariants as kind
 use Rattle.flat_machine.specs.Flat.{Trim}
 use Rattle.flat_machine.specs.Steps.{Data, Stale}
 use Rattle.flat_machine.specs.Cases.{IsBehind}
-use Rattle.array_model.specs.Reads.{WasSeen}
-use Rattle.array_model.proofs.Newest.{newest_is}
-use Rattle.array_model.proofs.Seeing.{ahead_case, seen_case, unseen_case}
+use Rattle.slot_tables.specs.Reads.{WasSeen}
+use Rattle.slot_tables.proofs.Newest.{newest_is}
+use Rattle.slot_tables.proofs.Seeing.{ahead_case, seen_case, unseen_case}
 use Rattle.disk_array.proofs.Learnings.{data_seen}
 use Rattle.disk_array.proofs.array.Array.read_at.Goals as goal
 

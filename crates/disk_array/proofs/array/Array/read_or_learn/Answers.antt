@@ -6,9 +6,9 @@ use Rattle.flat_machine.specs.Steps.{Stale}
 use Rattle.flat_machine.specs.Cases.{IsBehind}
 use Rattle.flat_machine.specs.Learning.{LearnedCase}
 use Rattle.array_parts.specs.Views.{WasRead}
-use Rattle.array_model.specs.Reads.{WasSeen}
-use Rattle.array_model.specs.Represents.{ShowsArray}
-use Rattle.array_model.proofs.Newest.{newest_is}
+use Rattle.slot_tables.specs.Reads.{WasSeen}
+use Rattle.slot_tables.specs.Represents.{ShowsArray}
+use Rattle.slot_tables.proofs.Newest.{newest_is}
 use Rattle.disk_array.specs.Reads.{Lesson}
 use Rattle.disk_array.proofs.Learnings.{data_seen, learned_here, learned_there, unlearned_ahead, unlearned_here, unlearned_there, unlearned_refused}
 use Rattle.disk_array.proofs.array.Array.read_or_learn.Goals as goal

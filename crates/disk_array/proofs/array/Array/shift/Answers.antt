@@ -4,8 +4,8 @@ use Rattle.extent_groups.specs.Stores.{unit_bytes}
 use Rattle.flat_machine.specs.Moves.{IsMoveReason}
 use Rattle.array_parts.proofs.Views.{view_drives}
 use Rattle.array_parts.specs.Views.{view_of}
-use Rattle.array_model.specs.Views.{ArrayView, IsWhole}
-use Rattle.array_model.proofs.Regroups.{moved_whole}
+use Rattle.slot_tables.specs.Views.{ArrayView, IsWhole}
+use Rattle.slot_tables.proofs.Regroups.{moved_whole}
 use Rattle.disk_array.specs.Inside.{seen}
 use Rattle.slot_tables.specs.Kept.{HavePlaces}
 use Rattle.slot_tables.proofs.Placing.{made_of_member, placed_with}

@@ -7,7 +7,7 @@ use Rattle.array_parts.specs.Slots.{cells_in, TellsGone}
 use Rattle.array_parts.specs.Views.{view_of, cells_of, Loses}
 use Rattle.array_parts.proofs.Calls.{loses_view}
 use Rattle.array_parts.proofs.Views.{view_cells}
-use Rattle.array_model.specs.Views.{ArrayView, with_parts}
+use Rattle.slot_tables.specs.Views.{ArrayView, with_parts}
 use Rattle.disk_array.specs.Inside.{seen}
 use Rattle.disk_array.proofs.Ready.{loses_keeps, still_whole, scratch_ready}
 use Rattle.disk_array.proofs.array.Array.unit_at.Goals as goal

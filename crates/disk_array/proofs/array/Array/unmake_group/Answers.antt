@@ -1,7 +1,7 @@
 use Rattle.std.proofs.Common.{rules}
 use Rattle.flat_machine.specs.Steps.{UnmadeGroup}
 use Rattle.flat_machine.specs.Cases.{UnmakeCase}
-use Rattle.array_model.proofs.Fills.{as_shown}
+use Rattle.slot_tables.proofs.Fills.{as_shown}
 use Rattle.disk_array.proofs.Closing.{unmake_refused, unmake_done}
 use Rattle.disk_array.proofs.array.Array.unmake_group.Goals as goal
 

@@ -1,8 +1,8 @@
 use Rattle.std.proofs.Common.{◌≡◌, rules, subst, ap}
 use Rattle.flat_machine.specs.Moves.{with_fuse}
 use Rattle.array_parts.specs.Views.{PartsView}
-use Rattle.array_model.specs.Views.{ArrayView}
-use Rattle.array_model.specs.Represents.{ShowsArray}
+use Rattle.slot_tables.specs.Views.{ArrayView}
+use Rattle.slot_tables.specs.Represents.{ShowsArray}
 use Rattle.disk_array.specs.Losing.{WasFused}
 use Rattle.disk_array.proofs.Losings.{was_fused, fuse_array, still_stands, held_parts}
 use Rattle.disk_array.proofs.memory.Array+MemDrive+C.fuse.Goals as goal

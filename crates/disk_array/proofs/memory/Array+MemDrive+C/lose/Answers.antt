@@ -1,6 +1,6 @@
 use Rattle.std.proofs.Common.{◌≡◌, subst, ap}
 use Rattle.array_parts.specs.Views.{PartsView}
-use Rattle.array_model.specs.Views.{ArrayView}
+use Rattle.slot_tables.specs.Views.{ArrayView}
 use Rattle.disk_array.specs.Losing.{WasLost}
 use Rattle.disk_array.proofs.Losings.{was_lost, still_stands, held_parts}
 use Rattle.disk_array.proofs.memory.Array+MemDrive+C.lose.Goals as goal

@@ -1,8 +1,8 @@
 use Rattle.std.proofs.Common.{rules}
-use Rattle.array_model.specs.declared.hand.Hand.TheVariants.{Holds}
+use Rattle.slot_tables.specs.declared.hand.Hand.TheVariants.{Holds}
 use Rattle.flat_machine.specs.Steps.{Claimed}
 use Rattle.flat_machine.specs.Cases.{ClaimCase}
-use Rattle.array_model.proofs.Hands.{claim_case, taken_case, with_hand, as_world}
+use Rattle.slot_tables.proofs.Hands.{claim_case, taken_case, with_hand, as_world}
 use Rattle.step_core.proofs.world.World.claim.Goals as goal
 
 pub returns-then-is_free-clause-flat : goal.returns-then-is_free-clause-flat

@@ -3,11 +3,11 @@ use Rattle.map_join.specs.Record.{record_at}
 use Rattle.flat_machine.specs.Flat.{Flat, Ticket}
 use Rattle.flat_machine.specs.Steps.{Commit, Committed, Refused}
 use Rattle.flat_machine.specs.Cases.{CommitCase, IsWanted}
-use Rattle.array_model.specs.Changes.{passed_hands, MayRefuse}
-use Rattle.array_model.specs.Views.{ArrayView, WorldView, hand_at, key_at}
-use Rattle.array_model.specs.Represents.{ShowsArray, is_ticket}
-use Rattle.array_model.proofs.Hands.{as_world}
-use Rattle.array_model.specs.declared.hand.Hand.{Hand}
+use Rattle.slot_tables.specs.Changes.{passed_hands, MayRefuse}
+use Rattle.slot_tables.specs.Views.{ArrayView, WorldView, hand_at, key_at}
+use Rattle.slot_tables.specs.Represents.{ShowsArray, is_ticket}
+use Rattle.slot_tables.proofs.Hands.{as_world}
+use Rattle.slot_tables.specs.declared.hand.Hand.{Hand}
 use Rattle.disk_array.specs.Refused.{IsRefused}
 use Rattle.step_core.proofs.Worlds.{block_there, hands_passed, hands_back, commit_world, commit_as}
 use Rattle.step_core.proofs.Refusals.{was_refused, refused_same, refused_sizes}

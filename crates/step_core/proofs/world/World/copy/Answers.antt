@@ -1,12 +1,12 @@
 use Rattle.std.proofs.Common.{refl, List, rules, subst, sym, ap, ◌≡◌, ◌∙◌, true}
 use Rattle.std.proofs.Math.ListN.{set}
-use Rattle.array_model.specs.declared.hand.Hand.{Hand}
-use Rattle.array_model.specs.declared.hand.Hand.TheVariants.{Waits}
+use Rattle.slot_tables.specs.declared.hand.Hand.{Hand}
+use Rattle.slot_tables.specs.declared.hand.Hand.TheVariants.{Waits}
 use Rattle.flat_machine.specs.Steps.{Copy, Copied}
 use Rattle.flat_machine.specs.Cases.{CopyCase}
-use Rattle.array_model.specs.Views.{ArrayView, WorldView, hand_at}
-use Rattle.array_model.specs.Represents.{ShowsArray, is_claim}
-use Rattle.array_model.proofs.Hands.{as_world}
+use Rattle.slot_tables.specs.Views.{ArrayView, WorldView, hand_at}
+use Rattle.slot_tables.specs.Represents.{ShowsArray, is_claim}
+use Rattle.slot_tables.proofs.Hands.{as_world}
 use Rattle.step_core.proofs.Worlds.{block_there, hands_kept, copy_world}
 use Rattle.step_core.proofs.Refusals.{array_refused, refused_same, refused_sizes}
 use Rattle.step_core.proofs.world.World.copy.Goals as goal

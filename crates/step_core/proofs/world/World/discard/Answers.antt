@@ -1,13 +1,13 @@
 use Rattle.std.proofs.Common.{List, rules, subst, sym, ap, ◌≡◌, ◌∙◌, true}
 use Rattle.std.proofs.Math.ListN.{set}
-use Rattle.array_model.specs.declared.hand.Hand.{Hand}
-use Rattle.array_model.specs.declared.hand.Hand.TheVariants.{Holds}
+use Rattle.slot_tables.specs.declared.hand.Hand.{Hand}
+use Rattle.slot_tables.specs.declared.hand.Hand.TheVariants.{Holds}
 use Rattle.flat_machine.specs.Flat.{Ticket}
 use Rattle.flat_machine.specs.Steps.{Discarded}
 use Rattle.flat_machine.specs.Cases.{DiscardCase}
-use Rattle.array_model.specs.Views.{ArrayView, WorldView, hand_at}
-use Rattle.array_model.specs.Represents.{ShowsArray, is_ticket}
-use Rattle.array_model.proofs.Hands.{as_world}
+use Rattle.slot_tables.specs.Views.{ArrayView, WorldView, hand_at}
+use Rattle.slot_tables.specs.Represents.{ShowsArray, is_ticket}
+use Rattle.slot_tables.proofs.Hands.{as_world}
 use Rattle.step_core.proofs.Worlds.{hands_held, discard_world}
 use Rattle.step_core.proofs.world.World.discard.Goals as goal
 

@@ -1,13 +1,13 @@
 use Rattle.flat_machine.specs.Flat.{Payload}
 use Rattle.std.proofs.Common.{refl, List, rules, subst, sym, ap, ◌≡◌, ◌∙◌, true}
 use Rattle.std.proofs.Math.ListN.{set}
-use Rattle.array_model.specs.declared.hand.Hand.{Hand}
-use Rattle.array_model.specs.declared.hand.Hand.TheVariants.{Waits}
+use Rattle.slot_tables.specs.declared.hand.Hand.{Hand}
+use Rattle.slot_tables.specs.declared.hand.Hand.TheVariants.{Waits}
 use Rattle.flat_machine.specs.Steps.{Fill, Filled}
 use Rattle.flat_machine.specs.Cases.{FillCase}
-use Rattle.array_model.specs.Views.{ArrayView, WorldView, hand_at}
-use Rattle.array_model.specs.Represents.{ShowsArray, is_claim}
-use Rattle.array_model.proofs.Hands.{as_world}
+use Rattle.slot_tables.specs.Views.{ArrayView, WorldView, hand_at}
+use Rattle.slot_tables.specs.Represents.{ShowsArray, is_claim}
+use Rattle.slot_tables.proofs.Hands.{as_world}
 use Rattle.step_core.proofs.Worlds.{hands_kept, fill_world}
 use Rattle.step_core.proofs.Refusals.{array_refused, refused_same, refused_sizes}
 use Rattle.step_core.proofs.world.World.fill.Goals as goal

@@ -1,6 +1,6 @@
 use Rattle.std.proofs.Common.{◌≡◌, ℕ, true}
-use Rattle.array_model.specs.Represents.{is_claim}
-use Rattle.array_model.specs.Views.{hand_at}
+use Rattle.slot_tables.specs.Represents.{is_claim}
+use Rattle.slot_tables.specs.Views.{hand_at}
 use Rattle.slot_tables.proofs.Shutting.{is_first}
 use Rattle.step_core.proofs.world.World.first_not_held.Given as goal
 

@@ -1,7 +1,7 @@
 use Rattle.std.proofs.Common.{◌≡◌, rules, sym, ap, subst}
 use Rattle.flat_machine.specs.Moves.{with_fuse}
-use Rattle.array_model.specs.Views.{ArrayView, WorldView}
-use Rattle.array_model.specs.Represents.{Represents, ShowsArray}
+use Rattle.slot_tables.specs.Views.{ArrayView, WorldView}
+use Rattle.slot_tables.specs.Represents.{Represents, ShowsArray}
 use Rattle.step_core.proofs.Worlds.{fuse_world}
 use Rattle.step_core.proofs.world.World.fuse.Goals as goal
 

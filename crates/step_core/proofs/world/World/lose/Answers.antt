@@ -1,8 +1,8 @@
 use Rattle.std.proofs.Common.{◌≡◌, ◌<◌, length, rules, ap, subst}
 use Rattle.flat_machine.specs.Steps.{LostDrive}
 use Rattle.flat_machine.specs.Cases.{LoseCase}
-use Rattle.array_model.specs.Views.{ArrayView, WorldView, with_parts}
-use Rattle.array_model.proofs.Hands.{as_world}
+use Rattle.slot_tables.specs.Views.{ArrayView, WorldView, with_parts}
+use Rattle.slot_tables.proofs.Hands.{as_world}
 use Rattle.disk_array.specs.Losing.{WasLost}
 use Rattle.step_core.proofs.Worlds.{lose_world}
 use Rattle.step_core.proofs.world.World.lose.Goals as goal

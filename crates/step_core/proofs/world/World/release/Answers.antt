@@ -1,8 +1,8 @@
 use Rattle.std.proofs.Common.{rules}
-use Rattle.array_model.specs.declared.hand.Hand.TheVariants.{Empty}
+use Rattle.slot_tables.specs.declared.hand.Hand.TheVariants.{Empty}
 use Rattle.flat_machine.specs.Steps.{Released}
 use Rattle.flat_machine.specs.Cases.{ReleaseCase}
-use Rattle.array_model.proofs.Hands.{release_case, with_hand, as_world}
+use Rattle.slot_tables.proofs.Hands.{release_case, with_hand, as_world}
 use Rattle.step_core.proofs.world.World.release.Goals as goal
 
 pub returns-then-holds-clause-flat : goal.returns-then-holds-clause-flat

@@ -1,9 +1,9 @@
 use Rattle.std.proofs.Common.{sym, subst}
 use Rattle.map_join.specs.Maps.{at}
 use Rattle.array_parts.specs.Views.{PartsView}
-use Rattle.array_model.specs.Adopted.{HasParts}
-use Rattle.array_model.specs.Views.{WorldView}
-use Rattle.array_model.specs.Represents.{ShowsArray}
+use Rattle.slot_tables.specs.Adopted.{HasParts}
+use Rattle.slot_tables.specs.Views.{WorldView}
+use Rattle.slot_tables.specs.Represents.{ShowsArray}
 use Rattle.step_core.proofs.Restarting.{has_parts, none_unclaimed, tells_map, world_restarted}
 use Rattle.step_core.proofs.world.World.restarted.Goals as goal
 

@@ -1,9 +1,9 @@
 use Rattle.std.proofs.Common.{◌≡◌, ◌≢◌, ◌<◌, ◌∙◌, ℕ, true, ap, subst, sym, rules, None}
 use Rattle.extent_groups.specs.Groups.{group_at}
-use Rattle.array_model.specs.Represents.{ShowsArray, is_claim}
-use Rattle.array_model.specs.Views.{WorldView, hand_at}
-use Rattle.array_model.proofs.Fares.{itself}
-use Rattle.slot_tables.specs.Adopted.{how_many}
+use Rattle.slot_tables.specs.Represents.{ShowsArray, is_claim}
+use Rattle.slot_tables.specs.Views.{WorldView, hand_at}
+use Rattle.slot_tables.proofs.Fares.{itself}
+use Rattle.slot_tables.specs.Claims.{how_many}
 use Rattle.slot_tables.specs.Shut.{one_of, count_in, IsFirstNotHeld, emptied}
 use Rattle.slot_tables.specs.declared.hold.Plain.{Plain}
 use Rattle.disk_array.proofs.Closing.{on_err, unmake_wants, first_stray, workers_of, unmake_world}

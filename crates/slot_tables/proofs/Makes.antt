@@ -15,8 +15,8 @@ use Rattle.flat_machine.specs.Groups.{AreMembers, AreApart, AreUnowned, IsLowest
 use Rattle.flat_machine.proofs.Pairs.{equal_back}
 use Rattle.flat_machine.specs.declared.refusal.Refusal.{Refusal}
 use Rattle.flat_machine.specs.declared.refusal.Refusal.TheVariants.{SameDrive, ExtentTaken}
-use Rattle.array_model.specs.Making.{told_of, IsPutReason, IsMakeReason}
-use Rattle.array_model.specs.Views.{ArrayView, IsWhole}
+use Rattle.slot_tables.specs.Making.{told_of, IsPutReason, IsMakeReason}
+use Rattle.slot_tables.specs.Views.{ArrayView, IsWhole}
 
 -- an element that passes a test
 any_true : {X : Type 0} (p : X → Bool) (xs : List X) → list_any p xs ≡ true → (k : ℕ) × (x : X) × (slice_get xs k ≡ Some x) × (p x ≡ true)

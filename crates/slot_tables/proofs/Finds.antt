@@ -8,9 +8,9 @@ use Rattle.flat_machine.specs.Cases.{found_in, found_of}
 use Rattle.flat_machine.proofs.Newest.{told_at, untold_at, told_key}
 use Rattle.array_parts.specs.Slots.{IsSlot}
 use Rattle.flat_machine.specs.Groups.{class_at}
-use Rattle.array_model.proofs.Wholes.{slot_of_class}
-use Rattle.array_model.specs.Views.{Nothing, Newest, Unmade, ArrayView, kept_at, key_at, IsWhole}
-use Rattle.array_model.specs.Represents.{ShowsArray}
+use Rattle.slot_tables.proofs.Wholes.{slot_of_class}
+use Rattle.slot_tables.specs.Views.{Nothing, Newest, Unmade, ArrayView, kept_at, key_at, IsWhole}
+use Rattle.slot_tables.specs.Represents.{ShowsArray}
 
 sizes : (k : ℕ) → (k < 2 ^ 32) ⊎ (2 ^ 32 ≤ k)
 sizes k = grind arith

@@ -7,8 +7,8 @@ use Rattle.extent_groups.specs.Groups.{Agree, group_at}
 use Rattle.extent_groups.specs.Stores.{AreDrives}
 use Rattle.array_parts.specs.Views.{PartsView, drive_units}
 use Rattle.flat_machine.specs.Groups.{IsEmpty, GroupsStand, class_at}
-use Rattle.array_model.specs.declared.hand.Hand.{Hand}
-use Rattle.array_model.specs.declared.hand.Hand.TheVariants.{Empty, Holds, Waits}
+use Rattle.slot_tables.specs.declared.hand.Hand.{Hand}
+use Rattle.slot_tables.specs.declared.hand.Hand.TheVariants.{Empty, Holds, Waits}
 
 -- what the array itself keeps of a slot: nothing, the claim of a ticket with a fresh content of a kind or with a copy of a
 -- record's content and its kind, the claim of a block's newest place, or that of a slot of a dissolved group

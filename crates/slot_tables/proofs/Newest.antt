@@ -6,8 +6,8 @@ use Rattle.map_join.specs.Live.{IsLive, IsBlockAt}
 use Rattle.map_join.specs.Maps.{IsSame}
 use Rattle.flat_machine.specs.Flat.{Flat, IsNewest}
 use Rattle.flat_machine.proofs.Newest as flat
-use Rattle.array_model.specs.Views.{Kept, Nothing, Pending, Moving, Newest, Unmade, ArrayView, block_in, kept_at, key_at, IsRoomy, IsWhole}
-use Rattle.array_model.specs.Represents.{ShowsArray}
+use Rattle.slot_tables.specs.Views.{Kept, Nothing, Pending, Moving, Newest, Unmade, ArrayView, block_in, kept_at, key_at, IsRoomy, IsWhole}
+use Rattle.slot_tables.specs.Represents.{ShowsArray}
 
 -- the block's key is that of its newest record
 pub newest_told : (a : ArrayView) (F : Flat) (block : ℕ) → ShowsArray a F → IsNewest F.emitted block (record_at block (key_at a block))

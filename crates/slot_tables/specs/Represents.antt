@@ -3,9 +3,9 @@ use Rattle.std.specs.Prelude.{◌≡◌, ℕ, length, ◌==◌, ◌/◌, Bool, f
 use Rattle.flat_machine.specs.Flat.{Flat, Content, Holder, Worker, Ticket, Block, Shut, Waiting, Fresh, Moved, kind_of}
 use Rattle.array_parts.specs.Views.{Shows, lost_of, failed_of}
 use Rattle.flat_machine.specs.History.{IsHistory, AreHeld}
-use Rattle.array_model.specs.declared.hand.Hand.{Hand}
-use Rattle.array_model.specs.declared.hand.Hand.TheVariants.{Holds, Waits}
-use Rattle.array_model.specs.Views.{Kept, Unmade, Pending, Moving, Newest, ArrayView, WorldView, kept_at, hand_at, key_at}
+use Rattle.slot_tables.specs.declared.hand.Hand.{Hand}
+use Rattle.slot_tables.specs.declared.hand.Hand.TheVariants.{Holds, Waits}
+use Rattle.slot_tables.specs.Views.{Kept, Unmade, Pending, Moving, Newest, ArrayView, WorldView, kept_at, hand_at, key_at}
 
 -- the slot is the newest place of the block
 abbrev pub is_newest : Kept → ℕ → Bool

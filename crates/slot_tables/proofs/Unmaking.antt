@@ -19,12 +19,12 @@ use Rattle.flat_machine.specs.Steps.{Unmake, UnmadeGroup}
 use Rattle.flat_machine.specs.Cases.{UnmakeCase}
 use Rattle.flat_machine.proofs.Pairs.{turned_here}
 use Rattle.flat_machine.proofs.Unmakes.{number_within, groups_fewer, none_still, in_group, held_in, held_past, held_else}
-use Rattle.array_model.specs.Changes.{IsClosed, opened_view}
-use Rattle.array_model.specs.Represents.{ArraySlot, InTables, ShowsArray, IsTicketOf}
-use Rattle.array_model.specs.Views.{Kept, Nothing, Moving, Newest, Unmade, ArrayView, IsWhole, kept_at, key_at}
-use Rattle.array_model.proofs.Fares.{itself}
-use Rattle.array_model.proofs.Slots.{slot_same, shows_after}
-use Rattle.array_model.proofs.Wholes.{slot_of_class}
+use Rattle.slot_tables.specs.Changes.{IsClosed, opened_view}
+use Rattle.slot_tables.specs.Represents.{ArraySlot, InTables, ShowsArray, IsTicketOf}
+use Rattle.slot_tables.specs.Views.{Kept, Nothing, Moving, Newest, Unmade, ArrayView, IsWhole, kept_at, key_at}
+use Rattle.slot_tables.proofs.Fares.{itself}
+use Rattle.slot_tables.proofs.Slots.{slot_same, shows_after}
+use Rattle.slot_tables.proofs.Wholes.{slot_of_class}
 
 -- how many slots the group has
 abbrev pub count_of : ArrayView → ℕ → ℕ

@@ -3,9 +3,9 @@ use Rattle.std.proofs.Common.{◌≡◌, ℕ, Bool, true, false, ◌==◌, ◌||
 use Rattle.flat_machine.specs.Flat.{Flat, Worker, with_pair}
 use Rattle.flat_machine.proofs.Claims.{claim_keeps, with_worker}
 use Rattle.flat_machine.proofs.Pairs.{equal, with_here}
-use Rattle.array_model.specs.Views.{ArrayView, key_at}
-use Rattle.array_model.specs.Represents.{ShowsArray}
-use Rattle.array_model.proofs.Hands.{hands_move}
+use Rattle.slot_tables.specs.Views.{ArrayView, key_at}
+use Rattle.slot_tables.specs.Represents.{ShowsArray}
+use Rattle.slot_tables.proofs.Hands.{hands_move}
 
 -- with any other holders of the slot
 pub shows_one_more : (a : ArrayView) (F : Flat) (s w : ℕ) → ShowsArray a F → ShowsArray a (record F { held = with_pair F.held s (Worker w) })

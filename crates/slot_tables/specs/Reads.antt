@@ -6,7 +6,7 @@ use Rattle.flat_machine.specs.Groups.{class_at}
 use Rattle.flat_machine.specs.Steps.{Seen, Stale}
 use Rattle.flat_machine.specs.declared.refusal.Refusal.{Refusal}
 use Rattle.flat_machine.specs.declared.refusal.Refusal.TheVariants.{Memory}
-use Rattle.array_model.specs.Views.{ArrayView}
+use Rattle.slot_tables.specs.Views.{ArrayView}
 
 -- a slot wasn't read: out of memory, with nothing done, or as it is lost
 abbrev pub WasNotRead : ArrayView → ArrayView → ℕ → Refusal → Type 0

@@ -9,9 +9,9 @@ use Rattle.flat_machine.specs.Cases.{Case}
 use Rattle.flat_machine.specs.History.{IsStep}
 use Rattle.flat_machine.proofs.Keeps.{step_keeps}
 use Rattle.flat_machine.proofs.Pairs.{flip, IsJust, Any}
-use Rattle.array_model.specs.declared.hand.Hand.TheVariants.{Empty, Holds, Waits}
-use Rattle.array_model.specs.Views.{Kept, Nothing, Pending, Moving, Newest, Unmade, ArrayView, key_at, is_waiting}
-use Rattle.array_model.specs.Represents.{ArraySlot, InTables, ShowsArray, HandSlot, IsTicketOf, is_newest, is_shut}
+use Rattle.slot_tables.specs.declared.hand.Hand.TheVariants.{Empty, Holds, Waits}
+use Rattle.slot_tables.specs.Views.{Kept, Nothing, Pending, Moving, Newest, Unmade, ArrayView, key_at, is_waiting}
+use Rattle.slot_tables.specs.Represents.{ArraySlot, InTables, ShowsArray, HandSlot, IsTicketOf, is_newest, is_shut}
 
 -- a slot that waits is no block's newest place
 waiting_none : (k : Kept) → is_waiting k ≡ true → (b : ℕ) → is_newest k b ≡ false

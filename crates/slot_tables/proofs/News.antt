@@ -11,8 +11,8 @@ use Rattle.flat_machine.specs.Groups.{AreSizes}
 use Rattle.flat_machine.specs.Flat.{new_flat}
 use Rattle.flat_machine.specs.History.{IsHistory}
 use Rattle.flat_machine.proofs.Keeps.{new_history}
-use Rattle.array_model.specs.Views.{Nothing, Moving, Newest, Unmade, ArrayView, key_at, IsWhole, IsNew}
-use Rattle.array_model.specs.Represents.{ShowsArray}
+use Rattle.slot_tables.specs.Views.{Nothing, Moving, Newest, Unmade, ArrayView, key_at, IsWhole, IsNew}
+use Rattle.slot_tables.specs.Represents.{ShowsArray}
 
 pub new_whole : (a : ArrayView) → IsNew a → AreSizes a.parts.groups → IsWhole a
 new_whole a new sizes = record {

@@ -18,11 +18,11 @@ use Rattle.flat_machine.specs.Moves.{IsMoveReason, MovePasses, IsBeyondOf, IsFir
 use Rattle.flat_machine.specs.Steps.{MoveExtent, MovedExtent, AddedDrive, Refused}
 use Rattle.flat_machine.specs.Cases.{Leaves, MoveCase, AddCase, IsWanted}
 use Rattle.flat_machine.proofs.Regroups.{element, class_same, none_still, swapped_stand, add_keeps}
-use Rattle.array_model.specs.Changes.{MayRefuse}
-use Rattle.array_model.specs.Views.{ArrayView, with_parts, IsWhole, key_at}
-use Rattle.array_model.specs.Represents.{InTables, ShowsArray}
-use Rattle.array_model.proofs.Fares.{fared, itself, leaves, lost_shows, lost_leaves}
-use Rattle.array_model.proofs.Slots.{shows_after}
+use Rattle.slot_tables.specs.Changes.{MayRefuse}
+use Rattle.slot_tables.specs.Views.{ArrayView, with_parts, IsWhole, key_at}
+use Rattle.slot_tables.specs.Represents.{InTables, ShowsArray}
+use Rattle.slot_tables.proofs.Fares.{fared, itself, leaves, lost_shows, lost_leaves}
+use Rattle.slot_tables.proofs.Slots.{shows_after}
 
 pub added_whole : (a : ArrayView) (v : PartsView) (lost : Bool) (failures : Failures) → IsWhole a → WasAdded a.parts lost failures v → AreDrives drive_units v.groups v.drives
     → IsWhole (with_parts a v)

@@ -4,8 +4,8 @@ use Rattle.flat_machine.specs.Flat.{Flat, Holder, Ticket, Block, Shut, IsArrays,
 use Rattle.extent_groups.specs.Groups.{Groups}
 use Rattle.flat_machine.specs.History.{HoldersStand}
 use Rattle.flat_machine.proofs.Pairs.{equal}
-use Rattle.array_model.specs.Views.{Kept, Nothing, Pending, Moving, Newest, Unmade, ArrayView, kept_at, key_at, is_kept, is_waiting}
-use Rattle.array_model.specs.Represents.{ArraySlot, ShowsArray, IsTicketOf}
+use Rattle.slot_tables.specs.Views.{Kept, Nothing, Pending, Moving, Newest, Unmade, ArrayView, kept_at, key_at, is_kept, is_waiting}
+use Rattle.slot_tables.specs.Represents.{ArraySlot, ShowsArray, IsTicketOf}
 
 -- a Boolean that can't be true
 pub never : (b : Bool) → (b ≡ true → ⊥) → b ≡ false

@@ -17,16 +17,16 @@ use Rattle.flat_machine.specs.Groups.{class_at}
 use Rattle.flat_machine.specs.Flat.{Flat, Write, Worker, Moved, Stored, content_under, content_in, kind_of, waiting_unit, put, IsNewest, class_of, last_write}
 use Rattle.flat_machine.specs.Steps.{Copy, Copied, Refused}
 use Rattle.flat_machine.specs.Cases.{CopyCase, CopyPasses, ticketed, last_hop}
-use Rattle.array_model.specs.Changes.{copy_view, copy_reason, copy_reason_of, MayRefuse}
-use Rattle.array_model.specs.Views.{Kept, Nothing, Pending, Moving, Newest, Unmade, ArrayView, with_parts, kept_at, key_at, is_kept, IsWhole}
-use Rattle.array_model.specs.Represents.{ShowsArray}
-use Rattle.array_model.proofs.Newest.{newest_is}
-use Rattle.array_model.proofs.Kepts.{kept_iff, unkept}
-use Rattle.array_model.proofs.Wholes.{whole_parts, slot_of_class}
-use Rattle.array_model.proofs.Fares.{fared, itself, leaves, gone_as, gone_back, gone_before, lost_shows, lost_leaves}
-use Rattle.array_model.proofs.Slots.{shows_after}
-use Rattle.array_model.proofs.Fills.{class_seen, wait_tables, wait_units, wait_whole}
-use Rattle.array_model.proofs.Finds.{newest_write}
+use Rattle.slot_tables.specs.Changes.{copy_view, copy_reason, copy_reason_of, MayRefuse}
+use Rattle.slot_tables.specs.Views.{Kept, Nothing, Pending, Moving, Newest, Unmade, ArrayView, with_parts, kept_at, key_at, is_kept, IsWhole}
+use Rattle.slot_tables.specs.Represents.{ShowsArray}
+use Rattle.slot_tables.proofs.Newest.{newest_is}
+use Rattle.slot_tables.proofs.Kepts.{kept_iff, unkept}
+use Rattle.slot_tables.proofs.Wholes.{whole_parts, slot_of_class}
+use Rattle.slot_tables.proofs.Fares.{fared, itself, leaves, gone_as, gone_back, gone_before, lost_shows, lost_leaves}
+use Rattle.slot_tables.proofs.Slots.{shows_after}
+use Rattle.slot_tables.proofs.Fills.{class_seen, wait_tables, wait_units, wait_whole}
+use Rattle.slot_tables.proofs.Finds.{newest_write}
 
 -- the slot is free and in a group, and the record isn't of the last hop
 pub record CanCopy (a : ArrayView) (s : ℕ) (r : Record) : Type 0 where

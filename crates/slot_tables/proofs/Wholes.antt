@@ -8,7 +8,7 @@ use Rattle.array_parts.specs.Slots.{IsSlot}
 use Rattle.extent_groups.specs.Stores.{AreDrives}
 use Rattle.array_parts.specs.Views.{PartsView, SameTables, drive_units}
 use Rattle.flat_machine.specs.Groups.{GroupsStand, class_below, class_at}
-use Rattle.array_model.specs.Views.{ArrayView, with_parts, IsWhole}
+use Rattle.slot_tables.specs.Views.{ArrayView, with_parts, IsWhole}
 
 pub whole_parts : (a : ArrayView) (v : PartsView) → SameTables a.parts v → length v.drives ≡ length a.parts.drives → AreDrives drive_units v.groups v.drives
     → IsWhole a → IsWhole (with_parts a v)

@@ -17,12 +17,12 @@ use Rattle.flat_machine.proofs.Newest.{told_again, told_at, untold_at, key_least
 use Rattle.flat_machine.proofs.Commits.{emitted_by}
 use Rattle.flat_machine.proofs.Passing.{Passes, passed_on}
 use Rattle.flat_machine.proofs.Slots.{block_waits}
-use Rattle.array_model.specs.Changes.{commit_view, passed}
-use Rattle.array_model.specs.Views.{Kept, Nothing, Moving, Newest, Unmade, is_waiting, ArrayView, with_parts, kept_at, key_at, IsWhole}
-use Rattle.array_model.specs.Represents.{ArraySlot, InTables, ShowsArray}
-use Rattle.array_model.proofs.Fares.{fared}
-use Rattle.array_model.proofs.Slots.{block_slot, worker_slot, slot_same, one_slot}
-use Rattle.array_model.proofs.Kepts.{waiting_made, waiting_kept, waiting_newest}
+use Rattle.slot_tables.specs.Changes.{commit_view, passed}
+use Rattle.slot_tables.specs.Views.{Kept, Nothing, Moving, Newest, Unmade, is_waiting, ArrayView, with_parts, kept_at, key_at, IsWhole}
+use Rattle.slot_tables.specs.Represents.{ArraySlot, InTables, ShowsArray}
+use Rattle.slot_tables.proofs.Fares.{fared}
+use Rattle.slot_tables.proofs.Slots.{block_slot, worker_slot, slot_same, one_slot}
+use Rattle.slot_tables.proofs.Kepts.{waiting_made, waiting_kept, waiting_newest}
 
 -- where a block's old place lies: not at the slot that waits, and kept for the block
 pub record IsOld (a : ArrayView) (s b : ℕ) (found : Option Record) : Type 0 where

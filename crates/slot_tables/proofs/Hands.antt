@@ -6,13 +6,13 @@ use Rattle.flat_machine.specs.Flat.{Flat, Holder, Worker, Ticket, Block, Shut, w
 use Rattle.flat_machine.specs.Steps.{Claim, Claimed, Taken, Release, Released, NotHeld}
 use Rattle.flat_machine.specs.Cases.{ClaimCase, ReleaseCase}
 use Rattle.flat_machine.proofs.Pairs.{equal, with_else, with_just, without_else, without_nobody, just_one, IsNobodys, Any}
-use Rattle.array_model.specs.declared.hand.Hand.{Hand}
-use Rattle.array_model.specs.declared.hand.Hand.TheVariants.{Empty, Holds, Waits}
-use Rattle.array_model.specs.Views.{Kept, Nothing, Pending, Moving, Newest, Unmade, ArrayView, WorldView, kept_at, key_at, hand_at, is_kept, has_no_holder}
-use Rattle.array_model.specs.Represents.{HandSlot, ArraySlot, InTables, Represents, is_claim, is_ticket, is_shut}
-use Rattle.array_model.proofs.Kepts.{kept_iff, nothing_kept}
-use Rattle.array_model.proofs.Fares.{itself}
-use Rattle.array_model.proofs.Slots.{worker_hand, one_slot, shows_after}
+use Rattle.slot_tables.specs.declared.hand.Hand.{Hand}
+use Rattle.slot_tables.specs.declared.hand.Hand.TheVariants.{Empty, Holds, Waits}
+use Rattle.slot_tables.specs.Views.{Kept, Nothing, Pending, Moving, Newest, Unmade, ArrayView, WorldView, kept_at, key_at, hand_at, is_kept, has_no_holder}
+use Rattle.slot_tables.specs.Represents.{HandSlot, ArraySlot, InTables, Represents, is_claim, is_ticket, is_shut}
+use Rattle.slot_tables.proofs.Kepts.{kept_iff, nothing_kept}
+use Rattle.slot_tables.proofs.Fares.{itself}
+use Rattle.slot_tables.proofs.Slots.{worker_hand, one_slot, shows_after}
 use Rattle.flat_machine.proofs.Holding.{step_holds, once_any}
 use Rattle.flat_machine.proofs.Claims.{with_worker, without_worker}
 

@@ -8,12 +8,12 @@ use Rattle.flat_machine.specs.Flat.{Flat, Worker, Ticket, put, turned, IsArrays,
 use Rattle.flat_machine.specs.Steps.{Discard, Discarded, Refused}
 use Rattle.flat_machine.specs.Cases.{DiscardCase, discarded}
 use Rattle.flat_machine.proofs.Pairs.{put_here, put_else, turned_else, turned_just, just_one, IsJust}
-use Rattle.array_model.specs.Changes.{discard_view}
-use Rattle.array_model.specs.Views.{Kept, Nothing, Moving, Newest, Unmade, ArrayView, kept_at, key_at, is_waiting, IsWhole}
-use Rattle.array_model.specs.Represents.{ArraySlot, InTables, ShowsArray}
-use Rattle.array_model.proofs.Fares.{itself}
-use Rattle.array_model.proofs.Slots.{worker_slot, slot_same, one_slot, shows_after}
-use Rattle.array_model.proofs.Kepts.{waiting_newest, waiting_made, unticketed}
+use Rattle.slot_tables.specs.Changes.{discard_view}
+use Rattle.slot_tables.specs.Views.{Kept, Nothing, Moving, Newest, Unmade, ArrayView, kept_at, key_at, is_waiting, IsWhole}
+use Rattle.slot_tables.specs.Represents.{ArraySlot, InTables, ShowsArray}
+use Rattle.slot_tables.proofs.Fares.{itself}
+use Rattle.slot_tables.proofs.Slots.{worker_slot, slot_same, one_slot, shows_after}
+use Rattle.slot_tables.proofs.Kepts.{waiting_newest, waiting_made, unticketed}
 
 -- an array is whole after a ticket was given up
 pub discard_whole : (a : ArrayView) (s : ℕ) → s < 65536 → is_waiting (kept_at a s) ≡ true → IsWhole a → IsWhole (discard_view a s)

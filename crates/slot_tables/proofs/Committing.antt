@@ -18,16 +18,16 @@ use Rattle.flat_machine.proofs.Newest.{told_at, untold_at, told_key}
 use Rattle.flat_machine.proofs.Commits.{emitted_by, IsReady}
 use Rattle.flat_machine.proofs.Keeps.{fresh_ready, moved_ready}
 use Rattle.flat_machine.proofs.Passing.{passed}
-use Rattle.array_model.specs.Changes.{commit_view, commit_record, commit_reason, commit_reason_of, version_reason, stamp_reason, full_reason, version_given, hop_given, MayRefuse, kind_given}
-use Rattle.array_model.specs.Views.{Kept, Nothing, Pending, Moving, Newest, Unmade, is_waiting, ArrayView, with_parts, kept_at, key_at, IsWhole}
-use Rattle.array_model.specs.Represents.{ShowsArray, IsTicketOf}
-use Rattle.array_model.proofs.Newest.{newest_told}
-use Rattle.array_model.proofs.Fares.{fared, itself, leaves, gone_as, gone_back, lost_shows, lost_leaves}
-use Rattle.array_model.proofs.Slots.{shows_after}
-use Rattle.array_model.proofs.Kepts.{waiting_made, ticket_held, unticketed, waiting_kept}
-use Rattle.array_model.proofs.Wholes.{slot_of_class}
+use Rattle.slot_tables.specs.Changes.{commit_view, commit_record, commit_reason, commit_reason_of, version_reason, stamp_reason, full_reason, version_given, hop_given, MayRefuse, kind_given}
+use Rattle.slot_tables.specs.Views.{Kept, Nothing, Pending, Moving, Newest, Unmade, is_waiting, ArrayView, with_parts, kept_at, key_at, IsWhole}
+use Rattle.slot_tables.specs.Represents.{ShowsArray, IsTicketOf}
+use Rattle.slot_tables.proofs.Newest.{newest_told}
+use Rattle.slot_tables.proofs.Fares.{fared, itself, leaves, gone_as, gone_back, lost_shows, lost_leaves}
+use Rattle.slot_tables.proofs.Slots.{shows_after}
+use Rattle.slot_tables.proofs.Kepts.{waiting_made, ticket_held, unticketed, waiting_kept}
+use Rattle.slot_tables.proofs.Wholes.{slot_of_class}
 use Rattle.array_parts.specs.Slots.{IsSlot}
-use Rattle.array_model.proofs.Commits.{commit_map, commit_tables, commit_units}
+use Rattle.slot_tables.proofs.Commits.{commit_map, commit_tables, commit_units}
 
 -- neither of two reasons is given
 or_none : {X : Type 0} (o p : Option X) → or_else o p ≡ None → (o ≡ None) × (p ≡ None)

@@ -11,9 +11,9 @@ use Rattle.flat_machine.specs.Groups.{AreSizes, GroupsStand, class_at}
 use Rattle.flat_machine.specs.History.{IsHistory}
 use Rattle.flat_machine.specs.Restarted.{HasPlaces, TellMap, newest_places, restarted}
 use Rattle.flat_machine.proofs.Restarts.{restarted_history}
-use Rattle.array_model.specs.Views.{Kept, Nothing, Pending, Moving, Newest, Unmade, ArrayView, IsRoomy, IsWhole, kept_at, key_at}
-use Rattle.array_model.specs.Represents.{ArraySlot, IsTicketOf, is_newest, is_shut, ShowsArray}
-use Rattle.array_model.specs.Adopted.{IsPlaced, IsAdopted, HasParts}
+use Rattle.slot_tables.specs.Views.{Kept, Nothing, Pending, Moving, Newest, Unmade, ArrayView, IsRoomy, IsWhole, kept_at, key_at}
+use Rattle.slot_tables.specs.Represents.{ArraySlot, IsTicketOf, is_newest, is_shut, ShowsArray}
+use Rattle.slot_tables.specs.Adopted.{IsPlaced, IsAdopted, HasParts}
 
 -- the map's keys are keys of records
 pub record AreKeysOf (keys : ℕ → ℕ) : Type 0 where

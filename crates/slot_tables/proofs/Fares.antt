@@ -8,8 +8,8 @@ use Rattle.array_parts.specs.Views.{PartsView, IsLost, Loses, SameTables, Drives
 use Rattle.flat_machine.specs.Flat.{Flat}
 use Rattle.flat_machine.specs.Cases.{Fares, Leaves, IsGoneIn}
 use Rattle.flat_machine.proofs.Keeps as flat
-use Rattle.array_model.specs.Views.{ArrayView, with_parts, key_at}
-use Rattle.array_model.specs.Represents.{ShowsArray}
+use Rattle.slot_tables.specs.Views.{ArrayView, with_parts, key_at}
+use Rattle.slot_tables.specs.Represents.{ShowsArray}
 
 -- the state with the drives of these parts
 abbrev pub fared : Flat → PartsView → Flat

@@ -7,7 +7,7 @@ use Rattle.array_parts.specs.Views.{lost_of}
 use Rattle.flat_machine.specs.declared.refusal.Refusal.{Refusal}
 use Rattle.flat_machine.specs.declared.refusal.Refusal.TheVariants.{BadMember, SameDrive, ExtentTaken, DriveLost}
 use Rattle.flat_machine.specs.Groups.{AreMembers, AreApart, AreUnowned, ArePresent, IsFirstLost}
-use Rattle.array_model.specs.Views.{ArrayView}
+use Rattle.slot_tables.specs.Views.{ArrayView}
 
 -- a fault of the members as a refusal of the array, where they are three to eight
 abbrev pub told_of : Option GroupRefusal → Option Refusal

@@ -11,13 +11,13 @@ use Rattle.flat_machine.specs.declared.refusal.Refusal.TheVariants.{Ahead}
 use Rattle.flat_machine.specs.Flat.{Flat, Stored}
 use Rattle.flat_machine.specs.Steps.{ReadAt, Seen, FoundAt, Refused}
 use Rattle.flat_machine.specs.Cases.{ReadAtCase, IsSeen, IsAhead, IsBehind, IsWanted, IsGoneIn}
-use Rattle.array_model.specs.Changes.{MayRefuse}
-use Rattle.array_model.specs.Reads.{WasNotRead, WasSeen}
-use Rattle.array_model.specs.Views.{ArrayView, with_parts, key_at}
-use Rattle.array_model.specs.Represents.{ShowsArray}
-use Rattle.array_model.proofs.Newest.{newest_told, newest_is}
-use Rattle.array_model.proofs.Fares.{fared, itself, gone_as, gone_back, lost_shows, lost_leaves}
-use Rattle.array_model.proofs.Fills.{class_seen}
+use Rattle.slot_tables.specs.Changes.{MayRefuse}
+use Rattle.slot_tables.specs.Reads.{WasNotRead, WasSeen}
+use Rattle.slot_tables.specs.Views.{ArrayView, with_parts, key_at}
+use Rattle.slot_tables.specs.Represents.{ShowsArray}
+use Rattle.slot_tables.proofs.Newest.{newest_told, newest_is}
+use Rattle.slot_tables.proofs.Fares.{fared, itself, gone_as, gone_back, lost_shows, lost_leaves}
+use Rattle.slot_tables.proofs.Fills.{class_seen}
 
 -- a record that is ahead of the newest is refused
 pub ahead_case : (W : Type 0) (a : ArrayView) (F : Flat) (r : Record) (q : Refusal) → ShowsArray a F → q ≡ Ahead (record_at r.block (key_at a r.block))

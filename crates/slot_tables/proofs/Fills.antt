@@ -19,13 +19,13 @@ use Rattle.flat_machine.specs.Flat.{Flat, Content, IsSized, kind_of, Worker, Tic
 use Rattle.flat_machine.specs.Steps.{Fill, Filled, Refused}
 use Rattle.flat_machine.specs.Cases.{FillCase, FillPasses, ticketed}
 use Rattle.flat_machine.proofs.Pairs.{put_here, put_else, turned_else, IsJust, turned_free}
-use Rattle.array_model.specs.Changes.{wait_view, fill_view, fill_reason, fill_reason_of, MayRefuse}
-use Rattle.array_model.specs.Views.{Kept, Nothing, Pending, Moving, Newest, Unmade, ArrayView, with_parts, kept_at, key_at, is_kept, is_waiting, IsWhole}
-use Rattle.array_model.specs.Represents.{ArraySlot, IsTicketOf, InTables, ShowsArray}
-use Rattle.array_model.proofs.Wholes.{whole_parts, slot_of_class}
-use Rattle.array_model.proofs.Fares.{fared, itself, leaves, gone_as, gone_back, lost_shows, lost_leaves}
-use Rattle.array_model.proofs.Slots.{ticket_slot, slot_same, one_slot, shows_after}
-use Rattle.array_model.proofs.Kepts.{waiting_made, kept_iff, unkept, waiting_newest}
+use Rattle.slot_tables.specs.Changes.{wait_view, fill_view, fill_reason, fill_reason_of, MayRefuse}
+use Rattle.slot_tables.specs.Views.{Kept, Nothing, Pending, Moving, Newest, Unmade, ArrayView, with_parts, kept_at, key_at, is_kept, is_waiting, IsWhole}
+use Rattle.slot_tables.specs.Represents.{ArraySlot, IsTicketOf, InTables, ShowsArray}
+use Rattle.slot_tables.proofs.Wholes.{whole_parts, slot_of_class}
+use Rattle.slot_tables.proofs.Fares.{fared, itself, leaves, gone_as, gone_back, lost_shows, lost_leaves}
+use Rattle.slot_tables.proofs.Slots.{ticket_slot, slot_same, one_slot, shows_after}
+use Rattle.slot_tables.proofs.Kepts.{waiting_made, kept_iff, unkept, waiting_newest}
 use Rattle.flat_machine.proofs.Tickets.{unheld}
 
 -- the class of a slot is what is seen of it

@@ -11,8 +11,8 @@ use Rattle.extent_groups.specs.Stores.{HasMemberOn}
 use Rattle.extent_groups.proofs.GroupsLemmas.{not_on, not_owned}
 use Rattle.flat_machine.specs.Moves.{IsMoveReason}
 use Rattle.flat_machine.proofs.Pairs.{equal_back}
-use Rattle.array_model.specs.Making.{told_of}
-use Rattle.array_model.specs.Views.{ArrayView, IsWhole}
+use Rattle.slot_tables.specs.Making.{told_of}
+use Rattle.slot_tables.specs.Views.{ArrayView, IsWhole}
 
 -- one of the members is on the drive
 on_one : (drive : ℕ) (ms : List Member) → is_on drive ms ≡ true → (k : ℕ) × (m : Member) × (slice_get ms k ≡ Some m) × (m.drive ≡ drive)

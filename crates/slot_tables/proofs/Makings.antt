@@ -19,12 +19,12 @@ use Rattle.flat_machine.proofs.Pairs.{unequal}
 use Rattle.flat_machine.specs.Flat.{Flat, Block, Shut, Waiting}
 use Rattle.flat_machine.specs.Cases.{made, wiped, MakeCase, MakePasses, AreFit, IsWanted}
 use Rattle.flat_machine.proofs.Makes.{groups_more, class_kept}
-use Rattle.array_model.specs.Changes.{MayRefuse, opened_of, IsOpened, opened_view}
-use Rattle.array_model.specs.Making.{IsMakeReason}
-use Rattle.array_model.specs.Views.{Kept, Nothing, Pending, Moving, Newest, Unmade, ArrayView, with_parts, kept_at, key_at, IsWhole}
-use Rattle.array_model.specs.Represents.{ArraySlot, InTables, ShowsArray, IsTicketOf, is_newest, is_shut}
-use Rattle.array_model.proofs.Fares.{fared, itself, leaves, lost_shows, lost_leaves}
-use Rattle.array_model.proofs.Slots.{shows_after}
+use Rattle.slot_tables.specs.Changes.{MayRefuse, opened_of, IsOpened, opened_view}
+use Rattle.slot_tables.specs.Making.{IsMakeReason}
+use Rattle.slot_tables.specs.Views.{Kept, Nothing, Pending, Moving, Newest, Unmade, ArrayView, with_parts, kept_at, key_at, IsWhole}
+use Rattle.slot_tables.specs.Represents.{ArraySlot, InTables, ShowsArray, IsTicketOf, is_newest, is_shut}
+use Rattle.slot_tables.proofs.Fares.{fared, itself, leaves, lost_shows, lost_leaves}
+use Rattle.slot_tables.proofs.Slots.{shows_after}
 
 -- the groups with another one, of what may be other tables
 abbrev more : Groups → ℕ → Class → List Member → Groups
