@@ -86,8 +86,10 @@ impl<D: Drive, N: slot_words::Naming + Sizes, A: map_words::Naming, B: map_words
     /// share left to split, and these hands keep theirs.
     #[tactic(auto, using(crate::proofs::Halves::together_again))]
     pub fn split(&self, hands: &mut Ended<N, A, B>) -> Option<Ended<N, A, B>>
-        ensures given { IfSome result (λ new. (new.pass ≡ right_given hands.old.pass) × (new.even ≡ share_given hands.old.even) × (new.odd ≡ share_given hands.old.odd)) }
-        ensures kept { IfSome result (λ new. (hands.new.pass ≡ right_kept hands.old.pass) × (hands.new.even ≡ share_kept hands.old.even) × (hands.new.odd ≡ share_kept hands.old.odd)) }
+        ensures given { IfSome result (λ new. (new.pass ≡ right_given hands.old.pass) × (new.even ≡ share_given hands.old.even)
+            × (new.odd ≡ share_given hands.old.odd)) }
+        ensures kept { IfSome result (λ new. (hands.new.pass ≡ right_kept hands.old.pass) × (hands.new.even ≡ share_kept hands.old.even)
+            × (hands.new.odd ≡ share_kept hands.old.odd)) }
         ensures none { IfNone result ((hands.old.even.share ≡ 1) ⊎ (hands.old.odd.share ≡ 1)) }
         ensures same { IfNone result ((hands.new.pass ≡ hands.old.pass) × (hands.new.even ≡ hands.old.even) × (hands.new.odd ≡ hands.old.odd)) }
     {

@@ -38,7 +38,8 @@ pub fn settle<D: Drive, N: slot_words::Naming + Sizes, A: map_words::Naming, B: 
         × IsMapOf (taken_by (map (λ e. e.even) ended.items) ++ taken_by (map (λ e. e.odd) ended.items)) (key_at settled.array)) }
     ensures err { IfErr result (λ e. IsUnsettled (shares_of (map (λ e. e.even) ended.items)) (shares_of (map (λ e. e.odd) ended.items))
         (taken_by (map (λ e. e.even) ended.items) ++ taken_by (map (λ e. e.odd) ended.items)) (key_at e.1.array) e.0) }
-    ensures pass { MatchResult result (λ settled. settled.pass ≡ all_joined (map (λ e. e.pass) ended.items)) (λ e. e.1.pass ≡ all_joined (map (λ e. e.pass) ended.items)) }
+    ensures pass { MatchResult result (λ settled. settled.pass ≡ all_joined (map (λ e. e.pass) ended.items))
+        (λ e. e.1.pass ≡ all_joined (map (λ e. e.pass) ended.items)) }
     ensures shows { MatchResult result (λ settled. (F : Flat) × ShowsArray settled.array F) (λ e. (F : Flat) × ShowsArray e.1.array F) }
 {
     let Book {

@@ -12,7 +12,8 @@ ghost use Rattle.slot_words.specs.Places.{slots_of};
 ghost use Rattle.array_book.specs.Given.{content_of, IsGivenFor};
 ghost use Rattle.array_book.specs.Kept.{HasNoted};
 ghost use Rattle.array_book.specs.Takes.{controller_of, taker_of, other_of, AreSame, HasAsked, HasMigrated, HasRead, Took, Learnt, IsTold};
-ghost use Rattle.array_book.specs.Outcomes.{WasFilled, WasCopied, WasCommitted, WasRefused, WasGivenUp, WasWritten, WasPlanned, IsTried, HadNoRoom, WentSo, WasLearned, WasUnlearned};
+ghost use Rattle.array_book.specs.Outcomes.{WasFilled, WasCopied, WasCommitted, WasRefused, WasGivenUp, WasWritten};
+ghost use Rattle.array_book.specs.Outcomes.{WasPlanned, IsTried, HadNoRoom, WentSo, WasLearned, WasUnlearned};
 ghost use Rattle.array_book.specs.declared.fault.WorkFault.TheVariants.{Core};
 
 use crate::book::Book;
@@ -126,8 +127,10 @@ impl<
         requires payload { length payload.now ≡ self.old.book.now.payload }
         ensures record { IfOk result (λ emitted. (emitted.block ≡ block) × (emitted.hop ≡ 0)) }
         ensures written { IfOk result (WasWritten N.blocks N.payload block (Payload payload.now)) }
-        ensures taken { IfOk result (λ emitted. Took emitted (taker_of (controller_of self.old.number) self.old.even self.old.odd) (taker_of (controller_of self.old.number) self.new.even self.new.odd)) }
-        ensures other { other_of (controller_of self.old.number) self.new.even self.new.odd ≡ other_of (controller_of self.old.number) self.old.even self.old.odd }
+        ensures taken { IfOk result (λ emitted. Took emitted (taker_of (controller_of self.old.number) self.old.even self.old.odd)
+            (taker_of (controller_of self.old.number) self.new.even self.new.odd)) }
+        ensures other { other_of (controller_of self.old.number) self.new.even self.new.odd
+            ≡ other_of (controller_of self.old.number) self.old.even self.old.odd }
         ensures err { OnErr result (AreSame self.old.even self.old.odd self.new.even self.new.odd) }
         ensures fault { result ≢ Err (Core refusal.Memory) }
         ensures rest { (self.new.number ≡ self.old.number) × (self.new.book ≡ self.old.book) }
@@ -146,8 +149,10 @@ impl<
         requires { block < self.old.book.now.blocks }
         ensures record { IfOk result (λ emitted. (emitted.block ≡ block) × (emitted.hop ≡ 0)) }
         ensures written { IfOk result (WasWritten N.blocks N.payload block Trim) }
-        ensures taken { IfOk result (λ emitted. Took emitted (taker_of (controller_of self.old.number) self.old.even self.old.odd) (taker_of (controller_of self.old.number) self.new.even self.new.odd)) }
-        ensures other { other_of (controller_of self.old.number) self.new.even self.new.odd ≡ other_of (controller_of self.old.number) self.old.even self.old.odd }
+        ensures taken { IfOk result (λ emitted. Took emitted (taker_of (controller_of self.old.number) self.old.even self.old.odd)
+            (taker_of (controller_of self.old.number) self.new.even self.new.odd)) }
+        ensures other { other_of (controller_of self.old.number) self.new.even self.new.odd
+            ≡ other_of (controller_of self.old.number) self.old.even self.old.odd }
         ensures err { OnErr result (AreSame self.old.even self.old.odd self.new.even self.new.odd) }
         ensures fault { result ≢ Err (Core refusal.Memory) }
         ensures rest { (self.new.number ≡ self.old.number) × (self.new.book ≡ self.old.book) }
@@ -168,8 +173,10 @@ impl<
         requires given { IsGivenFor self.old.book.now.payload given }
         ensures record { IfOk result (λ emitted. (emitted.block ≡ block) × (emitted.hop ≡ 0)) }
         ensures written { IfOk result (WasWritten N.blocks N.payload block (content_of given.entry)) }
-        ensures taken { IfOk result (λ emitted. Took emitted (taker_of (controller_of self.old.number) self.old.even self.old.odd) (taker_of (controller_of self.old.number) self.new.even self.new.odd)) }
-        ensures other { other_of (controller_of self.old.number) self.new.even self.new.odd ≡ other_of (controller_of self.old.number) self.old.even self.old.odd }
+        ensures taken { IfOk result (λ emitted. Took emitted (taker_of (controller_of self.old.number) self.old.even self.old.odd)
+            (taker_of (controller_of self.old.number) self.new.even self.new.odd)) }
+        ensures other { other_of (controller_of self.old.number) self.new.even self.new.odd
+            ≡ other_of (controller_of self.old.number) self.old.even self.old.odd }
         ensures err { OnErr result (AreSame self.old.even self.old.odd self.new.even self.new.odd) }
         ensures fault { result ≢ Err (Core refusal.Memory) }
         ensures rest { (self.new.number ≡ self.old.number) × (self.new.book ≡ self.old.book) }
@@ -286,8 +293,10 @@ impl<
         requires block { done.emitted.block < self.old.book.now.blocks }
         requires written { 0 < done.emitted.version }
         ensures same { result ≡ done.emitted }
-        ensures taken { Took result (taker_of (controller_of self.old.number) self.old.even self.old.odd) (taker_of (controller_of self.old.number) self.new.even self.new.odd) }
-        ensures other { other_of (controller_of self.old.number) self.new.even self.new.odd ≡ other_of (controller_of self.old.number) self.old.even self.old.odd }
+        ensures taken { Took result (taker_of (controller_of self.old.number) self.old.even self.old.odd)
+            (taker_of (controller_of self.old.number) self.new.even self.new.odd) }
+        ensures other { other_of (controller_of self.old.number) self.new.even self.new.odd
+            ≡ other_of (controller_of self.old.number) self.old.even self.old.odd }
         ensures rest { (self.new.number ≡ self.old.number) × (self.new.book ≡ self.old.book) }
     {
         let Done { emitted, old } = done;
@@ -337,7 +346,8 @@ impl<
         ensures went { IfOk result (WentSo N.blocks N.payload self.old.book.now.mirrors.items low) }
         ensures taken { IfOk result (HasMigrated self.old.number self.old.even self.old.odd self.new.even self.new.odd) }
         ensures err { OnErr result (AreSame self.old.even self.old.odd self.new.even self.new.odd) }
-        ensures other { other_of (controller_of self.old.number) self.new.even self.new.odd ≡ other_of (controller_of self.old.number) self.old.even self.old.odd }
+        ensures other { other_of (controller_of self.old.number) self.new.even self.new.odd
+            ≡ other_of (controller_of self.old.number) self.old.even self.old.odd }
         ensures fault { result ≢ Err (Core refusal.Memory) }
         ensures rest { (self.new.number ≡ self.old.number) × (self.new.book ≡ self.old.book) }
     {
@@ -440,8 +450,10 @@ impl<
             → HasRead (taker_of controller self.old.even self.old.odd) block reading.told (taker_of controller self.new.even self.new.odd) }
         ensures none { result ≡ Ok None
             → HasAsked (taker_of controller self.old.even self.old.odd) block 0 (taker_of controller self.new.even self.new.odd) }
-        ensures err { OnErr result ((key : ℕ) × HasAsked (taker_of controller self.old.even self.old.odd) block key (taker_of controller self.new.even self.new.odd)) }
-        ensures learned { (reading : Lesson) → result ≡ Ok (Some reading) → (found : Record) × (found.block ≡ block) × WasLearned N.blocks N.payload found reading }
+        ensures err { OnErr result ((key : ℕ)
+            × HasAsked (taker_of controller self.old.even self.old.odd) block key (taker_of controller self.new.even self.new.odd)) }
+        ensures learned { (reading : Lesson) → result ≡ Ok (Some reading) → (found : Record) × (found.block ≡ block)
+            × WasLearned N.blocks N.payload found reading }
         ensures refused { (q : Refusal) → result ≡ Err (Core q)
             → (found : Record) × HasAsked (taker_of controller self.old.even self.old.odd) block (key_of found) (taker_of controller self.new.even self.new.odd)
             × WasUnlearned N.blocks N.payload found q }

@@ -18,7 +18,8 @@ impl<D: Drive> Parts<D> {
         requires room { length self.old.drives.items < 16 }
         requires many { length (D.units drive) ≡ self.old.groups.extents * extent_units self.old.groups.segments }
         requires sized { IsSized (unit_bytes self.old.groups) (D.units drive) }
-        ensures ok { IfOk result (λ done. WasAdded (view_of D.units D.lost D.failures self.old) (D.lost drive) (D.failures drive) (view_of D.units D.lost D.failures self.new)) }
+        ensures ok { IfOk result (λ done. WasAdded (view_of D.units D.lost D.failures self.old) (D.lost drive) (D.failures drive)
+            (view_of D.units D.lost D.failures self.new)) }
         ensures err { IfErr result (λ back. back ≡ drive) }
         ensures same { OnErr result (view_of D.units D.lost D.failures self.new ≡ view_of D.units D.lost D.failures self.old) }
         ensures fit { IsFit D.units self.new }

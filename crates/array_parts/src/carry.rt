@@ -26,7 +26,8 @@ impl<D: Drive> Parts<D> {
         requires payload { length payload.now ≡ self.old.groups.payload }
         requires unit { length unit.old ≡ unit_bytes self.old.groups }
         requires scratch { length scratch.old ≡ 2 * unit_bytes self.old.groups }
-        ensures ok { OnOk result (WasPut (view_of D.units D.lost D.failures self.old) (view_of D.units D.lost D.failures self.new) slot (waiting_unit self.old.groups.payload (Payload payload.now))) }
+        ensures ok { OnOk result (WasPut (view_of D.units D.lost D.failures self.old) (view_of D.units D.lost D.failures self.new) slot
+            (waiting_unit self.old.groups.payload (Payload payload.now))) }
         ensures err { IfErr result (FoundGone (view_of D.units D.lost D.failures self.old) (view_of D.units D.lost D.failures self.new) slot) }
         ensures fit { IsFit D.units self.new }
     {
@@ -45,7 +46,8 @@ impl<D: Drive> Parts<D> {
         requires slot { IsSlot self.old.groups slot }
         requires unit { length unit.old ≡ unit_bytes self.old.groups }
         requires scratch { length scratch.old ≡ 2 * unit_bytes self.old.groups }
-        ensures ok { OnOk result (WasPut (view_of D.units D.lost D.failures self.old) (view_of D.units D.lost D.failures self.new) slot (waiting_unit self.old.groups.payload Trim)) }
+        ensures ok { OnOk result (WasPut (view_of D.units D.lost D.failures self.old) (view_of D.units D.lost D.failures self.new) slot
+            (waiting_unit self.old.groups.payload Trim)) }
         ensures err { IfErr result (FoundGone (view_of D.units D.lost D.failures self.old) (view_of D.units D.lost D.failures self.new) slot) }
         ensures fit { IsFit D.units self.new }
     {

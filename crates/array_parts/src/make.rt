@@ -82,12 +82,14 @@ impl<D: Drive> Parts<D> {
         // The drives of the group, and its units.
         ensures wiped { OnOk result (AreWiped self.old.groups.segments members.items zeros.now (length members.items) (cells_in D.units D.lost self.new)) }
         ensures present { OnOk result (ArePresent (missing_in D.lost self.new) members.items) }
-        ensures blank { OnOk result ((slot : ℕ) (unit : List ℕ) → slot / 128 ≡ group → unit_of self.new.groups (cells_in D.units D.lost self.new) slot ≡ Some unit → unit ≡ zeros.now) }
+        ensures blank { OnOk result ((slot : ℕ) (unit : List ℕ) → slot / 128 ≡ group
+            → unit_of self.new.groups (cells_in D.units D.lost self.new) slot ≡ Some unit → unit ≡ zeros.now) }
         ensures lost { IfErr result (TellsLost (missing_in D.lost self.new) members.items) }
 
         // All others.
         ensures others { AreSound self.old.groups (cells_in D.units D.lost self.old) → ((slot : ℕ) (unit : List ℕ) → slot / 128 ≢ group
-            → unit_of self.new.groups (cells_in D.units D.lost self.new) slot ≡ Some unit → unit_of self.old.groups (cells_in D.units D.lost self.old) slot ≡ Some unit) }
+            → unit_of self.new.groups (cells_in D.units D.lost self.new) slot ≡ Some unit
+            → unit_of self.old.groups (cells_in D.units D.lost self.old) slot ≡ Some unit) }
         ensures sound { AreSound self.old.groups (cells_in D.units D.lost self.old) → AreSound self.new.groups (cells_in D.units D.lost self.new) }
         ensures touched { KeepsDrives D.units D.lost D.failures (IsInOne self.old.groups.segments members.items) self.old.drives.items self.new.drives.items }
         ensures elsewhere { SameBut (HasOn members.items) self.old.drives.items self.new.drives.items }

@@ -20,8 +20,10 @@ impl Parts<MemDrive> {
         requires drive { drive < length self.old.drives.items }
         ensures lost { IsSetTo after_loss self.old.drives.items self.new.drives.items drive }
         ensures missing { (d : ℕ) → missing_in held_lost self.new d ≡ put (missing_in held_lost self.old) drive true d }
-        ensures failures { (d : ℕ) → failures_of held_failures self.new.drives.items d ≡ put (failures_of held_failures self.old.drives.items) drive (settled (failures_of held_failures self.old.drives.items drive)) d }
-        ensures units { AreSound self.old.groups (cells_in held_units held_lost self.old) → KeepsUnits self.old.groups (cells_in held_units held_lost self.old) (cells_in held_units held_lost self.new) }
+        ensures failures { (d : ℕ) → failures_of held_failures self.new.drives.items d
+            ≡ put (failures_of held_failures self.old.drives.items) drive (settled (failures_of held_failures self.old.drives.items drive)) d }
+        ensures units { AreSound self.old.groups (cells_in held_units held_lost self.old)
+            → KeepsUnits self.old.groups (cells_in held_units held_lost self.old) (cells_in held_units held_lost self.new) }
         ensures sound { AreSound self.old.groups (cells_in held_units held_lost self.old) → AreSound self.new.groups (cells_in held_units held_lost self.new) }
         ensures tables { KeepsTables self.old self.new }
         ensures fit { IsFit held_units self.new }
@@ -36,8 +38,11 @@ impl Parts<MemDrive> {
         requires calls { 1 ≤ calls }
         ensures fused { IsSetTo (λ c. after_fuse c calls) self.old.drives.items self.new.drives.items drive }
         ensures missing { (d : ℕ) → missing_in held_lost self.new d ≡ missing_in held_lost self.old d }
-        ensures failures { (d : ℕ) → failures_of held_failures self.new.drives.items d ≡ put (failures_of held_failures self.old.drives.items) drive (fused (missing_in held_lost self.old drive) (failures_of held_failures self.old.drives.items drive)) d }
-        ensures units { AreSound self.old.groups (cells_in held_units held_lost self.old) → KeepsUnits self.old.groups (cells_in held_units held_lost self.old) (cells_in held_units held_lost self.new) }
+        ensures failures { (d : ℕ) → failures_of held_failures self.new.drives.items d
+            ≡ put (failures_of held_failures self.old.drives.items) drive
+            (fused (missing_in held_lost self.old drive) (failures_of held_failures self.old.drives.items drive)) d }
+        ensures units { AreSound self.old.groups (cells_in held_units held_lost self.old)
+            → KeepsUnits self.old.groups (cells_in held_units held_lost self.old) (cells_in held_units held_lost self.new) }
         ensures sound { AreSound self.old.groups (cells_in held_units held_lost self.old) → AreSound self.new.groups (cells_in held_units held_lost self.new) }
         ensures tables { KeepsTables self.old self.new }
         ensures fit { IsFit held_units self.new }

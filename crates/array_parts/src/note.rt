@@ -44,7 +44,8 @@ fn is_parity_for<D: Drive>(
 ) -> bool
     requires slot { IsSlotOf Parity groups.now slot }
     requires drives { AreDrives D.units groups.now drives.now }
-    ensures { IsTrue result ↔ IsParityFor (unit_bytes groups.now) (missing_of D.lost drives.now) (site_of groups.now slot) (option_map (λ v. v.items) parity.now) }
+    ensures { IsTrue result ↔ IsParityFor (unit_bytes groups.now) (missing_of D.lost drives.now) (site_of groups.now slot)
+        (option_map (λ v. v.items) parity.now) }
 {
     match parity {
         Some(sum) => sum.len() == groups.shape().unit_bytes(),
@@ -115,7 +116,8 @@ fn finish_stripe<D: Drive>(
     requires drives { AreDrives D.units groups.now drives.old }
     requires unit { length unit.now ≡ unit_bytes groups.now }
     requires parity { IsParityFor (unit_bytes groups.now) (missing_of D.lost drives.old) (site_of groups.now slot) (option_map (λ v. v.items) parity.now) }
-    ensures finished { IsFinished groups.now (cells D.units D.lost drives.old) (cells D.units D.lost drives.new) slot (unit_noted (site_of groups.now slot) unit.now (option_map (λ v. v.items) parity.now)) }
+    ensures finished { IsFinished groups.now (cells D.units D.lost drives.old) (cells D.units D.lost drives.new) slot
+        (unit_noted (site_of groups.now slot) unit.now (option_map (λ v. v.items) parity.now)) }
     ensures touched { KeepsDrives D.units D.lost D.failures (IsOwnOf groups.now slot) drives.old drives.new }
 {
     let at = groups.row_of(slot);
@@ -131,7 +133,8 @@ fn finish_stripe<D: Drive>(
 fn finish<D: Drive>(groups: &GroupTable, drives: &mut [D], note: &Note)
     requires drives { AreDrives D.units groups.now drives.old }
     requires good { IsGoodNote groups.now (missing_of D.lost drives.old) (note_view note.now) }
-    ensures finished { IsFinished groups.now (cells D.units D.lost drives.old) (cells D.units D.lost drives.new) note.now.slot (noted_unit (site_of groups.now note.now.slot) (note_view note.now)) }
+    ensures finished { IsFinished groups.now (cells D.units D.lost drives.old) (cells D.units D.lost drives.new) note.now.slot
+        (noted_unit (site_of groups.now note.now.slot) (note_view note.now)) }
     ensures touched { KeepsDrives D.units D.lost D.failures (IsOwnOf groups.now note.now.slot) drives.old drives.new }
 {
     match groups.class_of(note.slot / SLOTS) {
@@ -145,7 +148,8 @@ impl<D: Drive> Parts<D> {
     /// has a parity, or a parity slot's has none while the parity's drive is there. None where there is no note, or a good one.
     pub fn bad_note(&self) -> Option<u16>
         requires { IsFit D.units self.now }
-        ensures { MatchOption result (IsFineNote self.now.groups (missing_in D.lost self.now) self.now.note) (λ slot. IsBadNote self.now.groups (missing_in D.lost self.now) self.now.note × (option_map (λ n. n.slot) self.now.note ≡ Some slot)) }
+        ensures { MatchOption result (IsFineNote self.now.groups (missing_in D.lost self.now) self.now.note)
+            (λ slot. IsBadNote self.now.groups (missing_in D.lost self.now) self.now.note × (option_map (λ n. n.slot) self.now.note ≡ Some slot)) }
     {
         match &self.note {
             Some(note) if !is_good(&self.groups, &self.drives, note) => Some(note.slot),

@@ -89,7 +89,8 @@ impl<D: Drive> Parts<D> {
         ensures gone { IfErr result (TellsGone D.units D.lost self.new slot) }
 
         // No unit changes: where all was sound it is, and each unit that exists afterwards is what it was.
-        ensures units { AreSound self.old.groups (cells_in D.units D.lost self.old) → KeepsUnits self.old.groups (cells_in D.units D.lost self.old) (cells_in D.units D.lost self.new) }
+        ensures units { AreSound self.old.groups (cells_in D.units D.lost self.old)
+            → KeepsUnits self.old.groups (cells_in D.units D.lost self.old) (cells_in D.units D.lost self.new) }
         ensures sound { AreSound self.old.groups (cells_in D.units D.lost self.old) → AreSound self.new.groups (cells_in D.units D.lost self.new) }
         ensures only { LosesOnly D.units D.lost D.failures self.old self.new }
         ensures fares { AllFare D.lost D.failures self.old.drives.items self.new.drives.items }
@@ -115,7 +116,8 @@ impl<D: Drive> Parts<D> {
         ensures ok { OnOk result (header_of self.new.groups (cells_in D.units D.lost self.new) slot ≡ Some header.new) }
         ensures there { OnOk result (IsGone self.new.groups (missing_in D.lost self.new) slot → ⊥) }
         ensures gone { IfErr result (TellsGone D.units D.lost self.new slot) }
-        ensures units { AreSound self.old.groups (cells_in D.units D.lost self.old) → KeepsUnits self.old.groups (cells_in D.units D.lost self.old) (cells_in D.units D.lost self.new) }
+        ensures units { AreSound self.old.groups (cells_in D.units D.lost self.old)
+            → KeepsUnits self.old.groups (cells_in D.units D.lost self.old) (cells_in D.units D.lost self.new) }
         ensures sound { AreSound self.old.groups (cells_in D.units D.lost self.old) → AreSound self.new.groups (cells_in D.units D.lost self.new) }
         ensures only { LosesOnly D.units D.lost D.failures self.old self.new }
         ensures fares { AllFare D.lost D.failures self.old.drives.items self.new.drives.items }

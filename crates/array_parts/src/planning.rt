@@ -30,7 +30,8 @@ fn plan_pair<D: Drive>(
     requires slot { IsSlotOf Mirrored groups.now slot }
     requires drives { AreDrives D.units groups.now drives.old }
     requires unit { length unit.now ≡ unit_bytes groups.now }
-    ensures ok { IfOk result (λ plan. IsSlotPlan groups.now (cells D.units D.lost drives.new) slot unit.now (listed plan.writes.items) (parity_listed plan.parity)) }
+    ensures ok { IfOk result (λ plan. IsSlotPlan groups.now (cells D.units D.lost drives.new) slot unit.now (listed plan.writes.items)
+        (parity_listed plan.parity)) }
     ensures there { OnOk result (IsGone groups.now (missing_of D.lost drives.new) slot → ⊥) }
     ensures err { IfErr result (λ e. (e ≡ why.Memory) ⊎ ((e ≡ why.Gone slot) × (unit_of groups.now (cells D.units D.lost drives.new) slot ≡ None))) }
     ensures same { drives.new ≡ drives.old }
@@ -51,10 +52,13 @@ fn plan_stripe<D: Drive>(
     requires slot { IsSlotOf Parity groups.now slot }
     requires drives { AreDrives D.units groups.now drives.old }
     requires unit { length unit.now ≡ unit_bytes groups.now }
-    ensures ok { IfOk result (λ plan. IsSlotPlan groups.now (cells D.units D.lost drives.new) slot unit.now (listed plan.writes.items) (parity_listed plan.parity)) }
+    ensures ok { IfOk result (λ plan. IsSlotPlan groups.now (cells D.units D.lost drives.new) slot unit.now (listed plan.writes.items)
+        (parity_listed plan.parity)) }
     ensures there { OnOk result (IsGone groups.now (missing_of D.lost drives.new) slot → ⊥) }
-    ensures err { IfErr result (λ e. ((e ≡ why.Memory) × (drives.new ≡ drives.old)) ⊎ ((e ≡ why.Gone slot) × (unit_of groups.now (cells D.units D.lost drives.new) slot ≡ None))) }
-    ensures units { AreSound groups.now (cells D.units D.lost drives.old) → KeepsUnits groups.now (cells D.units D.lost drives.old) (cells D.units D.lost drives.new) }
+    ensures err { IfErr result (λ e. ((e ≡ why.Memory) × (drives.new ≡ drives.old))
+        ⊎ ((e ≡ why.Gone slot) × (unit_of groups.now (cells D.units D.lost drives.new) slot ≡ None))) }
+    ensures units { AreSound groups.now (cells D.units D.lost drives.old)
+        → KeepsUnits groups.now (cells D.units D.lost drives.old) (cells D.units D.lost drives.new) }
     ensures sound { AreSound groups.now (cells D.units D.lost drives.old) → AreSound groups.now (cells D.units D.lost drives.new) }
     ensures touched { KeepsDrives D.units D.lost D.failures NoPlace drives.old drives.new }
     ensures drives { AreDrives D.units groups.now drives.new }
@@ -74,10 +78,13 @@ fn plan_slot<D: Drive>(
     requires slot { IsSlot groups.now slot }
     requires drives { AreDrives D.units groups.now drives.old }
     requires unit { length unit.now ≡ unit_bytes groups.now }
-    ensures ok { IfOk result (λ plan. IsSlotPlan groups.now (cells D.units D.lost drives.new) slot unit.now (listed plan.writes.items) (parity_listed plan.parity)) }
+    ensures ok { IfOk result (λ plan. IsSlotPlan groups.now (cells D.units D.lost drives.new) slot unit.now (listed plan.writes.items)
+        (parity_listed plan.parity)) }
     ensures there { OnOk result (IsGone groups.now (missing_of D.lost drives.new) slot → ⊥) }
-    ensures err { IfErr result (λ e. ((e ≡ why.Memory) × (drives.new ≡ drives.old)) ⊎ ((e ≡ why.Gone slot) × (unit_of groups.now (cells D.units D.lost drives.new) slot ≡ None))) }
-    ensures units { AreSound groups.now (cells D.units D.lost drives.old) → KeepsUnits groups.now (cells D.units D.lost drives.old) (cells D.units D.lost drives.new) }
+    ensures err { IfErr result (λ e. ((e ≡ why.Memory) × (drives.new ≡ drives.old))
+        ⊎ ((e ≡ why.Gone slot) × (unit_of groups.now (cells D.units D.lost drives.new) slot ≡ None))) }
+    ensures units { AreSound groups.now (cells D.units D.lost drives.old)
+        → KeepsUnits groups.now (cells D.units D.lost drives.old) (cells D.units D.lost drives.new) }
     ensures sound { AreSound groups.now (cells D.units D.lost drives.old) → AreSound groups.now (cells D.units D.lost drives.new) }
     ensures touched { KeepsDrives D.units D.lost D.failures NoPlace drives.old drives.new }
     ensures drives { AreDrives D.units groups.now drives.new }
@@ -106,10 +113,12 @@ impl<D: Drive> Parts<D> {
         requires fit { IsFit D.units self.old }
         requires slot { IsSlot self.old.groups slot }
         requires unit { length unit.now ≡ unit_bytes self.old.groups }
-        ensures ok { IfOk result (λ plan. IsSlotPlan self.new.groups (cells_in D.units D.lost self.new) slot unit.now (listed plan.writes.items) (parity_listed plan.parity)) }
+        ensures ok { IfOk result (λ plan. IsSlotPlan self.new.groups (cells_in D.units D.lost self.new) slot unit.now (listed plan.writes.items)
+            (parity_listed plan.parity)) }
         ensures there { OnOk result (IsGone self.new.groups (missing_in D.lost self.new) slot → ⊥) }
         ensures err { IfErr result (λ e. ((e ≡ refusal.Memory) × (self.new.drives.items ≡ self.old.drives.items)) ⊎ TellsGone D.units D.lost self.new slot e) }
-        ensures units { AreSound self.old.groups (cells_in D.units D.lost self.old) → KeepsUnits self.old.groups (cells_in D.units D.lost self.old) (cells_in D.units D.lost self.new) }
+        ensures units { AreSound self.old.groups (cells_in D.units D.lost self.old)
+            → KeepsUnits self.old.groups (cells_in D.units D.lost self.old) (cells_in D.units D.lost self.new) }
         ensures sound { AreSound self.old.groups (cells_in D.units D.lost self.old) → AreSound self.new.groups (cells_in D.units D.lost self.new) }
         ensures only { LosesOnly D.units D.lost D.failures self.old self.new }
         ensures fares { AllFare D.lost D.failures self.old.drives.items self.new.drives.items }

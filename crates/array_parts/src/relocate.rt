@@ -54,7 +54,8 @@ fn place_in(groups: &GroupTable, member: Member, offset: u16) -> Place
 fn read_or_clear<D: Drive>(drives: &mut [D], place: Place, unit: &mut [u8])
     requires place { IsPlace D.units drives.old place }
     requires size { AreSized D.units (length unit.old) drives.old }
-    ensures told { (held (cells D.units D.lost drives.new) place ≡ Some unit.new) ⊎ ((missing_of D.lost drives.new place.drive ≡ true) × (unit.new ≡ replicate (length unit.old) 0)) }
+    ensures told { (held (cells D.units D.lost drives.new) place ≡ Some unit.new)
+        ⊎ ((missing_of D.lost drives.new place.drive ≡ true) × (unit.new ≡ replicate (length unit.old) 0)) }
     ensures touched { KeepsDrives D.units D.lost D.failures NoPlace drives.old drives.new }
     ensures elsewhere { SameBut (λ d. d ≡ place.drive) drives.old drives.new }
 {
@@ -78,7 +79,9 @@ fn read_index<D: Drive>(
     requires role { IsRoleIn (group_at groups.now at.group) groups.now.segments at.member offset (Slot index) }
     requires unit { length unit.old ≡ unit_bytes groups.now }
     requires scratch { length scratch.old ≡ 2 * unit_bytes groups.now }
-    ensures outcome { MatchBool result (IsUnitFor groups.now at.group at.member at.from offset (cells D.units D.lost drives.new) (missing_of D.lost drives.new) (missing_of D.lost drives.new) unit.new) (IsBeyond groups.now (missing_of D.lost drives.new) at.group at.from.drive) }
+    ensures outcome { MatchBool result
+        (IsUnitFor groups.now at.group at.member at.from offset (cells D.units D.lost drives.new) (missing_of D.lost drives.new)
+        (missing_of D.lost drives.new) unit.new) (IsBeyond groups.now (missing_of D.lost drives.new) at.group at.from.drive) }
     ensures touched { KeepsDrives D.units D.lost D.failures NoPlace drives.old drives.new }
     ensures elsewhere { SameBut (HasMemberOn groups.now at.group) drives.old drives.new }
 {
@@ -102,7 +105,9 @@ fn read_wandering<D: Drive>(
     requires role { IsRoleIn (group_at groups.now at.group) groups.now.segments at.member offset ParityUnit }
     requires unit { length unit.old ≡ unit_bytes groups.now }
     requires scratch { length scratch.old ≡ 2 * unit_bytes groups.now }
-    ensures outcome { MatchBool result (IsUnitFor groups.now at.group at.member at.from offset (cells D.units D.lost drives.new) (missing_of D.lost drives.new) (missing_of D.lost drives.new) unit.new) (IsBeyond groups.now (missing_of D.lost drives.new) at.group at.from.drive) }
+    ensures outcome { MatchBool result
+        (IsUnitFor groups.now at.group at.member at.from offset (cells D.units D.lost drives.new) (missing_of D.lost drives.new)
+        (missing_of D.lost drives.new) unit.new) (IsBeyond groups.now (missing_of D.lost drives.new) at.group at.from.drive) }
     ensures touched { KeepsDrives D.units D.lost D.failures NoPlace drives.old drives.new }
     ensures elsewhere { SameBut (HasMemberOn groups.now at.group) drives.old drives.new }
 {
@@ -121,7 +126,8 @@ fn read_unused<D: Drive>(
     requires offset { offset < extent_units groups.now.segments }
     requires role { IsRoleIn (group_at groups.now at.group) groups.now.segments at.member offset Unused }
     requires unit { length unit.old ≡ unit_bytes groups.now }
-    ensures had { IsUnitFor groups.now at.group at.member at.from offset (cells D.units D.lost drives.new) (missing_of D.lost drives.new) (missing_of D.lost drives.new) unit.new }
+    ensures had { IsUnitFor groups.now at.group at.member at.from offset (cells D.units D.lost drives.new) (missing_of D.lost drives.new)
+        (missing_of D.lost drives.new) unit.new }
     ensures touched { KeepsDrives D.units D.lost D.failures NoPlace drives.old drives.new }
     ensures elsewhere { SameBut (HasMemberOn groups.now at.group) drives.old drives.new }
 {
@@ -141,7 +147,9 @@ fn unit_for<D: Drive>(
     requires offset { offset < extent_units groups.now.segments }
     requires unit { length unit.old ≡ unit_bytes groups.now }
     requires scratch { length scratch.old ≡ 2 * unit_bytes groups.now }
-    ensures outcome { MatchBool result (IsUnitFor groups.now at.group at.member at.from offset (cells D.units D.lost drives.new) (missing_of D.lost drives.new) (missing_of D.lost drives.new) unit.new) (IsBeyond groups.now (missing_of D.lost drives.new) at.group at.from.drive) }
+    ensures outcome { MatchBool result
+        (IsUnitFor groups.now at.group at.member at.from offset (cells D.units D.lost drives.new) (missing_of D.lost drives.new)
+        (missing_of D.lost drives.new) unit.new) (IsBeyond groups.now (missing_of D.lost drives.new) at.group at.from.drive) }
     ensures touched { KeepsDrives D.units D.lost D.failures NoPlace drives.old drives.new }
     ensures elsewhere { SameBut (HasMemberOn groups.now at.group) drives.old drives.new }
 {
@@ -194,7 +202,8 @@ pub(crate) fn shift_units<D: Drive>(
     requires route { IsRoute D.units groups.now at.group at.member at.from at.to drives.old }
     requires unit { length unit.old ≡ unit_bytes groups.now }
     requires scratch { length scratch.old ≡ 2 * unit_bytes groups.now }
-    ensures ok { OnOk result (AreOnTarget D.units D.lost D.failures groups.now at.group at.member at.from at.to (extent_units groups.now.segments) drives.old drives.new) }
+    ensures ok { OnOk result (AreOnTarget D.units D.lost D.failures groups.now at.group at.member at.from at.to
+        (extent_units groups.now.segments) drives.old drives.new) }
     ensures err { IfErr result (StopsFor groups.now (missing_of D.lost drives.new) at.group at.from at.to) }
     ensures touched { KeepsDrives D.units D.lost D.failures (IsIn groups.now.segments at.to) drives.old drives.new }
     ensures elsewhere { SameBut (IsUsed groups.now at.group at.to) drives.old drives.new }

@@ -36,7 +36,8 @@ impl<D: Drive> Parts<D> {
         requires payload { length payload.old ≡ self.old.groups.payload }
         requires unit { length unit.old ≡ unit_bytes self.old.groups }
         requires scratch { length scratch.old ≡ 2 * unit_bytes self.old.groups }
-        ensures ok { IfOk result (λ kind. WasRead (view_of D.units D.lost D.failures self.old) (view_of D.units D.lost D.failures self.new) slot (content_under kind payload.new)) }
+        ensures ok { IfOk result (λ kind. WasRead (view_of D.units D.lost D.failures self.old) (view_of D.units D.lost D.failures self.new) slot
+            (content_under kind payload.new)) }
         ensures err { IfErr result (FoundGone (view_of D.units D.lost D.failures self.old) (view_of D.units D.lost D.failures self.new) slot) }
         ensures fit { IsFit D.units self.new }
     {
@@ -61,7 +62,8 @@ impl<D: Drive> Parts<D> {
         requires payload { length payload.old ≡ self.old.groups.payload }
         requires unit { length unit.old ≡ unit_bytes self.old.groups }
         requires scratch { length scratch.old ≡ 2 * unit_bytes self.old.groups }
-        ensures ok { IfOk result (λ sight. SawUnit (view_of D.units D.lost D.failures self.old) (view_of D.units D.lost D.failures self.new) asked.now (seen_of sight payload.new)) }
+        ensures ok { IfOk result (λ sight. SawUnit (view_of D.units D.lost D.failures self.old) (view_of D.units D.lost D.failures self.new) asked.now
+            (seen_of sight payload.new)) }
         ensures err { IfErr result (FoundGone (view_of D.units D.lost D.failures self.old) (view_of D.units D.lost D.failures self.new) asked.now.place) }
         ensures fit { IsFit D.units self.new }
     {

@@ -40,7 +40,8 @@ impl<D: Drive> Parts<D> {
         requires route { IsRoute D.units self.old.groups at.group at.member at.from at.to self.old.drives.items }
         requires unit { length unit.old ≡ unit_bytes self.old.groups }
         requires scratch { length scratch.old ≡ 2 * unit_bytes self.old.groups }
-        ensures ok { OnOk result (AreOnTarget D.units D.lost D.failures self.old.groups at.group at.member at.from at.to (extent_units self.old.groups.segments) self.old.drives.items self.new.drives.items) }
+        ensures ok { OnOk result (AreOnTarget D.units D.lost D.failures self.old.groups at.group at.member at.from at.to
+            (extent_units self.old.groups.segments) self.old.drives.items self.new.drives.items) }
         ensures err { IfErr result (StopsFor self.old.groups (missing_in D.lost self.new) at.group at.from at.to) }
         ensures touched { KeepsDrives D.units D.lost D.failures (IsIn self.old.groups.segments at.to) self.old.drives.items self.new.drives.items }
         ensures elsewhere { SameBut (IsUsed self.old.groups at.group at.to) self.old.drives.items self.new.drives.items }
@@ -94,15 +95,18 @@ impl<D: Drive> Parts<D> {
         // The other extent, and why it didn't come to that.
         ensures had { OnOk result (IsBeyondOf self.old.groups (missing_in D.lost self.old) group member → ⊥) }
         ensures present { OnOk result (missing_in D.lost self.new to.drive ≡ false) }
-        ensures copied { OnOk result ((was : Member) → slice_get (members_of self.old.groups group) member ≡ Some was → AreSound self.old.groups (cells_in D.units D.lost self.old)
+        ensures copied { OnOk result ((was : Member) → slice_get (members_of self.old.groups group) member ≡ Some was
+            → AreSound self.old.groups (cells_in D.units D.lost self.old)
             → IsCopied self.old.groups group member was to (cells_in D.units D.lost self.old) (cells_in D.units D.lost self.new)) }
         ensures unused { OnOk result ((was : Member) → slice_get (members_of self.old.groups group) member ≡ Some was
-            → KeepsUnused self.old.groups group member was to (cells_in D.units D.lost self.old) (cells_in D.units D.lost self.new) (missing_in D.lost self.new)) }
+            → KeepsUnused self.old.groups group member was to (cells_in D.units D.lost self.old) (cells_in D.units D.lost self.new)
+            (missing_in D.lost self.new)) }
         ensures told { IfErr result (IsWhyUnmoved self.new.groups (missing_in D.lost self.new) group member to) }
 
         // All slots.
         ensures units { AreSound self.old.groups (cells_in D.units D.lost self.old) → ((slot : ℕ) (unit : List ℕ)
-            → unit_of self.new.groups (cells_in D.units D.lost self.new) slot ≡ Some unit → unit_of self.old.groups (cells_in D.units D.lost self.old) slot ≡ Some unit) }
+            → unit_of self.new.groups (cells_in D.units D.lost self.new) slot ≡ Some unit
+            → unit_of self.old.groups (cells_in D.units D.lost self.old) slot ≡ Some unit) }
         ensures sound { AreSound self.old.groups (cells_in D.units D.lost self.old) → AreSound self.new.groups (cells_in D.units D.lost self.new) }
         ensures touched { KeepsDrives D.units D.lost D.failures (IsIn self.old.groups.segments to) self.old.drives.items self.new.drives.items }
         ensures elsewhere { SameBut (IsUsed self.old.groups group to) self.old.drives.items self.new.drives.items }

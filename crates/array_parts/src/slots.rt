@@ -24,7 +24,8 @@ pub(crate) fn read_slot<D: Drive>(
     requires scratch { length scratch.old ≡ 2 * unit_bytes groups.now }
     ensures ok { OnOk result (unit_of groups.now (cells D.units D.lost drives.new) slot ≡ Some unit.new) }
     ensures gone { IfErr result (NamesGone groups.now (cells D.units D.lost drives.new) slot) }
-    ensures units { AreSound groups.now (cells D.units D.lost drives.old) → KeepsUnits groups.now (cells D.units D.lost drives.old) (cells D.units D.lost drives.new) }
+    ensures units { AreSound groups.now (cells D.units D.lost drives.old)
+        → KeepsUnits groups.now (cells D.units D.lost drives.old) (cells D.units D.lost drives.new) }
     ensures sound { AreSound groups.now (cells D.units D.lost drives.old) → AreSound groups.now (cells D.units D.lost drives.new) }
     ensures touched { KeepsDrives D.units D.lost D.failures NoPlace drives.old drives.new }
     ensures elsewhere { SameBut (HasMemberOn groups.now (slot / 128)) drives.old drives.new }
@@ -50,7 +51,8 @@ pub(crate) fn read_slot_header<D: Drive>(
     requires scratch { length scratch.old ≡ 2 * unit_bytes groups.now }
     ensures ok { OnOk result (header_of groups.now (cells D.units D.lost drives.new) slot ≡ Some header.new) }
     ensures gone { IfErr result (NamesGone groups.now (cells D.units D.lost drives.new) slot) }
-    ensures units { AreSound groups.now (cells D.units D.lost drives.old) → KeepsUnits groups.now (cells D.units D.lost drives.old) (cells D.units D.lost drives.new) }
+    ensures units { AreSound groups.now (cells D.units D.lost drives.old)
+        → KeepsUnits groups.now (cells D.units D.lost drives.old) (cells D.units D.lost drives.new) }
     ensures sound { AreSound groups.now (cells D.units D.lost drives.old) → AreSound groups.now (cells D.units D.lost drives.new) }
     ensures touched { KeepsDrives D.units D.lost D.failures NoPlace drives.old drives.new }
     ensures elsewhere { SameBut (HasMemberOn groups.now (slot / 128)) drives.old drives.new }

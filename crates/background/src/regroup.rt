@@ -35,7 +35,8 @@ pub fn balance(alloc: Global, world: &mut World) -> Result<Regrouped, AllocError
 pub fn rebuild(alloc: Global, world: &mut World, drive: u8) -> Result<Regrouped, AllocError>
     ensures ok { IfOk result (λ outcome. (F : Flat) → Represents world.old F → (G : Flat) × RebuildCase F drive outcome G × Represents world.new G) }
     ensures err { OnErr result (world.new ≡ world.old) }
-    ensures wants { OnErr result ((F : Flat) → Represents world.old F → (s : Shift) × IsRebuildOf F drive (Some s) × IsWanted F (MoveExtent s.group s.member s.to)) }
+    ensures wants { OnErr result ((F : Flat) → Represents world.old F → (s : Shift) × IsRebuildOf F drive (Some s)
+        × IsWanted F (MoveExtent s.group s.member s.to)) }
     ensures room { SameSizes world.old.array world.new.array }
 {
     if drive >= world.array().drive_count() {
@@ -59,7 +60,8 @@ fn plan_balance(world: &World) -> Option<Shift>
 
 fn plan_rebuild(world: &World, drive: u8) -> Option<Shift>
     requires { drive < 16 }
-    ensures plan { (lost : List Bool) × AreLostOf world.now.array.parts lost × IsRebuild world.now.array.parts.owners world.now.array.parts.groups lost drive result }
+    ensures plan { (lost : List Bool) × AreLostOf world.now.array.parts lost
+        × IsRebuild world.now.array.parts.owners world.now.array.parts.groups lost drive result }
     ensures whole { IsWhole world.now.array }
 {
     world.whole();

@@ -27,7 +27,8 @@ impl<D: Drive, C: Hold> Array<D, C> {
         ensures fit { IfOk result (λ r. IsFit D.units r.0) }
         ensures note { IfOk result (λ r. r.0.note ≡ None) }
         ensures claims { IfOk result (λ r. AreClaimsOf C.names self r.1.items) }
-        ensures rests { IfOk result (λ r. (F : Flat) → ShowsArray self F → ((s : ℕ) → F.tickets s ≡ None) → ((s g : ℕ) → F.held s (Shut g) ≡ false) → AreOfPlaces C.names (key_at self) r.1.items) }
+        ensures rests { IfOk result (λ r. (F : Flat) → ShowsArray self F → ((s : ℕ) → F.tickets s ≡ None) → ((s g : ℕ) → F.held s (Shut g) ≡ false)
+            → AreOfPlaces C.names (key_at self) r.1.items) }
         ensures err { IfErr result (λ array. array ≡ self) }
     {
         let Ok(mut claims) = Vec::with_capacity(alloc, self.places.len()) else {

@@ -1,5 +1,6 @@
 // The array: its tables, and the small reads of them.
-ghost use Rattle.std.specs.Prelude.{◌≡◌, ℕ, ◌+◌, ◌*◌, ◌<◌, ◌≤◌, length, map, drop, replicate, slice_index, slice_index_or, None, true, IsTrue, ◌↔◌, IsOk, IfOk, IfErr, OnOk};
+ghost use Rattle.std.specs.Prelude.{◌≡◌, ℕ, ◌+◌, ◌*◌, ◌<◌, ◌≤◌, length, map, drop, replicate};
+ghost use Rattle.std.specs.Prelude.{slice_index, slice_index_or, None, true, IsTrue, ◌↔◌, IsOk, IfOk, IfErr, OnOk};
 ghost use Rattle.map_join.specs.Record.{record_at};
 ghost use Rattle.map_join.specs.Live.{IsBlockAt};
 ghost use Rattle.map_join.specs.Maps.{at, IsSame, IsMapOf};
@@ -63,10 +64,12 @@ impl<D: Drive, C: Hold> Array<D, C> {
         requires count { (3 ≤ length drives.items) × (length drives.items ≤ 16) }
         requires units { HaveUnits D.units drives.items (shape.extents * extent_units shape.segments) }
         requires sized { AreSized D.units (HEADER_BYTES + shape.payload) drives.items }
-        ensures sizes { IfOk result (λ array. IsShapeOf shape array.parts.groups.extents array.parts.groups.segments array.parts.groups.payload array.parts.groups.blocks) }
+        ensures sizes { IfOk result (λ array. IsShapeOf shape array.parts.groups.extents array.parts.groups.segments array.parts.groups.payload
+            array.parts.groups.blocks) }
         ensures drives { IfOk result (λ array. array.parts.drives ≡ map (drive_view D.units D.lost D.failures) drives.items) }
         ensures empty { IfOk result (λ array. IsEmpty array.parts.groups) }
-        ensures ok { IfOk result (λ array. ShowsArray array (new_flat array.parts.groups (length array.parts.drives) (lost_of array.parts) (failed_of array.parts))) }
+        ensures ok { IfOk result (λ array. ShowsArray array
+            (new_flat array.parts.groups (length array.parts.drives) (lost_of array.parts) (failed_of array.parts))) }
         ensures err { IfErr result (λ e. (e.0 ≡ Refusal.Memory) × (e.1 ≡ drives)) }
     {
         let Ok(tables) = new_tables(alloc, shape, drives.len() as u8) else {

@@ -1,5 +1,6 @@
 // A slot that waits becomes the newest place of a block.
-ghost use Rattle.std.specs.Prelude.{◌≡◌, ◌≢◌, ℕ, ◌+◌, ◌<◌, ◌≤◌, List, [], ◌∷◌, ◌++◌, vec_len, slice_index_or, slice_set, MatchResult, IfOk, IfErr, true, Some, None};
+ghost use Rattle.std.specs.Prelude.{◌≡◌, ◌≢◌, ℕ, ◌+◌, ◌<◌, ◌≤◌, List, [], ◌∷◌, ◌++◌};
+ghost use Rattle.std.specs.Prelude.{vec_len, slice_index_or, slice_set, MatchResult, IfOk, IfErr, true, Some, None};
 ghost use Rattle.std.specs.Option.{ForSome};
 ghost use Rattle.map_join.specs.Record.{key_of, record_at};
 ghost use Rattle.map_join.specs.declared.records.Record.{Record};

@@ -109,8 +109,10 @@ impl<D: Drive, C: Hold> Array<D, C> {
         requires none { vec_len claims.old ≡ 0 }
         requires room { 128 ≤ vec_capacity claims.old }
         ensures ok { OnOk result (Entered self.old.parts number class members.items self.new.parts) }
-        ensures opened { OnOk result ((self.new ≡ opened_view self.old self.new.parts self.new.kept) × IsOpened number self.old.kept self.new.kept × AreShutOf C.names self.old number claims.new.items) }
-        ensures err { IfErr result (λ refusal. ((refusal ≡ Refusal.Memory) × (self.new.parts ≡ self.old.parts)) ⊎ (FoundLost self.old.parts members.items self.new.parts refusal)) }
+        ensures opened { OnOk result ((self.new ≡ opened_view self.old self.new.parts self.new.kept) × IsOpened number self.old.kept self.new.kept
+            × AreShutOf C.names self.old number claims.new.items) }
+        ensures err { IfErr result (λ refusal. ((refusal ≡ Refusal.Memory) × (self.new.parts ≡ self.old.parts))
+            ⊎ (FoundLost self.old.parts members.items self.new.parts refusal)) }
         ensures rest { OnErr result ((self.new ≡ with_parts self.old self.new.parts) × (claims.new ≡ claims.old)) }
         ensures whole { IsWhole self.old }
     {
@@ -132,7 +134,8 @@ impl<D: Drive, C: Hold> Array<D, C> {
         requires unit { length unit.old ≡ unit_bytes self.old.parts.groups }
         ensures ok { OnOk result (unit_of self.new.parts.groups (cells_of self.new.parts) slot ≡ Some unit.new) }
         ensures gone { IfErr result (λ e. (e ≡ Refusal.Gone slot) × (unit_of self.new.parts.groups (cells_of self.new.parts) slot ≡ None)) }
-        ensures units { AreSound self.old.parts.groups (cells_of self.old.parts) → KeepsUnits self.old.parts.groups (cells_of self.old.parts) (cells_of self.new.parts) }
+        ensures units { AreSound self.old.parts.groups (cells_of self.old.parts)
+            → KeepsUnits self.old.parts.groups (cells_of self.old.parts) (cells_of self.new.parts) }
         ensures sound { AreSound self.old.parts.groups (cells_of self.old.parts) → AreSound self.new.parts.groups (cells_of self.new.parts) }
         ensures loses { OnlyLoses self.old self.new }
     {
@@ -146,7 +149,8 @@ impl<D: Drive, C: Hold> Array<D, C> {
         requires header { length header.old ≡ HEADER_BYTES }
         ensures ok { OnOk result (header_of self.new.parts.groups (cells_of self.new.parts) slot ≡ Some header.new) }
         ensures gone { IfErr result (λ e. (e ≡ Refusal.Gone slot) × (unit_of self.new.parts.groups (cells_of self.new.parts) slot ≡ None)) }
-        ensures units { AreSound self.old.parts.groups (cells_of self.old.parts) → KeepsUnits self.old.parts.groups (cells_of self.old.parts) (cells_of self.new.parts) }
+        ensures units { AreSound self.old.parts.groups (cells_of self.old.parts)
+            → KeepsUnits self.old.parts.groups (cells_of self.old.parts) (cells_of self.new.parts) }
         ensures sound { AreSound self.old.parts.groups (cells_of self.old.parts) → AreSound self.new.parts.groups (cells_of self.new.parts) }
         ensures loses { OnlyLoses self.old self.new }
     {

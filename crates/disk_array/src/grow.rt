@@ -27,7 +27,8 @@ impl<D: Drive, C: Hold> Array<D, C> {
     pub fn add_drive(&mut self, alloc: Global, drive: D) -> Result<u8, (Refusal, D)>
         requires many { length (D.units drive) ≡ self.old.parts.groups.extents * extent_units self.old.parts.groups.segments }
         requires sized { IsSized (unit_bytes self.old.parts.groups) (D.units drive) }
-        ensures ok { IfOk result (λ number. (number ≡ length self.old.parts.drives) × WasAdded self.old.parts (D.lost drive) (D.failures drive) self.new.parts) }
+        ensures ok { IfOk result (λ number. (number ≡ length self.old.parts.drives)
+            × WasAdded self.old.parts (D.lost drive) (D.failures drive) self.new.parts) }
         ensures err { IfErr result (λ e. (e.1 ≡ drive) × (self.new ≡ self.old)) }
         ensures rest { self.new ≡ with_parts self.old self.new.parts }
         ensures flat { (F : Flat) → ShowsArray self.old F → MatchResult result

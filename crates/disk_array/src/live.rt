@@ -15,7 +15,8 @@ impl<D: Drive, C: Hold> Array<D, C> {
     /// How many of a group's slots are newest places of blocks; no slot is looked at.
     pub fn live_count(&self, group: u16) -> u16
         requires { group < 512 }
-        ensures { (slots : ℕ) → slots_in self.now.parts.groups.segments (group_at self.now.parts.groups group) ≤ slots → IsLiveCount (key_at self.now) group slots result }
+        ensures { (slots : ℕ) → slots_in self.now.parts.groups.segments (group_at self.now.parts.groups group) ≤ slots
+            → IsLiveCount (key_at self.now) group slots result }
     {
         self.live[usize::from(group)]
     }

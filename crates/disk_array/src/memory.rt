@@ -40,7 +40,8 @@ impl<C: Hold> Array<MemDrive, C> {
     /// A new array of drives in memory, all of whose units are zero. There are 3 to 16 drives.
     pub fn in_memory(alloc: Global, shape: Shape, drives: u8) -> Result<Array<MemDrive, C>, Refusal>
         requires { (3 ≤ drives) × (drives ≤ 16) }
-        ensures sizes { IfOk result (λ array. IsShapeOf shape array.parts.groups.extents array.parts.groups.segments array.parts.groups.payload array.parts.groups.blocks) }
+        ensures sizes { IfOk result (λ array. IsShapeOf shape array.parts.groups.extents array.parts.groups.segments array.parts.groups.payload
+            array.parts.groups.blocks) }
         ensures empty { IfOk result (λ array. IsEmpty array.parts.groups) }
         ensures ok { IfOk result (λ array. ShowsArray array (new_flat array.parts.groups drives (nat_le drives) (λ _. no_failures))) }
         ensures err { IfErr result (λ refusal. refusal ≡ Refusal.Memory) }

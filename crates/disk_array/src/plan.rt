@@ -22,7 +22,8 @@ impl<D: Drive, C: Hold> Array<D, C> {
     pub fn plan(&mut self, alloc: Global, slot: u16, unit: &[u8]) -> Result<Planned, Refusal>
         requires slot { IsSlot self.old.parts.groups slot }
         requires unit { length unit.now ≡ unit_bytes self.old.parts.groups }
-        ensures ok { IfOk result (λ plan. IsSlotPlan self.new.parts.groups (cells_of self.new.parts) slot unit.now (listed plan.writes.items) (parity_listed plan.parity)) }
+        ensures ok { IfOk result (λ plan. IsSlotPlan self.new.parts.groups (cells_of self.new.parts) slot unit.now (listed plan.writes.items)
+            (parity_listed plan.parity)) }
         ensures there { OnOk result (IsLost self.new.parts slot → ⊥) }
         ensures err { IfErr result (λ e. ((e ≡ refusal.Memory) × (self.new ≡ self.old)) ⊎ FoundGone self.old.parts self.new.parts slot e) }
         ensures loses { OnlyLoses self.old self.new }

@@ -39,7 +39,8 @@ pub fn read_front<D: Drive>(
     requires place { IsPlace D.units drives.old place }
     requires size { HaveFronts D.units (length front.old) drives.old }
     requires scratch { HaveRoom D.units (length front.old) (length scratch.old) drives.old }
-    ensures read { DidRead (cells (front_units (length front.old) D.units) D.lost drives.old) (cells (front_units (length front.old) D.units) D.lost drives.new) place front.new result }
+    ensures read { DidRead (cells (front_units (length front.old) D.units) D.lost drives.old)
+        (cells (front_units (length front.old) D.units) D.lost drives.new) place front.new result }
     ensures drives { KeepsDrives D.units D.lost D.failures NoPlace drives.old drives.new }
     ensures others { SameBut (λ d. d ≡ place.drive) drives.old drives.new }
 {

@@ -1,5 +1,6 @@
 // The groups by number.
-ghost use Rattle.std.specs.Prelude.{◌≡◌, ◌↔◌, IsTrue, ℕ, ◌+◌, ◌/◌, ◌<◌, ◌≤◌, Bool, length, Some, None, IfOk, OnOk, OnErr, IfErr, MatchOption, OnSome, slice_get, replicate};
+ghost use Rattle.std.specs.Prelude.{◌≡◌, ◌↔◌, IsTrue, ℕ, ◌+◌, ◌/◌, ◌<◌, ◌≤◌, Bool, length};
+ghost use Rattle.std.specs.Prelude.{Some, None, IfOk, OnOk, OnErr, IfErr, MatchOption, OnSome, slice_get, replicate};
 ghost use Rattle.extent_groups.specs.Groups.{parity_count};
 ghost use Rattle.extent_groups.specs.Geometry.{slot_count, copies_of, parity_of, stripe_of, AreCopies, IsStripe};
 
@@ -211,7 +212,8 @@ impl GroupTable {
     /// The stripe of a parity slot.
     pub fn row_of(&self, slot: u16) -> Stripe
         requires { IsSlotOf Parity self.now slot }
-        ensures site { site_of self.now slot ≡ Some (InStripe (places_of self.now.segments (members_of self.now (slot / 128)) result.offset) result.parity result.member) }
+        ensures site { site_of self.now slot
+            ≡ Some (InStripe (places_of self.now.segments (members_of self.now (slot / 128)) result.offset) result.parity result.member) }
         ensures inside { (result.offset < extent_units self.now.segments) × (length (members_of self.now (slot / 128)) ≤ 8) }
         ensures groups { AreGroups self.now }
     {

@@ -1,5 +1,6 @@
 // A drive in memory, which can be lost from outside or by a fuse.
-ghost use Rattle.std.specs.Prelude.{◌≡◌, ℕ, ◌+◌, ◌*◌, ◌-◌, ◌≤◌, ◌<◌, not, true, List, length, slice_get, slice_set, Some, take, drop, ◌++◌, IfOk, OnOk, OnErr, is_err, vec_len};
+ghost use Rattle.std.specs.Prelude.{◌≡◌, ℕ, ◌+◌, ◌*◌, ◌-◌, ◌≤◌, ◌<◌, not, true, List, length};
+ghost use Rattle.std.specs.Prelude.{slice_get, slice_set, Some, take, drop, ◌++◌, IfOk, OnOk, OnErr, is_err, vec_len};
 ghost use Rattle.extents.specs.Failures.{Counts, StaysSteady};
 ghost use Rattle.extents.specs.Units.{IsSized, HaveFront, HasRoom, fronts, zero_units};
 ghost use Rattle.extents.specs.Condition.{is_gone, failures_of, after_call};
@@ -160,7 +161,8 @@ impl Drive for MemDrive {
         ensures lost { is_gone self.new.condition ≡ is_err result }
         ensures stays { is_gone self.old.condition ≡ true → is_gone self.new.condition ≡ true }
         ensures count { Counts (is_gone self.old.condition) (is_gone self.new.condition) (failures_of self.old.condition) (failures_of self.new.condition) }
-        ensures steady { StaysSteady (is_gone self.old.condition) (is_gone self.new.condition) (failures_of self.old.condition) (failures_of self.new.condition) }
+        ensures steady { StaysSteady (is_gone self.old.condition) (is_gone self.new.condition) (failures_of self.old.condition)
+            (failures_of self.new.condition) }
         ensures condition { self.new.condition ≡ after_call self.old.condition }
     {
         self.answer_read(at, unit)
@@ -180,7 +182,8 @@ impl Drive for MemDrive {
         ensures lost { is_gone self.new.condition ≡ is_err result }
         ensures stays { is_gone self.old.condition ≡ true → is_gone self.new.condition ≡ true }
         ensures count { Counts (is_gone self.old.condition) (is_gone self.new.condition) (failures_of self.old.condition) (failures_of self.new.condition) }
-        ensures steady { StaysSteady (is_gone self.old.condition) (is_gone self.new.condition) (failures_of self.old.condition) (failures_of self.new.condition) }
+        ensures steady { StaysSteady (is_gone self.old.condition) (is_gone self.new.condition) (failures_of self.old.condition)
+            (failures_of self.new.condition) }
         ensures condition { self.new.condition ≡ after_call self.old.condition }
     {
         self.answer_read(at, front)
@@ -194,7 +197,8 @@ impl Drive for MemDrive {
         ensures lost { is_gone self.new.condition ≡ is_err result }
         ensures stays { is_gone self.old.condition ≡ true → is_gone self.new.condition ≡ true }
         ensures count { Counts (is_gone self.old.condition) (is_gone self.new.condition) (failures_of self.old.condition) (failures_of self.new.condition) }
-        ensures steady { StaysSteady (is_gone self.old.condition) (is_gone self.new.condition) (failures_of self.old.condition) (failures_of self.new.condition) }
+        ensures steady { StaysSteady (is_gone self.old.condition) (is_gone self.new.condition) (failures_of self.old.condition)
+            (failures_of self.new.condition) }
         ensures condition { self.new.condition ≡ after_call self.old.condition }
     {
         self.answer_write(at, unit, &[])
@@ -217,7 +221,8 @@ impl Drive for MemDrive {
         ensures lost { is_gone self.new.condition ≡ is_err result }
         ensures stays { is_gone self.old.condition ≡ true → is_gone self.new.condition ≡ true }
         ensures count { Counts (is_gone self.old.condition) (is_gone self.new.condition) (failures_of self.old.condition) (failures_of self.new.condition) }
-        ensures steady { StaysSteady (is_gone self.old.condition) (is_gone self.new.condition) (failures_of self.old.condition) (failures_of self.new.condition) }
+        ensures steady { StaysSteady (is_gone self.old.condition) (is_gone self.new.condition) (failures_of self.old.condition)
+            (failures_of self.new.condition) }
         ensures condition { self.new.condition ≡ after_call self.old.condition }
     {
         self.answer_write(at, front, rest)

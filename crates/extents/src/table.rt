@@ -1,5 +1,6 @@
 // Who owns which extent.
-ghost use Rattle.std.specs.Prelude.{◌≡◌, ◌↔◌, IsTrue, ℕ, ◌+◌, ◌<◌, ◌≤◌, List, [], length, IfOk, IfSome, OnOk, OnErr, Option, None, Some, ◌∷◌, replicate, count_by, position, is_some, is_none, slice_set};
+ghost use Rattle.std.specs.Prelude.{◌≡◌, ◌↔◌, IsTrue, ℕ, ◌+◌, ◌<◌, ◌≤◌, List, [], length, IfOk, IfSome};
+ghost use Rattle.std.specs.Prelude.{OnOk, OnErr, Option, None, Some, ◌∷◌, replicate, count_by, position, is_some, is_none, slice_set};
 
 use crate::Shape;
 use std::alloc::{AllocError, Global};

@@ -12,10 +12,6 @@ use Rattle.flat_machine.specs.History.{ComesNext, IsChain, IsWriteChain}
 use Rattle.flat_machine.proofs.Pairs.{equal, unequal, equal_back}
 use Rattle.flat_machine.proofs.Newest.{told_at, untold_at}
 
-or_else_none : {X : Type 0} (o : Option X) → or_else o None ≡ o
-or_else_none (Some x) = refl
-or_else_none None = refl
-
 -- a write that is pushed is the last of its block, and no other block's
 pub last_here : (ws : List Write) (w : Write) → last_write (ws ++ w ∷ []) w.block ≡ Some w
 last_here [] w = ap (λ b. cond b (Some w) None) (equal w.block w.block refl)

@@ -42,7 +42,8 @@ impl Found {
             → IsOk result × IsSame (key_in self.new.newest) (join (key_in self.old.newest) (only told)) × (self.new.twins ≡ self.old.twins) }
         ensures twin { stamp_at (key_in self.old.newest) told.block ≡ stamp_of told → stamp_at (at self.old.twins) told.block < stamp_of told
             → OnOk result ((self.new.newest ≡ self.old.newest) × IsSame (at self.new.twins) (join (at self.old.twins) (only told))) }
-        ensures older { stamp_of told < stamp_at (key_in self.old.newest) told.block → IsOk result × (self.new.newest ≡ self.old.newest) × (self.new.twins ≡ self.old.twins) }
+        ensures older { stamp_of told < stamp_at (key_in self.old.newest) told.block → IsOk result × (self.new.newest ≡ self.old.newest)
+            × (self.new.twins ≡ self.old.twins) }
         ensures third { stamp_at (key_in self.old.newest) told.block ≡ stamp_of told → stamp_of told ≤ stamp_at (at self.old.twins) told.block
             → IsOk result × (self.new.newest ≡ self.old.newest) × (self.new.twins ≡ self.old.twins) }
     {
@@ -78,7 +79,8 @@ impl Found {
     /// noted twice, as in an array that was never damaged, no block is searched.
     pub(crate) fn twice(&self, alloc: Global, blocks: u32) -> Option<(u32, u16, u16)>
         requires { length self.now.newest ≡ blocks }
-        ensures { MatchOption result (HasNoTwins (key_in self.now.newest) (at self.now.twins) blocks) (λ t. AreFirstTwins (key_in self.now.newest) (at self.now.twins) t.0 t.1 t.2) }
+        ensures { MatchOption result (HasNoTwins (key_in self.now.newest) (at self.now.twins) blocks)
+            (λ t. AreFirstTwins (key_in self.now.newest) (at self.now.twins) t.0 t.1 t.2) }
     {
         let first = self.twins.lowest_difference(&BlockMap::new(alloc))?;
         for block in first..blocks {

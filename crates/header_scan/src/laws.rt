@@ -11,7 +11,8 @@ ghost use Rattle.header_scan.specs.Ranges.{MakeUp, IsMapOfRange, HasNoTwice, Sha
 /// Headers give one map, and the maps of two parts that make up the whole join to the map of the whole.
 pub fn scan_laws()
     ensures one { (bytes : ℕ → Option (List ℕ)) (M N : ℕ → ℕ) → IsScanned bytes M → IsScanned bytes N → IsSame M N }
-    ensures parts { (whole one other : ℕ → Option (List ℕ)) (K M N : ℕ → ℕ) → MakeUp whole one other → IsScanned whole K → IsScanned one M → IsScanned other N → IsSame (join M N) K }
+    ensures parts { (whole one other : ℕ → Option (List ℕ)) (K M N : ℕ → ℕ) → MakeUp whole one other → IsScanned whole K → IsScanned one M → IsScanned other N
+        → IsSame (join M N) K }
 {
     // The laws are the contract: there is nothing to do.
 }
@@ -33,7 +34,8 @@ pub fn parts_laws()
         → IsMapOfRange groups now low high M → HasNoTwice (between low high (unit_of groups now)) → HasNoTwice (between low high (unit_of groups start)) }
     ensures calls { (groups : Groups) (c : Cells) (low middle high : ℕ) (M N : ℕ → ℕ) → low ≤ middle → middle ≤ high
         → IsMapOfRange groups c low middle M → IsMapOfRange groups c middle high N → IsMapOfRange groups c low high (join M N) }
-    ensures whole { (groups : Groups) (c : Cells) (low high : ℕ) (K M : ℕ → ℕ) → IsMapOfRange groups c low high M → IsMapOfRange groups c low high K → IsSame M K }
+    ensures whole { (groups : Groups) (c : Cells) (low high : ℕ) (K M : ℕ → ℕ) → IsMapOfRange groups c low high M → IsMapOfRange groups c low high K
+        → IsSame M K }
 
     // No block twice.
     ensures once { (groups : Groups) (c : Cells) (low middle high : ℕ) (M N : ℕ → ℕ) → low ≤ middle → middle ≤ high → high ≤ 2 ^ 16

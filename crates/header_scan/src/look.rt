@@ -58,7 +58,8 @@ pub(crate) fn look<U: Units>(
     requires slot { IsSlot (U.groups units.old) slot }
     requires scratch { length scratch.old ≡ 2 * unit_bytes (U.groups units.old) }
     ensures ok { AreSound (U.groups units.old) (U.cells units.old) → IfOk result (Tells blocks (unit_of (U.groups units.old) (U.cells units.old)) slot) }
-    ensures err { AreSound (U.groups units.old) (U.cells units.old) → IfErr result (IsFaultAt blocks (unit_of (U.groups units.old) (U.cells units.old)) (unit_of (U.groups units.new) (U.cells units.new)) slot) }
+    ensures err { AreSound (U.groups units.old) (U.cells units.old)
+        → IfErr result (IsFaultAt blocks (unit_of (U.groups units.old) (U.cells units.old)) (unit_of (U.groups units.new) (U.cells units.new)) slot) }
     ensures inside { IfOk result (IsFine blocks slot) }
     ensures ranges { IfOk result IsRanged }
     ensures units { AreSound (U.groups units.old) (U.cells units.old) → KeepsUnits (U.groups units.old) (U.cells units.old) (U.cells units.new) }

@@ -82,7 +82,8 @@ fn note_groups<U: Units>(
     ensures ok { AreSound (U.groups units.old) (U.cells units.old)
         → IfOk result (λ f. IsUnderway (U.groups units.old) (U.cells units.old) (U.cells units.new) (128 * first) (128 * end) (key_in f.newest) (at f.twins)) }
     ensures err { AreSound (U.groups units.old) (U.cells units.old)
-        → IfErr result (IsFirstFault (U.groups units.old) (128 * first) (128 * end) (unit_of (U.groups units.old) (U.cells units.old)) (unit_of (U.groups units.old) (U.cells units.new))) }
+        → IfErr result (IsFirstFault (U.groups units.old) (128 * first) (128 * end) (unit_of (U.groups units.old) (U.cells units.old))
+        (unit_of (U.groups units.old) (U.cells units.new))) }
     ensures many { IfOk result (λ f. length f.newest ≡ (U.groups units.old).blocks) }
     ensures inside { IfOk result (λ f. ArePlaced (U.groups units.old) (128 * end) (key_in f.newest)) }
     ensures keeps { Keeps (U.groups units.old) (U.cells units.old) (U.cells units.new) }
@@ -129,7 +130,8 @@ pub fn scan_groups<U: Units>(
     ensures once { AreSound (U.groups units.old) (U.cells units.old)
         → OnOk result ((b p q : ℕ) → IsTwice (between (128 * first) (128 * end) (unit_of (U.groups units.old) (U.cells units.old))) b p q → ⊥) }
     ensures fault { AreSound (U.groups units.old) (U.cells units.old)
-        → IfErr result (IsFirstFault (U.groups units.old) (128 * first) (128 * end) (unit_of (U.groups units.old) (U.cells units.old)) (unit_of (U.groups units.old) (U.cells units.new))) }
+        → IfErr result (IsFirstFault (U.groups units.old) (128 * first) (128 * end) (unit_of (U.groups units.old) (U.cells units.old))
+        (unit_of (U.groups units.old) (U.cells units.new))) }
     ensures inside { IfOk result (λ m. HasPlaces (U.groups units.old) (at m)) }
     ensures keeps { Keeps (U.groups units.old) (U.cells units.old) (U.cells units.new) }
     ensures groups { U.groups units.new ≡ U.groups units.old }
@@ -161,7 +163,8 @@ pub fn scan<U: Units>(alloc: Global, units: &mut U) -> Result<BlockMap, ScanFaul
     ensures once { AreSound (U.groups units.old) (U.cells units.old)
         → OnOk result ((b p q : ℕ) → IsTwice (between 0 (2 ^ 16) (unit_of (U.groups units.old) (U.cells units.old))) b p q → ⊥) }
     ensures fault { AreSound (U.groups units.old) (U.cells units.old)
-        → IfErr result (IsFirstFault (U.groups units.old) 0 (2 ^ 16) (unit_of (U.groups units.old) (U.cells units.old)) (unit_of (U.groups units.old) (U.cells units.new))) }
+        → IfErr result (IsFirstFault (U.groups units.old) 0 (2 ^ 16) (unit_of (U.groups units.old) (U.cells units.old))
+        (unit_of (U.groups units.old) (U.cells units.new))) }
     ensures inside { IfOk result (λ m. HasPlaces (U.groups units.old) (at m)) }
     ensures keeps { Keeps (U.groups units.old) (U.cells units.old) (U.cells units.new) }
     ensures groups { U.groups units.new ≡ U.groups units.old }

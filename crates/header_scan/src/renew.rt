@@ -29,7 +29,8 @@ pub fn restart<D: Drive, C: Hold>(
     // Without a note.
     ensures ok { parts.note ≡ None → IfOk result (λ r. WasMade D.units D.lost D.failures parts r.0) }
     ensures stands { parts.note ≡ None → AreAllSound D.units D.lost parts → IfOk result (λ r. StandsForOne D.units D.lost D.failures parts r.0) }
-    ensures fault { parts.note ≡ None → AreAllSound D.units D.lost parts → IfErr result (λ e. IsRestartFault D.units D.lost parts e.1 C.names claims.items e.0) }
+    ensures fault { parts.note ≡ None → AreAllSound D.units D.lost parts
+        → IfErr result (λ e. IsRestartFault D.units D.lost parts e.1 C.names claims.items e.0) }
     ensures back { parts.note ≡ None → IfErr result (λ e. LosesOnly D.units D.lost D.failures parts e.1) }
 
     // With a note or without.

@@ -1,5 +1,6 @@
 // A block map: of each block the greatest key that it took, in pages of 64 consecutive blocks.
-ghost use Rattle.std.specs.Prelude.{◌≡◌, ◌≢◌, ◌==◌, ℕ, ◌+◌, ◌*◌, ◌/◌, ◌%◌, ◌<◌, ◌≤◌, ◌^◌, List, [], ◌∷◌, ◌++◌, IsOk, IfOk, IfSome, MatchOption, OnOk, OnErr, IsTrue, ◌↔◌, max, length, slice_index, Some, None};
+ghost use Rattle.std.specs.Prelude.{◌≡◌, ◌≢◌, ◌==◌, ℕ, ◌+◌, ◌*◌, ◌/◌, ◌%◌, ◌<◌, ◌≤◌, ◌^◌, List, [], ◌∷◌};
+ghost use Rattle.std.specs.Prelude.{◌++◌, IsOk, IfOk, IfSome, MatchOption, OnOk, OnErr, IsTrue, ◌↔◌, max, length, slice_index, Some, None};
 ghost use Rattle.map_join.specs.Record.{record_at, key_of};
 ghost use Rattle.map_join.specs.Maps.{find, at, lanes_of, IsSame, IsBelow, join, lone, only, IsMapOf, IsListOf, IsPartlyJoined, IsDifference};
 ghost use Rattle.map_join.specs.Numbers.{refusal_number};

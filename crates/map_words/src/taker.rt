@@ -23,7 +23,8 @@ impl<N: Naming> Model for Taker<N> {
 
     ghost view = { λ t. t.seat.me.0 };
 
-    ghost invariant = { λ t. (t.seat.me.0.share ≡ t.share) × (0 < t.share) × (t.share ≤ 65536) × All (λ r. r.block < blocks_of N.table) t.seat.me.0.taken × All (λ f. f.block < blocks_of N.table) t.seat.me.0.found × (t.seat.table_id ≡ N.table) × (t.seat.me.1 ≡ []) };
+    ghost invariant = { λ t. (t.seat.me.0.share ≡ t.share) × (0 < t.share) × (t.share ≤ 65536) × All (λ r. r.block < blocks_of N.table) t.seat.me.0.taken
+        × All (λ f. f.block < blocks_of N.table) t.seat.me.0.found × (t.seat.table_id ≡ N.table) × (t.seat.me.1 ≡ []) };
 }
 
 /// Why a Taker was not split.

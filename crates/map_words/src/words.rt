@@ -49,7 +49,8 @@ impl Model for Unnamed {
 
     ghost view = { λ t. t.table.shared.table_id };
 
-    ghost invariant = { λ t. (t.table.shared.key ≡ t.blocks) × (t.table.shared.table_id.words ≡ t.blocks + 8) × (t.seat.table_id ≡ t.table.shared.table_id) × (t.seat.me ≡ (opening, [])) };
+    ghost invariant = { λ t. (t.table.shared.key ≡ t.blocks) × (t.table.shared.table_id.words ≡ t.blocks + 8) × (t.seat.table_id ≡ t.table.shared.table_id)
+        × (t.seat.me ≡ (opening, [])) };
 }
 
 /// Why a table was not made.

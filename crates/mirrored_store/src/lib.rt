@@ -9,7 +9,8 @@ ghost use Rattle.extents.specs.declared.shape.TheConstants.{HEADER_BYTES};
 ghost use Rattle.extent_groups.specs.Cells.{cells, front, front_units, held};
 ghost use Rattle.extent_groups.specs.Units.{Pair, unit_at};
 ghost use Rattle.extent_groups.specs.Calls.{AreSized, HaveFronts, HaveRoom, IsPlace, if_ok, NoPlace, SameBut, KeepsDrives, FadesAt};
-ghost use Rattle.extent_groups.specs.Stores.{unit_bytes, unit_of, header_of, IsBuffer, AreSound, IsSlotOf, AreDrives, KeepsUnits, Wrote, NamesGone, IsOwn, IsOwnOf, AreCopies, LeavesSites, HasMemberOn};
+ghost use Rattle.extent_groups.specs.Stores.{unit_bytes, unit_of, header_of, IsBuffer, AreSound, IsSlotOf, AreDrives, KeepsUnits};
+ghost use Rattle.extent_groups.specs.Stores.{Wrote, NamesGone, IsOwn, IsOwnOf, AreCopies, LeavesSites, HasMemberOn};
 ghost use Rattle.extent_groups.specs.declared.place.Place.{Place};
 ghost use Rattle.extent_groups.specs.Planned.{present, after, WroteByPlan};
 
@@ -33,7 +34,8 @@ fn read_fronts<D: Drive>(
     requires scratch { IsBuffer (unit_bytes groups.now) (length buffer.old) (length scratch.old) }
     ensures front { front (length buffer.old) (unit_of groups.now (cells D.units D.lost drives.new) slot) ≡ if_ok result buffer.new }
     ensures whole { length buffer.old ≡ unit_bytes groups.now → unit_of groups.now (cells D.units D.lost drives.new) slot ≡ if_ok result buffer.new }
-    ensures units { AreSound groups.now (cells D.units D.lost drives.old) → KeepsUnits groups.now (cells D.units D.lost drives.old) (cells D.units D.lost drives.new) }
+    ensures units { AreSound groups.now (cells D.units D.lost drives.old)
+        → KeepsUnits groups.now (cells D.units D.lost drives.old) (cells D.units D.lost drives.new) }
     ensures sound { AreSound groups.now (cells D.units D.lost drives.old) → AreSound groups.now (cells D.units D.lost drives.new) }
     ensures touched { KeepsDrives D.units D.lost D.failures NoPlace drives.old drives.new }
     ensures elsewhere { SameBut (HasMemberOn groups.now (slot / 128)) drives.old drives.new }
@@ -111,7 +113,8 @@ pub fn read<D: Drive>(
     requires scratch { length _scratch.old ≡ 2 * unit_bytes groups.now }
     ensures ok { OnOk result (unit_of groups.now (cells D.units D.lost drives.new) slot ≡ Some unit.new) }
     ensures gone { IfErr result (NamesGone groups.now (cells D.units D.lost drives.new) slot) }
-    ensures units { AreSound groups.now (cells D.units D.lost drives.old) → KeepsUnits groups.now (cells D.units D.lost drives.old) (cells D.units D.lost drives.new) }
+    ensures units { AreSound groups.now (cells D.units D.lost drives.old)
+        → KeepsUnits groups.now (cells D.units D.lost drives.old) (cells D.units D.lost drives.new) }
     ensures sound { AreSound groups.now (cells D.units D.lost drives.old) → AreSound groups.now (cells D.units D.lost drives.new) }
     ensures touched { KeepsDrives D.units D.lost D.failures NoPlace drives.old drives.new }
     ensures elsewhere { SameBut (HasMemberOn groups.now (slot / 128)) drives.old drives.new }
@@ -136,7 +139,8 @@ pub fn read_header<D: Drive>(
     requires scratch { length scratch.old ≡ 2 * unit_bytes groups.now }
     ensures ok { OnOk result (header_of groups.now (cells D.units D.lost drives.new) slot ≡ Some header.new) }
     ensures gone { IfErr result (NamesGone groups.now (cells D.units D.lost drives.new) slot) }
-    ensures units { AreSound groups.now (cells D.units D.lost drives.old) → KeepsUnits groups.now (cells D.units D.lost drives.old) (cells D.units D.lost drives.new) }
+    ensures units { AreSound groups.now (cells D.units D.lost drives.old)
+        → KeepsUnits groups.now (cells D.units D.lost drives.old) (cells D.units D.lost drives.new) }
     ensures sound { AreSound groups.now (cells D.units D.lost drives.old) → AreSound groups.now (cells D.units D.lost drives.new) }
     ensures touched { KeepsDrives D.units D.lost D.failures NoPlace drives.old drives.new }
     ensures elsewhere { SameBut (HasMemberOn groups.now (slot / 128)) drives.old drives.new }

@@ -24,7 +24,8 @@ pub fn plan<D: Drive>(
     requires slot { IsSlotOf Mirrored groups.now slot }
     requires drives { AreDrives D.units groups.now drives.old }
     requires unit { length unit.now ≡ unit_bytes groups.now }
-    ensures ok { IfOk result (λ plan. IsPlanned groups.now (cells D.units D.lost drives.new) slot unit.now (λ place. unit.now) (listed plan.writes.items) × (plan.parity ≡ None)) }
+    ensures ok { IfOk result (λ plan. IsPlanned groups.now (cells D.units D.lost drives.new) slot unit.now (λ place. unit.now) (listed plan.writes.items)
+        × (plan.parity ≡ None)) }
     ensures listed { IfOk result (λ plan. IsPlan groups.now (cells D.units D.lost drives.new) slot unit.now (λ place. unit.now) (listed plan.writes.items)) }
     ensures there { OnOk result (IsGone groups.now (missing_of D.lost drives.new) slot → ⊥) }
     ensures err { IfErr result (λ e. (e ≡ refusal.Memory) ⊎ ((e ≡ refusal.Gone slot) × (unit_of groups.now (cells D.units D.lost drives.new) slot ≡ None))) }

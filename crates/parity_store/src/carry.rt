@@ -61,7 +61,8 @@ pub(crate) fn write_stripe<D: Drive>(
     requires sum { length sum.old ≡ length unit.now }
     ensures unit { unit_at (length unit.now) (cells D.units D.lost drives.new) (InStripe (row_at groups.now group at.now.offset) at.now.parity at.now.member)
         ≡ if_ok result unit.now }
-    ensures leaves { IsSoundAt (length unit.now) (cells D.units D.lost drives.old) (InStripe (row_at groups.now group at.now.offset) at.now.parity at.now.member)
+    ensures leaves { IsSoundAt (length unit.now) (cells D.units D.lost drives.old)
+        (InStripe (row_at groups.now group at.now.offset) at.now.parity at.now.member)
         → LeavesSites (length unit.now) (cells D.units D.lost drives.old) (cells D.units D.lost drives.new)
         (InStripe (row_at groups.now group at.now.offset) at.now.parity at.now.member) }
     ensures touched { KeepsDrives D.units D.lost D.failures

@@ -35,7 +35,12 @@ fn add_member<D: Drive>(
     requires readable { IsReadable D.units groups.now others.group others.offset (length sum.old) drives.old }
     requires part { length part.old ≡ length sum.old }
     requires scratch { HaveRoom D.units (length sum.old) (length scratch.old) drives.old }
-    ensures outcome { MatchBool result (AddedOne (length sum.old) (cells (front_units (length sum.old) D.units) D.lost drives.old) (cells (front_units (length sum.old) D.units) D.lost drives.new) (row_at groups.now others.group others.offset) others.first others.second number sum.old sum.new) (Missed (cells (front_units (length sum.old) D.units) D.lost drives.old) (cells (front_units (length sum.old) D.units) D.lost drives.new) (row_at groups.now others.group others.offset) others.first others.second) }
+    ensures outcome { MatchBool result
+        (AddedOne (length sum.old) (cells (front_units (length sum.old) D.units) D.lost drives.old)
+        (cells (front_units (length sum.old) D.units) D.lost drives.new)
+        (row_at groups.now others.group others.offset) others.first others.second number sum.old sum.new)
+        (Missed (cells (front_units (length sum.old) D.units) D.lost drives.old) (cells (front_units (length sum.old) D.units) D.lost drives.new)
+        (row_at groups.now others.group others.offset) others.first others.second) }
     ensures touched { KeepsDrives D.units D.lost D.failures NoPlace drives.old drives.new }
     ensures elsewhere { SameBut (HasMemberOn groups.now others.group) drives.old drives.new }
 {
@@ -67,7 +72,12 @@ pub(crate) fn add_others<D: Drive>(
     requires readable { IsReadable D.units groups.now others.group others.offset (length sum.old) drives.old }
     requires part { length part.old ≡ length sum.old }
     requires scratch { HaveRoom D.units (length sum.old) (length scratch.old) drives.old }
-    ensures outcome { MatchBool result (Added (length sum.old) (cells (front_units (length sum.old) D.units) D.lost drives.old) (cells (front_units (length sum.old) D.units) D.lost drives.new) (row_at groups.now others.group others.offset) others.first others.second sum.old sum.new) (Missed (cells (front_units (length sum.old) D.units) D.lost drives.old) (cells (front_units (length sum.old) D.units) D.lost drives.new) (row_at groups.now others.group others.offset) others.first others.second) }
+    ensures outcome { MatchBool result
+        (Added (length sum.old) (cells (front_units (length sum.old) D.units) D.lost drives.old)
+        (cells (front_units (length sum.old) D.units) D.lost drives.new)
+        (row_at groups.now others.group others.offset) others.first others.second sum.old sum.new)
+        (Missed (cells (front_units (length sum.old) D.units) D.lost drives.old) (cells (front_units (length sum.old) D.units) D.lost drives.new)
+        (row_at groups.now others.group others.offset) others.first others.second) }
     ensures touched { KeepsDrives D.units D.lost D.failures NoPlace drives.old drives.new }
     ensures elsewhere { SameBut (HasMemberOn groups.now others.group) drives.old drives.new }
 {

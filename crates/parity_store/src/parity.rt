@@ -12,7 +12,8 @@ use crate::stripe::read_stripe;
 use extent_groups::{GroupTable, Stripe};
 use extents::Drive;
 
-/// Reads the parity unit at an offset of a group, or adds up all other members' where its drive is lost, with two buffers of a unit's length; false where another member is lost too.
+/// Reads the parity unit at an offset of a group, or adds up all other members' where its drive is lost, with two buffers of a
+/// unit's length; false where another member is lost too.
 pub fn read_parity<D: Drive>(
     groups: &GroupTable,
     drives: &mut [D],
@@ -27,7 +28,8 @@ pub fn read_parity<D: Drive>(
     requires unit { length unit.old ≡ unit_bytes groups.now }
     requires scratch { length scratch.old ≡ 2 * unit_bytes groups.now }
     ensures told { parity_unit groups.now (cells D.units D.lost drives.new) group offset ≡ if_ok result unit.new }
-    ensures units { AreSound groups.now (cells D.units D.lost drives.old) → KeepsUnits groups.now (cells D.units D.lost drives.old) (cells D.units D.lost drives.new) }
+    ensures units { AreSound groups.now (cells D.units D.lost drives.old)
+        → KeepsUnits groups.now (cells D.units D.lost drives.old) (cells D.units D.lost drives.new) }
     ensures sound { AreSound groups.now (cells D.units D.lost drives.old) → AreSound groups.now (cells D.units D.lost drives.new) }
     ensures touched { KeepsDrives D.units D.lost D.failures NoPlace drives.old drives.new }
     ensures elsewhere { SameBut (HasMemberOn groups.now group) drives.old drives.new }

@@ -36,7 +36,8 @@ pub(crate) fn read_stripe<D: Drive>(
     requires readable { IsReadable D.units groups.now group at.now.offset (length front.old) drives.old }
     requires part { length part.old ≡ length front.old }
     requires scratch { HaveRoom D.units (length front.old) (length scratch.old) drives.old }
-    ensures unit { unit_at (length front.old) (cells (front_units (length front.old) D.units) D.lost drives.new) (InStripe (row_at groups.now group at.now.offset) at.now.parity at.now.member) ≡ if_ok result front.new }
+    ensures unit { unit_at (length front.old) (cells (front_units (length front.old) D.units) D.lost drives.new)
+        (InStripe (row_at groups.now group at.now.offset) at.now.parity at.now.member) ≡ if_ok result front.new }
     ensures touched { KeepsDrives D.units D.lost D.failures NoPlace drives.old drives.new }
     ensures elsewhere { SameBut (HasMemberOn groups.now group) drives.old drives.new }
 {

@@ -73,8 +73,10 @@ pub(crate) fn find_way<D: Drive>(
     requires laid { IsLaid D.units groups.now group at.now.offset (length unit.now) drives.old }
     requires part { length part.old ≡ length unit.now }
     requires sum { length sum.old ≡ length unit.now }
-    ensures told { (home parity : Place) → slice_get (row_at groups.now group at.now.offset) at.now.member ≡ Some home → slice_get (row_at groups.now group at.now.offset) at.now.parity ≡ Some parity
-        → IsDraft (length unit.now) (cells D.units D.lost drives.new) (row_at groups.now group at.now.offset) at.now.parity at.now.member home parity unit.now sum.new result }
+    ensures told { (home parity : Place) → slice_get (row_at groups.now group at.now.offset) at.now.member ≡ Some home
+        → slice_get (row_at groups.now group at.now.offset) at.now.parity ≡ Some parity
+        → IsDraft (length unit.now) (cells D.units D.lost drives.new)
+        (row_at groups.now group at.now.offset) at.now.parity at.now.member home parity unit.now sum.new result }
     ensures fades { (x : Place) → FadesAt (cells D.units D.lost drives.old) (cells D.units D.lost drives.new) x }
     ensures touched { KeepsDrives D.units D.lost D.failures NoPlace drives.old drives.new }
     ensures elsewhere { SameBut (HasMemberOn groups.now group) drives.old drives.new }

@@ -57,7 +57,8 @@ fn plan_fill<D: Drive, C: Hold>(
     requires { length payload.now ≡ array.old.parts.groups.payload }
     ensures flat { (F : Flat) (w : ℕ) → ShowsArray array.old F → F.held slot (Worker w) ≡ true → MatchResult result
         (λ list. IsStepList D.units D.lost D.failures array.new F slot (say.Fill w slot (Payload payload.now)) (λ answer. answer ≡ say.Filled slot) list.items)
-        (λ e. MayRefuse e (IsWanted F (say.Fill w slot (Payload payload.now))) ((G : Flat) × Case F (say.Fill w slot (Payload payload.now)) (say.Refused e) G × ShowsArray array.new G)) }
+        (λ e. MayRefuse e (IsWanted F (say.Fill w slot (Payload payload.now)))
+        ((G : Flat) × Case F (say.Fill w slot (Payload payload.now)) (say.Refused e) G × ShowsArray array.new G)) }
     ensures list { IfOk result (λ list. IsListFor array.new.parts slot list.items) }
     ensures run { IfOk result (λ list. CanRun D.units D.lost D.failures array.new list.items) }
     ensures loses { OnlyLoses array.old array.new }
@@ -79,7 +80,8 @@ fn plan_trim<D: Drive, C: Hold>(
 ) -> Result<Vec<Micro>, Refusal>
     ensures flat { (F : Flat) (w : ℕ) → ShowsArray array.old F → F.held slot (Worker w) ≡ true → MatchResult result
         (λ list. IsStepList D.units D.lost D.failures array.new F slot (say.Fill w slot flat.Trim) (λ answer. answer ≡ say.Filled slot) list.items)
-        (λ e. MayRefuse e (IsWanted F (say.Fill w slot flat.Trim)) ((G : Flat) × Case F (say.Fill w slot flat.Trim) (say.Refused e) G × ShowsArray array.new G)) }
+        (λ e. MayRefuse e (IsWanted F (say.Fill w slot flat.Trim))
+        ((G : Flat) × Case F (say.Fill w slot flat.Trim) (say.Refused e) G × ShowsArray array.new G)) }
     ensures list { IfOk result (λ list. IsListFor array.new.parts slot list.items) }
     ensures run { IfOk result (λ list. CanRun D.units D.lost D.failures array.new list.items) }
     ensures loses { OnlyLoses array.old array.new }
@@ -132,7 +134,8 @@ fn plan_commit<D: Drive, C: Hold>(
 ) -> Result<Vec<Micro>, Refusal>
     requires { block < array.old.parts.groups.blocks }
     ensures flat { (F : Flat) (w : ℕ) → ShowsArray array.old F → (F.tickets slot ≢ None → F.held slot (flat.Ticket w) ≡ true) → MatchResult result
-        (λ list. IsStepList D.units D.lost D.failures array.new F slot (say.Commit w slot block) (λ answer. (r : Record) × (answer ≡ say.Committed r)) list.items)
+        (λ list. IsStepList D.units D.lost D.failures array.new F slot (say.Commit w slot block)
+        (λ answer. (r : Record) × (answer ≡ say.Committed r)) list.items)
         (λ e. MayRefuse e (IsWanted F (say.Commit w slot block)) ((G : Flat) × Case F (say.Commit w slot block) (say.Refused e) G × ShowsArray array.new G)) }
     ensures list { IfOk result (λ list. IsListFor array.new.parts slot list.items) }
     ensures run { IfOk result (λ list. CanRun D.units D.lost D.failures array.new list.items) }

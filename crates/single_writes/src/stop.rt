@@ -34,10 +34,12 @@ pub fn stop_after<D: Drive, C: Hold>(
 ) -> Result<(Array<D, C>, Vec<C>), Unfinished<D, C>>
     requires { IsAsked array.parts.groups intent.now }
     ensures stopped { IfOk result (λ r. (F : Flat) (w : ℕ) → ShowsArray array F → MayTake F w intent.now → IsCutShort F w intent.now n r.0) }
-    ensures resumed { IfOk result (λ r. (F : Flat) (w : ℕ) → ShowsArray array F → MayTake F w intent.now → WasResumed D.units D.lost D.failures array F w intent.now n r.0) }
+    ensures resumed { IfOk result (λ r. (F : Flat) (w : ℕ) → ShowsArray array F → MayTake F w intent.now
+        → WasResumed D.units D.lost D.failures array F w intent.now n r.0) }
     ensures claims { IfOk result (λ r. AreClaimsLeft C.names array r.0 r.1.items) }
     ensures returned { IfErr result (IsReturned D.units C.names array) }
-    ensures why { IfErr result (λ e. (F : Flat) (w : ℕ) → ShowsArray array F → MayTake F w intent.now → IsWhyNone D.units D.lost D.failures C.names array F w intent.now n e) }
+    ensures why { IfErr result (λ e. (F : Flat) (w : ℕ) → ShowsArray array F → MayTake F w intent.now
+        → IsWhyNone D.units D.lost D.failures C.names array F w intent.now n e) }
 {
     let mut array = array;
     let list = match plan_micro(alloc, &mut array, intent) {

@@ -26,7 +26,8 @@ pub enum Place<C: Hold> {
 // The place of a slot; past the table's end there is none, and nothing is kept.
 #[tactic(auto, using(crate::proofs::Places::kept_there, crate::proofs::Places::kept_past))]
 pub fn place_at<C: Hold>(places: &[Place<C>], slot: u16) -> Option<&Place<C>>
-    ensures { MatchOption result (slice_index_or (kepts_of places.now) slot Nothing ≡ Nothing) (λ place. slice_index_or (kepts_of places.now) slot Nothing ≡ kept_of place.now) }
+    ensures { MatchOption result (slice_index_or (kepts_of places.now) slot Nothing ≡ Nothing)
+        (λ place. slice_index_or (kepts_of places.now) slot Nothing ≡ kept_of place.now) }
 {
     let at = usize::from(slot);
     if at < places.len() {

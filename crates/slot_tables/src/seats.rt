@@ -1,5 +1,6 @@
 // Claims on their way into an array, and out of it. None is lost: their type has no `Drop`.
-ghost use Rattle.std.specs.Prelude.{◌≡◌, ℕ, ◌+◌, ◌<◌, ◌≤◌, List, length, map, replicate, slice_index_or, slice_set, vec_len, vec_capacity, IfOk, OnOk, MatchOption, IsTrue, ◌↔◌, true, false, Some, None};
+ghost use Rattle.std.specs.Prelude.{◌≡◌, ℕ, ◌+◌, ◌<◌, ◌≤◌, List, length, map, replicate, slice_index_or, slice_set};
+ghost use Rattle.std.specs.Prelude.{vec_len, vec_capacity, IfOk, OnOk, MatchOption, IsTrue, ◌↔◌, true, false, Some, None};
 ghost use Rattle.slot_tables.specs.Views.{Nothing, Newest, is_kept};
 ghost use Rattle.slot_tables.specs.Kept.{kept_of, kepts_of, IsOf, AreOf};
 ghost use Rattle.slot_tables.specs.Claims.{how_many, claims_in, AreWanted, IsClaimed, IsLowestUnclaimed, kept_for, wanted_at};
@@ -56,7 +57,8 @@ pub(crate) fn first_unclaimed<C: Hold>(
     claims: &[C],
 ) -> Result<Option<u16>, AllocError>
     requires { length wanted.now ≡ 65536 }
-    ensures { IfOk result (λ found. MatchOption found ((slot : ℕ) → IsClaimed C.names claims.now wanted.now slot) (IsLowestUnclaimed C.names claims.now wanted.now)) }
+    ensures { IfOk result (λ found. MatchOption found ((slot : ℕ) → IsClaimed C.names claims.now wanted.now slot)
+        (IsLowestUnclaimed C.names claims.now wanted.now)) }
 {
     let marks = claimed(alloc, claims)?;
     for slot in 0..SLOTS {
@@ -72,10 +74,13 @@ fn seat<C: Hold>(wanted: &mut Vec<Option<u32>>, places: &mut Vec<Place<C>>, clai
     requires many { vec_len wanted.old ≡ 65536 }
     requires inside { (b : ℕ) → wanted_at wanted.old.items (C.names claim) ≡ Some b → C.names claim < vec_len places.old }
     requires claims { AreOf C.names places.old.items }
-    requires free { (b : ℕ) → wanted_at wanted.old.items (C.names claim) ≡ Some b → slice_index_or (kepts_of places.old.items) (C.names claim) Nothing ≡ Nothing }
+    requires free { (b : ℕ) → wanted_at wanted.old.items (C.names claim) ≡ Some b
+        → slice_index_or (kepts_of places.old.items) (C.names claim) Nothing ≡ Nothing }
     ensures seated { (b : ℕ) → wanted_at wanted.old.items (C.names claim) ≡ Some b
-        → (result ≡ None) × (wanted.new.items ≡ slice_set wanted.old.items (C.names claim) None) × (kepts_of places.new.items ≡ slice_set (kepts_of places.old.items) (C.names claim) (Newest b)) }
-    ensures left { wanted_at wanted.old.items (C.names claim) ≡ None → (result ≡ Some claim) × (wanted.new.items ≡ wanted.old.items) × (kepts_of places.new.items ≡ kepts_of places.old.items) }
+        → (result ≡ None) × (wanted.new.items ≡ slice_set wanted.old.items (C.names claim) None)
+        × (kepts_of places.new.items ≡ slice_set (kepts_of places.old.items) (C.names claim) (Newest b)) }
+    ensures left { wanted_at wanted.old.items (C.names claim) ≡ None → (result ≡ Some claim) × (wanted.new.items ≡ wanted.old.items)
+        × (kepts_of places.new.items ≡ kepts_of places.old.items) }
     ensures claims { AreOf C.names places.new.items }
     ensures room { vec_len places.new ≡ vec_len places.old }
     ensures slot { C.names claim < 65536 }
@@ -107,7 +112,8 @@ pub fn seat_all<C: Hold>(
     requires none { vec_len others.old ≡ 0 }
     requires room { vec_len claims ≤ vec_capacity others.old }
     ensures kept { (slot : ℕ) → slice_index_or (kepts_of places.new.items) slot Nothing ≡ kept_for (wanted_at wanted.items slot) }
-    ensures shared { (slot : ℕ) → how_many C.names claims.items slot ≡ claims_in (slice_index_or (kepts_of places.new.items) slot Nothing) + how_many C.names others.new.items slot }
+    ensures shared { (slot : ℕ) → how_many C.names claims.items slot
+        ≡ claims_in (slice_index_or (kepts_of places.new.items) slot Nothing) + how_many C.names others.new.items slot }
     ensures claims { AreOf C.names places.new.items }
     ensures places { vec_len places.new ≡ vec_len places.old }
 {
@@ -122,7 +128,8 @@ pub fn seat_all<C: Hold>(
 
 // The claim of a place, if it has one.
 fn unseated<C: Hold>(place: Place<C>) -> Option<C>
-    ensures { (slot : ℕ) → IsOf C.names slot place → MatchOption result (claims_in (kept_of place) ≡ 0) (λ claim. (C.names claim ≡ slot) × (claims_in (kept_of place) ≡ 1)) }
+    ensures { (slot : ℕ) → IsOf C.names slot place
+        → MatchOption result (claims_in (kept_of place) ≡ 0) (λ claim. (C.names claim ≡ slot) × (claims_in (kept_of place) ≡ 1)) }
 {
     match place {
         Place::Free => None,

@@ -1,5 +1,6 @@
 // Claims of a group's slots, on their way into the places of its number, and out of them.
-ghost use Rattle.std.specs.Prelude.{◌≡◌, ◌≢◌, ℕ, ◌+◌, ◌*◌, ◌<◌, ◌≤◌, ◌/◌, ◌%◌, slice_index_or, slice_set, vec_len, vec_capacity, nat_lt, true, None, IfSome, IsNone, MatchOption};
+ghost use Rattle.std.specs.Prelude.{◌≡◌, ◌≢◌, ℕ, ◌+◌, ◌*◌, ◌<◌, ◌≤◌, ◌/◌, ◌%◌, slice_index_or};
+ghost use Rattle.std.specs.Prelude.{slice_set, vec_len, vec_capacity, nat_lt, true, None, IfSome, IsNone, MatchOption};
 ghost use Rattle.slot_tables.specs.Changes.{opened_of, IsOpened};
 ghost use Rattle.slot_tables.specs.Views.{Nothing, Unmade};
 ghost use Rattle.slot_tables.specs.Claims.{how_many};
@@ -13,8 +14,10 @@ use extent_groups::SLOTS;
 // The claim that is kept of a slot for a dissolved group, if there is one.
 fn open_slot<C: Hold>(places: &mut Vec<Place<C>>, slot: u16) -> Option<C>
     requires claims { AreOf C.names places.old.items }
-    ensures opened { kepts_of places.new.items ≡ slice_set (kepts_of places.old.items) slot (opened_of (slice_index_or (kepts_of places.old.items) slot Nothing)) }
-    ensures claim { MatchOption result (slice_index_or (kepts_of places.old.items) slot Nothing ≢ Unmade) (λ claim. (C.names claim ≡ slot) × (slice_index_or (kepts_of places.old.items) slot Nothing ≡ Unmade)) }
+    ensures opened { kepts_of places.new.items
+        ≡ slice_set (kepts_of places.old.items) slot (opened_of (slice_index_or (kepts_of places.old.items) slot Nothing)) }
+    ensures claim { MatchOption result (slice_index_or (kepts_of places.old.items) slot Nothing ≢ Unmade)
+        (λ claim. (C.names claim ≡ slot) × (slice_index_or (kepts_of places.old.items) slot Nothing ≡ Unmade)) }
     ensures claims { AreOf C.names places.new.items }
     ensures room { vec_len places.new ≡ vec_len places.old }
 {
@@ -60,7 +63,8 @@ pub fn close_all<C: Hold>(places: &mut Vec<Place<C>>, mut claims: Vec<C>)
     requires of { AreOf C.names places.old.items }
     requires once { (slot : ℕ) → how_many C.names claims.items slot ≤ 1 }
     requires free { (slot : ℕ) → 0 < how_many C.names claims.items slot → slice_index_or (kepts_of places.old.items) slot Nothing ≡ Nothing }
-    ensures closed { (slot : ℕ) → slice_index_or (kepts_of places.new.items) slot Nothing ≡ closed_of (how_many C.names claims.items slot) (slice_index_or (kepts_of places.old.items) slot Nothing) }
+    ensures closed { (slot : ℕ) → slice_index_or (kepts_of places.new.items) slot Nothing
+        ≡ closed_of (how_many C.names claims.items slot) (slice_index_or (kepts_of places.old.items) slot Nothing) }
     ensures of { AreOf C.names places.new.items }
     ensures room { vec_len places.new ≡ vec_len places.old }
 {
@@ -74,7 +78,8 @@ pub fn close_all<C: Hold>(places: &mut Vec<Place<C>>, mut claims: Vec<C>)
 // Which of the first `count` slots of a group have a claim among these; none if a claim is of no such slot, or is the second of one.
 pub fn marked<C: Hold>(group: u16, count: u16, claims: &[C]) -> Option<[bool; 128]>
     ensures known { IfSome result (λ marks. (slot : ℕ) → how_many C.names claims.now slot ≤ one_of group count slot) }
-    ensures each { IfSome result (λ marks. (slot : ℕ) → slot / 128 ≡ group → slice_index_or marks (slot % 128) true ≡ nat_lt 0 (how_many C.names claims.now slot)) }
+    ensures each { IfSome result (λ marks. (slot : ℕ) → slot / 128 ≡ group
+        → slice_index_or marks (slot % 128) true ≡ nat_lt 0 (how_many C.names claims.now slot)) }
     ensures none { IsNone result → (slot : ℕ) × (one_of group count slot < how_many C.names claims.now slot) }
 {
     let mut marks = [false; 128];

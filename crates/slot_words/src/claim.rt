@@ -25,7 +25,9 @@ impl<N: Naming> Model for Claim<N> {
 
     ghost view = { λ c. held c.slot c.generation };
 
-    ghost invariant = { λ c. (c.slot < slots_of N.table) × (0 < c.generation) × (c.generation ≤ 2 ^ 62) × (c.seat.table_id ≡ N.table) × (c.seat.me.0.pairs ≡ held c.slot c.generation ∷ []) × (c.seat.me.1 ≡ []) × Contains c.seat.me.0.won (held c.slot c.generation) × (c.seat.me.0.sight ≡ no_sight) × (c.seat.me.0.steps ≡ []) × (c.seat.me.0.shares ≡ []) };
+    ghost invariant = { λ c. (c.slot < slots_of N.table) × (0 < c.generation) × (c.generation ≤ 2 ^ 62) × (c.seat.table_id ≡ N.table)
+        × (c.seat.me.0.pairs ≡ held c.slot c.generation ∷ []) × (c.seat.me.1 ≡ []) × Contains c.seat.me.0.won (held c.slot c.generation)
+        × (c.seat.me.0.sight ≡ no_sight) × (c.seat.me.0.steps ≡ []) × (c.seat.me.0.shares ≡ []) };
 }
 
 impl<N: Naming> Claim<N> {

@@ -49,7 +49,8 @@ impl Model for Unnamed {
 
     ghost view = { λ t. t.table.shared.table_id };
 
-    ghost invariant = { λ t. (t.table.shared.table_id.words ≡ t.table.shared.key + 8) × (t.seat.table_id ≡ t.table.shared.table_id) × (t.seat.me ≡ (opening, [])) };
+    ghost invariant = { λ t. (t.table.shared.table_id.words ≡ t.table.shared.key + 8) × (t.seat.table_id ≡ t.table.shared.table_id)
+        × (t.seat.me ≡ (opening, [])) };
 }
 
 /// Why a table was not made.
@@ -159,7 +160,8 @@ impl<N: Naming> SlotWords<N> {
         requires free { seen % 2 ≡ 0 }
         requires lasting { seen < 2 ^ 63 }
         requires seat { IsIdle N.table seat.old }
-        ensures ok { IfOk result (λ c. (c.slot ≡ slot) × (2 * c.generation ≡ seen + 2) × (seat.new.me.0.sight.found ≡ seen) × (seat.new.me.0.sight.left ≡ 2 * c.generation + 1)) }
+        ensures ok { IfOk result (λ c. (c.slot ≡ slot) × (2 * c.generation ≡ seen + 2) × (seat.new.me.0.sight.found ≡ seen)
+            × (seat.new.me.0.sight.left ≡ 2 * c.generation + 1)) }
         ensures err { IfErr result (IsMissed seen seat.new.me.0.sight) }
         ensures tried { HasStepped Exchange slot seat.old.me.0 seat.new.me.0 }
         ensures look { seat.new.me.0.look ≡ seat.old.me.0.look }

@@ -128,7 +128,8 @@ pub fn run_steps(alloc: Global, mut world: World, steps: &[Step]) -> Result<Run,
     requires { All (FitsStep world.array.parts.groups) steps.now }
     ensures run { (F : Flat) → Represents world F → MatchResult result
         (λ run. (G : Flat) × TellingRun F (map flat_step steps.now) (map flat_answer run.answers.items) G × Represents run.world G × Stands run.world G)
-        (λ stop. (G : Flat) × TellingRun F (map flat_step (take stop.at steps.now)) (map flat_answer stop.answers.items) G × Represents stop.world G × Stands stop.world G
+        (λ stop. (G : Flat) × TellingRun F (map flat_step (take stop.at steps.now)) (map flat_answer stop.answers.items) G × Represents stop.world G
+        × Stands stop.world G
         × (stop.at < length steps.now)
         × ((stop.at ≡ 0) ⊎ ((step : Step) × (slice_get steps.now stop.at ≡ Some step) × IsWanted G (flat_step step)))) }
 

@@ -46,7 +46,8 @@ impl World {
     fn first_not_held(&self, worker: u8, group: u16, count: u16) -> Option<u16>
         requires group { group < 512 }
         requires count { count ≤ 128 }
-        ensures { MatchOption result ((slot : ℕ) → 0 < one_of group count slot → is_claim (hand_at self.now.hands slot) worker ≡ true) (IsFirstNotHeld self.now.hands worker group count) }
+        ensures { MatchOption result ((slot : ℕ) → 0 < one_of group count slot → is_claim (hand_at self.now.hands slot) worker ≡ true)
+            (IsFirstNotHeld self.now.hands worker group count) }
     {
         for index in 0..count {
             let slot = SLOTS * group + index;

@@ -47,7 +47,8 @@ impl World {
         requires { (3 ≤ drives) × (drives ≤ 16) }
         ensures ok { IfOk result (λ world. Represents world (new_flat world.array.parts.groups drives (nat_le drives) (λ _. no_failures))) }
         ensures empty { IfOk result (λ world. IsEmpty world.array.parts.groups) }
-        ensures sizes { IfOk result (λ world. IsShapeOf shape world.array.parts.groups.extents world.array.parts.groups.segments world.array.parts.groups.payload world.array.parts.groups.blocks) }
+        ensures sizes { IfOk result (λ world. IsShapeOf shape world.array.parts.groups.extents world.array.parts.groups.segments
+            world.array.parts.groups.payload world.array.parts.groups.blocks) }
         ensures err { IfErr result (λ refusal. refusal ≡ Refusal.Memory) }
     {
         let array = Array::in_memory(alloc, shape, drives)?;

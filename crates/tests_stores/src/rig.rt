@@ -32,7 +32,8 @@ pub(crate) struct Rig {
 /// `count` drives of zeros.
 fn new_drives(alloc: Global, shape: &Shape, count: usize) -> Result<Vec<MemDrive>, AllocError>
     ensures many { IfOk result (λ v. length v.items ≡ count) }
-    ensures zero { IfOk result (λ v. (d : ℕ) (x : Held) → slice_get v.items d ≡ Some x → x.units ≡ zero_units (HEADER_BYTES + shape.now.payload) (shape.now.extents * extent_units shape.now.segments)) }
+    ensures zero { IfOk result (λ v. (d : ℕ) (x : Held) → slice_get v.items d ≡ Some x
+        → x.units ≡ zero_units (HEADER_BYTES + shape.now.payload) (shape.now.extents * extent_units shape.now.segments)) }
 {
     let mut drives = Vec::with_capacity(alloc, count)?;
     for _drive in 0..count {
@@ -160,7 +161,8 @@ impl Rig {
     }
 
     fn has_buffers(&self) -> bool
-        ensures { IsTrue result → (length self.now.unit.items ≡ HEADER_BYTES + self.now.groups.payload) × (length self.now.scratch.items ≡ 2 * (HEADER_BYTES + self.now.groups.payload)) }
+        ensures { IsTrue result → (length self.now.unit.items ≡ HEADER_BYTES + self.now.groups.payload)
+            × (length self.now.scratch.items ≡ 2 * (HEADER_BYTES + self.now.groups.payload)) }
     {
         let size = self.groups.shape().unit_bytes();
         self.unit.len() == size && self.scratch.len() == 2 * size
