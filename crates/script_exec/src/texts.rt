@@ -103,6 +103,19 @@ pub fn put_record(out: &mut Vec<u8>, record: &Record) -> Result<(), AllocError>
     put(out, &digits[..RECORD_DIGITS])
 }
 
+// A space and a record in hex, in one piece: listings have thousands.
+#[inline(always)]
+fn put_listed(out: &mut Vec<u8>, record: &Record) -> Result<(), AllocError>
+    ensures told { OnOk result (out.new.items ≡ out.old.items ++ (32 ∷ record_text «record».now)) }
+    ensures kept { IsPrefix out.old.items out.new.items }
+{
+    let mut bytes = [0; STEPPED_BYTES];
+    bytes[..RECORD_BYTES].copy_from_slice(&record.to_bytes());
+    let mut text = [b' '; 1 + 2 * STEPPED_BYTES];
+    encode_hex(&bytes, &mut text[1..]);
+    put(out, &text[..1 + RECORD_DIGITS])
+}
+
 /// A word and a number.
 pub fn put_numbered(out: &mut Vec<u8>, word: &[u8], number: u64) -> Result<(), AllocError>
     ensures told { OnOk result (out.new.items ≡ out.old.items ++ (word.now ++ decimal number)) }
@@ -313,8 +326,7 @@ pub fn put_listing(out: &mut Vec<u8>, word: &[u8], records: &[Record]) -> Result
 {
     put_numbered(out, word, records.len() as u64)?;
     for record in records {
-        put(out, b" ")?;
-        put_record(out, record)?;
+        put_listed(out, record)?;
     }
     Ok(())
 }
