@@ -20,7 +20,7 @@ use Rattle.flat_machine.specs.Scanned.{IsScanned}
 use Rattle.slot_tables.specs.Adopted.{HasParts}
 use Rattle.slot_tables.specs.Represents.{ShowsArray}
 use Rattle.slot_tables.specs.Views.{ArrayView}
-use Rattle.step_core.specs.Adopted.{IsIdle}
+use Rattle.step_core.specs.Claims.{IsIdle}
 use Rattle.header_scan.specs.Faults.{between, AreFine, IsTwice}
 use Rattle.header_scan.specs.Found.{Keeps}
 use Rattle.header_scan.specs.Restarts.{AreAllSound, HasUnits, StandsForOne, TellAll}

@@ -15,7 +15,7 @@ use Rattle.flat_machine.specs.Scanned.{IsScanned}
 use Rattle.slot_tables.specs.Adopted.{HasParts, IsAdopted}
 use Rattle.slot_tables.specs.Represents.{ShowsArray}
 use Rattle.slot_tables.specs.Views.{ArrayView}
-use Rattle.step_core.specs.Adopted.{IsUnclaimed, IsIdle}
+use Rattle.step_core.specs.Claims.{IsUnclaimed, IsIdle}
 use Rattle.step_core.specs.NotAdopted.{NotAdopted}
 use Rattle.step_core.specs.NotAdopted.TheVariants as adopted
 use Rattle.header_scan.specs.Faults.{between, AreFine, IsFirstFault, IsTwice}

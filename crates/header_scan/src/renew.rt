@@ -2,7 +2,7 @@
 ghost use Rattle.std.specs.Prelude.{◌≡◌, None, IfOk, IfErr};
 ghost use Rattle.array_parts.specs.Fit.{IsFit};
 ghost use Rattle.array_parts.specs.Losses.{LosesOnly};
-ghost use Rattle.step_core.specs.Adopted.{AreShared};
+ghost use Rattle.step_core.specs.Claims.{AreShared};
 ghost use Rattle.header_scan.specs.Stops.{IsResumed};
 ghost use Rattle.header_scan.specs.Restarts.{AreAllSound, IsRestartFault, IsResumeFault, FromFinished, StandsForOne, WasMade, fault_of};
 

@@ -11,7 +11,7 @@ use Rattle.header_scan.specs.declared.fault.ScanFault.{ScanFault}
 use Rattle.header_scan.specs.declared.fault.ScanFault.TheVariants as fault
 use Rattle.step_core.specs.Views.{WorldView}
 use Rattle.step_core.specs.Represents.{Represents}
-use Rattle.step_core.specs.Adopted.{WasRestarted}
+use Rattle.step_core.specs.Claims.{WasRestarted}
 use Rattle.header_scan.specs.Worlds.{IsToldOf}
 use Rattle.script_syntax.specs.Order as o
 use Rattle.script_exec.specs.Text.{fault_text, listing}

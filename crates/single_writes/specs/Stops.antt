@@ -18,7 +18,7 @@ use Rattle.flat_machine.specs.Steps.{FlatAnswer, Refused}
 use Rattle.header_scan.specs.Restarts.{FromFinished, IsResumeFault, WasMade}
 use Rattle.header_scan.specs.Stops.{IsButLost, IsStopped, standing}
 use Rattle.slot_tables.specs.Claims.{AreClaimsOf}
-use Rattle.step_core.specs.Adopted.{AreShared}
+use Rattle.step_core.specs.Claims.{AreShared}
 use Rattle.single_writes.specs.declared.intent.Intent.{Intent}
 use Rattle.single_writes.specs.declared.stop.Unfinished.{Unfinished}
 use Rattle.single_writes.specs.declared.stop.Unfinished.TheVariants.{NotBegun, NotRestarted}

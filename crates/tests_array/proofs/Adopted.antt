@@ -3,7 +3,7 @@ use Rattle.std.proofs.Common.{◌≡◌, ℕ, ◌<◌, List, refl, ◌∙◌, ar
 use Rattle.map_join.specs.Record.{record_of}
 use Rattle.slot_tables.specs.Views.{Kept, Nothing, Pending, Moving, Newest, Unmade, ArrayView, kept_at}
 use Rattle.slot_tables.specs.Adopted.{IsPlaced}
-use Rattle.step_core.specs.Adopted.{how_many, claims_in, AreClaimsOf, AreOfPlaces}
+use Rattle.step_core.specs.Claims.{how_many, claims_in, AreClaimsOf, AreOfPlaces}
 
 -- they are those of the map's places, one of each
 pub claims_of_places : {C : Type 0} (names : C → ℕ) (claims : List C) (a : ArrayView) (M : ℕ → ℕ) → ((s : ℕ) → IsPlaced M s (kept_at a s))
