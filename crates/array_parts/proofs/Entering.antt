@@ -1,6 +1,6 @@
 -- A group that enters, or doesn't for a lost drive, told of the parts as plain data.
 use Rattle.std.proofs.Common.{◌≡◌, ◌≢◌, ℕ, ◌/◌, ◌%◌, ◌<◌, Bool, false, Option, Some, None, List, length, inl, inr, sym, ◌∙◌, ap, subst}
-use Rattle.std.specs.Prelude.{slice_get, replicate, Result, Ok, Err, OnOk, OnErr, IfErr}
+use Rattle.std.specs.Prelude.{slice_get, replicate}
 use Rattle.std.proofs.lemmas.Option.{none-some}
 use Rattle.extents.specs.Failures.{Failures}
 use Rattle.extent_groups.specs.declared.class.Class.{Class}
@@ -79,12 +79,3 @@ found_lost units lost failures p q g ms refusal free tables fares sound others t
 -- no member before this one is on a lost drive
 abbrev pub ArePresentBelow : (ℕ → Bool) → List Member → ℕ → Type 0
 ArePresentBelow missing ms bound = (k : ℕ) (m : Member) → k < bound → slice_get ms k ≡ Some m → missing m.drive ≡ false
-
--- what two clauses say of one answer
-pub on_ok_both : {T E : Type 0} (A B : Type 0) (r : Result T E) → OnOk r A → OnOk r B → OnOk r (A × B)
-on_ok_both A B (Ok x) a b = (a, b)
-on_ok_both A B (Err e) a b = tt
-
-pub on_err_both : {T E : Type 0} (A : Type 0) (P : E → Type 0) (r : Result T E) → OnErr r A → IfErr r P → IfErr r (λ e. A × P e)
-on_err_both A P (Ok x) a b = tt
-on_err_both A P (Err e) a b = (a, b)

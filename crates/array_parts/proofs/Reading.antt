@@ -24,7 +24,7 @@ use Rattle.extent_groups.proofs.Fronts.{front_some}
 use Rattle.array_parts.specs.declared.parts.Parts.{Parts}
 use Rattle.extent_groups.proofs.Missing.{gone_law}
 use Rattle.array_parts.specs.Losses.{AllFare, failures_at}
-use Rattle.array_parts.specs.Slots.{IsSlot, missing_in, TellsGone}
+use Rattle.array_parts.specs.Slots.{IsSlot, missing_in, HoldsUnit, TellsGone}
 
 -- a Vec whose elements were lent and written holds what was written
 pub written_back : {X Z : Type 0} (v : Vec X Z) (lent new : List X) → lent ≡ v.items → length new ≡ length lent → (with_items v new).items ≡ new
@@ -105,6 +105,16 @@ slot_told units lost p lent new slot u (Ok done) answer told e many is groups ar
 slot_told units lost p lent new slot u (Err refusal) answer told e many is groups are there names =
     subst (SlotTold units lost (lent_back p new) slot) (sym told)
     (record { there = tt; gone = gone_of units lost (lent_back p new) new slot (written_back p.drives lent new e many) is groups are names.1 })
+
+-- the same of a slot that holds what was written
+pub holds_told : {A D : Type 0} (units : D → List (List ℕ)) (lost : D → Bool) (p : Parts D) (lent new : List D) (slot : ℕ) (u : List ℕ) (found : Result A StoreRefusal) (answer : Result A Refusal)
+    → answer ≡ ok_or (result_ok found) (Gone slot) → lent ≡ p.drives.items → length new ≡ length lent → AreGroups p.groups → AreDrives units p.groups new
+    → OnOk found (unit_of p.groups (cells units lost new) slot ≡ Some u) → OnOk answer (HoldsUnit units lost (lent_back p new) slot u)
+holds_told units lost p lent new slot u (Ok done) answer told e many groups are there = subst (λ a. OnOk a (HoldsUnit units lost (lent_back p new) slot u)) (sym told) (record {
+  unit = ap (λ ds. unit_of p.groups (cells units lost ds) slot) (written_back p.drives lent new e many) ∙ there;
+  there = subst (λ ds. IsGone p.groups (missing_of lost ds) slot → ⊥) (sym (written_back p.drives lent new e many)) (not_gone units lost p.groups new slot u groups are there);
+})
+holds_told units lost p lent new slot u (Err refusal) answer told e many groups are there = subst (λ a. OnOk a (HoldsUnit units lost (lent_back p new) slot u)) (sym told) tt
 
 -- the same of a store that read a header
 pub header_told : {A D : Type 0} (units : D → List (List ℕ)) (lost : D → Bool) (p : Parts D) (lent new : List D) (slot : ℕ) (header : List ℕ) (found : Result A StoreRefusal) (answer : Result A Refusal)

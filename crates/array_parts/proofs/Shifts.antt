@@ -1,6 +1,6 @@
 -- A group's member was moved onto another extent, or wasn't: what the parts are then.
 use Rattle.std.proofs.Common.{◌≡◌, ℕ, ◌%◌, ◌<◌, ◌≤◌, inl, inr, Bool, true, false, Option, Some, None, List, [], ◌∷◌, length, refl, sym, ◌∙◌, ap, subst, arith, get_or}
-use Rattle.std.specs.Prelude.{slice_get, slice_set, Result, Ok, Err, OnOk, OnErr, IfErr}
+use Rattle.std.specs.Prelude.{slice_get, slice_set, Result, Ok, Err, OnOk, IfErr}
 use Rattle.std.proofs.lemmas.Option.{same_Some, none-some, slice_get-get_or, slice_get_within}
 use Rattle.extents.specs.Failures.{Failures}
 use Rattle.extents.specs.Owners.{Owners, owner_of, with_owner, IsExtent}
@@ -39,8 +39,9 @@ use Rattle.extent_groups.proofs.StoreCalls.{drives_kept, sized_cells}
 use Rattle.extent_groups.proofs.Swapping.{formed_swap}
 use Rattle.array_parts.specs.declared.parts.Parts.{Parts}
 use Rattle.array_parts.specs.Fit.{IsFit}
+use Rattle.array_parts.specs.Kept.{EachSlot, KeepsSlots}
 use Rattle.array_parts.specs.Losses.{AllFare, KeepsTables}
-use Rattle.array_parts.specs.Shifting.{IsRoute, AreOnTarget, KeepsUnused, IsWhyUnmoved}
+use Rattle.array_parts.specs.Shifting.{IsRoute, AreOnTarget, KeepsUnused, IsWhyUnmoved, WasSwapped, WasNotSwapped}
 use Rattle.array_parts.specs.Slots.{cells_in, missing_in}
 use Rattle.array_parts.specs.Views.{view_of, Shows, Shifted, NotShifted}
 use Rattle.array_parts.proofs.Calls.{shows_in, shows_out, same_tables, all_kept}
@@ -288,17 +289,15 @@ not_shifted units lost failures p q g k to refusal tables fares keeps sound why 
 
 -- both, by the answer
 pub if_shifted : {D : Type 0} (units : D → List (List ℕ)) (lost : D → Bool) (failures : D → Failures) (p q : Parts D) (g k : ℕ) (to : Member) {T : Type 0} (r : Result T Refusal)
-    → AllFare lost failures p.drives.items q.drives.items → OnOk r (IsBeyondOf p.groups (missing_in lost p) g k → ⊥) → OnOk r (missing_in lost q to.drive ≡ false)
-    → (AreSound p.groups (cells_in units lost p) → (slot : ℕ) (v : List ℕ) → unit_of q.groups (cells_in units lost q) slot ≡ Some v → unit_of p.groups (cells_in units lost p) slot ≡ Some v)
-    → (AreSound p.groups (cells_in units lost p) → AreSound q.groups (cells_in units lost q)) → OnOk r (IsSwap p.groups q.groups g k to) → OnOk r (IsMove p.groups p.extents q.extents g k to) → IsFit units q
+    → OnOk r (WasSwapped units lost p g k to q) → KeepsSlots units lost EachSlot p q → AllFare lost failures p.drives.items q.drives.items → IsFit units q
     → OnOk r (Shifted (view_of units lost failures p) g k to (view_of units lost failures q))
-if_shifted units lost failures p q g k to (Ok x) fares had present keeps sound swap move fit = shifted units lost failures p q g k to fares had present keeps sound swap move fit
-if_shifted units lost failures p q g k to (Err e) fares had present keeps sound swap move fit = tt
+if_shifted units lost failures p q g k to (Ok x) was slots fares fit =
+    shifted units lost failures p q g k to fares was.had was.present (λ sound slot v e. slots.unchanged sound slot v tt e) slots.sound was.swapped was.moved fit
+if_shifted units lost failures p q g k to (Err e) was slots fares fit = tt
 
 pub if_not : {D : Type 0} (units : D → List (List ℕ)) (lost : D → Bool) (failures : D → Failures) (p q : Parts D) (g k : ℕ) (to : Member) {T : Type 0} (r : Result T Refusal)
-    → OnErr r (KeepsTables p q) → AllFare lost failures p.drives.items q.drives.items
-    → (AreSound p.groups (cells_in units lost p) → (slot : ℕ) (v : List ℕ) → unit_of q.groups (cells_in units lost q) slot ≡ Some v → unit_of p.groups (cells_in units lost p) slot ≡ Some v)
-    → (AreSound p.groups (cells_in units lost p) → AreSound q.groups (cells_in units lost q)) → IfErr r (IsWhyUnmoved q.groups (missing_in lost q) g k to)
+    → IfErr r (WasNotSwapped lost p g k to q) → KeepsSlots units lost EachSlot p q → AllFare lost failures p.drives.items q.drives.items
     → IfErr r (NotShifted (view_of units lost failures p) g k to (view_of units lost failures q))
-if_not units lost failures p q g k to (Ok x) tables fares keeps sound why = tt
-if_not units lost failures p q g k to (Err e) tables fares keeps sound why = not_shifted units lost failures p q g k to e tables fares keeps sound why
+if_not units lost failures p q g k to (Ok x) was slots fares = tt
+if_not units lost failures p q g k to (Err e) was slots fares =
+    not_shifted units lost failures p q g k to e was.tables fares (λ sound slot v e. slots.unchanged sound slot v tt e) slots.sound was.told

@@ -1,6 +1,7 @@
 pub mod Fit
 pub mod Losses
 pub mod Slots
+pub mod Kept
 pub mod Notes
 pub mod Micros
 pub mod Making

@@ -1,5 +1,5 @@
 -- A member of a group moved onto another extent: what is to lie at each of its offsets, and why it can't be.
-use Rattle.std.specs.Prelude.{◌≡◌, ◌≢◌, ◌⊎◌, ℕ, ◌/◌, ◌<◌, Bool, true, Some, List, replicate, slice_get}
+use Rattle.std.specs.Prelude.{◌≡◌, ◌≢◌, ◌⊎◌, ℕ, ◌/◌, ◌<◌, Bool, true, false, Some, List, replicate, slice_get}
 use Rattle.extents.specs.Failures.{Failures}
 use Rattle.extents.specs.Sizes.{extent_units}
 use Rattle.flat_machine.specs.declared.refusal.Refusal.{Refusal}
@@ -7,18 +7,21 @@ use Rattle.flat_machine.specs.declared.refusal.Refusal.TheVariants.{Gone, DriveL
 use Rattle.flat_machine.specs.Moves.{IsBeyond, IsBeyondOf, IsFirstGone}
 use Rattle.extent_groups.specs.declared.class.Member.{Member}
 use Rattle.extent_groups.specs.declared.role.Role.TheVariants.{Unused}
-use Rattle.extent_groups.specs.Groups.{Groups, AreGroups, group_at, members_of}
+use Rattle.extent_groups.specs.Groups.{Groups, AreGroups, group_at, members_of, IsSwap, IsMove}
 use Rattle.extent_groups.specs.Calls.{SameBut, KeepsDrives}
 use Rattle.extent_groups.specs.Cells.{Cells, cells, held}
 use Rattle.extent_groups.specs.Layout.{IsOf}
 use Rattle.extent_groups.specs.Missing.{missing_of, IsGoneAt}
-use Rattle.extent_groups.specs.Moving.{member_unit}
+use Rattle.extent_groups.specs.Moving.{member_unit, IsCopied}
 use Rattle.extent_groups.specs.Roles.{IsRoleIn}
 use Rattle.extent_groups.specs.Stores.{unit_bytes, AreSound, AreDrives, HasMemberOn}
 use Rattle.extent_groups.specs.Units.{Site, place_of, site_of}
 use Rattle.extent_groups.specs.Wiping.{HasExtent, IsIn}
+use Rattle.array_parts.specs.declared.parts.Parts.{Parts}
 use Rattle.array_parts.specs.declared.relocate.Stop.{Stop}
 use Rattle.array_parts.specs.declared.relocate.Stop.TheVariants.{Beyond, TargetLost}
+use Rattle.array_parts.specs.Losses.{KeepsTables}
+use Rattle.array_parts.specs.Slots.{cells_in, missing_in}
 
 -- no slot lies on the extent
 abbrev pub IsClear : Groups → Member → Type 0
@@ -81,3 +84,21 @@ abbrev pub IsWhyUnmoved : Groups → (ℕ → Bool) → ℕ → ℕ → Member �
 IsWhyUnmoved groups missing g k to (DriveLost d) = (d ≡ to.drive) × (missing d ≡ true)
 IsWhyUnmoved groups missing g k to (Gone slot) = (IsBeyondOf groups missing g k) × (IsFirstGone groups missing g slot)
 IsWhyUnmoved groups missing g k to _ = ⊥
+
+-- the group's member of this number was moved onto the other extent, and the tables say so. Each of the member's units could be
+-- had, and the other extent's drive isn't lost. If all slots were sound, each unit that the other extent holds for a slot is the
+-- member's, copied or rebuilt. Where no slot lies, it holds what the member's extent held, or zeros if the member's drive is lost
+pub record WasSwapped {D : Type 0} (units : D → List (List ℕ)) (lost : D → Bool) (old : Parts D) (g k : ℕ) (to : Member) (new : Parts D) : Type 0 where
+  pub swapped : IsSwap old.groups new.groups g k to
+  pub moved : IsMove old.groups old.extents new.extents g k to
+  pub had : IsBeyondOf old.groups (missing_in lost old) g k → ⊥
+  pub present : missing_in lost new to.drive ≡ false
+  pub copied : (was : Member) → slice_get (members_of old.groups g) k ≡ Some was → AreSound old.groups (cells_in units lost old)
+      → IsCopied old.groups g k was to (cells_in units lost old) (cells_in units lost new)
+  pub unused : (was : Member) → slice_get (members_of old.groups g) k ≡ Some was
+      → KeepsUnused old.groups g k was to (cells_in units lost old) (cells_in units lost new) (missing_in lost new)
+
+-- the member wasn't moved: the tables are as they were, and the refusal says why
+pub record WasNotSwapped {D : Type 0} (lost : D → Bool) (old : Parts D) (g k : ℕ) (to : Member) (new : Parts D) (refusal : Refusal) : Type 0 where
+  pub tables : KeepsTables old new
+  pub told : IsWhyUnmoved new.groups (missing_in lost new) g k to refusal

@@ -1,15 +1,16 @@
 // Making a group: its extents are wiped, and then it enters the table.
-ghost use Rattle.std.specs.Prelude.{◌≡◌, ◌≢◌, ◌≤◌, ◌/◌, ℕ, List, length, None, Some, OnOk, OnErr, IfErr, replicate};
+ghost use Rattle.std.specs.Prelude.{◌≡◌, ◌≤◌, length, None, OnOk, IfErr, replicate};
 ghost use Rattle.extent_groups.specs.Calls.{AreSized, KeepsDrives, SameBut};
 ghost use Rattle.extent_groups.specs.Cells.{cells};
 ghost use Rattle.extent_groups.specs.Faults.{put_fault};
-ghost use Rattle.extent_groups.specs.Groups.{AreThere, IsFree, with_group, with_owners};
+ghost use Rattle.extent_groups.specs.Groups.{AreThere, IsFree};
 ghost use Rattle.extent_groups.specs.Missing.{missing_of};
-ghost use Rattle.extent_groups.specs.Stores.{unit_bytes, unit_of, AreSound};
-ghost use Rattle.flat_machine.specs.Groups.{AreApart, ArePresent, IsFirstLost};
+ghost use Rattle.extent_groups.specs.Stores.{unit_bytes};
+ghost use Rattle.flat_machine.specs.Groups.{AreApart, IsFirstLost};
 ghost use Rattle.array_parts.specs.Fit.{IsFit};
-ghost use Rattle.array_parts.specs.Losses.{AllFare, KeepsTables};
-ghost use Rattle.array_parts.specs.Making.{HaveExtents, AreWiped, IsInOne, HasOn, TellsLost};
+ghost use Rattle.array_parts.specs.Kept.{IsOutside, KeepsSlots, LeavesDrives};
+ghost use Rattle.array_parts.specs.Losses.{KeepsTables};
+ghost use Rattle.array_parts.specs.Making.{HaveExtents, AreWiped, IsInOne, HasOn, MadeGroup, MadeNoGroup};
 ghost use Rattle.array_parts.specs.Slots.{cells_in, missing_in};
 
 use crate::Parts;
@@ -72,28 +73,11 @@ impl<D: Drive> Parts<D> {
         requires there { AreThere self.old.extents members.items }
         requires fine { put_fault self.old.extents members.items ≡ None }
         requires zeros { zeros.now ≡ replicate (unit_bytes self.old.groups) 0 }
-
-        // The tables.
+        ensures ok { OnOk result (MadeGroup D.units D.lost self.old group class members.items zeros.now self.new) }
+        ensures err { IfErr result (MadeNoGroup D.lost self.old members.items self.new) }
+        ensures slots { KeepsSlots D.units D.lost (IsOutside group) self.old self.new }
+        ensures drives { LeavesDrives D.units D.lost D.failures (IsInOne self.old.groups.segments members.items) (HasOn members.items) self.old self.new }
         ensures shape { self.new.shape ≡ self.old.shape }
-        ensures made { OnOk result (self.new.groups ≡ with_group self.old.groups group (Some (record { class = class; members = members.items }))) }
-        ensures owned { OnOk result (self.new.extents ≡ with_owners self.old.extents members.items (Some group)) }
-        ensures err { OnErr result (KeepsTables self.old self.new) }
-
-        // The drives of the group, and its units.
-        ensures wiped { OnOk result (AreWiped self.old.groups.segments members.items zeros.now (length members.items) (cells_in D.units D.lost self.new)) }
-        ensures present { OnOk result (ArePresent (missing_in D.lost self.new) members.items) }
-        ensures blank { OnOk result ((slot : ℕ) (unit : List ℕ) → slot / 128 ≡ group
-            → unit_of self.new.groups (cells_in D.units D.lost self.new) slot ≡ Some unit → unit ≡ zeros.now) }
-        ensures lost { IfErr result (TellsLost (missing_in D.lost self.new) members.items) }
-
-        // All others.
-        ensures others { AreSound self.old.groups (cells_in D.units D.lost self.old) → ((slot : ℕ) (unit : List ℕ) → slot / 128 ≢ group
-            → unit_of self.new.groups (cells_in D.units D.lost self.new) slot ≡ Some unit
-            → unit_of self.old.groups (cells_in D.units D.lost self.old) slot ≡ Some unit) }
-        ensures sound { AreSound self.old.groups (cells_in D.units D.lost self.old) → AreSound self.new.groups (cells_in D.units D.lost self.new) }
-        ensures touched { KeepsDrives D.units D.lost D.failures (IsInOne self.old.groups.segments members.items) self.old.drives.items self.new.drives.items }
-        ensures elsewhere { SameBut (HasOn members.items) self.old.drives.items self.new.drives.items }
-        ensures fares { AllFare D.lost D.failures self.old.drives.items self.new.drives.items }
         ensures fit { IsFit D.units self.new }
     {
         if let Err(drive) = self.wipe(&members, zeros) {

@@ -4,12 +4,13 @@ ghost use Rattle.extents.specs.Shapes.{IsShapeOf};
 ghost use Rattle.extents.specs.Sizes.{extent_units};
 ghost use Rattle.extents.specs.declared.shape.TheConstants.{HEADER_BYTES};
 ghost use Rattle.extent_groups.specs.Groups.{group_at};
-ghost use Rattle.extent_groups.specs.Calls.{AreSized, KeepsDrives};
+ghost use Rattle.extent_groups.specs.Calls.{AreSized};
 ghost use Rattle.extent_groups.specs.Missing.{IsGone};
-ghost use Rattle.extent_groups.specs.Stores.{unit_bytes, unit_of, header_of, AreSound, KeepsUnits, Wrote, IsOwnOf};
+ghost use Rattle.extent_groups.specs.Stores.{unit_bytes, unit_of, header_of, AreSound, KeepsUnits, Wrote};
 ghost use Rattle.array_parts.specs.Fit.{IsFit, HaveUnits};
+ghost use Rattle.array_parts.specs.Kept.{LeavesOthers};
 ghost use Rattle.array_parts.specs.Losses.{AllFare, KeepsTables, LosesOnly};
-ghost use Rattle.array_parts.specs.Slots.{IsSlot, cells_in, missing_in, TellsGone};
+ghost use Rattle.array_parts.specs.Slots.{IsSlot, cells_in, missing_in, HoldsUnit, TellsGone};
 
 use crate::note::Note;
 use crate::slots::{read_slot, read_slot_header, write_slot, write_slot_gathered};
@@ -135,13 +136,11 @@ impl<D: Drive> Parts<D> {
         requires slot { IsSlot self.old.groups slot }
         requires unit { length unit.now ≡ unit_bytes self.old.groups }
         requires scratch { length scratch.old ≡ 2 * unit_bytes self.old.groups }
-        ensures ok { OnOk result (unit_of self.new.groups (cells_in D.units D.lost self.new) slot ≡ Some unit.now) }
-        ensures there { OnOk result (IsGone self.new.groups (missing_in D.lost self.new) slot → ⊥) }
+        ensures ok { OnOk result (HoldsUnit D.units D.lost self.new slot unit.now) }
         ensures gone { IfErr result (TellsGone D.units D.lost self.new slot) }
         ensures wrote { Wrote self.old.groups (cells_in D.units D.lost self.old) (cells_in D.units D.lost self.new) slot unit.now }
-        ensures touched { KeepsDrives D.units D.lost D.failures (IsOwnOf self.old.groups slot) self.old.drives.items self.new.drives.items }
+        ensures drives { LeavesOthers D.units D.lost D.failures slot self.old self.new }
         ensures tables { KeepsTables self.old self.new }
-        ensures fares { AllFare D.lost D.failures self.old.drives.items self.new.drives.items }
         ensures fit { IsFit D.units self.new }
     {
         let drives: &mut [D] = &mut self.drives;
@@ -165,13 +164,11 @@ impl<D: Drive> Parts<D> {
         requires pieces { length front.now + length rest.now ≡ unit_bytes self.old.groups }
         requires unit { length unit.old ≡ unit_bytes self.old.groups }
         requires scratch { length scratch.old ≡ 2 * unit_bytes self.old.groups }
-        ensures ok { OnOk result (unit_of self.new.groups (cells_in D.units D.lost self.new) slot ≡ Some (front.now ++ rest.now)) }
-        ensures there { OnOk result (IsGone self.new.groups (missing_in D.lost self.new) slot → ⊥) }
+        ensures ok { OnOk result (HoldsUnit D.units D.lost self.new slot (front.now ++ rest.now)) }
         ensures gone { IfErr result (TellsGone D.units D.lost self.new slot) }
         ensures wrote { Wrote self.old.groups (cells_in D.units D.lost self.old) (cells_in D.units D.lost self.new) slot (front.now ++ rest.now) }
-        ensures touched { KeepsDrives D.units D.lost D.failures (IsOwnOf self.old.groups slot) self.old.drives.items self.new.drives.items }
+        ensures drives { LeavesOthers D.units D.lost D.failures slot self.old self.new }
         ensures tables { KeepsTables self.old self.new }
-        ensures fares { AllFare D.lost D.failures self.old.drives.items self.new.drives.items }
         ensures fit { IsFit D.units self.new }
     {
         let drives: &mut [D] = &mut self.drives;

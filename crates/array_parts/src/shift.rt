@@ -1,20 +1,19 @@
 // A group's member is moved onto another extent: its units are put there, and then the tables change.
-ghost use Rattle.std.specs.Prelude.{◌≡◌, ◌*◌, ◌/◌, ◌<◌, ℕ, List, false, length, slice_get, Some, None, OnOk, OnErr, IfErr, IfSome, IsNone};
+ghost use Rattle.std.specs.Prelude.{◌≡◌, ◌*◌, ◌/◌, ◌<◌, ℕ, length, slice_get, Some, None, OnOk, IfErr, IfSome, IsNone};
 ghost use Rattle.extents.specs.Owners.{IsExtent};
 ghost use Rattle.extents.specs.Sizes.{extent_units};
-ghost use Rattle.extent_groups.specs.declared.class.Member.{Member};
 ghost use Rattle.extent_groups.specs.Calls.{SameBut, KeepsDrives};
 ghost use Rattle.extent_groups.specs.Faults.{swap_fault};
-ghost use Rattle.extent_groups.specs.Groups.{group_at, members_of, IsSwap, IsMove};
+ghost use Rattle.extent_groups.specs.Groups.{group_at, members_of};
 ghost use Rattle.extent_groups.specs.Missing.{IsGone};
-ghost use Rattle.extent_groups.specs.Moving.{IsCopied};
-ghost use Rattle.extent_groups.specs.Stores.{unit_bytes, unit_of, AreSound};
+ghost use Rattle.extent_groups.specs.Stores.{unit_bytes};
 ghost use Rattle.extent_groups.specs.Wiping.{IsIn};
-ghost use Rattle.flat_machine.specs.Moves.{IsBeyondOf, IsFirstGone};
+ghost use Rattle.flat_machine.specs.Moves.{IsFirstGone};
 ghost use Rattle.array_parts.specs.Fit.{IsFit};
-ghost use Rattle.array_parts.specs.Losses.{AllFare, KeepsTables};
-ghost use Rattle.array_parts.specs.Shifting.{IsRoute, AreOnTarget, IsUsed, StopsFor, KeepsUnused, IsWhyUnmoved};
-ghost use Rattle.array_parts.specs.Slots.{cells_in, missing_in};
+ghost use Rattle.array_parts.specs.Kept.{EachSlot, KeepsSlots, LeavesDrives};
+ghost use Rattle.array_parts.specs.Losses.{KeepsTables};
+ghost use Rattle.array_parts.specs.Shifting.{IsRoute, AreOnTarget, IsUsed, StopsFor, IsWhyUnmoved, WasSwapped, WasNotSwapped};
+ghost use Rattle.array_parts.specs.Slots.{missing_in};
 ghost use Rattle.array_parts.specs.Views.{view_of, Shifted, NotShifted};
 
 use crate::Parts;
@@ -86,31 +85,11 @@ impl<D: Drive> Parts<D> {
         requires unit { length unit.old ≡ unit_bytes self.old.groups }
         requires scratch { length scratch.old ≡ 2 * unit_bytes self.old.groups }
 
-        // The tables.
+        ensures ok { OnOk result (WasSwapped D.units D.lost self.old group member to self.new) }
+        ensures err { IfErr result (WasNotSwapped D.lost self.old group member to self.new) }
+        ensures slots { KeepsSlots D.units D.lost EachSlot self.old self.new }
+        ensures drives { LeavesDrives D.units D.lost D.failures (IsIn self.old.groups.segments to) (IsUsed self.old.groups group to) self.old self.new }
         ensures shape { self.new.shape ≡ self.old.shape }
-        ensures swapped { OnOk result (IsSwap self.old.groups self.new.groups group member to) }
-        ensures moved { OnOk result (IsMove self.old.groups self.old.extents self.new.extents group member to) }
-        ensures err { OnErr result (KeepsTables self.old self.new) }
-
-        // The other extent, and why it didn't come to that.
-        ensures had { OnOk result (IsBeyondOf self.old.groups (missing_in D.lost self.old) group member → ⊥) }
-        ensures present { OnOk result (missing_in D.lost self.new to.drive ≡ false) }
-        ensures copied { OnOk result ((was : Member) → slice_get (members_of self.old.groups group) member ≡ Some was
-            → AreSound self.old.groups (cells_in D.units D.lost self.old)
-            → IsCopied self.old.groups group member was to (cells_in D.units D.lost self.old) (cells_in D.units D.lost self.new)) }
-        ensures unused { OnOk result ((was : Member) → slice_get (members_of self.old.groups group) member ≡ Some was
-            → KeepsUnused self.old.groups group member was to (cells_in D.units D.lost self.old) (cells_in D.units D.lost self.new)
-            (missing_in D.lost self.new)) }
-        ensures told { IfErr result (IsWhyUnmoved self.new.groups (missing_in D.lost self.new) group member to) }
-
-        // All slots.
-        ensures units { AreSound self.old.groups (cells_in D.units D.lost self.old) → ((slot : ℕ) (unit : List ℕ)
-            → unit_of self.new.groups (cells_in D.units D.lost self.new) slot ≡ Some unit
-            → unit_of self.old.groups (cells_in D.units D.lost self.old) slot ≡ Some unit) }
-        ensures sound { AreSound self.old.groups (cells_in D.units D.lost self.old) → AreSound self.new.groups (cells_in D.units D.lost self.new) }
-        ensures touched { KeepsDrives D.units D.lost D.failures (IsIn self.old.groups.segments to) self.old.drives.items self.new.drives.items }
-        ensures elsewhere { SameBut (IsUsed self.old.groups group to) self.old.drives.items self.new.drives.items }
-        ensures fares { AllFare D.lost D.failures self.old.drives.items self.new.drives.items }
         ensures fit { IsFit D.units self.new }
     {
         let from = self.groups.members(group)[member as usize];

@@ -12,15 +12,15 @@ returns-in-Err-clause-err g c =
 pub returns-clause-ok : goal.returns-clause-ok
 returns-clause-ok g c =
     on_ok_weaker c.write.result
-    (λ target. was_carried g.D.Drive.units g.D.Drive.lost g.D.Drive.failures c.args.self.now c.read.new.self c.write.new.self c.args.from c.args.to c.args.header.now c.read.new.unit c.put_header.new.unit
+    (λ holds. was_carried g.D.Drive.units g.D.Drive.lost g.D.Drive.failures c.args.self.now c.read.new.self c.write.new.self c.args.from c.args.to c.args.header.now c.read.new.unit c.put_header.new.unit
     (loses_view g.D.Drive.units g.D.Drive.lost g.D.Drive.failures c.args.self.now c.read.new.self c.read.ensures.only.tables c.read.ensures.fares c.read.ensures.units c.read.ensures.sound)
-    c.in_default.ensures.ok c.in_default.ensures.there c.requires.header c.put_header.ensures c.write.ensures.tables c.write.ensures.fares c.write.ensures.wrote target)
-    c.write.ensures.there
+    c.in_default.ensures.ok c.in_default.ensures.there c.requires.header c.put_header.ensures c.write.ensures.tables c.write.ensures.drives.fares c.write.ensures.wrote holds.there)
+    c.write.ensures.ok
 
 pub returns-clause-err : goal.returns-clause-err
 returns-clause-err g c =
     IfErr-weaker c.write.result _ _
     (λ e tells. not_carried g.D.Drive.units g.D.Drive.lost g.D.Drive.failures c.args.self.now c.read.new.self c.write.new.self c.args.from c.args.to c.put_header.new.unit e
     (loses_view g.D.Drive.units g.D.Drive.lost g.D.Drive.failures c.args.self.now c.read.new.self c.read.ensures.only.tables c.read.ensures.fares c.read.ensures.units c.read.ensures.sound)
-    c.in_default.ensures.there c.write.ensures.tables c.write.ensures.fares c.write.ensures.wrote tells)
+    c.in_default.ensures.there c.write.ensures.tables c.write.ensures.drives.fares c.write.ensures.wrote tells)
     c.write.ensures.gone

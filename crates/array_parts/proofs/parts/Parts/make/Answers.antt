@@ -13,20 +13,16 @@ pub returns-in-Err : goal.returns-in-Err
 returns-in-Err g c =
     let left = unmade g.D.Drive.units g.D.Drive.lost g.D.Drive.failures c.args.self.now c.wipe.new.self c.args.members.items c.deref.result.now c.requires.fit c.requires.fine c.wipe.ensures.tables c.deref.ensures.value c.wipe.ensures.touched in
     record {
+      ok = tt;
+      err = record { tables = search rules; told = search rules };
+      slots = record { unchanged = λ sound slot unit ne e. left.keeps sound slot unit e; sound = left.sound };
+      drives = record {
+        touched = subst (λ ms. KeepsDrives g.D.Drive.units g.D.Drive.lost g.D.Drive.failures (IsInOne c.args.self.now.groups.segments ms) c.args.self.now.drives.items c.wipe.new.self.drives.items)
+            c.deref.ensures.value c.wipe.ensures.touched;
+        elsewhere = search rules;
+        fares = left.fares;
+      };
       shape = search rules;
-      made = tt;
-      owned = tt;
-      err = search rules;
-      wiped = tt;
-      present = tt;
-      blank = tt;
-      lost = search rules;
-      others = λ sound slot unit ne e. left.keeps sound slot unit e;
-      sound = left.sound;
-      touched = subst (λ ms. KeepsDrives g.D.Drive.units g.D.Drive.lost g.D.Drive.failures (IsInOne c.args.self.now.groups.segments ms) c.args.self.now.drives.items c.wipe.new.self.drives.items)
-          c.deref.ensures.value c.wipe.ensures.touched;
-      elsewhere = search rules;
-      fares = left.fares;
       fit = left.fit;
     }
 
@@ -36,19 +32,21 @@ returns g c =
     c.requires.fit c.requires.free c.requires.there c.requires.fine c.requires.zeros c.wipe.ensures.tables c.enter_group.ensures.made c.enter_group.ensures.owned c.enter_group.ensures.agree c.deref.ensures.value
     c.wipe.ensures.touched c.in_default.ensures.wiped in
     record {
-      shape = search rules;
-      made = search rules;
-      owned = search rules;
+      ok = record {
+        made = search rules;
+        owned = search rules;
+        wiped = search rules;
+        present = done.present;
+        blank = done.blank;
+      };
       err = tt;
-      wiped = search rules;
-      present = done.present;
-      blank = done.blank;
-      lost = tt;
-      others = done.keeps;
-      sound = done.sound;
-      touched = subst (λ ms. KeepsDrives g.D.Drive.units g.D.Drive.lost g.D.Drive.failures (IsInOne c.args.self.now.groups.segments ms) c.args.self.now.drives.items c.wipe.new.self.drives.items)
-          c.deref.ensures.value c.wipe.ensures.touched;
-      elsewhere = search rules;
-      fares = done.fares;
+      slots = record { unchanged = done.keeps; sound = done.sound };
+      drives = record {
+        touched = subst (λ ms. KeepsDrives g.D.Drive.units g.D.Drive.lost g.D.Drive.failures (IsInOne c.args.self.now.groups.segments ms) c.args.self.now.drives.items c.wipe.new.self.drives.items)
+            c.deref.ensures.value c.wipe.ensures.touched;
+        elsewhere = search rules;
+        fares = done.fares;
+      };
+      shape = search rules;
       fit = done.fit;
     }

@@ -10,13 +10,13 @@ use Rattle.array_parts.proofs.parts.Parts.put_trim.Goals as goal
 pub returns-clause-ok : goal.returns-clause-ok
 returns-clause-ok g c =
     on_ok_weaker c.write.result
-    (λ there. was_put g.D.Drive.units g.D.Drive.lost g.D.Drive.failures c.args.self.now c.write.new.self c.args.slot c.clear.new.unit (waiting_unit c.args.self.now.groups.payload Trim)
-    c.write.ensures.tables c.write.ensures.fares c.write.ensures.wrote
-    (subst (λ b. IsUnit b (waiting_unit c.args.self.now.groups.payload Trim)) (sym (c.clear.ensures ∙ ap (λ n. replicate n 0) c.requires.unit)) (zero_unit c.args.self.now.groups.payload)) there)
-    c.write.ensures.there
+    (λ holds. was_put g.D.Drive.units g.D.Drive.lost g.D.Drive.failures c.args.self.now c.write.new.self c.args.slot c.clear.new.unit (waiting_unit c.args.self.now.groups.payload Trim)
+    c.write.ensures.tables c.write.ensures.drives.fares c.write.ensures.wrote
+    (subst (λ b. IsUnit b (waiting_unit c.args.self.now.groups.payload Trim)) (sym (c.clear.ensures ∙ ap (λ n. replicate n 0) c.requires.unit)) (zero_unit c.args.self.now.groups.payload)) holds.there)
+    c.write.ensures.ok
 
 pub returns-clause-err : goal.returns-clause-err
 returns-clause-err g c =
     IfErr-weaker c.write.result _ _
-    (λ e tells. wrote_gone g.D.Drive.units g.D.Drive.lost g.D.Drive.failures c.args.self.now c.write.new.self c.args.slot c.clear.new.unit e c.write.ensures.tables c.write.ensures.fares c.write.ensures.wrote tells)
+    (λ e tells. wrote_gone g.D.Drive.units g.D.Drive.lost g.D.Drive.failures c.args.self.now c.write.new.self c.args.slot c.clear.new.unit e c.write.ensures.tables c.write.ensures.drives.fares c.write.ensures.wrote tells)
     c.write.ensures.gone

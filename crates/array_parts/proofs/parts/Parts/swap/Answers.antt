@@ -23,20 +23,11 @@ returns-in-Err g c =
     let route = route_by g.D.Drive.units c.args.self.now c.args.group c.args.member c.members.result.now c.args.to c.requires.fit c.members.ensures.members c.requires.member c.requires.there c.requires.fine in
     let left = unmoved g.D.Drive.units g.D.Drive.lost g.D.Drive.failures c.args.self.now c.put_units.new.self c.args.group c.args.member _ c.args.to c.requires.fit route c.put_units.ensures.tables c.put_units.ensures.touched in
     record {
+      ok = tt;
+      err = record { tables = c.put_units.ensures.tables; told = c.why_unmoved.ensures };
+      slots = record { unchanged = λ sound slot unit every e. left.keeps sound slot unit e; sound = left.sound };
+      drives = record { touched = c.put_units.ensures.touched; elsewhere = c.put_units.ensures.elsewhere; fares = left.fares };
       shape = c.put_units.ensures.tables.shape;
-      swapped = tt;
-      moved = tt;
-      err = c.put_units.ensures.tables;
-      had = tt;
-      present = tt;
-      copied = tt;
-      unused = tt;
-      told = c.why_unmoved.ensures;
-      units = left.keeps;
-      sound = left.sound;
-      touched = c.put_units.ensures.touched;
-      elsewhere = c.put_units.ensures.elsewhere;
-      fares = left.fares;
       fit = left.fit;
     }
 
@@ -47,19 +38,17 @@ returns g c =
     c.swap_member-swapped.result c.requires.fit c.requires.there c.requires.fine route c.put_units.ensures.tables c.in_default.ensures.ok
     c.swap_member-swapped.ensures.swapped c.swap_member-swapped.ensures.moved c.swap_member-swapped.ensures.refused c.swap_member-swapped.ensures.agree in
     record {
-      shape = search rules;
-      swapped = search rules;
-      moved = search rules;
+      ok = record {
+        swapped = search rules;
+        moved = search rules;
+        had = done.had;
+        present = done.present;
+        copied = done.copied;
+        unused = done.unused;
+      };
       err = tt;
-      had = done.had;
-      present = done.present;
-      copied = done.copied;
-      unused = done.unused;
-      told = tt;
-      units = done.keeps;
-      sound = done.sound;
-      touched = c.put_units.ensures.touched;
-      elsewhere = c.put_units.ensures.elsewhere;
-      fares = done.fares;
+      slots = record { unchanged = λ sound slot unit every e. done.keeps sound slot unit e; sound = done.sound };
+      drives = record { touched = c.put_units.ensures.touched; elsewhere = c.put_units.ensures.elsewhere; fares = done.fares };
+      shape = search rules;
       fit = done.fit;
     }
