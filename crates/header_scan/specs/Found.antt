@@ -72,6 +72,14 @@ pub record IsUnderway (groups : Groups) (start now : Cells) (low high : ℕ) (ne
 abbrev pub Keeps : Groups → Cells → Cells → Type 0
 Keeps groups c new = AreSound groups c → KeepsUnits groups c new × AreSound groups new
 
+-- a source of units was only read. If all slots were sound, they still are, and each unit that still exists is what it was. The
+-- groups are the same, headers may be read again, and only which drives are lost may have changed
+pub record WasOnlyRead {S : Type 0} (groups_of : S → Groups) (cells_of : S → Cells) (fits_of : S → Type 0) (leaves_of : S → S → Type 0) (old new : S) : Type 0 where
+  pub keeps : Keeps (groups_of old) (cells_of old) (cells_of new)
+  pub groups : groups_of new ≡ groups_of old
+  pub fits : fits_of new
+  pub leaves : leaves_of old new
+
 -- the records of a map have their places, all below a slot
 pub record ArePlaced (groups : Groups) (bound : ℕ) (keys : ℕ → ℕ) : Type 0 where
   pub places : HasPlaces groups keys

@@ -7,7 +7,7 @@ ghost use Rattle.extent_groups.specs.Stores.{unit_bytes, unit_of, AreSound};
 ghost use Rattle.flat_machine.specs.Scanned.{IsScanned};
 ghost use Rattle.flat_machine.specs.Restarted.{HasPlaces};
 ghost use Rattle.header_scan.specs.Faults.{AreFine, IsFirstFault, IsTwice, between};
-ghost use Rattle.header_scan.specs.Found.{key_in, IsUnderway, ArePlaced, Keeps};
+ghost use Rattle.header_scan.specs.Found.{key_in, IsUnderway, ArePlaced, Keeps, WasOnlyRead};
 
 use crate::ScanFault;
 use crate::found::Found;
@@ -50,10 +50,7 @@ pub(crate) fn scan_group<U: Units>(
         → IfErr result (IsFirstFault (U.groups units.old) low high (unit_of (U.groups units.old) start) (unit_of (U.groups units.old) (U.cells units.new))) }
     ensures inside { ArePlaced (U.groups units.old) (128 * group) (key_in found.old.newest)
         → OnOk result (ArePlaced (U.groups units.old) (128 * group + 128) (key_in found.new.newest)) }
-    ensures keeps { Keeps (U.groups units.old) (U.cells units.old) (U.cells units.new) }
-    ensures groups { U.groups units.new ≡ U.groups units.old }
-    ensures fits { U.fits units.new }
-    ensures leaves { U.leaves units.old units.new }
+    ensures left { WasOnlyRead U.groups U.cells U.fits U.leaves units.old units.new }
 {
     for index in 0..count_slots(units.groups(), group) {
         let told = match look(units, SLOTS * group + index, blocks, scratch) {
@@ -86,10 +83,7 @@ fn note_groups<U: Units>(
         (unit_of (U.groups units.old) (U.cells units.new))) }
     ensures many { IfOk result (λ f. length f.newest ≡ (U.groups units.old).blocks) }
     ensures inside { IfOk result (λ f. ArePlaced (U.groups units.old) (128 * end) (key_in f.newest)) }
-    ensures keeps { Keeps (U.groups units.old) (U.cells units.old) (U.cells units.new) }
-    ensures groups { U.groups units.new ≡ U.groups units.old }
-    ensures fits { U.fits units.new }
-    ensures leaves { U.leaves units.old units.new }
+    ensures left { WasOnlyRead U.groups U.cells U.fits U.leaves units.old units.new }
 {
     let shape = units.groups().shape();
     let blocks = shape.blocks;

@@ -10,11 +10,8 @@ pub loop-group-init : goal.loop-group-init
 loop-group-init g c = record {
   ok = λ sound. begun (g.U.Units.groups c.args.units.now) (g.U.Units.cells c.args.units.now) (128 * c.args.first) (key_in c.in-Ok.newest) (at c.new-2.result) sound c.in-Ok.ensures.none c.new-2.ensures.empty;
   inside = none_placed (g.U.Units.groups c.args.units.now) (128 * c.args.first) (key_in c.in-Ok.newest) c.in-Ok.ensures.none;
-  keeps = λ sound. ((λ slot v e. e), sound);
-  groups = refl;
-  fits = c.requires.fits;
+  left = record { keeps = λ sound. ((λ slot v e. e), sound); groups = refl; fits = c.requires.fits; leaves = g.met.U.Units.none c.args.units.now };
   many = c.in-Ok.ensures.many;
-  leaves = g.met.U.Units.none c.args.units.now;
 }
 
 pub loop-group-preserved : goal.loop-group-preserved
@@ -22,16 +19,18 @@ loop-group-preserved g c = record {
   ok = λ sound.
       let l = c.loop-group.auto.group in
       passed (g.U.Units.groups c.args.units.now) (g.U.Units.groups c.loop-group.units) (g.U.Units.cells c.args.units.now) (g.U.Units.cells c.loop-group.units) (g.U.Units.cells c.scan_group.new.units) (128 * c.args.first) c.loop-group.group
-      (key_in c.loop-group.found.newest) (at c.loop-group.found.twins) (key_in c.scan_group.new.found.newest) (at c.scan_group.new.found.twins) c.loop-group.invariant.groups (omega (arith, l))
+      (key_in c.loop-group.found.newest) (at c.loop-group.found.twins) (key_in c.scan_group.new.found.newest) (at c.scan_group.new.found.twins) c.loop-group.invariant.left.groups (omega (arith, l))
       c.in-Ok-scan_group.ensures.ok (c.loop-group.invariant.ok sound);
   inside = placed_after (g.U.Units.groups c.args.units.now) (g.U.Units.groups c.loop-group.units) c.loop-group.group (key_in c.loop-group.found.newest) (key_in c.scan_group.new.found.newest)
-      c.loop-group.invariant.groups c.in-Ok-scan_group.ensures.inside c.loop-group.invariant.inside;
-  keeps = kept_after (g.U.Units.groups c.args.units.now) (g.U.Units.groups c.loop-group.units) (g.U.Units.cells c.args.units.now) (g.U.Units.cells c.loop-group.units) (g.U.Units.cells c.scan_group.new.units)
-      c.loop-group.invariant.groups c.loop-group.invariant.keeps c.in-Ok-scan_group.ensures.keeps;
-  groups = c.in-Ok-scan_group.ensures.groups ∙ c.loop-group.invariant.groups;
-  fits = c.in-Ok-scan_group.ensures.fits;
+      c.loop-group.invariant.left.groups c.in-Ok-scan_group.ensures.inside c.loop-group.invariant.inside;
+  left = record {
+    keeps = kept_after (g.U.Units.groups c.args.units.now) (g.U.Units.groups c.loop-group.units) (g.U.Units.cells c.args.units.now) (g.U.Units.cells c.loop-group.units) (g.U.Units.cells c.scan_group.new.units)
+        c.loop-group.invariant.left.groups c.loop-group.invariant.left.keeps c.in-Ok-scan_group.ensures.left.keeps;
+    groups = c.in-Ok-scan_group.ensures.left.groups ∙ c.loop-group.invariant.left.groups;
+    fits = c.in-Ok-scan_group.ensures.left.fits;
+    leaves = g.met.U.Units.more c.args.units.now c.loop-group.units c.scan_group.new.units c.loop-group.invariant.left.leaves c.in-Ok-scan_group.ensures.left.leaves;
+  };
   many = c.in-Ok-scan_group.ensures.many;
-  leaves = g.met.U.Units.more c.args.units.now c.loop-group.units c.scan_group.new.units c.loop-group.invariant.leaves c.in-Ok-scan_group.ensures.leaves;
 }
 
 pub returns-in-Err-clause-err : goal.returns-in-Err-clause-err
@@ -39,13 +38,17 @@ returns-in-Err-clause-err g c = λ sound.
     let l = c.loop-group.auto.group in
     let h = c.loop-group-test.true in
     failed (g.U.Units.groups c.args.units.now) (g.U.Units.groups c.loop-group.units) (g.U.Units.cells c.args.units.now) (g.U.Units.cells c.loop-group.units) (g.U.Units.cells c.scan_group.new.units) (128 * c.args.first) (128 * c.args.end) c.loop-group.group
-    (key_in c.loop-group.found.newest) (at c.loop-group.found.twins) c.in-Err.fault c.loop-group.invariant.groups (omega (arith, l)) (omega (arith, h))
+    (key_in c.loop-group.found.newest) (at c.loop-group.found.twins) c.in-Err.fault c.loop-group.invariant.left.groups (omega (arith, l)) (omega (arith, h))
     c.in-Err.ensures.err (c.loop-group.invariant.ok sound)
 
-pub returns-in-Err-clause-keeps : goal.returns-in-Err-clause-keeps
-returns-in-Err-clause-keeps g c =
-    kept_after (g.U.Units.groups c.args.units.now) (g.U.Units.groups c.loop-group.units) (g.U.Units.cells c.args.units.now) (g.U.Units.cells c.loop-group.units) (g.U.Units.cells c.scan_group.new.units)
-    c.loop-group.invariant.groups c.loop-group.invariant.keeps c.in-Err.ensures.keeps
+pub returns-in-Err-clause-left : goal.returns-in-Err-clause-left
+returns-in-Err-clause-left g c = record {
+  keeps = kept_after (g.U.Units.groups c.args.units.now) (g.U.Units.groups c.loop-group.units) (g.U.Units.cells c.args.units.now) (g.U.Units.cells c.loop-group.units) (g.U.Units.cells c.scan_group.new.units)
+      c.loop-group.invariant.left.groups c.loop-group.invariant.left.keeps c.in-Err.ensures.left.keeps;
+  groups = c.in-Err.ensures.left.groups ∙ c.loop-group.invariant.left.groups;
+  fits = c.in-Err.ensures.left.fits;
+  leaves = g.met.U.Units.more c.args.units.now c.loop-group.units c.scan_group.new.units c.loop-group.invariant.left.leaves c.in-Err.ensures.left.leaves;
+}
 
 pub returns-clause-ok : goal.returns-clause-ok
 returns-clause-ok g c = λ sound.

@@ -13,7 +13,7 @@ use Rattle.header_scan.proofs.pass.scan_group.Goals as goal
 
 pub look-requires-clause-slot : goal.look-requires-clause-slot
 look-requires-clause-slot g c =
-    slot_in (g.U.Units.groups c.loop-index.units) c.groups.result.now c.args.group c.loop-index.index c.count_slots-index-end.result (c.groups.ensures ∙ sym c.loop-index.invariant.groups)
+    slot_in (g.U.Units.groups c.loop-index.units) c.groups.result.now c.args.group c.loop-index.index c.count_slots-index-end.result (c.groups.ensures ∙ sym c.loop-index.invariant.left.groups)
     c.count_slots-index-end.ensures.count c.count_slots-index-end.ensures.few c.loop-index-test.true
 
 pub note-requires-clause-within : goal.note-requires-clause-within
@@ -30,21 +30,31 @@ returns-in-Err-clause-err g c = λ low high start l h was.
     (slot_in (g.U.Units.groups c.args.units.now) c.groups.result.now c.args.group c.loop-index.index c.count_slots-index-end.result c.groups.ensures c.count_slots-index-end.ensures.count few index)
     (omega (arith, l)) (omega (arith, h, few, index)) under
     (looked_at (g.U.Units.groups c.args.units.now) (g.U.Units.groups c.loop-index.units) (g.U.Units.groups c.look.new.units) (g.U.Units.cells c.loop-index.units) (g.U.Units.cells c.look.new.units) c.args.blocks (128 * c.args.group + c.loop-index.index) c.look.result (Err c.in-Err.fault)
-    c.loop-index.invariant.groups c.requires.blocks c.look.ensures.groups c.in-Err.is (c.look.ensures.ok, c.look.ensures.err, c.look.ensures.units, c.look.ensures.sound))
+    c.loop-index.invariant.left.groups c.requires.blocks c.look.ensures.groups c.in-Err.is (c.look.ensures.ok, c.look.ensures.err, c.look.ensures.units, c.look.ensures.sound))
 
-pub returns-in-Err-clause-keeps : goal.returns-in-Err-clause-keeps
-returns-in-Err-clause-keeps g c =
-    more_kept (g.U.Units.groups c.args.units.now) (g.U.Units.cells c.args.units.now) (g.U.Units.cells c.loop-index.units) (g.U.Units.cells c.look.new.units) (g.U.Units.groups c.args.units.now).blocks (128 * c.args.group + c.loop-index.index) c.look.result
-    c.loop-index.invariant.keeps
-    (looked_at (g.U.Units.groups c.args.units.now) (g.U.Units.groups c.loop-index.units) (g.U.Units.groups c.look.new.units) (g.U.Units.cells c.loop-index.units) (g.U.Units.cells c.look.new.units) c.args.blocks (128 * c.args.group + c.loop-index.index) c.look.result c.look.result
-    c.loop-index.invariant.groups c.requires.blocks c.look.ensures.groups refl (c.look.ensures.ok, c.look.ensures.err, c.look.ensures.units, c.look.ensures.sound))
+pub returns-in-Err-clause-left : goal.returns-in-Err-clause-left
+returns-in-Err-clause-left g c = record {
+  keeps =
+      more_kept (g.U.Units.groups c.args.units.now) (g.U.Units.cells c.args.units.now) (g.U.Units.cells c.loop-index.units) (g.U.Units.cells c.look.new.units) (g.U.Units.groups c.args.units.now).blocks (128 * c.args.group + c.loop-index.index) c.look.result
+      c.loop-index.invariant.left.keeps
+      (looked_at (g.U.Units.groups c.args.units.now) (g.U.Units.groups c.loop-index.units) (g.U.Units.groups c.look.new.units) (g.U.Units.cells c.loop-index.units) (g.U.Units.cells c.look.new.units) c.args.blocks (128 * c.args.group + c.loop-index.index) c.look.result c.look.result
+      c.loop-index.invariant.left.groups c.requires.blocks c.look.ensures.groups refl (c.look.ensures.ok, c.look.ensures.err, c.look.ensures.units, c.look.ensures.sound));
+  groups = c.look.ensures.groups ∙ c.loop-index.invariant.left.groups;
+  fits = c.look.ensures.fits;
+  leaves = g.met.U.Units.more c.args.units.now c.loop-index.units c.look.new.units c.loop-index.invariant.left.leaves c.look.ensures.leaves;
+}
 
-pub returns-in_default-note-clause-keeps : goal.returns-in_default-note-clause-keeps
-returns-in_default-note-clause-keeps g c =
-    more_kept (g.U.Units.groups c.args.units.now) (g.U.Units.cells c.args.units.now) (g.U.Units.cells c.loop-index.units) (g.U.Units.cells c.look.new.units) (g.U.Units.groups c.args.units.now).blocks (128 * c.args.group + c.loop-index.index) c.look.result
-    c.loop-index.invariant.keeps
-    (looked_at (g.U.Units.groups c.args.units.now) (g.U.Units.groups c.loop-index.units) (g.U.Units.groups c.look.new.units) (g.U.Units.cells c.loop-index.units) (g.U.Units.cells c.look.new.units) c.args.blocks (128 * c.args.group + c.loop-index.index) c.look.result c.look.result
-    c.loop-index.invariant.groups c.requires.blocks c.look.ensures.groups refl (c.look.ensures.ok, c.look.ensures.err, c.look.ensures.units, c.look.ensures.sound))
+pub returns-in_default-note-clause-left : goal.returns-in_default-note-clause-left
+returns-in_default-note-clause-left g c = record {
+  keeps =
+      more_kept (g.U.Units.groups c.args.units.now) (g.U.Units.cells c.args.units.now) (g.U.Units.cells c.loop-index.units) (g.U.Units.cells c.look.new.units) (g.U.Units.groups c.args.units.now).blocks (128 * c.args.group + c.loop-index.index) c.look.result
+      c.loop-index.invariant.left.keeps
+      (looked_at (g.U.Units.groups c.args.units.now) (g.U.Units.groups c.loop-index.units) (g.U.Units.groups c.look.new.units) (g.U.Units.cells c.loop-index.units) (g.U.Units.cells c.look.new.units) c.args.blocks (128 * c.args.group + c.loop-index.index) c.look.result c.look.result
+      c.loop-index.invariant.left.groups c.requires.blocks c.look.ensures.groups refl (c.look.ensures.ok, c.look.ensures.err, c.look.ensures.units, c.look.ensures.sound));
+  groups = c.look.ensures.groups ∙ c.loop-index.invariant.left.groups;
+  fits = c.look.ensures.fits;
+  leaves = g.met.U.Units.more c.args.units.now c.loop-index.units c.look.new.units c.loop-index.invariant.left.leaves c.look.ensures.leaves;
+}
 
 pub loop-index-preserved : goal.loop-index-preserved
 loop-index-preserved g c = record {
@@ -65,7 +75,7 @@ loop-index-preserved g c = record {
         some_more (g.U.Units.groups c.args.units.now) start (g.U.Units.cells c.loop-index.units) (g.U.Units.cells c.look.new.units) low (128 * c.args.group + c.loop-index.index) w.in-Some.told
         c.loop-index.found.newest c.loop-index.found.twins w.note.new.self.newest w.note.new.self.twins (omega (arith, l)) small note (c.loop-index.invariant.ok low start l was)
         (looked_at (g.U.Units.groups c.args.units.now) (g.U.Units.groups c.loop-index.units) (g.U.Units.groups c.look.new.units) (g.U.Units.cells c.loop-index.units) (g.U.Units.cells c.look.new.units) c.args.blocks (128 * c.args.group + c.loop-index.index) c.look.result (Ok (Some w.in-Some.told))
-        c.loop-index.invariant.groups c.requires.blocks c.look.ensures.groups is (c.look.ensures.ok, c.look.ensures.err, c.look.ensures.units, c.look.ensures.sound)) in
+        c.loop-index.invariant.left.groups c.requires.blocks c.look.ensures.groups is (c.look.ensures.ok, c.look.ensures.err, c.look.ensures.units, c.look.ensures.sound)) in
         let next : 128 * c.args.group + c.loop-index.index + 1 ≡ 128 * c.args.group + (c.loop-index.index + 1) = omega arith in
         subst (λ n. IsUnderway (g.U.Units.groups c.args.units.now) start (g.U.Units.cells c.look.new.units) low n (key_in c.match-told.found.newest) (at c.match-told.found.twins)) next
         (subst (λ (f : Found). IsUnderway (g.U.Units.groups c.args.units.now) start (g.U.Units.cells c.look.new.units) low (128 * c.args.group + c.loop-index.index + 1) (key_in f.newest) (at f.twins)) (sym w.found-is) more))
@@ -75,7 +85,7 @@ loop-index-preserved g c = record {
         (subst (λ (f : Found). IsUnderway (g.U.Units.groups c.args.units.now) start (g.U.Units.cells c.look.new.units) low (128 * c.args.group + c.loop-index.index + 1) (key_in f.newest) (at f.twins)) (sym w.found-is)
         (none_more (g.U.Units.groups c.args.units.now) start (g.U.Units.cells c.loop-index.units) (g.U.Units.cells c.look.new.units) low (128 * c.args.group + c.loop-index.index) (key_in c.loop-index.found.newest) (at c.loop-index.found.twins)
         (c.loop-index.invariant.ok low start l was) (looked_at (g.U.Units.groups c.args.units.now) (g.U.Units.groups c.loop-index.units) (g.U.Units.groups c.look.new.units) (g.U.Units.cells c.loop-index.units) (g.U.Units.cells c.look.new.units) c.args.blocks (128 * c.args.group + c.loop-index.index) c.look.result (Ok None)
-        c.loop-index.invariant.groups c.requires.blocks c.look.ensures.groups (c.in-Ok.is ∙ ap (λ o. Ok o) w.in_default.is) (c.look.ensures.ok, c.look.ensures.err, c.look.ensures.units, c.look.ensures.sound)))))
+        c.loop-index.invariant.left.groups c.requires.blocks c.look.ensures.groups (c.in-Ok.is ∙ ap (λ o. Ok o) w.in_default.is) (c.look.ensures.ok, c.look.ensures.err, c.look.ensures.units, c.look.ensures.sound)))))
   ];
   inside = λ was.
       let few = c.count_slots-index-end.ensures.few in
@@ -102,18 +112,20 @@ loop-index-preserved g c = record {
             (subst (λ (f : Found). ArePlaced (g.U.Units.groups c.args.units.now) (128 * c.args.group + c.loop-index.index + 1) (key_in f.newest)) (sym w.found-is)
             (placed_below (g.U.Units.groups c.args.units.now) (128 * c.args.group + c.loop-index.index) (128 * c.args.group + c.loop-index.index + 1) (key_in c.loop-index.found.newest) (omega arith) placed))
       ]);
-  keeps =
-      more_kept (g.U.Units.groups c.args.units.now) (g.U.Units.cells c.args.units.now) (g.U.Units.cells c.loop-index.units) (g.U.Units.cells c.look.new.units) (g.U.Units.groups c.args.units.now).blocks (128 * c.args.group + c.loop-index.index) c.look.result
-      c.loop-index.invariant.keeps
-      (looked_at (g.U.Units.groups c.args.units.now) (g.U.Units.groups c.loop-index.units) (g.U.Units.groups c.look.new.units) (g.U.Units.cells c.loop-index.units) (g.U.Units.cells c.look.new.units) c.args.blocks (128 * c.args.group + c.loop-index.index) c.look.result c.look.result
-      c.loop-index.invariant.groups c.requires.blocks c.look.ensures.groups refl (c.look.ensures.ok, c.look.ensures.err, c.look.ensures.units, c.look.ensures.sound));
-  groups = c.look.ensures.groups ∙ c.loop-index.invariant.groups;
-  fits = c.look.ensures.fits;
+  left = record {
+    keeps =
+        more_kept (g.U.Units.groups c.args.units.now) (g.U.Units.cells c.args.units.now) (g.U.Units.cells c.loop-index.units) (g.U.Units.cells c.look.new.units) (g.U.Units.groups c.args.units.now).blocks (128 * c.args.group + c.loop-index.index) c.look.result
+        c.loop-index.invariant.left.keeps
+        (looked_at (g.U.Units.groups c.args.units.now) (g.U.Units.groups c.loop-index.units) (g.U.Units.groups c.look.new.units) (g.U.Units.cells c.loop-index.units) (g.U.Units.cells c.look.new.units) c.args.blocks (128 * c.args.group + c.loop-index.index) c.look.result c.look.result
+        c.loop-index.invariant.left.groups c.requires.blocks c.look.ensures.groups refl (c.look.ensures.ok, c.look.ensures.err, c.look.ensures.units, c.look.ensures.sound));
+    groups = c.look.ensures.groups ∙ c.loop-index.invariant.left.groups;
+    fits = c.look.ensures.fits;
+    leaves = g.met.U.Units.more c.args.units.now c.loop-index.units c.look.new.units c.loop-index.invariant.left.leaves c.look.ensures.leaves;
+  };
   many = elim c.match-told.branch [
     | in-Some+in-Ok-note w ↦ ap (λ (f : Found). length f.newest) w.found-is ∙ w.in-Ok-note.ensures.many ∙ c.loop-index.invariant.many
     | in_default w ↦ ap (λ (f : Found). length f.newest) w.found-is ∙ c.loop-index.invariant.many
   ];
-  leaves = g.met.U.Units.more c.args.units.now c.loop-index.units c.look.new.units c.loop-index.invariant.leaves c.look.ensures.leaves;
 }
 
 pub returns-clause-ok : goal.returns-clause-ok
