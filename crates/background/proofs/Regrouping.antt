@@ -1,20 +1,24 @@
 -- Plans of an array, stated over the flat state that it represents.
-use Rattle.std.proofs.Common.{ℕ, ◌<◌, Bool, List, refl, sym, ap, ◌∙◌, subst, Option, Some, inr, Result, Ok, Err, IfOk, OnErr}
+use Rattle.std.proofs.Common.{◌≡◌, ◌≢◌, ℕ, ◌<◌, Bool, List, refl, sym, ap, ◌∙◌, subst, Option, Some, inr, Result, Ok, Err, IfOk, OnErr}
+use Rattle.std.specs.declared.alloc.AllocError.{AllocError}
 use Rattle.extent_groups.specs.Groups.{Groups, Agree}
 use Rattle.slot_tables.specs.Represents.{Represents}
 use Rattle.slot_tables.specs.Views.{WorldView, IsWhole}
 use Rattle.flat_machine.specs.Flat.{Flat}
-use Rattle.flat_machine.specs.Cases.{MoveCase}
+use Rattle.flat_machine.specs.declared.refusal.Refusal.{Refusal}
+use Rattle.flat_machine.specs.declared.refusal.Refusal.TheVariants.{Memory}
+use Rattle.flat_machine.specs.Cases.{Case, IsWanted}
+use Rattle.flat_machine.specs.Steps.{MoveExtent, MovedExtent}
+use Rattle.flat_machine.specs.Steps as step
+use Rattle.slot_tables.specs.Changes.{MayRefuse}
 use Rattle.flat_machine.specs.Moves.{MovePasses}
 use Rattle.rebalancer.specs.declared.shift.Shift.{Shift}
 use Rattle.rebalancer.specs.Balancing.{IsBalance}
 use Rattle.rebalancer.specs.Rebuilding.{IsRebuild}
-use Rattle.step_core.specs.Told.{flat_answer}
-use Rattle.step_core.specs.declared.step.Answer.{Answer}
-use Rattle.step_core.specs.declared.step.Answer.TheVariants as answer
+use Rattle.step_core.proofs.Refusals.{refused_of, wanted_of}
 use Rattle.background.specs.declared.regrouped.Regrouped.{Regrouped}
 use Rattle.background.specs.declared.regrouped.Regrouped.TheVariants.{Moved, Refused, Nothing}
-use Rattle.background.specs.Regrouping.{AreOwners, AreLost, AreLostOf, IsBalanceOf, IsRebuildOf, ShiftCase, BalanceCase, RebuildCase, outcome_of}
+use Rattle.background.specs.Regrouping.{AreOwners, AreLost, AreLostOf, IsBalanceOf, IsRebuildOf, IfMoved, ShiftCase, BalanceCase, RebuildCase}
 
 module _ (v : WorldView) (F : Flat) (whole : IsWhole v.array) (rep : Represents v F) where
   owners_are : AreOwners F v.array.parts.owners
@@ -56,24 +60,42 @@ as_rebuild F G drive s (Moved t) there plan case = (there, (s, plan, case))
 as_rebuild F G drive s (Refused r) there plan case = inr (there, (s, plan, case))
 as_rebuild F G drive s Nothing there plan case = absurd case
 
--- an answer to a move is what comes of the shift
-pub as_shift : (F G : Flat) (s : Shift) (told : Answer) → MoveCase F s.group s.member s.to (flat_answer told) G → ShiftCase F s (outcome_of s told) G
-as_shift F G s answer.Shifted case = (refl, case)
-as_shift F G s (answer.Refused r) case = case
-as_shift F G s (answer.Claimed t) case = absurd case
-as_shift F G s (answer.Taken t) case = absurd case
-as_shift F G s (answer.Released t) case = absurd case
-as_shift F G s (answer.NotHeld t) case = absurd case
-as_shift F G s (answer.Filled t) case = absurd case
-as_shift F G s (answer.Copied t) case = absurd case
-as_shift F G s (answer.Committed r) case = absurd case
-as_shift F G s (answer.Discarded t) case = absurd case
-as_shift F G s (answer.Read found) case = absurd case
-as_shift F G s (answer.Found seen) case = absurd case
-as_shift F G s (answer.Made g) case = absurd case
-as_shift F G s (answer.Unmade g) case = absurd case
-as_shift F G s (answer.Added d) case = absurd case
-as_shift F G s (answer.Lost d) case = absurd case
+-- what comes of the shift that a plan names: it is done, refused, or out of memory
+pub record WasShift (v w : WorldView) (s : Shift) (result : Result Regrouped AllocError) : Type 0 where
+  pub ok : IfOk result (λ outcome. (F : Flat) → Represents v F → (G : Flat) × ShiftCase F s outcome G × Represents w G)
+  pub err : OnErr result (w ≡ v)
+  pub wants : OnErr result ((F : Flat) → Represents v F → IsWanted F (MoveExtent s.group s.member s.to))
+
+pub shift_done : (v w : WorldView) (s : Shift)
+    → ((F : Flat) → Represents v F → (G : Flat) × Case F (MoveExtent s.group s.member s.to) MovedExtent G × Represents w G) → WasShift v w s (Ok (Moved s))
+shift_done v w s does = record { ok = λ F rep. let y = does F rep in (y.0, (refl, y.1), y.2); err = tt; wants = tt }
+
+pub shift_refused : (v w : WorldView) (s : Shift) (r : Refusal) (result : Result Regrouped AllocError)
+    → IfOk result (λ outcome. (outcome ≡ Refused r) × (r ≢ Memory)) → OnErr result (r ≡ Memory) → (r ≡ Memory → w ≡ v)
+    → ((F : Flat) → Represents v F → MayRefuse r (IsWanted F (MoveExtent s.group s.member s.to))
+    ((G : Flat) × Case F (MoveExtent s.group s.member s.to) (step.Refused r) G × Represents w G))
+    → WasShift v w s result
+shift_refused v w s r (Ok o) ok err same may = record {
+  ok = λ F rep.
+      let y = refused_of r (IsWanted F (MoveExtent s.group s.member s.to))
+      ((G : Flat) × Case F (MoveExtent s.group s.member s.to) (step.Refused r) G × Represents w G) (may F rep) ok.1
+      in
+      (y.0, subst (λ x. ShiftCase F s x y.0) (sym ok.0) y.1, y.2);
+  err = tt;
+  wants = tt;
+}
+shift_refused v w s r (Err e) ok err same may = record {
+  ok = tt;
+  err = same err;
+  wants = λ F rep. wanted_of r (IsWanted F (MoveExtent s.group s.member s.to))
+      ((G : Flat) × Case F (MoveExtent s.group s.member s.to) (step.Refused r) G × Represents w G) (may F rep) err;
+}
+
+-- no member is moved then
+pub not_moved : (r : Refusal) (P : Type 0) (result : Result Regrouped AllocError) → IfOk result (λ outcome. (outcome ≡ Refused r) × (r ≢ Memory))
+    → IfOk result (λ outcome. IfMoved outcome P)
+not_moved r P (Ok o) ok = subst (λ x. IfMoved x P) (sym ok.0) tt
+not_moved r P (Err e) ok = tt
 
 -- a shift that a plan to balance asks for is that plan's case, in every state that a world represents
 pub all_balanced : {E : Type 0} (r : Result Regrouped E) (v w : WorldView) (s : Shift) → ((F : Flat) → Represents v F → IsBalanceOf F (Some s))

@@ -1,17 +1,15 @@
 -- What represents a flat state with what is kept next to it, after each part of a step.
 use Rattle.std.proofs.Common.{◌≡◌, ◌≢◌, ◌⊎◌, ℕ, ◌+◌, ◌/◌, ◌%◌, ◌<◌, if◌then◌else◌, arith, ◌↔◌, inl, inr, List, length, slice_set, refl, sym, ap, ◌∙◌, subst, Option, Some, None, Result, Ok, Err}
-use Rattle.std.specs.Prelude.{IfOk, OnErr, MatchOption, Contains}
+use Rattle.std.specs.declared.alloc.AllocError.{AllocError}
+use Rattle.std.specs.Prelude.{IfOk, OnErr, MatchOption}
 use Rattle.std.proofs.lemmas.List.{length-set}
 use Rattle.std.proofs.lemmas.List.FromFn.{length-range_with_len}
 use Rattle.map_join.specs.declared.records.Record.{Record}
 use Rattle.map_join.specs.Maps.{IsMapOf}
-use Rattle.map_join.specs.Record.{IsRecord}
 use Rattle.extent_groups.specs.Groups.{Group, Groups, group_at, class_in, slots_in, with_group}
 use Rattle.extent_groups.proofs.GroupsLemmas.{group_same, group_other}
 use Rattle.extent_groups.proofs.Bounds.{made_low}
-use Rattle.flat_machine.proofs.Newest.{newest_unique}
 use Rattle.std.proofs.lemmas.Bool.{cases_eq}
-use Rattle.std.proofs.lemmas.Option.{same_Some}
 use Rattle.extent_groups.specs.declared.class.Class.{Class}
 use Rattle.extent_groups.specs.declared.class.Member.{Member}
 use Rattle.extent_groups.specs.declared.class.Class.TheVariants.{Mirrored}
@@ -24,7 +22,7 @@ use Rattle.flat_machine.specs.Steps as step
 use Rattle.flat_machine.specs.Cases.{Case, CommitWith, Leaves, made}
 use Rattle.flat_machine.specs.Steps.{FlatStep, FlatAnswer}
 use Rattle.slot_tables.specs.Views.{ArrayView, WorldView, key_at}
-use Rattle.slot_tables.specs.Represents.{Represents, ShowsArray}
+use Rattle.slot_tables.specs.Represents.{Represents}
 use Rattle.flat_machine.proofs.Pairs.{put_here, unequal}
 use Rattle.slot_tables.proofs.Hands.{free_iff}
 use Rattle.migrator.specs.Ages.{Marked, by_number, written, IsOldest}
@@ -36,17 +34,23 @@ use Rattle.step_core.specs.declared.step.Answer.{Answer}
 use Rattle.step_core.specs.declared.step.Answer.TheVariants as answer
 use Rattle.step_core.specs.Told.{flat_answer}
 use Rattle.background.specs.Tiered.{Tiered, begun}
-use Rattle.background.specs.Placing.{Put, Fresh, Again, PlaceCase, PlaceStops, put_step, put_answer}
+use Rattle.step_core.specs.declared.place.Placed.{Placed}
+use Rattle.step_core.specs.declared.place.NotPlaced.{NotPlaced}
+use Rattle.step_core.specs.declared.place.NotPlaced.TheVariants as denied
+use Rattle.step_core.specs.Placing.{Places}
+use Rattle.flat_machine.specs.declared.refusal.Refusal.{Refusal}
+use Rattle.flat_machine.specs.declared.refusal.Refusal.TheVariants.{Memory}
+use Rattle.background.specs.Placing.{Put, Fresh, Again, PlaceCase, place_of, put_step, put_answer}
 use Rattle.background.specs.Steps.{Write, StepNoted, AppendsAt, MovesTo, WritesAt, WritesIn, PutStops, TierStops, DemoteCase, PlugCase, Cleans, CleanCase, WriteCase, CommitNoted, IsFreeMirror, end_after, order_behind}
 use Rattle.background.specs.Stands.{StandsFor}
-use Rattle.background.specs.Inside.{IsFreeHere, CommitIs, outcome_of}
+use Rattle.background.specs.Inside.{IsFreeHere}
 use Rattle.background.specs.Marking.{AreMarked, IsNoted, PutsAt, is_mirrors, order_noted, order_put}
 use Rattle.background.specs.Planning.{IsOldestMirrored, IsNextAppend, IsPlugOf, IsCleanOf}
 use Rattle.background.specs.declared.planner.Planner.{Planner}
 use Rattle.background.specs.declared.outcome.Outcome.{Outcome}
 use Rattle.background.specs.declared.outcome.Outcome.TheVariants.{NoRoom, Nothing}
 use Rattle.background.specs.declared.outcome.Outcome.TheVariants as outcome
-use Rattle.background.proofs.Placings.{commit_is}
+use Rattle.background.proofs.Placings.{CommitIs, outcome_of, commit_is}
 use Rattle.background.proofs.Emitting.{IsAlike, HasEmitted, IsCalm, alike_left, alike_released, calm_alike, commit_emits, place_emits, place_alike, stops_alike}
 use Rattle.background.proofs.Freeing.{unmade_frees, Frees, FreesNone, IsPlaceIn, left_frees, release_frees, commit_frees, stops_free, place_frees, place_keeps, step_frees, made_frees}
 use Rattle.background.specs.Hints.{IsHinted}
@@ -63,11 +67,8 @@ pub map_of : (t : Tiers) (T : Tiered) → StandsFor t T → IsMapOf T.flat.emitt
 map_of t T stands = stands.world.array.history.map
 
 -- what a placing does for each state that the world represents
-abbrev pub Places : WorldView → WorldView → ℕ → ℕ → ℕ → Put → Outcome → Type 0
-Places u v w s b what o = (F : Flat) → Represents u F → (G : Flat) × PlaceCase F w s b what o G × Represents v G
-
-abbrev pub Stops : WorldView → WorldView → ℕ → ℕ → ℕ → Put → Type 0
-Stops u v w s b what = (F : Flat) → Represents u F → (G : Flat) × PlaceStops F w s b what G × Represents v G
+abbrev pub PlacesTo : WorldView → WorldView → ℕ → ℕ → ℕ → Put → Result Placed NotPlaced → Type 0
+PlacesTo u v w s b what result = (F : Flat) → Represents u F → (G : Flat) × Places F w s b what result G × Represents v G
 
 -- the order has a place for the block
 block_there : (t : Tiers) (T : Tiered) (b : ℕ) → StandsFor t T → b < t.world.array.parts.groups.blocks → b < length t.planner.ages.order
@@ -89,15 +90,11 @@ hints_still : (F G : Flat) (hints : List ℕ) → G.groups ≡ F.groups → Free
 hints_still F G hints groups frees hinted = hints_keep F G hints hints (λ s. ⊥) groups (λ s free. inl (frees s free)) (λ s no. absurd no) (λ s h. h) hinted
 
 -- the place that a block had before it was placed
-left_in : (emitted : List Record) (b : ℕ) (hints : List ℕ) (old left : Option Record) → ((q : Record) → Contains emitted q → IsRecord q) → IsNewest emitted b old
-    → IsNewest emitted b left → MatchOption left (Unit {0}) (λ r. IsHinted hints r.place) → (n : ℕ) → IsPlaceIn old n → IsHinted hints n
-left_in emitted b hints old left all was is hinted n at = go left old (newest_unique emitted b all left old is was) hinted at
-  where
-    go : (o p : Option Record) → o ≡ p → MatchOption o (Unit {0}) (λ q. IsHinted hints q.place) → IsPlaceIn p n → IsHinted hints n
-    go None None same hinted at = absurd at
-    go None (Some q) same hinted at = absurd (cc)
-    go (Some p) None same hinted at = absurd at
-    go (Some p) (Some q) same hinted at = subst (IsHinted hints) (ap (λ (z : Record). z.place) (same_Some p q same) ∙ sym at) hinted
+left_in : (hints : List ℕ) (old : Option Record) (left : Option ℕ) → left ≡ place_of old → MatchOption left (Unit {0}) (λ n. IsHinted hints n)
+    → (n : ℕ) → IsPlaceIn old n → IsHinted hints n
+left_in hints None left same hinted n at = absurd at
+left_in hints (Some q) left same hinted n at =
+    subst (IsHinted hints) (sym at) (subst (λ o. MatchOption o (Unit {0}) (λ m. IsHinted hints m)) same hinted)
 
 -- the commit of a record is noted in a planner, if its order has a place for the block
 abbrev pub Notes : Groups → Planner → Planner → Record → Type 0
@@ -188,26 +185,29 @@ abbrev pub PutsTo : Tiers → Tiers → ℕ → ℕ → ℕ → Put → Outcome 
 PutsTo t u w s b what o = (T : Tiered) → StandsFor t T → (U : Tiered) × PutsAt T w b what s o U × StandsFor u U
 
 -- what a placing says of a world is true with what is noted of it
-pub puts : (t u : Tiers) (w s b : ℕ) (what : Put) (r : Record) (left : Option Record) → Places t.world u.world w s b what (outcome.Placed r)
-    → Notes u.world.array.parts.groups t.planner u.planner r → length u.planner.ages.order ≡ length t.planner.ages.order → u.planner.end ≡ t.planner.end
-    → b < t.world.array.parts.groups.blocks → ((F : Flat) → ShowsArray t.world.array F → IsNewest F.emitted b left)
-    → MatchOption left (Unit {0}) (λ q. IsHinted u.hints q.place) → ((n : ℕ) → IsHinted t.hints n → IsHinted u.hints n)
-    → PutsTo t u w s b what (outcome.Placed r)
-puts t u w s b what r left places notes long end inside newest hinted others T stands =
+pub puts : (t u : Tiers) (w s b : ℕ) (what : Put) (placed : Placed) → PlacesTo t.world u.world w s b what (Ok placed)
+    → Notes u.world.array.parts.groups t.planner u.planner placed.newest
+    → length u.planner.ages.order ≡ length t.planner.ages.order → u.planner.end ≡ t.planner.end → b < t.world.array.parts.groups.blocks
+    → MatchOption placed.left (Unit {0}) (λ n. IsHinted u.hints n) → ((n : ℕ) → IsHinted t.hints n → IsHinted u.hints n)
+    → PutsTo t u w s b what (outcome.Placed placed.newest)
+puts t u w s b what placed places notes long end inside hinted others T stands =
     let p = places T.flat stands.world in
+    let r = placed.newest in
+    let is = p.1.0 in
     let records = stands.world.array.history.records in
-    let run = p.1.run in
-    let emits = place_emits T.flat p.0 w s b what r records p.1 in (
+    let run = is.run in
+    let emits = place_emits T.flat p.0 w s b what r records is in (
       record T { flat = p.0; order = order_put T.order b what (outcome.Placed r) },
-      (p.0, p.1, refl),
+      (p.0, is, refl),
       stands_noted t u T p.0 b r (order_put T.order b what (outcome.Placed r)) notes long end inside stands p.2 emits
           (order_is run.2.0 run.2.2.0 w s b T.order r run.2.2.1 ∙ order_waits run.0 run.2.0 what w s b T.order r run.2.1)
-          (hints_keep T.flat p.0 t.hints u.hints (IsPlaceIn p.1.old) emits.groups (place_frees T.flat p.0 w s b what r p.1)
-          (left_in T.flat.emitted b u.hints p.1.old left records p.1.newest (newest T.flat stands.world.array) hinted) others stands.hints),
+          (hints_keep T.flat p.0 t.hints u.hints (IsPlaceIn is.old) emits.groups (place_frees T.flat p.0 w s b what r is)
+          (left_in u.hints is.old placed.left p.1.1 hinted) others stands.hints),
     )
 
-pub puts_none : (t : Tiers) (v : WorldView) (w s b : ℕ) (what : Put) (o : Outcome) → ((r : Record) → o ≢ outcome.Placed r) → Places t.world v w s b what o
-    → PutsTo t (record t { world = v }) w s b what o
+-- nothing is placed
+puts_none : (t : Tiers) (v : WorldView) (w s b : ℕ) (what : Put) (o : Outcome) → ((r : Record) → o ≢ outcome.Placed r)
+    → ((F : Flat) → Represents t.world F → (G : Flat) × PlaceCase F w s b what o G × Represents v G) → PutsTo t (record t { world = v }) w s b what o
 puts_none t v w s b what o other places T stands =
     let p = places T.flat stands.world in (
       record T { flat = p.0 },
@@ -215,14 +215,44 @@ puts_none t v w s b what o other places T stands =
       stands_alike t v T p.0 stands p.2 (place_alike T.flat p.0 w s b what o other p.1) (place_keeps T.flat p.0 w s b what o other p.1),
     )
 
-pub puts_stop : (t : Tiers) (v : WorldView) (w s b : ℕ) (what : Put) → Stops t.world v w s b what
+pub puts_nowhere : (t : Tiers) (v : WorldView) (w s b : ℕ) (what : Put) → PlacesTo t.world v w s b what (Err denied.Taken)
+    → PutsTo t (record t { world = v }) w s b what NoRoom
+puts_nowhere t v w s b what places = puts_none t v w s b what NoRoom (λ r is. absurd (cc)) places
+
+-- a placing that was refused, and one that ran out of memory
+puts_refused : (t : Tiers) (v : WorldView) (w s b : ℕ) (what : Put) (k : Refusal) (o : Outcome) → o ≡ outcome.Refused k → k ≢ Memory
+    → PlacesTo t.world v w s b what (Err (denied.Refused k)) → PutsTo t (record t { world = v }) w s b what o
+puts_refused t v w s b what k o is some places =
+    puts_none t v w s b what o (λ r placed. let both : outcome.Refused k ≡ outcome.Placed r = sym is ∙ placed in absurd (cc)) (λ F rep.
+    let p = places F rep in
+    (p.0, subst (λ x. PlaceCase F w s b what x p.0) (sym is) (told F p.0 k some p.1), p.2))
+  where
+    told : (F G : Flat) (j : Refusal) → j ≢ Memory → Places F w s b what (Err (denied.Refused j)) G → PlaceCase F w s b what (outcome.Refused j) G
+    told F G Memory ne case = absurd (ne refl)
+    told F G j ne case = case
+
+puts_stop : (t : Tiers) (v : WorldView) (w s b : ℕ) (what : Put) (k : Refusal) → k ≡ Memory → PlacesTo t.world v w s b what (Err (denied.Refused k))
     → (T : Tiered) → StandsFor t T → (U : Tiered) × PutStops T w what U × StandsFor (record t { world = v }) U
-puts_stop t v w s b what places T stands =
-    let p = places T.flat stands.world in (
+puts_stop t v w s b what k is places T stands =
+    let p = places T.flat stands.world in
+    let stops = subst (λ j. Places T.flat w s b what (Err (denied.Refused j)) p.0) is p.1 in (
       record T { flat = p.0 },
-      record { slot = s; block = b; left = p.0; stops = p.1; same = refl },
-      stands_alike t v T p.0 stands p.2 (stops_alike T.flat p.0 w s b what p.1) (stops_free T.flat p.0 w s b what p.1),
+      record { slot = s; block = b; left = p.0; stops = stops; same = refl },
+      stands_alike t v T p.0 stands p.2 (stops_alike T.flat p.0 w s b what stops) (stops_free T.flat p.0 w s b what stops),
     )
+
+-- the same of what the call returns then
+pub refused_puts : (t : Tiers) (v : WorldView) (w s b : ℕ) (what : Put) (k : Refusal) (result : Result Outcome AllocError)
+    → IfOk result (λ o. (o ≡ outcome.Refused k) × (k ≢ Memory)) → PlacesTo t.world v w s b what (Err (denied.Refused k))
+    → IfOk result (λ o. PutsTo t (record t { world = v }) w s b what o)
+refused_puts t v w s b what k (Ok o) is places = puts_refused t v w s b what k o is.0 is.1 places
+refused_puts t v w s b what k (Err e) is places = tt
+
+pub refused_stops : (t : Tiers) (v : WorldView) (w s b : ℕ) (what : Put) (k : Refusal) (result : Result Outcome AllocError)
+    → OnErr result (k ≡ Memory) → PlacesTo t.world v w s b what (Err (denied.Refused k))
+    → OnErr result ((T : Tiered) → StandsFor t T → (U : Tiered) × PutStops T w what U × StandsFor (record t { world = v }) U)
+refused_stops t v w s b what k (Ok o) is places = tt
+refused_stops t v w s b what k (Err e) is places = puts_stop t v w s b what k is places
 
 -- after a placing the log goes on elsewhere
 pub appends : (t m : Tiers) (p : Planner) (w s b : ℕ) (o : Outcome) → PutsTo t m w s b Again o

@@ -11,8 +11,6 @@ use Rattle.flat_machine.specs.Cases.{Case}
 use Rattle.rebalancer.specs.declared.shift.Shift.{Shift}
 use Rattle.rebalancer.specs.Balancing.{IsBalance}
 use Rattle.rebalancer.specs.Rebuilding.{IsRebuild}
-use Rattle.step_core.specs.declared.step.Answer.{Answer}
-use Rattle.step_core.specs.declared.step.Answer.TheVariants as answer
 use Rattle.background.specs.declared.regrouped.Regrouped.{Regrouped}
 use Rattle.background.specs.declared.regrouped.Regrouped.TheVariants.{Moved, Refused, Nothing}
 
@@ -71,9 +69,3 @@ RebuildCase F drive (Moved t) G = (drive < F.drives) × ((s : Shift) × (IsRebui
 abbrev pub IfMoved : Regrouped → Type 0 → Type 0
 IfMoved (Moved s) p = p
 IfMoved _ p = Unit {0}
-
--- what comes of an answer to a move
-abbrev pub outcome_of : Shift → Answer → Regrouped
-outcome_of s answer.Shifted = Moved s
-outcome_of s (answer.Refused r) = Refused r
-outcome_of s _ = Nothing

@@ -6,7 +6,6 @@ ghost use Rattle.background.specs.Hints.{IsHinted, AreHints, IsSought, IsFirstHi
 
 use crate::bits::{BITS, lowest_bit, put, take};
 use extent_groups::{GROUPS, SLOTS};
-use map_join::Record;
 use migrator::Free;
 use std::alloc::{AllocError, Global};
 use std::marker::Model;
@@ -66,12 +65,12 @@ impl FreeHints {
 }
 
 // The place that a block had, if any, may be free.
-pub(crate) fn hint_left(hints: &mut FreeHints, left: Option<Record>)
-    ensures left { MatchOption left (Unit {0}) (λ r. IsHinted hints.new r.place) }
+pub(crate) fn hint_left(hints: &mut FreeHints, left: Option<u16>)
+    ensures left { MatchOption left (Unit {0}) (λ slot. IsHinted hints.new slot) }
     ensures others { (other : ℕ) → IsHinted hints.old other → IsHinted hints.new other }
 {
-    if let Some(record) = left {
-        hints.add(record.place);
+    if let Some(slot) = left {
+        hints.add(slot);
     }
 }
 

@@ -6,7 +6,6 @@ mod asks;
 mod bits;
 mod hints;
 mod outcome;
-mod place;
 mod planner;
 mod plans;
 mod put;

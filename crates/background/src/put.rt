@@ -1,17 +1,16 @@
 // A block goes into a slot, and what is kept next to the world follows.
-ghost use Rattle.std.specs.Prelude.{◌<◌, IfOk, OnErr};
+ghost use Rattle.std.specs.Prelude.{◌≡◌, ◌≢◌, ◌<◌, IfOk, OnErr};
 ghost use Rattle.slot_tables.specs.Views.{SameSizes};
-ghost use Rattle.background.specs.Inside.{IsSizedFor};
 ghost use Rattle.background.specs.Marking.{PutsAt};
-ghost use Rattle.background.specs.Placing.{put_of};
+ghost use Rattle.background.specs.Placing.{IsSizedFor, put_of};
 ghost use Rattle.background.specs.Stands.{StandsFor};
 ghost use Rattle.background.specs.Steps.{PutStops};
 ghost use Rattle.background.specs.Tiered.{Tiered};
 
 use crate::hints::hint_left;
-use crate::place::{Given, place};
 use crate::{Outcome, Tiers};
 use std::alloc::{AllocError, Global};
+use step_core::{Given, NotPlaced, Refusal};
 
 impl Tiers {
     // Puts the block into the slot: what is given, else a copy of the block's last write. Its commit is noted, and its old place
@@ -32,15 +31,25 @@ impl Tiers {
             → (U : Tiered) × PutStops T worker (put_of given.entry) U × StandsFor self.new U) }
         ensures room { SameSizes self.old.world.array self.new.world.array }
     {
-        let left = self.world.array().newest(block);
-        match place(&mut self.world, alloc, worker, slot, block, given) {
-            Ok(Outcome::Placed(record)) => {
-                hint_left(&mut self.hints, left);
-                self.planner.note(self.world.array(), record);
-                Ok(Outcome::Placed(record))
+        match self.world.place(alloc, slot, block, given) {
+            Ok(placed) => {
+                hint_left(&mut self.hints, placed.left);
+                self.planner.note(self.world.array(), placed.newest);
+                Ok(Outcome::Placed(placed.newest))
             }
-            Ok(other) => Ok(other),
-            Err(_) => Err(AllocError),
+            Err(NotPlaced::Taken) => Ok(Outcome::NoRoom),
+            Err(NotPlaced::Refused(refusal)) => refused(refusal),
         }
+    }
+}
+
+// What a placing comes to that was refused; out of memory is no outcome.
+fn refused(refusal: Refusal) -> Result<Outcome, AllocError>
+    ensures ok { IfOk result (λ outcome. (outcome ≡ Outcome.Refused refusal) × (refusal ≢ Refusal.Memory)) }
+    ensures err { OnErr result (refusal ≡ Refusal.Memory) }
+{
+    match refusal {
+        Refusal::Memory => Err(AllocError),
+        _ => Ok(Outcome::Refused(refusal)),
     }
 }

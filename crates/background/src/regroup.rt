@@ -1,5 +1,5 @@
 //! One extent after another, by a plan.
-ghost use Rattle.std.specs.Prelude.{◌≡◌, ◌+◌, ◌<◌, ◌≤◌, Bool, IfOk, IfSome, List, OnErr, Some};
+ghost use Rattle.std.specs.Prelude.{◌≡◌, ◌≢◌, ◌+◌, ◌<◌, ◌≤◌, Bool, IfOk, IfSome, List, OnErr, Some};
 ghost use Rattle.slot_tables.specs.Represents.{Represents};
 ghost use Rattle.slot_tables.specs.Views.{SameSizes, IsWhole};
 ghost use Rattle.flat_machine.specs.Flat.{Flat};
@@ -7,12 +7,12 @@ ghost use Rattle.flat_machine.specs.Cases.{IsWanted};
 ghost use Rattle.flat_machine.specs.Steps.{MoveExtent};
 ghost use Rattle.rebalancer.specs.Balancing.{IsBalance, Evens, sum_of_squares};
 ghost use Rattle.rebalancer.specs.Rebuilding.{IsRebuild};
-ghost use Rattle.background.specs.Regrouping.{AreLostOf, BalanceCase, IsBalanceOf, IsRebuildOf, RebuildCase, ShiftCase, IfMoved, outcome_of};
+ghost use Rattle.background.specs.Regrouping.{AreLostOf, BalanceCase, IsBalanceOf, IsRebuildOf, RebuildCase, ShiftCase, IfMoved};
 
 use crate::Regrouped;
 use rebalancer::{Shift, balance_plan, rebuild_plan};
 use std::alloc::{AllocError, Global};
-use step_core::{Answer, Refusal, World};
+use step_core::{Refusal, World};
 
 /// Moves one extent from a drive of greatest load to one of least, of those pairs whose loads (extents in groups) are two
 /// apart or more; `Nothing` where there is no such pair, or none that may be moved.
@@ -79,18 +79,18 @@ fn carry_out(alloc: Global, world: &mut World, shift: Shift) -> Result<Regrouped
     ensures room { SameSizes world.old.array world.new.array }
 {
     match world.move_extent(alloc, shift.group, shift.member, shift.to) {
-        Ok(answer) => Ok(outcome_in(shift, answer)),
-        Err(_) => Err(AllocError),
+        Ok(()) => Ok(Regrouped::Moved(shift)),
+        Err(refusal) => refused(refusal),
     }
 }
 
-// What comes of it; it answers that the member was moved, or a refusal.
-fn outcome_in(shift: Shift, answer: Answer) -> Regrouped
-    ensures { result ≡ outcome_of shift answer }
+// What a shift comes to that was refused; out of memory is no outcome.
+fn refused(refusal: Refusal) -> Result<Regrouped, AllocError>
+    ensures ok { IfOk result (λ outcome. (outcome ≡ Regrouped.Refused refusal) × (refusal ≢ Refusal.Memory)) }
+    ensures err { OnErr result (refusal ≡ Refusal.Memory) }
 {
-    match answer {
-        Answer::Shifted => Regrouped::Moved(shift),
-        Answer::Refused(refusal) => Regrouped::Refused(refusal),
-        _ => Regrouped::Nothing,
+    match refusal {
+        Refusal::Memory => Err(AllocError),
+        _ => Ok(Regrouped::Refused(refusal)),
     }
 }

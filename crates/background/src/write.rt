@@ -3,17 +3,16 @@ ghost use Rattle.std.specs.Prelude.{◌≡◌, ℕ, ◌<◌, IfOk, OnErr, Option
 ghost use Rattle.slot_tables.specs.Views.{SameSizes};
 ghost use Rattle.flat_machine.specs.Flat.{Payload, Trim};
 ghost use Rattle.migrator.specs.First.{IsFirst};
-ghost use Rattle.background.specs.Placing.{Fresh, content_of};
-ghost use Rattle.background.specs.Inside.{IsGivenFor};
+ghost use Rattle.background.specs.Placing.{Fresh, IsGivenFor, content_of};
 ghost use Rattle.background.specs.Stands.{StandsFor};
 ghost use Rattle.background.specs.Steps.{IsFreeMirror, PutStops, TierCase, TierStops, WritesIn};
 ghost use Rattle.background.specs.Steps as t;
 ghost use Rattle.background.specs.Tiered.{Tiered};
 
 use crate::asks::Mirrors;
-use crate::place::Given;
 use crate::{Outcome, Tiers};
 use std::alloc::{AllocError, Global};
+use step_core::Given;
 
 impl Tiers {
     /// Writes a payload as the block's next version into the lowest free slot of mirrored groups, and notes the write. Where no

@@ -1,3 +1,4 @@
+pub mod Placing
 pub mod Restarting
 pub mod Standing
 pub mod Worlds

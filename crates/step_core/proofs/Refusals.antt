@@ -10,8 +10,8 @@ use Rattle.array_parts.specs.Views.{Entered}
 use Rattle.flat_machine.specs.declared.refusal.Refusal.{Refusal}
 use Rattle.flat_machine.specs.declared.refusal.Refusal.TheVariants.{Memory, Gone, DriveLost}
 use Rattle.flat_machine.specs.Flat.{Flat}
-use Rattle.flat_machine.specs.Steps.{FlatStep, Seen, Read, Found, Refused}
-use Rattle.flat_machine.specs.Cases.{Case, ReadCase, IsWanted}
+use Rattle.flat_machine.specs.Steps.{FlatStep, Seen, Read, Found, MoveExtent, MovedExtent, Refused}
+use Rattle.flat_machine.specs.Cases.{Case, MoveCase, ReadCase, IsWanted}
 use Rattle.flat_machine.specs.History.{IsStep}
 use Rattle.slot_tables.specs.Changes.{MayRefuse}
 use Rattle.slot_tables.specs.Reads.{WasNotRead, WasSeen}
@@ -23,14 +23,14 @@ use Rattle.step_core.specs.declared.step.Answer.TheVariants as answer
 use Rattle.disk_array.specs.Reads.{WasFound, WasFoundIn, WasGone, WasNotFound, version_in}
 use Rattle.disk_array.specs.Refused.{IsRefused, OnlyLoses}
 use Rattle.step_core.specs.Told.{flat_answer, read_answer}
-use Rattle.step_core.proofs.Worlds.{stays_world, refused_world}
+use Rattle.step_core.proofs.Worlds.{stays_world, refused_world, move_world}
 
 -- what a refusal means, if it is not out of memory, and if it is
-refused_of : (r : Refusal) (W P : Type 0) → MayRefuse r W P → r ≢ Memory → P
+pub refused_of : (r : Refusal) (W P : Type 0) → MayRefuse r W P → r ≢ Memory → P
 refused_of Memory W P may ne = absurd (ne refl)
 refused_of _ W P may ne = may
 
-wanted_of : (r : Refusal) (W P : Type 0) → MayRefuse r W P → r ≡ Memory → W
+pub wanted_of : (r : Refusal) (W P : Type 0) → MayRefuse r W P → r ≡ Memory → W
 wanted_of r W P may is = subst (λ q. MayRefuse q W P) is may
 
 -- arrays with the same tables have the same sizes
@@ -80,6 +80,46 @@ was_refused v w a step r (Err e) is ok err fits sizes same may = record {
   wants = λ F rep. wanted_of r (IsWanted F step) ((G : Flat) × (Case F step (Refused r) G) × (ShowsArray a G)) (may F rep) err;
   room = subst (λ (x : WorldView). SameSizes v.array x.array) (sym is) sizes;
 }
+
+-- a call of the world itself that was refused
+pub step_refused : (v w : WorldView) (step : FlatStep) (r : Refusal) (result : Result Answer AllocError)
+    → IfOk result (λ told. (told ≡ answer.Refused r) × (r ≢ Memory)) → OnErr result (r ≡ Memory) → SameSizes v.array w.array → (r ≡ Memory → w ≡ v)
+    → ((F : Flat) → Represents v F → MayRefuse r (IsWanted F step) ((G : Flat) × (Case F step (Refused r) G) × (Represents w G)))
+    → WasStep v w step result
+step_refused v w step r (Ok told) ok err sizes same may = record {
+  ok = λ F rep. subst (λ x. (G : Flat) × (Case F step (flat_answer x) G) × (Represents w G)) (sym ok.0)
+      (refused_of r (IsWanted F step) ((G : Flat) × (Case F step (Refused r) G) × (Represents w G)) (may F rep) ok.1);
+  err = tt;
+  wants = tt;
+  room = sizes;
+}
+step_refused v w step r (Err e) ok err sizes same may = record {
+  ok = tt;
+  err = same err;
+  wants = λ F rep. wanted_of r (IsWanted F step) ((G : Flat) × (Case F step (Refused r) G) × (Represents w G)) (may F rep) err;
+  room = sizes;
+}
+
+-- what an array may refuse, its world may
+refused_may : (v : WorldView) (F : Flat) (step : FlatStep) (r : Refusal) (a : ArrayView) (W : Type 0) → IsStep F.groups step → Represents v F
+    → MayRefuse r W ((G : Flat) × (Case F step (Refused r) G) × (ShowsArray a G))
+    → MayRefuse r W ((G : Flat) × (Case F step (Refused r) G) × (Represents (record { array = a; hands = v.hands }) G))
+refused_may v F step Memory a W fits rep may = may
+refused_may v F step r a W fits rep may = refused_world v F step r a fits rep may
+
+-- a member that was moved, or wasn't
+pub moves : (u v : WorldView) (a : ArrayView) (g k : ℕ) (to : Member) (result : Result (Unit {0}) Refusal) → u ≡ v
+    → ((F : Flat) → ShowsArray u.array F → MatchResult result (λ done. (G : Flat) × (MoveCase F g k to MovedExtent G) × (ShowsArray a G))
+    (λ r. MayRefuse r (IsWanted F (MoveExtent g k to)) ((G : Flat) × (MoveCase F g k to (Refused r) G) × (ShowsArray a G))))
+    → (F : Flat) → Represents v F
+    → MatchResult result (λ done. (G : Flat) × (MoveCase F g k to MovedExtent G) × (Represents (record { array = a; hands = u.hands }) G))
+    (λ r. MayRefuse r (IsWanted F (MoveExtent g k to)) ((G : Flat) × (MoveCase F g k to (Refused r) G) × (Represents (record { array = a; hands = u.hands }) G)))
+moves u v a g k to (Ok done) is does F rep =
+    let as_u = subst (λ (w : WorldView). Represents w F) (sym is) rep in
+    move_world u F g k to a as_u (does F as_u.array)
+moves u v a g k to (Err r) is does F rep =
+    let as_u = subst (λ (w : WorldView). Represents w F) (sym is) rep in
+    refused_may u F (MoveExtent g k to) r a (IsWanted F (MoveExtent g k to)) tt as_u (does F as_u.array)
 
 -- what is known of a world is known of one that is equal
 sizes_of : (u v : WorldView) (a : ArrayView) → u ≡ v → SameSizes u.array a → SameSizes v.array a

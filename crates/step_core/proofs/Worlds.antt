@@ -24,7 +24,8 @@ use Rattle.flat_machine.proofs.Pairs.{turned_else, turned_just, just_one, Any, e
 use Rattle.flat_machine.proofs.Passing.{Passes, passed, passed_on}
 use Rattle.slot_tables.specs.declared.hand.Hand.{Hand}
 use Rattle.slot_tables.specs.declared.hand.Hand.TheVariants.{Empty, Holds, Waits}
-use Rattle.slot_tables.specs.Changes.{passed_hands}
+use Rattle.slot_tables.specs.Changes.{IsPlaceOf, passed_hands}
+use Rattle.slot_tables.specs.declared.hold.Plain.{Plain}
 use Rattle.array_parts.specs.Views.{PartsView}
 use Rattle.slot_tables.specs.Views.{ArrayView, WorldView, with_parts, hand_at, key_at}
 use Rattle.slot_tables.specs.Represents.{HandSlot, InTables, ShowsArray, Represents, is_claim, is_ticket}
@@ -56,14 +57,16 @@ hands_held old hands gone now s w same out is =
     is ∙ ap (λ (h : List Hand). set h s (Holds w)) (out ∙ ap (λ (h : List Hand). set h s Empty) same) ∙ set_twice hands s Empty (Holds w)
 
 -- and the hands after a commit
-pub hands_passed : (old hands gone now : List Hand) (s w : ℕ) (found told : Option Record) → old ≡ hands → gone ≡ set old s Empty → found ≡ told → now ≡ given_old gone w found
-    → now ≡ passed_hands hands s w told
-hands_passed old hands gone now s w found told same out news is =
-    is ∙ ap (λ o. given_old gone w o) news ∙ ap (λ (h : List Hand). given_old h w told) (out ∙ ap (λ (h : List Hand). set h s Empty) same) ∙ by told
+pub hands_passed : (old hands gone now : List Hand) (s w : ℕ) (claim : Option Plain) (found : Option Record) → old ≡ hands → gone ≡ set old s Empty
+    → IsPlaceOf (λ (c : Plain). c.slot) claim found → now ≡ given_old gone w claim → now ≡ passed_hands hands s w found
+hands_passed old hands gone now s w claim found same out place is =
+    is ∙ ap (λ (h : List Hand). given_old h w claim) (out ∙ ap (λ (h : List Hand). set h s Empty) same) ∙ by claim found place
   where
-    by : (o : Option Record) → given_old (set hands s Empty) w o ≡ passed_hands hands s w o
-    by None = refl
-    by (Some q) = refl
+    by : (p : Option Plain) (o : Option Record) → IsPlaceOf (λ (c : Plain). c.slot) p o → given_old (set hands s Empty) w p ≡ passed_hands hands s w o
+    by None None at = refl
+    by (Some c) (Some q) at = ap (λ n. set (set hands s Empty) n (Holds w)) at
+    by None (Some q) at = absurd at
+    by (Some c) None at = absurd at
 
 -- a block of the array is one of the state's
 pub block_there : (v : WorldView) (F : Flat) (b : ℕ) → Represents v F → b < v.array.parts.groups.blocks → b < F.groups.blocks

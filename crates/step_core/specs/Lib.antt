@@ -1,5 +1,6 @@
 pub mod Told
 pub mod Passed
+pub mod Placing
 pub mod Headline
 pub use Rattle.slot_tables.specs.Claims
 pub use Rattle.slot_tables.specs.declared.ready.NotAdopted

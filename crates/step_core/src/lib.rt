@@ -2,6 +2,7 @@
 #![tactic(auto)]
 
 mod grow;
+mod place;
 mod relocate;
 mod restart;
 mod run;
@@ -18,6 +19,7 @@ pub use disk_array::{
 pub use extent_groups::GroupTable;
 pub use extents::{Drive, DriveLost, ExtentTable, MemDrive, Shape, ShapeRefusal};
 pub use flat_machine::{Class, Member, Refusal};
+pub use place::{Given, NotPlaced, Placed};
 pub use run::{Run, Stopped, represented_stands, run_steps};
 pub use step::{Answer, Step};
 pub use world::World;

@@ -9,7 +9,7 @@ ghost use Rattle.slot_tables.specs.Represents.{Represents};
 ghost use Rattle.step_core.specs.Headline.{Stands, TellingRun, StepsTo, OfEach, HasMaps, IsOneMissed, HasHeaders, ReadsLast, IsStop};
 
 use crate::step::{Answer, Step};
-use crate::world::World;
+use crate::world::{World, refused};
 use std::alloc::{AllocError, Global};
 
 /// How many workers a world has.
@@ -116,7 +116,12 @@ impl World {
             Step::ReadAt { record } => self.read_at(alloc, *record),
             Step::Make { class, members } => self.make(alloc, *class, members),
             Step::Unmake { worker, group } => self.unmake(alloc, *worker, *group),
-            Step::MoveExtent { group, member, to } => self.move_extent(alloc, *group, *member, *to),
+            Step::MoveExtent { group, member, to } => match self.move_extent(
+                alloc, *group, *member, *to,
+            ) {
+                Ok(()) => Ok(Answer::Shifted),
+                Err(refusal) => refused(refusal),
+            },
             Step::AddDrive => self.add_drive(alloc),
             Step::Lose { drive } => Ok(self.lose(*drive)),
         }

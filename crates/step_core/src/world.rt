@@ -214,10 +214,9 @@ impl World {
         let Some(ticket) = self.hands.take(worker, slot) else {
             return Ok(Answer::Refused(Refusal::NoTicket));
         };
-        let found = self.array.newest(block);
         match self.array.commit(alloc, ticket, block) {
             Ok(done) => {
-                give_old(&mut self.hands, worker, found);
+                give_old(&mut self.hands, worker, done.old);
                 Ok(Answer::Committed(done.emitted.record()))
             }
             Err((refusal, ticket)) => {
@@ -347,10 +346,10 @@ pub(crate) fn refused(refusal: Refusal) -> Result<Answer, AllocError>
 }
 
 // After a commit the worker holds the old place.
-fn give_old(hands: &mut Hands, worker: u8, found: Option<Record>)
-    ensures { hands.new ≡ given_old hands.old worker found }
+fn give_old(hands: &mut Hands, worker: u8, old: Option<Plain>)
+    ensures { hands.new ≡ given_old hands.old worker old }
 {
-    if let Some(record) = found {
-        hands.hold(record.place, worker);
+    if let Some(claim) = old {
+        hands.hold(claim.slot, worker);
     }
 }

@@ -3,7 +3,8 @@ use Rattle.map_join.specs.Record.{record_at}
 use Rattle.flat_machine.specs.Flat.{Flat, Ticket}
 use Rattle.flat_machine.specs.Steps.{Commit, Committed, Refused}
 use Rattle.flat_machine.specs.Cases.{CommitCase, IsWanted}
-use Rattle.slot_tables.specs.Changes.{passed_hands, MayRefuse}
+use Rattle.slot_tables.specs.Changes.{IsPlaceOf, passed_hands, MayRefuse}
+use Rattle.slot_tables.specs.declared.hold.Plain.{Plain}
 use Rattle.slot_tables.specs.Views.{ArrayView, WorldView, hand_at, key_at}
 use Rattle.slot_tables.specs.Represents.{ShowsArray, is_ticket}
 use Rattle.slot_tables.proofs.Hands.{as_world}
@@ -22,8 +23,10 @@ returns-in-Ok-clause-ok c F rep =
     let array : c.self.inside.array ≡ v.array = ap (λ (u : WorldView). u.array) c.self.view_is in
     let hands : c.self.inside.hands ≡ v.hands = ap (λ (u : WorldView). u.hands) c.self.view_is in
     let held : is_ticket (hand_at v.hands s) w ≡ true = subst (λ (h : List Hand). is_ticket (hand_at h s) w ≡ true) hands c.in-Some.ensures.0 in
-    let told : c.newest-found.result ≡ record_at b (key_at v.array b) = subst (λ (a : ArrayView). c.newest-found.result ≡ record_at b (key_at a b)) array c.newest-found.ensures.value in
-    let passed = hands_passed c.self.inside.hands v.hands c.take.new.self c.give_old.new.hands s w c.newest-found.result (record_at b (key_at v.array b)) hands c.in-Some.ensures.2 told c.give_old.ensures in
+    let place : IsPlaceOf (λ (p : Plain). p.slot) c.in-Ok.done.old (record_at b (key_at v.array b)) =
+    subst (λ (a : ArrayView). IsPlaceOf (λ (p : Plain). p.slot) c.in-Ok.done.old (record_at b (key_at a b))) array c.in-Ok.ensures.done.2
+    in
+    let passed = hands_passed c.self.inside.hands v.hands c.take.new.self c.give_old.new.hands s w c.in-Ok.done.old (record_at b (key_at v.array b)) hands c.in-Some.ensures.2 place c.give_old.ensures in
     let mine = (rep.hands s).tickets w ∙ held in
     as_world (λ G. CommitCase F w s b (Committed c.record.result) G) _ (record { array = c.commit.new.self; hands = passed_hands v.hands s w (record_at b (key_at v.array b)) }) (ap (λ (h : List Hand). record { array = c.commit.new.self; hands = h }) passed)
     (commit_world v F w s b c.record.result c.commit.new.self (search rules) (block_there v F b rep c.requires) (search rules) rep held

@@ -1,4 +1,6 @@
 use Rattle.std.proofs.Common.{sym}
+use Rattle.flat_machine.specs.Steps.{MoveExtent}
+use Rattle.step_core.proofs.Refusals.{step_refused}
 use Rattle.step_core.proofs.world.World.step.Goals as goal
 
 pub returns-in-Fill : goal.returns-in-Fill
@@ -25,5 +27,12 @@ returns-in-Make c = let e = c.make.ensures in rw (c.in-Make.is, sym c.deref-in-M
 pub returns-in-Unmake : goal.returns-in-Unmake
 returns-in-Unmake c = let e = c.unmake.ensures in rw (c.in-Unmake.is) (record { ok = e.ok; err = e.err; wants = e.wants; room = e.room })
 
-pub returns-in-MoveExtent-clause-ok : goal.returns-in-MoveExtent-clause-ok
-returns-in-MoveExtent-clause-ok c = rw (c.in-MoveExtent.is) c.move_extent.ensures.ok
+pub returns-in-Ok-clause-ok : goal.returns-in-Ok-clause-ok
+returns-in-Ok-clause-ok c = rw (c.in-MoveExtent.is) c.in-Ok.ensures.flat
+
+pub returns-in-Err : goal.returns-in-Err
+returns-in-Err c =
+    let e = step_refused c.args.self.now c.move_extent.new.self (MoveExtent c.in-MoveExtent.group c.in-MoveExtent.member c.in-MoveExtent.to) c.in-Err.refusal c.refused.result
+    c.refused.ensures.ok c.refused.ensures.err c.move_extent.ensures.room c.in-Err.ensures.err c.in-Err.ensures.flat
+    in
+    rw (c.in-MoveExtent.is) (record { ok = e.ok; err = e.err; wants = e.wants; room = e.room })

@@ -1,0 +1,397 @@
+-- A block is put into a free slot: what each of the array's calls leaves of the world. The hands in between are those of a worker
+-- that does the steps one by one; before the first and after the last nobody has the slots in hand.
+use Rattle.std.proofs.Common.{◌≡◌, ℕ, ◌<◌, Bool, true, false, List, ◌∷◌, length, refl, sym, ap, ◌∙◌, subst, arith, inl, inr, Option, Some, None, Result, Ok, Err, MatchResult, IfErr}
+use Rattle.std.proofs.Math.ListN.{set}
+use Rattle.std.proofs.lemmas.List.{length-set, get_or-set_same, get_or-set_other, set-get_or}
+use Rattle.map_join.specs.declared.records.Record.{Record}
+use Rattle.map_join.specs.Record.{record_at}
+use Rattle.extent_groups.specs.Groups.{Groups}
+use Rattle.flat_machine.specs.declared.refusal.Refusal.{Refusal}
+use Rattle.flat_machine.specs.declared.refusal.Refusal.TheVariants.{Memory, NoTicket}
+use Rattle.flat_machine.specs.Flat.{Flat, Content, Holder, Worker, Ticket, Block, IsNewest}
+use Rattle.flat_machine.specs.Steps.{Claimed, Released, Committed, Discarded, Refused, Claim, Commit}
+use Rattle.flat_machine.specs.Steps as step
+use Rattle.flat_machine.specs.Cases.{Case, Leaves, Runs, ClaimCase, FillCase, CopyCase, CommitCase, DiscardCase, ReleaseCase}
+use Rattle.flat_machine.specs.History.{IsStep}
+use Rattle.flat_machine.proofs.Newest.{place_small}
+use Rattle.flat_machine.proofs.Holding.{once_any}
+use Rattle.flat_machine.proofs.Pairs.{Any, IsOnce, equal}
+use Rattle.flat_machine.proofs.Passing.{Passes, passed}
+use Rattle.slot_tables.specs.declared.hand.Hand.{Hand}
+use Rattle.slot_tables.specs.declared.hand.Hand.TheVariants.{Empty, Holds, Waits}
+use Rattle.slot_tables.specs.Changes.{IsPlaceOf, MayRefuse, passed_hands}
+use Rattle.slot_tables.specs.Views.{Kept, ArrayView, WorldView, kept_at, hand_at, key_at, has_no_holder}
+use Rattle.slot_tables.specs.Represents.{HandSlot, ShowsArray, Represents, is_claim, is_ticket}
+use Rattle.slot_tables.proofs.Hands.{claim_case, release_case, with_hand}
+use Rattle.slot_tables.proofs.Newest.{newest_told}
+use Rattle.slot_tables.proofs.Places.{set_twice}
+use Rattle.step_core.specs.declared.place.NotPlaced.TheVariants as denied
+use Rattle.step_core.specs.declared.place.Given.{Given}
+use Rattle.step_core.specs.declared.place.Given.TheVariants as given
+use Rattle.step_core.specs.Placing.{Put, Fresh, Again, IsPlaced, IsSizedFor, Places, place_of, put_of, put_step, put_answer, back_steps, back_answers}
+use Rattle.step_core.proofs.Worlds.{fill_world, copy_world, commit_world, discard_world, refused_world}
+
+-- a slot that nobody holds is in nobody's hand
+pub free_hand : (k : Kept) (h : Hand) → has_no_holder k h ≡ true → h ≡ Empty
+free_hand k Empty free = refl
+free_hand k (Holds w) free = absurd (cc)
+free_hand k (Waits w) free = absurd (cc)
+
+-- nor is one that is a block's newest place
+block_hand : (h : Hand) (held : Holder → Bool) (b : ℕ) → HandSlot h held → IsOnce Any held → held (Block b) ≡ true → h ≡ Empty
+block_hand Empty held b is once has = refl
+block_hand (Holds w) held b is once has =
+    let both : Block b ≡ Worker w = once (Block b) (Worker w) tt tt has (is.claims w ∙ equal w w refl) in absurd (cc)
+block_hand (Waits w) held b is once has =
+    let both : Block b ≡ Ticket w = once (Block b) (Ticket w) tt tt has (is.tickets w ∙ equal w w refl) in absurd (cc)
+
+-- a hand that was empty, and is again
+hand_back : (hands : List Hand) (s : ℕ) (h : Hand) → hand_at hands s ≡ Empty → set (set hands s h) s Empty ≡ hands
+hand_back hands s h empty = set_twice hands s h Empty ∙ ap (λ x. set hands s x) (sym empty) ∙ set-get_or hands s Empty
+
+-- what a worker has in hand of a slot that it claimed, and of one that waits for it
+holds_it : (hands : List Hand) (s w : ℕ) → s < length hands → is_claim (hand_at (set hands s (Holds w)) s) w ≡ true
+holds_it hands s w inside = ap (λ h. is_claim h w) (get_or-set_same hands s (Holds w) Empty inside) ∙ equal w w refl
+
+waits_it : (hands : List Hand) (s w : ℕ) → s < length hands → is_ticket (hand_at (set hands s (Waits w)) s) w ≡ true
+waits_it hands s w inside = ap (λ h. is_ticket h w) (get_or-set_same hands s (Waits w) Empty inside) ∙ equal w w refl
+
+many : (hands : List Hand) (s : ℕ) (h : Hand) → length hands ≡ 65536 → length (set hands s h) ≡ 65536
+many hands s h long = length-set hands s h ∙ long
+
+below : (n s : ℕ) → n ≡ 65536 → s < 65536 → s < n
+below n s long small = omega arith
+
+-- a world whose hands are others that are equal
+with_hands : (P : Flat → Type 0) (a : ArrayView) (h k : List Hand) → h ≡ k → (G : Flat) × (P G) × (Represents (record { array = a; hands = h }) G)
+    → (G : Flat) × (P G) × (Represents (record { array = a; hands = k }) G)
+with_hands P a h k is x = (x.0, x.1, subst (λ (l : List Hand). Represents (record { array = a; hands = l }) x.0) is x.2)
+
+-- a claim that goes back, after which the hands are others that are equal
+goes_back : (F : Flat) (w s : ℕ) (a : ArrayView) (h k : List Hand) → length h ≡ 65536 → s < 65536 → is_claim (hand_at h s) w ≡ true → set h s Empty ≡ k
+    → Represents (record { array = a; hands = h }) F
+    → (G : Flat) × (ReleaseCase F w s (Released s) G) × (Represents (record { array = a; hands = k }) G)
+goes_back F w s a h k long small held is rep =
+    with_hands (λ G. ReleaseCase F w s (Released s) G) a (set h s Empty) k is
+    (release_case (record { array = a; hands = h }) F w s (below (length h) s long small) held rep)
+
+-- what a fill or a copy leaves
+put_world : (v : WorldView) (F : Flat) (what : Put) (w s b : ℕ) (a : ArrayView) → s < length v.hands → IsStep F.groups (put_step what w s b) → Represents v F
+    → is_claim (hand_at v.hands s) w ≡ true → (G : Flat) × (Case F (put_step what w s b) (put_answer what s) G) × (ShowsArray a G)
+    → (G : Flat) × (Case F (put_step what w s b) (put_answer what s) G) × (Represents (record { array = a; hands = set v.hands s (Waits w) }) G)
+put_world v F (Fresh x) w s b a inside fits rep held y = fill_world v F w s x a inside fits rep held s refl y
+put_world v F Again w s b a inside fits rep held y = copy_world v F w s b a inside fits rep held s refl y
+
+put_emits : (F G : Flat) (what : Put) (w s b : ℕ) → Case F (put_step what w s b) (put_answer what s) G → G.emitted ≡ F.emitted
+put_emits F G (Fresh x) w s b case = ap (λ (x : Flat). x.emitted) case.3.same
+put_emits F G Again w s b case = ap (λ (x : Flat). x.emitted) case.1.6.same
+
+-- the hands while the slot is claimed, and while it waits
+abbrev claimed_hands : WorldView → ℕ → ℕ → List Hand
+claimed_hands v w s = set v.hands s (Holds w)
+
+abbrev waiting_hands : WorldView → ℕ → ℕ → List Hand
+waiting_hands v w s = set (claimed_hands v w s) s (Waits w)
+
+-- what is true of a slot that a block may go into
+pub record IsOpen (v : WorldView) (what : Put) (s b : ℕ) : Type 0 where
+  pub small : s < 65536
+  pub long : length v.hands ≡ 65536
+  pub free : has_no_holder (kept_at v.array s) (hand_at v.hands s) ≡ true
+  pub fits : (w : ℕ) → IsStep v.array.parts.groups (put_step what w s b)
+  pub block : b < v.array.parts.groups.blocks
+
+empty_of : (v : WorldView) (what : Put) (s b : ℕ) → IsOpen v what s b → hand_at v.hands s ≡ Empty
+empty_of v what s b ready = free_hand (kept_at v.array s) (hand_at v.hands s) ready.free
+
+-- the state after the claim
+record IsClaimed (v : WorldView) (F : Flat) (what : Put) (w s b : ℕ) : Type 0 where
+  state : Flat
+  claim : ClaimCase F w s (Claimed s) state
+  stands : Represents (record { array = v.array; hands = claimed_hands v w s }) state
+  hand : is_claim (hand_at (claimed_hands v w s) s) w ≡ true
+  held : state.held s (Worker w) ≡ true
+  fits : IsStep state.groups (put_step what w s b)
+
+claimed : (v : WorldView) (F : Flat) (what : Put) (w s b : ℕ) → IsOpen v what s b → Represents v F → IsClaimed v F what w s b
+claimed v F what w s b ready rep = record {
+  state = c.0;
+  claim = c.1;
+  stands = c.2;
+  hand = hand;
+  held = (c.2.hands s).claims w ∙ hand;
+  fits = subst (λ (z : Groups). IsStep z (put_step what w s b)) (sym c.2.array.tables.groups) (ready.fits w);
+}
+  where
+    inside : s < length v.hands
+    inside = below (length v.hands) s ready.long ready.small
+
+    c : (G : Flat) × (ClaimCase F w s (Claimed s) G) × (Represents (with_hand v s (Holds w)) G)
+    c = claim_case v F w s ready.small inside ready.free rep
+
+    hand : is_claim (hand_at (claimed_hands v w s) s) w ≡ true
+    hand = holds_it v.hands s w inside
+
+-- what an array says of a fill or a copy that it carried out, and of one that it refused
+abbrev pub Puts : ArrayView → ArrayView → Put → ℕ → ℕ → Type 0
+Puts a e what s b =
+    (F : Flat) (w : ℕ) → ShowsArray a F → F.held s (Worker w) ≡ true → (G : Flat) × (Case F (put_step what w s b) (put_answer what s) G) × (ShowsArray e G)
+
+abbrev pub Denies : ArrayView → ArrayView → Put → ℕ → ℕ → Refusal → Type 0
+Denies a e what s b r = (F : Flat) (w : ℕ) → ShowsArray a F → F.held s (Worker w) ≡ true
+    → MayRefuse r (Unit {0}) ((G : Flat) × (Case F (put_step what w s b) (Refused r) G) × (ShowsArray e G))
+
+-- the state in which the slot waits
+record IsWaiting (v : WorldView) (F : Flat) (a : ArrayView) (what : Put) (w s b : ℕ) : Type 0 where
+  before : IsClaimed v F what w s b
+  state : Flat
+  put : Case before.state (put_step what w s b) (put_answer what s) state
+  stands : Represents (record { array = a; hands = waiting_hands v w s }) state
+  hand : is_ticket (hand_at (waiting_hands v w s) s) w ≡ true
+  held : state.held s (Ticket w) ≡ true
+  emitted : state.emitted ≡ F.emitted
+
+waiting : (v : WorldView) (F : Flat) (a : ArrayView) (what : Put) (w s b : ℕ) → IsOpen v what s b → Represents v F → Puts v.array a what s b → IsWaiting v F a what w s b
+waiting v F a what w s b ready rep puts = record {
+  before = c;
+  state = p.0;
+  put = p.1;
+  stands = p.2;
+  hand = hand;
+  held = (p.2.hands s).tickets w ∙ hand;
+  emitted = put_emits c.state p.0 what w s b p.1 ∙ ap (λ (x : Flat). x.emitted) c.claim.2.same;
+}
+  where
+    c : IsClaimed v F what w s b
+    c = claimed v F what w s b ready rep
+
+    inside : s < length (claimed_hands v w s)
+    inside = below (length (claimed_hands v w s)) s (many v.hands s (Holds w) ready.long) ready.small
+
+    p : (G : Flat) × (Case c.state (put_step what w s b) (put_answer what s) G) × (Represents (record { array = a; hands = waiting_hands v w s }) G)
+    p = put_world (record { array = v.array; hands = claimed_hands v w s }) c.state what w s b a inside c.fits c.stands c.hand (puts c.state w c.stands.array c.held)
+
+    hand : is_ticket (hand_at (waiting_hands v w s) s) w ≡ true
+    hand = waits_it (claimed_hands v w s) s w inside
+
+long_waiting : (v : WorldView) (w s : ℕ) → length v.hands ≡ 65536 → length (waiting_hands v w s) ≡ 65536
+long_waiting v w s long = many (claimed_hands v w s) s (Waits w) (many v.hands s (Holds w) long)
+
+-- the slot waits no longer, and all hands are as they were
+waited : (v : WorldView) (w s : ℕ) (h : Hand) → hand_at v.hands s ≡ Empty → set (set (waiting_hands v w s) s h) s Empty ≡ v.hands
+waited v w s h empty =
+    set_twice (waiting_hands v w s) s h Empty ∙ set_twice (claimed_hands v w s) s (Waits w) Empty ∙ hand_back v.hands s (Holds w) empty
+
+-- a commit that was carried out: the old place goes back, if the block had one
+pub places : (v : WorldView) (F : Flat) (a e : ArrayView) (what : Put) (w s b : ℕ) (r : Record) → IsOpen v what s b → b < a.parts.groups.blocks → Represents v F → Puts v.array a what s b
+    → ((H : Flat) (u : ℕ) → ShowsArray a H → H.held s (Ticket u) ≡ true → (G : Flat) × (CommitCase H u s b (Committed r) G) × (ShowsArray e G))
+    → (G : Flat) × ((is : IsPlaced F w s b what r G) × (is.old ≡ record_at b (key_at a b))) × (Represents (record { array = e; hands = v.hands }) G)
+places v F a e what w s b r ready block rep puts commits = (
+  g.0,
+  (
+    record {
+      old = found;
+      newest = subst (λ (rs : List Record). IsNewest rs b found) x.emitted newest;
+      run = (x.before.state, x.before.claim, (x.state, x.put, (c.0, c.1, g.1)));
+    },
+    refl,
+  ),
+  g.2,
+)
+  where
+    x : IsWaiting v F a what w s b
+    x = waiting v F a what w s b ready rep puts
+
+    hands : List Hand
+    hands = waiting_hands v w s
+
+    long : length hands ≡ 65536
+    long = long_waiting v w s ready.long
+
+    found : Option Record
+    found = record_at b (key_at a b)
+
+    newest : IsNewest x.state.emitted b found
+    newest = newest_told a x.state b x.stands.array
+
+    there : b < x.state.groups.blocks
+    there = subst (λ (z : Groups). b < z.blocks) (sym x.stands.array.tables.groups) block
+
+    c : (G : Flat) × (CommitCase x.state w s b (Committed r) G) × (Represents (record { array = e; hands = passed_hands hands s w found }) G)
+    c = commit_world (record { array = a; hands = hands }) x.state w s b r e ready.small there long x.stands x.hand (commits x.state w x.stands.array x.held)
+
+    passes : Passes Any x.state w s b found
+    passes = passed Any x.state (key_at a) w s b found (once_any x.state x.stands.held) tt tt x.stands.array.history newest x.held
+
+    none : set hands s Empty ≡ v.hands
+    none = set_twice (claimed_hands v w s) s (Waits w) Empty ∙ hand_back v.hands s (Holds w) (empty_of v what s b ready)
+
+    old : (q : Record) → found ≡ Some q → hand_at v.hands q.place ≡ Empty
+    old q is =
+        sym (get_or-set_other (claimed_hands v w s) s q.place (Waits w) Empty (passes.apart q is) ∙ get_or-set_other v.hands s q.place (Holds w) Empty (passes.apart q is))
+        ∙ block_hand (hand_at hands q.place) (x.state.held q.place) b (x.stands.hands q.place) (once_any x.state x.stands.held q.place) (passes.held q is)
+
+    back : (o : Option Record) → found ≡ o → Represents (record { array = e; hands = passed_hands hands s w o }) c.0
+        → (G : Flat) × (Runs c.0 (back_steps w o) (back_answers o) G) × (Represents (record { array = e; hands = v.hands }) G)
+    back None is stands = (c.0, refl, subst (λ (l : List Hand). Represents (record { array = e; hands = l }) c.0) none stands)
+    back (Some q) is stands =
+        let small : q.place < 65536 = place_small b (key_at a b) q is in
+        let given = set (set hands s Empty) q.place (Holds w) in
+        let room : length (set hands s Empty) ≡ 65536 = many hands s Empty long in
+        let gone : set given q.place Empty ≡ v.hands =
+        ap (λ (l : List Hand). set (set l q.place (Holds w)) q.place Empty) none ∙ hand_back v.hands q.place (Holds w) (old q is)
+        in
+        let y = goes_back c.0 w q.place e given v.hands (many (set hands s Empty) q.place (Holds w) room) small
+        (holds_it (set hands s Empty) q.place w (below (length (set hands s Empty)) q.place room small)) gone stands
+        in
+        (y.0, (y.0, y.1, refl), y.2)
+
+    g : (G : Flat) × (Runs c.0 (back_steps w found) (back_answers found) G) × (Represents (record { array = e; hands = v.hands }) G)
+    g = back found refl c.2
+
+-- a fill or a copy that was refused: the claim goes back
+pub refused_first : (v : WorldView) (F : Flat) (a : ArrayView) (what : Put) (w s b : ℕ) (r : Refusal) → IsOpen v what s b → Represents v F → Denies v.array a what s b r → (r ≡ Memory → a ≡ v.array)
+    → (G : Flat) × (Places F w s b what (Err (denied.Refused r)) G) × (Represents (record { array = a; hands = v.hands }) G)
+refused_first v F a what w s b r ready rep denies same = go r (denies c.state w c.stands.array c.held) same
+  where
+    c : IsClaimed v F what w s b
+    c = claimed v F what w s b ready rep
+
+    hands : List Hand
+    hands = claimed_hands v w s
+
+    gone : set hands s Empty ≡ v.hands
+    gone = hand_back v.hands s (Holds w) (empty_of v what s b ready)
+
+    back : (H : Flat) → Represents (record { array = a; hands = hands }) H → (G : Flat) × (ReleaseCase H w s (Released s) G) × (Represents (record { array = a; hands = v.hands }) G)
+    back H stands = goes_back H w s a hands v.hands (many v.hands s (Holds w) ready.long) ready.small c.hand gone stands
+
+    go : (k : Refusal) → MayRefuse k (Unit {0}) ((G : Flat) × (Case c.state (put_step what w s b) (Refused k) G) × (ShowsArray a G)) → (k ≡ Memory → a ≡ v.array)
+        → (G : Flat) × (Places F w s b what (Err (denied.Refused k)) G) × (Represents (record { array = a; hands = v.hands }) G)
+    go Memory may was =
+        let y = back c.state (subst (λ (z : ArrayView). Represents (record { array = z; hands = hands }) c.state) (sym (was refl)) c.stands) in
+        (y.0, inl (c.state, c.claim, (y.0, y.1, refl)), y.2)
+    go k may was =
+        let d = refused_world (record { array = v.array; hands = hands }) c.state (put_step what w s b) k a c.fits c.stands may in
+        let y = back d.0 d.2 in
+        (y.0, inl (c.state, c.claim, (d.0, d.1, (y.0, y.1, refl))), y.2)
+
+-- a commit that was refused: the ticket ends, and its claim goes back
+pub refused_last : (v : WorldView) (F : Flat) (a e k : ArrayView) (what : Put) (w s b : ℕ) (r : Refusal) (W : Flat → ℕ → Type 0) → IsOpen v what s b → b < a.parts.groups.blocks → Represents v F
+    → Puts v.array a what s b
+    → ((H : Flat) (u : ℕ) → ShowsArray a H → H.held s (Ticket u) ≡ true → MayRefuse r (W H u) ((G : Flat) × (CommitCase H u s b (Refused r) G) × (ShowsArray e G)))
+    → (r ≡ Memory → e ≡ a)
+    → ((H : Flat) (u : ℕ) → ShowsArray e H → H.held s (Ticket u) ≡ true → (G : Flat) × (DiscardCase H u s (Discarded s) G) × (ShowsArray k G))
+    → (G : Flat) × (Places F w s b what (Err (denied.Refused r)) G) × (Represents (record { array = k; hands = v.hands }) G)
+refused_last v F a e k what w s b r W ready block rep puts denies same ends = go r (denies x.state w x.stands.array x.held) same
+  where
+    x : IsWaiting v F a what w s b
+    x = waiting v F a what w s b ready rep puts
+
+    hands : List Hand
+    hands = waiting_hands v w s
+
+    long : length hands ≡ 65536
+    long = long_waiting v w s ready.long
+
+    there : b < x.state.groups.blocks
+    there = subst (λ (z : Groups). b < z.blocks) (sym x.stands.array.tables.groups) block
+
+    back : (H : Flat) → Represents (record { array = e; hands = hands }) H
+        → (M : Flat) × (DiscardCase H w s (Discarded s) M) × ((G : Flat) × (ReleaseCase M w s (Released s) G) × (Represents (record { array = k; hands = v.hands }) G))
+    back H stands =
+        let d = discard_world (record { array = e; hands = hands }) H w s k (below (length hands) s long ready.small) stands x.hand s refl
+        (ends H w stands.array ((stands.hands s).tickets w ∙ x.hand))
+        in (
+          d.0,
+          d.1,
+          goes_back d.0 w s k (set hands s (Holds w)) v.hands (many hands s (Holds w) long) ready.small (holds_it hands s w (below (length hands) s long ready.small))
+              (waited v w s (Holds w) (empty_of v what s b ready)) d.2,
+        )
+
+    go : (k_is : Refusal) → MayRefuse k_is (W x.state w) ((G : Flat) × (CommitCase x.state w s b (Refused k_is) G) × (ShowsArray e G)) → (k_is ≡ Memory → e ≡ a)
+        → (G : Flat) × (Places F w s b what (Err (denied.Refused k_is)) G) × (Represents (record { array = k; hands = v.hands }) G)
+    go Memory may was =
+        let y = back x.state (subst (λ (z : ArrayView). Represents (record { array = z; hands = hands }) x.state) (sym (was refl)) x.stands) in
+        (y.2.0, inr (x.before.state, x.before.claim, (x.state, x.put, (y.0, y.1, (y.2.0, y.2.1, refl)))), y.2.2)
+    go k_is may was =
+        let d = refused_world (record { array = a; hands = hands }) x.state (Commit w s b) k_is e there x.stands may in
+        let y = back d.0 d.2 in
+        (y.2.0, inr (x.before.state, x.before.claim, (x.state, x.put, (d.0, d.1, (y.0, y.1, (y.2.0, y.2.1, refl))))), y.2.2)
+
+-- a ticket that a worker holds ends
+pub gives_up : {C E : Type 0} (F : Flat) (w s : ℕ) (k : ArrayView) (refusal : E → Refusal) (result : Result C E) → IfErr result (λ e. refusal e ≡ NoTicket) → F.held s (Ticket w) ≡ true
+    → MatchResult result (λ claim. (G : Flat) × (DiscardCase F w s (Discarded s) G) × (ShowsArray k G)) (λ e. DiscardCase F w s (Refused (refusal e)) F)
+    → (G : Flat) × (DiscardCase F w s (Discarded s) G) × (ShowsArray k G)
+gives_up F w s k refusal (Ok claim) err held is = is
+gives_up F w s k refusal (Err e) err held is =
+    let not_held : (F.held s (Ticket w) ≡ false) × (Leaves F F) = subst (λ r. DiscardCase F w s (Refused r) F) err is in
+    let both : true ≡ false = sym held ∙ not_held.0 in
+    absurd (cc)
+
+-- less is said where it is out of memory
+pub may_less : (r : Refusal) (W P : Type 0) → MayRefuse r W P → MayRefuse r (Unit {0}) P
+may_less Memory W P y = tt
+may_less r W P y = y
+
+-- what the array's calls say, as what goes into the slot
+pub fills_as : (F : Flat) (w s b : ℕ) (what : Put) (x : Content) (a : ArrayView) (result : Result ℕ Refusal) → what ≡ Fresh x
+    → MatchResult result (λ ticket. (G : Flat) × (FillCase F w s x (step.Filled s) G) × (ShowsArray a G))
+    (λ r. MayRefuse r (Unit {0}) ((G : Flat) × (FillCase F w s x (Refused r) G) × (ShowsArray a G)))
+    → MatchResult result (λ ticket. (G : Flat) × (Case F (put_step what w s b) (put_answer what s) G) × (ShowsArray a G))
+    (λ r. MayRefuse r (Unit {0}) ((G : Flat) × (Case F (put_step what w s b) (Refused r) G) × (ShowsArray a G)))
+fills_as F w s b what x a (Ok ticket) put y = subst (λ (p : Put). (G : Flat) × (Case F (put_step p w s b) (put_answer p s) G) × (ShowsArray a G)) (sym put) y
+fills_as F w s b what x a (Err r) put y =
+    subst (λ (p : Put). MayRefuse r (Unit {0}) ((G : Flat) × (Case F (put_step p w s b) (Refused r) G) × (ShowsArray a G))) (sym put) y
+
+pub copies : (F : Flat) (w s b : ℕ) (what : Put) (a : ArrayView) (t : ℕ) → what ≡ Again → t ≡ s
+    → (G : Flat) × (CopyCase F w t b (step.Copied t) G) × (ShowsArray a G) → (G : Flat) × (Case F (put_step what w s b) (put_answer what s) G) × (ShowsArray a G)
+copies F w s b what a t put is y =
+    subst (λ (p : Put). (G : Flat) × (Case F (put_step p w s b) (put_answer p s) G) × (ShowsArray a G)) (sym put)
+    (subst (λ n. (G : Flat) × (CopyCase F w n b (step.Copied n) G) × (ShowsArray a G)) is y)
+
+pub denies_as : (F : Flat) (w s b : ℕ) (what put : Put) (a : ArrayView) (r : Refusal) (W : Type 0) → what ≡ put
+    → MayRefuse r W ((G : Flat) × (Case F (put_step put w s b) (Refused r) G) × (ShowsArray a G))
+    → MayRefuse r (Unit {0}) ((G : Flat) × (Case F (put_step what w s b) (Refused r) G) × (ShowsArray a G))
+denies_as F w s b what put a r W is may =
+    subst (λ (p : Put). MayRefuse r (Unit {0}) ((G : Flat) × (Case F (put_step p w s b) (Refused r) G) × (ShowsArray a G))) (sym is)
+    (may_less r W ((G : Flat) × (Case F (put_step put w s b) (Refused r) G) × (ShowsArray a G)) may)
+
+-- what is given has numbers in range
+sized : (z : Groups) (x : Option Given) (s b : ℕ) → s < 65536 → b < z.blocks → IsSizedFor z.payload x → (w : ℕ) → IsStep z (put_step (put_of x) w s b)
+sized z None s b small block fits w = (small, block)
+sized z (Some (given.Payload payload)) s b small block fits w = (small, fits)
+sized z (Some given.Trim) s b small block fits w = (small, tt)
+
+-- a slot that was found free
+pub opened : (u v : WorldView) (x : Option Given) (s b : ℕ) → u ≡ v → s < 65536 → length u.hands ≡ 65536 → has_no_holder (kept_at v.array s) (hand_at v.hands s) ≡ true
+    → b < v.array.parts.groups.blocks → IsSizedFor v.array.parts.groups.payload x → IsOpen u (put_of x) s b
+opened u v x s b is small long free block fits =
+    let inside : b < u.array.parts.groups.blocks = subst (λ (y : WorldView). b < y.array.parts.groups.blocks) (sym is) block in record {
+      small = small;
+      long = long;
+      free = subst (λ (y : WorldView). has_no_holder (kept_at y.array s) (hand_at y.hands s) ≡ true) (sym is) free;
+      fits = sized u.array.parts.groups x s b small inside (subst (λ (y : WorldView). IsSizedFor y.array.parts.groups.payload x) (sym is) fits);
+      block = inside;
+    }
+
+-- what was placed, as the call tells it
+pub places_as : {C : Type 0} (names : C → ℕ) (F : Flat) (v : WorldView) (what : Put) (w s b : ℕ) (r n : Record) (claim : Option C) (found : Option Record) (left : Option ℕ) → n ≡ r
+    → ((old : Option Record) → IsPlaceOf names claim old → left ≡ place_of old) → IsPlaceOf names claim found
+    → (G : Flat) × ((is : IsPlaced F w s b what r G) × (is.old ≡ found)) × (Represents v G)
+    → (G : Flat) × ((is : IsPlaced F w s b what n G) × (left ≡ place_of is.old)) × (Represents v G)
+places_as names F v what w s b r n claim found left newest is_left at y = (
+  y.0,
+  (
+    record {
+      old = old;
+      newest = y.1.0.newest;
+      run = subst (λ (m : Record). Runs F (Claim w s ∷ put_step what w s b ∷ Commit w s b ∷ back_steps w old) (Claimed s ∷ put_answer what s ∷ Committed m ∷ back_answers old) y.0) (sym newest) y.1.0.run;
+    },
+    is_left old (subst (λ (o : Option Record). IsPlaceOf names claim o) (sym y.1.1) at),
+  ),
+  y.2,
+)
+  where
+    old : Option Record
+    old = y.1.0.old
