@@ -8,6 +8,8 @@ mod losses;
 #[cfg(test)]
 mod moves;
 #[cfg(test)]
+mod places;
+#[cfg(test)]
 mod runs;
 #[cfg(test)]
 mod scans;
