@@ -8,7 +8,8 @@ ghost use Rattle.array_parts.specs.Slots.{IsSlot};
 ghost use Rattle.array_parts.specs.Views.{view_of, FoundGone, WasPut, WasCopied, WasCarried, WasNotCarried};
 
 use crate::Parts;
-use crate::unit::{clear, make_wait, put_header};
+use crate::unit::{clear, join, make_wait, put_header};
+use extent_groups::{Class, SLOTS};
 use extents::{Drive, Header, Kind};
 use flat_machine::Refusal;
 
@@ -31,7 +32,21 @@ impl<D: Drive> Parts<D> {
         ensures err { IfErr result (FoundGone (view_of D.units D.lost D.failures self.old) (view_of D.units D.lost D.failures self.new) slot) }
         ensures fit { IsFit D.units self.new }
     {
-        self.write_gathered(slot, &Header::Blank.encode(), payload, unit, scratch)
+        let header = Header::Blank.encode();
+        if let Some(Class::Mirrored) = self.groups.class_of(slot / SLOTS) {
+            let drives: &mut [D] = &mut self.drives;
+            return mirrored_store::write_gathered(
+                &self.groups,
+                drives,
+                slot,
+                &header,
+                payload,
+                unit,
+            ).ok()
+                .ok_or(Refusal::Gone(slot));
+        }
+        join(unit, &header, payload);
+        self.write(slot, unit, scratch)
     }
 
     /// Writes a unit that waits to be a trim: a blank header and a payload of zeros. Takes a buffer of a unit's length and one

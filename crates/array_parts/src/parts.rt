@@ -13,7 +13,7 @@ ghost use Rattle.array_parts.specs.Losses.{AllFare, KeepsTables, LosesOnly};
 ghost use Rattle.array_parts.specs.Slots.{IsSlot, cells_in, missing_in, HoldsUnit, TellsGone};
 
 use crate::note::Note;
-use crate::slots::{read_slot, read_slot_header, write_slot, write_slot_gathered};
+use crate::slots::{read_slot, read_slot_header, write_slot};
 use extent_groups::GroupTable;
 use extents::{Drive, ExtentTable, Shape};
 use flat_machine::Refusal;
@@ -145,34 +145,6 @@ impl<D: Drive> Parts<D> {
     {
         let drives: &mut [D] = &mut self.drives;
         write_slot(&self.groups, drives, slot, unit, scratch)
-            .ok()
-            .ok_or(Refusal::Gone(slot))
-    }
-
-    /// Writes the unit of a slot, given as `front` and the bytes after it, `rest`, with a buffer of a unit's length and one of
-    /// two units'. Else as `write` does.
-    pub(crate) fn write_gathered(
-        &mut self,
-        slot: u16,
-        front: &[u8],
-        rest: &[u8],
-        unit: &mut [u8],
-        scratch: &mut [u8],
-    ) -> Result<(), Refusal>
-        requires fit { IsFit D.units self.old }
-        requires slot { IsSlot self.old.groups slot }
-        requires pieces { length front.now + length rest.now ≡ unit_bytes self.old.groups }
-        requires unit { length unit.old ≡ unit_bytes self.old.groups }
-        requires scratch { length scratch.old ≡ 2 * unit_bytes self.old.groups }
-        ensures ok { OnOk result (HoldsUnit D.units D.lost self.new slot (front.now ++ rest.now)) }
-        ensures gone { IfErr result (TellsGone D.units D.lost self.new slot) }
-        ensures wrote { Wrote self.old.groups (cells_in D.units D.lost self.old) (cells_in D.units D.lost self.new) slot (front.now ++ rest.now) }
-        ensures drives { LeavesOthers D.units D.lost D.failures slot self.old self.new }
-        ensures tables { KeepsTables self.old self.new }
-        ensures fit { IsFit D.units self.new }
-    {
-        let drives: &mut [D] = &mut self.drives;
-        write_slot_gathered(&self.groups, drives, slot, front, rest, unit, scratch)
             .ok()
             .ok_or(Refusal::Gone(slot))
     }

@@ -6,7 +6,6 @@ ghost use Rattle.extent_groups.specs.Calls.{NoPlace, SameBut, KeepsDrives};
 ghost use Rattle.extent_groups.specs.Stores.{unit_bytes, unit_of, header_of, AreSound, AreDrives, KeepsUnits, Wrote, NamesGone, IsOwnOf, HasMemberOn};
 ghost use Rattle.array_parts.specs.Slots.{IsSlot};
 
-use crate::unit::join;
 use extent_groups::{Class, GroupTable, SLOTS, StoreRefusal};
 use extents::Drive;
 
@@ -86,33 +85,4 @@ pub(crate) fn write_slot<D: Drive>(
         Some(Class::Mirrored) => mirrored_store::write(groups, drives, slot, unit, scratch),
         _ => parity_store::write(groups, drives, slot, unit, scratch),
     }
-}
-
-/// Writes the unit of a slot of either class, given as `front` and the bytes after it, `rest`, with a buffer of a unit's length,
-/// in which they are joined where that is needed, and one of two units'.
-pub(crate) fn write_slot_gathered<D: Drive>(
-    groups: &GroupTable,
-    drives: &mut [D],
-    slot: u16,
-    front: &[u8],
-    rest: &[u8],
-    unit: &mut [u8],
-    scratch: &mut [u8],
-) -> Result<(), StoreRefusal>
-    requires slot { IsSlot groups.now slot }
-    requires drives { AreDrives D.units groups.now drives.old }
-    requires pieces { length front.now + length rest.now ≡ unit_bytes groups.now }
-    requires unit { length unit.old ≡ unit_bytes groups.now }
-    requires scratch { length scratch.old ≡ 2 * unit_bytes groups.now }
-    ensures ok { OnOk result (unit_of groups.now (cells D.units D.lost drives.new) slot ≡ Some (front.now ++ rest.now)) }
-    ensures gone { IfErr result (NamesGone groups.now (cells D.units D.lost drives.new) slot) }
-    ensures wrote { Wrote groups.now (cells D.units D.lost drives.old) (cells D.units D.lost drives.new) slot (front.now ++ rest.now) }
-    ensures touched { KeepsDrives D.units D.lost D.failures (IsOwnOf groups.now slot) drives.old drives.new }
-    ensures drives { AreDrives D.units groups.now drives.new }
-{
-    if let Some(Class::Mirrored) = groups.class_of(slot / SLOTS) {
-        return mirrored_store::write_gathered(groups, drives, slot, front, rest, unit);
-    }
-    join(unit, front, rest);
-    parity_store::write(groups, drives, slot, unit, scratch)
 }

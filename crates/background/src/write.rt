@@ -1,7 +1,6 @@
 //! Blocks that are written into the mirrored level.
-ghost use Rattle.std.specs.Prelude.{◌≡◌, ℕ, ◌<◌, IfOk, OnErr, Option, length};
+ghost use Rattle.std.specs.Prelude.{◌≡◌, ℕ, ◌<◌, IfOk, OnErr, Option};
 ghost use Rattle.slot_tables.specs.Views.{SameSizes};
-ghost use Rattle.flat_machine.specs.Flat.{Payload, Trim};
 ghost use Rattle.migrator.specs.First.{IsFirst};
 ghost use Rattle.background.specs.Placing.{Fresh, IsGivenFor, content_of};
 ghost use Rattle.background.specs.Stands.{StandsFor};
@@ -15,40 +14,10 @@ use std::alloc::{AllocError, Global};
 use step_core::Given;
 
 impl Tiers {
-    /// Writes a payload as the block's next version into the lowest free slot of mirrored groups, and notes the write. Where no
-    /// slot is free there, one block is demoted first; `NoRoom` where that frees none.
+    /// Writes what is given, a payload or a trim, as the block's next version into the lowest free slot of mirrored groups, and
+    /// notes the write. After a trim the block holds nothing. Where no slot is free there, one block is demoted first; `NoRoom`
+    /// where that frees none.
     pub fn write(
-        &mut self,
-        alloc: Global,
-        worker: u8,
-        block: u32,
-        payload: &[u8],
-    ) -> Result<Outcome, AllocError>
-        requires block { block < self.old.world.array.parts.groups.blocks }
-        requires payload { length payload.now ≡ self.old.world.array.parts.groups.payload }
-        ensures ok { IfOk result (λ outcome. (T : Tiered) → StandsFor self.old T
-            → (U : Tiered) × TierCase T (t.Write worker block (Payload payload.now)) outcome U × StandsFor self.new U) }
-        ensures err { OnErr result ((T : Tiered) → StandsFor self.old T
-            → (U : Tiered) × TierStops T (t.Write worker block (Payload payload.now)) U × StandsFor self.new U) }
-        ensures room { SameSizes self.old.world.array self.new.world.array }
-    {
-        self.bring(alloc, worker, block, Given::Payload(payload))
-    }
-
-    /// Trims a block, which holds nothing then, as a write does that has no payload.
-    pub fn trim(&mut self, alloc: Global, worker: u8, block: u32) -> Result<Outcome, AllocError>
-        requires { block < self.old.world.array.parts.groups.blocks }
-        ensures ok { IfOk result (λ outcome. (T : Tiered) → StandsFor self.old T
-            → (U : Tiered) × TierCase T (t.Write worker block Trim) outcome U × StandsFor self.new U) }
-        ensures err { OnErr result ((T : Tiered) → StandsFor self.old T
-            → (U : Tiered) × TierStops T (t.Write worker block Trim) U × StandsFor self.new U) }
-        ensures room { SameSizes self.old.world.array self.new.world.array }
-    {
-        self.bring(alloc, worker, block, Given::Trim)
-    }
-
-    // Writes what is given.
-    fn bring(
         &mut self,
         alloc: Global,
         worker: u8,

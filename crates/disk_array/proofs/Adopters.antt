@@ -15,8 +15,8 @@ use Rattle.slot_tables.proofs.News.{shape_sizes}
 use Rattle.slot_tables.proofs.Adopting.{ArePartsOf, adopted_whole}
 use Rattle.disk_array.specs.declared.array.Array.TheInside.{Inside}
 use Rattle.slot_tables.specs.declared.ready.Ready.{Ready}
-use Rattle.slot_tables.specs.declared.place.Place.{Place}
-use Rattle.slot_tables.specs.declared.place.Place.TheVariants as place
+use Rattle.slot_tables.specs.declared.slot_state.SlotState.{SlotState}
+use Rattle.slot_tables.specs.declared.slot_state.SlotState.TheVariants as state
 use Rattle.disk_array.specs.Inside.{seen, IsReady}
 use Rattle.slot_tables.specs.Kept.{kepts_of, IsOf, AreOf}
 use Rattle.slot_tables.specs.Counted.{AreCounts}
@@ -40,11 +40,11 @@ fit_parts {D} units lost failures p fit = record {
     many = sym (length-map p.drives.items (drive_view units lost failures))
 
 -- free places have claims of their slots
-pub free_of : {C : Type 0} (names : C → ℕ) (places : List (Place C)) → ((s : ℕ) → get_or places s place.Free ≡ place.Free) → AreOf names places
+pub free_of : {C : Type 0} (names : C → ℕ) (places : List (SlotState C)) → ((s : ℕ) → get_or places s state.Free ≡ state.Free) → AreOf names places
 free_of names places free s inside = subst (IsOf names s) (sym (free s)) tt
 
 -- the array of these parts, of what is ready, of places and of their counts
-abbrev pub adopted : {D C : Type 0} → Parts D → Ready C → Vec (Place C) Global → List ℕ → Inside D C
+abbrev pub adopted : {D C : Type 0} → Parts D → Ready C → Vec (SlotState C) Global → List ℕ → Inside D C
 adopted parts ready places live = record {
   parts = parts;
   log = ready.log;
@@ -69,7 +69,7 @@ keys_told blocks M keys inside are b = go (either b)
     go (inl h) = are.same b h
     go (inr h) = get_or_past keys b 0 (let m = are.many in omega (arith, m, h)) ∙ none (M b) (inside b) h
 
-pub is_adopted : {D C : Type 0} (units : D → List (List ℕ)) (lost : D → Bool) (failures : D → Failures) (names : C → ℕ) (parts : Parts D) (M : ℕ → ℕ) (claims : List C) (ready : Ready C) (places : Vec (Place C) Global) (live : List ℕ)
+pub is_adopted : {D C : Type 0} (units : D → List (List ℕ)) (lost : D → Bool) (failures : D → Failures) (names : C → ℕ) (parts : Parts D) (M : ℕ → ℕ) (claims : List C) (ready : Ready C) (places : Vec (SlotState C) Global) (live : List ℕ)
     → HasPlaces parts.groups M → AreReady names parts.groups M claims ready
     → ((s : ℕ) → get_or (kepts_of places.items) s Nothing ≡ kept_for (wanted_at ready.wanted.items s))
     → IsAdopted (view_of units lost failures parts) M (seen units lost failures (adopted parts ready places live))
@@ -81,7 +81,7 @@ is_adopted units lost failures names parts M claims ready places live has is kep
 }
 
 -- it keeps what every array keeps
-pub is_whole : {D C : Type 0} (units : D → List (List ℕ)) (lost : D → Bool) (failures : D → Failures) (names : C → ℕ) (parts : Parts D) (M : ℕ → ℕ) (claims : List C) (ready : Ready C) (places : Vec (Place C) Global) (live : List ℕ)
+pub is_whole : {D C : Type 0} (units : D → List (List ℕ)) (lost : D → Bool) (failures : D → Failures) (names : C → ℕ) (parts : Parts D) (M : ℕ → ℕ) (claims : List C) (ready : Ready C) (places : Vec (SlotState C) Global) (live : List ℕ)
     → HasPlaces parts.groups M → AreReady names parts.groups M claims ready → IsFit units parts → length places.items ≤ 65536
     → IsAdopted (view_of units lost failures parts) M (seen units lost failures (adopted parts ready places live))
     → IsWhole (seen units lost failures (adopted parts ready places live))
@@ -91,7 +91,7 @@ is_whole units lost failures names parts M claims ready places live has is fit m
     has (fit_parts units lost failures parts fit) (record { kept = kepts_many places.items most; keys = is.keys.many })
 
 -- and is ready for the calls of its drives
-pub is_ready_too : {D C : Type 0} (units : D → List (List ℕ)) (names : C → ℕ) (parts : Parts D) (M : ℕ → ℕ) (claims : List C) (ready : Ready C) (places : Vec (Place C) Global) (live : List ℕ)
+pub is_ready_too : {D C : Type 0} (units : D → List (List ℕ)) (names : C → ℕ) (parts : Parts D) (M : ℕ → ℕ) (claims : List C) (ready : Ready C) (places : Vec (SlotState C) Global) (live : List ℕ)
     → AreReady names parts.groups M claims ready → IsFit units parts → vec_len places ≡ vec_len ready.room.places → AreCounts (kepts_of places.items) live → IsReady units (adopted parts ready places live)
 is_ready_too units names parts M claims ready places live is fit same counts =
     record { fit = fit; unit = is.room.unit; scratch = is.room.scratch; places = as_many parts.groups _ _ same is.places; live = counts }

@@ -15,7 +15,7 @@ use Rattle.slot_tables.specs.Represents.{ShowsArray}
 use Rattle.slot_tables.specs.Views.{ArrayView, IsWhole, Kept, Nothing}
 use Rattle.slot_tables.proofs.Wholes.{whole_parts}
 use Rattle.disk_array.specs.declared.array.Array.TheInside.{Inside}
-use Rattle.slot_tables.specs.declared.place.Place.{Place}
+use Rattle.slot_tables.specs.declared.slot_state.SlotState.{SlotState}
 use Rattle.disk_array.specs.Inside.{seen, IsReady}
 use Rattle.slot_tables.specs.Kept.{HavePlaces}
 use Rattle.slot_tables.specs.Kept.{kepts_of}
@@ -102,12 +102,12 @@ pub as_many : (groups : Groups) (m n : ℕ) → n ≡ m → HavePlaces groups m 
 as_many groups m n is have = subst (HavePlaces groups) (sym is) have
 
 -- with as many other places, of which as many are newest places, it is ready still
-pub places_ready : {D C : Type 0} (units : D → List (List ℕ)) (a : Inside D C) (places : Vec (Place C) Global) → vec_len places ≡ vec_len a.places → AreCounts (kepts_of places.items) a.live → IsReady units a → IsReady units (record a { places = places })
+pub places_ready : {D C : Type 0} (units : D → List (List ℕ)) (a : Inside D C) (places : Vec (SlotState C) Global) → vec_len places ≡ vec_len a.places → AreCounts (kepts_of places.items) a.live → IsReady units a → IsReady units (record a { places = places })
 places_ready units a places same counts ready =
     record { fit = ready.fit; unit = ready.unit; scratch = ready.scratch; places = as_many a.parts.groups _ _ same ready.places; live = counts }
 
 -- so with one slot changed, which wasn't a newest place and isn't one
-pub slot_ready : {D C : Type 0} (units : D → List (List ℕ)) (a : Inside D C) (places : Vec (Place C) Global) (slot : ℕ) (k : Kept)
+pub slot_ready : {D C : Type 0} (units : D → List (List ℕ)) (a : Inside D C) (places : Vec (SlotState C) Global) (slot : ℕ) (k : Kept)
     → vec_len places ≡ vec_len a.places → kepts_of places.items ≡ set (kepts_of a.places.items) slot k → length (kepts_of a.places.items) ≡ 65536 → slot < 65536
     → is_newest (get_or (kepts_of a.places.items) slot Nothing) ≡ false → is_newest k ≡ false → IsReady units a → IsReady units (record a { places = places })
 slot_ready units a places slot k same is many low was isnt ready =
@@ -130,14 +130,14 @@ parts_ready units a p same fit ready = let groups = ap (λ (z : Groups). unit_by
     record { fit = fit; unit = ready.unit ∙ groups; scratch = ready.scratch ∙ ap (λ n. 2 * n) groups; places = subst (λ (z : Groups). HavePlaces z (vec_len a.places)) (sym same) ready.places; live = ready.live }
 
 -- with a group fewer, and other places
-pub taken_ready : {D C : Type 0} (units : D → List (List ℕ)) (lost : D → Bool) (failures : D → Failures) (a : Inside D C) (p : Parts D) (places : Vec (Place C) Global) (g : ℕ)
+pub taken_ready : {D C : Type 0} (units : D → List (List ℕ)) (lost : D → Bool) (failures : D → Failures) (a : Inside D C) (p : Parts D) (places : Vec (SlotState C) Global) (g : ℕ)
     → WasTaken (view_of units lost failures a.parts) g (view_of units lost failures p) → 128 * g + 128 ≤ vec_len a.places → vec_len places ≡ vec_len a.places → IsFit units p → AreCounts (kepts_of places.items) a.live → IsReady units a
     → IsReady units (record a { parts = p; places = places })
 taken_ready units lost failures a p places g taken enough same fit counts ready = let groups = ap (λ (z : Groups). unit_bytes z) (sym taken.groups) in
     record { fit = fit; unit = ready.unit ∙ groups; scratch = ready.scratch ∙ ap (λ n. 2 * n) groups; places = as_many p.groups _ _ same (subst (λ (z : Groups). HavePlaces z (vec_len a.places)) (sym taken.groups) (placed_with a.parts.groups g (vec_len a.places) None enough ready.places)); live = counts }
 
 -- with groups of the same sizes, other places, and the buffer of a unit written over
-pub grown_ready : {D C : Type 0} (units : D → List (List ℕ)) (a : Inside D C) (p : Parts D) (places : Vec (Place C) Global) (unit : List ℕ)
+pub grown_ready : {D C : Type 0} (units : D → List (List ℕ)) (a : Inside D C) (p : Parts D) (places : Vec (SlotState C) Global) (unit : List ℕ)
     → unit_bytes a.parts.groups ≡ unit_bytes p.groups → HavePlaces p.groups (vec_len places) → IsFit units p → AreCounts (kepts_of places.items) a.live → IsReady units a
     → IsReady units (record a { parts = p; places = places; unit = with_items a.unit unit })
 grown_ready units a p places unit same have fit counts ready =

@@ -8,7 +8,7 @@ ghost use Rattle.slot_tables.specs.Kept.{kepts_of, AreOf};
 
 use crate::array::Array;
 use extents::Drive;
-use slot_tables::{Hold, Place};
+use slot_tables::{Hold, SlotState};
 
 /// Knows that two claims are never of one slot.
 pub trait Apart<C: Hold> {
@@ -33,7 +33,7 @@ impl<D: Drive, C: Hold> Array<D, C> {
 
 // Where a claim is kept at the place, it and the other are of different slots; so none is.
 #[tactic(auto, using(slot_tables::proofs::Places::kept_past))]
-fn apart_at<C: Hold, W: Apart<C>>(places: &mut Vec<Place<C>>, words: &W, slot: u16, claim: &mut C)
+fn apart_at<C: Hold, W: Apart<C>>(places: &mut Vec<SlotState<C>>, words: &W, slot: u16, claim: &mut C)
     requires of { C.names claim.old ≡ slot }
     requires claims { AreOf C.names places.old.items }
     ensures free { slice_index_or (kepts_of places.old.items) slot Nothing ≡ Nothing }
@@ -43,20 +43,20 @@ fn apart_at<C: Hold, W: Apart<C>>(places: &mut Vec<Place<C>>, words: &W, slot: u
         return;
     }
     match &mut places[usize::from(slot)] {
-        Place::Free => {}
-        Place::Pending(_, kept) => {
+        SlotState::Free => {}
+        SlotState::Pending(_, kept) => {
             words.apart(kept, claim);
             unreachable!()
         }
-        Place::Moving(_, _, kept) => {
+        SlotState::Moving(_, _, kept) => {
             words.apart(kept, claim);
             unreachable!()
         }
-        Place::Newest(_, kept) => {
+        SlotState::Newest(_, kept) => {
             words.apart(kept, claim);
             unreachable!()
         }
-        Place::Unmade(kept) => {
+        SlotState::Unmade(kept) => {
             words.apart(kept, claim);
             unreachable!()
         }

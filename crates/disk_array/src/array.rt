@@ -21,7 +21,7 @@ use extent_groups::{GROUPS, GroupTable, SLOTS as SLOTS_OF_A_GROUP};
 use extents::{Drive, ExtentTable, Shape};
 use flat_machine::{Class, Refusal};
 use map_join::{BlockMap, MapRefusal, Record};
-use slot_tables::{Hold, Place, new_tables, place_at};
+use slot_tables::{Hold, SlotState, new_tables, state_at};
 use std::alloc::Global;
 use std::marker::Model;
 
@@ -33,7 +33,7 @@ pub struct Array<D: Drive, C: Hold> {
     /// The key of each block, 0 where it was never written.
     pub(crate) keys: Vec<u64>,
     /// What is kept of each slot of the group numbers up to the greatest that was made: past its end nothing is.
-    pub(crate) places: Vec<Place<C>>,
+    pub(crate) places: Vec<SlotState<C>>,
     /// Of each group, how many of its slots are newest places.
     pub(crate) live: [u16; GROUPS],
     /// A buffer of a unit's length, and one of two units', for the calls of the drives.
@@ -158,12 +158,12 @@ impl<D: Drive, C: Hold> Array<D, C> {
     pub(crate) fn keeps(&self, slot: u16) -> bool
         ensures { result ≡ is_kept (kept_at self.now slot) }
     {
-        match place_at(&self.places, slot) {
-            Some(Place::Free) => false,
-            Some(Place::Pending(_, _)) => true,
-            Some(Place::Moving(_, _, _)) => true,
-            Some(Place::Newest(_, _)) => true,
-            Some(Place::Unmade(_)) => true,
+        match state_at(&self.places, slot) {
+            Some(SlotState::Free) => false,
+            Some(SlotState::Pending(_, _)) => true,
+            Some(SlotState::Moving(_, _, _)) => true,
+            Some(SlotState::Newest(_, _)) => true,
+            Some(SlotState::Unmade(_)) => true,
             None => false,
         }
     }
@@ -172,12 +172,12 @@ impl<D: Drive, C: Hold> Array<D, C> {
     pub(crate) fn waits(&self, slot: u16) -> bool
         ensures { result ≡ is_waiting (kept_at self.now slot) }
     {
-        match place_at(&self.places, slot) {
-            Some(Place::Free) => false,
-            Some(Place::Pending(_, _)) => true,
-            Some(Place::Moving(_, _, _)) => true,
-            Some(Place::Newest(_, _)) => false,
-            Some(Place::Unmade(_)) => false,
+        match state_at(&self.places, slot) {
+            Some(SlotState::Free) => false,
+            Some(SlotState::Pending(_, _)) => true,
+            Some(SlotState::Moving(_, _, _)) => true,
+            Some(SlotState::Newest(_, _)) => false,
+            Some(SlotState::Unmade(_)) => false,
             None => false,
         }
     }
@@ -202,12 +202,12 @@ impl<D: Drive, C: Hold> Array<D, C> {
         ensures value { result ≡ block_in (kept_at self.now slot) }
         ensures whole { IsWhole self.now }
     {
-        match place_at(&self.places, slot) {
-            Some(Place::Free) => None,
-            Some(Place::Pending(_, _)) => None,
-            Some(Place::Moving(_, _, _)) => None,
-            Some(Place::Newest(block, _)) => Some(*block),
-            Some(Place::Unmade(_)) => None,
+        match state_at(&self.places, slot) {
+            Some(SlotState::Free) => None,
+            Some(SlotState::Pending(_, _)) => None,
+            Some(SlotState::Moving(_, _, _)) => None,
+            Some(SlotState::Newest(block, _)) => Some(*block),
+            Some(SlotState::Unmade(_)) => None,
             None => None,
         }
     }

@@ -23,7 +23,7 @@ use extent_groups::GROUPS;
 use extents::{Drive, Header, Kind};
 use flat_machine::Refusal;
 use map_join::Record;
-use slot_tables::{Hold, Place, place_at, put_in, take_out, take_waiting};
+use slot_tables::{Hold, SlotState, state_at, put_in, take_out, take_waiting};
 use std::alloc::Global;
 use std::marker::Model;
 
@@ -129,12 +129,12 @@ impl<D: Drive, C: Hold> Array<D, C> {
         ensures ok { IfOk result (λ next. (commit_reason self.now slot block found ≡ None) × (next ≡ commit_record self.now slot block found)) }
         ensures err { IfErr result (λ refusal. commit_reason self.now slot block found ≡ Some refusal) }
     {
-        let next = match place_at(&self.places, slot) {
-            Some(Place::Pending(_, _)) => written(block, slot, found),
-            Some(Place::Moving(source, _, _)) => moved(*source, block, slot, found),
-            Some(Place::Free) => Err(Refusal::NoTicket),
-            Some(Place::Newest(_, _)) => Err(Refusal::NoTicket),
-            Some(Place::Unmade(_)) => Err(Refusal::NoTicket),
+        let next = match state_at(&self.places, slot) {
+            Some(SlotState::Pending(_, _)) => written(block, slot, found),
+            Some(SlotState::Moving(source, _, _)) => moved(*source, block, slot, found),
+            Some(SlotState::Free) => Err(Refusal::NoTicket),
+            Some(SlotState::Newest(_, _)) => Err(Refusal::NoTicket),
+            Some(SlotState::Unmade(_)) => Err(Refusal::NoTicket),
             None => Err(Refusal::NoTicket),
         };
         if next.is_ok() && self.log.len() >= LONGEST_LOG {
@@ -147,12 +147,12 @@ impl<D: Drive, C: Hold> Array<D, C> {
     pub fn waiting_kind(&self, slot: u16) -> Kind
         ensures { result ≡ kind_given (kept_at self.now slot) }
     {
-        match place_at(&self.places, slot) {
-            Some(Place::Pending(kind, _)) => *kind,
-            Some(Place::Moving(_, kind, _)) => *kind,
-            Some(Place::Free) => Kind::Data,
-            Some(Place::Newest(_, _)) => Kind::Data,
-            Some(Place::Unmade(_)) => Kind::Data,
+        match state_at(&self.places, slot) {
+            Some(SlotState::Pending(kind, _)) => *kind,
+            Some(SlotState::Moving(_, kind, _)) => *kind,
+            Some(SlotState::Free) => Kind::Data,
+            Some(SlotState::Newest(_, _)) => Kind::Data,
+            Some(SlotState::Unmade(_)) => Kind::Data,
             None => Kind::Data,
         }
     }
@@ -160,7 +160,7 @@ impl<D: Drive, C: Hold> Array<D, C> {
 
 // The claim of a block's last place, which is kept no longer.
 fn let_go<C: Hold>(
-    places: &mut Vec<Place<C>>,
+    places: &mut Vec<SlotState<C>>,
     live: &mut [u16; GROUPS],
     block: u32,
     found: Option<Record>,
@@ -179,17 +179,17 @@ fn let_go<C: Hold>(
     };
     one_fewer(live, record.place);
     match take_out(places, record.place) {
-        Place::Newest(_, claim) => Some(claim),
-        Place::Free => unreachable!(),
-        Place::Pending(_, _claim) => unreachable!(),
-        Place::Moving(_, _, _claim) => unreachable!(),
-        Place::Unmade(_claim) => unreachable!(),
+        SlotState::Newest(_, claim) => Some(claim),
+        SlotState::Free => unreachable!(),
+        SlotState::Pending(_, _claim) => unreachable!(),
+        SlotState::Moving(_, _, _claim) => unreachable!(),
+        SlotState::Unmade(_claim) => unreachable!(),
     }
 }
 
 // The claim that waited is kept for the block.
 #[tactic(auto, using(slot_tables::proofs::Places::set_twice))]
-fn keep_newest<C: Hold>(places: &mut Vec<Place<C>>, live: &mut [u16; GROUPS], slot: u16, block: u32)
+fn keep_newest<C: Hold>(places: &mut Vec<SlotState<C>>, live: &mut [u16; GROUPS], slot: u16, block: u32)
     requires waits { is_waiting (slice_index_or (kepts_of places.old.items) slot Nothing) ≡ true }
     requires claims { AreOf C.names places.old.items }
     requires counts { AreCounts (kepts_of places.old.items) live.old }
@@ -200,7 +200,7 @@ fn keep_newest<C: Hold>(places: &mut Vec<Place<C>>, live: &mut [u16; GROUPS], sl
 {
     one_more(live, slot);
     let claim = take_waiting(places, slot);
-    put_in(places, slot, Place::Newest(block, claim));
+    put_in(places, slot, SlotState::Newest(block, claim));
 }
 
 // The record of a fresh write: the next version of the block.

@@ -17,7 +17,7 @@ use crate::ticket::Ticket;
 use extents::Drive;
 use flat_machine::Refusal;
 use map_join::Record;
-use slot_tables::{Hold, Place, put_in};
+use slot_tables::{Hold, SlotState, put_in};
 use std::alloc::Global;
 
 /// The greatest hop of a version.
@@ -46,11 +46,13 @@ impl<D: Drive, C: Hold> Array<D, C> {
             Ok(source) => source,
             Err(refusal) => return Err((refusal, claim)),
         };
-        let kind = match self.carry(source.place, slot) {
+        let unit: &mut [u8] = &mut self.unit;
+        let scratch: &mut [u8] = &mut self.scratch;
+        let kind = match self.parts.copy(source.place, slot, unit, scratch) {
             Ok(kind) => kind,
             Err(refusal) => return Err((refusal, claim)),
         };
-        put_in(&mut self.places, slot, Place::Moving(source, kind, claim));
+        put_in(&mut self.places, slot, SlotState::Moving(source, kind, claim));
         Ok(Ticket::of(slot))
     }
 

@@ -24,47 +24,6 @@ use map_join::Record;
 use slot_tables::{Hold, grow_to, open_number};
 
 impl<D: Drive, C: Hold> Array<D, C> {
-    // Writes a payload under a blank header.
-    pub(crate) fn put(&mut self, slot: u16, payload: &[u8]) -> Result<(), Refusal>
-        requires slot { IsSlot self.old.parts.groups slot }
-        requires payload { length payload.now ≡ self.old.parts.groups.payload }
-        ensures ok { OnOk result (WasPut self.old.parts self.new.parts slot (waiting_unit self.old.parts.groups.payload (Payload payload.now))) }
-        ensures err { IfErr result (FoundGone self.old.parts self.new.parts slot) }
-        ensures rest { self.new ≡ with_parts self.old self.new.parts }
-        ensures whole { IsWhole self.old }
-    {
-        let unit: &mut [u8] = &mut self.unit;
-        let scratch: &mut [u8] = &mut self.scratch;
-        self.parts.put(slot, payload, unit, scratch)
-    }
-
-    // Writes a unit that waits to be a trim.
-    pub(crate) fn put_trim(&mut self, slot: u16) -> Result<(), Refusal>
-        requires { IsSlot self.old.parts.groups slot }
-        ensures ok { OnOk result (WasPut self.old.parts self.new.parts slot (waiting_unit self.old.parts.groups.payload Trim)) }
-        ensures err { IfErr result (FoundGone self.old.parts self.new.parts slot) }
-        ensures rest { self.new ≡ with_parts self.old self.new.parts }
-        ensures whole { IsWhole self.old }
-    {
-        let unit: &mut [u8] = &mut self.unit;
-        let scratch: &mut [u8] = &mut self.scratch;
-        self.parts.put_trim(slot, unit, scratch)
-    }
-
-    // Writes what a slot holds into a slot where it waits, and returns its kind.
-    pub(crate) fn carry(&mut self, from: u16, to: u16) -> Result<Kind, Refusal>
-        requires from { IsSlot self.old.parts.groups from }
-        requires to { IsSlot self.old.parts.groups to }
-        ensures ok { IfOk result (WasCopied self.old.parts self.new.parts from to) }
-        ensures err { IfErr result (WasNotCarried self.old.parts self.new.parts from to) }
-        ensures rest { self.new ≡ with_parts self.old self.new.parts }
-        ensures whole { IsWhole self.old }
-    {
-        let unit: &mut [u8] = &mut self.unit;
-        let scratch: &mut [u8] = &mut self.scratch;
-        self.parts.copy(from, to, unit, scratch)
-    }
-
     // Reads what a slot holds: its kind, and the payload.
     pub(crate) fn payload_at(&mut self, slot: u16, payload: &mut [u8]) -> Result<Kind, Refusal>
         requires slot { IsSlot self.old.parts.groups slot }
@@ -77,20 +36,6 @@ impl<D: Drive, C: Hold> Array<D, C> {
         let unit: &mut [u8] = &mut self.unit;
         let scratch: &mut [u8] = &mut self.scratch;
         self.parts.payload(slot, payload, unit, scratch)
-    }
-
-    // Looks for a record at its place, and reads the payload where it is there.
-    pub(crate) fn sight(&mut self, asked: &Record, payload: &mut [u8]) -> Result<Sight, Refusal>
-        requires slot { IsSlot self.old.parts.groups asked.now.place }
-        requires payload { length payload.old ≡ self.old.parts.groups.payload }
-        ensures ok { IfOk result (λ sight. SawUnit self.old.parts self.new.parts asked.now (seen_of sight payload.new)) }
-        ensures err { IfErr result (FoundGone self.old.parts self.new.parts asked.now.place) }
-        ensures rest { self.new ≡ with_parts self.old self.new.parts }
-        ensures whole { IsWhole self.old }
-    {
-        let unit: &mut [u8] = &mut self.unit;
-        let scratch: &mut [u8] = &mut self.scratch;
-        self.parts.see(asked, payload, unit, scratch)
     }
 
     // Makes a group under a free number, of members that pass every check, and takes out the claims that were

@@ -6,7 +6,7 @@ ghost use Rattle.array_parts.specs.Views.{view_of};
 use crate::array::Array;
 use array_parts::Parts;
 use extents::Drive;
-use slot_tables::{Hold, Place};
+use slot_tables::{Hold, SlotState};
 
 /// Takes claims back.
 pub trait TakeBack<C> {
@@ -28,14 +28,14 @@ impl<D: Drive, C: Hold> Array<D, C> {
     }
 }
 
-fn hand_over<C: Hold, T: TakeBack<C>>(mut places: Vec<Place<C>>, to: &mut T) {
+fn hand_over<C: Hold, T: TakeBack<C>>(mut places: Vec<SlotState<C>>, to: &mut T) {
     while let Some(place) = places.pop() {
         match place {
-            Place::Free => {}
-            Place::Pending(_, claim) => to.take_back(claim),
-            Place::Moving(_, _, claim) => to.take_back(claim),
-            Place::Newest(_, claim) => to.take_back(claim),
-            Place::Unmade(claim) => to.take_back(claim),
+            SlotState::Free => {}
+            SlotState::Pending(_, claim) => to.take_back(claim),
+            SlotState::Moving(_, _, claim) => to.take_back(claim),
+            SlotState::Newest(_, claim) => to.take_back(claim),
+            SlotState::Unmade(claim) => to.take_back(claim),
         }
     }
     places.destroy_empty();

@@ -9,7 +9,7 @@ ghost use Rattle.slot_tables.specs.Counted.{is_newest, newest_below, AreCounts};
 use crate::array::Array;
 use extent_groups::{GROUPS, SLOTS};
 use extents::Drive;
-use slot_tables::{Hold, Place, place_at};
+use slot_tables::{Hold, SlotState, state_at};
 
 impl<D: Drive, C: Hold> Array<D, C> {
     /// How many of a group's slots are newest places of blocks; no slot is looked at.
@@ -56,7 +56,7 @@ pub(crate) fn none_live() -> [u16; GROUPS]
 }
 
 // The counts of these places.
-pub(crate) fn counted<C: Hold>(places: &[Place<C>]) -> [u16; GROUPS]
+pub(crate) fn counted<C: Hold>(places: &[SlotState<C>]) -> [u16; GROUPS]
     ensures { AreCounts (kepts_of places.now) result }
 {
     let mut live = none_live();
@@ -67,7 +67,7 @@ pub(crate) fn counted<C: Hold>(places: &[Place<C>]) -> [u16; GROUPS]
 }
 
 // How many of a group's slots are newest places.
-fn count_newest<C: Hold>(places: &[Place<C>], group: u16) -> u16
+fn count_newest<C: Hold>(places: &[SlotState<C>], group: u16) -> u16
     requires { group < 512 }
     ensures { result ≡ newest_below (kepts_of places.now) group 128 }
 {
@@ -84,15 +84,15 @@ fn count_newest<C: Hold>(places: &[Place<C>], group: u16) -> u16
 }
 
 // Whether a slot is kept as a block's newest place.
-fn is_live<C: Hold>(places: &[Place<C>], slot: u16) -> bool
+fn is_live<C: Hold>(places: &[SlotState<C>], slot: u16) -> bool
     ensures { result ≡ is_newest (slice_index_or (kepts_of places.now) slot Nothing) }
 {
-    match place_at(places, slot) {
-        Some(Place::Free) => false,
-        Some(Place::Pending(_, _)) => false,
-        Some(Place::Moving(_, _, _)) => false,
-        Some(Place::Newest(_, _)) => true,
-        Some(Place::Unmade(_)) => false,
+    match state_at(places, slot) {
+        Some(SlotState::Free) => false,
+        Some(SlotState::Pending(_, _)) => false,
+        Some(SlotState::Moving(_, _, _)) => false,
+        Some(SlotState::Newest(_, _)) => true,
+        Some(SlotState::Unmade(_)) => false,
         None => false,
     }
 }

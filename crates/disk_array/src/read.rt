@@ -137,7 +137,9 @@ impl<D: Drive, C: Hold> Array<D, C> {
         if self.class_of(asked.place).is_none() {
             return Ok(Sight::Stale(None));
         }
-        self.sight(asked, payload)
+        let unit: &mut [u8] = &mut self.unit;
+        let scratch: &mut [u8] = &mut self.scratch;
+        self.parts.see(asked, payload, unit, scratch)
     }
 
     // As many zeros as a payload has bytes, to read one into.

@@ -14,7 +14,7 @@ use crate::array::Array;
 use crate::ticket::Ticket;
 use extents::{Drive, Kind};
 use flat_machine::Refusal;
-use slot_tables::{Hold, Place, put_in};
+use slot_tables::{Hold, SlotState, put_in};
 use std::alloc::Global;
 
 impl<D: Drive, C: Hold> Array<D, C> {
@@ -35,10 +35,12 @@ impl<D: Drive, C: Hold> Array<D, C> {
         if let Some(refusal) = self.fill_fault(slot) {
             return Err((refusal, claim));
         }
-        if let Err(refusal) = self.put_trim(slot) {
+        let unit: &mut [u8] = &mut self.unit;
+        let scratch: &mut [u8] = &mut self.scratch;
+        if let Err(refusal) = self.parts.put_trim(slot, unit, scratch) {
             return Err((refusal, claim));
         }
-        put_in(&mut self.places, slot, Place::Pending(Kind::Trim, claim));
+        put_in(&mut self.places, slot, SlotState::Pending(Kind::Trim, claim));
         Ok(Ticket::of(slot))
     }
 }

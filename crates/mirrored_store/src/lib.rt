@@ -68,37 +68,6 @@ fn read_pair<D: Drive>(
     read_front(drives, second, front, scratch)
 }
 
-/// Writes both copies of a unit, given as `front` and the bytes after it, `rest`, each where its drive is there, with a buffer
-/// of a unit's length; false where both are lost.
-#[inline(always)]
-fn write_pair<D: Drive>(
-    drives: &mut [D],
-    first: Place,
-    second: Place,
-    front: &[u8],
-    rest: &[u8],
-    scratch: &mut [u8],
-) -> bool
-    requires first { IsPlace D.units drives.old first }
-    requires second { IsPlace D.units drives.old second }
-    requires apart { first.drive ≢ second.drive }
-    requires size { AreSized D.units (length front.now + length rest.now) drives.old }
-    requires scratch { AreSized D.units (length scratch.old) drives.old }
-    ensures unit { unit_at (length front.now + length rest.now) (cells D.units D.lost drives.new) (Pair first second) ≡ if_ok result (front.now ++ rest.now) }
-    ensures leaves { LeavesSites (length front.now + length rest.now) (cells D.units D.lost drives.old) (cells D.units D.lost drives.new) (Pair first second) }
-    ensures touched { KeepsDrives D.units D.lost D.failures (IsOwn (Pair first second)) drives.old drives.new }
-    ensures copies { AreCopies (IsOwn (Pair first second)) (cells D.units D.lost drives.new) (front.now ++ rest.now) }
-    ensures planned { (x : Place)
-        → FadesAt (after (cells D.units D.lost drives.old) (present (cells D.units D.lost drives.old) (λ place. front.now ++ rest.now) (first ∷ second ∷ [])))
-        (cells D.units D.lost drives.new) x }
-    ensures unwritten { result ≡ false → (x : Place) → FadesAt (cells D.units D.lost drives.old) (cells D.units D.lost drives.new) x }
-    ensures there { result ≡ true → ((held (cells D.units D.lost drives.old) first ≡ None) × (held (cells D.units D.lost drives.old) second ≡ None)) → ⊥ }
-{
-    let one = extent_groups::write_gathered(drives, first, front, rest, scratch);
-    let two = extent_groups::write_gathered(drives, second, front, rest, scratch);
-    one || two
-}
-
 /// Reads the effective unit of a slot; refused where both copies' drives are lost.
 pub fn read<D: Drive>(
     groups: &GroupTable,
@@ -202,7 +171,9 @@ pub fn write_gathered<D: Drive>(
     ensures drives { AreDrives D.units groups.now drives.new }
 {
     let (first, second) = groups.pair_of(slot);
-    write_pair(drives, first, second, front, rest, scratch)
+    let one = extent_groups::write_gathered(drives, first, front, rest, scratch);
+    let two = extent_groups::write_gathered(drives, second, front, rest, scratch);
+    (one | two)
         .then_some(())
         .ok_or(StoreRefusal::Gone(slot))
 }

@@ -20,7 +20,7 @@ use crate::texts::{put_answer, put_found, put_listing, put_outcome, put_regroupe
 use map_join::Record;
 use script_syntax::{Command, Named, Verb};
 use std::alloc::{AllocError, Global};
-use step_core::{Array, Class, Drive, Hold};
+use step_core::{Array, Class, Drive, Given, Hold};
 
 /// Whether the numbers of a command and what follows them are within the limits, with `blocks` blocks.
 pub fn is_in_range(command: &Command, blocks: u32) -> bool
@@ -291,7 +291,9 @@ fn write(
     ensures carried { OnOk result (Carries bench.old bench.new (o.Write worker block payload.now) out.old.items out.new.items) }
     ensures kept { IsPrefix out.old.items out.new.items }
 {
-    let outcome = bench.tiers.write(alloc, worker, block, payload)?;
+    let outcome = bench
+        .tiers
+        .write(alloc, worker, block, Given::Payload(payload))?;
     put_outcome(out, outcome)
 }
 
@@ -306,7 +308,7 @@ fn trim(
     ensures carried { OnOk result (Carries bench.old bench.new (o.Trim worker block) out.old.items out.new.items) }
     ensures kept { IsPrefix out.old.items out.new.items }
 {
-    let outcome = bench.tiers.trim(alloc, worker, block)?;
+    let outcome = bench.tiers.write(alloc, worker, block, Given::Trim)?;
     put_outcome(out, outcome)
 }
 

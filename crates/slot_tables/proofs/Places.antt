@@ -5,13 +5,13 @@ use Rattle.std.specs.Global.{Global}
 use Rattle.std.proofs.lemmas.List.{map-set, map-append, append_assoc, length-append, length-map, length-replicate, length-set, set-append_left, get_or-map, get_or_append_left, get_or-append_right, get_or_past, get_or_push, get_or-set_same, get_or-set_other}
 use Rattle.std.proofs.lemmas.Bool.{cases_eq, cases_lt}
 use Rattle.std.proofs.lemmas.Option.{same_Some, slice_get-get_or}
-use Rattle.slot_tables.specs.declared.place.Place.{Place}
-use Rattle.slot_tables.specs.declared.place.Place.TheVariants as place
+use Rattle.slot_tables.specs.declared.slot_state.SlotState.{SlotState}
+use Rattle.slot_tables.specs.declared.slot_state.SlotState.TheVariants as state
 use Rattle.slot_tables.specs.Kept.{kept_of, kepts_of, IsOf, AreOf}
 use Rattle.slot_tables.specs.Views.{Kept, Nothing}
 
 -- what is kept at a place
-pub kept_there : {C : Type 0} (places : List (Place C)) (s : ℕ) (d : Place C) → s < length places
+pub kept_there : {C : Type 0} (places : List (SlotState C)) (s : ℕ) (d : SlotState C) → s < length places
     → kept_of (get_or places s d) ≡ get_or (kepts_of places) s Nothing
 unfolding kepts_of
 kept_there places s d h =
@@ -19,17 +19,17 @@ kept_there places s d h =
     sym (get_or_append_left (map kept_of places) (replicate (65536 - length places) Nothing) Nothing s (omega (arith, long, h)) ∙ get_or-map kept_of places s d Nothing h)
 
 -- what a place holds of a slot of which nothing is kept
-pub free_there : {C : Type 0} (places : List (Place C)) (s : ℕ) (p : Place C) → s < length places → p ≡ get_or places s p → get_or (kepts_of places) s Nothing ≡ Nothing
+pub free_there : {C : Type 0} (places : List (SlotState C)) (s : ℕ) (p : SlotState C) → s < length places → p ≡ get_or places s p → get_or (kepts_of places) s Nothing ≡ Nothing
     → kept_of p ≡ Nothing
 free_there places s p inside is free = ap kept_of is ∙ kept_there places s p inside ∙ free
 
 -- and a free place's slot is one of which nothing is kept
-pub nothing_there : {C : Type 0} (places : List (Place C)) (s : ℕ) (p : Place C) → s < length places → p ≡ get_or places s p → p ≡ place.Free
+pub nothing_there : {C : Type 0} (places : List (SlotState C)) (s : ℕ) (p : SlotState C) → s < length places → p ≡ get_or places s p → p ≡ state.Free
     → get_or (kepts_of places) s Nothing ≡ Nothing
 nothing_there places s p inside is free = sym (kept_there places s p inside) ∙ ap kept_of (sym is ∙ free)
 
 -- tables as plain data, with one place changed
-pub kepts_set : {C : Type 0} (places : List (Place C)) (s : ℕ) (p : Place C) → s < length places → kepts_of (set places s p) ≡ set (kepts_of places) s (kept_of p)
+pub kepts_set : {C : Type 0} (places : List (SlotState C)) (s : ℕ) (p : SlotState C) → s < length places → kepts_of (set places s p) ≡ set (kepts_of places) s (kept_of p)
 unfolding kepts_of
 kepts_set places s p h =
     let long = length-map places kept_of in
@@ -38,7 +38,7 @@ kepts_set places s p h =
     ∙ sym (set-append_left (map kept_of places) (replicate (65536 - length places) Nothing) s (kept_of p) (omega (arith, long, h)))
 
 -- there are as many as slots
-pub kepts_many : {C : Type 0} (places : List (Place C)) → length places ≤ 65536 → length (kepts_of places) ≡ 65536
+pub kepts_many : {C : Type 0} (places : List (SlotState C)) → length places ≤ 65536 → length (kepts_of places) ≡ 65536
 unfolding kepts_of
 kepts_many places most =
     let long = length-map places kept_of in
@@ -46,11 +46,11 @@ kepts_many places most =
     let past = length-replicate (65536 - length places) Nothing in
     omega (arith, long, both, past, most)
 
-pub places_many : {C : Type 0} (places : Vec (Place C) Global) → vec_len places ≤ 65536 → length (kepts_of places.items) ≡ 65536
+pub places_many : {C : Type 0} (places : Vec (SlotState C) Global) → vec_len places ≤ 65536 → length (kepts_of places.items) ≡ 65536
 places_many places most = kepts_many places.items (let own = places.ok.0 in omega (arith, own, most))
 
 -- and no fewer than places
-pub kepts_longer : {C : Type 0} (places : List (Place C)) → length places ≤ length (kepts_of places)
+pub kepts_longer : {C : Type 0} (places : List (SlotState C)) → length places ≤ length (kepts_of places)
 unfolding kepts_of
 kepts_longer places =
     let long = length-map places kept_of in
@@ -58,7 +58,7 @@ kepts_longer places =
     omega (arith, long, both)
 
 -- nothing is kept past the table's end
-pub kept_past : {C : Type 0} (places : List (Place C)) (s : ℕ) → length places ≤ s → get_or (kepts_of places) s Nothing ≡ Nothing
+pub kept_past : {C : Type 0} (places : List (SlotState C)) (s : ℕ) → length places ≤ s → get_or (kepts_of places) s Nothing ≡ Nothing
 unfolding kepts_of
 kept_past places s past =
     let long = length-map places kept_of in
@@ -80,7 +80,7 @@ kept_inside ks s some = by (cases_lt s (length ks))
     by (inr past) = absurd (some (get_or_past ks s Nothing past))
 
 -- and lies before the table's end
-pub kept_before : {C : Type 0} (places : List (Place C)) (s : ℕ) → (get_or (kepts_of places) s Nothing ≡ Nothing → ⊥) → s < length places
+pub kept_before : {C : Type 0} (places : List (SlotState C)) (s : ℕ) → (get_or (kepts_of places) s Nothing ≡ Nothing → ⊥) → s < length places
 kept_before places s some = by (cases_lt s (length places))
   where
     by : (s < length places) ⊎ (length places ≤ s) → s < length places
@@ -88,7 +88,7 @@ kept_before places s some = by (cases_lt s (length places))
     by (inr past) = absurd (some (kept_past places s past))
 
 -- nothing kept of a slot past the end, all is as it was
-pub kepts_past : {C : Type 0} (places : List (Place C)) (s : ℕ) → length places ≤ s → set (kepts_of places) s Nothing ≡ kepts_of places
+pub kepts_past : {C : Type 0} (places : List (SlotState C)) (s : ℕ) → length places ≤ s → set (kepts_of places) s Nothing ≡ kepts_of places
 kepts_past places s past = same (kepts_of places) s (kept_past places s past)
   where
     same : (ks : List Kept) (i : ℕ) → get_or ks i Nothing ≡ Nothing → set ks i Nothing ≡ ks
@@ -97,44 +97,44 @@ kepts_past places s past = same (kepts_of places) s (kept_past places s past)
     same (k ∷ ks) (suc i) e = ap (λ js. k ∷ js) (same ks i e)
 
 -- nothing is kept where all places are free
-pub none_kept : {C : Type 0} (places : List (Place C)) → ((s : ℕ) → get_or places s place.Free ≡ place.Free) → (s : ℕ) → get_or (kepts_of places) s Nothing ≡ Nothing
+pub none_kept : {C : Type 0} (places : List (SlotState C)) → ((s : ℕ) → get_or places s state.Free ≡ state.Free) → (s : ℕ) → get_or (kepts_of places) s Nothing ≡ Nothing
 none_kept {C} places all s = by (cases_lt s (length places))
   where
     by : (s < length places) ⊎ (length places ≤ s) → get_or (kepts_of places) s Nothing ≡ Nothing
-    by (inl inside) = sym (kept_there places s place.Free inside) ∙ ap kept_of (all s)
+    by (inl inside) = sym (kept_there places s state.Free inside) ∙ ap kept_of (all s)
     by (inr past) = kept_past places s past
 
 -- a free place more changes nothing
-pub kepts_push : {C : Type 0} (places : List (Place C)) → length places < 65536 → kepts_of (places ++ place.Free ∷ []) ≡ kepts_of places
+pub kepts_push : {C : Type 0} (places : List (SlotState C)) → length places < 65536 → kepts_of (places ++ state.Free ∷ []) ≡ kepts_of places
 unfolding kepts_of
 kepts_push {C} places fewer =
-    let more = length-append places (place.Free ∷ []) in
-    let one : 65536 - length places ≡ suc (65536 - length (places ++ place.Free ∷ [])) = omega (arith, more, fewer) in
-    ap (λ (ks : List Kept). ks ++ replicate (65536 - length (places ++ place.Free ∷ [])) Nothing) (map-append kept_of places (place.Free ∷ []))
-    ∙ append_assoc (map kept_of places) (Nothing ∷ []) (replicate (65536 - length (places ++ place.Free ∷ [])) Nothing)
+    let more = length-append places (state.Free ∷ []) in
+    let one : 65536 - length places ≡ suc (65536 - length (places ++ state.Free ∷ [])) = omega (arith, more, fewer) in
+    ap (λ (ks : List Kept). ks ++ replicate (65536 - length (places ++ state.Free ∷ [])) Nothing) (map-append kept_of places (state.Free ∷ []))
+    ∙ append_assoc (map kept_of places) (Nothing ∷ []) (replicate (65536 - length (places ++ state.Free ∷ [])) Nothing)
     ∙ ap (λ n. map kept_of places ++ replicate n Nothing) (sym one)
 
 -- one place with a claim of its slot put in, each place has a claim of its slot
-pub claims_put : {C : Type 0} (names : C → ℕ) (places : List (Place C)) (s : ℕ) (p : Place C)
+pub claims_put : {C : Type 0} (names : C → ℕ) (places : List (SlotState C)) (s : ℕ) (p : SlotState C)
     → AreOf names places → IsOf names s p → AreOf names (set places s p)
 claims_put {C} names places s p all of slot inside = go (cases_eq slot s)
   where
-    go : (slot ≡ s) ⊎ (slot ≡ s → ⊥) → IsOf names slot (get_or (set places s p) slot place.Free)
+    go : (slot ≡ s) ⊎ (slot ≡ s → ⊥) → IsOf names slot (get_or (set places s p) slot state.Free)
     go (inl e) =
         let long = length-set places s p in
         let here : s < length places = omega arith in
-        rw (e, get_or-set_same places s p place.Free here) of
+        rw (e, get_or-set_same places s p state.Free here) of
     go (inr ne) =
         let long = length-set places s p in
-        rw (get_or-set_other places s slot p place.Free ne) (all slot (omega arith))
+        rw (get_or-set_other places s slot p state.Free ne) (all slot (omega arith))
 
 -- a free place more has no claim of another slot
-pub claims_push : {C : Type 0} (names : C → ℕ) (places : List (Place C)) → AreOf names places → AreOf names (places ++ place.Free ∷ [])
+pub claims_push : {C : Type 0} (names : C → ℕ) (places : List (SlotState C)) → AreOf names places → AreOf names (places ++ state.Free ∷ [])
 claims_push {C} names places all slot inside = by (cases_lt slot (length places))
   where
-    by : (slot < length places) ⊎ (length places ≤ slot) → IsOf names slot (get_or (places ++ place.Free ∷ []) slot place.Free)
-    by (inl low) = rw (get_or_append_left places (place.Free ∷ []) place.Free slot low) (all slot low)
-    by (inr past) = rw (get_or_push places place.Free place.Free slot (let more = length-append places (place.Free ∷ []) in omega (arith, more, inside, past))) tt
+    by : (slot < length places) ⊎ (length places ≤ slot) → IsOf names slot (get_or (places ++ state.Free ∷ []) slot state.Free)
+    by (inl low) = rw (get_or_append_left places (state.Free ∷ []) state.Free slot low) (all slot low)
+    by (inr past) = rw (get_or_push places state.Free state.Free slot (let more = length-append places (state.Free ∷ []) in omega (arith, more, inside, past))) tt
 
 -- a list that has d at each place has it still with one more d
 pub all_same_more : {X : Type 0} (xs : List X) (d : X) → ((k : ℕ) → get_or xs k d ≡ d) → (k : ℕ) → get_or (xs ++ d ∷ []) k d ≡ d

@@ -12,8 +12,8 @@ use Rattle.std.proofs.lemmas.Option.{same_Some}
 use Rattle.std.proofs.lemmas.Bool.Decides.{nat_tests}
 use Rattle.map_join.specs.declared.records.Record.{Record}
 use Rattle.slot_tables.specs.Views.{Kept, Nothing, Newest}
-use Rattle.slot_tables.specs.declared.place.Place.{Place}
-use Rattle.slot_tables.specs.declared.place.Place.TheVariants as place
+use Rattle.slot_tables.specs.declared.slot_state.SlotState.{SlotState}
+use Rattle.slot_tables.specs.declared.slot_state.SlotState.TheVariants as state
 use Rattle.slot_tables.specs.Kept.{kept_of, kepts_of, IsOf, AreOf}
 use Rattle.slot_tables.proofs.Places.{kept_past, kept_there}
 use Rattle.slot_tables.specs.Claims.{how_many, claims_in, IsWanted, AreWanted, wanted_at, kept_for, IsClaimed}
@@ -180,34 +180,34 @@ all_seated names all wanted now kept others end slot = go (wanted_at wanted slot
     go was is at (has e k) = k
 
 -- claims on their way out of places: of the slots that are done, from the last on, each has its claim out
-pub record AreOut {C : Type 0} (names : C → ℕ) (all left : List (Place C)) (claims : List C) : Type 0 where
+pub record AreOut {C : Type 0} (names : C → ℕ) (all left : List (SlotState C)) (claims : List C) : Type 0 where
   pub of : AreOf names left
   pub fewer : length left ≤ length all
-  pub same : (slot : ℕ) → slot < length left → get_or left slot place.Free ≡ get_or all slot place.Free
+  pub same : (slot : ℕ) → slot < length left → get_or left slot state.Free ≡ get_or all slot state.Free
   pub out : (slot : ℕ) → slot < length left → how_many names claims slot ≡ 0
   pub rest : (slot : ℕ) → length left ≤ slot → how_many names claims slot ≡ claims_in (get_or (kepts_of all) slot Nothing)
 
-out_less : {C : Type 0} (names : C → ℕ) (left : List (Place C)) (p : Place C) → AreOf names (left ++ p ∷ []) → AreOf names left × IsOf names (length left) p
+out_less : {C : Type 0} (names : C → ℕ) (left : List (SlotState C)) (p : SlotState C) → AreOf names (left ++ p ∷ []) → AreOf names left × IsOf names (length left) p
 out_less {C} names left p of = (front, back)
   where
     long : length (left ++ p ∷ []) ≡ length left + 1
     long = length-append left (p ∷ [])
 
     front : AreOf names left
-    front slot inside = rw (sym (get_or-append left (p ∷ []) place.Free slot inside)) (of slot (omega (arith, long, inside)))
+    front slot inside = rw (sym (get_or-append left (p ∷ []) state.Free slot inside)) (of slot (omega (arith, long, inside)))
 
     back : IsOf names (length left) p
-    back = rw (sym (get_or-append_seam left p [] place.Free)) (of (length left) (omega (arith, long)))
+    back = rw (sym (get_or-append_seam left p [] state.Free)) (of (length left) (omega (arith, long)))
 
 -- the last of the places left is done: whether it had a claim, and the claims that are out then
-pub out_more : {C : Type 0} (names : C → ℕ) (all left : List (Place C)) (p : Place C) (claims now : List C)
+pub out_more : {C : Type 0} (names : C → ℕ) (all left : List (SlotState C)) (p : SlotState C) (claims now : List C)
     → AreOut names all (left ++ p ∷ []) claims
     → (names_more : (slot : ℕ) → how_many names now slot ≡ how_many names claims slot + (if slot == length left then claims_in (kept_of p) else 0))
     → AreOut names all left now
 out_more {C} names all left p claims now before more = record {
   of = (out_less names left p before.of).0;
   fewer = let f = before.fewer in omega (arith, long, f);
-  same = λ slot inside. sym (get_or-append left (p ∷ []) place.Free slot inside) ∙ before.same slot (omega (arith, long, inside));
+  same = λ slot inside. sym (get_or-append left (p ∷ []) state.Free slot inside) ∙ before.same slot (omega (arith, long, inside));
   out = λ slot inside.
       let m = more slot in
       let o = before.out slot (omega (arith, long, inside)) in
@@ -232,8 +232,8 @@ out_more {C} names all left p claims now before more = record {
         let h = here_one slot (claims_in (kept_of p)) e in
         let f = before.fewer in
         let inside : slot < length all = omega (arith, e, f, long) in
-        let at : get_or all slot place.Free ≡ p = sym (before.same slot (omega (arith, long, e))) ∙ ap (λ s. get_or (left ++ p ∷ []) s place.Free) e ∙ get_or-append_seam left p [] place.Free in
-        let is : claims_in (kept_of p) ≡ claims_in (get_or (kepts_of all) slot Nothing) = ap (λ q. claims_in (kept_of q)) (sym at) ∙ ap claims_in (kept_there all slot place.Free inside) in
+        let at : get_or all slot state.Free ≡ p = sym (before.same slot (omega (arith, long, e))) ∙ ap (λ s. get_or (left ++ p ∷ []) s state.Free) e ∙ get_or-append_seam left p [] state.Free in
+        let is : claims_in (kept_of p) ≡ claims_in (get_or (kepts_of all) slot Nothing) = ap (λ q. claims_in (kept_of q)) (sym at) ∙ ap claims_in (kept_there all slot state.Free inside) in
         omega (arith, m, o, h, is)
     rest slot from (inr ne) =
         let m = more slot in
@@ -242,7 +242,7 @@ out_more {C} names all left p claims now before more = record {
         omega (arith, m, o, z)
 
 -- a place without a claim adds none, and one with a claim of its slot adds that
-pub out_none : {C : Type 0} (names : C → ℕ) (all left : List (Place C)) (p : Place C) (claims : List C)
+pub out_none : {C : Type 0} (names : C → ℕ) (all left : List (SlotState C)) (p : SlotState C) (claims : List C)
     → claims_in (kept_of p) ≡ 0 → AreOut names all (left ++ p ∷ []) claims → AreOut names all left claims
 out_none {C} names all left p claims none before = out_more names all left p claims claims before (λ slot. let z = either (slot == length left) in omega (arith, z))
   where
@@ -250,7 +250,7 @@ out_none {C} names all left p claims none before = out_more names all left p cla
     either true = none
     either false = refl
 
-pub out_one : {C : Type 0} (names : C → ℕ) (all left : List (Place C)) (p : Place C) (claims : List C) (claim : C)
+pub out_one : {C : Type 0} (names : C → ℕ) (all left : List (SlotState C)) (p : SlotState C) (claims : List C) (claim : C)
     → names claim ≡ length left → claims_in (kept_of p) ≡ 1 → AreOut names all (left ++ p ∷ []) claims → AreOut names all left (claims ++ claim ∷ [])
 out_one {C} names all left p claims claim named one before = out_more names all left p claims (claims ++ claim ∷ []) before (λ slot.
     let m = counted_more names claims claim slot in
@@ -268,7 +268,7 @@ out_one {C} names all left p claims claim named one before = out_more names all 
     same slot (inr ne) = one_else (names claim) slot (λ e. ne (e ∙ named)) ∙ sym (at_none (claims_in (kept_of p)) slot ne)
 
 -- what is out at the start, and at the end
-pub none_out : {C : Type 0} (names : C → ℕ) (all : List (Place C)) (claims : List C) → length claims ≡ 0 → AreOf names all → AreOut names all all claims
+pub none_out : {C : Type 0} (names : C → ℕ) (all : List (SlotState C)) (claims : List C) → length claims ≡ 0 → AreOf names all → AreOut names all all claims
 none_out names all (c ∷ claims) none of = absurd (omega (arith, none))
 none_out {C} names all [] none of = record {
   of = of;
@@ -279,7 +279,7 @@ none_out {C} names all [] none of = record {
 }
 
 -- the claim's place among those that are left, of places from the last on
-pub last_of : {C : Type 0} (names : C → ℕ) (all left : List (Place C)) (p : Place C) (claims : List C) → AreOut names all (left ++ p ∷ []) claims → IsOf names (length left) p
+pub last_of : {C : Type 0} (names : C → ℕ) (all left : List (SlotState C)) (p : SlotState C) (claims : List C) → AreOut names all (left ++ p ∷ []) claims → IsOf names (length left) p
 last_of names all left p claims before = (out_less names left p before.of).1
 
 -- before the first claim, all are left

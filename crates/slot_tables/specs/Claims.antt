@@ -10,7 +10,7 @@ use Rattle.flat_machine.specs.Restarted.{restarted}
 use Rattle.slot_tables.specs.Views.{Kept, Nothing, Newest, ArrayView, WorldView, is_kept, kept_at}
 use Rattle.slot_tables.specs.Represents.{Represents}
 use Rattle.slot_tables.specs.Kept.{HavePlaces}
-use Rattle.slot_tables.specs.declared.place.Place.TheVariants as place
+use Rattle.slot_tables.specs.declared.slot_state.SlotState.TheVariants as state
 use Rattle.slot_tables.specs.declared.ready.NotAdopted.{NotAdopted}
 use Rattle.slot_tables.specs.declared.ready.NotAdopted.TheVariants.{Memory, NoClaim}
 use Rattle.slot_tables.specs.declared.ready.Ready.{Ready}
@@ -90,7 +90,7 @@ pub record HasRoom {C : Type 0} (bytes slots count : ℕ) (room : Room C) : Type
   pub none : vec_len room.others ≡ 0
   pub others : count ≤ vec_capacity room.others
   pub places : vec_len room.places ≡ slots
-  pub free : (s : ℕ) → slice_index_or room.places.items s place.Free ≡ place.Free
+  pub free : (s : ℕ) → slice_index_or room.places.items s state.Free ≡ state.Free
 
 -- why no array was put together
 abbrev pub IsNotAdopted : {C : Type 0} → (C → ℕ) → List C → (ℕ → ℕ) → NotAdopted → Type 0

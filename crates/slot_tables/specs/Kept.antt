@@ -2,31 +2,31 @@
 use Rattle.std.specs.Prelude.{◌≡◌, ◌≢◌, ℕ, ◌+◌, ◌*◌, ◌-◌, ◌<◌, ◌≤◌, None, List, ◌++◌, slice_index_or, length, map, replicate}
 use Rattle.extent_groups.specs.Groups.{Groups, group_at}
 use Rattle.slot_tables.specs.Views.{Kept, Nothing, Pending, Moving, Newest, Unmade}
-use Rattle.slot_tables.specs.declared.place.Place.{Place}
-use Rattle.slot_tables.specs.declared.place.Place.TheVariants as place
+use Rattle.slot_tables.specs.declared.slot_state.SlotState.{SlotState}
+use Rattle.slot_tables.specs.declared.slot_state.SlotState.TheVariants as state
 
 -- a place without its claim
-abbrev pub kept_of : {C : Type 0} → Place C → Kept
-kept_of place.Free = Nothing
-kept_of (place.Pending k claim) = Pending k
-kept_of (place.Moving r k claim) = Moving r k
-kept_of (place.Newest block claim) = Newest block
-kept_of (place.Unmade claim) = Unmade
+abbrev pub kept_of : {C : Type 0} → SlotState C → Kept
+kept_of state.Free = Nothing
+kept_of (state.Pending k claim) = Pending k
+kept_of (state.Moving r k claim) = Moving r k
+kept_of (state.Newest block claim) = Newest block
+kept_of (state.Unmade claim) = Unmade
 
 -- the claim of a place, if it has one, is of that slot
-abbrev pub IsOf : {C : Type 0} → (C → ℕ) → ℕ → Place C → Type 0
-IsOf names slot place.Free = (Unit {0})
-IsOf names slot (place.Pending k claim) = names claim ≡ slot
-IsOf names slot (place.Moving r k claim) = names claim ≡ slot
-IsOf names slot (place.Newest block claim) = names claim ≡ slot
-IsOf names slot (place.Unmade claim) = names claim ≡ slot
+abbrev pub IsOf : {C : Type 0} → (C → ℕ) → ℕ → SlotState C → Type 0
+IsOf names slot state.Free = (Unit {0})
+IsOf names slot (state.Pending k claim) = names claim ≡ slot
+IsOf names slot (state.Moving r k claim) = names claim ≡ slot
+IsOf names slot (state.Newest block claim) = names claim ≡ slot
+IsOf names slot (state.Unmade claim) = names claim ≡ slot
 
 -- each place's claim is of its slot
-abbrev pub AreOf : {C : Type 0} → (C → ℕ) → List (Place C) → Type 0
-AreOf names places = (slot : ℕ) → slot < length places → IsOf names slot (slice_index_or places slot place.Free)
+abbrev pub AreOf : {C : Type 0} → (C → ℕ) → List (SlotState C) → Type 0
+AreOf names places = (slot : ℕ) → slot < length places → IsOf names slot (slice_index_or places slot state.Free)
 
 -- what is kept of each of the 65,536 slots: of those past the table's end nothing
-unfoldable pub kepts_of : {C : Type 0} → List (Place C) → List Kept
+unfoldable pub kepts_of : {C : Type 0} → List (SlotState C) → List Kept
 kepts_of places = map kept_of places ++ replicate (65536 - length places) Nothing
 
 -- that many places are enough for the slots of each group that is made, and no more than there are slots

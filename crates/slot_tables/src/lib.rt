@@ -4,7 +4,7 @@
 
 mod hand;
 mod hold;
-mod place;
+mod slot_state;
 mod ready;
 mod seats;
 mod shut;
@@ -12,7 +12,7 @@ mod tables;
 
 pub use hand::Hand;
 pub use hold::{Hold, Plain};
-pub use place::{Place, grow_to, place_at, put_in, take_out, take_waiting};
+pub use slot_state::{SlotState, grow_to, state_at, put_in, take_out, take_waiting};
 pub use ready::{NotAdopted, Ready, Room, prepare};
 pub use seats::{seat_all, unseat_all};
 pub use shut::{close_all, marked, open_number};

@@ -4,12 +4,12 @@ ghost use Rattle.map_join.specs.Maps.{at};
 ghost use Rattle.extents.specs.declared.shape.TheConstants.{HEADER_BYTES};
 ghost use Rattle.array_parts.specs.Fit.{IsFit};
 ghost use Rattle.flat_machine.specs.Restarted.{HasPlaces};
-ghost use Rattle.slot_tables.specs.declared.place.Place.TheVariants as place;
+ghost use Rattle.slot_tables.specs.declared.slot_state.SlotState.TheVariants as state;
 ghost use Rattle.slot_tables.specs.Kept.{HavePlaces};
 ghost use Rattle.slot_tables.specs.Claims.{AreReady, AreKeys, HasRoom, IsNotAdopted};
 
 use crate::hold::Hold;
-use crate::place::Place;
+use crate::slot_state::SlotState;
 use crate::seats::{blocks_by_slot, first_unclaimed};
 use crate::tables::free_places;
 use array_parts::Parts;
@@ -32,7 +32,7 @@ pub struct Room<C: Hold> {
     pub unit: Vec<u8>,
     pub scratch: Vec<u8>,
     pub others: Vec<C>,
-    pub places: Vec<Place<C>>,
+    pub places: Vec<SlotState<C>>,
 }
 
 // All the memory that it takes, and which block wants which slot.

@@ -6,7 +6,7 @@ ghost use Rattle.slot_tables.specs.Kept.{kept_of, kepts_of, IsOf, AreOf};
 ghost use Rattle.slot_tables.specs.Claims.{how_many, claims_in, AreWanted, IsClaimed, IsLowestUnclaimed, kept_for, wanted_at};
 
 use crate::hold::Hold;
-use crate::place::{Place, put_in};
+use crate::slot_state::{SlotState, put_in};
 use crate::tables::SLOTS;
 use map_join::Record;
 use std::alloc::{AllocError, Global};
@@ -70,7 +70,7 @@ pub(crate) fn first_unclaimed<C: Hold>(
 }
 
 // Takes a claim into the place that wants it, or returns it.
-fn seat<C: Hold>(wanted: &mut Vec<Option<u32>>, places: &mut Vec<Place<C>>, claim: C) -> Option<C>
+fn seat<C: Hold>(wanted: &mut Vec<Option<u32>>, places: &mut Vec<SlotState<C>>, claim: C) -> Option<C>
     requires many { vec_len wanted.old ≡ 65536 }
     requires inside { (b : ℕ) → wanted_at wanted.old.items (C.names claim) ≡ Some b → C.names claim < vec_len places.old }
     requires claims { AreOf C.names places.old.items }
@@ -90,7 +90,7 @@ fn seat<C: Hold>(wanted: &mut Vec<Option<u32>>, places: &mut Vec<Place<C>>, clai
         None => Some(claim),
         Some(block) => {
             wanted[usize::from(slot)] = None;
-            put_in(places, slot, Place::Newest(block, claim));
+            put_in(places, slot, SlotState::Newest(block, claim));
             None
         }
     }
@@ -100,7 +100,7 @@ fn seat<C: Hold>(wanted: &mut Vec<Option<u32>>, places: &mut Vec<Place<C>>, clai
 pub fn seat_all<C: Hold>(
     mut wanted: Vec<Option<u32>>,
     mut claims: Vec<C>,
-    places: &mut Vec<Place<C>>,
+    places: &mut Vec<SlotState<C>>,
     others: &mut Vec<C>,
 )
     requires many { vec_len wanted ≡ 65536 }
@@ -127,21 +127,21 @@ pub fn seat_all<C: Hold>(
 }
 
 // The claim of a place, if it has one.
-fn unseated<C: Hold>(place: Place<C>) -> Option<C>
+fn unseated<C: Hold>(place: SlotState<C>) -> Option<C>
     ensures { (slot : ℕ) → IsOf C.names slot place
         → MatchOption result (claims_in (kept_of place) ≡ 0) (λ claim. (C.names claim ≡ slot) × (claims_in (kept_of place) ≡ 1)) }
 {
     match place {
-        Place::Free => None,
-        Place::Pending(_, claim) => Some(claim),
-        Place::Moving(_, _, claim) => Some(claim),
-        Place::Newest(_, claim) => Some(claim),
-        Place::Unmade(claim) => Some(claim),
+        SlotState::Free => None,
+        SlotState::Pending(_, claim) => Some(claim),
+        SlotState::Moving(_, _, claim) => Some(claim),
+        SlotState::Newest(_, claim) => Some(claim),
+        SlotState::Unmade(claim) => Some(claim),
     }
 }
 
 // Takes the claims out of all places, from the last slot to the first.
-pub fn unseat_all<C: Hold>(mut places: Vec<Place<C>>, claims: &mut Vec<C>)
+pub fn unseat_all<C: Hold>(mut places: Vec<SlotState<C>>, claims: &mut Vec<C>)
     requires of { AreOf C.names places.items }
     requires none { vec_len claims.old ≡ 0 }
     requires room { vec_len places ≤ vec_capacity claims.old }

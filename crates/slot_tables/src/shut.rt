@@ -8,11 +8,11 @@ ghost use Rattle.slot_tables.specs.Kept.{kepts_of, AreOf};
 ghost use Rattle.slot_tables.specs.Shut.{one_of, shut_of, closed_of};
 
 use crate::hold::Hold;
-use crate::place::{Place, place_at, put_in, take_out};
+use crate::slot_state::{SlotState, state_at, put_in, take_out};
 use extent_groups::SLOTS;
 
 // The claim that is kept of a slot for a dissolved group, if there is one.
-fn open_slot<C: Hold>(places: &mut Vec<Place<C>>, slot: u16) -> Option<C>
+fn open_slot<C: Hold>(places: &mut Vec<SlotState<C>>, slot: u16) -> Option<C>
     requires claims { AreOf C.names places.old.items }
     ensures opened { kepts_of places.new.items
         ≡ slice_set (kepts_of places.old.items) slot (opened_of (slice_index_or (kepts_of places.old.items) slot Nothing)) }
@@ -21,25 +21,25 @@ fn open_slot<C: Hold>(places: &mut Vec<Place<C>>, slot: u16) -> Option<C>
     ensures claims { AreOf C.names places.new.items }
     ensures room { vec_len places.new ≡ vec_len places.old }
 {
-    match place_at(places, slot) {
-        Some(Place::Unmade(_)) => {}
-        Some(Place::Free) => return None,
-        Some(Place::Pending(_, _)) => return None,
-        Some(Place::Moving(_, _, _)) => return None,
-        Some(Place::Newest(_, _)) => return None,
+    match state_at(places, slot) {
+        Some(SlotState::Unmade(_)) => {}
+        Some(SlotState::Free) => return None,
+        Some(SlotState::Pending(_, _)) => return None,
+        Some(SlotState::Moving(_, _, _)) => return None,
+        Some(SlotState::Newest(_, _)) => return None,
         None => return None,
     }
     match take_out(places, slot) {
-        Place::Unmade(claim) => Some(claim),
-        Place::Free => unreachable!(),
-        Place::Pending(_, _claim) => unreachable!(),
-        Place::Moving(_, _, _claim) => unreachable!(),
-        Place::Newest(_, _claim) => unreachable!(),
+        SlotState::Unmade(claim) => Some(claim),
+        SlotState::Free => unreachable!(),
+        SlotState::Pending(_, _claim) => unreachable!(),
+        SlotState::Moving(_, _, _claim) => unreachable!(),
+        SlotState::Newest(_, _claim) => unreachable!(),
     }
 }
 
 // Takes out the claims that are kept of a group's number, by rising slots.
-pub fn open_number<C: Hold>(places: &mut Vec<Place<C>>, group: u16, claims: &mut Vec<C>)
+pub fn open_number<C: Hold>(places: &mut Vec<SlotState<C>>, group: u16, claims: &mut Vec<C>)
     requires group { group < 512 }
     requires most { vec_len places.old ≤ 65536 }
     requires of { AreOf C.names places.old.items }
@@ -58,7 +58,7 @@ pub fn open_number<C: Hold>(places: &mut Vec<Place<C>>, group: u16, claims: &mut
 }
 
 // Takes claims of free slots into their places.
-pub fn close_all<C: Hold>(places: &mut Vec<Place<C>>, mut claims: Vec<C>)
+pub fn close_all<C: Hold>(places: &mut Vec<SlotState<C>>, mut claims: Vec<C>)
     requires inside { (slot : ℕ) → 0 < how_many C.names claims.items slot → slot < vec_len places.old }
     requires of { AreOf C.names places.old.items }
     requires once { (slot : ℕ) → how_many C.names claims.items slot ≤ 1 }
@@ -70,7 +70,7 @@ pub fn close_all<C: Hold>(places: &mut Vec<Place<C>>, mut claims: Vec<C>)
 {
     while let Some(claim) = claims.pop() {
         let slot = claim.slot();
-        put_in(places, slot, Place::Unmade(claim));
+        put_in(places, slot, SlotState::Unmade(claim));
     }
     claims.destroy_empty();
 }

@@ -3,7 +3,7 @@ ghost use Rattle.std.specs.Prelude.{◌≡◌, ℕ, ◌≤◌, length, slice_ind
 ghost use Rattle.slot_tables.specs.New.{AreNew};
 
 use crate::hold::Hold;
-use crate::place::Place;
+use crate::slot_state::SlotState;
 use extent_groups::GroupTable;
 use extents::{ExtentTable, Shape};
 use std::alloc::{AllocError, Global};
@@ -17,7 +17,7 @@ pub struct Tables<C: Hold> {
     pub groups: GroupTable,
     pub extents: ExtentTable,
     pub keys: Vec<u64>,
-    pub places: Vec<Place<C>>,
+    pub places: Vec<SlotState<C>>,
     pub unit: Vec<u8>,
     pub scratch: Vec<u8>,
 }
@@ -50,13 +50,13 @@ fn zeros(alloc: Global, count: u32) -> Result<Vec<u64>, AllocError>
     vec![in alloc; 0u64; count as usize]
 }
 
-pub(crate) fn free_places<C: Hold>(alloc: Global, count: usize) -> Result<Vec<Place<C>>, AllocError>
+pub(crate) fn free_places<C: Hold>(alloc: Global, count: usize) -> Result<Vec<SlotState<C>>, AllocError>
     ensures len { IfOk result (λ places. length places.items ≡ count) }
-    ensures free { IfOk result (λ places. (s : ℕ) → slice_index_or places.items s Place.Free ≡ Place.Free) }
+    ensures free { IfOk result (λ places. (s : ℕ) → slice_index_or places.items s SlotState.Free ≡ SlotState.Free) }
 {
     let mut places = Vec::with_capacity(alloc, count)?;
     for _made in 0..count {
-        places.push_reserved(Place::Free);
+        places.push_reserved(SlotState::Free);
     }
     Ok(places)
 }

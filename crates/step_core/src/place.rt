@@ -1,14 +1,14 @@
 // A block goes into a slot that nobody holds.
 ghost use Rattle.std.specs.Prelude.{◌≡◌, ℕ, ◌<◌, IfOk, IfErr, MatchResult, Option, true};
 ghost use Rattle.map_join.specs.declared.records.Record.{Record};
-ghost use Rattle.flat_machine.specs.Cases.{Case, DiscardCase, FillCase};
+ghost use Rattle.flat_machine.specs.Cases.{Case, DiscardCase};
 ghost use Rattle.flat_machine.specs.Flat.{Flat, Ticket as ticket_of, Worker};
 ghost use Rattle.flat_machine.specs.Steps as say;
 ghost use Rattle.slot_tables.specs.Changes.{IsPlaceOf, MayRefuse};
 ghost use Rattle.slot_tables.specs.Represents.{Represents, ShowsArray};
 ghost use Rattle.slot_tables.specs.Views.{SameSizes};
 ghost use Rattle.disk_array.specs.Refused.{IsRefused};
-ghost use Rattle.step_core.specs.Placing.{IsGivenFor, IsSizedFor, Places, content_of, place_of, put_answer, put_of, put_step};
+ghost use Rattle.step_core.specs.Placing.{IsSizedFor, Places, place_of, put_answer, put_of, put_step};
 
 use crate::world::World;
 use disk_array::{Array, Done, Ticket};
@@ -96,41 +96,16 @@ fn put_in(
         ((G : Flat) × Case F (put_step (put_of given.entry) w slot block) (say.Refused refusal) G × ShowsArray array.new G)) }
     ensures room { SameSizes array.old array.new }
 {
-    match given {
-        Some(given) => fill_in(array, alloc, slot, given),
-        None => match array.copy(alloc, Plain { slot }, block) {
-            Ok(ticket) => Ok(ticket),
-            Err((refusal, _claim)) => Err(refusal),
+    let filled = match given {
+        Some(given) => match given {
+            Given::Payload(payload) => array.fill(alloc, Plain { slot }, payload),
+            Given::Trim => array.trim(alloc, Plain { slot }),
         },
-    }
-}
-
-// Fills the slot with what is given.
-fn fill_in(
-    array: &mut Array<MemDrive, Plain>,
-    alloc: Global,
-    slot: u16,
-    given: Given,
-) -> Result<Ticket, Refusal>
-    requires { IsGivenFor array.old.parts.groups.payload given }
-    ensures ticket { IfOk result (λ ticket. ticket ≡ slot) }
-    ensures err { IfErr result (λ refusal. IsRefused array.old array.new refusal) }
-    ensures flat { (F : Flat) (w : ℕ) → ShowsArray array.old F → F.held slot (Worker w) ≡ true
-        → MatchResult result
-        (λ ticket. (G : Flat) × FillCase F w slot (content_of given.entry) (say.Filled slot) G × ShowsArray array.new G)
-        (λ refusal. MayRefuse refusal (Unit {0})
-        ((G : Flat) × FillCase F w slot (content_of given.entry) (say.Refused refusal) G × ShowsArray array.new G)) }
-    ensures room { SameSizes array.old array.new }
-{
-    match given {
-        Given::Payload(payload) => match array.fill(alloc, Plain { slot }, payload) {
-            Ok(ticket) => Ok(ticket),
-            Err((refusal, _claim)) => Err(refusal),
-        },
-        Given::Trim => match array.trim(alloc, Plain { slot }) {
-            Ok(ticket) => Ok(ticket),
-            Err((refusal, _claim)) => Err(refusal),
-        },
+        None => array.copy(alloc, Plain { slot }, block),
+    };
+    match filled {
+        Ok(ticket) => Ok(ticket),
+        Err((refusal, _claim)) => Err(refusal),
     }
 }
 

@@ -6,5 +6,5 @@ use Rattle.script_exec.proofs.carry.trim.Goals as goal
 
 pub returns-clause-carried : goal.returns-clause-carried
 returns-clause-carried c =
-    told_tier c.put_outcome.result c.args.bench.now c.trim.new.self (o.Trim c.args.worker c.args.block) (tier.Write c.args.worker c.args.block Trim) c.in_ok-outcome.outcome _ _ c.put_outcome.ensures.told
+    told_tier c.put_outcome.result c.args.bench.now c.write.new.self (o.Trim c.args.worker c.args.block) (tier.Write c.args.worker c.args.block Trim) c.in_ok-outcome.outcome _ _ c.put_outcome.ensures.told
     c.in_ok-outcome.ensures.ok (λ P text t steps. steps)

@@ -1,5 +1,5 @@
 use Rattle.std.proofs.Common.{rules, ◌≡◌, ℕ, zero, suc, List, [], ◌∷◌, ◌++◌, get_or, refl, ap, ◌∙◌}
-use Rattle.slot_tables.specs.declared.place.Place.TheVariants.{Free}
+use Rattle.slot_tables.specs.declared.slot_state.SlotState.TheVariants.{Free}
 use Rattle.slot_tables.proofs.tables.free_places.Goals as goal
 
 -- a list of one value throughout, with that value appended

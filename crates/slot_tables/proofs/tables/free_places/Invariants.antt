@@ -1,5 +1,5 @@
 use Rattle.std.proofs.Common.{◌≡◌, ℕ, ◌≤◌, vec_len, vec_capacity, get_or}
-use Rattle.slot_tables.specs.declared.place.Place.TheVariants.{Free}
+use Rattle.slot_tables.specs.declared.slot_state.SlotState.TheVariants.{Free}
 use Rattle.slot_tables.proofs.tables.free_places.Given as goal
 
 abbrev pub invariant-loop-made : goal.invariant-loop-made

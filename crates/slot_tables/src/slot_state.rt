@@ -15,7 +15,7 @@ use std::mem;
 /// What an array keeps of a slot: nothing; the claim of a slot that waits to be committed, with fresh content of a kind or
 /// with a copy of a record of a kind; the claim of a block's newest place; or that of a slot of a dissolved group.
 #[derive(Drop)]
-pub enum Place<C: Hold> {
+pub enum SlotState<C: Hold> {
     Free,
     Pending(Kind, C),
     Moving(Record, Kind, C),
@@ -23,9 +23,9 @@ pub enum Place<C: Hold> {
     Unmade(C),
 }
 
-// The place of a slot; past the table's end there is none, and nothing is kept.
+// The state of a slot; past the table's end there is none, and nothing is kept of the slot.
 #[tactic(auto, using(crate::proofs::Places::kept_there, crate::proofs::Places::kept_past))]
-pub fn place_at<C: Hold>(places: &[Place<C>], slot: u16) -> Option<&Place<C>>
+pub fn state_at<C: Hold>(places: &[SlotState<C>], slot: u16) -> Option<&SlotState<C>>
     ensures { MatchOption result (slice_index_or (kepts_of places.now) slot Nothing ≡ Nothing)
         (λ place. slice_index_or (kepts_of places.now) slot Nothing ≡ kept_of place.now) }
 {
@@ -39,7 +39,7 @@ pub fn place_at<C: Hold>(places: &[Place<C>], slot: u16) -> Option<&Place<C>>
 
 // What is kept of a slot, which is free then.
 #[tactic(auto, using(crate::proofs::Places::kepts_set, crate::proofs::Places::kept_there, crate::proofs::Places::kept_past, crate::proofs::Places::kepts_past))]
-pub fn take_out<C: Hold>(places: &mut Vec<Place<C>>, slot: u16) -> Place<C>
+pub fn take_out<C: Hold>(places: &mut Vec<SlotState<C>>, slot: u16) -> SlotState<C>
     requires claims { AreOf C.names places.old.items }
     ensures taken { kept_of result ≡ slice_index_or (kepts_of places.old.items) slot Nothing }
     ensures of { IsOf C.names slot result }
@@ -48,14 +48,14 @@ pub fn take_out<C: Hold>(places: &mut Vec<Place<C>>, slot: u16) -> Place<C>
     ensures room { vec_len places.new ≡ vec_len places.old }
 {
     if usize::from(slot) >= places.len() {
-        return Place::Free;
+        return SlotState::Free;
     }
-    mem::replace(&mut places[usize::from(slot)], Place::Free)
+    mem::replace(&mut places[usize::from(slot)], SlotState::Free)
 }
 
 // Keeps something of a slot of which nothing is kept.
 #[tactic(auto, using(crate::proofs::Places::kepts_set, crate::proofs::Places::free_there))]
-pub fn put_in<C: Hold>(places: &mut Vec<Place<C>>, slot: u16, place: Place<C>)
+pub fn put_in<C: Hold>(places: &mut Vec<SlotState<C>>, slot: u16, place: SlotState<C>)
     requires inside { slot < vec_len places.old }
     requires free { slice_index_or (kepts_of places.old.items) slot Nothing ≡ Nothing }
     requires of { IsOf C.names slot place }
@@ -68,20 +68,20 @@ pub fn put_in<C: Hold>(places: &mut Vec<Place<C>>, slot: u16, place: Place<C>)
 }
 
 // Ends a place that holds nothing.
-fn spent<C: Hold>(place: Place<C>)
+fn spent<C: Hold>(place: SlotState<C>)
     requires { kept_of place ≡ Nothing }
 {
     match place {
-        Place::Free => {}
-        Place::Pending(_, _claim) => unreachable!(),
-        Place::Moving(_, _, _claim) => unreachable!(),
-        Place::Newest(_, _claim) => unreachable!(),
-        Place::Unmade(_claim) => unreachable!(),
+        SlotState::Free => {}
+        SlotState::Pending(_, _claim) => unreachable!(),
+        SlotState::Moving(_, _, _claim) => unreachable!(),
+        SlotState::Newest(_, _claim) => unreachable!(),
+        SlotState::Unmade(_claim) => unreachable!(),
     }
 }
 
 // The claim of a slot that waits, of which nothing is kept then.
-pub fn take_waiting<C: Hold>(places: &mut Vec<Place<C>>, slot: u16) -> C
+pub fn take_waiting<C: Hold>(places: &mut Vec<SlotState<C>>, slot: u16) -> C
     requires waits { is_waiting (slice_index_or (kepts_of places.old.items) slot Nothing) ≡ true }
     requires claims { AreOf C.names places.old.items }
     ensures of { C.names result ≡ slot }
@@ -90,18 +90,18 @@ pub fn take_waiting<C: Hold>(places: &mut Vec<Place<C>>, slot: u16) -> C
     ensures room { vec_len places.new ≡ vec_len places.old }
 {
     match take_out(places, slot) {
-        Place::Pending(_, claim) => claim,
-        Place::Moving(_, _, claim) => claim,
-        Place::Free => unreachable!(),
-        Place::Newest(_, _claim) => unreachable!(),
-        Place::Unmade(_claim) => unreachable!(),
+        SlotState::Pending(_, claim) => claim,
+        SlotState::Moving(_, _, claim) => claim,
+        SlotState::Free => unreachable!(),
+        SlotState::Newest(_, _claim) => unreachable!(),
+        SlotState::Unmade(_claim) => unreachable!(),
     }
 }
 
 // Makes places for the slots of all groups up to this one. If an allocation fails, the places that there were stay. Room is
 // made for twice as many as there are, but for no more than there are slots. So growing group by group copies each place a
 // constant number of times on average.
-pub fn grow_to<C: Hold>(places: &mut Vec<Place<C>>, group: u16) -> Result<(), AllocError>
+pub fn grow_to<C: Hold>(places: &mut Vec<SlotState<C>>, group: u16) -> Result<(), AllocError>
     requires group { group < 512 }
     requires most { vec_len places.old ≤ 65536 }
     requires claims { AreOf C.names places.old.items }
@@ -118,7 +118,7 @@ pub fn grow_to<C: Hold>(places: &mut Vec<Place<C>>, group: u16) -> Result<(), Al
         places.reserve_exact(room_for(count, places.len()).saturating_sub(places.len()))?;
     }
     for _made in places.len()..count {
-        places.push_reserved(Place::Free);
+        places.push_reserved(SlotState::Free);
     }
     Ok(())
 }

@@ -1,6 +1,6 @@
 use Rattle.std.proofs.Common.{◌≡◌, ◌+◌, ◌*◌, ◌≤◌, vec_len, vec_capacity}
 use Rattle.slot_tables.specs.Kept.{kepts_of, AreOf}
-use Rattle.slot_tables.proofs.place.grow_to.Given as goal
+use Rattle.slot_tables.proofs.slot_state.grow_to.Given as goal
 
 abbrev pub invariant-loop-made : goal.invariant-loop-made
 invariant-loop-made g l = record {

@@ -1,5 +1,5 @@
 use Rattle.background.proofs.Standing.{writes_here, stops_here, writes_behind, stops_behind}
-use Rattle.background.proofs.tiers.Tiers.bring.Goals as goal
+use Rattle.background.proofs.tiers.Tiers.write.Goals as goal
 use Rattle.background.specs.Placing.{content_of}
 
 pub returns-in-Some-clause-ok : goal.returns-in-Some-clause-ok

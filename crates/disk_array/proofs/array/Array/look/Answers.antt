@@ -1,6 +1,6 @@
 use Rattle.array_parts.specs.Views.{view_of}
 use Rattle.disk_array.proofs.Ready.{either_way, Keeps, still_stands, loses_keeps, gone_keeps}
-use Rattle.disk_array.proofs.array.Array.sight.Goals as goal
+use Rattle.disk_array.proofs.array.Array.look.Goals as goal
 
 pub invariant_of-self : goal.invariant_of-self
 invariant_of-self g c =

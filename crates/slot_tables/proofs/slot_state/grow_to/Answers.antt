@@ -1,6 +1,6 @@
 use Rattle.std.proofs.Common.{◌<◌, length, ◌∙◌, arith, rules}
 use Rattle.slot_tables.proofs.Places.{claims_push, kepts_push}
-use Rattle.slot_tables.proofs.place.grow_to.Goals as goal
+use Rattle.slot_tables.proofs.slot_state.grow_to.Goals as goal
 
 pub loop-made-preserved : goal.loop-made-preserved
 loop-made-preserved g c =
