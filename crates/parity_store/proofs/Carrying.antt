@@ -19,8 +19,10 @@ use Rattle.extent_groups.proofs.Listing.{refused_fades, held_some, stripe_list, 
 use Rattle.parity_store.specs.declared.way.Way.{Way}
 use Rattle.parity_store.specs.declared.way.Way.TheVariants.{Both, Alone, Parity, Missed}
 use Rattle.parity_store.specs.Ways.{Differs, IsDifference, ParityWritten}
-use Rattle.parity_store.specs.Drafts.{IsDraft, writes_by, parity_by, IsCarried, WroteByDraft}
-use Rattle.parity_store.proofs.Stripes.{IsHome, drives_differ, not_own, stays_gone, differs_row, parity_row}
+use Rattle.parity_store.specs.declared.target.Target.{Target}
+use Rattle.parity_store.specs.Drafts.{IsDraft, writes_by, parity_by, IsCarried, WroteByDraft, Tried, Ends}
+use Rattle.parity_store.specs.Targets.{IsHome}
+use Rattle.parity_store.proofs.Stripes.{drives_differ, not_own, stays_gone, differs_row, parity_row}
 use Rattle.parity_store.proofs.Planning.{for_place, planned_both, planned_alone, planned_parity}
 
 -- what fades has the size that it had
@@ -28,7 +30,7 @@ pub faded_sizes : (n : ℕ) (c new : Cells) → ((x : Place) → FadesAt c new x
 faded_sizes n c new fades sized x u e = elim (fades x) [ inl same ↦ sized x u (sym same ∙ e) | inr gone ↦ absurd (none-some u (sym gone ∙ e)) ]
 
 -- what is lost stays lost
-pub fades_lost : (n : ℕ) (c new : Cells) (p : Place) → FadesAt c new p → held c p ≡ None → held new p ≡ None
+fades_lost : (n : ℕ) (c new : Cells) (p : Place) → FadesAt c new p → held c p ≡ None → held new p ≡ None
 fades_lost n c new p fades gone = stays_gone (held c p) (held new p) fades gone
 
 -- a parity that was written by difference, or is lost
@@ -36,13 +38,6 @@ written_or_lost : (c new : Cells) (home parity : Place) (d q u s : List ℕ) (ok
     → (held new parity ≡ None) ⊎ IsDifference c new home parity u
 written_or_lost c new home parity d q u s true hd hq e here = inr (d, q, hd, hq, here ∙ ap (λ t. Some t) e)
 written_or_lost c new home parity d q u s false hd hq e here = inl here
-
--- how a write of a member of a row ends
-abbrev pub Ends : Cells → Cells → List Place → ℕ → ℕ → List ℕ → Bool → Type 0
-Ends c new row p i u ok =
-    (unit_at (length u) new (InStripe row p i) ≡ if_ok ok u)
-    × (IsSoundAt (length u) c (InStripe row p i) → LeavesSites (length u) c new (InStripe row p i))
-    × MatchBool ok (WroteByDraft (length u) c new row p i u) ((x : Place) → FadesAt c new x)
 
 module _ (row : List Place) (p i : ℕ) (home parity : Place) (u s : List ℕ) (h : IsHome row p i home parity) where
   apart : home ≡ parity → ⊥
@@ -128,7 +123,7 @@ module _ (row : List Place) (p i : ℕ) (home parity : Place) (u s : List ℕ) (
   }
 
   -- a way whose first write was refused: nothing was written
-  pub way_fades : (c new : Cells) (way : Way) → IsCarried c new home parity u s way false → (x : Place) → FadesAt c new x
+  way_fades : (c new : Cells) (way : Way) → IsCarried c new home parity u s way false → (x : Place) → FadesAt c new x
   way_fades c new Both did = refused_fades c new home u did
   way_fades c new Alone did = refused_fades c new home u did
   way_fades c new Parity did = refused_fades c new parity s did
@@ -147,19 +142,22 @@ module _ (row : List Place) (p i : ℕ) (home parity : Place) (u s : List ℕ) (
   way_none c new Missed ne draft did = ap (λ (d : Cells). unit_at (length u) d (InStripe row p i)) did.1 ∙ draft
 
   -- a draft without the unit's drive isn't by difference
-  pub lost_not_both : (c : Cells) (way : Way) → held c home ≡ None → IsDraft (length u) c row p i home parity u s way → way ≢ Both
+  lost_not_both : (c : Cells) (way : Way) → held c home ≡ None → IsDraft (length u) c row p i home parity u s way → way ≢ Both
   lost_not_both c way lost draft e =
       let both = subst (λ w. IsDraft (length u) c row p i home parity u s w) e draft in none-some both.0 (sym lost ∙ both.2)
 
   -- whatever comes of a way's writes, but of one by difference whose unit's drive was lost in its write
-  pub way_end : (c mid new : Cells) (way : Way) (ok : Bool) → AreSizedCells (length u) c → length s ≡ length u → ((x : Place) → FadesAt c mid x)
+  way_end : (c mid new : Cells) (way : Way) (ok : Bool) → AreSizedCells (length u) c → length s ≡ length u → ((x : Place) → FadesAt c mid x)
       → IsDraft (length u) mid row p i home parity u s way → IsCarried mid new home parity u s way ok → (ok ≡ false → way ≢ Both)
       → Ends c new row p i u ok
-  way_end c mid new way true sized long fades draft did ne =
-      (way_unit c mid new way sized fades draft did, way_leaves c mid new way sized fades draft did, way_drafted c mid new way long fades draft did)
+  way_end c mid new way true sized long fades draft did ne = record {
+    unit_is = way_unit c mid new way sized fades draft did;
+    leaves = way_leaves c mid new way sized fades draft did;
+    drafted = way_drafted c mid new way long fades draft did;
+  }
   way_end c mid new way false sized long fades draft did ne =
       let all : (x : Place) → FadesAt c new x = λ x. fades_trans (held c x) (held mid x) (held new x) (fades x) (way_fades mid new way did x) in
-      (way_none mid new way (ne refl) draft did, (λ sound. fades_leave (length u) c new (InStripe row p i) sized h.whole sound all), all)
+      record { unit_is = way_none mid new way (ne refl) draft did; leaves = λ sound. fades_leave (length u) c new (InStripe row p i) sized h.whole sound all; drafted = all }
 
   -- the list is the slot's plan
   module _ (groups : Groups) (c : Cells) (slot : ℕ) (layout : IsLayout groups) (at : site_of groups slot ≡ Some (InStripe row p i))
@@ -207,6 +205,25 @@ module _ (row : List Place) (p i : ℕ) (home parity : Place) (u s : List ℕ) (
         some_over None some = absurd (some refl)
         some_over (Some q) some = refl
     way_parity Missed found draft = absurd (found refl)
+
+module _ (row : List Place) (target : Target) (u : List ℕ) (h : IsHome row target.at.parity target.at.member target.home target.parity) where
+  -- a write that was tried, after some drives were lost, but one by difference whose unit's drive was lost in its write
+  tried_end : (c was new : Cells) (way : Way) (ok : Bool) → AreSizedCells (length u) c → ((x : Place) → FadesAt c was x) → Tried was new row target u way ok → (ok ≡ false → way ≢ Both)
+      → Ends c new row target.at.parity target.at.member u ok
+  tried_end c was new way ok sized fades t ne =
+      way_end row target.at.parity target.at.member target.home target.parity u t.sum h c t.mid new way ok sized t.sized (λ x. fades_trans (held c x) (held was x) (held t.mid x) (fades x) (t.read x)) t.draft t.carried ne
+
+  pub once_end : (c new : Cells) (way : Way) (ok : Bool) → AreSizedCells (length u) c → Tried c new row target u way ok → (ok ≡ false → way ≢ Both)
+      → Ends c new row target.at.parity target.at.member u ok
+  once_end c new way ok sized t ne = tried_end c c new way ok sized (λ x. inl refl) t ne
+
+  -- that one is tried again without the drive, and nothing was written before
+  pub again_end : (c mid new : Cells) (way : Way) (ok : Bool) → AreSizedCells (length u) c → Tried c mid row target u Both false → Tried mid new row target u way ok
+      → Ends c new row target.at.parity target.at.member u ok
+  again_end c mid new way ok sized one two =
+      tried_end c mid new way ok sized
+      (λ x. fades_trans (held c x) (held one.mid x) (held mid x) (one.read x) (way_fades row target.at.parity target.at.member target.home target.parity u one.sum h one.mid mid Both one.carried x)) two
+      (λ e. lost_not_both row target.at.parity target.at.member target.home target.parity u two.sum h two.mid way (fades_lost (length u) mid two.mid target.home (two.read target.home) one.carried.here) two.draft)
 
 pub on_true : (A B : Type 0) (b : Bool) → MatchBool b A B → b ≡ true → A
 on_true A B true a e = a

@@ -48,3 +48,21 @@ mixed_all zero (x ∷ old) from e same = absurd (omega arith)
 mixed_all (suc i) [] from e same = absurd (omega arith)
 mixed_all (suc i) (x ∷ old) [] e same = absurd (omega arith)
 mixed_all (suc i) (x ∷ old) (y ∷ from) e same = ap (λ t. bit_xor x y ∷ t) (mixed_all i old from (omega arith) (omega arith))
+
+-- a vector of two runs' exclusive or
+front_plus : (n : ℕ) (u v : List ℕ) → length u ≡ length v → zip2 bit_xor (take n u) (take n v) ≡ take n (plus u v)
+front_plus zero [] [] same = refl
+front_plus zero [] (y ∷ v) same = absurd (omega arith)
+front_plus zero (x ∷ u) [] same = absurd (omega arith)
+front_plus zero (x ∷ u) (y ∷ v) same = refl
+front_plus (suc n) [] [] same = refl
+front_plus (suc n) [] (y ∷ v) same = absurd (omega arith)
+front_plus (suc n) (x ∷ u) [] same = absurd (omega arith)
+front_plus (suc n) (x ∷ u) (y ∷ v) same = ap (λ t. bit_xor x y ∷ t) (front_plus n u v (omega arith))
+
+pub chunk_plus : (i n : ℕ) (u v : List ℕ) → length u ≡ length v → zip2 bit_xor (chunk i n u) (chunk i n v) ≡ chunk i n (plus u v)
+chunk_plus zero n u v same = front_plus n u v same
+chunk_plus (suc i) n [] [] same = front_plus n [] [] refl
+chunk_plus (suc i) n [] (y ∷ v) same = absurd (omega arith)
+chunk_plus (suc i) n (x ∷ u) [] same = absurd (omega arith)
+chunk_plus (suc i) n (x ∷ u) (y ∷ v) same = chunk_plus i n u v (omega arith)

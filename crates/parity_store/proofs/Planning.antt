@@ -11,7 +11,8 @@ use Rattle.extent_groups.specs.Planned.{Wanted, over, with_unit, after, IsPlanne
 use Rattle.extent_groups.proofs.SlotWrites.{AreSizedCells}
 use Rattle.extent_groups.proofs.Finishing.{write_here, write_else, among_one, among_two, wanted_of, wanted_here, wanted_else, planned_site}
 use Rattle.parity_store.specs.Ways.{bare, Differs, ParityWritten}
-use Rattle.parity_store.proofs.Stripes.{IsHome, drives_differ, differs_row, differs_leaves, parity_row, parity_leaves}
+use Rattle.parity_store.specs.Targets.{IsHome}
+use Rattle.parity_store.proofs.Stripes.{drives_differ, differs_row, differs_leaves, parity_row, parity_leaves}
 
 abbrev pub for_place : Place → List ℕ → Wanted
 for_place place unit = record { place = place; unit = unit }

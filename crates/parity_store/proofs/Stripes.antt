@@ -14,14 +14,9 @@ use Rattle.extent_groups.proofs.Totals.{total_same, total_sized, put_sized, put_
 use Rattle.extent_groups.proofs.Fading.{fades_trans, row_fades, row_sized}
 use Rattle.extent_groups.proofs.RowWrites.{WritesRow, writes_faded, by_difference, data_alone, parity_alone, both_missing}
 use Rattle.extent_groups.proofs.SlotWrites.{AreSizedCells, stripe_leaves}
+use Rattle.parity_store.specs.Targets.{IsHome}
 use Rattle.parity_store.specs.Ways.{bare, Added, Missed, Differs, ParityWritten}
 use Rattle.parity_store.proofs.Sums.{row_same, sum_of_others}
-
--- a row with its unit's place and its parity's
-pub record IsHome (row : List Place) (p i : ℕ) (home parity : Place) : Type 0 where
-  pub whole : IsWhole (InStripe row p i)
-  pub home_is : slice_get row i ≡ Some home
-  pub parity_is : slice_get row p ≡ Some parity
 
 pub drives_differ : (row : List Place) (p i : ℕ) (home parity : Place) → IsHome row p i home parity → home.drive ≢ parity.drive
 drives_differ row p i home parity h e = h.whole.2 (h.whole.3 i p home parity h.home_is h.parity_is e)

@@ -15,7 +15,7 @@ use Rattle.parity_store.specs.declared.way.Way.TheVariants.{Both, Alone, Parity,
 use Rattle.parity_store.specs.Ways.{bare}
 use Rattle.parity_store.specs.Drafts.{IsDraft}
 use Rattle.parity_store.proofs.Sums.{bare_other}
-use Rattle.parity_store.proofs.Stripes.{IsHome}
+use Rattle.parity_store.specs.Targets.{IsHome}
 
 module _ {D : Type 0} (units : D → List (List ℕ)) (lost : D → Bool) (ds : List D) (n : ℕ) (row : List Place) (p i : ℕ) (home parity : Place) (u s : List ℕ) (h : IsHome row p i home parity) where
   abbrev all : Cells

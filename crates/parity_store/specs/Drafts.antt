@@ -1,11 +1,14 @@
 -- What was read before a member of a row is written: with that any of the three ways can be listed before the first write.
+use Rattle.std.specs.Bool.{MatchBool}
 use Rattle.std.specs.Prelude.{◌≡◌, ◌≢◌, ℕ, Bool, true, false, Option, Some, None, List, [], ◌∷◌, length, slice_get}
 use Rattle.extent_groups.specs.declared.place.Place.{Place}
 use Rattle.extent_groups.specs.Cells.{Cells, held}
-use Rattle.extent_groups.specs.Units.{InStripe, plus, total, row_of, unit_at}
-use Rattle.extent_groups.specs.Calls.{FadesAt, DidWrite}
+use Rattle.extent_groups.specs.Units.{InStripe, plus, total, row_of, unit_at, IsSoundAt}
+use Rattle.extent_groups.specs.Calls.{FadesAt, DidWrite, if_ok}
+use Rattle.extent_groups.specs.Stores.{LeavesSites}
 use Rattle.extent_groups.specs.Planned.{Wanted, after}
 use Rattle.parity_store.specs.Ways.{bare}
+use Rattle.parity_store.specs.declared.target.Target.{Target}
 use Rattle.parity_store.specs.declared.way.Way.{Way}
 use Rattle.parity_store.specs.declared.way.Way.TheVariants.{Both, Alone, Parity, Missed}
 
@@ -58,3 +61,18 @@ pub record WroteByDraft (n : ℕ) (c new : Cells) (row : List Place) (p i : ℕ)
   pub read : (x : Place) → FadesAt c mid x
   pub draft : IsDraft n mid row p i home parity unit sum way
   pub written : (x : Place) → FadesAt (after mid (writes_by home parity unit sum way)) new x
+
+-- a unit was drafted from what the drives held after reads, and its way's writes were made, or the first of them was refused
+pub record Tried (c new : Cells) (row : List Place) (target : Target) (unit : List ℕ) (way : Way) (ok : Bool) : Type 0 where
+  pub mid : Cells
+  pub sum : List ℕ
+  pub sized : length sum ≡ length unit
+  pub read : (x : Place) → FadesAt c mid x
+  pub draft : IsDraft (length unit) mid row target.at.parity target.at.member target.home target.parity unit sum way
+  pub carried : IsCarried mid new target.home target.parity unit sum way ok
+
+-- how a write of a member of a row ends
+pub record Ends (c new : Cells) (row : List Place) (p i : ℕ) (unit : List ℕ) (ok : Bool) : Type 0 where
+  pub unit_is : unit_at (length unit) new (InStripe row p i) ≡ if_ok ok unit
+  pub leaves : IsSoundAt (length unit) c (InStripe row p i) → LeavesSites (length unit) c new (InStripe row p i)
+  pub drafted : MatchBool ok (WroteByDraft (length unit) c new row p i unit) ((x : Place) → FadesAt c new x)

@@ -1,20 +1,20 @@
 // A write of a member of a stripe: drafted by reads, then carried out.
-ghost use Rattle.std.specs.Prelude.{◌≡◌, ◌≢◌, true, false, length};
-ghost use Rattle.std.specs.Bool.{MatchBool};
-ghost use Rattle.extent_groups.specs.declared.place.Place.{Place};
-ghost use Rattle.extent_groups.specs.Cells.{cells};
-ghost use Rattle.extent_groups.specs.Calls.{AreSized, FadesAt, IsPlace, if_ok, KeepsDrives};
-ghost use Rattle.extent_groups.specs.Layout.{IsWhole};
-ghost use Rattle.extent_groups.specs.Units.{Pair, InStripe, unit_at, IsSoundAt};
-ghost use Rattle.extent_groups.specs.Stores.{IsOwn, LeavesSites};
-ghost use Rattle.parity_store.specs.Ways.{row_at, IsLaid};
-ghost use Rattle.parity_store.specs.Drafts.{IsCarried, WroteByDraft};
+ghost use Rattle.std.specs.Prelude.{◌≡◌, None, length};
+ghost use Rattle.extent_groups.specs.Cells.{cells, held};
+ghost use Rattle.extent_groups.specs.Calls.{AreSized, IsPlace, KeepsDrives};
+ghost use Rattle.extent_groups.specs.Units.{Pair};
+ghost use Rattle.extent_groups.specs.Stores.{IsOwn};
+ghost use Rattle.parity_store.specs.declared.way.Way.{Way};
+ghost use Rattle.parity_store.specs.Targets.{IsTarget, row_to, site_to};
+ghost use Rattle.parity_store.specs.Drafts.{IsCarried, Tried, Ends};
 
+use crate::target::Target;
 use crate::way::{Way, find_way};
-use extent_groups::{GroupTable, Place, Stripe, write_place};
+use extent_groups::{GroupTable, Place, write_place};
 use extents::Drive;
 
 // Makes the writes of a way in their order; false where the first of them was refused, or there is none.
+#[inline(always)]
 fn write_way<D: Drive>(
     drives: &mut [D],
     home: Place,
@@ -45,43 +45,71 @@ fn write_way<D: Drive>(
     }
 }
 
-/// Writes a unit of a stripe in the way that its draft finds; false, with nothing written, where there is none.
-pub(crate) fn write_stripe<D: Drive>(
+// Drafts the write of a unit and makes its writes: the way, and false where the first of these was refused, or there is none.
+#[inline(always)]
+fn write_once<D: Drive>(
     groups: &GroupTable,
     drives: &mut [D],
-    group: u16,
-    at: &Stripe,
+    target: Target,
+    unit: &[u8],
+    part: &mut [u8],
+    sum: &mut [u8],
+) -> (Way, bool)
+    requires target { IsTarget D.units groups.now target (length unit.now) drives.old }
+    requires part { length part.old ≡ length unit.now }
+    requires sum { length sum.old ≡ length unit.now }
+    ensures tried { Tried (cells D.units D.lost drives.old) (cells D.units D.lost drives.new) (row_to groups.now target) target unit.now result.0 result.1 }
+    ensures touched { KeepsDrives D.units D.lost D.failures (IsOwn (Pair target.home target.parity)) drives.old drives.new }
+{
+    let way = find_way(groups, drives, target, unit, part, sum);
+    let done = write_way(drives, target.home, target.parity, unit, sum, way);
+    (way, done)
+}
+
+// Writes a unit whose drive was lost in its first write. Kept out of line, since it runs only then.
+#[inline(never)]
+fn write_again<D: Drive>(
+    groups: &GroupTable,
+    drives: &mut [D],
+    target: Target,
     unit: &[u8],
     part: &mut [u8],
     sum: &mut [u8],
 ) -> bool
-    requires whole { IsWhole (InStripe (row_at groups.now group at.now.offset) at.now.parity at.now.member) }
-    requires laid { IsLaid D.units groups.now group at.now.offset (length unit.now) drives.old }
+    requires target { IsTarget D.units groups.now target (length unit.now) drives.old }
     requires part { length part.old ≡ length unit.now }
     requires sum { length sum.old ≡ length unit.now }
-    ensures unit { unit_at (length unit.now) (cells D.units D.lost drives.new) (InStripe (row_at groups.now group at.now.offset) at.now.parity at.now.member)
-        ≡ if_ok result unit.now }
-    ensures leaves { IsSoundAt (length unit.now) (cells D.units D.lost drives.old)
-        (InStripe (row_at groups.now group at.now.offset) at.now.parity at.now.member)
-        → LeavesSites (length unit.now) (cells D.units D.lost drives.old) (cells D.units D.lost drives.new)
-        (InStripe (row_at groups.now group at.now.offset) at.now.parity at.now.member) }
-    ensures touched { KeepsDrives D.units D.lost D.failures
-        (IsOwn (InStripe (row_at groups.now group at.now.offset) at.now.parity at.now.member)) drives.old drives.new }
-    ensures drafted { MatchBool result
-        (WroteByDraft (length unit.now) (cells D.units D.lost drives.old) (cells D.units D.lost drives.new)
-        (row_at groups.now group at.now.offset) at.now.parity at.now.member unit.now)
-        ((x : Place) → FadesAt (cells D.units D.lost drives.old) (cells D.units D.lost drives.new) x) }
+    ensures tried { (way : Way)
+        × Tried (cells D.units D.lost drives.old) (cells D.units D.lost drives.new) (row_to groups.now target) target unit.now way result }
+    ensures touched { KeepsDrives D.units D.lost D.failures (IsOwn (Pair target.home target.parity)) drives.old drives.new }
 {
-    let home = groups.place(group, at.member, at.offset);
-    let parity = groups.place(group, at.parity, at.offset);
-    let way = find_way(groups, drives, group, at, unit, part, sum);
-    if write_way(drives, home, parity, unit, sum, way) {
+    write_once(groups, drives, target, unit, part, sum).1
+}
+
+/// Writes a unit of a stripe in the way that its draft finds; false, with nothing written, where there is none.
+#[inline(always)]
+pub(crate) fn write_stripe<D: Drive>(
+    groups: &GroupTable,
+    drives: &mut [D],
+    target: Target,
+    unit: &[u8],
+    part: &mut [u8],
+    sum: &mut [u8],
+) -> bool
+    requires target { IsTarget D.units groups.now target (length unit.now) drives.old }
+    requires part { length part.old ≡ length unit.now }
+    requires sum { length sum.old ≡ length unit.now }
+    ensures ends { Ends (cells D.units D.lost drives.old) (cells D.units D.lost drives.new) (row_to groups.now target) target.at.parity target.at.member
+        unit.now result }
+    ensures touched { KeepsDrives D.units D.lost D.failures (IsOwn (site_to groups.now target)) drives.old drives.new }
+{
+    let (way, done) = write_once(groups, drives, target, unit, part, sum);
+    if done {
         return true;
     }
     if way != Way::Both {
         return false;
     }
     // The unit's drive was lost in its write, and nothing is written: it is drafted again, without that drive.
-    let last = find_way(groups, drives, group, at, unit, part, sum);
-    write_way(drives, home, parity, unit, sum, last)
+    write_again(groups, drives, target, unit, part, sum)
 }

@@ -7,6 +7,7 @@ mod listing;
 mod others;
 mod parity;
 mod stripe;
+mod target;
 mod way;
 
 ghost use Rattle.std.specs.Prelude.{◌≡◌, ◌≤◌, ◌*◌, ◌/◌, length, Some, OnOk, OnErr, IfErr};
@@ -132,9 +133,9 @@ pub fn write<D: Drive>(
     ensures touched { KeepsDrives D.units D.lost D.failures (IsOwnOf groups.now slot) drives.old drives.new }
     ensures drives { AreDrives D.units groups.now drives.new }
 {
-    let at = groups.row_of(slot);
+    let target = target::Target::of_slot(groups, slot);
     let (part, sum) = scratch.split_at_mut(unit.len());
-    carry::write_stripe(groups, drives, slot / SLOTS, &at, unit, part, sum)
+    carry::write_stripe(groups, drives, target, unit, part, sum)
         .then_some(())
         .ok_or(StoreRefusal::Gone(slot))
 }

@@ -12,8 +12,9 @@ ghost use Rattle.extent_groups.specs.Units.{site_of};
 ghost use Rattle.extent_groups.specs.Stores.{unit_bytes, unit_of, AreSound, IsSlotOf, AreDrives, KeepsUnits, HasMemberOn};
 ghost use Rattle.parity_store.specs.Drafts.{writes_by, parity_by};
 
+use crate::target::Target;
 use crate::way::{Way, find_way};
-use extent_groups::{GroupTable, Place, PlanRefusal, Planned, SLOTS};
+use extent_groups::{GroupTable, Place, PlanRefusal, Planned};
 use extents::Drive;
 use std::alloc::{AllocError, Global};
 
@@ -112,15 +113,11 @@ pub fn plan<D: Drive>(
     let Ok(mut room) = Room::new(alloc, unit) else {
         return Err(PlanRefusal::Memory);
     };
-    let at = groups.row_of(slot);
-    let group = slot / SLOTS;
-    let home = groups.place(group, at.member, at.offset);
-    let parity = groups.place(group, at.parity, at.offset);
+    let target = Target::of_slot(groups, slot);
     let way = find_way(
         groups,
         drives,
-        group,
-        &at,
+        target,
         unit,
         &mut room.part,
         &mut room.sum,
@@ -128,5 +125,5 @@ pub fn plan<D: Drive>(
     if way == Way::Missed {
         return Err(PlanRefusal::Gone(slot));
     }
-    Ok(list(room, way, home, parity))
+    Ok(list(room, way, target.home, target.parity))
 }

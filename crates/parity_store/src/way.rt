@@ -1,17 +1,16 @@
 // What a write of a member of a stripe needs to know, read before the first write.
-ghost use Rattle.std.specs.Prelude.{◌≡◌, ◌≢◌, ◌⊎◌, length, slice_get, Some};
+ghost use Rattle.std.specs.Prelude.{◌≡◌, ◌≢◌, ◌⊎◌, None, length};
 ghost use Rattle.extent_groups.specs.declared.place.Place.{Place};
-ghost use Rattle.extent_groups.specs.Cells.{cells};
+ghost use Rattle.extent_groups.specs.Cells.{cells, held};
 ghost use Rattle.extent_groups.specs.Calls.{AreSized, FadesAt, IsPlace, NoPlace, SameBut, KeepsDrives};
-ghost use Rattle.extent_groups.specs.Layout.{IsWhole};
-ghost use Rattle.extent_groups.specs.Units.{InStripe};
 ghost use Rattle.extent_groups.specs.Stores.{HasMemberOn};
-ghost use Rattle.parity_store.specs.Ways.{row_at, IsLaid};
+ghost use Rattle.parity_store.specs.Targets.{IsTarget, row_to};
 ghost use Rattle.parity_store.specs.Drafts.{IsRead, IsDraft};
 
+use crate::exclusive_or::xor_both_into;
 use crate::others::{Others, add_others};
-use crate::xor_into;
-use extent_groups::{GroupTable, Place, Stripe, is_there, read_place};
+use crate::target::Target;
+use extent_groups::{GroupTable, Place, is_there, read_place};
 use extents::Drive;
 
 /// The ways in which a unit of a stripe can be written.
@@ -28,6 +27,7 @@ pub enum Way {
 }
 
 // Reads both places, and makes of the sum the parity by difference; `Missed` where the unit's drive is lost.
+#[inline(always)]
 fn read_two<D: Drive>(
     drives: &mut [D],
     home: Place,
@@ -53,53 +53,71 @@ fn read_two<D: Drive>(
     if !read_place(drives, parity, sum) {
         return Way::Alone;
     }
-    xor_into(sum, part);
-    xor_into(sum, unit);
+    xor_both_into(sum, part, unit);
     Way::Both
 }
 
-/// Finds out, by reads alone, in which way a unit of a stripe can be written, and what the parity will be then, with a buffer
-/// for each unit that is read.
-pub(crate) fn find_way<D: Drive>(
+// Finds the way of a unit whose drive was found lost: the parity is had from all other members. Kept out of line, since it runs
+// only where a drive is lost.
+#[inline(never)]
+fn find_without<D: Drive>(
     groups: &GroupTable,
     drives: &mut [D],
-    group: u16,
-    at: &Stripe,
+    target: Target,
     unit: &[u8],
     part: &mut [u8],
     sum: &mut [u8],
 ) -> Way
-    requires whole { IsWhole (InStripe (row_at groups.now group at.now.offset) at.now.parity at.now.member) }
-    requires laid { IsLaid D.units groups.now group at.now.offset (length unit.now) drives.old }
+    requires target { IsTarget D.units groups.now target (length unit.now) drives.old }
+    requires lost { held (cells D.units D.lost drives.old) target.home ≡ None }
     requires part { length part.old ≡ length unit.now }
     requires sum { length sum.old ≡ length unit.now }
-    ensures told { (home parity : Place) → slice_get (row_at groups.now group at.now.offset) at.now.member ≡ Some home
-        → slice_get (row_at groups.now group at.now.offset) at.now.parity ≡ Some parity
-        → IsDraft (length unit.now) (cells D.units D.lost drives.new)
-        (row_at groups.now group at.now.offset) at.now.parity at.now.member home parity unit.now sum.new result }
+    ensures draft { IsDraft (length unit.now) (cells D.units D.lost drives.new) (row_to groups.now target) target.at.parity target.at.member
+        target.home target.parity unit.now sum.new result }
     ensures fades { (x : Place) → FadesAt (cells D.units D.lost drives.old) (cells D.units D.lost drives.new) x }
     ensures touched { KeepsDrives D.units D.lost D.failures NoPlace drives.old drives.new }
-    ensures elsewhere { SameBut (HasMemberOn groups.now group) drives.old drives.new }
+    ensures elsewhere { SameBut (HasMemberOn groups.now target.group) drives.old drives.new }
 {
-    let home = groups.place(group, at.member, at.offset);
-    let parity = groups.place(group, at.parity, at.offset);
-    let read = read_two(drives, home, parity, unit, part, sum);
-    if read != Way::Missed {
-        return read;
-    }
     let others = Others {
-        group,
-        offset: at.offset,
-        first: at.member,
-        second: at.parity,
+        group: target.group,
+        offset: target.at.offset,
+        first: target.at.member,
+        second: target.at.parity,
     };
     sum.copy_from_slice(unit);
     if !add_others(groups, drives, others, sum, part, &mut []) {
         return Way::Missed;
     }
-    if is_there(drives, parity) {
+    if is_there(drives, target.parity) {
         Way::Parity
     } else {
         Way::Missed
     }
+}
+
+/// Finds out, by reads alone, in which way a unit of a stripe can be written, and what the parity will be then, with a buffer
+/// for each unit that is read. Inlined, as the two reads of the main way are short.
+#[inline(always)]
+pub(crate) fn find_way<D: Drive>(
+    groups: &GroupTable,
+    drives: &mut [D],
+    target: Target,
+    unit: &[u8],
+    part: &mut [u8],
+    sum: &mut [u8],
+) -> Way
+    requires target { IsTarget D.units groups.now target (length unit.now) drives.old }
+    requires part { length part.old ≡ length unit.now }
+    requires sum { length sum.old ≡ length unit.now }
+    ensures draft { IsDraft (length unit.now) (cells D.units D.lost drives.new) (row_to groups.now target) target.at.parity target.at.member
+        target.home target.parity unit.now sum.new result }
+    ensures fades { (x : Place) → FadesAt (cells D.units D.lost drives.old) (cells D.units D.lost drives.new) x }
+    ensures touched { KeepsDrives D.units D.lost D.failures NoPlace drives.old drives.new }
+    ensures elsewhere { SameBut (HasMemberOn groups.now target.group) drives.old drives.new }
+{
+    let read = read_two(drives, target.home, target.parity, unit, part, sum);
+    if read != Way::Missed {
+        return read;
+    }
+    find_without(groups, drives, target, unit, part, sum)
 }

@@ -2,48 +2,40 @@ use Rattle.std.proofs.Common.{◌≡◌, ◌≢◌, ◌/◌, inr, refl, sym, ap,
 use Rattle.std.proofs.Math.Seq.{take-append_seam}
 use Rattle.extent_groups.specs.Cells.{cells}
 use Rattle.extent_groups.proofs.LayoutLaw.{layout_law}
-use Rattle.extent_groups.proofs.StoreCalls.{read_keeps, site_whole, slot_unit, sized_cells, drives_kept}
+use Rattle.extent_groups.proofs.StoreCalls.{read_keeps, slot_unit, sized_cells, drives_kept}
 use Rattle.extent_groups.specs.PlanLists.{listed, parity_listed}
 use Rattle.extent_groups.specs.Planned.{IsPlan}
 use Rattle.extent_groups.proofs.Finishing.{wanted_of}
 use Rattle.parity_store.specs.declared.way.Way.TheVariants as way
 use Rattle.parity_store.specs.Drafts.{IsDraft, writes_by, parity_by}
-use Rattle.parity_store.specs.Ways.{row_at}
+use Rattle.parity_store.specs.Targets.{row_to}
 use Rattle.parity_store.proofs.Carrying.{way_plan, way_parity}
-use Rattle.parity_store.proofs.Stripes.{IsHome}
 use Rattle.parity_store.proofs.There.{way_there}
 use Rattle.parity_store.proofs.Laid.{laid}
 use Rattle.parity_store.proofs.listing.plan.Given as given
 use Rattle.parity_store.proofs.listing.plan.Goals as goal
 use Rattle.parity_store.proofs.listing.plan.Goals.{After-find_way-way, After-list}
 
-pub find_way-way-requires-clause-whole : goal.find_way-way-requires-clause-whole
-find_way-way-requires-clause-whole g c = site_whole _ c.args.slot _ c.row_of-at.ensures.groups c.row_of-at.ensures.site
-
-pub find_way-way-requires-clause-laid : goal.find_way-way-requires-clause-laid
-find_way-way-requires-clause-laid g c = laid _ _ _ _ _ _ c.requires.drives c.requires.unit c.row_of-at.ensures.inside
+pub find_way-way-requires-clause-target : goal.find_way-way-requires-clause-target
+find_way-way-requires-clause-target g c = record { home = c.of_slot-target.ensures.home; laid = laid _ _ _ _ _ _ c.requires.drives c.requires.unit c.of_slot-target.ensures.inside }
 
 pub returns-then-eq-clause-units : goal.returns-then-eq-clause-units
-returns-then-eq-clause-units g c = λ s. (read_keeps _ _ _ c.row_of-at.ensures.groups c.requires.drives s c.find_way-way.ensures.fades c.find_way-way.ensures.touched).all
+returns-then-eq-clause-units g c = λ s. (read_keeps _ _ _ c.of_slot-target.ensures.groups c.requires.drives s c.find_way-way.ensures.fades c.find_way-way.ensures.touched).all
 
 pub returns-then-eq-clause-sound : goal.returns-then-eq-clause-sound
-returns-then-eq-clause-sound g c = λ s. (read_keeps _ _ _ c.row_of-at.ensures.groups c.requires.drives s c.find_way-way.ensures.fades c.find_way-way.ensures.touched).sound
+returns-then-eq-clause-sound g c = λ s. (read_keeps _ _ _ c.of_slot-target.ensures.groups c.requires.drives s c.find_way-way.ensures.fades c.find_way-way.ensures.touched).sound
 
 pub returns-then-eq-clause-drives : goal.returns-then-eq-clause-drives
 returns-then-eq-clause-drives g c = drives_kept _ c.find_way-way.ensures.touched c.requires.drives
 
 pub returns-clause-units : goal.returns-clause-units
-returns-clause-units g c = λ s. (read_keeps _ _ _ c.row_of-at.ensures.groups c.requires.drives s c.find_way-way.ensures.fades c.find_way-way.ensures.touched).all
+returns-clause-units g c = λ s. (read_keeps _ _ _ c.of_slot-target.ensures.groups c.requires.drives s c.find_way-way.ensures.fades c.find_way-way.ensures.touched).all
 
 pub returns-clause-sound : goal.returns-clause-sound
-returns-clause-sound g c = λ s. (read_keeps _ _ _ c.row_of-at.ensures.groups c.requires.drives s c.find_way-way.ensures.fades c.find_way-way.ensures.touched).sound
+returns-clause-sound g c = λ s. (read_keeps _ _ _ c.of_slot-target.ensures.groups c.requires.drives s c.find_way-way.ensures.fades c.find_way-way.ensures.touched).sound
 
 pub returns-clause-drives : goal.returns-clause-drives
 returns-clause-drives g c = drives_kept _ c.find_way-way.ensures.touched c.requires.drives
-
-draft : (g : given.Over) (c : After-find_way-way g)
-    → IsDraft (length c.args.unit.now) (cells g.D.Drive.units g.D.Drive.lost c.find_way-way.new.drives) (row_at c.args.groups.now (c.args.slot / 128) c.row_of-at.result.offset) c.row_of-at.result.parity c.row_of-at.result.member c.place-home.result c.place-parity.result c.args.unit.now c.find_way-way.new.sum c.find_way-way.result
-draft g c = c.find_way-way.ensures.told c.place-home.result c.place-parity.result c.place-home.ensures.place c.place-parity.ensures.place
 
 -- a vector that was filled by a slice as long
 refilled : (n : ℕ) (ws xs : List ℕ) → n ≡ length ws → take n (ws ++ drop (length ws) xs) ≡ ws
@@ -54,9 +46,9 @@ returns-then-eq-clause-err g c =
     let missed : c.find_way-way.result ≡ way.Missed = search rules in
     inr (
       refl,
-      slot_unit c.args.groups.now (cells g.D.Drive.units g.D.Drive.lost c.find_way-way.new.drives) c.args.slot _ (length c.args.unit.now) None c.row_of-at.ensures.site c.requires.unit
-          (subst (λ w. IsDraft (length c.args.unit.now) (cells g.D.Drive.units g.D.Drive.lost c.find_way-way.new.drives) (row_at c.args.groups.now (c.args.slot / 128) c.row_of-at.result.offset) c.row_of-at.result.parity c.row_of-at.result.member c.place-home.result c.place-parity.result c.args.unit.now c.find_way-way.new.sum w) missed
-          (draft g (goal.at.returns-then-eq-clause-err g c).After-find_way-way)),
+      slot_unit c.args.groups.now (cells g.D.Drive.units g.D.Drive.lost c.find_way-way.new.drives) c.args.slot _ (length c.args.unit.now) None c.of_slot-target.ensures.site c.requires.unit
+          (subst (λ w. IsDraft (length c.args.unit.now) (cells g.D.Drive.units g.D.Drive.lost c.find_way-way.new.drives) (row_to c.args.groups.now c.of_slot-target.result) c.of_slot-target.result.at.parity c.of_slot-target.result.at.member c.of_slot-target.result.home c.of_slot-target.result.parity c.args.unit.now c.find_way-way.new.sum w) missed
+          c.find_way-way.ensures.draft),
     )
 
 pub returns-clause-ok : goal.returns-clause-ok
@@ -65,30 +57,25 @@ returns-clause-ok g c =
     let s = c.find_way-way.new.sum in
     let found : c.find_way-way.result ≢ way.Missed = search rules in
     let filled : take c.in-Ok.room.sum.len (s ++ drop (length s) c.in-Ok.room.sum.items) ≡ s = refilled c.in-Ok.room.sum.len s c.in-Ok.room.sum.items (search rules) in
-    let lists : writes_by c.place-home.result c.place-parity.result u s c.find_way-way.result ≡ listed c.list.result.writes.items =
-    ap (λ a. writes_by c.place-home.result c.place-parity.result a s c.find_way-way.result) (sym c.in-Ok.ensures.unit)
-    ∙ ap (λ a. writes_by c.place-home.result c.place-parity.result c.in-Ok.room.unit.items a c.find_way-way.result) (sym filled) ∙ sym c.list.ensures.writes in
+    let lists : writes_by c.of_slot-target.result.home c.of_slot-target.result.parity u s c.find_way-way.result ≡ listed c.list.result.writes.items =
+    ap (λ a. writes_by c.of_slot-target.result.home c.of_slot-target.result.parity a s c.find_way-way.result) (sym c.in-Ok.ensures.unit)
+    ∙ ap (λ a. writes_by c.of_slot-target.result.home c.of_slot-target.result.parity c.in-Ok.room.unit.items a c.find_way-way.result) (sym filled) ∙ sym c.list.ensures.writes in
     let parity : parity_listed c.list.result.parity ≡ parity_by s c.find_way-way.result = c.list.ensures.parity ∙ ap (λ a. parity_by a c.find_way-way.result) filled in
-    let home : IsHome (row_at c.args.groups.now (c.args.slot / 128) c.row_of-at.result.offset) c.row_of-at.result.parity c.row_of-at.result.member c.place-home.result c.place-parity.result = record {
-      whole = site_whole _ c.args.slot _ c.row_of-at.ensures.groups c.row_of-at.ensures.site;
-      home_is = c.place-home.ensures.place;
-      parity_is = c.place-parity.ensures.place;
-    } in
-    let drafted = subst (λ n. IsDraft n (cells g.D.Drive.units g.D.Drive.lost c.find_way-way.new.drives) (row_at c.args.groups.now (c.args.slot / 128) c.row_of-at.result.offset) c.row_of-at.result.parity c.row_of-at.result.member c.place-home.result c.place-parity.result u s c.find_way-way.result) c.requires.unit
-    (draft g (goal.at.returns-clause-ok g c).After-find_way-way) in
+    let home = c.of_slot-target.ensures.home in
+    let drafted = subst (λ n. IsDraft n (cells g.D.Drive.units g.D.Drive.lost c.find_way-way.new.drives) (row_to c.args.groups.now c.of_slot-target.result) c.of_slot-target.result.at.parity c.of_slot-target.result.at.member c.of_slot-target.result.home c.of_slot-target.result.parity u s c.find_way-way.result) c.requires.unit
+    c.find_way-way.ensures.draft in
     let long : length s ≡ length u = search rules in
     let sized = sized_cells g.D.Drive.units g.D.Drive.lost c.args.groups.now _ (drives_kept _ c.find_way-way.ensures.touched c.requires.drives) in
-    let layout = layout_law _ c.row_of-at.ensures.groups in (
-      wanted_of c.place-home.result u s,
-      subst (λ ws. IsPlan c.args.groups.now (cells g.D.Drive.units g.D.Drive.lost c.find_way-way.new.drives) c.args.slot u (wanted_of c.place-home.result u s) ws) lists
-          (way_plan (row_at c.args.groups.now (c.args.slot / 128) c.row_of-at.result.offset) _ _ _ _ u s home c.args.groups.now (cells g.D.Drive.units g.D.Drive.lost c.find_way-way.new.drives) c.args.slot layout c.row_of-at.ensures.site c.requires.unit (long ∙ c.requires.unit) sized c.find_way-way.result found drafted),
+    let layout = layout_law _ c.of_slot-target.ensures.groups in (
+      wanted_of c.of_slot-target.result.home u s,
+      subst (λ ws. IsPlan c.args.groups.now (cells g.D.Drive.units g.D.Drive.lost c.find_way-way.new.drives) c.args.slot u (wanted_of c.of_slot-target.result.home u s) ws) lists
+          (way_plan (row_to c.args.groups.now c.of_slot-target.result) _ _ _ _ u s home c.args.groups.now (cells g.D.Drive.units g.D.Drive.lost c.find_way-way.new.drives) c.args.slot layout c.of_slot-target.ensures.site c.requires.unit (long ∙ c.requires.unit) sized c.find_way-way.result found drafted),
       parity
-          ∙ way_parity (row_at c.args.groups.now (c.args.slot / 128) c.row_of-at.result.offset) _ _ _ _ u s home c.args.groups.now (cells g.D.Drive.units g.D.Drive.lost c.find_way-way.new.drives) c.args.slot layout c.row_of-at.ensures.site c.requires.unit (long ∙ c.requires.unit) sized c.find_way-way.result found drafted,
+          ∙ way_parity (row_to c.args.groups.now c.of_slot-target.result) _ _ _ _ u s home c.args.groups.now (cells g.D.Drive.units g.D.Drive.lost c.find_way-way.new.drives) c.args.slot layout c.of_slot-target.ensures.site c.requires.unit (long ∙ c.requires.unit) sized c.find_way-way.result found drafted,
     )
 
 pub returns-clause-there : goal.returns-clause-there
 returns-clause-there g c =
     let found : c.find_way-way.result ≢ way.Missed = search rules in
-    way_there g.D.Drive.units g.D.Drive.lost c.find_way-way.new.drives (length c.args.unit.now) (row_at c.args.groups.now (c.args.slot / 128) c.row_of-at.result.offset) _ _ c.place-home.result c.place-parity.result c.args.unit.now c.find_way-way.new.sum
-    (record { whole = site_whole _ c.args.slot _ c.row_of-at.ensures.groups c.row_of-at.ensures.site; home_is = c.place-home.ensures.place; parity_is = c.place-parity.ensures.place })
-    c.args.groups.now c.args.slot c.find_way-way.result c.row_of-at.ensures.site found (draft g (goal.at.returns-clause-there g c).After-find_way-way)
+    way_there g.D.Drive.units g.D.Drive.lost c.find_way-way.new.drives (length c.args.unit.now) (row_to c.args.groups.now c.of_slot-target.result) _ _ c.of_slot-target.result.home c.of_slot-target.result.parity c.args.unit.now c.find_way-way.new.sum
+    c.of_slot-target.ensures.home c.args.groups.now c.args.slot c.find_way-way.result c.of_slot-target.ensures.site found c.find_way-way.ensures.draft
