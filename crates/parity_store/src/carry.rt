@@ -111,5 +111,5 @@ pub(crate) fn write_stripe<D: Drive>(
         return false;
     }
     // The unit's drive was lost in its write, and nothing is written: it is drafted again, without that drive.
-    write_again(groups, drives, target, unit, part, sum)
+    write_again(groups, drives, target.copied(), unit, part, sum)
 }

@@ -119,5 +119,5 @@ pub(crate) fn find_way<D: Drive>(
     if read != Way::Missed {
         return read;
     }
-    find_without(groups, drives, target, unit, part, sum)
+    find_without(groups, drives, target.copied(), unit, part, sum)
 }

@@ -48,7 +48,7 @@ pub returns-then-ne-clause-touched : goal.returns-then-ne-clause-touched
 returns-then-ne-clause-touched g c = own g (goal.at.returns-then-ne-clause-touched g c).After-write_once-way
 
 pub write_again-requires-clause-target : goal.write_again-requires-clause-target
-write_again-requires-clause-target g c = record { home = c.requires.target.home; laid = still_laid c.write_once-way.ensures.touched refl c.requires.target.laid }
+write_again-requires-clause-target g c = rw c.copied.ensures (record { home = c.requires.target.home; laid = still_laid c.write_once-way.ensures.touched refl c.requires.target.laid })
 
 pub returns-clause-ends : goal.returns-clause-ends
 returns-clause-ends g c =
@@ -58,7 +58,7 @@ returns-clause-ends g c =
     let row = row_to c.args.groups.now c.args.target in
     let both : c.write_once-way.result.0 ≡ way.Both = search rules in
     let failed : c.write_once-way.result.1 ≡ false = search rules in
-    let again = c.write_again.ensures.tried in
+    let again = rw c.copied.ensures at c.write_again.ensures.tried in
     again_end row c.args.target c.args.unit.now c.requires.target.home old mid (cells g.D.Drive.units g.D.Drive.lost c.write_again.new.drives) again.0 c.write_again.result (sized g here)
     (subst (λ w. Tried old mid row c.args.target c.args.unit.now w false) both (subst (Tried old mid row c.args.target c.args.unit.now c.write_once-way.result.0) failed c.write_once-way.ensures.tried))
     again.1
@@ -66,4 +66,4 @@ returns-clause-ends g c =
 pub returns-clause-touched : goal.returns-clause-touched
 returns-clause-touched g c =
     keeps_trans (own g (goal.at.returns-clause-touched g c).After-write_once-way)
-    (keeps_more (own_pair (row_to c.args.groups.now c.args.target) c.args.target.at.parity c.args.target.at.member _ _ c.requires.target.home.home_is c.requires.target.home.parity_is) c.write_again.ensures.touched)
+    (keeps_more (own_pair (row_to c.args.groups.now c.args.target) c.args.target.at.parity c.args.target.at.member _ _ c.requires.target.home.home_is c.requires.target.home.parity_is) (rw c.copied.ensures at c.write_again.ensures.touched))
