@@ -1,6 +1,6 @@
 -- A block is put into a free slot: what each of the array's calls leaves of the world. The hands in between are those of a worker
 -- that does the steps one by one; before the first and after the last nobody has the slots in hand.
-use Rattle.std.proofs.Common.{◌≡◌, ℕ, ◌<◌, Bool, true, false, List, ◌∷◌, length, refl, sym, ap, ◌∙◌, subst, arith, inl, inr, Option, Some, None, Result, Ok, Err, MatchResult, IfErr}
+use Rattle.std.proofs.Common.{◌≡◌, ℕ, ◌<◌, Bool, true, false, List, ◌∷◌, length, refl, sym, ap, ◌∙◌, subst, arith, inl, inr, Option, Some, None, Result, Ok, Err, MatchResult, IfOk, IfErr}
 use Rattle.std.proofs.Math.ListN.{set}
 use Rattle.std.proofs.lemmas.List.{length-set, get_or-set_same, get_or-set_other, set-get_or}
 use Rattle.map_join.specs.declared.records.Record.{Record}
@@ -18,6 +18,7 @@ use Rattle.flat_machine.proofs.Holding.{once_any}
 use Rattle.flat_machine.proofs.Pairs.{Any, IsOnce, equal}
 use Rattle.flat_machine.proofs.Passing.{Passes, passed}
 use Rattle.slot_tables.specs.declared.hand.Hand.{Hand}
+use Rattle.slot_tables.specs.declared.hold.Plain.{Plain}
 use Rattle.slot_tables.specs.declared.hand.Hand.TheVariants.{Empty, Holds, Waits}
 use Rattle.slot_tables.specs.Changes.{IsPlaceOf, MayRefuse, passed_hands}
 use Rattle.slot_tables.specs.Views.{Kept, ArrayView, WorldView, kept_at, hand_at, key_at, has_no_holder}
@@ -330,32 +331,44 @@ gives_up F w s k refusal (Err e) err held is =
     absurd (cc)
 
 -- less is said where it is out of memory
-pub may_less : (r : Refusal) (W P : Type 0) → MayRefuse r W P → MayRefuse r (Unit {0}) P
+may_less : (r : Refusal) (W P : Type 0) → MayRefuse r W P → MayRefuse r (Unit {0}) P
 may_less Memory W P y = tt
 may_less r W P y = y
 
--- what the array's calls say, as what goes into the slot
-pub fills_as : (F : Flat) (w s b : ℕ) (what : Put) (x : Content) (a : ArrayView) (result : Result ℕ Refusal) → what ≡ Fresh x
-    → MatchResult result (λ ticket. (G : Flat) × (FillCase F w s x (step.Filled s) G) × (ShowsArray a G))
-    (λ r. MayRefuse r (Unit {0}) ((G : Flat) × (FillCase F w s x (Refused r) G) × (ShowsArray a G)))
-    → MatchResult result (λ ticket. (G : Flat) × (Case F (put_step what w s b) (put_answer what s) G) × (ShowsArray a G))
-    (λ r. MayRefuse r (Unit {0}) ((G : Flat) × (Case F (put_step what w s b) (Refused r) G) × (ShowsArray a G)))
-fills_as F w s b what x a (Ok ticket) put y = subst (λ (p : Put). (G : Flat) × (Case F (put_step p w s b) (put_answer p s) G) × (ShowsArray a G)) (sym put) y
-fills_as F w s b what x a (Err r) put y =
-    subst (λ (p : Put). MayRefuse r (Unit {0}) ((G : Flat) × (Case F (put_step p w s b) (Refused r) G) × (ShowsArray a G))) (sym put) y
+-- what an array answered to a call that filled the slot, or copied into it
+pub record Answered (F : Flat) (w s b : ℕ) (what : Put) (a : ArrayView) (answer : Result ℕ (Refusal × Plain)) : Type 0 where
+  pub ticket : IfOk answer (λ t. (G : Flat) × (Case F (put_step what w s b) (put_answer what s) G) × (ShowsArray a G))
+  pub refusal : IfErr answer (λ e. MayRefuse e.0 (Unit {0}) ((G : Flat) × (Case F (put_step what w s b) (Refused e.0) G) × (ShowsArray a G)))
 
-pub copies : (F : Flat) (w s b : ℕ) (what : Put) (a : ArrayView) (t : ℕ) → what ≡ Again → t ≡ s
-    → (G : Flat) × (CopyCase F w t b (step.Copied t) G) × (ShowsArray a G) → (G : Flat) × (Case F (put_step what w s b) (put_answer what s) G) × (ShowsArray a G)
-copies F w s b what a t put is y =
-    subst (λ (p : Put). (G : Flat) × (Case F (put_step p w s b) (put_answer p s) G) × (ShowsArray a G)) (sym put)
-    (subst (λ n. (G : Flat) × (CopyCase F w n b (step.Copied n) G) × (ShowsArray a G)) is y)
+pub fills : (F : Flat) (w s b : ℕ) (what : Put) (x : Content) (a : ArrayView) (answer : Result ℕ (Refusal × Plain)) (W : Type 0) → what ≡ Fresh x → IfOk answer (λ t. t ≡ s)
+    → MatchResult answer (λ t. (G : Flat) × (FillCase F w t x (step.Filled t) G) × (ShowsArray a G))
+    (λ e. MayRefuse e.0 W ((G : Flat) × (FillCase F w s x (Refused e.0) G) × (ShowsArray a G)))
+    → Answered F w s b what a answer
+fills F w s b what x a answer W put is case = subst (λ p. Answered F w s b p a answer) (sym put) (go answer is case)
+  where
+    go : (r : Result ℕ (Refusal × Plain)) → IfOk r (λ t. t ≡ s)
+        → MatchResult r (λ t. (G : Flat) × (FillCase F w t x (step.Filled t) G) × (ShowsArray a G)) (λ e. MayRefuse e.0 W ((G : Flat) × (FillCase F w s x (Refused e.0) G) × (ShowsArray a G)))
+        → Answered F w s b (Fresh x) a r
+    go (Ok t) is y = record { ticket = subst (λ n. (G : Flat) × (FillCase F w n x (step.Filled n) G) × (ShowsArray a G)) is y; refusal = tt }
+    go (Err e) is y = record { ticket = tt; refusal = may_less e.0 W ((G : Flat) × (FillCase F w s x (Refused e.0) G) × (ShowsArray a G)) y }
 
-pub denies_as : (F : Flat) (w s b : ℕ) (what put : Put) (a : ArrayView) (r : Refusal) (W : Type 0) → what ≡ put
-    → MayRefuse r W ((G : Flat) × (Case F (put_step put w s b) (Refused r) G) × (ShowsArray a G))
-    → MayRefuse r (Unit {0}) ((G : Flat) × (Case F (put_step what w s b) (Refused r) G) × (ShowsArray a G))
-denies_as F w s b what put a r W is may =
-    subst (λ (p : Put). MayRefuse r (Unit {0}) ((G : Flat) × (Case F (put_step p w s b) (Refused r) G) × (ShowsArray a G))) (sym is)
-    (may_less r W ((G : Flat) × (Case F (put_step put w s b) (Refused r) G) × (ShowsArray a G)) may)
+pub copies : (F : Flat) (w s b : ℕ) (what : Put) (a : ArrayView) (answer : Result ℕ (Refusal × Plain)) (W : Type 0) → what ≡ Again → IfOk answer (λ t. t ≡ s)
+    → MatchResult answer (λ t. (G : Flat) × (CopyCase F w t b (step.Copied t) G) × (ShowsArray a G))
+    (λ e. MayRefuse e.0 W ((G : Flat) × (CopyCase F w s b (Refused e.0) G) × (ShowsArray a G)))
+    → Answered F w s b what a answer
+copies F w s b what a answer W put is case = subst (λ p. Answered F w s b p a answer) (sym put) (go answer is case)
+  where
+    go : (r : Result ℕ (Refusal × Plain)) → IfOk r (λ t. t ≡ s)
+        → MatchResult r (λ t. (G : Flat) × (CopyCase F w t b (step.Copied t) G) × (ShowsArray a G)) (λ e. MayRefuse e.0 W ((G : Flat) × (CopyCase F w s b (Refused e.0) G) × (ShowsArray a G)))
+        → Answered F w s b Again a r
+    go (Ok t) is y = record { ticket = subst (λ n. (G : Flat) × (CopyCase F w n b (step.Copied n) G) × (ShowsArray a G)) is y; refusal = tt }
+    go (Err e) is y = record { ticket = tt; refusal = may_less e.0 W ((G : Flat) × (CopyCase F w s b (Refused e.0) G) × (ShowsArray a G)) y }
+
+-- equal arrays and answers say the same
+pub answered_as : (F : Flat) (w s b : ℕ) (what : Put) (a e : ArrayView) (answer other : Result ℕ (Refusal × Plain)) → a ≡ e → answer ≡ other
+    → Answered F w s b what e other → Answered F w s b what a answer
+answered_as F w s b what a e answer other is same x =
+    subst (λ (y : ArrayView). Answered F w s b what y answer) (sym is) (subst (λ r. Answered F w s b what e r) (sym same) x)
 
 -- what is given has numbers in range
 sized : (z : Groups) (x : Option Given) (s b : ℕ) → s < 65536 → b < z.blocks → IsSizedFor z.payload x → (w : ℕ) → IsStep z (put_step (put_of x) w s b)

@@ -1,16 +1,30 @@
-use Rattle.std.proofs.Common.{ap}
-use Rattle.step_core.specs.Placing.{Again, content_of, put_of}
-use Rattle.step_core.proofs.Placing.{fills_as, copies, denies_as}
+use Rattle.std.proofs.Common.{◌≡◌, ◌∙◌, Some, rules, true, ℕ, Ok, Err, Result, IfOk, IfErr, refl, ap, sym, subst}
+use Rattle.flat_machine.specs.Flat.{Flat, Worker, Payload, Trim}
+use Rattle.flat_machine.specs.declared.refusal.Refusal.{Refusal}
+use Rattle.slot_tables.specs.declared.hold.Plain.{Plain}
+use Rattle.slot_tables.specs.Represents.{ShowsArray}
+use Rattle.slot_tables.specs.Views.{ArrayView}
+use Rattle.step_core.specs.Placing.{Again, Fresh, put_of}
+use Rattle.step_core.proofs.Placing.{Answered, fills, copies, answered_as}
 use Rattle.step_core.proofs.place.put_in.Goals as goal
+use Rattle.step_core.proofs.place.put_in.Goals.{Joined-given}
+use Rattle.step_core.proofs.place.put_in.Goals.{in-Some+in-Payload, in-Some+in-Trim, in-None}
 
-pub returns-in-Some-clause-flat : goal.returns-in-Some-clause-flat
-returns-in-Some-clause-flat c F w shows held =
-    fills_as F w c.args.slot c.args.block (put_of c.args.given) (content_of c.in-Some.given) c.fill_in.new.array c.fill_in.result (ap put_of c.in-Some.is) (c.fill_in.ensures.flat F w shows held)
+answered : (c : Joined-given) (F : Flat) (w : ℕ) → ShowsArray c.args.array.now F → F.held c.args.slot (Worker w) ≡ true
+    → Answered F w c.args.slot c.args.block (put_of c.args.given) c.match-given.array c.match-given.filled
+answered c F w shows held = elim c.match-given.branch [
+  | in-Some+in-Payload v ↦ answered_as F w c.args.slot c.args.block _ _ _ _ _ v.array-is v.filled-is
+      (fills F w c.args.slot c.args.block (put_of c.args.given) (Payload v.in-Payload.payload.now) v.fill.new.self v.fill.result _ (ap put_of v.in-Some.is ∙ ap (λ x. put_of (Some x)) v.in-Payload.is) (search rules) (v.fill.ensures.flat F w shows held))
+  | in-Some+in-Trim v ↦ answered_as F w c.args.slot c.args.block _ _ _ _ _ v.array-is v.filled-is
+      (fills F w c.args.slot c.args.block (put_of c.args.given) Trim v.trim.new.self v.trim.result _ (ap put_of v.in-Some.is ∙ ap (λ x. put_of (Some x)) v.in-Trim.is) (search rules) (v.trim.ensures.flat F w shows held))
+  | in-None v ↦ answered_as F w c.args.slot c.args.block _ _ _ _ _ v.array-is v.filled-is
+      (copies F w c.args.slot c.args.block (put_of c.args.given) v.copy-filled.new.self v.copy-filled.result _ (ap put_of v.in-None.is) (search rules) (v.copy-filled.ensures.flat F w shows held))
+]
 
 pub returns-in-Ok-clause-flat : goal.returns-in-Ok-clause-flat
 returns-in-Ok-clause-flat c F w shows held =
-    copies F w c.args.slot c.args.block (put_of c.args.given) c.copy.new.self c.in-Ok.ticket (ap put_of c.in-None.is) c.in-Ok.ensures.ticket.0 (c.in-Ok.ensures.flat F w shows held)
+    let a = (answered (goal.at.returns-in-Ok-clause-flat c).Joined-given F w shows held).ticket in search (rules, a)
 
 pub returns-in-Err-clause-flat : goal.returns-in-Err-clause-flat
 returns-in-Err-clause-flat c F w shows held =
-    denies_as F w c.args.slot c.args.block (put_of c.args.given) Again c.copy.new.self c.in-Err.refusal _ (ap put_of c.in-None.is) (c.in-Err.ensures.flat F w shows held)
+    let a = (answered (goal.at.returns-in-Err-clause-flat c).Joined-given F w shows held).refusal in search (rules, a)

@@ -35,8 +35,8 @@ copy-requires-clause-to g c =
     subst (λ (v : ArrayView). IsSlot v.parts.groups c.slot-slot.result) (sym c.self.view_is)
     (copy_slot c.args.self.now c.slot-slot.result c.in-Ok.source (search rules))
 
-pub invariant_of-self-in-Err-copy : goal.invariant_of-self-in-Err-copy
-invariant_of-self-in-Err-copy g c =
+pub invariant_of-self : goal.invariant_of-self
+invariant_of-self g c =
     let d = g.D.Drive in
     let a = view_of d.units d.lost d.failures c.self.inside.parts in
     let b = view_of d.units d.lost d.failures c.copy.new.self in
@@ -69,8 +69,8 @@ put_in-requires-clause-free g c =
     let can : CanCopy c.args.self.now s c.in-Ok.source = can_copy c.args.self.now s c.in-Ok.source (search rules) in
     ap (λ (v : ArrayView). kept_at v s) c.self.view_is ∙ can.free
 
-pub invariant_of-self : goal.invariant_of-self
-invariant_of-self g c =
+pub invariant_of-self-2 : goal.invariant_of-self-2
+invariant_of-self-2 g c =
     let d = g.D.Drive in
     let a = c.self.inside in
     let p = c.copy.new.self in

@@ -23,8 +23,8 @@ pub put-requires-clause-slot : goal.put-requires-clause-slot
 put-requires-clause-slot g c =
     subst (λ (v : ArrayView). IsSlot v.parts.groups c.slot-slot.result) (sym c.self.view_is) (fill_slot c.args.self.now c.slot-slot.result (search rules))
 
-pub invariant_of-self-in-Err : goal.invariant_of-self-in-Err
-invariant_of-self-in-Err g c =
+pub invariant_of-self : goal.invariant_of-self
+invariant_of-self g c =
     let d = g.D.Drive in
     let a = view_of d.units d.lost d.failures c.self.inside.parts in
     let b = view_of d.units d.lost d.failures c.put.new.self in
@@ -44,8 +44,8 @@ returns-in-Err-clause-flat g c F w shows held =
     as_refused q (FillPasses F w s) (λ G. FillCase F w s (Payload c.args.payload.now) (Refused q) G) _ (with_parts c.args.self.now b) (ap (λ (v : ArrayView). with_parts v b) c.self.view_is)
     (fill_gone c.args.self.now b F w s (Payload c.args.payload.now) q (search rules) gone shows held)
 
-pub invariant_of-self : goal.invariant_of-self
-invariant_of-self g c =
+pub invariant_of-self-2 : goal.invariant_of-self-2
+invariant_of-self-2 g c =
     let d = g.D.Drive in
     let a = c.self.inside in
     let p = c.put.new.self in
