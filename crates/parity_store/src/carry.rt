@@ -50,16 +50,16 @@ fn write_way<D: Drive>(
 fn write_once<D: Drive>(
     groups: &GroupTable,
     drives: &mut [D],
-    target: Target,
+    target: &Target,
     unit: &[u8],
     part: &mut [u8],
     sum: &mut [u8],
 ) -> (Way, bool)
-    requires target { IsTarget D.units groups.now target (length unit.now) drives.old }
+    requires target { IsTarget D.units groups.now target.now (length unit.now) drives.old }
     requires part { length part.old ≡ length unit.now }
     requires sum { length sum.old ≡ length unit.now }
-    ensures tried { Tried (cells D.units D.lost drives.old) (cells D.units D.lost drives.new) (row_to groups.now target) target unit.now result.0 result.1 }
-    ensures touched { KeepsDrives D.units D.lost D.failures (IsOwn (Pair target.home target.parity)) drives.old drives.new }
+    ensures tried { Tried (cells D.units D.lost drives.old) (cells D.units D.lost drives.new) (row_to groups.now target.now) target.now unit.now result.0 result.1 }
+    ensures touched { KeepsDrives D.units D.lost D.failures (IsOwn (Pair target.now.home target.now.parity)) drives.old drives.new }
 {
     let way = find_way(groups, drives, target, unit, part, sum);
     let done = write_way(drives, target.home, target.parity, unit, sum, way);
@@ -71,17 +71,17 @@ fn write_once<D: Drive>(
 fn write_again<D: Drive>(
     groups: &GroupTable,
     drives: &mut [D],
-    target: Target,
+    target: &Target,
     unit: &[u8],
     part: &mut [u8],
     sum: &mut [u8],
 ) -> bool
-    requires target { IsTarget D.units groups.now target (length unit.now) drives.old }
+    requires target { IsTarget D.units groups.now target.now (length unit.now) drives.old }
     requires part { length part.old ≡ length unit.now }
     requires sum { length sum.old ≡ length unit.now }
     ensures tried { (way : Way)
-        × Tried (cells D.units D.lost drives.old) (cells D.units D.lost drives.new) (row_to groups.now target) target unit.now way result }
-    ensures touched { KeepsDrives D.units D.lost D.failures (IsOwn (Pair target.home target.parity)) drives.old drives.new }
+        × Tried (cells D.units D.lost drives.old) (cells D.units D.lost drives.new) (row_to groups.now target.now) target.now unit.now way result }
+    ensures touched { KeepsDrives D.units D.lost D.failures (IsOwn (Pair target.now.home target.now.parity)) drives.old drives.new }
 {
     write_once(groups, drives, target, unit, part, sum).1
 }
@@ -91,17 +91,17 @@ fn write_again<D: Drive>(
 pub(crate) fn write_stripe<D: Drive>(
     groups: &GroupTable,
     drives: &mut [D],
-    target: Target,
+    target: &Target,
     unit: &[u8],
     part: &mut [u8],
     sum: &mut [u8],
 ) -> bool
-    requires target { IsTarget D.units groups.now target (length unit.now) drives.old }
+    requires target { IsTarget D.units groups.now target.now (length unit.now) drives.old }
     requires part { length part.old ≡ length unit.now }
     requires sum { length sum.old ≡ length unit.now }
-    ensures ends { Ends (cells D.units D.lost drives.old) (cells D.units D.lost drives.new) (row_to groups.now target) target.at.parity target.at.member
+    ensures ends { Ends (cells D.units D.lost drives.old) (cells D.units D.lost drives.new) (row_to groups.now target.now) target.now.at.parity target.now.at.member
         unit.now result }
-    ensures touched { KeepsDrives D.units D.lost D.failures (IsOwn (site_to groups.now target)) drives.old drives.new }
+    ensures touched { KeepsDrives D.units D.lost D.failures (IsOwn (site_to groups.now target.now)) drives.old drives.new }
 {
     let (way, done) = write_once(groups, drives, target, unit, part, sum);
     if done {
@@ -111,5 +111,5 @@ pub(crate) fn write_stripe<D: Drive>(
         return false;
     }
     // The unit's drive was lost in its write, and nothing is written: it is drafted again, without that drive.
-    write_again(groups, drives, target.copied(), unit, part, sum)
+    write_again(groups, drives, target, unit, part, sum)
 }

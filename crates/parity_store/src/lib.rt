@@ -135,7 +135,7 @@ pub fn write<D: Drive>(
 {
     let target = target::Target::of_slot(groups, slot);
     let (part, sum) = scratch.split_at_mut(unit.len());
-    carry::write_stripe(groups, drives, target, unit, part, sum)
+    carry::write_stripe(groups, drives, &target, unit, part, sum)
         .then_some(())
         .ok_or(StoreRefusal::Gone(slot))
 }

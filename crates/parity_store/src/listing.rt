@@ -117,7 +117,7 @@ pub fn plan<D: Drive>(
     let way = find_way(
         groups,
         drives,
-        target,
+        &target,
         unit,
         &mut room.part,
         &mut room.sum,

@@ -37,23 +37,4 @@ impl Target {
             home: groups.place(group, at.member, at.offset),
             parity: groups.place(group, at.parity, at.offset),
         }
-    }
-    /// The same one as a new value. A function that is out of line takes it by its address: given this, the main way keeps
-    /// its own in registers.
-    #[inline(always)]
-    pub(crate) fn copied(&self) -> Target
-        ensures { result ≡ self.now }
-    {
-        Target {
-            group: self.group,
-            at: Stripe {
-                stripe: self.at.stripe,
-                member: self.at.member,
-                offset: self.at.offset,
-                parity: self.at.parity,
-            },
-            home: self.home,
-            parity: self.parity,
-        }
-    }
-}
+    }}

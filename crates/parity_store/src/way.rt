@@ -63,20 +63,20 @@ fn read_two<D: Drive>(
 fn find_without<D: Drive>(
     groups: &GroupTable,
     drives: &mut [D],
-    target: Target,
+    target: &Target,
     unit: &[u8],
     part: &mut [u8],
     sum: &mut [u8],
 ) -> Way
-    requires target { IsTarget D.units groups.now target (length unit.now) drives.old }
-    requires lost { held (cells D.units D.lost drives.old) target.home ≡ None }
+    requires target { IsTarget D.units groups.now target.now (length unit.now) drives.old }
+    requires lost { held (cells D.units D.lost drives.old) target.now.home ≡ None }
     requires part { length part.old ≡ length unit.now }
     requires sum { length sum.old ≡ length unit.now }
-    ensures draft { IsDraft (length unit.now) (cells D.units D.lost drives.new) (row_to groups.now target) target.at.parity target.at.member
-        target.home target.parity unit.now sum.new result }
+    ensures draft { IsDraft (length unit.now) (cells D.units D.lost drives.new) (row_to groups.now target.now) target.now.at.parity target.now.at.member
+        target.now.home target.now.parity unit.now sum.new result }
     ensures fades { (x : Place) → FadesAt (cells D.units D.lost drives.old) (cells D.units D.lost drives.new) x }
     ensures touched { KeepsDrives D.units D.lost D.failures NoPlace drives.old drives.new }
-    ensures elsewhere { SameBut (HasMemberOn groups.now target.group) drives.old drives.new }
+    ensures elsewhere { SameBut (HasMemberOn groups.now target.now.group) drives.old drives.new }
 {
     let others = Others {
         group: target.group,
@@ -101,23 +101,23 @@ fn find_without<D: Drive>(
 pub(crate) fn find_way<D: Drive>(
     groups: &GroupTable,
     drives: &mut [D],
-    target: Target,
+    target: &Target,
     unit: &[u8],
     part: &mut [u8],
     sum: &mut [u8],
 ) -> Way
-    requires target { IsTarget D.units groups.now target (length unit.now) drives.old }
+    requires target { IsTarget D.units groups.now target.now (length unit.now) drives.old }
     requires part { length part.old ≡ length unit.now }
     requires sum { length sum.old ≡ length unit.now }
-    ensures draft { IsDraft (length unit.now) (cells D.units D.lost drives.new) (row_to groups.now target) target.at.parity target.at.member
-        target.home target.parity unit.now sum.new result }
+    ensures draft { IsDraft (length unit.now) (cells D.units D.lost drives.new) (row_to groups.now target.now) target.now.at.parity target.now.at.member
+        target.now.home target.now.parity unit.now sum.new result }
     ensures fades { (x : Place) → FadesAt (cells D.units D.lost drives.old) (cells D.units D.lost drives.new) x }
     ensures touched { KeepsDrives D.units D.lost D.failures NoPlace drives.old drives.new }
-    ensures elsewhere { SameBut (HasMemberOn groups.now target.group) drives.old drives.new }
+    ensures elsewhere { SameBut (HasMemberOn groups.now target.now.group) drives.old drives.new }
 {
     let read = read_two(drives, target.home, target.parity, unit, part, sum);
     if read != Way::Missed {
         return read;
     }
-    find_without(groups, drives, target.copied(), unit, part, sum)
+    find_without(groups, drives, target, unit, part, sum)
 }

@@ -3,10 +3,10 @@ use Rattle.extent_groups.proofs.DriveCalls.{keeps_trans, keeps_more, keeps_place
 use Rattle.parity_store.proofs.carry.write_once.Goals as goal
 
 pub write_way-done-requires-clause-home : goal.write_way-done-requires-clause-home
-write_way-done-requires-clause-home g c = keeps_place c.find_way-way.ensures.touched (c.requires.target.laid.row c.args.target.at.member c.args.target.home c.requires.target.home.home_is)
+write_way-done-requires-clause-home g c = keeps_place c.find_way-way.ensures.touched (c.requires.target.laid.row c.args.target.now.at.member c.args.target.now.home c.requires.target.home.home_is)
 
 pub write_way-done-requires-clause-parity : goal.write_way-done-requires-clause-parity
-write_way-done-requires-clause-parity g c = keeps_place c.find_way-way.ensures.touched (c.requires.target.laid.row c.args.target.at.parity c.args.target.parity c.requires.target.home.parity_is)
+write_way-done-requires-clause-parity g c = keeps_place c.find_way-way.ensures.touched (c.requires.target.laid.row c.args.target.now.at.parity c.args.target.now.parity c.requires.target.home.parity_is)
 
 pub write_way-done-requires-clause-size : goal.write_way-done-requires-clause-size
 write_way-done-requires-clause-size g c = keeps_sizes c.find_way-way.ensures.touched c.requires.target.laid.size

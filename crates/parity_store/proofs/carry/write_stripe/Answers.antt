@@ -20,16 +20,16 @@ sized g c = cells_sized g.D.Drive.units g.D.Drive.lost (length c.args.unit.now) 
 
 -- the first try touches the stripe's own two places
 own : (g : given.Over) (c : After-write_once-way g)
-    → KeepsDrives g.D.Drive.units g.D.Drive.lost g.D.Drive.failures (IsOwn (site_to c.args.groups.now c.args.target)) c.args.drives.now c.write_once-way.new.drives
+    → KeepsDrives g.D.Drive.units g.D.Drive.lost g.D.Drive.failures (IsOwn (site_to c.args.groups.now c.args.target.now)) c.args.drives.now c.write_once-way.new.drives
 own g c =
-    keeps_more (own_pair (row_to c.args.groups.now c.args.target) c.args.target.at.parity c.args.target.at.member _ _ c.requires.target.home.home_is c.requires.target.home.parity_is) c.write_once-way.ensures.touched
+    keeps_more (own_pair (row_to c.args.groups.now c.args.target.now) c.args.target.now.at.parity c.args.target.now.at.member _ _ c.requires.target.home.home_is c.requires.target.home.parity_is) c.write_once-way.ensures.touched
 
 pub returns-then-done-clause-ends : goal.returns-then-done-clause-ends
 returns-then-done-clause-ends g c =
     let here = (goal.at.returns-then-done-clause-ends g c).After-write_once-way in
     let done : c.write_once-way.result.1 ≡ true = search rules in
-    once_end (row_to c.args.groups.now c.args.target) c.args.target c.args.unit.now c.requires.target.home (cells g.D.Drive.units g.D.Drive.lost c.args.drives.now) (cells g.D.Drive.units g.D.Drive.lost c.write_once-way.new.drives) c.write_once-way.result.0 true (sized g here)
-    (subst (Tried (cells g.D.Drive.units g.D.Drive.lost c.args.drives.now) (cells g.D.Drive.units g.D.Drive.lost c.write_once-way.new.drives) (row_to c.args.groups.now c.args.target) c.args.target c.args.unit.now c.write_once-way.result.0) done c.write_once-way.ensures.tried)
+    once_end (row_to c.args.groups.now c.args.target.now) c.args.target.now c.args.unit.now c.requires.target.home (cells g.D.Drive.units g.D.Drive.lost c.args.drives.now) (cells g.D.Drive.units g.D.Drive.lost c.write_once-way.new.drives) c.write_once-way.result.0 true (sized g here)
+    (subst (Tried (cells g.D.Drive.units g.D.Drive.lost c.args.drives.now) (cells g.D.Drive.units g.D.Drive.lost c.write_once-way.new.drives) (row_to c.args.groups.now c.args.target.now) c.args.target.now c.args.unit.now c.write_once-way.result.0) done c.write_once-way.ensures.tried)
     (λ e. absurd (true≢false e))
 
 pub returns-then-done-clause-touched : goal.returns-then-done-clause-touched
@@ -40,30 +40,30 @@ returns-then-ne-clause-ends g c =
     let here = (goal.at.returns-then-ne-clause-ends g c).After-write_once-way in
     let failed : c.write_once-way.result.1 ≡ false = search rules in
     let other : c.write_once-way.result.0 ≢ way.Both = search rules in
-    once_end (row_to c.args.groups.now c.args.target) c.args.target c.args.unit.now c.requires.target.home (cells g.D.Drive.units g.D.Drive.lost c.args.drives.now) (cells g.D.Drive.units g.D.Drive.lost c.write_once-way.new.drives) c.write_once-way.result.0 false (sized g here)
-    (subst (Tried (cells g.D.Drive.units g.D.Drive.lost c.args.drives.now) (cells g.D.Drive.units g.D.Drive.lost c.write_once-way.new.drives) (row_to c.args.groups.now c.args.target) c.args.target c.args.unit.now c.write_once-way.result.0) failed c.write_once-way.ensures.tried)
+    once_end (row_to c.args.groups.now c.args.target.now) c.args.target.now c.args.unit.now c.requires.target.home (cells g.D.Drive.units g.D.Drive.lost c.args.drives.now) (cells g.D.Drive.units g.D.Drive.lost c.write_once-way.new.drives) c.write_once-way.result.0 false (sized g here)
+    (subst (Tried (cells g.D.Drive.units g.D.Drive.lost c.args.drives.now) (cells g.D.Drive.units g.D.Drive.lost c.write_once-way.new.drives) (row_to c.args.groups.now c.args.target.now) c.args.target.now c.args.unit.now c.write_once-way.result.0) failed c.write_once-way.ensures.tried)
     (λ e. other)
 
 pub returns-then-ne-clause-touched : goal.returns-then-ne-clause-touched
 returns-then-ne-clause-touched g c = own g (goal.at.returns-then-ne-clause-touched g c).After-write_once-way
 
 pub write_again-requires-clause-target : goal.write_again-requires-clause-target
-write_again-requires-clause-target g c = rw c.copied.ensures (record { home = c.requires.target.home; laid = still_laid c.write_once-way.ensures.touched refl c.requires.target.laid })
+write_again-requires-clause-target g c = record { home = c.requires.target.home; laid = still_laid c.write_once-way.ensures.touched refl c.requires.target.laid }
 
 pub returns-clause-ends : goal.returns-clause-ends
 returns-clause-ends g c =
     let here = (goal.at.returns-clause-ends g c).After-write_once-way in
     let old = cells g.D.Drive.units g.D.Drive.lost c.args.drives.now in
     let mid = cells g.D.Drive.units g.D.Drive.lost c.write_once-way.new.drives in
-    let row = row_to c.args.groups.now c.args.target in
+    let row = row_to c.args.groups.now c.args.target.now in
     let both : c.write_once-way.result.0 ≡ way.Both = search rules in
     let failed : c.write_once-way.result.1 ≡ false = search rules in
-    let again = rw c.copied.ensures at c.write_again.ensures.tried in
-    again_end row c.args.target c.args.unit.now c.requires.target.home old mid (cells g.D.Drive.units g.D.Drive.lost c.write_again.new.drives) again.0 c.write_again.result (sized g here)
-    (subst (λ w. Tried old mid row c.args.target c.args.unit.now w false) both (subst (Tried old mid row c.args.target c.args.unit.now c.write_once-way.result.0) failed c.write_once-way.ensures.tried))
+    let again = c.write_again.ensures.tried in
+    again_end row c.args.target.now c.args.unit.now c.requires.target.home old mid (cells g.D.Drive.units g.D.Drive.lost c.write_again.new.drives) again.0 c.write_again.result (sized g here)
+    (subst (λ w. Tried old mid row c.args.target.now c.args.unit.now w false) both (subst (Tried old mid row c.args.target.now c.args.unit.now c.write_once-way.result.0) failed c.write_once-way.ensures.tried))
     again.1
 
 pub returns-clause-touched : goal.returns-clause-touched
 returns-clause-touched g c =
     keeps_trans (own g (goal.at.returns-clause-touched g c).After-write_once-way)
-    (keeps_more (own_pair (row_to c.args.groups.now c.args.target) c.args.target.at.parity c.args.target.at.member _ _ c.requires.target.home.home_is c.requires.target.home.parity_is) (rw c.copied.ensures at c.write_again.ensures.touched))
+    (keeps_more (own_pair (row_to c.args.groups.now c.args.target.now) c.args.target.now.at.parity c.args.target.now.at.member _ _ c.requires.target.home.home_is c.requires.target.home.parity_is) c.write_again.ensures.touched)

@@ -21,12 +21,12 @@ pub read_two-read-requires-clause-apart : goal.read_two-read-requires-clause-apa
 read_two-read-requires-clause-apart g c = drives_differ _ _ _ _ _ c.requires.target.home
 
 pub find_without-requires-clause-target : goal.find_without-requires-clause-target
-find_without-requires-clause-target g c = rw c.copied.ensures (record { home = c.requires.target.home; laid = still_laid c.read_two-read.ensures.touched refl c.requires.target.laid })
+find_without-requires-clause-target g c = record { home = c.requires.target.home; laid = still_laid c.read_two-read.ensures.touched refl c.requires.target.laid }
 
 pub find_without-requires-clause-lost : goal.find_without-requires-clause-lost
 find_without-requires-clause-lost g c =
     let missed : c.read_two-read.result ≡ way.Missed = search rules in
-    rw c.copied.ensures (subst (IsRead (cells g.D.Drive.units g.D.Drive.lost c.read_two-read.new.drives) c.args.target.home c.args.target.parity c.args.unit.now c.read_two-read.new.sum) missed c.read_two-read.ensures.told)
+    subst (IsRead (cells g.D.Drive.units g.D.Drive.lost c.read_two-read.new.drives) c.args.target.now.home c.args.target.now.parity c.args.unit.now c.read_two-read.new.sum) missed c.read_two-read.ensures.told
 
 -- both places are on the group's drives
 two_elsewhere : {D : Type 0} (t : Groups) (g o i p : ℕ) (home parity : Place) (a b : List D) → slice_get (row_at t g o) i ≡ Some home → slice_get (row_at t g o) p ≡ Some parity
@@ -37,9 +37,9 @@ two_elsewhere t g o i p home parity a b one two same =
       | inr e ↦ subst (HasMemberOn t g) (sym e) (row_drive t g o p parity two)
     ]) same
 
-read_elsewhere : (g : given.Over) (c : After-read_two-read g) → SameBut (HasMemberOn c.args.groups.now c.args.target.group) c.args.drives.now c.read_two-read.new.drives
+read_elsewhere : (g : given.Over) (c : After-read_two-read g) → SameBut (HasMemberOn c.args.groups.now c.args.target.now.group) c.args.drives.now c.read_two-read.new.drives
 read_elsewhere g c =
-    two_elsewhere c.args.groups.now c.args.target.group c.args.target.at.offset c.args.target.at.member c.args.target.at.parity c.args.target.home c.args.target.parity c.args.drives.now c.read_two-read.new.drives
+    two_elsewhere c.args.groups.now c.args.target.now.group c.args.target.now.at.offset c.args.target.now.at.member c.args.target.now.at.parity c.args.target.now.home c.args.target.now.parity c.args.drives.now c.read_two-read.new.drives
     c.requires.target.home.home_is c.requires.target.home.parity_is c.read_two-read.ensures.elsewhere
 
 pub returns-then-ne-clause-elsewhere : goal.returns-then-ne-clause-elsewhere
@@ -53,4 +53,4 @@ returns-clause-touched g c = keeps_trans c.read_two-read.ensures.touched c.find_
 
 pub returns-clause-elsewhere : goal.returns-clause-elsewhere
 returns-clause-elsewhere g c =
-    same_trans c.args.drives.now c.read_two-read.new.drives c.find_without.new.drives (read_elsewhere g (goal.at.returns-clause-elsewhere g c).After-read_two-read) (rw c.copied.ensures at c.find_without.ensures.elsewhere)
+    same_trans c.args.drives.now c.read_two-read.new.drives c.find_without.new.drives (read_elsewhere g (goal.at.returns-clause-elsewhere g c).After-read_two-read) c.find_without.ensures.elsewhere
