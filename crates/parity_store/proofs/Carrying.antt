@@ -21,7 +21,7 @@ use Rattle.parity_store.specs.declared.way.Way.TheVariants.{Both, Alone, Parity,
 use Rattle.parity_store.specs.Ways.{Differs, IsDifference, ParityWritten}
 use Rattle.parity_store.specs.declared.target.Target.{Target}
 use Rattle.parity_store.specs.Drafts.{IsDraft, writes_by, parity_by, IsCarried, WroteByDraft, Tried, Ends}
-use Rattle.parity_store.specs.Targets.{IsHome}
+use Rattle.parity_store.specs.Targets.{IsHome, row_to}
 use Rattle.parity_store.proofs.Stripes.{drives_differ, not_own, stays_gone, differs_row, parity_row}
 use Rattle.parity_store.proofs.Planning.{for_place, planned_both, planned_alone, planned_parity}
 
@@ -68,25 +68,25 @@ module _ (row : List Place) (p i : ℕ) (home parity : Place) (u s : List ℕ) (
   }
 
   -- the row afterwards, and all other places
-  pub way_row : (c new : Cells) (way : Way) → AreSizedCells (length u) c → IsDraft (length u) c row p i home parity u s way → IsCarried c new home parity u s way true
+  way_row : (c new : Cells) (way : Way) → AreSizedCells (length u) c → IsDraft (length u) c row p i home parity u s way → IsCarried c new home parity u s way true
       → WritesRow (length u) (length row) (row_of c row) (row_of new row) i p u
   way_row c new Both sized draft did = differs_row c new row p i home parity u h (both_differ c did.0 new did.1 draft did.2 did.3)
   way_row c new Alone sized draft did = differs_row c new row p i home parity u h (alone_differs c new draft did)
   way_row c new Parity sized draft did = parity_row c c new row p i home parity u h sized (λ x. inl refl) draft.1 (parity_written c new draft did)
   way_row c new Missed sized draft did = absurd (true≢false did.0)
 
-  pub way_beside : (c new : Cells) (way : Way) → IsCarried c new home parity u s way true → (x : Place) → (IsOwn (InStripe row p i) x → ⊥) → FadesAt c new x
+  way_beside : (c new : Cells) (way : Way) → IsCarried c new home parity u s way true → (x : Place) → (IsOwn (InStripe row p i) x → ⊥) → FadesAt c new x
   way_beside c new Both did x never = let both = not_own row p i home parity x h never in fades_trans (held c x) (held did.0 x) (held new x) (did.2.beside x both.0) (did.3.beside x both.1)
   way_beside c new Alone did x never = did.beside x (not_own row p i home parity x h never).0
   way_beside c new Parity did x never = did.beside x (not_own row p i home parity x h never).1
   way_beside c new Missed did x never = absurd (true≢false did.0)
 
   -- of the drives before the reads: the unit is the effective one, and all sites are as a write leaves them
-  pub way_unit : (c mid new : Cells) (way : Way) → AreSizedCells (length u) c → ((x : Place) → FadesAt c mid x)
+  way_unit : (c mid new : Cells) (way : Way) → AreSizedCells (length u) c → ((x : Place) → FadesAt c mid x)
       → IsDraft (length u) mid row p i home parity u s way → IsCarried mid new home parity u s way true → unit_at (length u) new (InStripe row p i) ≡ Some u
   way_unit c mid new way sized fades draft did = (way_row mid new way (faded_sizes (length u) c mid fades sized) draft did).unit
 
-  pub way_leaves : (c mid new : Cells) (way : Way) → AreSizedCells (length u) c → ((x : Place) → FadesAt c mid x)
+  way_leaves : (c mid new : Cells) (way : Way) → AreSizedCells (length u) c → ((x : Place) → FadesAt c mid x)
       → IsDraft (length u) mid row p i home parity u s way → IsCarried mid new home parity u s way true → IsSoundAt (length u) c (InStripe row p i)
       → LeavesSites (length u) c new (InStripe row p i)
   way_leaves c mid new way sized fades draft did sound =
@@ -96,16 +96,16 @@ module _ (row : List Place) (p i : ℕ) (home parity : Place) (u s : List ℕ) (
       (λ x never. fades_trans (held c x) (held mid x) (held new x) (fades x) (way_beside mid new way did x never))
 
   -- the way's list was carried out
-  pub way_written : (c new : Cells) (way : Way) → IsCarried c new home parity u s way true → (x : Place) → FadesAt (after c (writes_by home parity u s way)) new x
+  way_written : (c new : Cells) (way : Way) → IsCarried c new home parity u s way true → (x : Place) → FadesAt (after c (writes_by home parity u s way)) new x
   way_written c new Both did = fades_more c did.0 new (for_place home u ∷ []) (for_place parity s) did.1 (fades_more c c did.0 [] (for_place home u) true (λ x. inl refl) did.2) did.3
   way_written c new Alone did = fades_more c c new [] (for_place home u) true (λ x. inl refl) did
   way_written c new Parity did = fades_more c c new [] (for_place parity s) true (λ x. inl refl) did
   way_written c new Missed did = absurd (true≢false did.0)
 
-  pub way_found : (c new : Cells) (way : Way) → IsCarried c new home parity u s way true → way ≢ Missed
+  way_found : (c new : Cells) (way : Way) → IsCarried c new home parity u s way true → way ≢ Missed
   way_found c new way did e = true≢false (subst (λ w. IsCarried c new home parity u s w true) e did).0
 
-  pub way_drafted : (c mid new : Cells) (way : Way) → length s ≡ length u → ((x : Place) → FadesAt c mid x)
+  way_drafted : (c mid new : Cells) (way : Way) → length s ≡ length u → ((x : Place) → FadesAt c mid x)
       → IsDraft (length u) mid row p i home parity u s way → IsCarried mid new home parity u s way true → WroteByDraft (length u) c new row p i u
   way_drafted c mid new way long fades draft did = record {
     home = home;
@@ -134,7 +134,7 @@ module _ (row : List Place) (p i : ℕ) (home parity : Place) (u s : List ℕ) (
       both_missing (length u) (length row) i p (row_of new row) h.whole.1 (λ e. h.whole.2 (sym e)) (ap (held_in new) h.home_is ∙ lost) (ap (held_in new) h.parity_is ∙ also)
 
   -- and the unit can't be had, but where its drive was lost in a write by difference
-  pub way_none : (c new : Cells) (way : Way) → way ≢ Both → IsDraft (length u) c row p i home parity u s way → IsCarried c new home parity u s way false
+  way_none : (c new : Cells) (way : Way) → way ≢ Both → IsDraft (length u) c row p i home parity u s way → IsCarried c new home parity u s way false
       → unit_at (length u) new (InStripe row p i) ≡ None
   way_none c new Both ne draft did = absurd (ne refl)
   way_none c new Alone ne draft did = both_lost new did.here (did.elsewhere parity (λ e. drives_differ row p i home parity h (sym e)) ∙ draft.2)
@@ -145,19 +145,6 @@ module _ (row : List Place) (p i : ℕ) (home parity : Place) (u s : List ℕ) (
   lost_not_both : (c : Cells) (way : Way) → held c home ≡ None → IsDraft (length u) c row p i home parity u s way → way ≢ Both
   lost_not_both c way lost draft e =
       let both = subst (λ w. IsDraft (length u) c row p i home parity u s w) e draft in none-some both.0 (sym lost ∙ both.2)
-
-  -- whatever comes of a way's writes, but of one by difference whose unit's drive was lost in its write
-  way_end : (c mid new : Cells) (way : Way) (ok : Bool) → AreSizedCells (length u) c → length s ≡ length u → ((x : Place) → FadesAt c mid x)
-      → IsDraft (length u) mid row p i home parity u s way → IsCarried mid new home parity u s way ok → (ok ≡ false → way ≢ Both)
-      → Ends c new row p i u ok
-  way_end c mid new way true sized long fades draft did ne = record {
-    unit_is = way_unit c mid new way sized fades draft did;
-    leaves = way_leaves c mid new way sized fades draft did;
-    drafted = way_drafted c mid new way long fades draft did;
-  }
-  way_end c mid new way false sized long fades draft did ne =
-      let all : (x : Place) → FadesAt c new x = λ x. fades_trans (held c x) (held mid x) (held new x) (fades x) (way_fades mid new way did x) in
-      record { unit_is = way_none mid new way (ne refl) draft did; leaves = λ sound. fades_leave (length u) c new (InStripe row p i) sized h.whole sound all; drafted = all }
 
   -- the list is the slot's plan
   module _ (groups : Groups) (c : Cells) (slot : ℕ) (layout : IsLayout groups) (at : site_of groups slot ≡ Some (InStripe row p i))
@@ -206,24 +193,46 @@ module _ (row : List Place) (p i : ℕ) (home parity : Place) (u s : List ℕ) (
         some_over (Some q) some = refl
     way_parity Missed found draft = absurd (found refl)
 
-module _ (row : List Place) (target : Target) (u : List ℕ) (h : IsHome row target.at.parity target.at.member target.home target.parity) where
-  -- a write that was tried, after some drives were lost, but one by difference whose unit's drive was lost in its write
-  tried_end : (c was new : Cells) (way : Way) (ok : Bool) → AreSizedCells (length u) c → ((x : Place) → FadesAt c was x) → Tried was new row target u way ok → (ok ≡ false → way ≢ Both)
-      → Ends c new row target.at.parity target.at.member u ok
-  tried_end c was new way ok sized fades t ne =
-      way_end row target.at.parity target.at.member target.home target.parity u t.sum h c t.mid new way ok sized t.sized (λ x. fades_trans (held c x) (held was x) (held t.mid x) (fades x) (t.read x)) t.draft t.carried ne
+module _ (groups : Groups) (target : Target) (u : List ℕ) (h : IsHome (row_to groups target) target.at.parity target.at.member target.home target.parity) where
+  abbrev row : List Place
+  row = row_to groups target
 
-  pub once_end : (c new : Cells) (way : Way) (ok : Bool) → AreSizedCells (length u) c → Tried c new row target u way ok → (ok ≡ false → way ≢ Both)
-      → Ends c new row target.at.parity target.at.member u ok
+  abbrev p : ℕ
+  p = target.at.parity
+
+  abbrev i : ℕ
+  i = target.at.member
+
+  -- a write that was tried after losses, but one by difference whose unit's drive was lost in its write
+  tried_end : (c was new : Cells) (way : Way) (ok : Bool) → AreSizedCells (length u) c → ((x : Place) → FadesAt c was x) → Tried groups was new target u way ok → (ok ≡ false → way ≢ Both)
+      → Ends groups c new target u ok
+  tried_end c was new way true sized fades t ne =
+      let all : (x : Place) → FadesAt c t.mid x = λ x. fades_trans (held c x) (held was x) (held t.mid x) (fades x) (t.read x) in
+      record {
+        unit_is = way_unit row p i target.home target.parity u t.sum h c t.mid new way sized all t.draft t.carried;
+        leaves = way_leaves row p i target.home target.parity u t.sum h c t.mid new way sized all t.draft t.carried;
+        drafted = way_drafted row p i target.home target.parity u t.sum h c t.mid new way t.sized all t.draft t.carried;
+      }
+  tried_end c was new way false sized fades t ne =
+      let all : (x : Place) → FadesAt c new x =
+      λ x. fades_trans (held c x) (held t.mid x) (held new x) (fades_trans (held c x) (held was x) (held t.mid x) (fades x) (t.read x))
+      (way_fades row p i target.home target.parity u t.sum h t.mid new way t.carried x) in
+      record {
+        unit_is = way_none row p i target.home target.parity u t.sum h t.mid new way (ne refl) t.draft t.carried;
+        leaves = λ sound. fades_leave (length u) c new (InStripe row p i) sized h.whole sound all;
+        drafted = all;
+      }
+
+  pub once_end : (c new : Cells) (way : Way) (ok : Bool) → AreSizedCells (length u) c → Tried groups c new target u way ok → (ok ≡ false → way ≢ Both) → Ends groups c new target u ok
   once_end c new way ok sized t ne = tried_end c c new way ok sized (λ x. inl refl) t ne
 
   -- that one is tried again without the drive, and nothing was written before
-  pub again_end : (c mid new : Cells) (way : Way) (ok : Bool) → AreSizedCells (length u) c → Tried c mid row target u Both false → Tried mid new row target u way ok
-      → Ends c new row target.at.parity target.at.member u ok
+  pub again_end : (c mid new : Cells) (way : Way) (ok : Bool) → AreSizedCells (length u) c → Tried groups c mid target u Both false → Tried groups mid new target u way ok
+      → Ends groups c new target u ok
   again_end c mid new way ok sized one two =
       tried_end c mid new way ok sized
-      (λ x. fades_trans (held c x) (held one.mid x) (held mid x) (one.read x) (way_fades row target.at.parity target.at.member target.home target.parity u one.sum h one.mid mid Both one.carried x)) two
-      (λ e. lost_not_both row target.at.parity target.at.member target.home target.parity u two.sum h two.mid way (fades_lost (length u) mid two.mid target.home (two.read target.home) one.carried.here) two.draft)
+      (λ x. fades_trans (held c x) (held one.mid x) (held mid x) (one.read x) (way_fades row p i target.home target.parity u one.sum h one.mid mid Both one.carried x)) two
+      (λ e. lost_not_both row p i target.home target.parity u two.sum h two.mid way (fades_lost (length u) mid two.mid target.home (two.read target.home) one.carried.here) two.draft)
 
 pub on_true : (A B : Type 0) (b : Bool) → MatchBool b A B → b ≡ true → A
 on_true A B true a e = a

@@ -9,6 +9,8 @@ use Rattle.extent_groups.specs.Stores.{LeavesSites}
 use Rattle.extent_groups.specs.Planned.{Wanted, after}
 use Rattle.parity_store.specs.Ways.{bare}
 use Rattle.parity_store.specs.declared.target.Target.{Target}
+use Rattle.parity_store.specs.Targets.{row_to, site_to}
+use Rattle.extent_groups.specs.Groups.{Groups}
 use Rattle.parity_store.specs.declared.way.Way.{Way}
 use Rattle.parity_store.specs.declared.way.Way.TheVariants.{Both, Alone, Parity, Missed}
 
@@ -62,17 +64,21 @@ pub record WroteByDraft (n : ℕ) (c new : Cells) (row : List Place) (p i : ℕ)
   pub draft : IsDraft n mid row p i home parity unit sum way
   pub written : (x : Place) → FadesAt (after mid (writes_by home parity unit sum way)) new x
 
--- a unit was drafted from what the drives held after reads, and its way's writes were made, or the first of them was refused
-pub record Tried (c new : Cells) (row : List Place) (target : Target) (unit : List ℕ) (way : Way) (ok : Bool) : Type 0 where
+-- the draft of a slot's write
+abbrev pub IsDraftOf : Groups → Cells → Target → List ℕ → List ℕ → Way → Type 0
+IsDraftOf groups c target unit sum way = IsDraft (length unit) c (row_to groups target) target.at.parity target.at.member target.home target.parity unit sum way
+
+-- a slot's write was drafted from what the drives held after reads, and its way's writes were made, or the first of them was refused
+pub record Tried (groups : Groups) (c new : Cells) (target : Target) (unit : List ℕ) (way : Way) (ok : Bool) : Type 0 where
   pub mid : Cells
   pub sum : List ℕ
   pub sized : length sum ≡ length unit
   pub read : (x : Place) → FadesAt c mid x
-  pub draft : IsDraft (length unit) mid row target.at.parity target.at.member target.home target.parity unit sum way
+  pub draft : IsDraftOf groups mid target unit sum way
   pub carried : IsCarried mid new target.home target.parity unit sum way ok
 
--- how a write of a member of a row ends
-pub record Ends (c new : Cells) (row : List Place) (p i : ℕ) (unit : List ℕ) (ok : Bool) : Type 0 where
-  pub unit_is : unit_at (length unit) new (InStripe row p i) ≡ if_ok ok unit
-  pub leaves : IsSoundAt (length unit) c (InStripe row p i) → LeavesSites (length unit) c new (InStripe row p i)
-  pub drafted : MatchBool ok (WroteByDraft (length unit) c new row p i unit) ((x : Place) → FadesAt c new x)
+-- how a slot's write ends
+pub record Ends (groups : Groups) (c new : Cells) (target : Target) (unit : List ℕ) (ok : Bool) : Type 0 where
+  pub unit_is : unit_at (length unit) new (site_to groups target) ≡ if_ok ok unit
+  pub leaves : IsSoundAt (length unit) c (site_to groups target) → LeavesSites (length unit) c new (site_to groups target)
+  pub drafted : MatchBool ok (WroteByDraft (length unit) c new (row_to groups target) target.at.parity target.at.member unit) ((x : Place) → FadesAt c new x)

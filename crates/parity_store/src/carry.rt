@@ -5,7 +5,7 @@ ghost use Rattle.extent_groups.specs.Calls.{AreSized, IsPlace, KeepsDrives};
 ghost use Rattle.extent_groups.specs.Units.{Pair};
 ghost use Rattle.extent_groups.specs.Stores.{IsOwn};
 ghost use Rattle.parity_store.specs.declared.way.Way.{Way};
-ghost use Rattle.parity_store.specs.Targets.{IsTarget, row_to, site_to};
+ghost use Rattle.parity_store.specs.Targets.{IsTarget, site_to};
 ghost use Rattle.parity_store.specs.Drafts.{IsCarried, Tried, Ends};
 
 use crate::target::Target;
@@ -58,7 +58,7 @@ fn write_once<D: Drive>(
     requires target { IsTarget D.units groups.now target.now (length unit.now) drives.old }
     requires part { length part.old ≡ length unit.now }
     requires sum { length sum.old ≡ length unit.now }
-    ensures tried { Tried (cells D.units D.lost drives.old) (cells D.units D.lost drives.new) (row_to groups.now target.now) target.now unit.now result.0 result.1 }
+    ensures tried { Tried groups.now (cells D.units D.lost drives.old) (cells D.units D.lost drives.new) target.now unit.now result.0 result.1 }
     ensures touched { KeepsDrives D.units D.lost D.failures (IsOwn (Pair target.now.home target.now.parity)) drives.old drives.new }
 {
     let way = find_way(groups, drives, target, unit, part, sum);
@@ -80,7 +80,7 @@ fn write_again<D: Drive>(
     requires part { length part.old ≡ length unit.now }
     requires sum { length sum.old ≡ length unit.now }
     ensures tried { (way : Way)
-        × Tried (cells D.units D.lost drives.old) (cells D.units D.lost drives.new) (row_to groups.now target.now) target.now unit.now way result }
+        × Tried groups.now (cells D.units D.lost drives.old) (cells D.units D.lost drives.new) target.now unit.now way result }
     ensures touched { KeepsDrives D.units D.lost D.failures (IsOwn (Pair target.now.home target.now.parity)) drives.old drives.new }
 {
     write_once(groups, drives, target, unit, part, sum).1
@@ -99,8 +99,7 @@ pub(crate) fn write_stripe<D: Drive>(
     requires target { IsTarget D.units groups.now target.now (length unit.now) drives.old }
     requires part { length part.old ≡ length unit.now }
     requires sum { length sum.old ≡ length unit.now }
-    ensures ends { Ends (cells D.units D.lost drives.old) (cells D.units D.lost drives.new) (row_to groups.now target.now) target.now.at.parity target.now.at.member
-        unit.now result }
+    ensures ends { Ends groups.now (cells D.units D.lost drives.old) (cells D.units D.lost drives.new) target.now unit.now result }
     ensures touched { KeepsDrives D.units D.lost D.failures (IsOwn (site_to groups.now target.now)) drives.old drives.new }
 {
     let (way, done) = write_once(groups, drives, target, unit, part, sum);

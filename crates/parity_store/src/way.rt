@@ -4,8 +4,8 @@ ghost use Rattle.extent_groups.specs.declared.place.Place.{Place};
 ghost use Rattle.extent_groups.specs.Cells.{cells, held};
 ghost use Rattle.extent_groups.specs.Calls.{AreSized, FadesAt, IsPlace, NoPlace, SameBut, KeepsDrives};
 ghost use Rattle.extent_groups.specs.Stores.{HasMemberOn};
-ghost use Rattle.parity_store.specs.Targets.{IsTarget, row_to};
-ghost use Rattle.parity_store.specs.Drafts.{IsRead, IsDraft};
+ghost use Rattle.parity_store.specs.Targets.{IsTarget};
+ghost use Rattle.parity_store.specs.Drafts.{IsRead, IsDraftOf};
 
 use crate::exclusive_or::xor_both_into;
 use crate::others::{Others, add_others};
@@ -72,8 +72,7 @@ fn find_without<D: Drive>(
     requires lost { held (cells D.units D.lost drives.old) target.now.home ≡ None }
     requires part { length part.old ≡ length unit.now }
     requires sum { length sum.old ≡ length unit.now }
-    ensures draft { IsDraft (length unit.now) (cells D.units D.lost drives.new) (row_to groups.now target.now) target.now.at.parity target.now.at.member
-        target.now.home target.now.parity unit.now sum.new result }
+    ensures draft { IsDraftOf groups.now (cells D.units D.lost drives.new) target.now unit.now sum.new result }
     ensures fades { (x : Place) → FadesAt (cells D.units D.lost drives.old) (cells D.units D.lost drives.new) x }
     ensures touched { KeepsDrives D.units D.lost D.failures NoPlace drives.old drives.new }
     ensures elsewhere { SameBut (HasMemberOn groups.now target.now.group) drives.old drives.new }
@@ -109,8 +108,7 @@ pub(crate) fn find_way<D: Drive>(
     requires target { IsTarget D.units groups.now target.now (length unit.now) drives.old }
     requires part { length part.old ≡ length unit.now }
     requires sum { length sum.old ≡ length unit.now }
-    ensures draft { IsDraft (length unit.now) (cells D.units D.lost drives.new) (row_to groups.now target.now) target.now.at.parity target.now.at.member
-        target.now.home target.now.parity unit.now sum.new result }
+    ensures draft { IsDraftOf groups.now (cells D.units D.lost drives.new) target.now unit.now sum.new result }
     ensures fades { (x : Place) → FadesAt (cells D.units D.lost drives.old) (cells D.units D.lost drives.new) x }
     ensures touched { KeepsDrives D.units D.lost D.failures NoPlace drives.old drives.new }
     ensures elsewhere { SameBut (HasMemberOn groups.now target.now.group) drives.old drives.new }

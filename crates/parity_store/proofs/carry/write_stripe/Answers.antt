@@ -28,8 +28,8 @@ pub returns-then-done-clause-ends : goal.returns-then-done-clause-ends
 returns-then-done-clause-ends g c =
     let here = (goal.at.returns-then-done-clause-ends g c).After-write_once-way in
     let done : c.write_once-way.result.1 ≡ true = search rules in
-    once_end (row_to c.args.groups.now c.args.target.now) c.args.target.now c.args.unit.now c.requires.target.home (cells g.D.Drive.units g.D.Drive.lost c.args.drives.now) (cells g.D.Drive.units g.D.Drive.lost c.write_once-way.new.drives) c.write_once-way.result.0 true (sized g here)
-    (subst (Tried (cells g.D.Drive.units g.D.Drive.lost c.args.drives.now) (cells g.D.Drive.units g.D.Drive.lost c.write_once-way.new.drives) (row_to c.args.groups.now c.args.target.now) c.args.target.now c.args.unit.now c.write_once-way.result.0) done c.write_once-way.ensures.tried)
+    once_end c.args.groups.now c.args.target.now c.args.unit.now c.requires.target.home (cells g.D.Drive.units g.D.Drive.lost c.args.drives.now) (cells g.D.Drive.units g.D.Drive.lost c.write_once-way.new.drives) c.write_once-way.result.0 true (sized g here)
+    (subst (Tried c.args.groups.now (cells g.D.Drive.units g.D.Drive.lost c.args.drives.now) (cells g.D.Drive.units g.D.Drive.lost c.write_once-way.new.drives) c.args.target.now c.args.unit.now c.write_once-way.result.0) done c.write_once-way.ensures.tried)
     (λ e. absurd (true≢false e))
 
 pub returns-then-done-clause-touched : goal.returns-then-done-clause-touched
@@ -40,8 +40,8 @@ returns-then-ne-clause-ends g c =
     let here = (goal.at.returns-then-ne-clause-ends g c).After-write_once-way in
     let failed : c.write_once-way.result.1 ≡ false = search rules in
     let other : c.write_once-way.result.0 ≢ way.Both = search rules in
-    once_end (row_to c.args.groups.now c.args.target.now) c.args.target.now c.args.unit.now c.requires.target.home (cells g.D.Drive.units g.D.Drive.lost c.args.drives.now) (cells g.D.Drive.units g.D.Drive.lost c.write_once-way.new.drives) c.write_once-way.result.0 false (sized g here)
-    (subst (Tried (cells g.D.Drive.units g.D.Drive.lost c.args.drives.now) (cells g.D.Drive.units g.D.Drive.lost c.write_once-way.new.drives) (row_to c.args.groups.now c.args.target.now) c.args.target.now c.args.unit.now c.write_once-way.result.0) failed c.write_once-way.ensures.tried)
+    once_end c.args.groups.now c.args.target.now c.args.unit.now c.requires.target.home (cells g.D.Drive.units g.D.Drive.lost c.args.drives.now) (cells g.D.Drive.units g.D.Drive.lost c.write_once-way.new.drives) c.write_once-way.result.0 false (sized g here)
+    (subst (Tried c.args.groups.now (cells g.D.Drive.units g.D.Drive.lost c.args.drives.now) (cells g.D.Drive.units g.D.Drive.lost c.write_once-way.new.drives) c.args.target.now c.args.unit.now c.write_once-way.result.0) failed c.write_once-way.ensures.tried)
     (λ e. other)
 
 pub returns-then-ne-clause-touched : goal.returns-then-ne-clause-touched
@@ -55,12 +55,11 @@ returns-clause-ends g c =
     let here = (goal.at.returns-clause-ends g c).After-write_once-way in
     let old = cells g.D.Drive.units g.D.Drive.lost c.args.drives.now in
     let mid = cells g.D.Drive.units g.D.Drive.lost c.write_once-way.new.drives in
-    let row = row_to c.args.groups.now c.args.target.now in
     let both : c.write_once-way.result.0 ≡ way.Both = search rules in
     let failed : c.write_once-way.result.1 ≡ false = search rules in
     let again = c.write_again.ensures.tried in
-    again_end row c.args.target.now c.args.unit.now c.requires.target.home old mid (cells g.D.Drive.units g.D.Drive.lost c.write_again.new.drives) again.0 c.write_again.result (sized g here)
-    (subst (λ w. Tried old mid row c.args.target.now c.args.unit.now w false) both (subst (Tried old mid row c.args.target.now c.args.unit.now c.write_once-way.result.0) failed c.write_once-way.ensures.tried))
+    again_end c.args.groups.now c.args.target.now c.args.unit.now c.requires.target.home old mid (cells g.D.Drive.units g.D.Drive.lost c.write_again.new.drives) again.0 c.write_again.result (sized g here)
+    (subst (λ w. Tried c.args.groups.now old mid c.args.target.now c.args.unit.now w false) both (subst (Tried c.args.groups.now old mid c.args.target.now c.args.unit.now c.write_once-way.result.0) failed c.write_once-way.ensures.tried))
     again.1
 
 pub returns-clause-touched : goal.returns-clause-touched
