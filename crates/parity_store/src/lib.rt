@@ -19,6 +19,7 @@ ghost use Rattle.extent_groups.specs.Stores.{unit_bytes, unit_of, header_of, IsB
 ghost use Rattle.extent_groups.specs.Stores.{AreDrives, KeepsUnits, Wrote, NamesGone, IsOwnOf, HasMemberOn};
 ghost use Rattle.extent_groups.specs.declared.place.Place.{Place};
 ghost use Rattle.extent_groups.specs.Planned.{WroteByPlan};
+ghost use Rattle.parity_store.specs.Ways.{ReadLeaves};
 
 pub use exclusive_or::xor_into;
 use extent_groups::{GroupTable, SLOTS, StoreRefusal};
@@ -46,12 +47,7 @@ fn read_fronts<D: Drive>(
     requires scratch { IsBuffer (unit_bytes groups.now) (length buffer.old) (length scratch.old) }
     ensures front { front (length buffer.old) (unit_of groups.now (cells D.units D.lost drives.new) slot) ≡ if_ok result buffer.new }
     ensures whole { length buffer.old ≡ unit_bytes groups.now → unit_of groups.now (cells D.units D.lost drives.new) slot ≡ if_ok result buffer.new }
-    ensures units { AreSound groups.now (cells D.units D.lost drives.old)
-        → KeepsUnits groups.now (cells D.units D.lost drives.old) (cells D.units D.lost drives.new) }
-    ensures sound { AreSound groups.now (cells D.units D.lost drives.old) → AreSound groups.now (cells D.units D.lost drives.new) }
-    ensures touched { KeepsDrives D.units D.lost D.failures NoPlace drives.old drives.new }
-    ensures elsewhere { SameBut (HasMemberOn groups.now (slot / 128)) drives.old drives.new }
-    ensures drives { AreDrives D.units groups.now drives.new }
+    ensures leaves { ReadLeaves D.units D.lost D.failures groups.now (slot / 128) drives.old drives.new }
 {
     let at = groups.row_of(slot);
     stripe::read_stripe(groups, drives, slot / SLOTS, &at, buffer, part, scratch)

@@ -14,14 +14,16 @@ read_stripe-requires-clause-readable g c = readable _ _ _ _ _ _ c.requires.drive
 pub read_stripe-requires-clause-scratch : goal.read_stripe-requires-clause-scratch
 read_stripe-requires-clause-scratch g c = have_room g.D.Drive.units _ _ _ c.args.drives.now c.requires.scratch c.requires.drives.sized
 
-pub returns-clause-units : goal.returns-clause-units
-returns-clause-units g c = λ s. (read_keeps _ _ _ c.row_of-at.ensures.groups c.requires.drives s (kept_fades c.read_stripe.ensures.touched) c.read_stripe.ensures.touched).all
-
-pub returns-clause-sound : goal.returns-clause-sound
-returns-clause-sound g c = λ s. (read_keeps _ _ _ c.row_of-at.ensures.groups c.requires.drives s (kept_fades c.read_stripe.ensures.touched) c.read_stripe.ensures.touched).sound
-
-pub returns-clause-drives : goal.returns-clause-drives
-returns-clause-drives g c = drives_kept _ c.read_stripe.ensures.touched c.requires.drives
+pub returns-clause-leaves : goal.returns-clause-leaves
+returns-clause-leaves g c =
+    let touched = c.read_stripe.ensures.touched in
+    record {
+      units_kept = λ s. (read_keeps _ _ _ c.row_of-at.ensures.groups c.requires.drives s (kept_fades touched) touched).all;
+      sound = λ s. (read_keeps _ _ _ c.row_of-at.ensures.groups c.requires.drives s (kept_fades touched) touched).sound;
+      touched = touched;
+      elsewhere = c.read_stripe.ensures.elsewhere;
+      drives = drives_kept _ touched c.requires.drives;
+    }
 
 pub returns-clause-front : goal.returns-clause-front
 returns-clause-front g c = slot_front g.D.Drive.units g.D.Drive.lost c.read_stripe.new.drives c.args.groups.now c.args.slot _ (length c.args.buffer.now) _ c.row_of-at.ensures.site c.requires.size c.read_stripe.ensures.unit
