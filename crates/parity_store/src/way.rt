@@ -1,8 +1,7 @@
 // What a write of a member of a stripe needs to know, read before the first write.
 ghost use Rattle.std.specs.Prelude.{◌≡◌, ◌≢◌, ◌⊎◌, None, length};
-ghost use Rattle.extent_groups.specs.declared.place.Place.{Place};
 ghost use Rattle.extent_groups.specs.Cells.{cells, held};
-ghost use Rattle.extent_groups.specs.Calls.{AreSized, FadesAt, IsPlace, NoPlace, SameBut, KeepsDrives};
+ghost use Rattle.extent_groups.specs.Calls.{AreSized, IsPlace, NoPlace, SameBut, KeepsDrives};
 ghost use Rattle.extent_groups.specs.Stores.{HasMemberOn};
 ghost use Rattle.parity_store.specs.Targets.{IsTarget};
 ghost use Rattle.parity_store.specs.Drafts.{IsRead, IsDraftOf};
@@ -43,7 +42,6 @@ fn read_two<D: Drive>(
     requires part { length part.old ≡ length unit.now }
     requires sum { length sum.old ≡ length unit.now }
     ensures told { IsRead (cells D.units D.lost drives.new) home parity unit.now sum.new result }
-    ensures fades { (x : Place) → FadesAt (cells D.units D.lost drives.old) (cells D.units D.lost drives.new) x }
     ensures touched { KeepsDrives D.units D.lost D.failures NoPlace drives.old drives.new }
     ensures elsewhere { SameBut (λ d. (d ≡ home.drive) ⊎ (d ≡ parity.drive)) drives.old drives.new }
 {
@@ -73,7 +71,6 @@ fn find_without<D: Drive>(
     requires part { length part.old ≡ length unit.now }
     requires sum { length sum.old ≡ length unit.now }
     ensures draft { IsDraftOf groups.now (cells D.units D.lost drives.new) target.now unit.now sum.new result }
-    ensures fades { (x : Place) → FadesAt (cells D.units D.lost drives.old) (cells D.units D.lost drives.new) x }
     ensures touched { KeepsDrives D.units D.lost D.failures NoPlace drives.old drives.new }
     ensures elsewhere { SameBut (HasMemberOn groups.now target.now.group) drives.old drives.new }
 {
@@ -109,7 +106,6 @@ pub(crate) fn find_way<D: Drive>(
     requires part { length part.old ≡ length unit.now }
     requires sum { length sum.old ≡ length unit.now }
     ensures draft { IsDraftOf groups.now (cells D.units D.lost drives.new) target.now unit.now sum.new result }
-    ensures fades { (x : Place) → FadesAt (cells D.units D.lost drives.old) (cells D.units D.lost drives.new) x }
     ensures touched { KeepsDrives D.units D.lost D.failures NoPlace drives.old drives.new }
     ensures elsewhere { SameBut (HasMemberOn groups.now target.now.group) drives.old drives.new }
 {

@@ -1,5 +1,6 @@
 use Rattle.std.proofs.Common.{◌∙◌}
 use Rattle.extent_groups.proofs.DriveCalls.{keeps_trans, keeps_more, keeps_place, keeps_sizes}
+use Rattle.extent_groups.proofs.Losses.{kept_fades}
 use Rattle.parity_store.proofs.carry.write_once.Goals as goal
 
 pub write_way-done-requires-clause-home : goal.write_way-done-requires-clause-home
@@ -16,7 +17,7 @@ returns-clause-tried g c = record {
   mid = _;
   sum = c.find_way-way.new.sum;
   sized = c.find_way-way.auto.sum ∙ c.requires.sum;
-  read = c.find_way-way.ensures.fades;
+  read = kept_fades c.find_way-way.ensures.touched;
   draft = c.find_way-way.ensures.draft;
   carried = c.write_way-done.ensures.carried;
 }

@@ -2,6 +2,7 @@ use Rattle.std.proofs.Common.{◌≡◌, ◌≢◌, ◌/◌, inr, refl, sym, ap,
 use Rattle.std.proofs.Math.Seq.{take-append_seam}
 use Rattle.extent_groups.specs.Cells.{cells}
 use Rattle.extent_groups.proofs.LayoutLaw.{layout_law}
+use Rattle.extent_groups.proofs.Losses.{kept_fades}
 use Rattle.extent_groups.proofs.StoreCalls.{read_keeps, slot_unit, sized_cells, drives_kept}
 use Rattle.extent_groups.specs.PlanLists.{listed, parity_listed}
 use Rattle.extent_groups.specs.Planned.{IsPlan}
@@ -20,19 +21,19 @@ pub find_way-way-requires-clause-target : goal.find_way-way-requires-clause-targ
 find_way-way-requires-clause-target g c = record { home = c.of_slot-target.ensures.home; laid = laid _ _ _ _ _ _ c.requires.drives c.requires.unit c.of_slot-target.ensures.inside }
 
 pub returns-then-eq-clause-units : goal.returns-then-eq-clause-units
-returns-then-eq-clause-units g c = λ s. (read_keeps _ _ _ c.of_slot-target.ensures.groups c.requires.drives s c.find_way-way.ensures.fades c.find_way-way.ensures.touched).all
+returns-then-eq-clause-units g c = λ s. (read_keeps _ _ _ c.of_slot-target.ensures.groups c.requires.drives s (kept_fades c.find_way-way.ensures.touched) c.find_way-way.ensures.touched).all
 
 pub returns-then-eq-clause-sound : goal.returns-then-eq-clause-sound
-returns-then-eq-clause-sound g c = λ s. (read_keeps _ _ _ c.of_slot-target.ensures.groups c.requires.drives s c.find_way-way.ensures.fades c.find_way-way.ensures.touched).sound
+returns-then-eq-clause-sound g c = λ s. (read_keeps _ _ _ c.of_slot-target.ensures.groups c.requires.drives s (kept_fades c.find_way-way.ensures.touched) c.find_way-way.ensures.touched).sound
 
 pub returns-then-eq-clause-drives : goal.returns-then-eq-clause-drives
 returns-then-eq-clause-drives g c = drives_kept _ c.find_way-way.ensures.touched c.requires.drives
 
 pub returns-clause-units : goal.returns-clause-units
-returns-clause-units g c = λ s. (read_keeps _ _ _ c.of_slot-target.ensures.groups c.requires.drives s c.find_way-way.ensures.fades c.find_way-way.ensures.touched).all
+returns-clause-units g c = λ s. (read_keeps _ _ _ c.of_slot-target.ensures.groups c.requires.drives s (kept_fades c.find_way-way.ensures.touched) c.find_way-way.ensures.touched).all
 
 pub returns-clause-sound : goal.returns-clause-sound
-returns-clause-sound g c = λ s. (read_keeps _ _ _ c.of_slot-target.ensures.groups c.requires.drives s c.find_way-way.ensures.fades c.find_way-way.ensures.touched).sound
+returns-clause-sound g c = λ s. (read_keeps _ _ _ c.of_slot-target.ensures.groups c.requires.drives s (kept_fades c.find_way-way.ensures.touched) c.find_way-way.ensures.touched).sound
 
 pub returns-clause-drives : goal.returns-clause-drives
 returns-clause-drives g c = drives_kept _ c.find_way-way.ensures.touched c.requires.drives

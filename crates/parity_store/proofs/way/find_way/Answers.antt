@@ -7,7 +7,6 @@ use Rattle.extent_groups.specs.Calls.{SameBut}
 use Rattle.extent_groups.specs.Stores.{HasMemberOn}
 use Rattle.extent_groups.proofs.DriveCalls.{keeps_trans}
 use Rattle.extent_groups.proofs.Elsewhere.{same_trans, same_more, row_drive}
-use Rattle.extent_groups.proofs.Fading.{fades_trans}
 use Rattle.parity_store.specs.Ways.{row_at}
 use Rattle.parity_store.specs.Drafts.{IsRead}
 use Rattle.parity_store.specs.declared.way.Way.TheVariants as way
@@ -44,9 +43,6 @@ read_elsewhere g c =
 
 pub returns-then-ne-clause-elsewhere : goal.returns-then-ne-clause-elsewhere
 returns-then-ne-clause-elsewhere g c = read_elsewhere g (goal.at.returns-then-ne-clause-elsewhere g c).After-read_two-read
-
-pub returns-clause-fades : goal.returns-clause-fades
-returns-clause-fades g c = λ x. fades_trans _ _ _ (c.read_two-read.ensures.fades x) (c.find_without.ensures.fades x)
 
 pub returns-clause-touched : goal.returns-clause-touched
 returns-clause-touched g c = keeps_trans c.read_two-read.ensures.touched c.find_without.ensures.touched

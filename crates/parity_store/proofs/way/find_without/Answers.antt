@@ -59,9 +59,6 @@ returns-then-not-add_others-clause-draft g c =
     both_missing (length c.args.unit.now) _ c.args.target.now.at.member m.missing.0 (row_of new (row_to c.args.groups.now c.args.target.now)) m.missing.1 m.missing.2
     (ap (held_in new) c.requires.target.home.home_is ∙ lost) m.missing.4
 
-pub returns-then-not-add_others-clause-fades : goal.returns-then-not-add_others-clause-fades
-returns-then-not-add_others-clause-fades g c = λ x. (missed g (goal.at.returns-then-not-add_others-clause-fades g c).After-add_others (search rules)).fades x
-
 pub is_there-requires-clause-place : goal.is_there-requires-clause-place
 is_there-requires-clause-place g c = keeps_place c.add_others.ensures.touched (c.requires.target.laid.row c.args.target.now.at.parity c.args.target.now.parity c.requires.target.home.parity_is)
 
@@ -83,9 +80,6 @@ returns-then-is_there-clause-draft g c =
       is.2,
     )
 
-pub returns-then-is_there-clause-fades : goal.returns-then-is_there-clause-fades
-returns-then-is_there-clause-fades g c = λ x. inl ((added g (goal.at.returns-then-is_there-clause-fades g c).After-add_others (search rules)).same x)
-
 pub returns-else-is_there-clause-draft : goal.returns-else-is_there-clause-draft
 returns-else-is_there-clause-draft g c =
     let here = (goal.at.returns-else-is_there-clause-draft g c).After-add_others in
@@ -96,5 +90,3 @@ returns-else-is_there-clause-draft g c =
     both_missing (length c.args.unit.now) (length row) c.args.target.now.at.member c.args.target.now.at.parity (row_of new row) h.whole.1 (λ e. h.whole.2 (sym e))
     (ap (held_in new) h.home_is ∙ a.same c.args.target.now.home ∙ c.requires.lost) (ap (held_in new) h.parity_is ∙ c.if-is_there.ensures)
 
-pub returns-else-is_there-clause-fades : goal.returns-else-is_there-clause-fades
-returns-else-is_there-clause-fades g c = λ x. inl ((added g (goal.at.returns-else-is_there-clause-fades g c).After-add_others (search rules)).same x)
