@@ -8,7 +8,6 @@ use Rattle.extent_groups.specs.declared.place.Place.{Place}
 use Rattle.extent_groups.specs.Cells.{Cells, held}
 use Rattle.extent_groups.specs.Units.{Pair, InStripe, put, others, or_else, held_in, row_of, unit_at, IsSoundAt}
 use Rattle.extent_groups.specs.Calls.{Fades, FadesAt, if_ok, DidRead}
-use Rattle.extent_groups.specs.Layout.{IsWhole}
 use Rattle.extent_groups.specs.Stores.{IsOwn, LeavesSites}
 use Rattle.extent_groups.proofs.Totals.{total_same, total_sized, put_sized, put_agrees}
 use Rattle.extent_groups.proofs.Fading.{fades_trans, row_fades, row_sized}

@@ -1,6 +1,6 @@
 // A write of a member of a stripe: drafted by reads, then carried out.
-ghost use Rattle.std.specs.Prelude.{◌≡◌, None, length};
-ghost use Rattle.extent_groups.specs.Cells.{cells, held};
+ghost use Rattle.std.specs.Prelude.{◌≡◌, length};
+ghost use Rattle.extent_groups.specs.Cells.{cells};
 ghost use Rattle.extent_groups.specs.Calls.{AreSized, IsPlace, KeepsDrives};
 ghost use Rattle.extent_groups.specs.Units.{Pair};
 ghost use Rattle.extent_groups.specs.Stores.{IsOwn};

@@ -114,14 +114,7 @@ pub fn plan<D: Drive>(
         return Err(PlanRefusal::Memory);
     };
     let target = Target::of_slot(groups, slot);
-    let way = find_way(
-        groups,
-        drives,
-        &target,
-        unit,
-        &mut room.part,
-        &mut room.sum,
-    );
+    let way = find_way(groups, drives, &target, unit, &mut room.part, &mut room.sum);
     if way == Way::Missed {
         return Err(PlanRefusal::Gone(slot));
     }

@@ -37,4 +37,5 @@ impl Target {
             home: groups.place(group, at.member, at.offset),
             parity: groups.place(group, at.parity, at.offset),
         }
-    }}
+    }
+}

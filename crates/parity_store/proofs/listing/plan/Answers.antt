@@ -1,4 +1,4 @@
-use Rattle.std.proofs.Common.{◌≡◌, ◌≢◌, ◌/◌, inr, refl, sym, ap, ◌∙◌, subst, ℕ, List, ◌++◌, length, take, drop, None, rules}
+use Rattle.std.proofs.Common.{◌≡◌, ◌≢◌, inr, refl, sym, ap, ◌∙◌, subst, ℕ, List, ◌++◌, length, take, drop, None, rules}
 use Rattle.std.proofs.Math.Seq.{take-append_seam}
 use Rattle.extent_groups.specs.Cells.{cells}
 use Rattle.extent_groups.proofs.LayoutLaw.{layout_law}
@@ -13,7 +13,6 @@ use Rattle.parity_store.specs.Targets.{row_to}
 use Rattle.parity_store.proofs.Carrying.{way_plan, way_parity}
 use Rattle.parity_store.proofs.There.{way_there}
 use Rattle.parity_store.proofs.Laid.{laid}
-use Rattle.parity_store.proofs.listing.plan.Given as given
 use Rattle.parity_store.proofs.listing.plan.Goals as goal
 use Rattle.parity_store.proofs.listing.plan.Goals.{After-find_way-way, After-list}
 

@@ -1,4 +1,4 @@
-use Rattle.std.proofs.Common.{◌≡◌, ◌⊎◌, ℕ, Some, None, List, inl, inr, refl, sym, subst, rules}
+use Rattle.std.proofs.Common.{◌≡◌, ◌⊎◌, ℕ, Some, List, inl, inr, refl, sym, subst, rules}
 use Rattle.std.specs.Prelude.{slice_get}
 use Rattle.extent_groups.specs.declared.place.Place.{Place}
 use Rattle.extent_groups.specs.Groups.{Groups}

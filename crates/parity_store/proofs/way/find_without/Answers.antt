@@ -1,4 +1,4 @@
-use Rattle.std.proofs.Common.{◌≡◌, true, false, refl, sym, ap, ◌∙◌, subst, length, inl, inr, rules, None}
+use Rattle.std.proofs.Common.{◌≡◌, true, false, refl, sym, ap, ◌∙◌, subst, length, inr, rules, None}
 use Rattle.std.specs.Bool.{MatchBool}
 use Rattle.extent_groups.specs.Cells.{cells, front_units, held}
 use Rattle.extent_groups.specs.Calls.{AreSized}
@@ -89,4 +89,3 @@ returns-else-is_there-clause-draft g c =
     let h = c.requires.target.home in
     both_missing (length c.args.unit.now) (length row) c.args.target.now.at.member c.args.target.now.at.parity (row_of new row) h.whole.1 (λ e. h.whole.2 (sym e))
     (ap (held_in new) h.home_is ∙ a.same c.args.target.now.home ∙ c.requires.lost) (ap (held_in new) h.parity_is ∙ c.if-is_there.ensures)
-
