@@ -1,12 +1,13 @@
 -- The live slots of a group, counted one after another.
 use Rattle.std.proofs.Common.{◌≡◌, ℕ, ◌+◌, ◌*◌, ◌%◌, ◌<◌, ◌≤◌, List, [], ◌∷◌, ◌++◌, length, slice_index, refl, ap, ◌∙◌, subst, arith}
-use Rattle.cleaner.specs.Counts.{AreLiveCounts}
+use Rattle.cleaner.specs.Counts.{AreLiveCounts, IsLiveOf}
 use Rattle.cleaner.proofs.Counting.{live_counted}
 use Rattle.extent_groups.specs.Groups.{Groups, group_at, slots_in}
+use Rattle.migrator.specs.Counts.{AreZeroIfIdle}
 use Rattle.std.proofs.lemmas.List.{length_push}
-use Rattle.map_join.specs.Lists.{ListsBelow}
+use Rattle.map_join.specs.Lists.{ListsBelow, IsCount}
 use Rattle.map_join.specs.Live.{IsLive, IsLiveIn, IsLiveCount}
-use Rattle.map_join.proofs.Rising.{below_none, below_more, below_skip, below_all}
+use Rattle.map_join.proofs.Rising.{below_none, below_more, below_skip, below_all, count_zero, count_none}
 
 -- exactly `count` of a group's slots below an index are live
 abbrev pub IsCounted : (ℕ → ℕ) → ℕ → ℕ → ℕ → ℕ → Type 0
@@ -51,3 +52,12 @@ kept_counts groups keys counts many each = record {
       let slots = slots_in groups.segments (group_at groups group) in
       live_counted groups keys group slots (slice_index counts group) made refl (each group low slots (omega arith));
 }
+
+-- and they are 0 for the parity groups where a log can start over
+pub zeros_kept : (groups : Groups) (keys : ℕ → ℕ) (counts : List ℕ) → AreLiveCounts groups keys counts → AreZeroIfIdle groups keys counts
+zeros_kept groups keys counts live = λ group low made.
+    let P = IsLiveOf groups keys group in
+    let count = (live.each group low made).count in (
+      (λ zeroed slot is own alive. count_zero P (subst (IsCount P) zeroed count) slot (record { slot_of = is; own = own; live = alive })),
+      (λ idle. count_none P (slice_index counts group) count (λ slot is. idle slot is.slot_of is.own is.live)),
+    )

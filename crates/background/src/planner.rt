@@ -62,7 +62,8 @@ impl Planner {
     ) -> Option<u16>
         ensures { IsNextAppend array.now self.now (F.free free.now) result }
     {
-        first_append(&self.end, array.groups(), &Running { array }, free)
+        let counts = live_counts(array);
+        first_append(&self.end, array.groups(), &Running { array }, counts, free)
     }
 
     /// The move that fills the lowest hole of the fullest parity group with one, but the write group, from the emptiest other.

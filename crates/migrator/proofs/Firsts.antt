@@ -1,11 +1,11 @@
 -- The first free slot, group by group.
-use Rattle.std.proofs.Common.{◌≡◌, ◌⊎◌, inl, inr, ℕ, ◌+◌, ◌*◌, ◌/◌, ◌%◌, ◌<◌, arith, length, sym, ◌∙◌, Option, Some, None}
+use Rattle.std.proofs.Common.{◌≡◌, ◌⊎◌, inl, inr, ℕ, ◌+◌, ◌*◌, ◌/◌, ◌%◌, ◌<◌, arith, List, length, sym, ◌∙◌, Option, Some, None}
 use Rattle.std.proofs.lemmas.Option.{same_Some}
 use Rattle.extent_groups.proofs.Bounds.{made_low}
 use Rattle.extent_groups.specs.declared.class.Class.TheVariants.{Parity}
 use Rattle.extent_groups.specs.Groups.{Groups}
 use Rattle.migrator.specs.Slots.{End, IsBehind, IsFresh}
-use Rattle.migrator.specs.Picking.{IsOtherIdle}
+use Rattle.migrator.specs.Counts.{AreZeroIfIdle, IsOtherZero}
 use Rattle.migrator.specs.First.{Behind, IsLowest, IsFirst, IsFreeBehind, IsFreeFresh, IsFirstAppend, IsFreePick}
 
 -- a number is its group's first and its index
@@ -17,9 +17,6 @@ module _ (end : End) (groups : Groups) (keys : ℕ → ℕ) (free : ℕ → Type
   abbrev Goes : ℕ → Type 0
   Goes = Behind end groups keys free
 
-  abbrev pub Anew : ℕ → Type 0
-  Anew = IsFreePick Parity groups (IsOtherIdle end groups keys) (λ _. Unit {0}) free
-
   to_behind : (s : ℕ) → Goes s → IsFreeBehind end groups keys free s
   to_behind s p =
       let q = p.picked in
@@ -29,30 +26,37 @@ module _ (end : End) (groups : Groups) (keys : ℕ → ℕ) (free : ℕ → Type
   from_behind s b =
       record { picked = record { slot_of = b.0.slot_of; group_too = b.0.own; slot_too = record { from = b.0.from; free = b.0.free } }; is_free = b.1 }
 
-  to_fresh : (s : ℕ) → Anew s → IsFreeFresh end groups keys free s
-  to_fresh s p =
-      let q = p.picked in
-      (record { slot_of = q.slot_of; other = q.group_too.other; idle = q.group_too.idle }, p.is_free)
-
-  from_fresh : (s : ℕ) → IsFreeFresh end groups keys free s → Anew s
-  from_fresh s b =
-      record { picked = record { slot_of = b.0.slot_of; group_too = record { other = b.0.other; idle = b.0.idle }; slot_too = tt }; is_free = b.1 }
-
   -- one of the write group
   pub found_behind : (slot : ℕ) → IsLowest Goes slot → IsFirstAppend end groups keys free (Some slot)
   found_behind slot h = inl (record { holds = to_behind slot h.holds; least = λ m p. h.least m (from_behind m p) })
 
-  -- else one of the others, or none
-  pub found_fresh : (result : Option ℕ) → IsFirst Goes None → IsFirst Anew result → IsFirstAppend end groups keys free result
-  found_fresh None none other = λ slot which f. by slot f which
-    where
-      by : (slot : ℕ) → free slot → IsBehind end groups keys slot ⊎ IsFresh end groups keys slot → ⊥
-      by slot f (inl b) = none slot (from_behind slot (b, f))
-      by slot f (inr b) = other slot (from_fresh slot (b, f))
-  found_fresh (Some slot) none other = inr (
-    (λ s b. none s (from_behind s b)),
-    record { holds = to_fresh slot other.holds; least = λ m p. other.least m (from_fresh m p) },
-  )
+  -- else one of the others, which are those with a count of 0, or none
+  module _ (counts : List ℕ) (long : length groups.table ≡ 512) (zeros : AreZeroIfIdle groups keys counts) where
+    abbrev Anew : ℕ → Type 0
+    Anew = IsFreePick Parity groups (IsOtherZero end counts) (λ _. Unit {0}) free
+
+    to_fresh : (s : ℕ) → Anew s → IsFreeFresh end groups keys free s
+    to_fresh s p =
+        let made = p.picked.slot_of.made in
+        let idle = (zeros (s / 128) (made_low groups (s / 128) Parity long made) made).0 p.picked.group_too.zeroed in
+        (record { slot_of = p.picked.slot_of; other = p.picked.group_too.other; idle = idle }, p.is_free)
+
+    from_fresh : (s : ℕ) → IsFreeFresh end groups keys free s → Anew s
+    from_fresh s b =
+        let made = b.0.slot_of.made in
+        let zeroed = (zeros (s / 128) (made_low groups (s / 128) Parity long made) made).1 b.0.idle in
+        record { picked = record { slot_of = b.0.slot_of; group_too = record { other = b.0.other; zeroed = zeroed }; slot_too = tt }; is_free = b.1 }
+
+    pub found_fresh : (result : Option ℕ) → IsFirst Goes None → IsFirst Anew result → IsFirstAppend end groups keys free result
+    found_fresh None none other = λ slot which f. by slot f which
+      where
+        by : (slot : ℕ) → free slot → IsBehind end groups keys slot ⊎ IsFresh end groups keys slot → ⊥
+        by slot f (inl b) = none slot (from_behind slot (b, f))
+        by slot f (inr b) = other slot (from_fresh slot (b, f))
+    found_fresh (Some slot) none other = inr (
+      (λ s b. none s (from_behind s b)),
+      record { holds = to_fresh slot other.holds; least = λ m p. other.least m (from_fresh m p) },
+    )
 
 -- where the log goes on in the write group: the first slot among those of this group is the first of all
 pub behind_first : (end : End) (groups : Groups) (keys : ℕ → ℕ) (free : ℕ → Type 0) (group : ℕ) (result : Option ℕ) → end.group ≡ Some group

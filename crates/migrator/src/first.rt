@@ -1,12 +1,13 @@
 // The first free slot where the log goes on, without a list of them all.
-ghost use Rattle.std.specs.Prelude.{◌≡◌, ◌↔◌, ℕ, ◌/◌, ◌%◌, ◌<◌, ◌≤◌, IsTrue, MatchOption};
-ghost use Rattle.extent_groups.specs.declared.class.Class.TheVariants.{Mirrored};
+ghost use Rattle.std.specs.Prelude.{◌≡◌, ◌↔◌, ℕ, ◌/◌, ◌%◌, ◌<◌, ◌≤◌, IsTrue, MatchOption, length};
+ghost use Rattle.extent_groups.specs.declared.class.Class.TheVariants.{Mirrored, Parity};
 ghost use Rattle.extent_groups.specs.Stores.{IsSlotOf};
+ghost use Rattle.migrator.specs.Counts.{AreZeroIfIdle, IsOtherZero};
 ghost use Rattle.migrator.specs.First.{Behind, IsFirst, IsFirstAppend, IsFreePick};
 
 use crate::LogEnd;
-use crate::append::{Fresh, GoingOn};
-use crate::rows::{ROW, ROWS, may_have};
+use crate::append::GoingOn;
+use crate::rows::{ROW, ROWS, has_zero};
 use crate::slots::{Every, Picks, count_of, is_of};
 use extent_groups::{Class, GROUPS, GroupTable, SLOTS};
 use map_join::Live;
@@ -21,20 +22,44 @@ pub trait Free {
         ensures { IsTrue result ↔ free self.now slot };
 }
 
-/// The first free slot of those where the log goes on. It allocates nothing.
+// The slots of the other groups with a count of 0.
+#[derive(Drop)]
+struct Zeros<'a> {
+    end: &'a LogEnd,
+    counts: &'a [u16; GROUPS],
+}
+
+impl<'a> Picks for Zeros<'a> {
+    ghost group_is = { λ p group. IsOtherZero p.end.now p.counts.now group };
+
+    ghost slot_is = { λ p slot. Unit {0} };
+
+    fn picks_group(&self, group: u16) -> bool {
+        self.end.group() != Some(group) && self.counts[usize::from(group)] == 0
+    }
+
+    fn picks_slot(&self, slot: u16) -> bool {
+        true
+    }
+}
+
+/// The first free slot of those where the log goes on. It allocates nothing. `counts` has each group's live slots: groups
+/// that have some are passed over sixteen at once.
 pub fn first_append<L: Live, F: Free>(
     end: &LogEnd,
     groups: &GroupTable,
     live: &L,
+    counts: &[u16; GROUPS],
     free: &F,
 ) -> Option<u16>
+    requires { AreZeroIfIdle groups.now (L.keys live.now) counts.now }
     ensures { IsFirstAppend end.now groups.now (L.keys live.now) (F.free free.now) result }
 {
     match first_behind(end, groups, live, free) {
         Some(slot) => return Some(slot),
         None => {}
     }
-    first_picked(groups, Class::Parity, &Fresh { end, groups, live }, free)
+    first_fresh(end, groups, counts, free)
 }
 
 // The first of these in the write group; no other group is looked at.
@@ -62,29 +87,37 @@ fn first_behind<L: Live, F: Free>(
     }
 }
 
+// The first of the other groups with a count of 0.
+fn first_fresh<F: Free>(
+    end: &LogEnd,
+    groups: &GroupTable,
+    counts: &[u16; GROUPS],
+    free: &F,
+) -> Option<u16>
+    ensures first { IsFirst (IsFreePick Parity groups.now (IsOtherZero end.now counts.now) (λ slot. Unit {0}) (F.free free.now)) result }
+    ensures numbers { length groups.now.table ≡ 512 }
+{
+    let slots = groups.parity_slots();
+    for row in 0..ROWS {
+        if has_zero(slots, counts, row) {
+            match first_in_row(groups, Class::Parity, row, &Zeros { end, counts }, free) {
+                Some(slot) => return Some(slot),
+                None => {}
+            }
+        }
+    }
+    None
+}
+
 /// The lowest free slot of mirrored groups. It allocates nothing.
 pub fn first_mirror<F: Free>(groups: &GroupTable, free: &F) -> Option<u16>
     ensures { IsFirst (λ slot. IsSlotOf Mirrored groups.now slot × F.free free.now slot) result }
 {
-    first_picked(groups, Class::Mirrored, &Every, free)
-}
-
-// The lowest slot of a class that is picked and free.
-fn first_picked<P: Picks, F: Free>(
-    groups: &GroupTable,
-    class: Class,
-    which: &P,
-    free: &F,
-) -> Option<u16>
-    ensures { IsFirst (IsFreePick class groups.now (P.group_is which.now) (P.slot_is which.now) (F.free free.now)) result }
-{
     let _members = groups.members(0);
     for row in 0..ROWS {
-        if may_have(groups, class, row) {
-            match first_in_row(groups, class, row, which, free) {
-                Some(slot) => return Some(slot),
-                None => {}
-            }
+        match first_in_row(groups, Class::Mirrored, row, &Every, free) {
+            Some(slot) => return Some(slot),
+            None => {}
         }
     }
     None
@@ -98,8 +131,8 @@ fn first_in_row<P: Picks, F: Free>(
     which: &P,
     free: &F,
 ) -> Option<u16>
-    requires { row < 64 }
-    ensures { IsFirst (λ slot. (slot / 1024 ≡ row) × IsFreePick class groups.now (P.group_is which.now) (P.slot_is which.now) (F.free free.now) slot) result }
+    requires { row < 32 }
+    ensures { IsFirst (λ slot. (slot / 2048 ≡ row) × IsFreePick class groups.now (P.group_is which.now) (P.slot_is which.now) (F.free free.now) slot) result }
 {
     for group in ROW * row..ROW * row + ROW {
         match first_in(groups, class, group, 0, which, free) {

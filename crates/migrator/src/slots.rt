@@ -78,9 +78,9 @@ fn push_row<P: Picks>(
     row: u16,
     which: &P,
 ) -> Result<(), AllocError>
-    requires row { row < 64 }
-    requires lower { ListsBelow (IsPicked class groups.now (P.group_is which.now) (P.slot_is which.now)) (1024 * row) slots.old.items }
-    ensures { OnOk result (ListsBelow (IsPicked class groups.now (P.group_is which.now) (P.slot_is which.now)) (1024 * (row + 1)) slots.new.items) }
+    requires row { row < 32 }
+    requires lower { ListsBelow (IsPicked class groups.now (P.group_is which.now) (P.slot_is which.now)) (2048 * row) slots.old.items }
+    ensures { OnOk result (ListsBelow (IsPicked class groups.now (P.group_is which.now) (P.slot_is which.now)) (2048 * (row + 1)) slots.new.items) }
 {
     for group in ROW * row..ROW * row + ROW {
         push_group(slots, groups, class, group, which)?;

@@ -1,6 +1,7 @@
 // A hole is plugged, a group is cleaned, and the log goes on.
 ghost use Rattle.std.specs.Prelude.{◌≢◌};
 
+use crate::counted::live_counts;
 use crate::set_up::{four_groups, places, took};
 use cleaner::{Move, clean_plan, empty_group, plug_plan};
 use extent_groups::GroupTable;
@@ -86,7 +87,8 @@ fn a_new_log_begins_with_the_lowest_parity_slot(rt: HostRuntime) {
 }
 
 /// Every slot is free but one.
-struct AllBut(u16);
+#[derive(Drop)]
+pub(crate) struct AllBut(pub(crate) u16);
 
 impl Free for AllBut {
     ghost free = { λ all slot. slot ≢ all.0 };
@@ -100,11 +102,12 @@ impl Free for AllBut {
 fn the_first_free_slot_behind_the_log_is_found(rt: HostRuntime) {
     let groups = four_groups(&rt, rt.alloc());
     let map = places(&rt, rt.alloc());
+    let counts = live_counts(&groups, &map);
     let mut end = LogEnd::new();
-    assert!(rt; first_append(&end, &groups, &map, &AllBut(0)) == None);
+    assert!(rt; first_append(&end, &groups, &map, &counts, &AllBut(0)) == None);
     end.appended(385);
-    assert!(rt; first_append(&end, &groups, &map, &AllBut(0)) == Some(386));
-    assert!(rt; first_append(&end, &groups, &map, &AllBut(386)) == Some(387));
+    assert!(rt; first_append(&end, &groups, &map, &counts, &AllBut(0)) == Some(386));
+    assert!(rt; first_append(&end, &groups, &map, &counts, &AllBut(386)) == Some(387));
     end.appended(387);
-    assert!(rt; first_append(&end, &groups, &map, &AllBut(0)) == None);
+    assert!(rt; first_append(&end, &groups, &map, &counts, &AllBut(0)) == None);
 }

@@ -5,6 +5,8 @@
 #[cfg(test)]
 mod cases;
 #[cfg(test)]
+mod counted;
+#[cfg(test)]
 mod demotion;
 #[cfg(test)]
 mod drives;
@@ -26,6 +28,8 @@ mod rig;
 mod set_up;
 #[cfg(test)]
 mod slow;
+#[cfg(test)]
+mod starting_over;
 #[cfg(test)]
 mod stores;
 #[cfg(test)]

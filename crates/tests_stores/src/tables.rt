@@ -39,9 +39,15 @@ impl Tables {
     ) -> Result<Tables, AllocError>
         ensures { IfOk result (λ t. Agree t.groups t.extents) }
     {
-        let shape = shape_of(rt, 8, segments);
-        let groups = GroupTable::new(alloc, &shape)?;
-        let extents = ExtentTable::new(alloc, drives, &shape)?;
+        Tables::of(alloc, drives, &shape_of(rt, 8, segments))
+    }
+
+    /// `drives` drives of a shape, without groups.
+    pub(crate) fn of(alloc: Global, drives: u8, shape: &Shape) -> Result<Tables, AllocError>
+        ensures { IfOk result (λ t. Agree t.groups t.extents) }
+    {
+        let groups = GroupTable::new(alloc, shape)?;
+        let extents = ExtentTable::new(alloc, drives, shape)?;
         Ok(Tables { groups, extents })
     }
 

@@ -7,4 +7,5 @@ returns-in-Some g c =
 
 pub returns : goal.returns
 returns g c =
-    found_fresh c.args.end.now c.args.groups.now (g.L.Live.keys c.args.live.now) (g.F.Free.free c.args.free.now) c.first_picked.result c.in-None.ensures c.first_picked.ensures
+    found_fresh c.args.end.now c.args.groups.now (g.L.Live.keys c.args.live.now) (g.F.Free.free c.args.free.now) c.args.counts.now
+    c.first_fresh.ensures.numbers c.requires c.first_fresh.result c.in-None.ensures c.first_fresh.ensures.first
