@@ -1,5 +1,5 @@
 -- A row of numbers that are all 0, and no other, is seen by one comparison of vectors.
-use Rattle.std.proofs.Common.{◌≡◌, ◌∙◌, ℕ, zero, suc, ◌+◌, ◌-◌, ◌*◌, ◌/◌, ◌^◌, ◌<◌, ◌≤◌, ◌%◌, ◌==◌, Bool, true, false, not, cond, List, length, map, replicate, get_or, slice_index, refl, sym, ap, subst, arith, w16}
+use Rattle.std.proofs.Common.{◌≡◌, ◌∙◌, ℕ, zero, suc, ◌+◌, ◌-◌, ◌*◌, ◌/◌, ◌^◌, ◌<◌, ◌%◌, ◌==◌, Bool, true, false, not, cond, List, length, map, replicate, get_or, slice_index, refl, sym, ap, subst, arith, w16}
 use Rattle.std.proofs.lemmas.Bool.{eqb-true}
 use Rattle.std.proofs.lemmas.List.{get_or-replicate, get_or-map, length-map, take_all}
 use Rattle.std.proofs.lemmas.Simd.{bitmask_splat, none_from_empty_mask, get_or-chunk, get_or-sel_l, tops_compared, zip2_splat}

@@ -44,7 +44,7 @@ impl<'a> Picks for Zeros<'a> {
 }
 
 /// The first free slot of those where the log goes on. It allocates nothing. `counts` has each group's live slots: groups
-/// that have some are passed over sixteen at once.
+/// that have some are skipped, sixteen at once.
 pub fn first_append<L: Live, F: Free>(
     end: &LogEnd,
     groups: &GroupTable,

@@ -28,11 +28,7 @@ pub(crate) fn may_have(groups: &GroupTable, class: Class, row: u16) -> bool
 }
 
 // Whether a parity group of the row has a count of 0. `slots` has the slots of each parity group.
-pub(crate) fn has_zero(
-    slots: &[u16],
-    counts: &[u16; GROUPS],
-    row: u16,
-) -> bool
+pub(crate) fn has_zero(slots: &[u16], counts: &[u16; GROUPS], row: u16) -> bool
     requires whole { length slots.now ≡ 512 }
     requires low { row < 32 }
     ensures { (result ≡ false) ↔ ((group : ℕ) → group / 16 ≡ row → 0 < slice_index slots.now group → slice_index counts.now group ≡ 0 → ⊥) }
