@@ -92,6 +92,34 @@ def clean(blocks, count, rounds):
     return lines
 
 
+def stuck(blocks, count, rounds, command):
+    """A command that changes nothing: the mirrored group is full, and each parity group has a live slot."""
+    chance = random.Random(5)
+    lines = groups(blocks, 1, count - 1)
+    for block in range(count - 1):
+        lines += laid(chance, block, 128 * (block + 1))
+    lines += [f"write 0 {count + block} {payload(chance)}" for block in range(UPPER)]
+    return lines + [command] * rounds
+
+
+def no_room(blocks, count, rounds):
+    """A write that finds no slot, and whose demotion finds none."""
+    return stuck(blocks, count, rounds, f"write 0 0 {payload(random.Random(6))}")
+
+
+def no_demotion(blocks, count, rounds):
+    """A demotion that finds no slot."""
+    return stuck(blocks, count, rounds, "demote 0")
+
+
+def no_clean(blocks, count, rounds):
+    """A clean that has nothing to do."""
+    return stuck(blocks, count, rounds, "clean 0")
+
+
+# Steps that find nothing to do. They need a block a parity group.
+STUCK = {"noroom": (no_room, 100_000), "demote to noroom": (no_demotion, 100_000), "clean of nothing": (no_clean, 100_000)}
+
 # What makes the script, and how many rounds; a round of a plug or a clean has four plain steps too, and of a demotion a write. The longer
 # script has three times the rounds: block 0 is moved twice in a round, and no more than 65,535 times.
 KINDS = {"write": (write, 100_000), "demote": (demote, 50_000), "plug": (plug, 10_000), "clean": (clean, 10_000)}
