@@ -1,8 +1,7 @@
 // Drives in memory that are lost from outside.
-ghost use Rattle.std.specs.Prelude.{◌≡◌, ◌<◌, ◌≤◌, ℕ, true, length, OnOk, slice_get, Some};
-ghost use Rattle.extents.specs.Condition.{Held, is_gone, after_loss, after_fuse};
+ghost use Rattle.std.specs.Prelude.{◌≡◌, ◌<◌, ◌≤◌, ℕ, true, length};
+ghost use Rattle.extents.specs.Condition.{after_loss, after_fuse};
 ghost use Rattle.extents.specs.Failures.{settled, fused};
-ghost use Rattle.extent_groups.specs.Calls.{SameBut};
 ghost use Rattle.extent_groups.specs.Stores.{AreSound, KeepsUnits};
 ghost use Rattle.flat_machine.specs.Flat.{put};
 ghost use Rattle.array_parts.specs.Fit.{IsFit};

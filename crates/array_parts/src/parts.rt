@@ -1,9 +1,7 @@
 // What an array consists of, without what is remembered of its blocks.
-ghost use Rattle.std.specs.Prelude.{◌≡◌, ◌+◌, ◌*◌, ◌≤◌, ◌↔◌, ◌++◌, ℕ, length, slice_get, None, Some, OnOk, OnErr, IfOk, IfErr, IsTrue};
+ghost use Rattle.std.specs.Prelude.{◌≡◌, ◌*◌, ◌≤◌, ◌↔◌, ℕ, length, slice_get, Some, OnOk, IfErr, IsTrue};
 ghost use Rattle.extents.specs.Shapes.{IsShapeOf};
-ghost use Rattle.extents.specs.Sizes.{extent_units};
 ghost use Rattle.extents.specs.declared.shape.TheConstants.{HEADER_BYTES};
-ghost use Rattle.extent_groups.specs.Groups.{group_at};
 ghost use Rattle.extent_groups.specs.Calls.{AreSized};
 ghost use Rattle.extent_groups.specs.Missing.{IsGone};
 ghost use Rattle.extent_groups.specs.Stores.{unit_bytes, unit_of, header_of, AreSound, KeepsUnits, Wrote};

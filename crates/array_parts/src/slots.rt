@@ -1,5 +1,5 @@
 // Reads and writes of slots of either class.
-ghost use Rattle.std.specs.Prelude.{◌≡◌, ◌+◌, ◌*◌, ◌/◌, ◌++◌, length, Some, OnOk, IfErr};
+ghost use Rattle.std.specs.Prelude.{◌≡◌, ◌*◌, ◌/◌, length, Some, OnOk, IfErr};
 ghost use Rattle.extents.specs.declared.shape.TheConstants.{HEADER_BYTES};
 ghost use Rattle.extent_groups.specs.Cells.{cells};
 ghost use Rattle.extent_groups.specs.Calls.{NoPlace, SameBut, KeepsDrives};

@@ -1,5 +1,5 @@
 // A group that is unmade.
-ghost use Rattle.std.specs.Prelude.{◌≡◌, IsSome};
+ghost use Rattle.std.specs.Prelude.{IsSome};
 ghost use Rattle.extent_groups.specs.Groups.{group_at};
 ghost use Rattle.array_parts.specs.Fit.{IsFit};
 ghost use Rattle.array_parts.specs.Views.{view_of, WasTaken};

@@ -1,5 +1,5 @@
 // What the plans ask of an array, answered by its tables, and which slots are free.
-ghost use Rattle.std.specs.Prelude.{◌≡◌, true};
+ghost use Rattle.std.specs.Prelude.{true};
 ghost use Rattle.std.specs.Prelude.{◌↔◌, ◌<◌, ◌≤◌, IsTrue};
 ghost use Rattle.slot_tables.specs.Views.{key_at};
 ghost use Rattle.extent_groups.specs.declared.class.Class.TheVariants.{Mirrored};

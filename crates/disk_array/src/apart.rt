@@ -1,5 +1,5 @@
 // An array has no claim of a slot that someone else has one of.
-ghost use Rattle.std.specs.Prelude.{◌≡◌, ◌≢◌, ℕ, ◌<◌, vec_len, slice_index_or, true};
+ghost use Rattle.std.specs.Prelude.{◌≡◌, ◌≢◌, ℕ, ◌<◌, slice_index_or, true};
 ghost use Rattle.slot_tables.specs.Represents.{ShowsArray};
 ghost use Rattle.slot_tables.specs.Views.{ArrayView, Nothing, kept_at};
 ghost use Rattle.flat_machine.specs.Flat.{Flat, Worker, IsKept};

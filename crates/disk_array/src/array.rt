@@ -1,6 +1,6 @@
 // The array: its tables, and the small reads of them.
-ghost use Rattle.std.specs.Prelude.{◌≡◌, ℕ, ◌+◌, ◌*◌, ◌<◌, ◌≤◌, length, map, drop, replicate};
-ghost use Rattle.std.specs.Prelude.{slice_index, slice_index_or, None, true, IsTrue, ◌↔◌, IsOk, IfOk, IfErr, OnOk};
+ghost use Rattle.std.specs.Prelude.{◌≡◌, ℕ, ◌+◌, ◌*◌, ◌<◌, ◌≤◌, length, map, drop};
+ghost use Rattle.std.specs.Prelude.{slice_index_or, None, true, IsTrue, ◌↔◌, IsOk, IfOk, IfErr, OnOk};
 ghost use Rattle.map_join.specs.Record.{record_at};
 ghost use Rattle.map_join.specs.Live.{IsBlockAt};
 ghost use Rattle.map_join.specs.Maps.{at, IsSame, IsMapOf};

@@ -1,12 +1,12 @@
 // A slot that waits becomes the newest place of a block.
-ghost use Rattle.std.specs.Prelude.{◌≡◌, ◌≢◌, ℕ, ◌+◌, ◌<◌, ◌≤◌, List, [], ◌∷◌, ◌++◌};
+ghost use Rattle.std.specs.Prelude.{◌≡◌, ◌≢◌, ℕ, ◌+◌, ◌<◌};
 ghost use Rattle.std.specs.Prelude.{vec_len, slice_index_or, slice_set, MatchResult, IfOk, IfErr, true, Some, None};
 ghost use Rattle.std.specs.Option.{ForSome};
-ghost use Rattle.map_join.specs.Record.{key_of, record_at};
+ghost use Rattle.map_join.specs.Record.{record_at};
 ghost use Rattle.map_join.specs.declared.records.Record.{Record};
 ghost use Rattle.extents.specs.declared.header.Header.TheVariants.{Is};
 ghost use Rattle.flat_machine.specs.Steps as say;
-ghost use Rattle.flat_machine.specs.Flat.{Flat, Ticket as ticket_of, IsNewest};
+ghost use Rattle.flat_machine.specs.Flat.{Flat, Ticket as ticket_of};
 ghost use Rattle.flat_machine.specs.Cases.{CommitCase, IsWanted, next_version};
 ghost use Rattle.slot_tables.specs.Views.{Nothing, Newest, is_waiting, kept_at, key_at, with_parts};
 ghost use Rattle.array_parts.specs.Views.{WasCarried};

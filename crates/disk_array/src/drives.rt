@@ -1,15 +1,15 @@
 // What an array has its drives do for a slot, and for a group that is made. All but its parts stays as it was, and what it keeps of
 // a group's number that is made.
-ghost use Rattle.std.specs.Prelude.{◌≡◌, ◌⊎◌, ◌*◌, ◌≤◌, length, vec_len, vec_capacity, OnOk, OnErr, IfOk, IfErr, Some, None};
+ghost use Rattle.std.specs.Prelude.{◌≡◌, ◌⊎◌, ◌≤◌, length, vec_len, vec_capacity, OnOk, OnErr, IfOk, IfErr, Some, None};
 ghost use Rattle.extents.specs.declared.shape.TheConstants.{HEADER_BYTES};
 ghost use Rattle.extent_groups.specs.Faults.{put_fault};
 ghost use Rattle.extent_groups.specs.Groups.{AreThere};
 ghost use Rattle.extent_groups.specs.Stores.{unit_bytes, unit_of, header_of, AreSound, KeepsUnits};
-ghost use Rattle.flat_machine.specs.Flat.{Payload, Trim, content_under, waiting_unit};
+ghost use Rattle.flat_machine.specs.Flat.{content_under};
 ghost use Rattle.flat_machine.specs.Groups.{IsLowestFree};
 ghost use Rattle.array_parts.specs.Slots.{IsSlot};
 ghost use Rattle.disk_array.specs.Refused.{OnlyLoses};
-ghost use Rattle.array_parts.specs.Views.{cells_of, seen_of, FoundGone, WasPut, WasCopied, WasNotCarried, WasRead, SawUnit, Entered, FoundLost};
+ghost use Rattle.array_parts.specs.Views.{cells_of, FoundGone, WasRead, Entered, FoundLost};
 ghost use Rattle.slot_tables.specs.Views.{with_parts, IsWhole};
 ghost use Rattle.slot_tables.specs.Making.{IsMakeReason};
 ghost use Rattle.slot_tables.specs.Changes.{opened_view, IsOpened};

@@ -1,5 +1,5 @@
 // A member of a group goes onto another extent.
-ghost use Rattle.std.specs.Prelude.{◌≡◌, ◌<◌, ◌≤◌, length, IfErr, OnOk, MatchResult, None};
+ghost use Rattle.std.specs.Prelude.{◌≡◌, ◌<◌, length, IfErr, OnOk, MatchResult, None};
 ghost use Rattle.array_parts.specs.Views.{NotShifted, Shifted};
 ghost use Rattle.flat_machine.specs.Cases.{IsWanted, MoveCase};
 ghost use Rattle.flat_machine.specs.Flat.{Flat};

@@ -1,10 +1,9 @@
 // All that an array takes and tests before it is put together from parts, a map and claims.
-ghost use Rattle.std.specs.Prelude.{◌≡◌, ℕ, ◌*◌, ◌+◌, ◌<◌, ◌≤◌, length, slice_index, slice_index_or, vec_len, vec_capacity, IfOk, IfErr};
+ghost use Rattle.std.specs.Prelude.{◌*◌, ◌+◌, ◌<◌, IfOk, IfErr};
 ghost use Rattle.map_join.specs.Maps.{at};
 ghost use Rattle.extents.specs.declared.shape.TheConstants.{HEADER_BYTES};
 ghost use Rattle.array_parts.specs.Fit.{IsFit};
 ghost use Rattle.flat_machine.specs.Restarted.{HasPlaces};
-ghost use Rattle.slot_tables.specs.declared.slot_state.SlotState.TheVariants as state;
 ghost use Rattle.slot_tables.specs.Kept.{HavePlaces};
 ghost use Rattle.slot_tables.specs.Claims.{AreReady, AreKeys, HasRoom, IsNotAdopted};
 

@@ -1,7 +1,7 @@
 // Claims on their way into an array, and out of it. None is lost: their type has no `Drop`.
-ghost use Rattle.std.specs.Prelude.{◌≡◌, ℕ, ◌+◌, ◌<◌, ◌≤◌, List, length, map, replicate, slice_index_or, slice_set};
-ghost use Rattle.std.specs.Prelude.{vec_len, vec_capacity, IfOk, OnOk, MatchOption, IsTrue, ◌↔◌, true, false, Some, None};
-ghost use Rattle.slot_tables.specs.Views.{Nothing, Newest, is_kept};
+ghost use Rattle.std.specs.Prelude.{◌≡◌, ℕ, ◌+◌, ◌<◌, ◌≤◌, length, replicate, slice_index_or, slice_set};
+ghost use Rattle.std.specs.Prelude.{vec_len, vec_capacity, IfOk, MatchOption, IsTrue, ◌↔◌, true, false, Some, None};
+ghost use Rattle.slot_tables.specs.Views.{Nothing, Newest};
 ghost use Rattle.slot_tables.specs.Kept.{kept_of, kepts_of, IsOf, AreOf};
 ghost use Rattle.slot_tables.specs.Claims.{how_many, claims_in, AreWanted, IsClaimed, IsLowestUnclaimed, kept_for, wanted_at};
 

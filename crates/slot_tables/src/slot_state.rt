@@ -1,6 +1,6 @@
 // What the array keeps of a slot, claims included. No claim can be lost: it goes in by `put_in`, and
 // comes out by `take_out`.
-ghost use Rattle.std.specs.Prelude.{◌≡◌, ℕ, ◌+◌, ◌*◌, ◌<◌, ◌≤◌, vec_len, vec_capacity, slice_index_or, slice_set, true, MatchOption, IsOk, OnOk};
+ghost use Rattle.std.specs.Prelude.{◌≡◌, ◌+◌, ◌*◌, ◌<◌, ◌≤◌, vec_len, vec_capacity, slice_index_or, slice_set, true, MatchOption, IsOk, OnOk};
 ghost use Rattle.slot_tables.specs.Kept.{kept_of, kepts_of, IsOf, AreOf};
 ghost use Rattle.slot_tables.specs.Views.{Nothing, is_waiting};
 

@@ -1,7 +1,6 @@
 // A world made of an array, its array taken out of it, and a world that is restarted.
-ghost use Rattle.std.specs.Prelude.{◌≡◌, ℕ, List, length, IfOk, IfErr};
-ghost use Rattle.map_join.specs.declared.records.Record.{Record};
-ghost use Rattle.map_join.specs.Maps.{at, IsMapOf, IsListOf};
+ghost use Rattle.std.specs.Prelude.{◌≡◌, ℕ, IfOk, IfErr};
+ghost use Rattle.map_join.specs.Maps.{at, IsMapOf};
 ghost use Rattle.flat_machine.specs.Flat.{Flat};
 ghost use Rattle.flat_machine.specs.Restarted.{HasPlaces, restarted};
 ghost use Rattle.slot_tables.specs.Views.{hand_at, SameSizes};

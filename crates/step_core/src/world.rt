@@ -1,5 +1,5 @@
 // An array with eight workers, who hold plain claims.
-ghost use Rattle.std.specs.Prelude.{◌≡◌, ◌≢◌, ℕ, ◌<◌, ◌≤◌, List, length, nat_le, IfOk, IfErr, OnErr, ◌*◌, OnOk, Some, None};
+ghost use Rattle.std.specs.Prelude.{◌≡◌, ◌≢◌, ◌<◌, ◌≤◌, length, nat_le, IfOk, IfErr, OnErr, Some};
 ghost use Rattle.map_join.specs.declared.records.Record.{Record};
 ghost use Rattle.extents.specs.Failures.{no_failures};
 ghost use Rattle.extents.specs.Shapes.{IsShapeOf};
