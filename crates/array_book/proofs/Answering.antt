@@ -1,5 +1,5 @@
 -- What a call under the lock was answered, in some state of the lock's value.
-use Rattle.std.proofs.Common.{◌≡◌, ◌≢◌, ℕ, true, inl, inr, refl, subst, Option, None, Result, Ok, Err, IfOk}
+use Rattle.std.proofs.Common.{◌≡◌, ◌≢◌, ℕ, true, inl, inr, refl, sym, ◌∙◌, subst, None, Result, Ok, Err, IfOk}
 use Rattle.std.specs.Prelude.{MatchResult}
 use Rattle.map_join.specs.declared.records.Record.{Record}
 use Rattle.flat_machine.specs.declared.refusal.Refusal.{Refusal}
@@ -15,7 +15,7 @@ use Rattle.slot_tables.proofs.OneMore.{shows_one_more, holds_one_more}
 use Rattle.step_core.specs.Claimed.{with_claim}
 use Rattle.step_core.specs.Told.{Lesson}
 use Rattle.array_book.specs.Kept.{KeptView, IsKept}
-use Rattle.array_book.specs.Outcomes.{State, WasFilled, WasCopied, WasGivenUp, WasLearned, WasUnlearned}
+use Rattle.array_book.specs.Outcomes.{State, WasFilled, WasCopied, WasCommitted, WasGivenUp, WasWritten, WasLearned, WasUnlearned}
 use Rattle.array_book.proofs.Shown.{FillTells, CopyTells, DiscardTells, LearnTells, ticket_of_some}
 
 -- a state of the lock's value, with the flat state of its invariant
@@ -74,7 +74,14 @@ learn_answered blocks payload (Err q) k b asked is tells = λ other.
     let told = may_refused q (IsBehind is.flat asked) ((G : Flat) × UnlearnedCase is.flat asked q G × ShowsArray b G) (tells is.flat is.shows) other in
     record { state = state_of blocks payload k is; after = told.0; case = told.1 }
 
--- what is so of what was placed is so of what is answered
-pub placed_as : {E Q : Type 0} (r : Result ℕ E) (p : Result ℕ Q) (P : ℕ → Type 0) → IfOk r (λ t. p ≡ Ok t) → IfOk p P → IfOk r P
-placed_as {Q = Q} (Ok t) p P same is = subst (λ (z : Result ℕ Q). IfOk z P) same is
-placed_as (Err e) p P same is = tt
+-- what was filled and then committed was written
+pub written_as : {D E : Type 0} (r : Result D E) (record_of : D → Record) (blocks payload slot block : ℕ) (x : Content) → WasFilled blocks payload slot x
+    → IfOk r (λ d. WasCommitted blocks payload slot block (record_of d)) → IfOk r (λ d. WasWritten blocks payload block x (record_of d))
+written_as (Ok d) record_of blocks payload slot block x filled committed = record { slot = slot; filled = filled; committed = committed }
+written_as (Err e) record_of blocks payload slot block x filled committed = tt
+
+-- what is so of each refusal but memory is so of the one that is reported
+pub refused_as : {D E : Type 0} (r : Result D E) (refusal_of : E → Refusal) (q : Refusal) (Y : D → Type 0) (P : Refusal → Type 0)
+    → MatchResult r Y (λ e. refusal_of e ≢ Memory → P (refusal_of e)) → MatchResult r (λ d. ⊥) (λ e. refusal_of e ≡ q) → q ≢ Memory → P q
+refused_as (Ok d) refusal_of q Y P is told other = absurd told
+refused_as (Err e) refusal_of q Y P is told other = subst P told (is (λ m. other (sym told ∙ m)))

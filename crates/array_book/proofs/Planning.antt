@@ -1,5 +1,5 @@
 -- What is planned where no demotion is due, and which slots a plan tries.
-use Rattle.std.proofs.Common.{◌≡◌, ℕ, ◌<◌, ◌≤◌, ◌+◌, ◌/◌, ◌%◌, ◌==◌, Bool, true, false, cond, List, inl, inr, Option, Some, None, subst, arith, rules}
+use Rattle.std.proofs.Common.{◌≡◌, ℕ, ◌<◌, ◌+◌, ◌/◌, ◌%◌, ◌==◌, Bool, true, false, cond, List, inl, inr, Option, Some, None, subst, arith}
 use Rattle.std.specs.Prelude.{MatchOption}
 use Rattle.background.specs.Planning.{IsNextAppend, IsPlugOf, IsCleanOf}
 use Rattle.array_book.specs.Kept.{KeptView}

@@ -1,6 +1,5 @@
 -- The numbers of the faults, and the fault that a refusal of the array is.
 use Rattle.std.specs.Prelude.{ℕ}
-use Rattle.flat_machine.specs.declared.refusal.Refusal.{Refusal}
 use Rattle.array_book.specs.declared.fault.WorkFault.{WorkFault}
 use Rattle.array_book.specs.declared.fault.WorkFault.TheVariants.{NoRoom, Core, Memory}
 use Rattle.array_book.specs.declared.run.RunFault.{RunFault}

@@ -3,7 +3,7 @@ use Rattle.std.specs.Prelude.{◌≡◌, ◌⊎◌, ℕ, List, Option, Some, Non
 use Rattle.map_join.specs.declared.records.Record.{Record}
 use Rattle.flat_machine.specs.declared.refusal.Refusal.{Refusal}
 use Rattle.flat_machine.specs.declared.refusal.Refusal.TheVariants as refusal
-use Rattle.flat_machine.specs.Flat.{Flat, Content, Payload, Trim}
+use Rattle.flat_machine.specs.Flat.{Flat, Content}
 use Rattle.flat_machine.specs.Steps.{FlatStep, FlatAnswer, Fill, Copy, Commit, Discard, Filled, Copied, Committed, Discarded, Refused}
 use Rattle.flat_machine.specs.Cases.{Case}
 use Rattle.flat_machine.specs.Learning.{LearnedCase, UnlearnedCase}

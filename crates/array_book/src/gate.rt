@@ -16,6 +16,12 @@ pub enum Point {
 /// Is called at each point that a call reaches, and may wait there. No lock is held then.
 pub trait Gate {
     fn reach<R: Wait>(&self, point: Point, rt: &R);
+
+    /// Whether `reach` may wait or look at the Book. Where it is false, the steps between two points may be done under one hold of
+    /// the lock. `reach` is called at each point all the same, in the same order, after the hold.
+    fn waits(&self) -> bool {
+        true
+    }
 }
 
 /// Waits nowhere.
@@ -24,4 +30,8 @@ pub struct NoGate;
 
 impl Gate for NoGate {
     fn reach<R: Wait>(&self, _point: Point, _rt: &R) {}
+
+    fn waits(&self) -> bool {
+        false
+    }
 }

@@ -9,6 +9,7 @@ mod ended;
 mod fault;
 mod gate;
 mod given;
+mod held;
 mod kept;
 mod plan;
 mod run;

@@ -1,5 +1,5 @@
 // One thread's hands on a Book.
-ghost use Rattle.std.specs.Prelude.{◌≡◌, ◌≢◌, ℕ, ◌<◌, length, IfOk, IfErr, IfSome, IfNone, OnErr, MatchOption, MatchResult, Ok, Err, Some, None, true, false};
+ghost use Rattle.std.specs.Prelude.{◌≡◌, ◌≢◌, ℕ, ◌<◌, length, IfOk, IfSome, IfNone, OnOk, OnErr, MatchOption, MatchResult, Ok, Err, Some, None};
 ghost use Rattle.map_join.specs.declared.records.Record.{Record};
 ghost use Rattle.step_core.specs.Told.{Lesson};
 ghost use Rattle.map_words.specs.Answers.{HasFound, IsNewest, key_in};
@@ -7,12 +7,10 @@ ghost use Rattle.map_join.specs.Record.{key_of};
 ghost use Rattle.flat_machine.specs.Flat.{Payload, Trim};
 ghost use Rattle.flat_machine.specs.declared.refusal.Refusal.{Refusal};
 ghost use Rattle.flat_machine.specs.declared.refusal.Refusal.TheVariants as refusal;
-ghost use Rattle.migrator.specs.Slots.{end_at};
 ghost use Rattle.slot_words.specs.Places.{slots_of};
 ghost use Rattle.array_book.specs.Given.{content_of, IsGivenFor};
-ghost use Rattle.array_book.specs.Kept.{HasNoted};
 ghost use Rattle.array_book.specs.Takes.{controller_of, taker_of, other_of, AreSame, HasAsked, HasMigrated, HasRead, Took, Learnt, IsTold};
-ghost use Rattle.array_book.specs.Outcomes.{WasFilled, WasCopied, WasCommitted, WasRefused, WasGivenUp, WasWritten};
+ghost use Rattle.array_book.specs.Outcomes.{WasCopied, WasCommitted, WasRefused, WasGivenUp, WasWritten};
 ghost use Rattle.array_book.specs.Outcomes.{WasPlanned, IsTried, HadNoRoom, WentSo, WasLearned, WasUnlearned};
 ghost use Rattle.array_book.specs.declared.fault.WorkFault.TheVariants.{Core};
 
@@ -23,9 +21,8 @@ use crate::ended::Ended;
 use crate::fault::WorkFault;
 use crate::gate::{Gate, Point};
 use crate::given::Given;
-use crate::kept::{
-    Kept, appended_in, commit_fresh_in, commit_in, copy_in, discard_in, fill_in, read_in, trim_in,
-};
+use crate::held::{Refused, end_fresh_in, end_moved_in, move_in, place_copy_in, place_in, put_in};
+use crate::kept::{Kept, read_in};
 use crate::plan::{Plan, plan_in, slot_after};
 use extents::Drive;
 use flat_machine::Refusal;
@@ -34,7 +31,7 @@ use map_words::Taker;
 use slot_words::{Pass, SlotWords};
 use std::alloc::Global;
 use std::sync::{Mutex, Wait};
-use step_core::{Done, Emitted, Reading, Ticket};
+use step_core::{Done, Emitted, Reading};
 
 /// One thread's hands on a Book: a Pass, and a Taker of each controller.
 #[derive(Drop)]
@@ -186,9 +183,8 @@ impl<
             return Err(WorkFault::NoRoom);
         };
         gate.reach(Point::Claimed, rt);
-        let ticket = self.fill(rt, alloc, claim, given)?;
-        gate.reach(Point::Put, rt);
-        let done = self.commit_fresh(rt, alloc, ticket, block)?;
+        let ended = self.put_claimed(rt, alloc, claim, block, given, gate)?;
+        let done = self.or_released(ended)?;
         gate.reach(Point::Committed, rt);
         let emitted = self.acknowledge(done);
         gate.reach(Point::Taken, rt);
@@ -205,86 +201,62 @@ impl<
         }
     }
 
-    // Fills the claimed slot with what is given; refused it is released.
-    fn fill<R: Wait>(
+    // Fills the claimed slot and commits it, under one hold of the lock where the gate doesn't wait. The slot of a refused fill is
+    // released here, that of a refused commit is left to the caller.
+    fn put_claimed<R: Wait, G: Gate>(
         &mut self,
         rt: &R,
         alloc: Global,
         claim: slot_words::Claim<N>,
+        block: u32,
         given: Given,
-    ) -> Result<Ticket, WorkFault>
-        requires { IsGivenFor self.old.book.now.payload given }
-        ensures filled { IfOk result (λ ticket. WasFilled N.blocks N.payload ticket (content_of given.entry)) }
+        gate: &G,
+    ) -> Result<Result<Done<Claim<N>>, Refused<N>>, WorkFault>
+        requires block { block < self.old.book.now.blocks }
+        requires given { IsGivenFor self.old.book.now.payload given }
+        ensures ok { IfOk result (λ ended. IfOk ended (λ done. (done.emitted.block ≡ block) × (0 < done.emitted.version) × (done.emitted.hop ≡ 0))) }
+        ensures written { IfOk result (λ ended. IfOk ended (λ done. WasWritten N.blocks N.payload block (content_of given.entry) done.emitted)) }
+        ensures given_up { IfOk result (λ ended. OnErr ended (WasGivenUp N.blocks N.payload claim.slot)) }
         ensures fault { result ≢ Err (Core refusal.Memory) }
         ensures rest { (self.new.number ≡ self.old.number) × (self.new.book ≡ self.old.book) × (self.new.even ≡ self.old.even) × (self.new.odd ≡ self.old.odd) }
     {
         let book = self.book;
         let claim = Claim(claim);
-        match given {
-            Given::Payload(payload) => {
-                let filled = fill_in(&mut *book.kept.lock(rt), &book.words, alloc, claim, payload);
-                self.or_released(filled)
-            }
-            Given::Trim => {
-                let trimmed = trim_in(&mut *book.kept.lock(rt), &book.words, alloc, claim);
-                self.or_released(trimmed)
-            }
+        if !gate.waits() {
+            let put = put_in(
+                &mut *book.kept.lock(rt),
+                &book.words,
+                alloc,
+                claim,
+                block,
+                given,
+            );
+            let ended = self.or_released(put)?;
+            gate.reach(Point::Put, rt);
+            return Ok(ended);
         }
+        let placed = place_in(&mut *book.kept.lock(rt), &book.words, alloc, claim, given);
+        let ticket = self.or_released(placed)?;
+        gate.reach(Point::Put, rt);
+        let ended = end_fresh_in(&mut *book.kept.lock(rt), alloc, ticket, block);
+        Ok(ended)
     }
 
-    // The ticket; or why there is none, and then the slot is released.
-    fn or_released(
-        &mut self,
-        placed: Result<Ticket, (Refusal, Claim<N>)>,
-    ) -> Result<Ticket, WorkFault>
-        ensures ok { IfOk result (λ ticket. placed ≡ Ok ticket) }
+    // What came of a step; or why nothing did, and then the claim that it left is released.
+    fn or_released<T>(&mut self, tried: Result<T, Refused<N>>) -> Result<T, WorkFault>
+        ensures ok { IfOk result (λ done. tried ≡ Ok done) }
+        ensures refused { (q : Refusal) → result ≡ Err (Core q) → MatchResult tried (λ _. ⊥) (λ e. e.refusal ≡ q) }
         ensures fault { result ≢ Err (Core refusal.Memory) }
         ensures rest { (self.new.number ≡ self.old.number) × (self.new.book ≡ self.old.book) × (self.new.even ≡ self.old.even) × (self.new.odd ≡ self.old.odd) }
     {
-        match placed {
-            Ok(ticket) => Ok(ticket),
-            Err((refusal, Claim(claim))) => {
-                self.book.words.release(&mut self.pass, claim);
-                Err(WorkFault::of(refusal))
-            }
-        }
-    }
-
-    // Commits what was filled; refused the ticket is given up, and its slot released.
-    fn commit_fresh<R: Wait>(
-        &mut self,
-        rt: &R,
-        alloc: Global,
-        ticket: Ticket,
-        block: u32,
-    ) -> Result<Done<Claim<N>>, WorkFault>
-        requires { block < self.old.book.now.blocks }
-        ensures ok { IfOk result (λ done. (done.emitted.block ≡ block) × (0 < done.emitted.version) × (done.emitted.hop ≡ 0)) }
-        ensures committed { IfOk result (λ done. WasCommitted N.blocks N.payload ticket block done.emitted) }
-        ensures given_up { OnErr result (WasGivenUp N.blocks N.payload ticket) }
-        ensures fault { result ≢ Err (Core refusal.Memory) }
-        ensures rest { (self.new.number ≡ self.old.number) × (self.new.book ≡ self.old.book) × (self.new.even ≡ self.old.even) × (self.new.odd ≡ self.old.odd) }
-    {
-        let book = self.book;
-        let committed = commit_fresh_in(&mut *book.kept.lock(rt), alloc, ticket, block);
-        match committed {
+        match tried {
             Ok(done) => Ok(done),
-            Err((refusal, ticket)) => {
-                self.give_up(rt, ticket);
+            Err(Refused { refusal, claim }) => {
+                if let Some(Claim(claim)) = claim {
+                    self.book.words.release(&mut self.pass, claim);
+                }
                 Err(WorkFault::of(refusal))
             }
-        }
-    }
-
-    // Ends a ticket, and releases its slot.
-    fn give_up<R: Wait>(&mut self, rt: &R, ticket: Ticket)
-        ensures given_up { WasGivenUp N.blocks N.payload ticket }
-        ensures rest { (self.new.number ≡ self.old.number) × (self.new.book ≡ self.old.book) × (self.new.even ≡ self.old.even) × (self.new.odd ≡ self.old.odd) }
-    {
-        let book = self.book;
-        let given = discard_in(&mut *book.kept.lock(rt), ticket);
-        if let Ok(Claim(claim)) = given {
-            book.words.release(&mut self.pass, claim);
         }
     }
 
@@ -359,9 +331,8 @@ impl<
             return Ok(Migration::NoRoom);
         };
         gate.reach(Point::Claimed, rt);
-        let ticket = self.copy(rt, alloc, claim, plan.block)?;
-        gate.reach(Point::Put, rt);
-        match self.commit_moved(rt, alloc, ticket, &plan) {
+        let ended = self.move_claimed(rt, alloc, claim, &plan, gate)?;
+        match self.or_released(ended) {
             Ok(done) => {
                 gate.reach(Point::Committed, rt);
                 let emitted = self.acknowledge(done);
@@ -382,56 +353,44 @@ impl<
         plan_in(&mut *book.kept.lock(rt), &book.mirrors, low)
     }
 
-    // Copies the block into the claimed slot; refused it is released.
-    fn copy<R: Wait>(
+    // Copies the block into the claimed slot and commits it, under one hold of the lock where the gate doesn't wait. The slot of a
+    // refused copy is released here, that of a refused commit is left to the caller.
+    fn move_claimed<R: Wait, G: Gate>(
         &mut self,
         rt: &R,
         alloc: Global,
         claim: slot_words::Claim<N>,
-        block: u32,
-    ) -> Result<Ticket, WorkFault>
-        requires { block < self.old.book.now.blocks }
-        ensures copied { IfOk result (λ ticket. (ticket ≡ claim.slot) × WasCopied N.blocks N.payload ticket block) }
+        plan: &Plan,
+        gate: &G,
+    ) -> Result<Result<Done<Claim<N>>, Refused<N>>, WorkFault>
+        requires { plan.now.block < self.old.book.now.blocks }
+        ensures ok { IfOk result (λ ended. IfOk ended (λ done. (done.emitted.block ≡ plan.now.block) × (0 < done.emitted.version))) }
+        ensures copied { OnOk result (WasCopied N.blocks N.payload claim.slot plan.now.block) }
+        ensures answered { IfOk result (λ ended. MatchResult ended (λ done. WasCommitted N.blocks N.payload claim.slot plan.now.block done.emitted)
+            (λ e. e.refusal ≢ refusal.Memory → WasRefused N.blocks N.payload claim.slot plan.now.block e.refusal)) }
+        ensures given_up { IfOk result (λ ended. OnErr ended (WasGivenUp N.blocks N.payload claim.slot)) }
         ensures fault { result ≢ Err (Core refusal.Memory) }
         ensures rest { (self.new.number ≡ self.old.number) × (self.new.book ≡ self.old.book) × (self.new.even ≡ self.old.even) × (self.new.odd ≡ self.old.odd) }
     {
         let book = self.book;
-        let copied = copy_in(
+        let claim = Claim(claim);
+        if !gate.waits() {
+            let moved = move_in(&mut *book.kept.lock(rt), &book.words, alloc, claim, plan);
+            let ended = self.or_released(moved)?;
+            gate.reach(Point::Put, rt);
+            return Ok(ended);
+        }
+        let copied = place_copy_in(
             &mut *book.kept.lock(rt),
             &book.words,
             alloc,
-            Claim(claim),
-            block,
+            claim,
+            plan.block,
         );
-        self.or_released(copied)
-    }
-
-    // Commits a copy, and notes under the same hold of the lock where the write log goes on; refused the ticket is given up,
-    // and its slot released.
-    fn commit_moved<R: Wait>(
-        &mut self,
-        rt: &R,
-        alloc: Global,
-        ticket: Ticket,
-        plan: &Plan,
-    ) -> Result<Done<Claim<N>>, WorkFault>
-        requires { plan.now.block < self.old.book.now.blocks }
-        ensures ok { IfOk result (λ done. (done.emitted.block ≡ plan.now.block) × (0 < done.emitted.version)) }
-        ensures committed { IfOk result (λ done. WasCommitted N.blocks N.payload ticket plan.now.block done.emitted) }
-        ensures refused { (q : Refusal) → result ≡ Err (Core q) → WasRefused N.blocks N.payload ticket plan.now.block q }
-        ensures given_up { OnErr result (WasGivenUp N.blocks N.payload ticket) }
-        ensures fault { result ≢ Err (Core refusal.Memory) }
-        ensures rest { (self.new.number ≡ self.old.number) × (self.new.book ≡ self.old.book) × (self.new.even ≡ self.old.even) × (self.new.odd ≡ self.old.odd) }
-    {
-        let book = self.book;
-        let committed = commit_and_append(&mut *book.kept.lock(rt), alloc, ticket, plan);
-        match committed {
-            Ok(done) => Ok(done),
-            Err((refusal, ticket)) => {
-                self.give_up(rt, ticket);
-                Err(WorkFault::of(refusal))
-            }
-        }
+        let ticket = self.or_released(copied)?;
+        gate.reach(Point::Put, rt);
+        let ended = end_moved_in(&mut *book.kept.lock(rt), alloc, ticket, plan);
+        Ok(ended)
     }
 
     /// Reads a block by the newest record of it in the controller's words, or where that is stale by the array's newest, which is
@@ -535,33 +494,5 @@ fn claim_planned<R: Wait, D: Drive, N: slot_words::Naming + Sizes>(
             Ok(claim) => return Some(claim),
             Err(_) => slot = slot_after(&*kept.lock(rt), plan, slot)?,
         }
-    }
-}
-
-// Commits what a plan placed, and notes where the write log goes on, if the plan appends.
-fn commit_and_append<D: Drive, N: slot_words::Naming + Sizes>(
-    kept: &mut Kept<D, N>,
-    alloc: Global,
-    ticket: Ticket,
-    plan: &Plan,
-) -> Result<Done<Claim<N>>, (Refusal, Ticket)>
-    requires { plan.now.block < N.blocks }
-    ensures ok { IfOk result (λ done. (done.emitted.block ≡ plan.now.block) × (0 < done.emitted.version)) }
-    ensures answered { MatchResult result (λ done. WasCommitted N.blocks N.payload ticket plan.now.block done.emitted)
-        (λ e. e.0 ≢ refusal.Memory → WasRefused N.blocks N.payload ticket plan.now.block e.0) }
-    ensures err { OnErr result ((kept.new.planner.end ≡ kept.old.planner.end) × (kept.new.planner.ages ≡ kept.old.planner.ages)) }
-    ensures ticket { IfErr result (λ e. e.1 ≡ ticket) }
-    ensures appended { IfOk result (λ done. plan.now.appends ≡ true → kept.new.planner.end ≡ end_at done.emitted.place) }
-    ensures stays { plan.now.appends ≡ false → kept.new.planner.end ≡ kept.old.planner.end }
-    ensures noted { IfOk result (λ done. HasNoted kept.old kept.new done.emitted) }
-{
-    match commit_in(kept, alloc, ticket, plan.block) {
-        Ok(done) => {
-            if plan.appends {
-                appended_in(kept, done.emitted.record().place);
-            }
-            Ok(done)
-        }
-        Err(refused) => Err(refused),
     }
 }

@@ -9,29 +9,41 @@ use std::sync::atomic::AtomicU64;
 use std::sync::atomic::Ordering::SeqCst;
 use step_core::MemDrive;
 
-/// The points that were reached, as the digits of a number.
+/// The points that were reached, as the digits of a number, and whether the gate says that it waits.
 #[derive(Drop)]
-pub(crate) struct Reached(AtomicU64);
+pub(crate) struct Reached {
+    digits: AtomicU64,
+    waits: bool,
+}
 
 impl Reached {
-    pub(crate) fn new() -> Reached {
-        Reached(AtomicU64::new(0))
+    pub(crate) fn new(waits: bool) -> Reached {
+        Reached {
+            digits: AtomicU64::new(0),
+            waits,
+        }
     }
 
     pub(crate) fn digits(&self) -> u64 {
-        self.0.load(SeqCst)
+        self.digits.load(SeqCst)
     }
 }
 
 impl Gate for Reached {
     fn reach<R: Wait>(&self, point: Point, _rt: &R) {
-        let before = self.0.load(SeqCst);
-        self.0
+        let before = self.digits.load(SeqCst);
+        self.digits
             .store(before.wrapping_mul(10).wrapping_add(point as u64), SeqCst);
+    }
+
+    fn waits(&self) -> bool {
+        self.waits
     }
 }
 
-struct WritesAndMoves;
+// Whether the gate says that it waits.
+#[derive(Clone, Copy)]
+struct WritesAndMoves(bool);
 
 impl Story for WritesAndMoves {
     fn tell<
@@ -40,7 +52,7 @@ impl Story for WritesAndMoves {
         B: map_words::Naming,
         R: Abort + Wait,
     >(&self, rt: &R, alloc: Global, worker: &mut Worker<'_, MemDrive, N, A, B>) {
-        let gate = Reached::new();
+        let gate = Reached::new(self.0);
         let written = write_by(rt, alloc, worker, 3, 7, &gate);
         assert!(rt; written == Ok(record(3, 1, 0, 0)));
         assert!(rt; gate.digits() == 1234);
@@ -55,8 +67,10 @@ impl Story for WritesAndMoves {
 
 #[test]
 fn a_write_and_a_trim_and_a_move_reach_all_points_in_order(rt: HostRuntime) {
-    let settled = lived(&rt, rt.alloc(), &[4], &WritesAndMoves);
-    assert!(rt; settled == (Ok(()), 1));
+    for waits in [true, false] {
+        let settled = lived(&rt, rt.alloc(), &[4], &WritesAndMoves(waits));
+        assert!(rt; settled == (Ok(()), 1), "waits: {waits}");
+    }
 }
 
 // Worker 5 writes block 9 into slot 0, which has a header of block 3 that the odd controller knows. It waits at each point until

@@ -20,7 +20,7 @@ impl Story for TrimsInTurn {
     >(&self, rt: &R, alloc: Global, workers: &mut [Worker<'_, MemDrive, N, A, B>]) {
         let (even, odd) = (Controller::Even, Controller::Odd);
         assert!(rt; workers.len() == 2);
-        let gate = Reached::new();
+        let gate = Reached::new(true);
         assert!(rt; write(rt, alloc, &mut workers[0], 3, 7) == Ok(record(3, 1, 0, 0)));
         assert!(rt; trim_by(rt, alloc, &mut workers[0], 3, &gate) == Ok(record(3, 2, 0, 1)));
         assert!(rt; gate.digits() == 1234);

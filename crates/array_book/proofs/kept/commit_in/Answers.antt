@@ -1,4 +1,4 @@
-use Rattle.std.proofs.Common.{◌<◌, length, sym, ap, subst, refl, rules}
+use Rattle.std.proofs.Common.{◌<◌, length, sym, ap, subst, refl}
 use Rattle.map_join.specs.declared.records.Record.{Record}
 use Rattle.flat_machine.specs.Flat.{Flat}
 use Rattle.flat_machine.specs.Steps as say

@@ -1,4 +1,4 @@
-use Rattle.std.proofs.Common.{◌<◌, Option, subst, rules}
+use Rattle.std.proofs.Common.{◌<◌, subst, rules}
 use Rattle.std.specs.Prelude.{MatchOption}
 use Rattle.background.specs.Planning.{IsOldestMirrored}
 use Rattle.array_book.specs.Kept.{KeptView}

@@ -1,8 +1,8 @@
-use Rattle.std.proofs.Common.{◌≡◌, None, Option, subst, rules}
+use Rattle.std.proofs.Common.{◌≡◌, None, subst, rules}
 use Rattle.std.specs.Prelude.{MatchOption}
 use Rattle.array_book.specs.Kept.{KeptView}
 use Rattle.background.specs.Planning.{IsPlugOf, IsCleanOf}
-use Rattle.array_book.specs.Planned.{IsRegrouped, IsPlanned, IsDone, NoDemotion}
+use Rattle.array_book.specs.Planned.{IsRegrouped, IsPlanned, NoDemotion}
 use Rattle.array_book.proofs.Answering.{state_of}
 use Rattle.array_book.proofs.Planning.{planned_else}
 use Rattle.array_book.proofs.plan.plan_in.Goals as goal

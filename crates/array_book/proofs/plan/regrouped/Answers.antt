@@ -1,4 +1,4 @@
-use Rattle.std.proofs.Common.{◌≡◌, ◌<◌, inl, inr, Some, None, subst, arith, rules}
+use Rattle.std.proofs.Common.{◌≡◌, inl, inr, Some, None, subst, arith, rules}
 use Rattle.background.specs.Planning.{IsPlugOf, IsCleanOf}
 use Rattle.array_book.specs.Kept.{KeptView}
 use Rattle.array_book.proofs.plan.regrouped.Goals as goal

@@ -1,7 +1,7 @@
 use Rattle.std.proofs.Common.{◌≡◌, ℕ, ◌<◌, true, subst, rules}
 use Rattle.background.specs.Planning.{IsNextAppend}
 use Rattle.array_book.specs.Kept.{KeptView}
-use Rattle.array_book.specs.Planned.{IsNext, turn_of}
+use Rattle.array_book.specs.Planned.{turn_of}
 use Rattle.array_book.proofs.Answering.{state_of}
 use Rattle.array_book.proofs.plan.slot_after.Goals as goal
 

@@ -1,4 +1,4 @@
-use Rattle.std.proofs.Common.{◌≡◌, ℕ, ◌<◌, Option, Some, None, sym, subst, arith, rules}
+use Rattle.std.proofs.Common.{ℕ, ◌<◌, Option, Some, None, sym, subst, rules}
 use Rattle.std.specs.Prelude.{IfNone}
 use Rattle.array_book.specs.Outcomes.{IsTried, HadNoRoom}
 use Rattle.array_book.proofs.Planning.{next_tried, next_none}

@@ -1,0 +1,194 @@
+// What a worker's call does under a hold of the lock, and what a refusal leaves to release once the lock is free.
+ghost use Rattle.std.specs.Prelude.{◌≡◌, ◌≢◌, ◌<◌, IfOk, IfErr, OnOk, OnErr, MatchResult, Ok, true, false};
+ghost use Rattle.flat_machine.specs.declared.refusal.Refusal.TheVariants as refusal;
+ghost use Rattle.migrator.specs.Slots.{end_at};
+ghost use Rattle.array_book.specs.Given.{content_of, IsGivenFor};
+ghost use Rattle.array_book.specs.Kept.{HasNoted};
+ghost use Rattle.array_book.specs.Outcomes.{WasFilled, WasCopied, WasCommitted, WasRefused, WasGivenUp, WasWritten};
+
+use crate::claim::{Claim, Sizes};
+use crate::given::Given;
+use crate::kept::{
+    Kept, appended_in, commit_fresh_in, commit_in, copy_in, discard_in, fill_in, trim_in,
+};
+use crate::plan::Plan;
+use extents::Drive;
+use flat_machine::Refusal;
+use slot_words::{Naming, SlotWords};
+use std::alloc::Global;
+use step_core::{Done, Ticket};
+
+/// Why a step was refused, and the claim that is to be released, if there is one.
+pub(crate) struct Refused<N: Naming> {
+    pub(crate) refusal: Refusal,
+    pub(crate) claim: Option<Claim<N>>,
+}
+
+// The ticket of a slot that was filled or copied into, or why there is none.
+fn ticket_of<N: Naming>(placed: Result<Ticket, (Refusal, Claim<N>)>) -> Result<Ticket, Refused<N>>
+    ensures { IfOk result (λ ticket. placed ≡ Ok ticket) }
+{
+    match placed {
+        Ok(ticket) => Ok(ticket),
+        Err((refusal, claim)) => Err(Refused {
+            refusal,
+            claim: Some(claim),
+        }),
+    }
+}
+
+/// Fills a claimed slot with what is given.
+pub(crate) fn place_in<D: Drive, N: Naming + Sizes>(
+    kept: &mut Kept<D, N>,
+    words: &SlotWords<N>,
+    alloc: Global,
+    claim: Claim<N>,
+    given: Given,
+) -> Result<Ticket, Refused<N>>
+    requires { IsGivenFor N.payload given }
+    ensures ticket { IfOk result (λ ticket. ticket ≡ claim.0.slot) }
+    ensures filled { IfOk result (λ ticket. WasFilled N.blocks N.payload ticket (content_of given.entry)) }
+{
+    match given {
+        Given::Payload(payload) => ticket_of(fill_in(kept, words, alloc, claim, payload)),
+        Given::Trim => ticket_of(trim_in(kept, words, alloc, claim)),
+    }
+}
+
+/// Copies what a block holds into a claimed slot.
+pub(crate) fn place_copy_in<D: Drive, N: Naming + Sizes>(
+    kept: &mut Kept<D, N>,
+    words: &SlotWords<N>,
+    alloc: Global,
+    claim: Claim<N>,
+    block: u32,
+) -> Result<Ticket, Refused<N>>
+    requires { block < N.blocks }
+    ensures ticket { IfOk result (λ ticket. ticket ≡ claim.0.slot) }
+    ensures copied { IfOk result (λ ticket. WasCopied N.blocks N.payload ticket block) }
+{
+    ticket_of(copy_in(kept, words, alloc, claim, block))
+}
+
+// Gives up the ticket of a refused commit.
+fn give_up_in<D: Drive, N: Naming + Sizes>(
+    kept: &mut Kept<D, N>,
+    refusal: Refusal,
+    ticket: Ticket,
+) -> Refused<N>
+    ensures refusal { result.refusal ≡ refusal }
+    ensures given_up { WasGivenUp N.blocks N.payload ticket }
+{
+    let claim = match discard_in(kept, ticket) {
+        Ok(claim) => Some(claim),
+        Err(_) => None,
+    };
+    Refused { refusal, claim }
+}
+
+/// Commits what was filled; refused the ticket is given up.
+pub(crate) fn end_fresh_in<D: Drive, N: Naming + Sizes>(
+    kept: &mut Kept<D, N>,
+    alloc: Global,
+    ticket: Ticket,
+    block: u32,
+) -> Result<Done<Claim<N>>, Refused<N>>
+    requires { block < N.blocks }
+    ensures ok { IfOk result (λ done. (done.emitted.block ≡ block) × (0 < done.emitted.version) × (done.emitted.hop ≡ 0)) }
+    ensures committed { IfOk result (λ done. WasCommitted N.blocks N.payload ticket block done.emitted) }
+    ensures given_up { OnErr result (WasGivenUp N.blocks N.payload ticket) }
+{
+    match commit_fresh_in(kept, alloc, ticket, block) {
+        Ok(done) => Ok(done),
+        Err((refusal, ticket)) => Err(give_up_in(kept, refusal, ticket)),
+    }
+}
+
+/// Commits a copy, and notes where the write log goes on; refused the ticket is given up.
+pub(crate) fn end_moved_in<D: Drive, N: Naming + Sizes>(
+    kept: &mut Kept<D, N>,
+    alloc: Global,
+    ticket: Ticket,
+    plan: &Plan,
+) -> Result<Done<Claim<N>>, Refused<N>>
+    requires { plan.now.block < N.blocks }
+    ensures ok { IfOk result (λ done. (done.emitted.block ≡ plan.now.block) × (0 < done.emitted.version)) }
+    ensures answered { MatchResult result (λ done. WasCommitted N.blocks N.payload ticket plan.now.block done.emitted)
+        (λ e. e.refusal ≢ refusal.Memory → WasRefused N.blocks N.payload ticket plan.now.block e.refusal) }
+    ensures given_up { OnErr result (WasGivenUp N.blocks N.payload ticket) }
+{
+    match commit_and_append(kept, alloc, ticket, plan) {
+        Ok(done) => Ok(done),
+        Err((refusal, ticket)) => Err(give_up_in(kept, refusal, ticket)),
+    }
+}
+
+/// Fills a claimed slot with what is given, and commits it.
+pub(crate) fn put_in<D: Drive, N: Naming + Sizes>(
+    kept: &mut Kept<D, N>,
+    words: &SlotWords<N>,
+    alloc: Global,
+    claim: Claim<N>,
+    block: u32,
+    given: Given,
+) -> Result<Result<Done<Claim<N>>, Refused<N>>, Refused<N>>
+    requires block { block < N.blocks }
+    requires given { IsGivenFor N.payload given }
+    ensures ok { IfOk result (λ ended. IfOk ended (λ done. (done.emitted.block ≡ block) × (0 < done.emitted.version) × (done.emitted.hop ≡ 0))) }
+    ensures written { IfOk result (λ ended. IfOk ended (λ done. WasWritten N.blocks N.payload block (content_of given.entry) done.emitted)) }
+    ensures given_up { IfOk result (λ ended. OnErr ended (WasGivenUp N.blocks N.payload claim.0.slot)) }
+{
+    match place_in(kept, words, alloc, claim, given) {
+        Ok(ticket) => Ok(end_fresh_in(kept, alloc, ticket, block)),
+        Err(refused) => Err(refused),
+    }
+}
+
+/// Copies a plan's block into a claimed slot, and commits it.
+pub(crate) fn move_in<D: Drive, N: Naming + Sizes>(
+    kept: &mut Kept<D, N>,
+    words: &SlotWords<N>,
+    alloc: Global,
+    claim: Claim<N>,
+    plan: &Plan,
+) -> Result<Result<Done<Claim<N>>, Refused<N>>, Refused<N>>
+    requires { plan.now.block < N.blocks }
+    ensures ok { IfOk result (λ ended. IfOk ended (λ done. (done.emitted.block ≡ plan.now.block) × (0 < done.emitted.version))) }
+    ensures copied { OnOk result (WasCopied N.blocks N.payload claim.0.slot plan.now.block) }
+    ensures answered { IfOk result (λ ended. MatchResult ended (λ done. WasCommitted N.blocks N.payload claim.0.slot plan.now.block done.emitted)
+        (λ e. e.refusal ≢ refusal.Memory → WasRefused N.blocks N.payload claim.0.slot plan.now.block e.refusal)) }
+    ensures given_up { IfOk result (λ ended. OnErr ended (WasGivenUp N.blocks N.payload claim.0.slot)) }
+{
+    match place_copy_in(kept, words, alloc, claim, plan.block) {
+        Ok(ticket) => Ok(end_moved_in(kept, alloc, ticket, plan)),
+        Err(refused) => Err(refused),
+    }
+}
+
+// Commits what a plan placed, and notes where the write log goes on, if the plan appends.
+fn commit_and_append<D: Drive, N: Naming + Sizes>(
+    kept: &mut Kept<D, N>,
+    alloc: Global,
+    ticket: Ticket,
+    plan: &Plan,
+) -> Result<Done<Claim<N>>, (Refusal, Ticket)>
+    requires { plan.now.block < N.blocks }
+    ensures ok { IfOk result (λ done. (done.emitted.block ≡ plan.now.block) × (0 < done.emitted.version)) }
+    ensures answered { MatchResult result (λ done. WasCommitted N.blocks N.payload ticket plan.now.block done.emitted)
+        (λ e. e.0 ≢ refusal.Memory → WasRefused N.blocks N.payload ticket plan.now.block e.0) }
+    ensures err { OnErr result ((kept.new.planner.end ≡ kept.old.planner.end) × (kept.new.planner.ages ≡ kept.old.planner.ages)) }
+    ensures ticket { IfErr result (λ e. e.1 ≡ ticket) }
+    ensures appended { IfOk result (λ done. plan.now.appends ≡ true → kept.new.planner.end ≡ end_at done.emitted.place) }
+    ensures stays { plan.now.appends ≡ false → kept.new.planner.end ≡ kept.old.planner.end }
+    ensures noted { IfOk result (λ done. HasNoted kept.old kept.new done.emitted) }
+{
+    match commit_in(kept, alloc, ticket, plan.block) {
+        Ok(done) => {
+            if plan.appends {
+                appended_in(kept, done.emitted.record().place);
+            }
+            Ok(done)
+        }
+        Err(refused) => Err(refused),
+    }
+}
