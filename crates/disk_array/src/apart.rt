@@ -33,7 +33,12 @@ impl<D: Drive, C: Hold> Array<D, C> {
 
 // Where a claim is kept at the place, it and the other are of different slots; so none is.
 #[tactic(auto, using(slot_tables::proofs::Places::kept_past))]
-fn apart_at<C: Hold, W: Apart<C>>(places: &mut Vec<SlotState<C>>, words: &W, slot: u16, claim: &mut C)
+fn apart_at<C: Hold, W: Apart<C>>(
+    places: &mut Vec<SlotState<C>>,
+    words: &W,
+    slot: u16,
+    claim: &mut C,
+)
     requires of { C.names claim.old ≡ slot }
     requires claims { AreOf C.names places.old.items }
     ensures free { slice_index_or (kepts_of places.old.items) slot Nothing ≡ Nothing }

@@ -23,7 +23,7 @@ use extent_groups::GROUPS;
 use extents::{Drive, Header, Kind};
 use flat_machine::Refusal;
 use map_join::Record;
-use slot_tables::{Hold, SlotState, state_at, put_in, take_out, take_waiting};
+use slot_tables::{Hold, SlotState, put_in, state_at, take_out, take_waiting};
 use std::alloc::Global;
 use std::marker::Model;
 
@@ -189,7 +189,12 @@ fn let_go<C: Hold>(
 
 // The claim that waited is kept for the block.
 #[tactic(auto, using(slot_tables::proofs::Places::set_twice))]
-fn keep_newest<C: Hold>(places: &mut Vec<SlotState<C>>, live: &mut [u16; GROUPS], slot: u16, block: u32)
+fn keep_newest<C: Hold>(
+    places: &mut Vec<SlotState<C>>,
+    live: &mut [u16; GROUPS],
+    slot: u16,
+    block: u32,
+)
     requires waits { is_waiting (slice_index_or (kepts_of places.old.items) slot Nothing) ≡ true }
     requires claims { AreOf C.names places.old.items }
     requires counts { AreCounts (kepts_of places.old.items) live.old }

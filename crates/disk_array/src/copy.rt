@@ -52,7 +52,11 @@ impl<D: Drive, C: Hold> Array<D, C> {
             Ok(kind) => kind,
             Err(refusal) => return Err((refusal, claim)),
         };
-        put_in(&mut self.places, slot, SlotState::Moving(source, kind, claim));
+        put_in(
+            &mut self.places,
+            slot,
+            SlotState::Moving(source, kind, claim),
+        );
         Ok(Ticket::of(slot))
     }
 

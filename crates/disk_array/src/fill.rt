@@ -41,7 +41,11 @@ impl<D: Drive, C: Hold> Array<D, C> {
         if let Err(refusal) = self.parts.put(slot, payload, unit, scratch) {
             return Err((refusal, claim));
         }
-        put_in(&mut self.places, slot, SlotState::Pending(Kind::Data, claim));
+        put_in(
+            &mut self.places,
+            slot,
+            SlotState::Pending(Kind::Data, claim),
+        );
         Ok(Ticket::of(slot))
     }
 

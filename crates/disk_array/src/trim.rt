@@ -40,7 +40,11 @@ impl<D: Drive, C: Hold> Array<D, C> {
         if let Err(refusal) = self.parts.put_trim(slot, unit, scratch) {
             return Err((refusal, claim));
         }
-        put_in(&mut self.places, slot, SlotState::Pending(Kind::Trim, claim));
+        put_in(
+            &mut self.places,
+            slot,
+            SlotState::Pending(Kind::Trim, claim),
+        );
         Ok(Ticket::of(slot))
     }
 }

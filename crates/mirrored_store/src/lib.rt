@@ -173,7 +173,5 @@ pub fn write_gathered<D: Drive>(
     let (first, second) = groups.pair_of(slot);
     let one = extent_groups::write_gathered(drives, first, front, rest, scratch);
     let two = extent_groups::write_gathered(drives, second, front, rest, scratch);
-    (one | two)
-        .then_some(())
-        .ok_or(StoreRefusal::Gone(slot))
+    (one | two).then_some(()).ok_or(StoreRefusal::Gone(slot))
 }

@@ -4,16 +4,16 @@
 
 mod hand;
 mod hold;
-mod slot_state;
 mod ready;
 mod seats;
 mod shut;
+mod slot_state;
 mod tables;
 
 pub use hand::Hand;
 pub use hold::{Hold, Plain};
-pub use slot_state::{SlotState, grow_to, state_at, put_in, take_out, take_waiting};
 pub use ready::{NotAdopted, Ready, Room, prepare};
 pub use seats::{seat_all, unseat_all};
 pub use shut::{close_all, marked, open_number};
+pub use slot_state::{SlotState, grow_to, put_in, state_at, take_out, take_waiting};
 pub use tables::{SLOTS, Tables, new_tables};

@@ -8,8 +8,8 @@ ghost use Rattle.slot_tables.specs.Kept.{HavePlaces};
 ghost use Rattle.slot_tables.specs.Claims.{AreReady, AreKeys, HasRoom, IsNotAdopted};
 
 use crate::hold::Hold;
-use crate::slot_state::SlotState;
 use crate::seats::{blocks_by_slot, first_unclaimed};
+use crate::slot_state::SlotState;
 use crate::tables::free_places;
 use array_parts::Parts;
 use extent_groups::{GROUPS, GroupTable, SLOTS};

@@ -70,7 +70,11 @@ pub(crate) fn first_unclaimed<C: Hold>(
 }
 
 // Takes a claim into the place that wants it, or returns it.
-fn seat<C: Hold>(wanted: &mut Vec<Option<u32>>, places: &mut Vec<SlotState<C>>, claim: C) -> Option<C>
+fn seat<C: Hold>(
+    wanted: &mut Vec<Option<u32>>,
+    places: &mut Vec<SlotState<C>>,
+    claim: C,
+) -> Option<C>
     requires many { vec_len wanted.old ≡ 65536 }
     requires inside { (b : ℕ) → wanted_at wanted.old.items (C.names claim) ≡ Some b → C.names claim < vec_len places.old }
     requires claims { AreOf C.names places.old.items }

@@ -8,7 +8,7 @@ ghost use Rattle.slot_tables.specs.Kept.{kepts_of, AreOf};
 ghost use Rattle.slot_tables.specs.Shut.{one_of, shut_of, closed_of};
 
 use crate::hold::Hold;
-use crate::slot_state::{SlotState, state_at, put_in, take_out};
+use crate::slot_state::{SlotState, put_in, state_at, take_out};
 use extent_groups::SLOTS;
 
 // The claim that is kept of a slot for a dissolved group, if there is one.

@@ -50,7 +50,10 @@ fn zeros(alloc: Global, count: u32) -> Result<Vec<u64>, AllocError>
     vec![in alloc; 0u64; count as usize]
 }
 
-pub(crate) fn free_places<C: Hold>(alloc: Global, count: usize) -> Result<Vec<SlotState<C>>, AllocError>
+pub(crate) fn free_places<C: Hold>(
+    alloc: Global,
+    count: usize,
+) -> Result<Vec<SlotState<C>>, AllocError>
     ensures len { IfOk result (λ places. length places.items ≡ count) }
     ensures free { IfOk result (λ places. (s : ℕ) → slice_index_or places.items s SlotState.Free ≡ SlotState.Free) }
 {
