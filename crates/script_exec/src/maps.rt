@@ -49,10 +49,7 @@ fn take_into(
     ensures newest { IfOk result (λ newest.
         record_at «record».block (at (slice_index_or maps.new map []) «record».block) ≡ Some newest) }
 {
-    match maps[map].take(alloc, record) {
-        Ok(()) => {}
-        Err(refusal) => return Err(refusal),
-    }
+    maps[map].take(alloc, record)?;
     Ok(maps[map].get(record.block).unwrap_or(record))
 }
 

@@ -49,13 +49,9 @@ fn start(
         Replies result state bench.new line.now out.old.items out.new.items }
     ensures kept { IsPrefix out.old.items out.new.items }
 {
-    match first(alloc, line, out) {
-        Ok(made) => {
-            *bench = Some(made);
-            Ok(())
-        }
-        Err(failure) => Err(failure),
-    }
+    let made = first(alloc, line, out)?;
+    *bench = Some(made);
+    Ok(())
 }
 
 // The first command makes the array.
@@ -64,10 +60,8 @@ fn first(alloc: Global, line: &[u8], out: &mut Vec<u8>) -> Result<Bench, Failure
     ensures kept { IsPrefix out.old.items out.new.items }
 {
     let mut command = Command::new(alloc);
-    match read_command(alloc, line, &mut [], &mut command) {
-        Ok(true) => {}
-        Ok(false) => return Err(Failure::Wrong(Why::Form)),
-        Err(_) => return Err(Failure::Memory),
+    if !read_command(alloc, line, &mut [], &mut command)? {
+        return Err(Failure::Wrong(Why::Form));
     }
     match command.verb {
         Verb::Array => {
@@ -97,13 +91,9 @@ fn begin(
     let Ok(world) = World::new(alloc, shape, drives) else {
         return Err(Failure::Memory)
     };
-    let Ok(tiers) = Tiers::new(alloc, world) else {
-        return Err(Failure::Memory)
-    };
-    match put(out, b"array") {
-        Ok(()) => Ok(Bench::new(alloc, tiers)),
-        Err(_) => Err(Failure::Memory),
-    }
+    let tiers = Tiers::new(alloc, world)?;
+    put(out, b"array")?;
+    Ok(Bench::new(alloc, tiers))
 }
 
 // Every later command is for the array and the maps.
@@ -125,10 +115,8 @@ fn later(
     let shape = standing.tiers.world.array().shape();
     let payload = &mut payload[..shape.payload as usize];
     let mut command = Command::new(alloc);
-    match read_command(alloc, line, payload, &mut command) {
-        Ok(true) => {}
-        Ok(false) => return Err(Failure::Wrong(Why::Form)),
-        Err(_) => return Err(Failure::Memory),
+    if !read_command(alloc, line, payload, &mut command)? {
+        return Err(Failure::Wrong(Why::Form));
     }
     if let Verb::Array = command.verb {
         return Err(Failure::Wrong(Why::Form));
@@ -137,13 +125,7 @@ fn later(
         return Err(Failure::Wrong(Why::Range));
     }
     if let Verb::Restart = command.verb {
-        return match restart(alloc, bench, out) {
-            Ok(()) => Ok(()),
-            Err(_) => Err(Failure::Memory),
-        };
+        return Ok(restart(alloc, bench, out)?);
     }
-    match carry_out(alloc, standing, payload, &command, out) {
-        Ok(()) => Ok(()),
-        Err(_) => Err(Failure::Memory),
-    }
+    Ok(carry_out(alloc, standing, payload, &command, out)?)
 }

@@ -1,4 +1,8 @@
 //! Why a line is not answered.
+ghost use Rattle.std.specs.Prelude.{◌≡◌};
+ghost use Rattle.script_exec.specs.declared.why.Failure.TheVariants as failure;
+
+use std::alloc::AllocError;
 
 /// Why a line is wrong.
 #[derive(Clone, Copy)]
@@ -20,4 +24,12 @@ pub enum Failure {
     Memory,
     /// The line is wrong.
     Wrong(Why),
+}
+
+impl From<AllocError> for Failure {
+    ghost from_gives = { λ _ failed. failed ≡ failure.Memory };
+
+    fn from(_: AllocError) -> Failure {
+        Failure::Memory
+    }
 }

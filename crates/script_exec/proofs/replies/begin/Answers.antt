@@ -12,8 +12,8 @@ use Rattle.script_exec.proofs.replies.begin.Goals as goal
 abbrev begun_state : Groups → ℕ → State
 begun_state groups drives = Some (record { tiers = begun (new_flat groups drives (nat_le drives) (λ _. no_failures)); taken = nothing_taken })
 
-pub returns-in-Ok-put-clause-replied : goal.returns-in-Ok-put-clause-replied
-returns-in-Ok-put-clause-replied c =
+pub returns-clause-replied : goal.returns-clause-replied
+returns-clause-replied c =
     let some = c.in-Some.ensures.some in
     let sizes = c.in-Ok.ensures.sizes in
     let groups = c.in-Ok.world.array.parts.groups in
@@ -36,10 +36,10 @@ returns-in-Ok-put-clause-replied c =
           state_is = ap (begun_state groups) some.0;
         };
         stands = record {
-          tiers = subst (λ (t : Tiers). StandsFor t (begun (new_flat groups c.in-Some.drives (nat_le c.in-Some.drives) (λ _. no_failures)))) (sym c.new-in-Ok-put.ensures.tiers)
-              (c.in-Ok-new.ensures.ok _ c.in-Ok.ensures.ok);
-          maps = c.new-in-Ok-put.ensures.maps;
+          tiers = subst (λ (t : Tiers). StandsFor t (begun (new_flat groups c.in-Some.drives (nat_le c.in-Some.drives) (λ _. no_failures)))) (sym c.new-3.ensures.tiers)
+              (c.in_ok-tiers.ensures.ok _ c.in-Ok.ensures.ok);
+          maps = c.new-3.ensures.maps;
         };
-        out = c.in-Ok-put.ensures.told;
+        out = c.in_ok-put.ensures.told;
       };
     }
