@@ -54,10 +54,8 @@ pub fn wrong(out: &mut Vec<u8>, number: u64, why: Why) -> Result<(), Stop>
     ensures told { TellsFault result number why out.old.items out.new.items }
     ensures kept { IsPrefix out.old.items out.new.items }
 {
-    match put_fault(out, number, why) {
-        Ok(()) => Err(Stop::Fault),
-        Err(_) => Err(Stop::Memory),
-    }
+    put_fault(out, number, why)?;
+    Err(Stop::Fault)
 }
 
 // The line that reports a fault.

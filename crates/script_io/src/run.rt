@@ -50,7 +50,7 @@ pub fn run_and_leave<R: Read, W: Write>(
     (end, bench)
 }
 
-// Turn after turn, up to the end.
+// Turn after turn, up to the end: one read, the answers to the lines that end in it, and their write.
 fn turns<R: Read, W: Write>(
     alloc: Global,
     reader: &mut R,
@@ -66,34 +66,15 @@ fn turns<R: Read, W: Write>(
         (W.contents writer.old) (W.contents writer.new) }
 {
     loop {
-        if let Some(halt) = turn(alloc, reader, writer, chunk, script) {
-            return halt;
+        match read_some(reader, chunk) {
+            Ok(0) => return close(alloc, writer, script),
+            Ok(count) => {
+                if let Some(halt) = go_on(alloc, writer, script, &chunk[..count]) {
+                    return halt;
+                }
+            }
+            Err(broke) => return Halt::ReadBroke(broke),
         }
-    }
-}
-
-// One read, the answers to the lines that end in it, and their write.
-fn turn<R: Read, W: Write>(
-    alloc: Global,
-    reader: &mut R,
-    writer: &mut W,
-    chunk: &mut [u8],
-    script: &mut Script,
-) -> Option<Halt>
-    requires room { 0 < length chunk.old }
-    requires good { IsScript script.old }
-    requires written { script.old.out.items ≡ [] }
-    ensures stays { IsNone result → IsScript script.new }
-    ensures written { IsNone result → script.new.out.items ≡ [] }
-    ensures fewer { IsNone result → most_left script.new < most_left script.old }
-    ensures said { (state : State) → Stands script.old.bench state →
-        TurnsTo result (R.remaining reader.old) (R.remaining reader.new) script.old state script.new
-        (W.contents writer.old) (W.contents writer.new) }
-{
-    match read_some(reader, chunk) {
-        Ok(0) => Some(close(alloc, writer, script)),
-        Ok(count) => go_on(alloc, writer, script, &chunk[..count]),
-        Err(broke) => Some(Halt::ReadBroke(broke)),
     }
 }
 

@@ -43,7 +43,7 @@ impl Script {
         }
     }
 
-    /// Reads the next bytes, and answers the lines that end in them.
+    /// Reads the next bytes, and answers the lines that end in them. A line whose bytes are all here is answered where it lies.
     pub fn feed(&mut self, alloc: Global, chunk: &[u8]) -> Result<(), Stop>
         requires { IsScript self.old }
         ensures keeps { OnOk result (IsScript self.new) }
@@ -52,9 +52,11 @@ impl Script {
     {
         let mut rest = chunk;
         while let Some((part, behind)) = split_line(rest) {
-            match self.take_line(alloc, part) {
-                Ok(()) => {}
-                Err(stop) => return Err(stop),
+            if !self.line.is_empty() {
+                self.take_in(part)?;
+                self.answer_open(alloc)?;
+            } else {
+                self.answer(alloc, part)?;
             }
             rest = behind;
         }
@@ -89,10 +91,7 @@ impl Script {
         if part.len() > MOST_BYTES - self.line.len() {
             return self.tell_fault(Why::Long);
         }
-        match self.line.extend_from_slice(part) {
-            Ok(()) => Ok(()),
-            Err(_) => Err(Stop::Memory),
-        }
+        Ok(self.line.extend_from_slice(part)?)
     }
 
     // Reports a fault of the open line. Without memory for all of it, nothing of it is kept.
@@ -109,24 +108,6 @@ impl Script {
         }
     }
 
-    // Answers the line that ends after these bytes. Where they are all of it, it is answered where it lies.
-    fn take_line(&mut self, alloc: Global, part: &[u8]) -> Result<(), Stop>
-        requires good { IsScript self.old }
-        requires part { IsOpen part.now }
-        ensures keeps { OnOk result (IsScript self.new) }
-        ensures fewer { OnOk result (most_left self.new + (length part.now + 1) ≤ most_left self.old) }
-        ensures fed { (state : State) → Stands self.old.bench state →
-            Feeds result self.old state self.new (part.now ++ 10 ∷ []) }
-    {
-        if !self.line.is_empty() {
-            return match self.take_in(part) {
-                Ok(()) => self.answer_open(alloc),
-                Err(stop) => Err(stop),
-            };
-        }
-        self.answer(alloc, part)
-    }
-
     // Answers the open line, which ends here, and keeps its memory for the next one.
     fn answer_open(&mut self, alloc: Global) -> Result<(), Stop>
         requires { IsScript self.old }
@@ -136,14 +117,10 @@ impl Script {
             Answered result self.old state self.old.line.items self.new }
     {
         let line = replace(&mut self.line, Vec::new(alloc));
-        match self.answer(alloc, &line) {
-            Ok(()) => {
-                self.line = line;
-                self.line.clear();
-                Ok(())
-            }
-            Err(stop) => Err(stop),
-        }
+        self.answer(alloc, &line)?;
+        self.line = line;
+        self.line.clear();
+        Ok(())
     }
 
     // Appends a line's answer to the whole answers. Without memory for all of its answer, nothing of it is kept.

@@ -6,8 +6,8 @@ use Rattle.script_io.specs.Turns.{PartSaid}
 use Rattle.script_io.proofs.run.turns.Given as goal
 
 -- what was read so far is answered and written
-abbrev pub invariant-loop-halt : goal.invariant-loop-halt
-invariant-loop-halt g l =
+abbrev pub invariant-loop-writer : goal.invariant-loop-writer
+invariant-loop-writer g l =
     let remaining = g.R.Read.remaining in
     let contents = g.W.Write.contents in record {
       good : IsScript l.script;
@@ -16,5 +16,5 @@ invariant-loop-halt g l =
           l.fn.script state l.script (contents l.fn.writer) (contents l.writer);
     }
 
-abbrev pub decreases-loop-halt : goal.decreases-loop-halt
-decreases-loop-halt g l = most_left l.script
+abbrev pub decreases-loop-writer : goal.decreases-loop-writer
+decreases-loop-writer g l = most_left l.script

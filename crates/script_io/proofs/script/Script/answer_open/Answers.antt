@@ -2,17 +2,17 @@ use Rattle.std.proofs.Common.{◌≡◌, length, ap, ◌∙◌}
 use Rattle.script_io.proofs.Counts.{open_answered}
 use Rattle.script_io.proofs.script.Script.answer_open.Goals as goal
 
-pub returns-in-Ok-clause-fewer : goal.returns-in-Ok-clause-fewer
-returns-in-Ok-clause-fewer c =
+pub returns-clause-fewer : goal.returns-clause-fewer
+returns-clause-fewer c =
     let line_is : c.deref.result.now ≡ c.args.self.now.line.items = c.deref.ensures.value ∙ ap (λ line. line.items) c.replace-line.ensures.value in
     open_answered c.args.self.now c.deref.result.now c.replace-line.new.dest.items c.answer.new.self.line.items c.clear.new.self.items
     c.answer.new.self.number c.requires line_is (ap (λ line. length line.items) c.replace-line.ensures.after ∙ ap length c.new.ensures.items)
-    (ap length c.in-Ok.ensures.none) (ap length c.clear.ensures.items) c.in-Ok.ensures.fewer
+    (ap length c.in_ok-answer.ensures.none) (ap length c.clear.ensures.items) c.in_ok-answer.ensures.fewer
 
-pub returns-in-Ok-clause-told : goal.returns-in-Ok-clause-told
-returns-in-Ok-clause-told c state stands =
+pub returns-clause-told : goal.returns-clause-told
+returns-clause-told c state stands =
     let line_is : c.deref.result.now ≡ c.args.self.now.line.items = c.deref.ensures.value ∙ ap (λ line. line.items) c.replace-line.ensures.value in
-    let answered = c.in-Ok.ensures.told state stands in
+    let answered = c.in_ok-answer.ensures.told state stands in
     record {
       number = answered.number;
       none = c.clear.ensures.items;
