@@ -1,13 +1,13 @@
 -- What a line is, and what it leads to.
 use Rattle.std.proofs.Common.{◌≡◌, ℕ, List, [], ◌∷◌, ◌++◌, length, take, Option, Result, Ok, Err, refl, ap, ◌∙◌, append_assoc}
 use Rattle.std.proofs.Math.Seq.{take-append_seam}
-use Rattle.std.specs.Prelude.{OnOk, OnErr}
+use Rattle.std.specs.Prelude.{OnOk}
 use Rattle.script_exec.specs.declared.bench.Bench.{Bench}
 use Rattle.script_exec.specs.State.{State}
 use Rattle.script_exec.specs.Prefix.{IsPrefix}
 use Rattle.script_exec.specs.Replies.{IsReplied, Replies}
 use Rattle.script_exec.specs.Meaning.{Counts, Do, Means, Wrong, fault_line}
-use Rattle.script_io.specs.Feeding.{TellsFault, LineComes}
+use Rattle.script_io.specs.Feeding.{TellsFault, IsLineTold, LineComes}
 use Rattle.script_exec.specs.declared.why.Failure.TheVariants as failure
 use Rattle.script_io.specs.declared.stop.Stop.{Stop}
 use Rattle.script_io.specs.declared.stop.Stop.TheVariants as stop
@@ -26,22 +26,19 @@ wrong_line (Err stop.Fault) n state bench line old new reason told means = recor
 }
 
 -- a command that was answered, and the end of the answer
-pub answered_line : (r : Result (Unit {0}) Stop) (n : ℕ) (state : State) (bench : Option Bench) (line old mid new : List ℕ)
-    → Counts n line → IsReplied state bench line old mid → OnOk r (new ≡ mid ++ 10 ∷ []) → OnErr r (r ≡ Err stop.Memory)
-    → LineComes r n state bench line old new
-answered_line (Ok u) n state bench line old mid new counts replied ok err = let a = replied.answered.carried in record {
+pub answered_line : (n : ℕ) (state : State) (bench : Option Bench) (line old mid new : List ℕ) → Counts n line
+    → IsReplied state bench line old mid → new ≡ mid ++ 10 ∷ [] → IsLineTold n state bench line old new
+answered_line n state bench line old mid new counts replied ended = let a = replied.answered.carried in record {
   next = a.next;
   stands = a.stands;
   bytes = a.text ++ 10 ∷ [];
-  out = ok ∙ ap (λ xs. xs ++ 10 ∷ []) a.out ∙ append_assoc old a.text (10 ∷ []);
+  out = ended ∙ ap (λ xs. xs ++ 10 ∷ []) a.out ∙ append_assoc old a.text (10 ∷ []);
   told = λ lines more last rest. (
     Do replied.order,
     (counts, record { spells = replied.spells; due = replied.answered.due }, replied.answered.range),
     (a.text, a.next, more, a.answers, append_assoc a.text (10 ∷ []) more, rest),
   );
 }
-answered_line (Err stop.Memory) n state bench line old mid new counts replied ok err = tt
-answered_line (Err stop.Fault) n state bench line old mid new counts replied ok err = cc err
 
 -- a fault reported after a reply that appended nothing
 told_from : (r : Result (Unit {0}) Stop) (n : ℕ) (reason : Why) (old mid new : List ℕ) → mid ≡ old

@@ -1,5 +1,5 @@
 //! One line: skipped, answered or reported as a fault.
-ghost use Rattle.std.specs.Prelude.{◌≡◌, ◌≤◌, ◌++◌, ◌∷◌, [], OnOk, OnErr, length};
+ghost use Rattle.std.specs.Prelude.{◌≡◌, ◌≤◌, ◌++◌, ◌∷◌, [], OnOk, length};
 ghost use Rattle.script_exec.specs.State.{State};
 ghost use Rattle.script_exec.specs.Meaning.{is_skipped as is_passed, fault_line, name_of};
 ghost use Rattle.script_exec.specs.Carrying.{Stands};
@@ -42,7 +42,7 @@ pub fn answer_line(
         return Ok(());
     }
     match reply(alloc, bench, payload, line, out) {
-        Ok(()) => end_line(out),
+        Ok(()) => Ok(end_line(out)?),
         Err(Failure::Wrong(why)) => wrong(out, number, why),
         Err(Failure::Memory) => Err(Stop::Memory),
     }
@@ -83,15 +83,11 @@ fn name_of(why: Why) -> &'static [u8]
 }
 
 // The end of an answer.
-fn end_line(out: &mut Vec<u8>) -> Result<(), Stop>
-    ensures ok { OnOk result (out.new.items ≡ out.old.items ++ 10 ∷ []) }
-    ensures err { OnErr result (result ≡ Err Stop.Memory) }
+fn end_line(out: &mut Vec<u8>) -> Result<(), AllocError>
+    ensures told { OnOk result (out.new.items ≡ out.old.items ++ 10 ∷ []) }
     ensures kept { IsPrefix out.old.items out.new.items }
 {
-    match out.push(b'\n') {
-        Ok(()) => Ok(()),
-        Err(_) => Err(Stop::Memory),
-    }
+    Ok(out.push(b'\n')?)
 }
 
 // Whether the line is skipped.

@@ -14,15 +14,15 @@ returns-then-line-gt-MOST_BYTES-clause-told c state stands =
     wrong_line c.wrong-then-line-gt-MOST_BYTES.result c.args.number state c.args.bench.now c.args.line.now _ _ why.Long
     c.wrong-then-line-gt-MOST_BYTES.ensures.told (c.if-number-gt-MOST_LINES.false, c.if-line-gt-MOST_BYTES.true)
 
-pub returns-in-Ok-clause-told : goal.returns-in-Ok-clause-told
-returns-in-Ok-clause-told c state stands =
+pub returns-in_ok-end_line-in-Ok-clause-told : goal.returns-in_ok-end_line-in-Ok-clause-told
+returns-in_ok-end_line-in-Ok-clause-told c state stands =
     let counts : Counts c.args.number c.args.line.now = record {
       soon = c.if-number-gt-MOST_LINES.false;
       short = c.if-line-gt-MOST_BYTES.false;
       said = sym c.is_skipped.ensures ∙ c.if-is_skipped.false;
     } in
-    answered_line c.end_line.result c.args.number state c.reply.new.bench c.args.line.now _ c.reply.new.out.items _ counts
-    (c.in-Ok.ensures.replied state stands) c.end_line.ensures.ok c.end_line.ensures.err
+    answered_line c.args.number state c.reply.new.bench c.args.line.now _ c.reply.new.out.items _ counts
+    (c.in-Ok.ensures.replied state stands) c.in_ok-end_line-in-Ok.ensures.told
 
 pub returns-in-Err-Wrong-clause-told : goal.returns-in-Err-Wrong-clause-told
 returns-in-Err-Wrong-clause-told c state stands =
