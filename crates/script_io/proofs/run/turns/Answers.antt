@@ -1,5 +1,5 @@
 use Rattle.std.proofs.Common.{◌≡◌, ◌<◌, IsNone, None, Some, length, refl, arith}
-use Rattle.script_io.proofs.Ends.{part_none, turn_after, turn_closed, turn_on}
+use Rattle.script_io.proofs.Ends.{turn_after, turn_closed, turn_on}
 use Rattle.script_io.proofs.run.turns.Goals as goal
 
 pub returns-in-Ok-eq0 : goal.returns-in-Ok-eq0
