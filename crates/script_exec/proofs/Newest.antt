@@ -1,16 +1,17 @@
 -- The newest records of an array's blocks, listed block by block.
-use Rattle.std.proofs.Common.{◌≡◌, ◌⊎◌, inl, inr, ℕ, ◌+◌, ◌<◌, ◌≤◌, List, [], ◌∷◌, ◌++◌, Some, None, sym, ap, ◌∙◌, subst, arith, Contains}
+use Rattle.std.proofs.Common.{◌≡◌, ◌⊎◌, inl, inr, ℕ, ◌+◌, ◌/◌, ◌%◌, ◌<◌, ◌≤◌, List, [], ◌∷◌, ◌++◌, All, Option, Some, None, get_or, length, refl, sym, ap, ◌∙◌, subst, arith, Contains}
 use Rattle.std.specs.Prelude.{map}
 use Rattle.std.proofs.lemmas.Bool.{cases_lt}
 use Rattle.std.proofs.lemmas.List.{map-append}
-use Rattle.std.proofs.lemmas.List.Elements.{Contains-append_left, Contains-push, Contains-push_cases}
+use Rattle.std.proofs.lemmas.List.Elements.{All-get_or, Contains-append_left, Contains-push, Contains-push_cases}
 use Rattle.std.proofs.lemmas.Option.{same_Some, none-some}
 use Rattle.map_join.specs.declared.records.Record.{Record}
 use Rattle.map_join.specs.Record.{record_at}
 use Rattle.map_join.specs.Lists.{ListsBelow}
+use Rattle.map_join.specs.Live.{IsLiveCount, IsLiveIn}
 use Rattle.map_join.specs.Maps.{IsListOf}
-use Rattle.map_join.proofs.Rising.{below_none, below_skip, below_more}
-use Rattle.flat_machine.proofs.Newest.{told_key}
+use Rattle.map_join.proofs.Rising.{below_none, below_skip, below_more, count_zero}
+use Rattle.flat_machine.proofs.Newest.{place_small, told_key}
 
 -- the block has a record
 abbrev pub HasRecord : (ℕ → ℕ) → ℕ → Type 0
@@ -86,3 +87,19 @@ all_listed M bound records none listed = record {
     go : (r : Record) → record_at r.block (M r.block) ≡ Some r → (r.block < bound) ⊎ (bound ≤ r.block) → Contains records r
     go r e (inl low) = listed.each r low e
     go r e (inr high) = absurd (none-some r (sym (none r.block high) ∙ e))
+
+-- where no group has a live slot no block has a record
+pub no_records : (M : ℕ → ℕ) (counts : List ℕ) (slots : ℕ → ℕ) → length counts ≡ 512 → All (λ count. count ≡ 0) counts
+    → ((group : ℕ) → group < 512 → IsLiveCount M group (slots group + 128) (get_or counts group 0)) → (b : ℕ) → record_at b (M b) ≡ None
+no_records M counts slots many zero counted b = go (record_at b (M b)) refl
+  where
+    go : (o : Option Record) → record_at b (M b) ≡ o → record_at b (M b) ≡ None
+    go None is = is
+    go (Some r) is =
+        let small = place_small b (M b) r is in
+        let group = r.place / 128 in
+        let low : group < 512 = omega (arith, small) in
+        let none : get_or counts group 0 ≡ 0 = All-get_or (λ count. count ≡ 0) counts group 0 (omega (arith, low, many)) zero in
+        let among : r.place % 128 < slots group + 128 = omega arith in
+        absurd (count_zero (IsLiveIn M group (slots group + 128)) (subst (IsLiveCount M group (slots group + 128)) none (counted group low)) r.place
+        (record { own = refl; among = among; live = (b, (r, is, refl)) }))

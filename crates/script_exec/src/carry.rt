@@ -260,12 +260,22 @@ fn newest_records<D: Drive, C: Hold>(
 {
     array.whole();
     let mut records = Vec::new(alloc);
+    if are_zero(array.live_counts()) {
+        return Ok(records);
+    }
     for block in 0..array.shape().blocks {
         if let Some(record) = array.newest(block) {
             records.push(record)?;
         }
     }
     Ok(records)
+}
+
+// Whether all counts are 0.
+fn are_zero(counts: &[u16]) -> bool
+    ensures { IsTrue result ↔ All (λ count. count ≡ 0) counts.now }
+{
+    counts.iter().all(|count| *count == 0)
 }
 
 fn log(alloc: Global, bench: &mut Bench, out: &mut Vec<u8>) -> Result<(), AllocError>
