@@ -36,8 +36,8 @@ enum Call {
 }
 
 // The call of worker 4 in a Book around an array with a unit of block 3, of this version and hop, at slot 0; the fault that it
-// returns; the slot that it had claimed; and the points that it had reached, as the digits of a number. Two drives may fail at a
-// later read or write of each, by its number.
+// returns; the slot that it had claimed; and the points that it had reached, as the digits of a number. Two drives may fail, each
+// at its n-th read or write.
 #[derive(Clone, Copy, Debug, PartialEq, Eq)]
 struct Refused {
     version: u32,
