@@ -1,5 +1,5 @@
 // An array guarded by a lock, next to the words that need none.
-ghost use Rattle.std.specs.Prelude.{◌≡◌, ◌⊎◌, ℕ, ◌≤◌, length, IfOk, IfErr, IfSome, IfNone};
+ghost use Rattle.std.specs.Prelude.{◌≡◌, ◌⊎◌, IfErr, IfSome, IfNone};
 ghost use Rattle.slot_tables.specs.Represents.{ShowsArray};
 ghost use Rattle.flat_machine.specs.Flat.{Flat};
 ghost use Rattle.map_words.specs.Places.{blocks_of};

@@ -14,7 +14,7 @@ use Rattle.extent_groups.specs.declared.class.Class.{Class}
 use Rattle.extent_groups.specs.declared.class.Member.{Member}
 use Rattle.extent_groups.specs.declared.class.Class.TheVariants.{Mirrored}
 use Rattle.extent_groups.specs.Stores.{IsSlotOf}
-use Rattle.flat_machine.specs.Flat.{Flat, Content, Waiting, IsFree, IsNewest}
+use Rattle.flat_machine.specs.Flat.{Flat, Content, Waiting, IsFree}
 use Rattle.flat_machine.specs.Flat as waiting
 use Rattle.flat_machine.specs.Moves.{IsIn, HasClaim, unmade}
 use Rattle.flat_machine.proofs.Unmakes.{number_within}

@@ -1,6 +1,5 @@
 // Where the next block may be appended.
-ghost use Rattle.std.specs.Prelude.{◌≡◌, ◌≢◌, ◌↔◌, ℕ, ◌/◌, ◌%◌, ◌<◌, ◌≤◌, IsTrue, IfOk, Some};
-ghost use Rattle.map_join.specs.Live.{IsLive};
+ghost use Rattle.std.specs.Prelude.{◌≡◌, ◌↔◌, ◌/◌, ◌%◌, ◌<◌, IsTrue, IfOk, Some};
 ghost use Rattle.map_join.specs.Lists.{Lists};
 ghost use Rattle.migrator.specs.Slots.{IsIdle, IsBehind, IsFresh, AreAppendSlots};
 ghost use Rattle.migrator.specs.Picking.{IsFreeFrom, IsOtherIdle};

@@ -1,5 +1,5 @@
 // Rows of group numbers, which a walk passes over where they have no group that it looks for.
-ghost use Rattle.std.specs.Prelude.{◌≡◌, ◌↔◌, ℕ, ◌*◌, ◌/◌, ◌<◌, ◌≤◌, false, Some, length, slice_index};
+ghost use Rattle.std.specs.Prelude.{◌≡◌, ◌↔◌, ℕ, ◌*◌, ◌/◌, ◌<◌, false, Some, length, slice_index};
 ghost use Rattle.std.specs.Simd.Lanes.{chunk};
 ghost use Rattle.extent_groups.specs.declared.class.Class.TheVariants.{Parity};
 ghost use Rattle.extent_groups.specs.Groups.{class_in, group_at};

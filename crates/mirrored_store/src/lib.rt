@@ -3,16 +3,16 @@
 
 mod planning;
 
-ghost use Rattle.std.specs.Prelude.{◌≡◌, ◌≢◌, ◌≤◌, ◌⊎◌, ◌+◌, ◌*◌, ◌/◌, ◌++◌, true, false, length, Some, None, [], ◌∷◌, OnOk, OnErr, IfErr};
+ghost use Rattle.std.specs.Prelude.{◌≡◌, ◌≤◌, ◌⊎◌, ◌+◌, ◌*◌, ◌/◌, ◌++◌, true, false, length, Some, [], OnOk, OnErr, IfErr};
 ghost use Rattle.extent_groups.specs.declared.class.Class.TheVariants.{Mirrored};
 ghost use Rattle.extents.specs.declared.shape.TheConstants.{HEADER_BYTES};
-ghost use Rattle.extent_groups.specs.Cells.{cells, front, front_units, held};
+ghost use Rattle.extent_groups.specs.Cells.{cells, front, front_units};
 ghost use Rattle.extent_groups.specs.Units.{Pair, unit_at};
-ghost use Rattle.extent_groups.specs.Calls.{AreSized, HaveFronts, HaveRoom, IsPlace, if_ok, NoPlace, SameBut, KeepsDrives, FadesAt};
+ghost use Rattle.extent_groups.specs.Calls.{HaveFronts, HaveRoom, IsPlace, if_ok, NoPlace, SameBut, KeepsDrives, FadesAt};
 ghost use Rattle.extent_groups.specs.Stores.{unit_bytes, unit_of, header_of, IsBuffer, AreSound, IsSlotOf, AreDrives, KeepsUnits};
-ghost use Rattle.extent_groups.specs.Stores.{Wrote, NamesGone, IsOwn, IsOwnOf, AreCopies, LeavesSites, HasMemberOn};
+ghost use Rattle.extent_groups.specs.Stores.{Wrote, NamesGone, IsOwnOf, AreCopies, HasMemberOn};
 ghost use Rattle.extent_groups.specs.declared.place.Place.{Place};
-ghost use Rattle.extent_groups.specs.Planned.{present, after, WroteByPlan};
+ghost use Rattle.extent_groups.specs.Planned.{after, WroteByPlan};
 
 use extent_groups::{GroupTable, Place, StoreRefusal, read_front};
 use extents::Drive;

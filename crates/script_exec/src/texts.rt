@@ -1,9 +1,9 @@
 //! The texts of answers, appended to a buffer.
-ghost use Rattle.std.specs.Prelude.{◌≡◌, ◌≢◌, ◌%◌, ◌∷◌, ◌++◌, [], OnOk, codes, decimal, length, Some, None};
+ghost use Rattle.std.specs.Prelude.{◌≡◌, ◌≢◌, ◌%◌, ◌∷◌, ◌++◌, OnOk, codes, decimal, length, Some, None};
 ghost use Rattle.hex.specs.Hex.{encode_lower};
 ghost use Rattle.step_core.specs.Told.{read_answer, flat_answer, seen_of};
-ghost use Rattle.script_exec.specs.Text.{answer_text, data_text, detail, difference_text, fault_detail, fault_text, found_text, header_text};
-ghost use Rattle.script_exec.specs.Text.{outcome_text, regrouped_text, shift_text, seen_text, listing, record_or_none, record_text, records_text};
+ghost use Rattle.script_exec.specs.Text.{answer_text, data_text, detail, difference_text, fault_detail, fault_text, header_text};
+ghost use Rattle.script_exec.specs.Text.{outcome_text, regrouped_text, shift_text, seen_text, listing, record_text};
 ghost use Rattle.script_exec.specs.Prefix.{IsPrefix};
 ghost use Rattle.flat_machine.specs.Steps as s;
 

@@ -1,5 +1,5 @@
 //! A script that is fed in pieces.
-ghost use Rattle.std.specs.Prelude.{◌≡◌, ◌+◌, ◌≤◌, [], ◌∷◌, ◌++◌, length, OnOk, None};
+ghost use Rattle.std.specs.Prelude.{◌≡◌, ◌+◌, ◌≤◌, [], length, OnOk, None};
 ghost use Rattle.script_io.specs.Opens.{IsOpen};
 ghost use Rattle.script_exec.specs.State.{State};
 ghost use Rattle.script_exec.specs.Carrying.{Stands};

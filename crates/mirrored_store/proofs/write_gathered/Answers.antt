@@ -3,12 +3,12 @@ use Rattle.std.proofs.lemmas.List.{length-append}
 use Rattle.extent_groups.specs.Calls.{AreSized, KeepsDrives, if_ok}
 use Rattle.extent_groups.specs.Cells.{cells}
 use Rattle.extent_groups.specs.Planned.{WroteByPlan, present}
-use Rattle.extent_groups.specs.Stores.{AreDrives, IsOwn, LeavesSites, unit_bytes}
+use Rattle.extent_groups.specs.Stores.{AreDrives, IsOwn}
 use Rattle.extent_groups.specs.Units.{Pair, or_else, unit_at}
 use Rattle.extent_groups.proofs.Sites.{site_places}
 use Rattle.extent_groups.proofs.SlotWrites.{AreSizedCells, pair_leaves}
 use Rattle.extent_groups.proofs.StoreCalls.{site_wrote, site_whole, sized_cells, drives_kept}
-use Rattle.extent_groups.proofs.DriveCalls.{keeps_sizes, keeps_trans, keeps_more}
+use Rattle.extent_groups.proofs.DriveCalls.{keeps_trans, keeps_more}
 use Rattle.extent_groups.proofs.LayoutLaw.{layout_law}
 use Rattle.extent_groups.proofs.Listing.{pair_plan, pair_written}
 use Rattle.mirrored_store.proofs.write_gathered.Given as given

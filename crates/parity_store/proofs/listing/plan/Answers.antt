@@ -14,7 +14,6 @@ use Rattle.parity_store.proofs.Carrying.{way_plan, way_parity}
 use Rattle.parity_store.proofs.There.{way_there}
 use Rattle.parity_store.proofs.Laid.{laid}
 use Rattle.parity_store.proofs.listing.plan.Goals as goal
-use Rattle.parity_store.proofs.listing.plan.Goals.{After-find_way-way, After-list}
 
 pub find_way-way-requires-clause-target : goal.find_way-way-requires-clause-target
 find_way-way-requires-clause-target g c = record { home = c.of_slot-target.ensures.home; laid = laid _ _ _ _ _ _ c.requires.drives c.requires.unit c.of_slot-target.ensures.inside }

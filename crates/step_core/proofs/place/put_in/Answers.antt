@@ -1,10 +1,7 @@
-use Rattle.std.proofs.Common.{◌≡◌, ◌∙◌, Some, rules, true, ℕ, Ok, Err, Result, IfOk, IfErr, refl, ap, sym, subst}
+use Rattle.std.proofs.Common.{◌≡◌, ◌∙◌, Some, rules, true, ℕ, ap}
 use Rattle.flat_machine.specs.Flat.{Flat, Worker, Payload, Trim}
-use Rattle.flat_machine.specs.declared.refusal.Refusal.{Refusal}
-use Rattle.slot_tables.specs.declared.hold.Plain.{Plain}
 use Rattle.slot_tables.specs.Represents.{ShowsArray}
-use Rattle.slot_tables.specs.Views.{ArrayView}
-use Rattle.step_core.specs.Placing.{Again, Fresh, put_of}
+use Rattle.step_core.specs.Placing.{put_of}
 use Rattle.step_core.proofs.Placing.{Answered, fills, copies, answered_as}
 use Rattle.step_core.proofs.place.put_in.Goals as goal
 use Rattle.step_core.proofs.place.put_in.Goals.{Joined-given}

@@ -11,7 +11,7 @@ use Rattle.array_parts.specs.Slots.{IsSlot}
 use Rattle.array_parts.specs.Views.{view_of, WasCopied, WasNotCarried}
 use Rattle.array_parts.proofs.Views.{view_drives}
 use Rattle.slot_tables.specs.Changes.{copy_view}
-use Rattle.slot_tables.specs.Views.{ArrayView, IsWhole, Moving, Nothing, kept_at, with_parts}
+use Rattle.slot_tables.specs.Views.{ArrayView, Moving, Nothing, kept_at, with_parts}
 use Rattle.slot_tables.proofs.Fills.{as_whole, as_shown}
 use Rattle.slot_tables.proofs.Finds.{read_slot}
 use Rattle.slot_tables.proofs.Copies.{CanCopy, can_copy, copy_slot, copy_case, copy_gone, copy_refused, copy_whole}

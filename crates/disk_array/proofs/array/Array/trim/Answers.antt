@@ -4,14 +4,12 @@ use Rattle.extents.specs.declared.header.Kind.TheVariants as kind
 use Rattle.flat_machine.specs.Flat.{Worker, Trim, waiting_unit}
 use Rattle.flat_machine.specs.Steps.{Filled, Refused}
 use Rattle.flat_machine.specs.Cases.{FillCase, FillPasses}
-use Rattle.extent_groups.specs.Stores.{AreDrives}
 use Rattle.array_parts.specs.Slots.{IsSlot}
-use Rattle.array_parts.specs.Views.{drive_units, view_of, FoundGone, WasPut}
+use Rattle.array_parts.specs.Views.{view_of, FoundGone, WasPut}
 use Rattle.array_parts.proofs.Views.{view_drives}
-use Rattle.slot_tables.specs.Changes.{fill_reason, fill_view}
+use Rattle.slot_tables.specs.Changes.{fill_view}
 use Rattle.slot_tables.specs.Views.{ArrayView, IsWhole, Pending, with_parts}
 use Rattle.slot_tables.proofs.Fills.{fill_slot, fill_case, fill_gone, fill_refused, fill_whole, as_whole, as_shown}
-use Rattle.disk_array.specs.Inside.{seen}
 use Rattle.disk_array.proofs.Ready.{either_way, Keeps, keeps, gone_keeps, still_ready, still_stands, slot_ready, as_refused}
 use Rattle.disk_array.proofs.array.Array.trim.Goals as goal
 
