@@ -1,7 +1,10 @@
 // Why headers give no map.
 ghost use Rattle.std.specs.Prelude.{◌≡◌};
+ghost use Rattle.header_scan.specs.declared.fault.ScanFault.TheVariants.{Memory};
 ghost use Rattle.header_scan.specs.Numbers.{number_of};
 
+use map_join::MapRefusal;
+use std::alloc::AllocError;
 use thiserror::Error;
 
 /// Why no map is rebuilt from the headers.
@@ -43,5 +46,21 @@ impl ScanFault {
             ScanFault::NoClaim(_) => 6,
             ScanFault::BadNote(_) => 7,
         }
+    }
+}
+
+impl From<AllocError> for ScanFault {
+    ghost from_gives = { λ _ fault. fault ≡ Memory };
+
+    fn from(_: AllocError) -> ScanFault {
+        ScanFault::Memory
+    }
+}
+
+impl From<MapRefusal> for ScanFault {
+    ghost from_gives = { λ _ fault. fault ≡ Memory };
+
+    fn from(_: MapRefusal) -> ScanFault {
+        ScanFault::Memory
     }
 }

@@ -17,10 +17,7 @@ fn told_by(header: &[u8; HEADER_BYTES]) -> Result<Option<Record>, HeaderFault>
     ensures only { (h : Header) → Spells header.now h → result ≡ Ok (record_in h) }
     ensures ranges { IfOk result IsRanged }
 {
-    match Header::decode(header) {
-        Ok(header) => Ok(header.record()),
-        Err(fault) => Err(fault),
-    }
+    Ok(Header::decode(header)?.record())
 }
 
 /// What a header holds at a slot, refused where that isn't one of the array's blocks in this very slot.

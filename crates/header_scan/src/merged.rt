@@ -42,8 +42,6 @@ pub fn scan_in_parts<U: Units>(
         Ok(rest) => rest,
         Err(fault) => return Err(fault),
     };
-    match map.merge(alloc, &rest) {
-        Ok(()) => Ok(map),
-        Err(_) => Err(ScanFault::Memory),
-    }
+    map.merge(alloc, &rest)?;
+    Ok(map)
 }

@@ -58,9 +58,7 @@ pub(crate) fn scan_group<U: Units>(
             Err(fault) => return Err(fault),
         };
         if let Some(told) = told {
-            let Ok(()) = found.note(alloc, told) else {
-                return Err(ScanFault::Memory);
-            };
+            found.note(alloc, told)?;
         }
     }
     Ok(())
@@ -87,12 +85,8 @@ fn note_groups<U: Units>(
 {
     let shape = units.groups().shape();
     let blocks = shape.blocks;
-    let Ok(newest) = Keys::new(alloc, blocks) else {
-        return Err(ScanFault::Memory);
-    };
-    let Ok(mut scratch) = vec![in alloc; 0; 2 * shape.unit_bytes()] else {
-        return Err(ScanFault::Memory);
-    };
+    let newest = Keys::new(alloc, blocks)?;
+    let mut scratch = vec![in alloc; 0; 2 * shape.unit_bytes()]?;
     let mut found = Found {
         newest,
         twins: BlockMap::new(alloc),
@@ -133,17 +127,11 @@ pub fn scan_groups<U: Units>(
     ensures leaves { U.leaves units.old units.new }
 {
     let blocks = units.groups().shape().blocks;
-    let found = match note_groups(alloc, units, first, end) {
-        Ok(found) => found,
-        Err(fault) => return Err(fault),
-    };
-    match found.twice(alloc, blocks) {
-        Some((block, one, other)) => Err(ScanFault::Twice(block, one, other)),
-        None => match found.newest.to_map(alloc) {
-            Ok(map) => Ok(map),
-            Err(_) => Err(ScanFault::Memory),
-        },
+    let found = note_groups(alloc, units, first, end)?;
+    if let Some((block, one, other)) = found.twice(alloc, blocks) {
+        return Err(ScanFault::Twice(block, one, other));
     }
+    Ok(found.newest.to_map(alloc)?)
 }
 
 /// The map of the headers of all groups, read in one pass. Where there are several faults, returns that of the lowest slot,

@@ -8,10 +8,10 @@ use Rattle.header_scan.proofs.pass.note_groups.Goals as goal
 
 pub loop-group-init : goal.loop-group-init
 loop-group-init g c = record {
-  ok = λ sound. begun (g.U.Units.groups c.args.units.now) (g.U.Units.cells c.args.units.now) (128 * c.args.first) (key_in c.in-Ok.newest) (at c.new-2.result) sound c.in-Ok.ensures.none c.new-2.ensures.empty;
-  inside = none_placed (g.U.Units.groups c.args.units.now) (128 * c.args.first) (key_in c.in-Ok.newest) c.in-Ok.ensures.none;
+  ok = λ sound. begun (g.U.Units.groups c.args.units.now) (g.U.Units.cells c.args.units.now) (128 * c.args.first) (key_in c.in_ok-newest.newest) (at c.new-2.result) sound c.in_ok-newest.ensures.none c.new-2.ensures.empty;
+  inside = none_placed (g.U.Units.groups c.args.units.now) (128 * c.args.first) (key_in c.in_ok-newest.newest) c.in_ok-newest.ensures.none;
   left = record { keeps = λ sound. ((λ slot v e. e), sound); groups = refl; fits = c.requires.fits; leaves = g.met.U.Units.none c.args.units.now };
-  many = c.in-Ok.ensures.many;
+  many = c.in_ok-newest.ensures.many;
 }
 
 pub loop-group-preserved : goal.loop-group-preserved
@@ -20,17 +20,17 @@ loop-group-preserved g c = record {
       let l = c.loop-group.auto.group in
       passed (g.U.Units.groups c.args.units.now) (g.U.Units.groups c.loop-group.units) (g.U.Units.cells c.args.units.now) (g.U.Units.cells c.loop-group.units) (g.U.Units.cells c.scan_group.new.units) (128 * c.args.first) c.loop-group.group
       (key_in c.loop-group.found.newest) (at c.loop-group.found.twins) (key_in c.scan_group.new.found.newest) (at c.scan_group.new.found.twins) c.loop-group.invariant.left.groups (omega (arith, l))
-      c.in-Ok-scan_group.ensures.ok (c.loop-group.invariant.ok sound);
+      c.in-Ok.ensures.ok (c.loop-group.invariant.ok sound);
   inside = placed_after (g.U.Units.groups c.args.units.now) (g.U.Units.groups c.loop-group.units) c.loop-group.group (key_in c.loop-group.found.newest) (key_in c.scan_group.new.found.newest)
-      c.loop-group.invariant.left.groups c.in-Ok-scan_group.ensures.inside c.loop-group.invariant.inside;
+      c.loop-group.invariant.left.groups c.in-Ok.ensures.inside c.loop-group.invariant.inside;
   left = record {
     keeps = kept_after (g.U.Units.groups c.args.units.now) (g.U.Units.groups c.loop-group.units) (g.U.Units.cells c.args.units.now) (g.U.Units.cells c.loop-group.units) (g.U.Units.cells c.scan_group.new.units)
-        c.loop-group.invariant.left.groups c.loop-group.invariant.left.keeps c.in-Ok-scan_group.ensures.left.keeps;
-    groups = c.in-Ok-scan_group.ensures.left.groups ∙ c.loop-group.invariant.left.groups;
-    fits = c.in-Ok-scan_group.ensures.left.fits;
-    leaves = g.met.U.Units.more c.args.units.now c.loop-group.units c.scan_group.new.units c.loop-group.invariant.left.leaves c.in-Ok-scan_group.ensures.left.leaves;
+        c.loop-group.invariant.left.groups c.loop-group.invariant.left.keeps c.in-Ok.ensures.left.keeps;
+    groups = c.in-Ok.ensures.left.groups ∙ c.loop-group.invariant.left.groups;
+    fits = c.in-Ok.ensures.left.fits;
+    leaves = g.met.U.Units.more c.args.units.now c.loop-group.units c.scan_group.new.units c.loop-group.invariant.left.leaves c.in-Ok.ensures.left.leaves;
   };
-  many = c.in-Ok-scan_group.ensures.many;
+  many = c.in-Ok.ensures.many;
 }
 
 pub returns-in-Err-clause-err : goal.returns-in-Err-clause-err

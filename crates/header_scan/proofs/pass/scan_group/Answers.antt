@@ -8,7 +8,7 @@ use Rattle.header_scan.specs.declared.found.Found.{Found}
 use Rattle.header_scan.specs.Faults.{IsFine}
 use Rattle.header_scan.specs.Found.{key_in, IsUnderway, ArePlaced}
 use Rattle.header_scan.proofs.Placing.{noted_placed, placed_below}
-use Rattle.header_scan.proofs.pass.scan_group.Goals.{in-Some+in-Ok-note, in_default}
+use Rattle.header_scan.proofs.pass.scan_group.Goals.{in-Some+in_ok-note, in_default}
 use Rattle.header_scan.proofs.pass.scan_group.Goals as goal
 
 pub look-requires-clause-slot : goal.look-requires-clause-slot
@@ -44,8 +44,8 @@ returns-in-Err-clause-left g c = record {
   leaves = g.met.U.Units.more c.args.units.now c.loop-index.units c.look.new.units c.loop-index.invariant.left.leaves c.look.ensures.leaves;
 }
 
-pub returns-in_default-note-clause-left : goal.returns-in_default-note-clause-left
-returns-in_default-note-clause-left g c = record {
+pub returns-in_err-note-clause-left : goal.returns-in_err-note-clause-left
+returns-in_err-note-clause-left g c = record {
   keeps =
       more_kept (g.U.Units.groups c.args.units.now) (g.U.Units.cells c.args.units.now) (g.U.Units.cells c.loop-index.units) (g.U.Units.cells c.look.new.units) (g.U.Units.groups c.args.units.now).blocks (128 * c.args.group + c.loop-index.index) c.look.result
       c.loop-index.invariant.left.keeps
@@ -59,17 +59,17 @@ returns-in_default-note-clause-left g c = record {
 pub loop-index-preserved : goal.loop-index-preserved
 loop-index-preserved g c = record {
   ok = λ low start l was. elim c.match-told.branch [
-    | in-Some+in-Ok-note w ↦
+    | in-Some+in_ok-note w ↦
         (let few = c.count_slots-index-end.ensures.few in
         let index = c.loop-index-test.true in
         let group = c.requires.group in
         let small : 128 * c.args.group + c.loop-index.index < 2 ^ 16 = omega (arith, few, index, group) in
         let is : c.look.result ≡ Ok (Some w.in-Some.told) = c.in-Ok.is ∙ ap (λ o. Ok o) w.in-Some.is in
         let note : IsNote c.loop-index.found.newest c.loop-index.found.twins w.note.new.self.newest w.note.new.self.twins w.in-Some.told = record {
-          newer = λ h. let x = w.in-Ok-note.ensures.newer h in (x.1, x.2);
-          twin = w.in-Ok-note.ensures.twin;
-          older = λ h. let x = w.in-Ok-note.ensures.older h in (x.1, x.2);
-          third = λ h k. let x = w.in-Ok-note.ensures.third h k in (x.1, x.2);
+          newer = λ h. let x = w.in_ok-note.ensures.newer h in (x.1, x.2);
+          twin = w.in_ok-note.ensures.twin;
+          older = λ h. let x = w.in_ok-note.ensures.older h in (x.1, x.2);
+          third = λ h k. let x = w.in_ok-note.ensures.third h k in (x.1, x.2);
         } in
         let more : IsUnderway (g.U.Units.groups c.args.units.now) start (g.U.Units.cells c.look.new.units) low (128 * c.args.group + c.loop-index.index + 1) (key_in w.note.new.self.newest) (at w.note.new.self.twins) =
         some_more (g.U.Units.groups c.args.units.now) start (g.U.Units.cells c.loop-index.units) (g.U.Units.cells c.look.new.units) low (128 * c.args.group + c.loop-index.index) w.in-Some.told
@@ -94,7 +94,7 @@ loop-index-preserved g c = record {
       let placed = c.loop-index.invariant.inside was in
       let next : 128 * c.args.group + c.loop-index.index + 1 ≡ 128 * c.args.group + (c.loop-index.index + 1) = omega arith in
       subst (λ n. ArePlaced (g.U.Units.groups c.args.units.now) n (key_in c.match-told.found.newest)) next (elim c.match-told.branch [
-        | in-Some+in-Ok-note w ↦
+        | in-Some+in_ok-note w ↦
             (subst (λ (f : Found). ArePlaced (g.U.Units.groups c.args.units.now) (128 * c.args.group + c.loop-index.index + 1) (key_in f.newest)) (sym w.found-is)
             (noted_placed (g.U.Units.groups c.args.units.now) (128 * c.args.group + c.loop-index.index) w.in-Some.told c.loop-index.found.newest c.loop-index.found.twins w.note.new.self.newest w.note.new.self.twins
             (slot_in (g.U.Units.groups c.args.units.now) c.groups.result.now c.args.group c.loop-index.index c.count_slots-index-end.result c.groups.ensures c.count_slots-index-end.ensures.count few index)
@@ -102,10 +102,10 @@ loop-index-preserved g c = record {
             (subst (λ n. IsFine n (128 * c.args.group + c.loop-index.index) (Some w.in-Some.told)) c.requires.blocks
             (subst (λ x. IfOk x (IsFine c.args.blocks (128 * c.args.group + c.loop-index.index))) (c.in-Ok.is ∙ ap (λ o. Ok o) w.in-Some.is) c.look.ensures.inside))
             (record {
-              newer = λ h. let x = w.in-Ok-note.ensures.newer h in (x.1, x.2);
-              twin = w.in-Ok-note.ensures.twin;
-              older = λ h. let x = w.in-Ok-note.ensures.older h in (x.1, x.2);
-              third = λ h k. let x = w.in-Ok-note.ensures.third h k in (x.1, x.2);
+              newer = λ h. let x = w.in_ok-note.ensures.newer h in (x.1, x.2);
+              twin = w.in_ok-note.ensures.twin;
+              older = λ h. let x = w.in_ok-note.ensures.older h in (x.1, x.2);
+              third = λ h k. let x = w.in_ok-note.ensures.third h k in (x.1, x.2);
             })
             placed))
         | in_default w ↦
@@ -123,7 +123,7 @@ loop-index-preserved g c = record {
     leaves = g.met.U.Units.more c.args.units.now c.loop-index.units c.look.new.units c.loop-index.invariant.left.leaves c.look.ensures.leaves;
   };
   many = elim c.match-told.branch [
-    | in-Some+in-Ok-note w ↦ ap (λ (f : Found). length f.newest) w.found-is ∙ w.in-Ok-note.ensures.many ∙ c.loop-index.invariant.many
+    | in-Some+in_ok-note w ↦ ap (λ (f : Found). length f.newest) w.found-is ∙ w.in_ok-note.ensures.many ∙ c.loop-index.invariant.many
     | in_default w ↦ ap (λ (f : Found). length f.newest) w.found-is ∙ c.loop-index.invariant.many
   ];
 }

@@ -9,22 +9,22 @@ use Rattle.header_scan.proofs.pass.scan_groups.Goals as goal
 pub returns-in-Some-clause-fault : goal.returns-in-Some-clause-fault
 returns-in-Some-clause-fault g c = λ sound.
     first_twice (g.U.Units.groups c.args.units.now) (g.U.Units.cells c.args.units.now) (g.U.Units.cells c.note_groups.new.units) (128 * c.args.first) (128 * c.args.end) c.in-Some.block c.in-Some.one c.in-Some.other
-    (key_in c.in-Ok.found.newest) (at c.in-Ok.found.twins) (c.in-Ok.ensures.ok sound) c.in-Some.ensures
+    (key_in c.in_ok-found.found.newest) (at c.in_ok-found.found.twins) (c.in_ok-found.ensures.ok sound) c.in-Some.ensures
 
-pub returns-in-Ok-to_map-clause-map : goal.returns-in-Ok-to_map-clause-map
-returns-in-Ok-to_map-clause-map g c = λ sound.
-    let under = c.in-Ok.ensures.ok sound in
+pub returns-clause-map : goal.returns-clause-map
+returns-clause-map g c = λ sound.
+    let under = c.in_ok-found.ensures.ok sound in
     let end = c.requires.end in
-    scanned_as _ (key_in c.in-Ok.found.newest) (at c.in-Ok-to_map.map) c.in-Ok-to_map.ensures
-    (scanned (g.U.Units.groups c.args.units.now) (g.U.Units.cells c.args.units.now) (g.U.Units.cells c.note_groups.new.units) (128 * c.args.first) (128 * c.args.end) (key_in c.in-Ok.found.newest) (at c.in-Ok.found.twins)
+    scanned_as _ (key_in c.in_ok-found.found.newest) (at c.in_ok-to_map.field-0) c.in_ok-to_map.ensures
+    (scanned (g.U.Units.groups c.args.units.now) (g.U.Units.cells c.args.units.now) (g.U.Units.cells c.note_groups.new.units) (128 * c.args.first) (128 * c.args.end) (key_in c.in_ok-found.found.newest) (at c.in_ok-found.found.twins)
     (omega (arith, end)) under
     (no_twins (g.U.Units.groups c.args.units.now) (g.U.Units.cells c.args.units.now) (g.U.Units.cells c.note_groups.new.units) (128 * c.args.first) (128 * c.args.end) c.shape-blocks.result.blocks
-    (key_in c.in-Ok.found.newest) (at c.in-Ok.found.twins) under (same_blocks c.shape-blocks.result.blocks c.groups.result.now (g.U.Units.groups c.args.units.now) c.shape-blocks.ensures.of_blocks c.groups.ensures) c.in-None.ensures))
+    (key_in c.in_ok-found.found.newest) (at c.in_ok-found.found.twins) under (same_blocks c.shape-blocks.result.blocks c.groups.result.now (g.U.Units.groups c.args.units.now) c.shape-blocks.ensures.of_blocks c.groups.ensures) c.in_default.ensures))
 
-pub returns-in-Ok-to_map-clause-once : goal.returns-in-Ok-to_map-clause-once
-returns-in-Ok-to_map-clause-once g c = λ sound b p q is.
-    let under = c.in-Ok.ensures.ok sound in
+pub returns-clause-once : goal.returns-clause-once
+returns-clause-once g c = λ sound b p q is.
+    let under = c.in_ok-found.ensures.ok sound in
     no_twins (g.U.Units.groups c.args.units.now) (g.U.Units.cells c.args.units.now) (g.U.Units.cells c.note_groups.new.units) (128 * c.args.first) (128 * c.args.end) c.shape-blocks.result.blocks
-    (key_in c.in-Ok.found.newest) (at c.in-Ok.found.twins) under (same_blocks c.shape-blocks.result.blocks c.groups.result.now (g.U.Units.groups c.args.units.now) c.shape-blocks.ensures.of_blocks c.groups.ensures) c.in-None.ensures b
+    (key_in c.in_ok-found.found.newest) (at c.in_ok-found.found.twins) under (same_blocks c.shape-blocks.result.blocks c.groups.result.now (g.U.Units.groups c.args.units.now) c.shape-blocks.ensures.of_blocks c.groups.ensures) c.in_default.ensures b
     (noted_twice (g.U.Units.groups c.args.units.now) (g.U.Units.cells c.args.units.now) (g.U.Units.cells c.note_groups.new.units) (128 * c.args.first) (128 * c.args.end) b p q
-    (key_in c.in-Ok.found.newest) (at c.in-Ok.found.twins) under is).0
+    (key_in c.in_ok-found.found.newest) (at c.in_ok-found.found.twins) under is).0
