@@ -4,9 +4,9 @@
 Usage: bench/instructions.py [--csv] PROGRAM [OTHER [SCRIPT..]]
 
 Lines: 20,000 lines that claim, fill, commit, release and read, with payloads of 8, 64 and 1,024 bytes; each SCRIPT; `storm 8 1000`; a scan and a
-restart of 10,240 slots, by header; and steps that find nothing to do, each with 4 and with 500 groups. A ratio is the other's by ours, so that above 1
+restart of 10,240 slots, by header; and steps by a plan with few and with many blocks and groups, also where they find nothing to do. A ratio is the other's by ours, so that above 1
 ours takes fewer. Answers have to be the same, byte for byte. --csv appends the rows to bench/instructions.csv. Other jobs of the machine don't change
-counts. It takes some minutes, and memory for one program.
+counts. It takes about five minutes.
 """
 
 import csv
@@ -21,7 +21,7 @@ from concurrent.futures import ThreadPoolExecutor
 HERE = pathlib.Path(__file__).resolve().parent
 sys.path[:0] = [str(HERE / "scans"), str(HERE / "plans")]
 from run import lines as scanned_lines  # noqa: E402  (bench/scans/run.py is found first)
-from workloads import STUCK  # noqa: E402
+from workloads import KINDS, STUCK  # noqa: E402
 
 LINES = 20_000
 
@@ -70,10 +70,10 @@ def each(programs, name, short, long, times, unit):
     return name, unit, [(second - first) / times for first, second in zip(less, more)]
 
 
-def stuck(programs, kind, count):
-    lines = STUCK[kind][0]
-    texts = ["\n".join(lines(4_096, count, rounds)) + "\n" for rounds in (1_000, 3_000)]
-    return each(programs, f"{kind}, {count} groups", *texts, 2_000, "instructions")
+def planned(programs, kind, blocks, count):
+    lines = {**KINDS, **STUCK}[kind][0]
+    texts = ["\n".join(lines(blocks, count, rounds)) + "\n" for rounds in (1_000, 3_000)]
+    return each(programs, f"{kind}, {blocks:,} blocks, {count} groups", *texts, 2_000, "instructions")
 
 
 def scanned(programs, kind):
@@ -93,7 +93,8 @@ def main():
     jobs += [(beside, (programs, pathlib.Path(script).stem, ["script"], pathlib.Path(script).read_text(), "million")) for script in scripts]
     jobs += [(beside, (programs, "storm of 8 workers, 1,000 rounds each", ["storm", "8", "1000"], "", "million"))]
     jobs += [(scanned, (programs, kind)) for kind in ("scan", "restart")]
-    jobs += [(stuck, (programs, kind, count)) for kind in STUCK for count in (4, 500)]
+    jobs += [(planned, (programs, kind, *size)) for kind in KINDS for size in ((256, 4), (65_536, 500))]
+    jobs += [(planned, (programs, kind, *size)) for kind in STUCK for size in ((4_096, 4), (65_536, 500))]
     with ThreadPoolExecutor(max_workers=2) as pool:
         rows = [future.result() for future in [pool.submit(call, *given) for call, given in jobs]]
     commit = subprocess.run(["git", "rev-parse", "--short", "HEAD"], cwd=HERE, capture_output=True, text=True).stdout.strip()
