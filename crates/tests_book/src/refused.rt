@@ -144,12 +144,12 @@ fn written_parts<R: Abort>(rt: &R, alloc: Global, case: &Refused) -> Parts<MemDr
 fn fail_both<N: slot_words::Naming, R: Abort>(
     rt: &R,
     array: &mut Array<MemDrive, Claim<N>>,
-    drives: [u8; 2],
+    one: u8,
+    other: u8,
     calls: u64,
 )
     ensures { (F : Flat) → ShowsArray array.old F → (G : Flat) × ShowsArray array.new G }
 {
-    let [one, other] = drives;
     assert!(rt; one < array.drive_count() && other < array.drive_count());
     assert!(rt; 1 <= calls);
     array.fuse(one, calls);
@@ -201,7 +201,7 @@ fn failing<N: slot_words::Naming, R: Abort>(
     ensures sizes { (result.parts.groups.blocks ≡ 16) × (result.parts.groups.payload ≡ 40) }
 {
     let mut array = remade(rt, alloc, words, pass, case);
-    fail_both(rt, &mut array, drives, calls);
+    fail_both(rt, &mut array, drives[0], drives[1], calls);
     let shape = array.shape();
     assert!(rt; shape.blocks == 16 && shape.payload == 40);
     array
