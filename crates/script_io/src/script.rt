@@ -43,7 +43,7 @@ impl Script {
         }
     }
 
-    /// Reads the next bytes, and answers the lines that end in them. A line whose bytes are all here is answered where it lies.
+    /// Reads the next bytes, and answers the lines that end in them. A line whose bytes are all among them is answered where it lies.
     pub fn feed(&mut self, alloc: Global, chunk: &[u8]) -> Result<(), Stop>
         requires { IsScript self.old }
         ensures keeps { OnOk result (IsScript self.new) }
