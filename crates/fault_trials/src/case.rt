@@ -65,9 +65,6 @@ impl Case<'_> {
         let Ok(shape) = Shape::new(extents, segments, payload, blocks) else {
             return Err(Trouble::Input);
         };
-        match World::new(alloc, shape, drives) {
-            Ok(world) => Ok(world),
-            Err(_) => Err(Trouble::Memory),
-        }
+        World::new(alloc, shape, drives).ok().ok_or(Trouble::Memory)
     }
 }

@@ -130,10 +130,7 @@ fn is_lost(answer: &Answer, drive: u8) -> bool {
 
 // All records that were emitted, in their order.
 fn log_of(alloc: Global, array: &Memory) -> Result<Vec<Record>, Trouble> {
-    match array.records_from(alloc, 0) {
-        Ok(log) => Ok(log),
-        Err(_) => Err(Trouble::Memory),
-    }
+    array.records_from(alloc, 0).ok().ok_or(Trouble::Memory)
 }
 
 // What a refused move leaves: its group's members, the map, and the log.

@@ -118,10 +118,7 @@ fn scan_fit(alloc: Global, parts: &mut Parts<MemDrive>) -> Result<BlockMap, Scan
 
 /// The running map of an array.
 pub(crate) fn map_of(alloc: Global, array: &Memory) -> Result<BlockMap, Trouble> {
-    match array.map(alloc) {
-        Ok(map) => Ok(map),
-        Err(_) => Err(Trouble::Memory),
-    }
+    array.map(alloc).ok().ok_or(Trouble::Memory)
 }
 
 fn is_map(scanned: Result<BlockMap, ScanFault>, wanted: &BlockMap) -> Result<bool, Trouble> {

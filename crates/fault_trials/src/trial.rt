@@ -39,10 +39,7 @@ pub(crate) fn answer(rt: &HostRuntime, line: &str) -> Result<(), Trouble> {
 }
 
 fn number(word: Option<&str>) -> Result<u32, Trouble> {
-    match named(word)?.parse::<u32>() {
-        Ok(number) => Ok(number),
-        Err(_) => Err(Trouble::Input),
-    }
+    named(word)?.parse::<u32>().ok().ok_or(Trouble::Input)
 }
 
 fn named(word: Option<&str>) -> Result<&str, Trouble> {

@@ -33,10 +33,7 @@ fn told_by(alloc: Global, placed: &[Placed], blocks: u32) -> Result<Vec<Record>,
 }
 
 fn push(records: &mut Vec<Record>, record: Record) -> Result<(), ScanFault> {
-    match records.push(record) {
-        Ok(()) => Ok(()),
-        Err(_) => Err(ScanFault::Memory),
-    }
+    records.push(record).ok().ok_or(ScanFault::Memory)
 }
 
 // The record in a slot's header, none in a blank one, or what is wrong with it.

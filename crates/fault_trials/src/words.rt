@@ -28,16 +28,10 @@ fn read(line: &str) -> Option<Words<'_>> {
 
 /// The number as a drive, a worker or a payload's byte.
 pub(crate) fn byte(number: u32) -> Result<u8, Trouble> {
-    match u8::try_from(number) {
-        Ok(byte) => Ok(byte),
-        Err(_) => Err(Trouble::Input),
-    }
+    u8::try_from(number).ok().ok_or(Trouble::Input)
 }
 
 /// The number as a slot, a group, an extent, a hop or a place.
 pub(crate) fn short(number: u32) -> Result<u16, Trouble> {
-    match u16::try_from(number) {
-        Ok(short) => Ok(short),
-        Err(_) => Err(Trouble::Input),
-    }
+    u16::try_from(number).ok().ok_or(Trouble::Input)
 }
