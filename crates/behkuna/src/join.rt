@@ -36,13 +36,7 @@ fn map_of(alloc: Global, records: &[u8]) -> Result<BlockMap, Status>
     }
     let mut map = BlockMap::new(alloc);
     for index in 0..records.len() / RECORD {
-        let record = match record_at(records, index) {
-            Ok(record) => record,
-            Err(status) => return Err(status),
-        };
-        let Ok(()) = map.take(alloc, record) else {
-            return Err(Status::Memory);
-        };
+        map.take(alloc, record_at(records, index)?)?;
     }
     Ok(map)
 }
@@ -64,17 +58,8 @@ fn joined_of(alloc: Global, records: &[u8]) -> Result<Vec<u8>, Status>
     ensures ok { IfOk result (λ joined. IsJoinOf records.now joined.items) }
     ensures err { IfErr result (λ status. Refuses status records.now) }
 {
-    let map = match map_of(alloc, records) {
-        Ok(map) => map,
-        Err(status) => return Err(status),
-    };
-    let Ok(list) = map.to_list(alloc) else {
-        return Err(Status::Memory);
-    };
-    let Ok(bytes) = bytes_of(alloc, &list) else {
-        return Err(Status::Memory);
-    };
-    Ok(bytes)
+    let list = map_of(alloc, records)?.to_list(alloc)?;
+    Ok(bytes_of(alloc, &list)?)
 }
 
 /// The newest record of each block of a list of records, in the blocks' order, at the start of a buffer; the count is of bytes.

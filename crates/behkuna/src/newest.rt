@@ -44,10 +44,7 @@ fn newest_of(records: &[u8], block: u32) -> Result<Option<Record>, Status>
     }
     let mut newest = None;
     for index in 0..records.len() / RECORD {
-        match record_at(records, index) {
-            Ok(record) => newest = newer(block, newest, record),
-            Err(status) => return Err(status),
-        }
+        newest = newer(block, newest, record_at(records, index)?);
     }
     Ok(newest)
 }

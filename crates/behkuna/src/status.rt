@@ -1,6 +1,10 @@
 // What a call comes to.
 ghost use Rattle.std.specs.Prelude.{◌≡◌};
+ghost use Rattle.behkuna.specs.declared.status.Status.TheVariants.{Memory};
 ghost use Rattle.behkuna.specs.Status.{number_of};
+
+use map_join::MapRefusal;
+use std::alloc::AllocError;
 
 /// What a call comes to. A call returns the number; `behkuna.h` has the numbers too.
 #[derive(Clone, Copy)]
@@ -33,5 +37,21 @@ impl Status {
         ensures { result ≡ number_of self }
     {
         self as u32
+    }
+}
+
+impl From<AllocError> for Status {
+    ghost from_gives = { λ _ status. status ≡ Memory };
+
+    fn from(_: AllocError) -> Status {
+        Status::Memory
+    }
+}
+
+impl From<MapRefusal> for Status {
+    ghost from_gives = { λ _ status. status ≡ Memory };
+
+    fn from(_: MapRefusal) -> Status {
+        Status::Memory
     }
 }

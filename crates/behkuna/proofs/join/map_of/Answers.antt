@@ -10,8 +10,8 @@ loop-index-init c = ([], refl, c.new-map.ensures.map_of)
 pub loop-index-preserved : goal.loop-index-preserved
 loop-index-preserved c =
     let was = c.loop-index.invariant in
-    let told = c.in-Ok.ensures.ok in
-    (was.0 ++ c.in-Ok.record ∷ [], next c.args.records.now c.loop-index.index was.0 c.in-Ok.record was.1 told.0 told.1, c.in-Ok-take.ensures.map_of was.0 was.2)
+    let told = c.in_ok-record_at.ensures.ok in
+    (was.0 ++ c.in_ok-record_at.field-0 ∷ [], next c.args.records.now c.loop-index.index was.0 c.in_ok-record_at.field-0 was.1 told.0 told.1, c.in_ok-take.ensures.map_of was.0 was.2)
 
 pub returns-clause-ok : goal.returns-clause-ok
 returns-clause-ok c =

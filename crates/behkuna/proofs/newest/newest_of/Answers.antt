@@ -11,8 +11,8 @@ loop-index-init c = ([], refl, nothing c.args.block)
 pub loop-index-preserved : goal.loop-index-preserved
 loop-index-preserved c =
     let was = c.loop-index.invariant in
-    let here = c.in-Ok.ensures.ok in
-    (was.0 ++ c.in-Ok.record ∷ [], next c.args.records.now c.loop-index.index was.0 c.in-Ok.record was.1 here.0 here.1, c.newer-newest.ensures was.0 was.2)
+    let here = c.in_ok-record_at.ensures.ok in
+    (was.0 ++ c.in_ok-record_at.field-0 ∷ [], next c.args.records.now c.loop-index.index was.0 c.in_ok-record_at.field-0 was.1 here.0 here.1, c.newer-newest.ensures was.0 was.2)
 
 pub returns-clause-ok : goal.returns-clause-ok
 returns-clause-ok c =
