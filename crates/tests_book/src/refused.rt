@@ -7,10 +7,9 @@ ghost use Rattle.flat_machine.specs.Flat.{Flat};
 ghost use Rattle.header_scan.specs.Restarts.{AreAllSound};
 ghost use Rattle.slot_words.specs.Places.{slots_of};
 
-use crate::calls::{payload, trim_by, write_by};
-use crate::points::Reached;
+use crate::calls::{payload, trim, write};
 use crate::rig::{Story, Tables, grouped, named, new_tables, play, released};
-use array_book::{Claim, SettleFault, Settled, Sizes, WorkFault, Worker};
+use array_book::{Claim, NoGate, SettleFault, Settled, Sizes, WorkFault, Worker};
 use array_parts::Parts;
 use header_scan::restart;
 use slot_words::{Pass, SlotWords};
@@ -36,49 +35,34 @@ enum Call {
 }
 
 // The call of worker 4 in a Book around an array with a unit of block 3, of this version and hop, at slot 0; the fault that it
-// returns; the slot that it had claimed; and the points that it had reached, as the digits of a number. Two drives may fail, each
-// at its n-th read or write.
+// returns; and the slot that it had claimed. Both drives of slot 1 may fail at their next call.
 #[derive(Clone, Copy, Debug, PartialEq, Eq)]
 struct Refused {
     version: u32,
     hop: u16,
-    fails: Option<([u8; 2], u64)>,
+    fails: bool,
     call: Call,
     fault: WorkFault,
     slot: u16,
-    reached: u64,
 }
 
 impl Refused {
-    // The call whose commit is refused.
     fn new(version: u32, hop: u16, call: Call, refusal: Refusal, slot: u16) -> Refused {
         Refused {
             version,
             hop,
-            fails: None,
+            fails: false,
             call,
             fault: WorkFault::Core(refusal),
             slot,
-            reached: 12,
         }
     }
 
-    // The call whose fill or copy is refused, as both drives of slots 0 and 1 fail at their next read or write.
-    fn of_lost_drives(call: Call, gone: u16, slot: u16) -> Refused {
-        let kept = Refused::new(1, 0, call, Refusal::Gone(gone), slot);
+    // The call where both drives of slot 1 fail.
+    fn of_lost_drives(call: Call) -> Refused {
+        let kept = Refused::new(1, 0, call, Refusal::Gone(1), 1);
         Refused {
-            fails: Some(([0, 1], 1)),
-            reached: 1,
-            ..kept
-        }
-    }
-
-    // The migration whose commit is refused: the copy reads and writes the drives of slot 128 and of its parity once each, and then
-    // both fail.
-    fn of_late_failures() -> Refused {
-        let kept = Refused::new(1, 0, Call::Migrate, Refusal::Gone(128), 128);
-        Refused {
-            fails: Some(([1, 3], 3)),
+            fails: true,
             ..kept
         }
     }
@@ -95,33 +79,23 @@ impl Refused {
     }
 }
 
-// A case, and whether its gate says that it waits.
-#[derive(Clone, Copy)]
-struct Tried<'a> {
-    case: &'a Refused,
-    waits: bool,
-}
-
-impl<'a> Story for Tried<'a> {
+impl Story for Refused {
     fn tell<
         N: slot_words::Naming + Sizes,
         A: map_words::Naming,
         B: map_words::Naming,
         R: Abort + Wait,
     >(&self, rt: &R, alloc: Global, worker: &mut Worker<'_, MemDrive, N, A, B>) {
-        let gate = Reached::new(self.waits);
-        let call = self.case.call;
-        let fault = match call {
-            Call::Write(block) => write_by(rt, alloc, worker, block, 7, &gate).err(),
-            Call::Trim(block) => trim_by(rt, alloc, worker, block, &gate).err(),
-            Call::Migrate => worker.migrate(rt, alloc, 6, &gate).err(),
+        let fault = match self.call {
+            Call::Write(block) => write(rt, alloc, worker, block, 7).err(),
+            Call::Trim(block) => trim(rt, alloc, worker, block).err(),
+            Call::Migrate => worker.migrate(rt, alloc, 6, &NoGate).err(),
         };
-        let reached = gate.digits();
         assert!(rt;
-            fault == Some(self.case.fault),
-            "{call:?} returns {fault:?}"
+            fault == Some(self.fault),
+            "{:?} returns {fault:?}",
+            self.call
         );
-        assert!(rt; reached == self.case.reached, "{call:?} reaches {reached}");
     }
 }
 
@@ -140,20 +114,13 @@ fn written_parts<R: Abort>(rt: &R, alloc: Global, case: &Refused) -> Parts<MemDr
     parts
 }
 
-// Makes two drives fail at this read or write of each.
-fn fail_both<N: slot_words::Naming, R: Abort>(
-    rt: &R,
-    array: &mut Array<MemDrive, Claim<N>>,
-    one: u8,
-    other: u8,
-    calls: u64,
-)
+// Makes both drives of slot 1 fail at their next call.
+fn fail_both<N: slot_words::Naming, R: Abort>(rt: &R, array: &mut Array<MemDrive, Claim<N>>)
     ensures { (F : Flat) → ShowsArray array.old F → (G : Flat) × ShowsArray array.new G }
 {
-    assert!(rt; one < array.drive_count() && other < array.drive_count());
-    assert!(rt; 1 <= calls);
-    array.fuse(one, calls);
-    array.fuse(other, calls);
+    assert!(rt; array.drive_count() > 1);
+    array.fuse(0, 1);
+    array.fuse(1, 1);
 }
 
 // The array that is restarted from those drives, with a claim of slot 0.
@@ -186,22 +153,20 @@ fn remade<N: slot_words::Naming, R: Abort>(
     array
 }
 
-// The same array, of which two drives fail.
+// The same array, whose drives of slot 1 fail at their next call.
 fn failing<N: slot_words::Naming, R: Abort>(
     rt: &R,
     alloc: Global,
     words: &SlotWords<N>,
     pass: &mut Pass<N>,
     case: &Refused,
-    drives: [u8; 2],
-    calls: u64,
 ) -> Array<MemDrive, Claim<N>>
     requires { slots_of N.table ≡ 65536 }
     ensures shows { (F : Flat) × ShowsArray result F }
     ensures sizes { (result.parts.groups.blocks ≡ 16) × (result.parts.groups.payload ≡ 40) }
 {
     let mut array = remade(rt, alloc, words, pass, case);
-    fail_both(rt, &mut array, drives[0], drives[1], calls);
+    fail_both(rt, &mut array);
     let shape = array.shape();
     assert!(rt; shape.blocks == 16 && shape.payload == 40);
     array
@@ -219,9 +184,10 @@ fn restarted<N: slot_words::Naming, R: Abort>(
     ensures shows { (F : Flat) × ShowsArray result F }
     ensures sizes { (result.parts.groups.blocks ≡ 16) × (result.parts.groups.payload ≡ 40) }
 {
-    match case.fails {
-        Some((drives, calls)) => failing(rt, alloc, words, pass, case, drives, calls),
-        None => remade(rt, alloc, words, pass, case),
+    if case.fails {
+        failing(rt, alloc, words, pass, case)
+    } else {
+        remade(rt, alloc, words, pass, case)
     }
 }
 
@@ -230,19 +196,19 @@ fn refuses<
     A: map_words::Naming + Send + Sync,
     B: map_words::Naming + Send + Sync,
     R: Abort + Threads + Wait + Sync,
->(rt: &R, alloc: Global, tables: Tables, tried: &Tried)
+>(rt: &R, alloc: Global, tables: Tables, case: &Refused)
     requires names { (tables.slots ≡ N.table) × (tables.even ≡ A.table) × (tables.odd ≡ B.table) }
     requires sizes { (N.blocks ≡ 16) × (N.payload ≡ 40) }
 {
     let mut bench = named::<N, A, B>(tables);
-    let array = restarted(rt, alloc, &bench.words, &mut bench.hands.pass, tried.case);
-    let (settled, left) = play(rt, alloc, array, bench, &[4], tried);
+    let array = restarted(rt, alloc, &bench.words, &mut bench.hands.pass, case);
+    let (settled, left) = play(rt, alloc, array, bench, &[4], case);
     assert!(rt; settled == Err(SettleFault::Differs(3)));
     let Settled { array, words, pass } = left;
     let Some(mut pass) = pass else {
         panic!(rt; "no Pass came back")
     };
-    let slot = tried.case.slot;
+    let slot = case.slot;
     let Ok(claim) = words.claim(&mut pass, slot) else {
         panic!(rt; "slot {slot} was not given back")
     };
@@ -257,20 +223,12 @@ fn a_call_that_is_refused_gives_its_slot_back(rt: HostRuntime) {
     let cases = [
         Refused::new(last, 0, Call::Write(3), Refusal::VersionSpent, 1),
         Refused::new(last, 0, Call::Trim(3), Refusal::VersionSpent, 1),
-        Refused {
-            reached: 1,
-            ..Refused::new(1, u16::MAX, Call::Migrate, Refusal::HopsSpent, 128)
-        },
-        Refused::of_lost_drives(Call::Write(5), 1, 1),
-        Refused::of_lost_drives(Call::Trim(5), 1, 1),
-        Refused::of_lost_drives(Call::Migrate, 0, 128),
-        Refused::of_late_failures(),
+        Refused::new(1, u16::MAX, Call::Migrate, Refusal::HopsSpent, 128),
+        Refused::of_lost_drives(Call::Write(5)),
+        Refused::of_lost_drives(Call::Trim(5)),
     ];
     for case in &cases {
-        for waits in [true, false] {
-            let tables = new_tables(&rt, rt.alloc());
-            let tried = Tried { case, waits };
-            refuses::<Brand, Brand, Brand, HostRuntime>(&rt, rt.alloc(), tables, &tried);
-        }
+        let tables = new_tables(&rt, rt.alloc());
+        refuses::<Brand, Brand, Brand, HostRuntime>(&rt, rt.alloc(), tables, case);
     }
 }
