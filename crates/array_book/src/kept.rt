@@ -21,7 +21,7 @@ use extents::Drive;
 use flat_machine::Refusal;
 use map_join::Record;
 use slot_words::{Naming, SlotWords};
-use std::alloc::Global;
+use std::alloc::{AllocError, Global};
 use std::marker::Model;
 use step_core::{Array, Done, Reading, Ticket};
 
@@ -203,13 +203,15 @@ pub fn discard_in<D: Drive, N: Naming + Sizes>(
     kept.array.discard(ticket)
 }
 
-/// Reads a record with its payload, or with none of a trim, or where it is stale the newest record of its block, as the array does.
+/// Reads a record with its payload, or with none of a trim, or where it is stale the newest record of its block, as the array
+/// does, into memory that was taken before.
 pub fn read_in<D: Drive, N: Naming + Sizes>(
     kept: &mut Kept<D, N>,
-    alloc: Global,
     asked: Record,
+    room: Result<Vec<u8>, AllocError>,
 ) -> Result<Reading, Refusal>
-    requires { «asked».block < N.blocks }
+    requires block { «asked».block < N.blocks }
+    requires room { IfOk room (λ payload. length payload.items ≡ N.payload) }
     ensures told { IfOk result (λ reading. (reading.told.block ≡ «asked».block) × (key_of «asked» ≤ key_of reading.told)) }
     ensures written { IfOk result (λ reading. 0 < «asked».version → 0 < reading.told.version) }
     ensures err { IfErr result (IsRefused kept.old.array kept.new.array) }
@@ -222,7 +224,7 @@ pub fn read_in<D: Drive, N: Naming + Sizes>(
         (IsBehind F «asked»)
         ((G : Flat) × UnlearnedCase F «asked» refusal G × ShowsArray kept.new.array G)) }
 {
-    kept.array.read_or_learn(alloc, asked)
+    kept.array.read_or_learn_into(asked, room)
 }
 
 /// Notes that a slot was appended: the write log goes on after it.

@@ -423,7 +423,9 @@ impl<
         let Some(found) = self.find(controller, block) else {
             return Ok(None);
         };
-        let read = read_in(&mut *self.book.kept.lock(rt), alloc, found);
+        // Taken before the lock is held, so that no other worker waits for the allocator.
+        let room = vec![in alloc; 0; self.book.payload as usize];
+        let read = read_in(&mut *self.book.kept.lock(rt), found, room);
         match read {
             Ok(reading) => {
                 self.learn(controller, found, reading.record());

@@ -1,4 +1,5 @@
 pub mod Reading
+pub mod Headers
 mod Fitting
 pub mod Wiping
 pub mod Making

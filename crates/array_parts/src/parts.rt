@@ -1,19 +1,20 @@
 // What an array consists of, without what is remembered of its blocks.
-ghost use Rattle.std.specs.Prelude.{◌≡◌, ◌*◌, ◌≤◌, ◌↔◌, ℕ, length, slice_get, Some, OnOk, IfErr, IsTrue};
+ghost use Rattle.std.specs.Prelude.{◌≡◌, ◌+◌, ◌*◌, ◌<◌, ◌≤◌, ◌↔◌, ℕ, length, slice_get, Some, None, OnOk, IfErr, IsTrue};
 ghost use Rattle.extents.specs.Shapes.{IsShapeOf};
 ghost use Rattle.extents.specs.declared.shape.TheConstants.{HEADER_BYTES};
+ghost use Rattle.extent_groups.specs.Groups.{group_at, slots_in};
 ghost use Rattle.extent_groups.specs.Calls.{AreSized};
 ghost use Rattle.extent_groups.specs.Missing.{IsGone};
 ghost use Rattle.extent_groups.specs.Stores.{unit_bytes, unit_of, header_of, AreSound, KeepsUnits, Wrote};
 ghost use Rattle.array_parts.specs.Fit.{IsFit, HaveUnits};
 ghost use Rattle.array_parts.specs.Kept.{LeavesOthers};
 ghost use Rattle.array_parts.specs.Losses.{AllFare, KeepsTables, LosesOnly};
-ghost use Rattle.array_parts.specs.Slots.{IsSlot, cells_in, missing_in, HoldsUnit, TellsGone};
+ghost use Rattle.array_parts.specs.Slots.{IsSlot, AreHeaders, cells_in, missing_in, HoldsUnit, TellsGone};
 
 use crate::note::Note;
-use crate::slots::{read_slot, read_slot_header, write_slot};
+use crate::slots::{read_group_headers, read_slot, read_slot_header, write_slot};
 use extent_groups::GroupTable;
-use extents::{Drive, ExtentTable, Shape};
+use extents::{Drive, ExtentTable, HEADER_BYTES, Shape};
 use flat_machine::Refusal;
 
 /// The parts of an array. A recovery program may put them together from what it finds.
@@ -126,6 +127,33 @@ impl<D: Drive> Parts<D> {
         read_slot_header(&self.groups, drives, slot, header, scratch)
             .ok()
             .ok_or(Refusal::Gone(slot))
+    }
+
+    /// Reads the headers of a group's slots in ascending order, that of index i into `headers[i]`, with a buffer of two units'
+    /// length. Returns how many come before the first slot that is gone: all where none is.
+    pub fn read_headers(
+        &mut self,
+        group: u16,
+        headers: &mut [[u8; HEADER_BYTES]],
+        scratch: &mut [u8],
+    ) -> u16
+        requires fit { IsFit D.units self.old }
+        requires group { group < 512 }
+        requires many { length headers.old ≡ slots_in self.old.groups.segments (group_at self.old.groups group) }
+        requires scratch { length scratch.old ≡ 2 * unit_bytes self.old.groups }
+        ensures read { AreSound self.old.groups (cells_in D.units D.lost self.old)
+            → AreHeaders self.old.groups (cells_in D.units D.lost self.old) group result headers.new }
+        ensures gone { result < length headers.old → unit_of self.new.groups (cells_in D.units D.lost self.new) (128 * group + result) ≡ None }
+        ensures within { result ≤ length headers.old }
+        ensures units { AreSound self.old.groups (cells_in D.units D.lost self.old)
+            → KeepsUnits self.old.groups (cells_in D.units D.lost self.old) (cells_in D.units D.lost self.new) }
+        ensures sound { AreSound self.old.groups (cells_in D.units D.lost self.old) → AreSound self.new.groups (cells_in D.units D.lost self.new) }
+        ensures only { LosesOnly D.units D.lost D.failures self.old self.new }
+        ensures fares { AllFare D.lost D.failures self.old.drives.items self.new.drives.items }
+        ensures fit { IsFit D.units self.new }
+    {
+        let drives: &mut [D] = &mut self.drives;
+        read_group_headers(&self.groups, drives, group, headers, scratch)
     }
 
     /// Writes the unit of a slot, with a buffer of two units' length.

@@ -1,13 +1,15 @@
 // Reads and writes of slots of either class.
-ghost use Rattle.std.specs.Prelude.{◌≡◌, ◌*◌, ◌/◌, length, Some, OnOk, IfErr};
+ghost use Rattle.std.specs.Prelude.{◌≡◌, ◌+◌, ◌*◌, ◌/◌, ◌<◌, ◌≤◌, length, Some, None, OnOk, IfErr};
 ghost use Rattle.extents.specs.declared.shape.TheConstants.{HEADER_BYTES};
 ghost use Rattle.extent_groups.specs.Cells.{cells};
-ghost use Rattle.extent_groups.specs.Calls.{NoPlace, SameBut, KeepsDrives};
+ghost use Rattle.extent_groups.specs.Groups.{group_at, class_in, slots_in};
+ghost use Rattle.extent_groups.specs.Calls.{if_ok, NoPlace, SameBut, KeepsDrives};
 ghost use Rattle.extent_groups.specs.Stores.{unit_bytes, unit_of, header_of, AreSound, AreDrives, KeepsUnits, Wrote, NamesGone, IsOwnOf, HasMemberOn};
-ghost use Rattle.array_parts.specs.Slots.{IsSlot};
+ghost use Rattle.extent_groups.specs.Stores.{IsGroupOf, ReadLeaves};
+ghost use Rattle.array_parts.specs.Slots.{IsSlot, AreHeaders};
 
-use extent_groups::{Class, GroupTable, SLOTS, StoreRefusal};
-use extents::Drive;
+use extent_groups::{Class, GroupTable, Member, SLOTS, StoreRefusal};
+use extents::{Drive, HEADER_BYTES};
 
 /// Reads the effective unit of a slot of either class.
 pub(crate) fn read_slot<D: Drive>(
@@ -61,6 +63,67 @@ pub(crate) fn read_slot_header<D: Drive>(
         Some(Class::Mirrored) => mirrored_store::read_header(groups, drives, slot, header, scratch),
         _ => parity_store::read_header(groups, drives, slot, header, scratch),
     }
+}
+
+/// Reads the header of a slot by its group's class and members, which were found once for all slots of the group; false where
+/// the slot is gone.
+#[inline(always)]
+fn read_among<D: Drive>(
+    groups: &GroupTable,
+    members: &[Member],
+    class: Option<Class>,
+    drives: &mut [D],
+    slot: u16,
+    header: &mut [u8],
+    scratch: &mut [u8],
+) -> bool
+    requires slot { IsSlot groups.now slot }
+    requires members { IsGroupOf groups.now (slot / 128) members.now }
+    requires class { class ≡ class_in (group_at groups.now (slot / 128)) }
+    requires drives { AreDrives D.units groups.now drives.old }
+    requires header { length header.old ≡ HEADER_BYTES }
+    requires scratch { length scratch.old ≡ 2 * unit_bytes groups.now }
+    ensures header { header_of groups.now (cells D.units D.lost drives.new) slot ≡ if_ok result header.new }
+    ensures leaves { ReadLeaves D.units D.lost D.failures groups.now (slot / 128) drives.old drives.new }
+{
+    match class {
+        Some(Class::Mirrored) => {
+            mirrored_store::read_header_among(groups, members, drives, slot, header, scratch)
+        }
+        _ => parity_store::read_header_among(groups, members, drives, slot, header, scratch),
+    }
+}
+
+/// Reads the headers of a group's slots in ascending order, that of index i into `headers[i]`, with a buffer of two units'
+/// length. Returns how many come before the first slot that is gone: all where none is.
+pub(crate) fn read_group_headers<D: Drive>(
+    groups: &GroupTable,
+    drives: &mut [D],
+    group: u16,
+    headers: &mut [[u8; HEADER_BYTES]],
+    scratch: &mut [u8],
+) -> u16
+    requires group { group < 512 }
+    requires many { length headers.old ≡ slots_in groups.now.segments (group_at groups.now group) }
+    requires drives { AreDrives D.units groups.now drives.old }
+    requires scratch { length scratch.old ≡ 2 * unit_bytes groups.now }
+    ensures read { AreSound groups.now (cells D.units D.lost drives.old)
+        → AreHeaders groups.now (cells D.units D.lost drives.old) group result headers.new }
+    ensures gone { result < length headers.old → unit_of groups.now (cells D.units D.lost drives.new) (128 * group + result) ≡ None }
+    ensures within { result ≤ length headers.old }
+    ensures leaves { ReadLeaves D.units D.lost D.failures groups.now group drives.old drives.new }
+{
+    let members = groups.members(group);
+    let class = groups.class_of(group);
+    let count = groups.slots_of(group);
+    for index in 0..count {
+        let slot = SLOTS * group + index;
+        let header = &mut headers[index as usize];
+        if !read_among(groups, members, class, drives, slot, header, scratch) {
+            return index;
+        }
+    }
+    count
 }
 
 /// Writes the unit of a slot of either class.

@@ -1,18 +1,18 @@
 // A source of units by slot number.
-ghost use Rattle.std.specs.Prelude.{◌≡◌, ◌*◌, length, Some, None, OnOk, IfErr};
+ghost use Rattle.std.specs.Prelude.{◌≡◌, ◌+◌, ◌*◌, ◌<◌, ◌≤◌, length, Some, None, OnOk, IfErr};
 ghost use Rattle.flat_machine.specs.declared.refusal.Refusal.TheVariants.{Gone};
 ghost use Rattle.extents.specs.declared.shape.TheConstants.{HEADER_BYTES};
-ghost use Rattle.extent_groups.specs.Groups.{Groups};
+ghost use Rattle.extent_groups.specs.Groups.{Groups, group_at, slots_in};
 ghost use Rattle.extent_groups.specs.Cells.{Cells, cells};
 ghost use Rattle.extent_groups.specs.Stores.{unit_bytes, unit_of, header_of, AreSound, KeepsUnits};
 ghost use Rattle.array_parts.specs.Fit.{IsFit};
 ghost use Rattle.array_parts.specs.Losses.{LosesOnly};
 ghost use Rattle.array_parts.specs.Laws.{loses_none, loses_more};
-ghost use Rattle.array_parts.specs.Slots.{IsSlot};
+ghost use Rattle.array_parts.specs.Slots.{IsSlot, AreHeaders};
 
 use crate::Parts;
 use extent_groups::GroupTable;
-use extents::Drive;
+use extents::{Drive, HEADER_BYTES};
 use flat_machine::Refusal;
 
 /// A source of the effective units of the slots of made groups: an array, a world, or parts.
@@ -62,6 +62,23 @@ pub trait Units {
         ensures fits { fits self.new }
         ensures leaves { leaves self.old self.new };
 
+    /// Reads the headers of a group's slots in ascending order, that of index i into `headers[i]`, with a buffer of two units'
+    /// length. Returns how many come before the first slot whose unit can't be had: all where none is. Each header is one read of
+    /// a drive, or one of each other member where that drive is lost.
+    fn headers(&mut self, group: u16, headers: &mut [[u8; HEADER_BYTES]], scratch: &mut [u8]) -> u16
+        requires fits { fits self.old }
+        requires group { group < 512 }
+        requires many { length headers.old ≡ slots_in (groups self.old).segments (group_at (groups self.old) group) }
+        requires scratch { length scratch.old ≡ 2 * unit_bytes (groups self.old) }
+        ensures read { AreSound (groups self.old) (cells self.old) → AreHeaders (groups self.old) (cells self.old) group result headers.new }
+        ensures gone { result < length headers.old → unit_of (groups self.new) (cells self.new) (128 * group + result) ≡ None }
+        ensures within { result ≤ length headers.old }
+        ensures units { AreSound (groups self.old) (cells self.old) → KeepsUnits (groups self.old) (cells self.old) (cells self.new) }
+        ensures sound { AreSound (groups self.old) (cells self.old) → AreSound (groups self.new) (cells self.new) }
+        ensures groups { groups self.new ≡ groups self.old }
+        ensures fits { fits self.new }
+        ensures leaves { leaves self.old self.new };
+
     /// No read leaves all as it was.
     ghost none: { (x : Self) → leaves x x };
 
@@ -88,6 +105,15 @@ impl<D: Drive> Units for Parts<D> {
 
     fn header(&mut self, slot: u16, header: &mut [u8], scratch: &mut [u8]) -> Result<(), Refusal> {
         self.read_header(slot, header, scratch)
+    }
+
+    fn headers(
+        &mut self,
+        group: u16,
+        headers: &mut [[u8; HEADER_BYTES]],
+        scratch: &mut [u8],
+    ) -> u16 {
+        self.read_headers(group, headers, scratch)
     }
 
     ghost none = { λ p. loses_none D.units D.lost D.failures p };

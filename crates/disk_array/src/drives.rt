@@ -1,13 +1,13 @@
 // What an array has its drives do for a slot, and for a group that is made. All but its parts stays as it was, and what it keeps of
 // a group's number that is made.
-ghost use Rattle.std.specs.Prelude.{◌≡◌, ◌⊎◌, ◌≤◌, length, vec_len, vec_capacity, OnOk, OnErr, IfOk, IfErr, Some, None};
+ghost use Rattle.std.specs.Prelude.{◌≡◌, ◌⊎◌, ◌+◌, ◌*◌, ◌<◌, ◌≤◌, length, vec_len, vec_capacity, OnOk, OnErr, IfOk, IfErr, Some, None};
 ghost use Rattle.extents.specs.declared.shape.TheConstants.{HEADER_BYTES};
 ghost use Rattle.extent_groups.specs.Faults.{put_fault};
-ghost use Rattle.extent_groups.specs.Groups.{AreThere};
+ghost use Rattle.extent_groups.specs.Groups.{AreThere, group_at, slots_in};
 ghost use Rattle.extent_groups.specs.Stores.{unit_bytes, unit_of, header_of, AreSound, KeepsUnits};
 ghost use Rattle.flat_machine.specs.Flat.{content_under};
 ghost use Rattle.flat_machine.specs.Groups.{IsLowestFree};
-ghost use Rattle.array_parts.specs.Slots.{IsSlot};
+ghost use Rattle.array_parts.specs.Slots.{IsSlot, AreHeaders};
 ghost use Rattle.disk_array.specs.Refused.{OnlyLoses};
 ghost use Rattle.array_parts.specs.Views.{cells_of, FoundGone, WasRead, Entered, FoundLost};
 ghost use Rattle.slot_tables.specs.Views.{with_parts, IsWhole};
@@ -18,7 +18,7 @@ ghost use Rattle.slot_tables.specs.Shut.{AreShutOf};
 use crate::array::Array;
 use array_parts::Sight;
 use extent_groups::{Class, Member};
-use extents::{Drive, Kind};
+use extents::{Drive, HEADER_BYTES, Kind};
 use flat_machine::Refusal;
 use map_join::Record;
 use slot_tables::{Hold, grow_to, open_number};
@@ -101,5 +101,21 @@ impl<D: Drive, C: Hold> Array<D, C> {
     {
         let scratch: &mut [u8] = &mut self.scratch;
         self.parts.read_header(slot, header, scratch)
+    }
+    // Reads the headers of a group's slots into the caller's buffers, and returns how many come before the first slot that is gone.
+    pub(crate) fn headers_at(&mut self, group: u16, headers: &mut [[u8; HEADER_BYTES]]) -> u16
+        requires group { group < 512 }
+        requires many { length headers.old ≡ slots_in self.old.parts.groups.segments (group_at self.old.parts.groups group) }
+        ensures read { AreSound self.old.parts.groups (cells_of self.old.parts)
+            → AreHeaders self.old.parts.groups (cells_of self.old.parts) group result headers.new }
+        ensures gone { result < length headers.old → unit_of self.new.parts.groups (cells_of self.new.parts) (128 * group + result) ≡ None }
+        ensures within { result ≤ length headers.old }
+        ensures units { AreSound self.old.parts.groups (cells_of self.old.parts)
+            → KeepsUnits self.old.parts.groups (cells_of self.old.parts) (cells_of self.new.parts) }
+        ensures sound { AreSound self.old.parts.groups (cells_of self.old.parts) → AreSound self.new.parts.groups (cells_of self.new.parts) }
+        ensures loses { OnlyLoses self.old self.new }
+    {
+        let scratch: &mut [u8] = &mut self.scratch;
+        self.parts.read_headers(group, headers, scratch)
     }
 }

@@ -1,5 +1,5 @@
 // What is learned of a record that may be stale.
-ghost use Rattle.std.specs.Prelude.{◌≡◌, ◌<◌, IfErr, MatchOption, MatchResult};
+ghost use Rattle.std.specs.Prelude.{◌≡◌, ◌<◌, length, IfOk, IfErr, MatchOption, MatchResult};
 ghost use Rattle.flat_machine.specs.Flat.{Flat, Payload, Trim, content_under};
 ghost use Rattle.flat_machine.specs.Cases.{IsBehind};
 ghost use Rattle.flat_machine.specs.Learning.{LearnedCase, UnlearnedCase};
@@ -14,10 +14,10 @@ use extents::{Drive, Kind};
 use flat_machine::Refusal;
 use map_join::Record;
 use slot_tables::Hold;
-use std::alloc::Global;
+use std::alloc::{AllocError, Global};
 use std::marker::Model;
 
-/// A record with its payload, or with none where it is a trim, as an array returns it: `read_or_learn` alone makes one.
+/// A record with its payload, or with none where it is a trim, as an array returns it: `read_or_learn` and `read_or_learn_into` alone make one.
 #[derive(Debug, Drop)]
 pub struct Reading {
     record: Record,
@@ -77,13 +77,33 @@ impl<D: Drive, C: Hold> Array<D, C> {
             (IsBehind F asked)
             ((G : Flat) × UnlearnedCase F asked refusal G × ShowsArray self.new G)) }
     {
+        let room = self.no_payload(alloc);
+        self.read_or_learn_into(asked, room)
+    }
+
+    /// Reads into memory that was taken for the payload before, or was not to be had: for a caller that takes none while it holds
+    /// a lock. Else as `read_or_learn`; out of memory comes after its other checks, as there.
+    pub fn read_or_learn_into(
+        &mut self,
+        asked: Record,
+        room: Result<Vec<u8>, AllocError>,
+    ) -> Result<Reading, Refusal>
+        requires block { asked.block < self.old.parts.groups.blocks }
+        requires room { IfOk room (λ payload. length payload.items ≡ self.old.parts.groups.payload) }
+        ensures err { IfErr result (IsRefused self.old self.new) }
+        ensures rest { self.new ≡ with_parts self.old self.new.parts }
+        ensures flat { (F : Flat) → ShowsArray self.old F → MatchResult result
+            (λ reading. (G : Flat) × LearnedCase F asked reading.told reading.content G × ShowsArray self.new G)
+            (λ refusal. MayRefuse refusal
+            (IsBehind F asked)
+            ((G : Flat) × UnlearnedCase F asked refusal G × ShowsArray self.new G)) }
+    {
         let newest = match self.not_behind(asked) {
             Ok(newest) => newest,
             Err(refusal) => return Err(refusal),
         };
-        let mut payload = match self.no_payload(alloc) {
-            Ok(payload) => payload,
-            Err(_) => return Err(Refusal::Memory),
+        let Ok(mut payload) = room else {
+            return Err(Refusal::Memory);
         };
         match self.look(&asked, &mut payload) {
             Ok(Sight::Here(kind)) => Ok(Reading::of(asked, kind, payload)),

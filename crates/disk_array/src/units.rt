@@ -6,7 +6,7 @@ ghost use Rattle.disk_array.specs.Laws.{only_itself, only_more};
 use crate::array::Array;
 use array_parts::Units;
 use extent_groups::GroupTable;
-use extents::Drive;
+use extents::{Drive, HEADER_BYTES};
 use flat_machine::Refusal;
 use slot_tables::Hold;
 
@@ -30,6 +30,15 @@ impl<D: Drive, C: Hold> Units for Array<D, C> {
 
     fn header(&mut self, slot: u16, header: &mut [u8], _scratch: &mut [u8]) -> Result<(), Refusal> {
         self.header_at(slot, header)
+    }
+
+    fn headers(
+        &mut self,
+        group: u16,
+        headers: &mut [[u8; HEADER_BYTES]],
+        _scratch: &mut [u8],
+    ) -> u16 {
+        self.headers_at(group, headers)
     }
 
     ghost none = { λ a. only_itself a };

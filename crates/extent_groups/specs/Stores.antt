@@ -1,5 +1,6 @@
 -- What both stores say: when a call may come, what it leaves of every slot, and what it may touch of the drives.
 use Rattle.std.specs.Prelude.{Bool, ◌≡◌, ◌≢◌, ℕ, ◌+◌, ◌*◌, ◌/◌, ◌%◌, ◌<◌, ◌⊎◌, Option, Some, None, List, length, slice_get}
+use Rattle.extents.specs.Failures.{Failures}
 use Rattle.extents.specs.Sizes.{extent_units}
 use Rattle.extents.specs.declared.shape.TheConstants.{HEADER_BYTES}
 use Rattle.extent_groups.specs.declared.class.Class.{Class}
@@ -7,9 +8,9 @@ use Rattle.extent_groups.specs.declared.class.Member.{Member}
 use Rattle.extent_groups.specs.declared.place.Place.{Place}
 use Rattle.extent_groups.specs.declared.refusal.StoreRefusal.{StoreRefusal}
 use Rattle.extent_groups.specs.declared.refusal.StoreRefusal.TheVariants.{Gone}
-use Rattle.extent_groups.specs.Groups.{Groups, group_at, class_in, slots_in, members_of}
+use Rattle.extent_groups.specs.Groups.{Groups, AreGroups, group_at, class_in, slots_in, members_of}
 use Rattle.extent_groups.specs.Cells.{Cells, cells, front, held}
-use Rattle.extent_groups.specs.Calls.{AreSized}
+use Rattle.extent_groups.specs.Calls.{AreSized, NoPlace, SameBut, KeepsDrives}
 use Rattle.extent_groups.specs.Units.{Site, Pair, InStripe, site_of, unit_at, effective_unit, IsSoundAt, IsSound}
 use Rattle.extent_groups.specs.Layout.{IsOf, IsApart, AreBeside, IsWhole}
 
@@ -88,6 +89,19 @@ IsDriveOf site d = (x : Place) × IsOf site x × (x.drive ≡ d)
 -- a member of the group is on the drive
 abbrev pub HasMemberOn : Groups → ℕ → ℕ → Type 0
 HasMemberOn groups g d = (k : ℕ) × (m : Member) × (slice_get (members_of groups g) k ≡ Some m) × (m.drive ≡ d)
+
+-- these are the members of a group, as a table of groups returns them
+pub record IsGroupOf (groups : Groups) (g : ℕ) (members : List Member) : Type 0 where
+  pub found : members ≡ members_of groups g
+  pub formed : AreGroups groups
+
+-- what reads of a group's slots leave: units that are sound and hold what they held, and the drives outside the group as they were
+pub record ReadLeaves {D : Type 0} (units : D → List (List ℕ)) (lost : D → Bool) (failures : D → Failures) (groups : Groups) (group : ℕ) (old new : List D) : Type 0 where
+  pub units_kept : AreSound groups (cells units lost old) → KeepsUnits groups (cells units lost old) (cells units lost new)
+  pub sound : AreSound groups (cells units lost old) → AreSound groups (cells units lost new)
+  pub touched : KeepsDrives units lost failures NoPlace old new
+  pub elsewhere : SameBut (HasMemberOn groups group) old new
+  pub drives : AreDrives units groups new
 
 -- a site's effective unit that exists afterwards is what it was, and it is sound afterwards
 pub record KeepsAt (bytes : ℕ) (c new : Cells) (t : Site) : Type 0 where

@@ -49,7 +49,8 @@ pub fn read_front<D: Drive>(
         .is_ok()
 }
 
-/// Writes the unit at a place; false where its drive is lost.
+/// Writes the unit at a place; false where its drive is lost. Inlined, since a parity write makes two.
+#[inline(always)]
 pub fn write_place<D: Drive>(drives: &mut [D], place: Place, unit: &[u8]) -> bool
     requires inside { place.drive < length drives.old }
     requires place { IsPlace D.units drives.old place }

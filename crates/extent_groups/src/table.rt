@@ -88,7 +88,7 @@ impl GroupTable {
     ghost use Rattle.extents.specs.Sizes.{extent_units};
     ghost use Rattle.extent_groups.specs.Layout.{IsLayout};
     ghost use Rattle.extent_groups.specs.Units.{Pair, InStripe, site_of, places_of};
-    ghost use Rattle.extent_groups.specs.Stores.{IsSlotOf};
+    ghost use Rattle.extent_groups.specs.Stores.{IsSlotOf, IsGroupOf};
     ghost use Rattle.extent_groups.specs.declared.class.Class.TheVariants.{Mirrored, Parity};
 
     /// A table of this shape, without groups; refused if out of memory.
@@ -179,7 +179,19 @@ impl GroupTable {
         ensures at { result ≡ copies_of (length (members_of self.now group)) index }
         ensures law { AreCopies (length (members_of self.now group)) self.now.segments index result }
     {
-        geometry::two_copies(self.members(group).len() as u8, index)
+        self.copies_among(self.members(group), group, index)
+    }
+
+    // The same copies, by the group's members.
+    #[inline(always)]
+    fn copies_among(&self, members: &[Member], group: u16, index: u16) -> Copies
+        requires mirrored { class_in (group_at self.now group) ≡ Some Mirrored }
+        requires slot { index < slots_in self.now.segments (group_at self.now group) }
+        requires members { IsGroupOf self.now group members.now }
+        ensures at { result ≡ copies_of (length members.now) index }
+        ensures law { AreCopies (length members.now) self.now.segments index result }
+    {
+        geometry::two_copies(members.len() as u8, index)
     }
 
     /// The place at an offset of a group's member.
@@ -189,7 +201,17 @@ impl GroupTable {
         ensures place { slice_get (places_of self.now.segments (members_of self.now group) offset) member ≡ Some result }
         ensures groups { AreGroups self.now }
     {
-        let member = self.members(group)[member as usize];
+        self.place_among(self.members(group), member, offset)
+    }
+
+    /// The place at an offset of one of these members, for a caller that has found a group's members already.
+    #[inline(always)]
+    pub fn place_among(&self, members: &[Member], member: u8, offset: u16) -> Place
+        requires member { member < length members.now }
+        requires offset { offset < extent_units self.now.segments }
+        ensures place { slice_get (places_of self.now.segments members.now offset) member ≡ Some result }
+    {
+        let member = members[member as usize];
         Place {
             drive: member.drive,
             address: self.shape.unit_address(member.extent, offset),
@@ -202,10 +224,19 @@ impl GroupTable {
         ensures site { site_of self.now slot ≡ Some (Pair result.0 result.1) }
         ensures groups { AreGroups self.now }
     {
-        let group = slot / SLOTS;
-        let at = self.copies(group, slot % SLOTS);
-        let first = self.place(group, at.first.member, at.first.offset);
-        let second = self.place(group, at.second.member, at.second.offset);
+        self.pair_among(self.members(slot / SLOTS), slot)
+    }
+
+    /// The two places of a mirrored slot, by the members of its group, which a caller that reads many of its slots finds once.
+    #[inline(always)]
+    pub fn pair_among(&self, members: &[Member], slot: u16) -> (Place, Place)
+        requires slot { IsSlotOf Mirrored self.now slot }
+        requires members { IsGroupOf self.now (slot / 128) members.now }
+        ensures site { site_of self.now slot ≡ Some (Pair result.0 result.1) }
+    {
+        let at = self.copies_among(members, slot / SLOTS, slot % SLOTS);
+        let first = self.place_among(members, at.first.member, at.first.offset);
+        let second = self.place_among(members, at.second.member, at.second.offset);
         (first, second)
     }
 
@@ -217,8 +248,18 @@ impl GroupTable {
         ensures inside { (result.offset < extent_units self.now.segments) × (length (members_of self.now (slot / 128)) ≤ 8) }
         ensures groups { AreGroups self.now }
     {
-        let _members = self.members(slot / SLOTS);
-        self.stripe_of(slot / SLOTS, slot % SLOTS)
+        self.row_among(self.members(slot / SLOTS), slot)
+    }
+
+    /// The stripe of a parity slot, by the members of its group, which a caller that reads many of its slots finds once.
+    #[inline(always)]
+    pub fn row_among(&self, members: &[Member], slot: u16) -> Stripe
+        requires slot { IsSlotOf Parity self.now slot }
+        requires members { IsGroupOf self.now (slot / 128) members.now }
+        ensures site { site_of self.now slot ≡ Some (InStripe (places_of self.now.segments members.now result.offset) result.parity result.member) }
+        ensures inside { (result.offset < extent_units self.now.segments) × (length members.now ≤ 8) }
+    {
+        self.stripe_among(members, slot / SLOTS, slot % SLOTS)
     }
 
     /// Where a parity slot lies, and the parity of its offset.
@@ -228,7 +269,20 @@ impl GroupTable {
         ensures at { result ≡ stripe_of (length (members_of self.now group)) index }
         ensures law { IsStripe (length (members_of self.now group)) self.now.segments index result }
     {
-        geometry::one_stripe(self.members(group).len() as u8, index)
+        self.stripe_among(self.members(group), group, index)
+    }
+
+    // The same stripe, by the group's members.
+    #[inline(always)]
+    fn stripe_among(&self, members: &[Member], group: u16, index: u16) -> Stripe
+        requires parity { class_in (group_at self.now group) ≡ Some Parity }
+        requires slot { index < slots_in self.now.segments (group_at self.now group) }
+        requires members { IsGroupOf self.now group members.now }
+        ensures at { result ≡ stripe_of (length members.now) index }
+        ensures law { IsStripe (length members.now) self.now.segments index result }
+        ensures few { length members.now ≤ 8 }
+    {
+        geometry::one_stripe(members.len() as u8, index)
     }
 
     /// The member that holds the parity of an offset of a parity group.

@@ -189,6 +189,8 @@ impl Drive for MemDrive {
         self.answer_read(at, front)
     }
 
+    // Inlined, as what it calls is.
+    #[inline(always)]
     fn write_unit(&mut self, at: u32, unit: &[u8]) -> Result<(), DriveLost>
         requires at { at < length self.old.units }
         requires size { IsSized (length unit.now) self.old.units }

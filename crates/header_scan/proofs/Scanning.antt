@@ -19,7 +19,7 @@ use Rattle.flat_machine.specs.Scanned.{HasHeader}
 use Rattle.array_parts.specs.Slots.{IsSlot}
 use Rattle.header_scan.specs.declared.fault.ScanFault.{ScanFault}
 use Rattle.header_scan.specs.Faults.{Bytes, between, Tells, IsFaultAt}
-use Rattle.header_scan.specs.Found.{place_in, stamp_in_option, HasStamp, IsNoted, Keeps}
+use Rattle.header_scan.specs.Found.{place_in, stamp_in_option, HasStamp, IsNoted}
 
 -- what a look returns for a slot, over one and the same groups
 abbrev pub Looked : Groups → Groups → Cells → Cells → ℕ → ℕ → Result (Option Record) ScanFault → Type 0
@@ -28,17 +28,6 @@ Looked groups after c new blocks slot result =
     × (AreSound groups c → IfErr result (IsFaultAt blocks (unit_of groups c) (unit_of after new) slot))
     × (AreSound groups c → KeepsUnits groups c new)
     × (AreSound groups c → AreSound after new)
-
-pub looked : (groups before after : Groups) (c new : Cells) (blocks slot : ℕ) (result : Result (Option Record) ScanFault) → before ≡ groups → after ≡ before → Looked before after c new blocks slot result
-    → Looked groups groups c new blocks slot result
-looked groups before after c new blocks slot result one two facts =
-    subst (λ x. Looked groups x c new blocks slot result) (two ∙ one) (subst (λ x. Looked x after c new blocks slot result) one facts)
-
--- reads one after another
-pub more_kept : (groups : Groups) (start c new : Cells) (blocks slot : ℕ) (result : Result (Option Record) ScanFault) → Keeps groups start c → Looked groups groups c new blocks slot result → Keeps groups start new
-more_kept groups start c new blocks slot result keeps look = λ sound.
-    let was = keeps sound in
-    (λ other v e. was.0 other v (look.2 was.1 other v e), look.3 was.1)
 
 -- a slot that lies somewhere, or has a unit, is one of a made group
 pub slot_at : (groups : Groups) (slot : ℕ) (site : Site) → site_of groups slot ≡ Some site → IsSlot groups slot

@@ -1,14 +1,14 @@
 -- The header of one slot more, and the rest of a group's numbers.
-use Rattle.std.proofs.Common.{◌≡◌, ◌≢◌, ℕ, ◌+◌, ◌*◌, ◌/◌, ◌%◌, ◌^◌, ◌<◌, ◌≤◌, ◌⊎◌, inl, inr, false, max, Option, Some, None, List, length, refl, sym, ◌∙◌, ap, subst, arith, eq-eqb, if◌then◌else◌}
-use Rattle.std.specs.Prelude.{◌==◌, Result, Ok, Err}
+use Rattle.std.proofs.Common.{◌≡◌, ◌≢◌, ℕ, ◌+◌, ◌*◌, ◌/◌, ◌%◌, ◌^◌, ◌<◌, ◌≤◌, ◌⊎◌, inl, inr, false, max, Option, Some, None, List, refl, sym, ◌∙◌, ap, subst, arith, eq-eqb, if◌then◌else◌}
+use Rattle.std.specs.Prelude.{◌==◌, Result, Ok, Err, IfOk, IfErr}
 use Rattle.std.proofs.lemmas.Bool.Decides.{nat_tests}
 use Rattle.map_join.specs.declared.records.Record.{Record}
 use Rattle.map_join.specs.Record.{key_of, stamp_of, stamp_in}
 use Rattle.map_join.specs.Maps.{Entries, at, IsSame, join, only}
-use Rattle.extent_groups.specs.Groups.{Group, Groups, AreGroups, IsFormed, group_at, slots_in}
-use Rattle.extent_groups.specs.Cells.{Cells}
-use Rattle.extent_groups.specs.Stores.{unit_of}
-use Rattle.extent_groups.proofs.Bounds.{slot_count_small}
+use Rattle.extent_groups.specs.Groups.{Groups, group_at, slots_in}
+use Rattle.extents.specs.declared.shape.TheConstants.{HEADER_BYTES}
+use Rattle.extent_groups.specs.Cells.{Cells, front}
+use Rattle.extent_groups.specs.Stores.{unit_of, header_of, AreSound, KeepsUnits}
 use Rattle.std.proofs.lemmas.Bool.{cases_order}
 use Rattle.extent_groups.proofs.Places.{same_or_not}
 use Rattle.flat_machine.specs.Scanned.{HasHeader}
@@ -18,7 +18,7 @@ use Rattle.header_scan.specs.declared.fault.ScanFault.TheVariants.{Memory, BadHe
 use Rattle.header_scan.specs.Faults.{Bytes, between, Tells, AreFine, IsFaultAt, IsFirstFault}
 use Rattle.header_scan.specs.Found.{key_in, stamp_at, HasStamp, IsNoted, IsUnderway}
 use Rattle.header_scan.proofs.Noting.{IsNext, newer, twin, third, older, as_well}
-use Rattle.header_scan.proofs.Scanning.{Looked, looked, has_unit, within, ranged, told_record, told_header, newest_stamp, twin_stamp}
+use Rattle.header_scan.proofs.Scanning.{Looked, has_unit, within, ranged, told_record, told_header, newest_stamp, twin_stamp}
 
 last_or : (slot s : ℕ) → slot < s + 1 → (slot < s) ⊎ (slot ≡ s)
 last_or slot s h = elim (cases_order slot s) [ inl e ↦ inr e | inr o ↦ inl (elim o [ inl below ↦ below | inr above ↦ absurd (omega arith) ]) ]
@@ -207,13 +207,6 @@ pub first_fault : (groups : Groups) (start c new : Cells) (low high s : ℕ) (M 
 first_fault groups start c new low high s M T e is l h was look =
     fault_first groups low high s (unit_of groups c) (unit_of groups start) (unit_of groups new) e was.keeps is l h was.fine (look.1 was.sound)
 
--- a group has fewer than 128 slots
-pub few_slots : (groups : Groups) (g : ℕ) → AreGroups groups → slots_in groups.segments (group_at groups g) < 128
-few_slots groups g are = few groups.segments (group_at groups g) (are.formed g) are.segments.1 where
-  few : (s : ℕ) (o : Option Group) → ((x : Group) → o ≡ Some x → IsFormed x.members) → s ≤ 8 → slots_in s o < 128
-  few s None formed short = omega arith
-  few s (Some x) formed short = slot_count_small x.class (length x.members) s (formed x refl).few short
-
 -- a group's slots are all that there are of its numbers
 pub group_over : (groups : Groups) (start now : Cells) (low g count : ℕ) (M T : ℕ → ℕ) → count ≡ slots_in groups.segments (group_at groups g) → count < 128
     → IsUnderway groups start now low (128 * g + count) M T → IsUnderway groups start now low (128 * g + 128) M T
@@ -240,11 +233,39 @@ is_slot groups g index h few =
     let at : index ≡ (128 * g + index) % 128 = omega (arith, few) in
     subst (λ x. x < slots_in groups.segments (group_at groups ((128 * g + index) / 128))) at (subst (λ x. index < slots_in groups.segments (group_at groups x)) group h)
 
--- what a look at a slot of the group returned, by the groups at the start
-pub looked_at : (groups before after : Groups) (c new : Cells) (blocks slot : ℕ) (result out : Result (Option Record) ScanFault) → before ≡ groups → blocks ≡ groups.blocks → after ≡ before → result ≡ out
-    → Looked before after c new blocks slot result → Looked groups groups c new groups.blocks slot out
-looked_at groups before after c new blocks slot result out one many two is facts =
-    subst (λ n. Looked groups groups c new n slot out) many (looked groups before after c new blocks slot out one two (subst (λ x. Looked before after c new blocks slot x) is facts))
+-- what a look at a header that was read returned, over the reads of its group
+pub look_of : (groups after : Groups) (c new : Cells) (blocks slot : ℕ) (header : List ℕ) (result out : Result (Option Record) ScanFault) → blocks ≡ groups.blocks → after ≡ groups → result ≡ out
+    → (AreSound groups c → header_of groups c slot ≡ Some header)
+    → ((bytes : Bytes) → front HEADER_BYTES (bytes slot) ≡ Some header → IfOk result (Tells blocks bytes slot))
+    → ((bytes left : Bytes) → front HEADER_BYTES (bytes slot) ≡ Some header → IfErr result (IsFaultAt blocks bytes left slot))
+    → (AreSound groups c → KeepsUnits groups c new) → (AreSound groups c → AreSound after new) → Looked groups groups c new groups.blocks slot out
+look_of groups after c new blocks slot header result out many same is read ok err units sound =
+    subst (λ r. Looked groups groups c new groups.blocks slot r) is (subst (λ n. Looked groups groups c new n slot result) many (
+      λ s. ok (unit_of groups c) (read s),
+      λ s. err (unit_of groups c) (unit_of groups new) (read s),
+      units,
+      λ s. subst (λ x. AreSound x new) same (sound s),
+    ))
+
+-- and of a slot that is gone
+pub gone_of : (groups after : Groups) (c new : Cells) (slot : ℕ) → after ≡ groups → unit_of after new slot ≡ None → (AreSound groups c → KeepsUnits groups c new) → (AreSound groups c → AreSound after new)
+    → Looked groups groups c new groups.blocks slot (Err (Gone slot))
+gone_of groups after c new slot same none units sound = (
+  λ s. tt,
+  λ s. (refl, subst (λ x. unit_of x new slot ≡ None) same none),
+  units,
+  λ s. subst (λ x. AreSound x new) same (sound s),
+)
+
+-- what was noted of headers, over what is left after their group's reads
+pub read_on : (groups after : Groups) (start c new : Cells) (low s : ℕ) (M T : ℕ → ℕ) → after ≡ groups → (AreSound groups c → KeepsUnits groups c new) → (AreSound groups c → AreSound after new)
+    → IsUnderway groups start c low s M T → IsUnderway groups start new low s M T
+read_on groups after start c new low s M T same units sound was = record {
+  sound = subst (λ x. AreSound x new) same (sound was.sound);
+  keeps = λ slot v e. was.keeps slot v (units was.sound slot v e);
+  fine = was.fine;
+  noted = was.noted;
+}
 
 -- the slots of a group, counted by the table of the groups
 pub slot_in : (groups table : Groups) (g index count : ℕ) → table ≡ groups → count ≡ slots_in table.segments (group_at table g) → count < 128 → index < count → IsSlot groups (128 * g + index)

@@ -1,13 +1,12 @@
-// The header of one slot.
-ghost use Rattle.std.specs.Prelude.{◌≡◌, ◌*◌, length, IfOk, IfErr, Ok};
+// What a header holds at its slot.
+ghost use Rattle.std.specs.Prelude.{◌≡◌, IfOk, IfErr, Ok, Some};
+ghost use Rattle.extents.specs.declared.shape.TheConstants.{HEADER_BYTES};
 ghost use Rattle.extents.specs.declared.header.Header.{Header};
 ghost use Rattle.extents.specs.Header.{Spells, record_in};
-ghost use Rattle.extent_groups.specs.Stores.{unit_bytes, unit_of, AreSound, KeepsUnits};
-ghost use Rattle.array_parts.specs.Slots.{IsSlot};
-ghost use Rattle.header_scan.specs.Faults.{IsFine, IsRanged, Tells, IsFaultAt, IsMisfit};
+ghost use Rattle.extent_groups.specs.Cells.{front};
+ghost use Rattle.header_scan.specs.Faults.{Bytes, IsFine, IsRanged, Tells, IsFaultAt, IsMisfit};
 
 use crate::ScanFault;
-use array_parts::Units;
 use extents::{HEADER_BYTES, Header, HeaderFault};
 use map_join::Record;
 
@@ -44,30 +43,17 @@ fn judge(
     Ok(Some(record))
 }
 
-/// Reads what the header of a slot holds.
-pub(crate) fn look<U: Units>(
-    units: &mut U,
+/// What the header of a slot holds, refused where that isn't one of the array's blocks in this very slot. Said of any units in
+/// which the slot's begins with these bytes.
+pub(crate) fn look(
+    header: &[u8; HEADER_BYTES],
     slot: u16,
     blocks: u32,
-    scratch: &mut [u8],
 ) -> Result<Option<Record>, ScanFault>
-    requires fits { U.fits units.old }
-    requires slot { IsSlot (U.groups units.old) slot }
-    requires scratch { length scratch.old ≡ 2 * unit_bytes (U.groups units.old) }
-    ensures ok { AreSound (U.groups units.old) (U.cells units.old) → IfOk result (Tells blocks (unit_of (U.groups units.old) (U.cells units.old)) slot) }
-    ensures err { AreSound (U.groups units.old) (U.cells units.old)
-        → IfErr result (IsFaultAt blocks (unit_of (U.groups units.old) (U.cells units.old)) (unit_of (U.groups units.new) (U.cells units.new)) slot) }
+    ensures ok { (bytes : Bytes) → front HEADER_BYTES (bytes slot) ≡ Some header.now → IfOk result (Tells blocks bytes slot) }
+    ensures err { (bytes left : Bytes) → front HEADER_BYTES (bytes slot) ≡ Some header.now → IfErr result (IsFaultAt blocks bytes left slot) }
     ensures inside { IfOk result (IsFine blocks slot) }
     ensures ranges { IfOk result IsRanged }
-    ensures units { AreSound (U.groups units.old) (U.cells units.old) → KeepsUnits (U.groups units.old) (U.cells units.old) (U.cells units.new) }
-    ensures sound { AreSound (U.groups units.old) (U.cells units.old) → AreSound (U.groups units.new) (U.cells units.new) }
-    ensures groups { U.groups units.new ≡ U.groups units.old }
-    ensures fits { U.fits units.new }
-    ensures leaves { U.leaves units.old units.new }
 {
-    let mut header = [0; HEADER_BYTES];
-    match units.header(slot, &mut header, scratch) {
-        Ok(()) => judge(told_by(&header), slot, blocks),
-        Err(_) => Err(ScanFault::Gone(slot)),
-    }
+    judge(told_by(header), slot, blocks)
 }

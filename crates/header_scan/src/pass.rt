@@ -15,6 +15,7 @@ use crate::keys::Keys;
 use crate::look::look;
 use array_parts::Units;
 use extent_groups::{GROUPS, GroupTable, SLOTS};
+use extents::HEADER_BYTES;
 use map_join::BlockMap;
 use std::alloc::Global;
 
@@ -27,19 +28,21 @@ fn count_slots(groups: &GroupTable, group: u16) -> u16
     groups.slots_of(group)
 }
 
-/// Notes the headers of the slots of one group, with a buffer of two units' length.
+/// Notes the headers of the slots of one group, read in one call, with buffers for 128 headers and of two units' length.
 pub(crate) fn scan_group<U: Units>(
     alloc: Global,
     units: &mut U,
     group: u16,
     blocks: u32,
     found: &mut Found,
+    headers: &mut [[u8; HEADER_BYTES]],
     scratch: &mut [u8],
 ) -> Result<(), ScanFault>
     requires fits { U.fits units.old }
     requires group { group < 512 }
     requires blocks { blocks ≡ (U.groups units.old).blocks }
     requires many { length found.old.newest ≡ blocks }
+    requires headers { length headers.old ≡ 128 }
     requires scratch { length scratch.old ≡ 2 * unit_bytes (U.groups units.old) }
     ensures many { OnOk result (length found.new.newest ≡ blocks) }
     ensures ok { (low : ℕ) (start : Cells) → low ≤ 128 * group
@@ -52,14 +55,23 @@ pub(crate) fn scan_group<U: Units>(
         → OnOk result (ArePlaced (U.groups units.old) (128 * group + 128) (key_in found.new.newest)) }
     ensures left { WasOnlyRead U.groups U.cells U.fits U.leaves units.old units.new }
 {
-    for index in 0..count_slots(units.groups(), group) {
-        let told = match look(units, SLOTS * group + index, blocks, scratch) {
+    let count = count_slots(units.groups(), group);
+    if count == 0 {
+        return Ok(());
+    }
+    let headers = &mut headers[..count as usize];
+    let read = units.headers(group, headers, scratch);
+    for index in 0..read {
+        let told = match look(&headers[index as usize], SLOTS * group + index, blocks) {
             Ok(told) => told,
             Err(fault) => return Err(fault),
         };
         if let Some(told) = told {
             found.note(alloc, told)?;
         }
+    }
+    if read < count {
+        return Err(ScanFault::Gone(SLOTS * group + read));
     }
     Ok(())
 }
@@ -86,13 +98,22 @@ fn note_groups<U: Units>(
     let shape = units.groups().shape();
     let blocks = shape.blocks;
     let newest = Keys::new(alloc, blocks)?;
+    let mut headers = [[0; HEADER_BYTES]; SLOTS as usize];
     let mut scratch = vec![in alloc; 0; 2 * shape.unit_bytes()]?;
     let mut found = Found {
         newest,
         twins: BlockMap::new(alloc),
     };
     for group in first..end {
-        match scan_group(alloc, units, group, blocks, &mut found, &mut scratch) {
+        match scan_group(
+            alloc,
+            units,
+            group,
+            blocks,
+            &mut found,
+            &mut headers,
+            &mut scratch,
+        ) {
             Ok(()) => {}
             Err(fault) => return Err(fault),
         }

@@ -10,11 +10,11 @@ ghost use Rattle.extent_groups.specs.Cells.{cells, front, front_units};
 ghost use Rattle.extent_groups.specs.Units.{Pair, unit_at};
 ghost use Rattle.extent_groups.specs.Calls.{HaveFronts, HaveRoom, IsPlace, if_ok, NoPlace, SameBut, KeepsDrives, FadesAt};
 ghost use Rattle.extent_groups.specs.Stores.{unit_bytes, unit_of, header_of, IsBuffer, AreSound, IsSlotOf, AreDrives, KeepsUnits};
-ghost use Rattle.extent_groups.specs.Stores.{Wrote, NamesGone, IsOwnOf, AreCopies, HasMemberOn};
+ghost use Rattle.extent_groups.specs.Stores.{Wrote, NamesGone, IsOwnOf, AreCopies, HasMemberOn, IsGroupOf, ReadLeaves};
 ghost use Rattle.extent_groups.specs.declared.place.Place.{Place};
 ghost use Rattle.extent_groups.specs.Planned.{after, WroteByPlan};
 
-use extent_groups::{GroupTable, Place, StoreRefusal, read_front};
+use extent_groups::{GroupTable, Member, Place, SLOTS, StoreRefusal, read_front};
 use extents::Drive;
 pub use planning::plan;
 
@@ -23,25 +23,22 @@ pub use planning::plan;
 #[inline(always)]
 fn read_fronts<D: Drive>(
     groups: &GroupTable,
+    members: &[Member],
     drives: &mut [D],
     slot: u16,
     buffer: &mut [u8],
     scratch: &mut [u8],
 ) -> bool
     requires slot { IsSlotOf Mirrored groups.now slot }
+    requires members { IsGroupOf groups.now (slot / 128) members.now }
     requires drives { AreDrives D.units groups.now drives.old }
     requires size { length buffer.old ≤ unit_bytes groups.now }
     requires scratch { IsBuffer (unit_bytes groups.now) (length buffer.old) (length scratch.old) }
     ensures front { front (length buffer.old) (unit_of groups.now (cells D.units D.lost drives.new) slot) ≡ if_ok result buffer.new }
     ensures whole { length buffer.old ≡ unit_bytes groups.now → unit_of groups.now (cells D.units D.lost drives.new) slot ≡ if_ok result buffer.new }
-    ensures units { AreSound groups.now (cells D.units D.lost drives.old)
-        → KeepsUnits groups.now (cells D.units D.lost drives.old) (cells D.units D.lost drives.new) }
-    ensures sound { AreSound groups.now (cells D.units D.lost drives.old) → AreSound groups.now (cells D.units D.lost drives.new) }
-    ensures touched { KeepsDrives D.units D.lost D.failures NoPlace drives.old drives.new }
-    ensures elsewhere { SameBut (HasMemberOn groups.now (slot / 128)) drives.old drives.new }
-    ensures drives { AreDrives D.units groups.now drives.new }
+    ensures leaves { ReadLeaves D.units D.lost D.failures groups.now (slot / 128) drives.old drives.new }
 {
-    let (first, second) = groups.pair_of(slot);
+    let (first, second) = groups.pair_among(members, slot);
     read_pair(drives, first, second, buffer, scratch)
 }
 
@@ -89,9 +86,16 @@ pub fn read<D: Drive>(
     ensures elsewhere { SameBut (HasMemberOn groups.now (slot / 128)) drives.old drives.new }
     ensures drives { AreDrives D.units groups.now drives.new }
 {
-    read_fronts(groups, drives, slot, unit, &mut [])
-        .then_some(())
-        .ok_or(StoreRefusal::Gone(slot))
+    read_fronts(
+        groups,
+        groups.members(slot / SLOTS),
+        drives,
+        slot,
+        unit,
+        &mut [],
+    )
+    .then_some(())
+    .ok_or(StoreRefusal::Gone(slot))
 }
 
 /// Reads the header of a slot's effective unit alone, with a buffer of two units' length; refused where that unit's read is.
@@ -115,10 +119,39 @@ pub fn read_header<D: Drive>(
     ensures elsewhere { SameBut (HasMemberOn groups.now (slot / 128)) drives.old drives.new }
     ensures drives { AreDrives D.units groups.now drives.new }
 {
+    read_header_among(
+        groups,
+        groups.members(slot / SLOTS),
+        drives,
+        slot,
+        header,
+        scratch,
+    )
+    .then_some(())
+    .ok_or(StoreRefusal::Gone(slot))
+}
+
+/// Reads the header of a slot's effective unit alone, by the members of its group, for a caller that reads many slots of one
+/// group; false where both copies' drives are lost. Takes a buffer of two units' length. Inlined, so that the members stay found.
+#[inline(always)]
+pub fn read_header_among<D: Drive>(
+    groups: &GroupTable,
+    members: &[Member],
+    drives: &mut [D],
+    slot: u16,
+    header: &mut [u8],
+    scratch: &mut [u8],
+) -> bool
+    requires slot { IsSlotOf Mirrored groups.now slot }
+    requires members { IsGroupOf groups.now (slot / 128) members.now }
+    requires drives { AreDrives D.units groups.now drives.old }
+    requires header { length header.old ≡ HEADER_BYTES }
+    requires scratch { length scratch.old ≡ 2 * unit_bytes groups.now }
+    ensures header { header_of groups.now (cells D.units D.lost drives.new) slot ≡ if_ok result header.new }
+    ensures leaves { ReadLeaves D.units D.lost D.failures groups.now (slot / 128) drives.old drives.new }
+{
     let (whole, _part) = scratch.split_at_mut(scratch.len() / 2);
-    read_fronts(groups, drives, slot, header, whole)
-        .then_some(())
-        .ok_or(StoreRefusal::Gone(slot))
+    read_fronts(groups, members, drives, slot, header, whole)
 }
 
 /// Writes the unit of a slot to the copies whose drives are there; refused where both are lost.

@@ -1,14 +1,13 @@
 -- The ways of a write: unit and parity by difference, the unit alone, the parity alone; and the exclusive or of the other members.
-use Rattle.std.specs.Prelude.{◌≡◌, ◌≢◌, ℕ, Bool, ◌/◌, ◌<◌, ◌≤◌, ◌⊎◌, Option, Some, None, List, length, slice_get, replicate}
-use Rattle.extents.specs.Failures.{Failures}
+use Rattle.std.specs.Prelude.{◌≡◌, ◌≢◌, ℕ, ◌/◌, ◌<◌, ◌≤◌, ◌⊎◌, Option, Some, None, List, length, slice_get, replicate}
 use Rattle.extents.specs.Sizes.{extent_units}
 use Rattle.extent_groups.specs.declared.place.Place.{Place}
 use Rattle.extent_groups.specs.Groups.{Groups, members_of}
 use Rattle.extent_groups.specs.Geometry.{parity_of}
-use Rattle.extent_groups.specs.Cells.{Cells, cells, held}
+use Rattle.extent_groups.specs.Cells.{Cells, held}
 use Rattle.extent_groups.specs.Units.{InStripe, plus, add, put, total, row_of, unit_at, places_of}
-use Rattle.extent_groups.specs.Calls.{AreSized, HaveFronts, FadesAt, IsPlace, NoPlace, SameBut, KeepsDrives}
-use Rattle.extent_groups.specs.Stores.{unit_bytes, AreSound, AreDrives, KeepsUnits, HasMemberOn}
+use Rattle.extent_groups.specs.Calls.{AreSized, HaveFronts, FadesAt, IsPlace}
+use Rattle.extent_groups.specs.Stores.{unit_bytes}
 
 -- the places at an offset of all members
 abbrev pub row_at : Groups → ℕ → ℕ → List Place
@@ -74,11 +73,3 @@ pub record ParityWritten (bytes : ℕ) (c new : Cells) (row : List Place) (i p :
   pub there : (rest : List ℕ) × (total bytes (length row) (bare bytes (row_of c row) i p) ≡ Some rest) × (row_of new row p ≡ Some (plus unit rest))
   pub beside : (x : Place) → (slice_get row p ≡ Some x → ⊥) → FadesAt c new x
   pub elsewhere : (x y : Place) → slice_get row p ≡ Some y → x.drive ≢ y.drive → held new x ≡ held c x
-
--- what a read of a slot leaves: units that are sound and hold what they held, and the drives outside its group as they were
-pub record ReadLeaves {D : Type 0} (units : D → List (List ℕ)) (lost : D → Bool) (failures : D → Failures) (groups : Groups) (group : ℕ) (old new : List D) : Type 0 where
-  pub units_kept : AreSound groups (cells units lost old) → KeepsUnits groups (cells units lost old) (cells units lost new)
-  pub sound : AreSound groups (cells units lost old) → AreSound groups (cells units lost new)
-  pub touched : KeepsDrives units lost failures NoPlace old new
-  pub elsewhere : SameBut (HasMemberOn groups group) old new
-  pub drives : AreDrives units groups new

@@ -16,13 +16,12 @@ ghost use Rattle.extent_groups.specs.declared.class.Class.TheVariants.{Parity};
 ghost use Rattle.extent_groups.specs.Cells.{cells, front};
 ghost use Rattle.extent_groups.specs.Calls.{if_ok, NoPlace, SameBut, KeepsDrives, FadesAt};
 ghost use Rattle.extent_groups.specs.Stores.{unit_bytes, unit_of, header_of, IsBuffer, AreSound, IsSlotOf};
-ghost use Rattle.extent_groups.specs.Stores.{AreDrives, KeepsUnits, Wrote, NamesGone, IsOwnOf, HasMemberOn};
+ghost use Rattle.extent_groups.specs.Stores.{AreDrives, KeepsUnits, Wrote, NamesGone, IsOwnOf, HasMemberOn, IsGroupOf, ReadLeaves};
 ghost use Rattle.extent_groups.specs.declared.place.Place.{Place};
 ghost use Rattle.extent_groups.specs.Planned.{WroteByPlan};
-ghost use Rattle.parity_store.specs.Ways.{ReadLeaves};
 
 pub use exclusive_or::xor_into;
-use extent_groups::{GroupTable, SLOTS, StoreRefusal};
+use extent_groups::{GroupTable, Member, SLOTS, StoreRefusal};
 use extents::Drive;
 pub use listing::plan;
 pub use parity::read_parity;
@@ -34,6 +33,7 @@ pub use way::Way;
 #[inline(always)]
 fn read_fronts<D: Drive>(
     groups: &GroupTable,
+    members: &[Member],
     drives: &mut [D],
     slot: u16,
     buffer: &mut [u8],
@@ -41,6 +41,7 @@ fn read_fronts<D: Drive>(
     scratch: &mut [u8],
 ) -> bool
     requires slot { IsSlotOf Parity groups.now slot }
+    requires members { IsGroupOf groups.now (slot / 128) members.now }
     requires drives { AreDrives D.units groups.now drives.old }
     requires size { length buffer.old ≤ unit_bytes groups.now }
     requires part { length part.old ≡ length buffer.old }
@@ -49,8 +50,9 @@ fn read_fronts<D: Drive>(
     ensures whole { length buffer.old ≡ unit_bytes groups.now → unit_of groups.now (cells D.units D.lost drives.new) slot ≡ if_ok result buffer.new }
     ensures leaves { ReadLeaves D.units D.lost D.failures groups.now (slot / 128) drives.old drives.new }
 {
-    let at = groups.row_of(slot);
-    stripe::read_stripe(groups, drives, slot / SLOTS, &at, buffer, part, scratch)
+    let at = groups.row_among(members, slot);
+    let group = slot / SLOTS;
+    stripe::read_stripe(groups, members, drives, group, &at, buffer, part, scratch)
 }
 
 /// Reads the effective unit of a slot, with two buffers of a unit's length; refused where the unit's drive and another member's are lost.
@@ -75,7 +77,9 @@ pub fn read<D: Drive>(
     ensures drives { AreDrives D.units groups.now drives.new }
 {
     let size = unit.len();
-    read_fronts(groups, drives, slot, unit, &mut scratch[..size], &mut [])
+    let members = groups.members(slot / SLOTS);
+    let part = &mut scratch[..size];
+    read_fronts(groups, members, drives, slot, unit, part, &mut [])
         .then_some(())
         .ok_or(StoreRefusal::Gone(slot))
 }
@@ -101,11 +105,49 @@ pub fn read_header<D: Drive>(
     ensures elsewhere { SameBut (HasMemberOn groups.now (slot / 128)) drives.old drives.new }
     ensures drives { AreDrives D.units groups.now drives.new }
 {
+    read_header_among(
+        groups,
+        groups.members(slot / SLOTS),
+        drives,
+        slot,
+        header,
+        scratch,
+    )
+    .then_some(())
+    .ok_or(StoreRefusal::Gone(slot))
+}
+
+/// Reads the header of a slot's effective unit alone, by the members of its group, for a caller that reads many slots of one
+/// group; false where the unit's drive and another member's are lost. Takes a buffer of two units' length. Inlined, so that the
+/// members stay found.
+#[inline(always)]
+pub fn read_header_among<D: Drive>(
+    groups: &GroupTable,
+    members: &[Member],
+    drives: &mut [D],
+    slot: u16,
+    header: &mut [u8],
+    scratch: &mut [u8],
+) -> bool
+    requires slot { IsSlotOf Parity groups.now slot }
+    requires members { IsGroupOf groups.now (slot / 128) members.now }
+    requires drives { AreDrives D.units groups.now drives.old }
+    requires header { length header.old ≡ HEADER_BYTES }
+    requires scratch { length scratch.old ≡ 2 * unit_bytes groups.now }
+    ensures header { header_of groups.now (cells D.units D.lost drives.new) slot ≡ if_ok result header.new }
+    ensures leaves { ReadLeaves D.units D.lost D.failures groups.now (slot / 128) drives.old drives.new }
+{
     let (whole, part) = scratch.split_at_mut(scratch.len() / 2);
     let size = header.len();
-    read_fronts(groups, drives, slot, header, &mut part[..size], whole)
-        .then_some(())
-        .ok_or(StoreRefusal::Gone(slot))
+    read_fronts(
+        groups,
+        members,
+        drives,
+        slot,
+        header,
+        &mut part[..size],
+        whole,
+    )
 }
 
 /// Writes the unit of a slot and its parity, as far as their drives are there, with two buffers of a unit's length; refused

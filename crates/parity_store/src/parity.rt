@@ -45,6 +45,7 @@ pub fn read_parity<D: Drive>(
     let size = unit.len();
     read_stripe(
         groups,
+        groups.members(group),
         drives,
         group,
         &at,

@@ -3,11 +3,11 @@ ghost use Rattle.std.specs.Prelude.{◌≡◌, ◌<◌, length, replicate};
 ghost use Rattle.extent_groups.specs.Cells.{cells, front_units};
 ghost use Rattle.extent_groups.specs.Calls.{if_ok, HaveRoom, NoPlace, SameBut, KeepsDrives};
 ghost use Rattle.extent_groups.specs.Units.{InStripe, unit_at};
-ghost use Rattle.extent_groups.specs.Stores.{HasMemberOn};
+ghost use Rattle.extent_groups.specs.Stores.{HasMemberOn, IsGroupOf};
 ghost use Rattle.parity_store.specs.Ways.{row_at, IsReadable};
 
 use crate::others::{Others, add_others};
-use extent_groups::{GroupTable, Stripe, read_front};
+use extent_groups::{GroupTable, Member, Stripe, read_front};
 use extents::Drive;
 
 /// Makes all bytes zero.
@@ -25,6 +25,7 @@ fn clear(unit: &mut [u8])
 #[inline(always)]
 pub(crate) fn read_stripe<D: Drive>(
     groups: &GroupTable,
+    members: &[Member],
     drives: &mut [D],
     group: u16,
     at: &Stripe,
@@ -32,6 +33,7 @@ pub(crate) fn read_stripe<D: Drive>(
     part: &mut [u8],
     scratch: &mut [u8],
 ) -> bool
+    requires members { IsGroupOf groups.now group members.now }
     requires member { at.now.member < length (row_at groups.now group at.now.offset) }
     requires readable { IsReadable D.units groups.now group at.now.offset (length front.old) drives.old }
     requires part { length part.old ≡ length front.old }
@@ -41,7 +43,7 @@ pub(crate) fn read_stripe<D: Drive>(
     ensures touched { KeepsDrives D.units D.lost D.failures NoPlace drives.old drives.new }
     ensures elsewhere { SameBut (HasMemberOn groups.now group) drives.old drives.new }
 {
-    let home = groups.place(group, at.member, at.offset);
+    let home = groups.place_among(members, at.member, at.offset);
     if read_front(drives, home, front, scratch) {
         return true;
     }

@@ -397,15 +397,3 @@ marked_all {C} names claims index marks end before slot low =
   where
     decides : (n : ℕ) → IsTrue (nat_lt 0 n) ↔ (0 < n)
     decides n = grind (arith, nat_tests)
-
--- each slot that is wanted has a claim, those past the last too
-pub claimed_all : {C : Type 0} (names : C → ℕ) (claims : List C) (wanted : List (Option ℕ)) (end : ℕ) → length wanted ≡ 65536 → 65536 ≤ end
-    → ((slot : ℕ) → slot < end → IsClaimed names claims wanted slot) → (slot : ℕ) → IsClaimed names claims wanted slot
-claimed_all {C} names claims wanted end many far below slot = go (slot_cases slot)
-  where
-    slot_cases : (s : ℕ) → (s < end) ⊎ (end ≤ s)
-    slot_cases s = grind (arith)
-
-    go : (slot < end) ⊎ (end ≤ slot) → IsClaimed names claims wanted slot
-    go (inl h) = below slot h
-    go (inr h) = λ b some. absurd (let p = get_or_past wanted slot None (omega (arith, many, far, h)) in cc)

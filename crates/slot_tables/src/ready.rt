@@ -118,12 +118,13 @@ pub fn prepare<D: Drive, C: Hold>(
     let Ok(wanted) = blocks_by_slot(alloc, &log) else {
         return Err(NotAdopted::Memory);
     };
-    match first_unclaimed(alloc, &wanted, claims) {
+    let slots = places_for(&parts.groups);
+    match first_unclaimed(alloc, &wanted, claims, slots) {
         Ok(None) => {}
         Ok(Some(slot)) => return Err(NotAdopted::NoClaim(slot)),
         Err(_) => return Err(NotAdopted::Memory),
     }
-    match new_room(alloc, &parts.shape, places_for(&parts.groups), claims.len()) {
+    match new_room(alloc, &parts.shape, slots, claims.len()) {
         Ok(room) => Ok(Ready {
             log,
             wanted,

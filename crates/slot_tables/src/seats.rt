@@ -50,18 +50,21 @@ fn claimed<C: Hold>(alloc: Global, claims: &[C]) -> Result<Vec<bool>, AllocError
     Ok(marks)
 }
 
-// The lowest slot that is wanted and of which there is no claim.
+// The lowest slot that is wanted and of which there is no claim. None is wanted from `end` on, where no group is made.
 pub(crate) fn first_unclaimed<C: Hold>(
     alloc: Global,
     wanted: &[Option<u32>],
     claims: &[C],
+    end: usize,
 ) -> Result<Option<u16>, AllocError>
-    requires { length wanted.now ≡ 65536 }
+    requires many { length wanted.now ≡ 65536 }
+    requires end { end ≤ 65536 }
+    requires inside { (slot b : ℕ) → wanted_at wanted.now slot ≡ Some b → slot < end }
     ensures { IfOk result (λ found. MatchOption found ((slot : ℕ) → IsClaimed C.names claims.now wanted.now slot)
         (IsLowestUnclaimed C.names claims.now wanted.now)) }
 {
     let marks = claimed(alloc, claims)?;
-    for slot in 0..SLOTS {
+    for slot in 0..end {
         if wanted[slot].is_some() && !marks[slot] {
             return Ok(Some(slot as u16));
         }

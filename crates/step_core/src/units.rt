@@ -6,6 +6,7 @@ ghost use Rattle.disk_array.specs.Laws.{world_itself, world_more};
 use crate::world::World;
 use array_parts::Units;
 use extent_groups::GroupTable;
+use extents::HEADER_BYTES;
 use flat_machine::Refusal;
 
 impl Units for World {
@@ -27,6 +28,15 @@ impl Units for World {
 
     fn header(&mut self, slot: u16, header: &mut [u8], scratch: &mut [u8]) -> Result<(), Refusal> {
         self.array.header(slot, header, scratch)
+    }
+
+    fn headers(
+        &mut self,
+        group: u16,
+        headers: &mut [[u8; HEADER_BYTES]],
+        scratch: &mut [u8],
+    ) -> u16 {
+        self.array.headers(group, headers, scratch)
     }
 
     ghost none = { λ w. world_itself w };

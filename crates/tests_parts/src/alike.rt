@@ -251,6 +251,26 @@ impl<D: Tried> Trial<D> {
         drive.lose_it();
     }
 
+    /// Whether so many headers of a group are read in one call, each as by itself.
+    fn reads_headers(&mut self, rt: &impl Abort, group: u16, wanted: u16) -> bool {
+        assert!(rt; self.is_ready());
+        let count = self.parts.groups.slots_of(group);
+        assert!(rt; group < 2 && count <= 8);
+        let mut buffers = [[1; HEADER_BYTES]; 8];
+        let headers = &mut buffers[..count as usize];
+        let read = self.parts.headers(group, headers, &mut self.scratch);
+        if read != wanted {
+            return false;
+        }
+        for index in 0..read {
+            match self.header(rt, 128 * group + index) {
+                Ok(header) if header == buffers[index as usize] => {}
+                _ => return false,
+            }
+        }
+        true
+    }
+
     /// Whether these slots are gone, and the others hold what they were given last.
     fn are_gone(&mut self, rt: &impl Abort, gone: &[u16]) -> bool {
         for slot in SLOTS {
@@ -263,8 +283,24 @@ impl<D: Tried> Trial<D> {
                 return false;
             }
         }
-        true
+        self.reads_headers(rt, 0, count_before(gone, 0))
+            && self.reads_headers(rt, 1, count_before(gone, 1))
     }
+}
+
+/// How many slots of a group come before its first one that is gone.
+fn count_before(gone: &[u16], group: u16) -> u16 {
+    let mut count = 0;
+    for slot in SLOTS {
+        if slot / 128 != group {
+            continue;
+        }
+        if gone.contains(&slot) {
+            return count;
+        }
+        count = count.saturating_add(1);
+    }
+    count
 }
 
 /// Loses each drive at each of its first calls.

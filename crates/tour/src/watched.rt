@@ -1,6 +1,7 @@
 // Units whose headers are counted as they are read.
 use array_parts::Units;
 use extent_groups::GroupTable;
+use extents::HEADER_BYTES;
 use step_core::Refusal;
 
 /// Units, and how many of their headers were asked for.
@@ -42,6 +43,17 @@ impl<U: Units> Units for Watched<U> {
     fn header(&mut self, slot: u16, header: &mut [u8], scratch: &mut [u8]) -> Result<(), Refusal> {
         self.headers = self.headers.saturating_add(1);
         self.units.header(slot, header, scratch)
+    }
+
+    fn headers(
+        &mut self,
+        group: u16,
+        headers: &mut [[u8; HEADER_BYTES]],
+        scratch: &mut [u8],
+    ) -> u16 {
+        let read = self.units.headers(group, headers, scratch);
+        self.headers = self.headers.saturating_add(u32::from(read));
+        read
     }
 
     ghost none = { λ w. U.none w.units };

@@ -4,8 +4,19 @@ use Rattle.map_join.specs.Maps.{at}
 use Rattle.extents.specs.declared.shape.TheConstants.{HEADER_BYTES}
 use Rattle.slot_tables.specs.Kept.{HavePlaces}
 use Rattle.slot_tables.specs.Claims.{AreKeys, AreWanted, HasRoom, IsClaimed, IsLowestUnclaimed}
-use Rattle.slot_tables.proofs.Adoptions.{all_keys, unclaimed}
+use Rattle.slot_tables.proofs.Adoptions.{all_keys, unclaimed, wanted_inside}
 use Rattle.slot_tables.proofs.ready.prepare.Goals as goal
+
+pub first_unclaimed-requires-clause-inside : goal.first_unclaimed-requires-clause-inside
+first_unclaimed-requires-clause-inside g c =
+    let keys : AreKeys c.args.parts.now.groups.blocks (at c.args.map.now) c.in-Ok-keys_of.keys.items = subst (λ n. AreKeys n (at c.args.map.now) c.in-Ok-keys_of.keys.items) c.requires.fit.shape.of_blocks c.in-Ok-keys_of.ensures in
+    rw c.deref-2.ensures.value
+    (wanted_inside c.args.parts.now.groups (at c.args.map.now) c.in-Ok.log.items c.in-Ok-blocks_by_slot.wanted.items c.places_for-slots.result c.in-Ok.ensures.list
+    (all_keys c.args.parts.now.groups (at c.args.map.now) c.in-Ok-keys_of.keys.items c.requires.places keys)
+    (subst (λ (rs : List Record). AreWanted rs c.in-Ok-blocks_by_slot.wanted.items) c.deref.ensures.value c.in-Ok-blocks_by_slot.ensures) c.requires.places c.places_for-slots.ensures)
+
+pub first_unclaimed-requires-clause-end : goal.first_unclaimed-requires-clause-end
+first_unclaimed-requires-clause-end g c = c.places_for-slots.ensures.most
 
 pub returns-in-Ok-Some-clause-err : goal.returns-in-Ok-Some-clause-err
 returns-in-Ok-Some-clause-err g c =
@@ -23,5 +34,5 @@ returns-in-Ok-new_room-clause-ok g c = record {
   keys = subst (λ n. AreKeys n (at c.args.map.now) c.in-Ok-keys_of.keys.items) c.requires.fit.shape.of_blocks c.in-Ok-keys_of.ensures;
   room = subst (λ n. HasRoom (HEADER_BYTES + n) (vec_len c.in-Ok-new_room.room.places) (length c.args.claims.now) c.in-Ok-new_room.room) c.requires.fit.shape.of_payload
       (subst (λ n. HasRoom (HEADER_BYTES + c.args.parts.now.shape.payload) n (length c.args.claims.now) c.in-Ok-new_room.room) (sym c.in-Ok-new_room.ensures.places) c.in-Ok-new_room.ensures);
-  places = subst (HavePlaces c.args.parts.now.groups) (sym c.in-Ok-new_room.ensures.places) c.places_for.ensures;
+  places = subst (HavePlaces c.args.parts.now.groups) (sym c.in-Ok-new_room.ensures.places) c.places_for-slots.ensures;
 }

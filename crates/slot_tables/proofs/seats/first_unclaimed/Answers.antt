@@ -1,5 +1,5 @@
-use Rattle.slot_tables.proofs.Seated.{claimed_all}
+use Rattle.std.proofs.Common.{arith}
 use Rattle.slot_tables.proofs.seats.first_unclaimed.Goals as goal
 
 pub returns : goal.returns
-returns g c = claimed_all g.C.Hold.names c.args.claims.now c.args.wanted.now c.loop-slot.slot c.requires c.loop-slot-test.false c.loop-slot.invariant
+returns g c = λ slot b wants. c.loop-slot.invariant slot (let low = c.requires.inside slot b wants in let over = c.loop-slot-test.false in omega (arith, low, over)) b wants

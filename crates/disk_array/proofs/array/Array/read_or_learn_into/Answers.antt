@@ -11,20 +11,20 @@ use Rattle.slot_tables.specs.Represents.{ShowsArray}
 use Rattle.slot_tables.proofs.Newest.{newest_is}
 use Rattle.disk_array.specs.Reads.{Lesson}
 use Rattle.disk_array.proofs.Learnings.{data_seen, learned_here, learned_there, unlearned_ahead, unlearned_here, unlearned_there, unlearned_refused}
-use Rattle.disk_array.proofs.array.Array.read_or_learn.Goals as goal
+use Rattle.disk_array.proofs.array.Array.read_or_learn_into.Goals as goal
 
 pub returns-in-Err-clause-flat : goal.returns-in-Err-clause-flat
 returns-in-Err-clause-flat g c F shows =
     let e = c.in-Err.ensures.err in unlearned_ahead (IsBehind F c.args.asked) c.args.self.now F c.args.asked c.in-Err.refusal shows e.0 e.1
 
-pub returns-in-Err-no_payload-clause-flat : goal.returns-in-Err-no_payload-clause-flat
-returns-in-Err-no_payload-clause-flat g c F shows =
+pub returns-in_default-clause-flat : goal.returns-in_default-clause-flat
+returns-in_default-clause-flat g c F shows =
     let newest = c.in-Ok.ensures.ok in (c.in-Ok.newest, newest_is c.args.self.now F c.args.asked.block _ shows newest.0, newest.1)
 
 pub returns-in-Ok-Here-clause-flat : goal.returns-in-Ok-Here-clause-flat
 returns-in-Ok-Here-clause-flat g c F shows =
     let newest = c.in-Ok.ensures.ok in
-    let was = data_seen c.args.self.now c.look.new.self c.args.asked c.in-Ok-Here.kind c.in-Ok-no_payload.payload c.look.new.payload (search rules) (search rules) in
+    let was = data_seen c.args.self.now c.look.new.self c.args.asked c.in-Ok-Here.kind c.in-Ok-room.payload c.look.new.payload (search rules) (search rules) in
     subst (λ (l : Lesson). (G : Flat) × LearnedCase F c.args.asked l.told l.content G × ShowsArray c.look.new.self G) (sym c.of.ensures)
     (learned_here c.args.self.now c.look.new.self F c.args.asked c.in-Ok.newest _ shows (record { told = newest.0; most = newest.1 }) c.look.ensures.rest was)
 
@@ -32,7 +32,7 @@ pub returns-in-Ok-payload_at-clause-flat : goal.returns-in-Ok-payload_at-clause-
 returns-in-Ok-payload_at-clause-flat g c F shows =
     let newest = c.in-Ok.ensures.ok in
     let was : WasSeen c.args.self.now c.look.new.self c.args.asked (Stale c.in-Ok-Stale._found) = search rules in
-    let buffer = with_items c.in-Ok-no_payload.payload c.look.new.payload in
+    let buffer = with_items c.in-Ok-room.payload c.look.new.payload in
     let items : (with_items buffer c.payload_at.new.payload).items ≡ c.payload_at.new.payload = with_items_is buffer c.payload_at.new.payload (search rules) in
     let k = c.in-Ok-payload_at.kind in
     let read : WasRead c.look.new.self.parts c.payload_at.new.self.parts c.in-Ok.newest.place (content_under k (with_items buffer c.payload_at.new.payload).items) =
