@@ -204,7 +204,7 @@ pub fn discard_in<D: Drive, N: Naming + Sizes>(
 }
 
 /// Reads a record with its payload, or with none of a trim, or where it is stale the newest record of its block, as the array
-/// does, into memory that was taken before.
+/// does, into memory of a payload's length that was allocated before the lock was taken.
 pub fn read_in<D: Drive, N: Naming + Sizes>(
     kept: &mut Kept<D, N>,
     asked: Record,

@@ -423,7 +423,7 @@ impl<
         let Some(found) = self.find(controller, block) else {
             return Ok(None);
         };
-        // Taken before the lock is held, so that no other worker waits for the allocator.
+        // Taken before the lock is held: nothing is allocated under it.
         let room = vec![in alloc; 0; self.book.payload as usize];
         let read = read_in(&mut *self.book.kept.lock(rt), found, room);
         match read {

@@ -130,7 +130,8 @@ impl<D: Drive> Parts<D> {
     }
 
     /// Reads the headers of a group's slots in ascending order, that of index i into `headers[i]`, with a buffer of two units'
-    /// length. Returns how many come before the first slot that is gone: all where none is.
+    /// length. Takes a group's number, 0 to 511, and as many buffers as it has slots. Returns the index of the first slot that is
+    /// gone, or the count of slots. The headers below are those of before the call, if all slots were sound.
     pub fn read_headers(
         &mut self,
         group: u16,

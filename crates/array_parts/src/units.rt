@@ -62,9 +62,10 @@ pub trait Units {
         ensures fits { fits self.new }
         ensures leaves { leaves self.old self.new };
 
-    /// Reads the headers of a group's slots in ascending order, that of index i into `headers[i]`, with a buffer of two units'
-    /// length. Returns how many come before the first slot whose unit can't be had: all where none is. Each header is one read of
-    /// a drive, or one of each other member where that drive is lost.
+    /// Reads the headers of a group's slots, that of index i into `headers[i]`, with a buffer of two units' length. Takes a group's
+    /// number, 0 to 511, and as many buffers as it has slots, none where the number is free. Returns the index of the first slot
+    /// whose unit can't be had, or the count of slots. The headers below are those of before the call, if all slots were sound;
+    /// nothing is said of the others.
     fn headers(&mut self, group: u16, headers: &mut [[u8; HEADER_BYTES]], scratch: &mut [u8]) -> u16
         requires fits { fits self.old }
         requires group { group < 512 }

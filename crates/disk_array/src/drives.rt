@@ -102,6 +102,7 @@ impl<D: Drive, C: Hold> Array<D, C> {
         let scratch: &mut [u8] = &mut self.scratch;
         self.parts.read_header(slot, header, scratch)
     }
+
     // Reads the headers of a group's slots into the caller's buffers, and returns how many come before the first slot that is gone.
     pub(crate) fn headers_at(&mut self, group: u16, headers: &mut [[u8; HEADER_BYTES]]) -> u16
         requires group { group < 512 }

@@ -17,7 +17,8 @@ use slot_tables::Hold;
 use std::alloc::{AllocError, Global};
 use std::marker::Model;
 
-/// A record with its payload, or with none where it is a trim, as an array returns it: `read_or_learn` and `read_or_learn_into` alone make one.
+/// A record with its payload, or with none where it is a trim, as an array returns it: `read_or_learn` and
+/// `read_or_learn_into` alone make one.
 #[derive(Debug, Drop)]
 pub struct Reading {
     record: Record,
@@ -81,8 +82,9 @@ impl<D: Drive, C: Hold> Array<D, C> {
         self.read_or_learn_into(asked, room)
     }
 
-    /// Reads into memory that was taken for the payload before, or was not to be had: for a caller that takes none while it holds
-    /// a lock. Else as `read_or_learn`; out of memory comes after its other checks, as there.
+    /// Reads a record, or where its place is stale the newest of its block, into memory that was allocated before: `room` has a
+    /// payload's length and any content, or is an Err if it couldn't be had. For a caller that allocates nothing while it holds a
+    /// lock. Refused as Ahead, then as out of memory, both before any drive is called, then as gone.
     pub fn read_or_learn_into(
         &mut self,
         asked: Record,

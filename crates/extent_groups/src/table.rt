@@ -182,7 +182,7 @@ impl GroupTable {
         self.copies_among(self.members(group), group, index)
     }
 
-    // The same copies, by the group's members.
+    // The two copies of a mirrored slot, by its group's members.
     #[inline(always)]
     fn copies_among(&self, members: &[Member], group: u16, index: u16) -> Copies
         requires mirrored { class_in (group_at self.now group) ≡ Some Mirrored }
@@ -272,7 +272,7 @@ impl GroupTable {
         self.stripe_among(self.members(group), group, index)
     }
 
-    // The same stripe, by the group's members.
+    // The stripe of a parity slot, by its group's members.
     #[inline(always)]
     fn stripe_among(&self, members: &[Member], group: u16, index: u16) -> Stripe
         requires parity { class_in (group_at self.now group) ≡ Some Parity }

@@ -43,8 +43,8 @@ fn judge(
     Ok(Some(record))
 }
 
-/// What the header of a slot holds, refused where that isn't one of the array's blocks in this very slot. Said of any units in
-/// which the slot's begins with these bytes.
+/// What the header of a slot holds, refused where that isn't one of the array's blocks in this very slot. The clauses hold of
+/// any units whose slot begins with these bytes.
 pub(crate) fn look(
     header: &[u8; HEADER_BYTES],
     slot: u16,

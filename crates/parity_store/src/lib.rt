@@ -117,9 +117,9 @@ pub fn read_header<D: Drive>(
     .ok_or(StoreRefusal::Gone(slot))
 }
 
-/// Reads the header of a slot's effective unit alone, by the members of its group, for a caller that reads many slots of one
-/// group; false where the unit's drive and another member's are lost. Takes a buffer of two units' length. Inlined, so that the
-/// members stay found.
+/// Reads the 32 bytes of a slot's header alone, by the members of its group, for a caller that reads many slots of one group.
+/// False where the unit's drive and another member's are lost. Takes a buffer of two units' length. Inlined, so that the members aren't
+/// looked up again.
 #[inline(always)]
 pub fn read_header_among<D: Drive>(
     groups: &GroupTable,

@@ -251,7 +251,7 @@ impl<D: Tried> Trial<D> {
         drive.lose_it();
     }
 
-    /// Whether so many headers of a group are read in one call, each as by itself.
+    /// Whether one call reads `wanted` headers of a group, each equal to what `header` reads.
     fn reads_headers(&mut self, rt: &impl Abort, group: u16, wanted: u16) -> bool {
         assert!(rt; self.is_ready());
         let count = self.parts.groups.slots_of(group);

@@ -4,7 +4,7 @@ use extent_groups::GroupTable;
 use extents::HEADER_BYTES;
 use step_core::Refusal;
 
-/// Units, and how many of their headers were asked for.
+/// Units, and how many of their headers were asked for one by one or read by group.
 #[derive(Drop)]
 pub(crate) struct Watched<U> {
     units: U,
