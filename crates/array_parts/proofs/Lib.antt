@@ -1,5 +1,4 @@
 pub mod Reading
-pub mod Headers
 mod Fitting
 pub mod Wiping
 pub mod Making

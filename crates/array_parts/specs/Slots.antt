@@ -1,11 +1,11 @@
 -- The slots of made groups, of either class.
-use Rattle.std.specs.Prelude.{◌≡◌, ℕ, ◌+◌, ◌*◌, ◌/◌, ◌%◌, ◌<◌, Bool, Some, None, List, slice_get}
+use Rattle.std.specs.Prelude.{◌≡◌, ℕ, ◌/◌, ◌%◌, ◌<◌, Bool, Some, None, List}
 use Rattle.flat_machine.specs.declared.refusal.Refusal.{Refusal}
 use Rattle.flat_machine.specs.declared.refusal.Refusal.TheVariants.{Gone}
 use Rattle.extent_groups.specs.Groups.{Groups, group_at, slots_in}
 use Rattle.extent_groups.specs.Cells.{Cells, cells}
 use Rattle.extent_groups.specs.Missing.{missing_of, IsGone}
-use Rattle.extent_groups.specs.Stores.{unit_of, header_of}
+use Rattle.extent_groups.specs.Stores.{unit_of}
 use Rattle.array_parts.specs.declared.parts.Parts.{Parts}
 
 -- a slot of a made group
@@ -30,7 +30,3 @@ pub record TellsGone {D : Type 0} (units : D → List (List ℕ)) (lost : D → 
   pub told : refusal ≡ Gone slot
   pub none : unit_of parts.groups (cells_in units lost parts) slot ≡ None
   pub gone : IsGone parts.groups (missing_in lost parts) slot
-
--- the first of these are the headers of a group's slots, by index
-abbrev pub AreHeaders : Groups → Cells → ℕ → ℕ → List (List ℕ) → Type 0
-AreHeaders groups c group count headers = (i : ℕ) → i < count → header_of groups c (128 * group + i) ≡ slice_get headers i

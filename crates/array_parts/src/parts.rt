@@ -5,11 +5,11 @@ ghost use Rattle.extents.specs.declared.shape.TheConstants.{HEADER_BYTES};
 ghost use Rattle.extent_groups.specs.Groups.{group_at, slots_in};
 ghost use Rattle.extent_groups.specs.Calls.{AreSized};
 ghost use Rattle.extent_groups.specs.Missing.{IsGone};
-ghost use Rattle.extent_groups.specs.Stores.{unit_bytes, unit_of, header_of, AreSound, KeepsUnits, Wrote};
+ghost use Rattle.extent_groups.specs.Stores.{unit_bytes, unit_of, header_of, AreHeaders, AreSound, KeepsUnits, Wrote};
 ghost use Rattle.array_parts.specs.Fit.{IsFit, HaveUnits};
 ghost use Rattle.array_parts.specs.Kept.{LeavesOthers};
 ghost use Rattle.array_parts.specs.Losses.{AllFare, KeepsTables, LosesOnly};
-ghost use Rattle.array_parts.specs.Slots.{IsSlot, AreHeaders, cells_in, missing_in, HoldsUnit, TellsGone};
+ghost use Rattle.array_parts.specs.Slots.{IsSlot, cells_in, missing_in, HoldsUnit, TellsGone};
 
 use crate::note::Note;
 use crate::slots::{read_group_headers, read_slot, read_slot_header, write_slot};

@@ -2,13 +2,12 @@
 ghost use Rattle.std.specs.Prelude.{◌≡◌, ◌+◌, ◌*◌, ◌/◌, ◌<◌, ◌≤◌, length, Some, None, OnOk, IfErr};
 ghost use Rattle.extents.specs.declared.shape.TheConstants.{HEADER_BYTES};
 ghost use Rattle.extent_groups.specs.Cells.{cells};
-ghost use Rattle.extent_groups.specs.Groups.{group_at, class_in, slots_in};
-ghost use Rattle.extent_groups.specs.Calls.{if_ok, NoPlace, SameBut, KeepsDrives};
-ghost use Rattle.extent_groups.specs.Stores.{unit_bytes, unit_of, header_of, AreSound, AreDrives, KeepsUnits, Wrote, NamesGone, IsOwnOf, HasMemberOn};
-ghost use Rattle.extent_groups.specs.Stores.{IsGroupOf, ReadLeaves};
-ghost use Rattle.array_parts.specs.Slots.{IsSlot, AreHeaders};
+ghost use Rattle.extent_groups.specs.Groups.{group_at, slots_in};
+ghost use Rattle.extent_groups.specs.Calls.{KeepsDrives};
+ghost use Rattle.extent_groups.specs.Stores.{unit_bytes, unit_of, header_of, AreHeaders, AreSound, AreDrives, Wrote, NamesGone, IsOwnOf, ReadLeaves};
+ghost use Rattle.array_parts.specs.Slots.{IsSlot};
 
-use extent_groups::{Class, GroupTable, Member, SLOTS, StoreRefusal};
+use extent_groups::{Class, GroupTable, SLOTS, StoreRefusal};
 use extents::{Drive, HEADER_BYTES};
 
 /// Reads the effective unit of a slot of either class.
@@ -25,12 +24,7 @@ pub(crate) fn read_slot<D: Drive>(
     requires scratch { length scratch.old ≡ 2 * unit_bytes groups.now }
     ensures ok { OnOk result (unit_of groups.now (cells D.units D.lost drives.new) slot ≡ Some unit.new) }
     ensures gone { IfErr result (NamesGone groups.now (cells D.units D.lost drives.new) slot) }
-    ensures units { AreSound groups.now (cells D.units D.lost drives.old)
-        → KeepsUnits groups.now (cells D.units D.lost drives.old) (cells D.units D.lost drives.new) }
-    ensures sound { AreSound groups.now (cells D.units D.lost drives.old) → AreSound groups.now (cells D.units D.lost drives.new) }
-    ensures touched { KeepsDrives D.units D.lost D.failures NoPlace drives.old drives.new }
-    ensures elsewhere { SameBut (HasMemberOn groups.now (slot / 128)) drives.old drives.new }
-    ensures drives { AreDrives D.units groups.now drives.new }
+    ensures leaves { ReadLeaves D.units D.lost D.failures groups.now (slot / 128) drives.old drives.new }
 {
     match groups.class_of(slot / SLOTS) {
         Some(Class::Mirrored) => mirrored_store::read(groups, drives, slot, unit, scratch),
@@ -52,45 +46,11 @@ pub(crate) fn read_slot_header<D: Drive>(
     requires scratch { length scratch.old ≡ 2 * unit_bytes groups.now }
     ensures ok { OnOk result (header_of groups.now (cells D.units D.lost drives.new) slot ≡ Some header.new) }
     ensures gone { IfErr result (NamesGone groups.now (cells D.units D.lost drives.new) slot) }
-    ensures units { AreSound groups.now (cells D.units D.lost drives.old)
-        → KeepsUnits groups.now (cells D.units D.lost drives.old) (cells D.units D.lost drives.new) }
-    ensures sound { AreSound groups.now (cells D.units D.lost drives.old) → AreSound groups.now (cells D.units D.lost drives.new) }
-    ensures touched { KeepsDrives D.units D.lost D.failures NoPlace drives.old drives.new }
-    ensures elsewhere { SameBut (HasMemberOn groups.now (slot / 128)) drives.old drives.new }
-    ensures drives { AreDrives D.units groups.now drives.new }
+    ensures leaves { ReadLeaves D.units D.lost D.failures groups.now (slot / 128) drives.old drives.new }
 {
     match groups.class_of(slot / SLOTS) {
         Some(Class::Mirrored) => mirrored_store::read_header(groups, drives, slot, header, scratch),
         _ => parity_store::read_header(groups, drives, slot, header, scratch),
-    }
-}
-
-/// Reads the header of a slot by its group's class and members, which were found once for all slots of the group; false where
-/// the slot is gone.
-#[inline(always)]
-fn read_among<D: Drive>(
-    groups: &GroupTable,
-    members: &[Member],
-    class: Option<Class>,
-    drives: &mut [D],
-    slot: u16,
-    header: &mut [u8],
-    scratch: &mut [u8],
-) -> bool
-    requires slot { IsSlot groups.now slot }
-    requires members { IsGroupOf groups.now (slot / 128) members.now }
-    requires class { class ≡ class_in (group_at groups.now (slot / 128)) }
-    requires drives { AreDrives D.units groups.now drives.old }
-    requires header { length header.old ≡ HEADER_BYTES }
-    requires scratch { length scratch.old ≡ 2 * unit_bytes groups.now }
-    ensures header { header_of groups.now (cells D.units D.lost drives.new) slot ≡ if_ok result header.new }
-    ensures leaves { ReadLeaves D.units D.lost D.failures groups.now (slot / 128) drives.old drives.new }
-{
-    match class {
-        Some(Class::Mirrored) => {
-            mirrored_store::read_header_among(groups, members, drives, slot, header, scratch)
-        }
-        _ => parity_store::read_header_among(groups, members, drives, slot, header, scratch),
     }
 }
 
@@ -113,17 +73,13 @@ pub(crate) fn read_group_headers<D: Drive>(
     ensures within { result ≤ length headers.old }
     ensures leaves { ReadLeaves D.units D.lost D.failures groups.now group drives.old drives.new }
 {
-    let members = groups.members(group);
-    let class = groups.class_of(group);
-    let count = groups.slots_of(group);
-    for index in 0..count {
-        let slot = SLOTS * group + index;
-        let header = &mut headers[index as usize];
-        if !read_among(groups, members, class, drives, slot, header, scratch) {
-            return index;
+    match groups.class_of(group) {
+        Some(Class::Mirrored) => {
+            mirrored_store::read_headers(groups, drives, group, headers, scratch)
         }
+        Some(Class::Parity) => parity_store::read_headers(groups, drives, group, headers, scratch),
+        None => 0,
     }
-    count
 }
 
 /// Writes the unit of a slot of either class.

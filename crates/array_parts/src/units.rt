@@ -4,11 +4,11 @@ ghost use Rattle.flat_machine.specs.declared.refusal.Refusal.TheVariants.{Gone};
 ghost use Rattle.extents.specs.declared.shape.TheConstants.{HEADER_BYTES};
 ghost use Rattle.extent_groups.specs.Groups.{Groups, group_at, slots_in};
 ghost use Rattle.extent_groups.specs.Cells.{Cells, cells};
-ghost use Rattle.extent_groups.specs.Stores.{unit_bytes, unit_of, header_of, AreSound, KeepsUnits};
+ghost use Rattle.extent_groups.specs.Stores.{unit_bytes, unit_of, header_of, AreHeaders, AreSound, KeepsUnits};
 ghost use Rattle.array_parts.specs.Fit.{IsFit};
 ghost use Rattle.array_parts.specs.Losses.{LosesOnly};
 ghost use Rattle.array_parts.specs.Laws.{loses_none, loses_more};
-ghost use Rattle.array_parts.specs.Slots.{IsSlot, AreHeaders};
+ghost use Rattle.array_parts.specs.Slots.{IsSlot};
 
 use crate::Parts;
 use extent_groups::GroupTable;

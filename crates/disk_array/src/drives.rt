@@ -4,10 +4,10 @@ ghost use Rattle.std.specs.Prelude.{◌≡◌, ◌⊎◌, ◌+◌, ◌*◌, ◌<
 ghost use Rattle.extents.specs.declared.shape.TheConstants.{HEADER_BYTES};
 ghost use Rattle.extent_groups.specs.Faults.{put_fault};
 ghost use Rattle.extent_groups.specs.Groups.{AreThere, group_at, slots_in};
-ghost use Rattle.extent_groups.specs.Stores.{unit_bytes, unit_of, header_of, AreSound, KeepsUnits};
+ghost use Rattle.extent_groups.specs.Stores.{unit_bytes, unit_of, header_of, AreHeaders, AreSound, KeepsUnits};
 ghost use Rattle.flat_machine.specs.Flat.{content_under};
 ghost use Rattle.flat_machine.specs.Groups.{IsLowestFree};
-ghost use Rattle.array_parts.specs.Slots.{IsSlot, AreHeaders};
+ghost use Rattle.array_parts.specs.Slots.{IsSlot};
 ghost use Rattle.disk_array.specs.Refused.{OnlyLoses};
 ghost use Rattle.array_parts.specs.Views.{cells_of, FoundGone, WasRead, Entered, FoundLost};
 ghost use Rattle.slot_tables.specs.Views.{with_parts, IsWhole};

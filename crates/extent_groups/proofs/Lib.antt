@@ -28,6 +28,8 @@ pub mod Wiping
 pub mod Agreeing
 pub mod Moving
 pub mod Roles
+pub mod Counting
 pub mod Elsewhere
+pub mod GroupReads
 pub mod Finishing
 pub mod Listing

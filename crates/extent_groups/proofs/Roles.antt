@@ -15,14 +15,14 @@ use Rattle.extent_groups.proofs.GeometryLaws.{copies_law}
 use Rattle.extent_groups.proofs.LayoutLaw.{one_address}
 
 -- a number made of a row and a rest gives both
-parts : (n q m : ℕ) → m < n → ((q * n + m) / n ≡ q) × ((q * n + m) % n ≡ m)
+pub parts : (n q m : ℕ) → m < n → ((q * n + m) / n ≡ q) × ((q * n + m) % n ≡ m)
 parts n q m h =
     let rest : (q * n + m) % n < n = omega arith in
     let whole : (q * n + m) / n * n + (q * n + m) % n ≡ q * n + m = omega arith in
     one_address n ((q * n + m) / n) q ((q * n + m) % n) m whole rest h
 
 -- the spot of a position that is made of a row and a member
-spot_is : (n m o k : ℕ) → m < n → k ≡ o / 2 * n + m → spot_at n k (o % 2) ≡ record { member = m; offset = o }
+pub spot_is : (n m o k : ℕ) → m < n → k ≡ o / 2 * n + m → spot_at n k (o % 2) ≡ record { member = m; offset = o }
 spot_is n m o k h e =
     let both = parts n (o / 2) m h in
     let member : k % n ≡ m = ap (λ x. x % n) e ∙ both.1 in

@@ -14,3 +14,4 @@ pub mod Numbers
 pub mod Wiping
 pub mod Moving
 pub mod Roles
+pub mod Cursors

@@ -30,6 +30,10 @@ unit_of groups c slot = effective_unit (unit_bytes groups) groups c slot
 abbrev pub header_of : Groups → Cells → ℕ → Option (List ℕ)
 header_of groups c slot = front HEADER_BYTES (unit_of groups c slot)
 
+-- the first of these are the headers of a group's slots, by index
+abbrev pub AreHeaders : Groups → Cells → ℕ → ℕ → List (List ℕ) → Type 0
+AreHeaders groups c group count headers = (i : ℕ) → i < count → header_of groups c (128 * group + i) ≡ slice_get headers i
+
 -- every slot of these groups is sound
 abbrev pub AreSound : Groups → Cells → Type 0
 AreSound groups c = IsSound (unit_bytes groups) groups c

@@ -1,7 +1,7 @@
 // Where the slots of a group lie. Segments of a mirrored group have positions 0, 1, ..: position k is on
 // member k mod n in row k / n, and two positions in turn are a pair. A stripe of a parity group is one
 // row of all members; its parity wanders from the last member down.
-ghost use Rattle.std.specs.Prelude.{◌≡◌, ◌≢◌, ◌+◌, ◌*◌, ◌<◌, ◌≤◌, if◌then◌else◌};
+ghost use Rattle.std.specs.Prelude.{◌≡◌, ◌≢◌, ℕ, ◌+◌, ◌*◌, ◌<◌, ◌≤◌, ◌==◌, if◌then◌else◌};
 
 /// A unit of a group: which member, and the offset in its extent.
 #[derive(Clone, Copy, Debug, PartialEq, Eq)]
@@ -56,6 +56,57 @@ pub fn two_copies(members: u8, index: u16) -> Copies
     }
 }
 
+/// The unit two positions after an odd unit's, which is even.
+fn two_further(members: u8, at: Spot) -> Spot
+    requires many { (2 ≤ members) × (members ≤ 8) }
+    requires member { at.member < members }
+    requires offset { (1 ≤ at.offset) × (at.offset < 256) }
+    ensures { (position : ℕ) → at ≡ spot_at members position 1 → result ≡ spot_at members (position + 2) 0 }
+{
+    let member = at.member + 2;
+    if member < members {
+        return Spot {
+            member,
+            offset: at.offset - 1,
+        };
+    }
+    Spot {
+        member: member - members,
+        offset: at.offset + 1,
+    }
+}
+
+/// The unit after an even one of the same segment.
+fn unit_after(at: Spot) -> Spot
+    requires { at.offset < 256 }
+    ensures { result ≡ record { member = at.member; offset = at.offset + 1 } }
+{
+    Spot {
+        member: at.member,
+        offset: at.offset + 1,
+    }
+}
+
+/// Where the two copies of the slot after that of an index lie, counted on from its own: no number is divided by another one.
+#[inline(always)]
+pub fn next_copies(members: u8, index: u16, at: &Copies) -> Copies
+    requires many { (2 ≤ members) × (members ≤ 8) }
+    requires low { index < 128 }
+    requires here { at.now ≡ copies_of members index }
+    ensures { result ≡ copies_of members (index + 1) }
+{
+    if index % 2 == 0 {
+        return Copies {
+            first: unit_after(at.first),
+            second: unit_after(at.second),
+        };
+    }
+    Copies {
+        first: two_further(members, at.first),
+        second: two_further(members, at.second),
+    }
+}
+
 /// The member that holds the parity of a row.
 pub(crate) fn parity_at(members: u8, row: u8) -> u8
     requires { 1 ≤ members }
@@ -85,6 +136,52 @@ pub fn one_stripe(members: u8, index: u16) -> Stripe
         stripe: row,
         member: passed_over(parity, segment % (members - 1)),
         offset: 2 * row as u16 + index % 2,
+        parity,
+    }
+}
+
+/// The member itself, or the next one where it is the parity's.
+fn but_parity(parity: u8, member: u8) -> u8
+    requires { member < 255 }
+    ensures { result ≡ if member == parity then member + 1 else member }
+{
+    if member == parity { member + 1 } else { member }
+}
+
+/// Where the parity slot after that of an index lies, counted on from its own: no number is divided by another one.
+#[inline(always)]
+pub fn next_stripe(members: u8, index: u16, at: &Stripe) -> Stripe
+    requires many { (2 ≤ members) × (members ≤ 8) }
+    requires low { index < 128 }
+    requires here { at.now ≡ stripe_of members index }
+    ensures { result ≡ stripe_of members (index + 1) }
+{
+    if index % 2 == 0 {
+        return Stripe {
+            stripe: at.stripe,
+            member: at.member,
+            offset: at.offset + 1,
+            parity: at.parity,
+        };
+    }
+    let member = but_parity(at.parity, at.member + 1);
+    if member < members {
+        return Stripe {
+            stripe: at.stripe,
+            member,
+            offset: at.offset - 1,
+            parity: at.parity,
+        };
+    }
+    let parity = if at.parity == 0 {
+        members - 1
+    } else {
+        at.parity - 1
+    };
+    Stripe {
+        stripe: at.stripe + 1,
+        member: but_parity(parity, 0),
+        offset: at.offset + 1,
         parity,
     }
 }

@@ -4,7 +4,7 @@ ghost use Rattle.std.specs.Prelude.{Some, None, IfOk, OnOk, OnErr, IfErr, MatchO
 ghost use Rattle.extent_groups.specs.Groups.{parity_count};
 ghost use Rattle.extent_groups.specs.Geometry.{slot_count, copies_of, parity_of, stripe_of, AreCopies, IsStripe};
 
-use crate::{Class, Copies, Member, Place, Stripe, geometry};
+use crate::{Class, Copies, Member, MirroredAt, ParityAt, Place, Stripe, geometry};
 use extents::Shape;
 use std::alloc::{AllocError, Global};
 use std::marker::Model;
@@ -89,6 +89,7 @@ impl GroupTable {
     ghost use Rattle.extent_groups.specs.Layout.{IsLayout};
     ghost use Rattle.extent_groups.specs.Units.{Pair, InStripe, site_of, places_of};
     ghost use Rattle.extent_groups.specs.Stores.{IsSlotOf, IsGroupOf};
+    ghost use Rattle.extent_groups.specs.Cursors.{IsMirroredAt, IsParityAt};
     ghost use Rattle.extent_groups.specs.declared.class.Class.TheVariants.{Mirrored, Parity};
 
     /// A table of this shape, without groups; refused if out of memory.
@@ -224,19 +225,34 @@ impl GroupTable {
         ensures site { site_of self.now slot ≡ Some (Pair result.0 result.1) }
         ensures groups { AreGroups self.now }
     {
-        self.pair_among(self.members(slot / SLOTS), slot)
+        let members = self.members(slot / SLOTS);
+        self.pair_among(members, &self.locate_mirrored(members, slot))
+    }
+
+    /// A mirrored slot with where its copies lie, by the members of its group.
+    #[inline(always)]
+    pub fn locate_mirrored(&self, members: &[Member], slot: u16) -> MirroredAt
+        requires slot { IsSlotOf Mirrored self.now slot }
+        requires members { IsGroupOf self.now (slot / 128) members.now }
+        ensures slot { result.slot ≡ slot }
+        ensures copies { IsMirroredAt (length members.now) result }
+    {
+        MirroredAt {
+            slot,
+            copies: self.copies_among(members, slot / SLOTS, slot % SLOTS),
+        }
     }
 
     /// The two places of a mirrored slot, by the members of its group, which a caller that reads many of its slots finds once.
     #[inline(always)]
-    pub fn pair_among(&self, members: &[Member], slot: u16) -> (Place, Place)
-        requires slot { IsSlotOf Mirrored self.now slot }
-        requires members { IsGroupOf self.now (slot / 128) members.now }
-        ensures site { site_of self.now slot ≡ Some (Pair result.0 result.1) }
+    pub fn pair_among(&self, members: &[Member], at: &MirroredAt) -> (Place, Place)
+        requires slot { IsSlotOf Mirrored self.now at.now.slot }
+        requires members { IsGroupOf self.now (at.now.slot / 128) members.now }
+        requires copies { IsMirroredAt (length members.now) at.now }
+        ensures site { site_of self.now at.now.slot ≡ Some (Pair result.0 result.1) }
     {
-        let at = self.copies_among(members, slot / SLOTS, slot % SLOTS);
-        let first = self.place_among(members, at.first.member, at.first.offset);
-        let second = self.place_among(members, at.second.member, at.second.offset);
+        let first = self.place_among(members, at.copies.first.member, at.copies.first.offset);
+        let second = self.place_among(members, at.copies.second.member, at.copies.second.offset);
         (first, second)
     }
 
@@ -248,18 +264,34 @@ impl GroupTable {
         ensures inside { (result.offset < extent_units self.now.segments) × (length (members_of self.now (slot / 128)) ≤ 8) }
         ensures groups { AreGroups self.now }
     {
-        self.row_among(self.members(slot / SLOTS), slot)
+        let members = self.members(slot / SLOTS);
+        self.row_among(members, &self.locate_parity(members, slot))
+    }
+
+    /// A parity slot with where it lies, by the members of its group.
+    #[inline(always)]
+    pub fn locate_parity(&self, members: &[Member], slot: u16) -> ParityAt
+        requires slot { IsSlotOf Parity self.now slot }
+        requires members { IsGroupOf self.now (slot / 128) members.now }
+        ensures slot { result.slot ≡ slot }
+        ensures stripe { IsParityAt (length members.now) result }
+    {
+        ParityAt {
+            slot,
+            stripe: self.stripe_among(members, slot / SLOTS, slot % SLOTS),
+        }
     }
 
     /// The stripe of a parity slot, by the members of its group, which a caller that reads many of its slots finds once.
     #[inline(always)]
-    pub fn row_among(&self, members: &[Member], slot: u16) -> Stripe
-        requires slot { IsSlotOf Parity self.now slot }
-        requires members { IsGroupOf self.now (slot / 128) members.now }
-        ensures site { site_of self.now slot ≡ Some (InStripe (places_of self.now.segments members.now result.offset) result.parity result.member) }
+    pub fn row_among(&self, members: &[Member], at: &ParityAt) -> Stripe
+        requires slot { IsSlotOf Parity self.now at.now.slot }
+        requires members { IsGroupOf self.now (at.now.slot / 128) members.now }
+        requires stripe { IsParityAt (length members.now) at.now }
+        ensures site { site_of self.now at.now.slot ≡ Some (InStripe (places_of self.now.segments members.now result.offset) result.parity result.member) }
         ensures inside { (result.offset < extent_units self.now.segments) × (length members.now ≤ 8) }
     {
-        self.stripe_among(members, slot / SLOTS, slot % SLOTS)
+        at.stripe
     }
 
     /// Where a parity slot lies, and the parity of its offset.

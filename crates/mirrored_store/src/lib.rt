@@ -3,19 +3,21 @@
 
 mod planning;
 
-ghost use Rattle.std.specs.Prelude.{◌≡◌, ◌≤◌, ◌⊎◌, ◌+◌, ◌*◌, ◌/◌, ◌++◌, true, false, length, Some, [], OnOk, OnErr, IfErr};
+ghost use Rattle.std.specs.Prelude.{◌≡◌, ◌<◌, ◌≤◌, ◌⊎◌, ◌+◌, ◌*◌, ◌/◌, ◌++◌, true, false, length, Some, None, [], OnOk, OnErr, IfErr};
 ghost use Rattle.extent_groups.specs.declared.class.Class.TheVariants.{Mirrored};
 ghost use Rattle.extents.specs.declared.shape.TheConstants.{HEADER_BYTES};
 ghost use Rattle.extent_groups.specs.Cells.{cells, front, front_units};
 ghost use Rattle.extent_groups.specs.Units.{Pair, unit_at};
 ghost use Rattle.extent_groups.specs.Calls.{HaveFronts, HaveRoom, IsPlace, if_ok, NoPlace, SameBut, KeepsDrives, FadesAt};
-ghost use Rattle.extent_groups.specs.Stores.{unit_bytes, unit_of, header_of, IsBuffer, AreSound, IsSlotOf, AreDrives, KeepsUnits};
-ghost use Rattle.extent_groups.specs.Stores.{Wrote, NamesGone, IsOwnOf, AreCopies, HasMemberOn, IsGroupOf, ReadLeaves};
+ghost use Rattle.extent_groups.specs.Cursors.{IsMirroredAt};
+ghost use Rattle.extent_groups.specs.Groups.{group_at, class_in, slots_in};
+ghost use Rattle.extent_groups.specs.Stores.{unit_bytes, unit_of, header_of, IsBuffer, AreHeaders, AreSound, IsSlotOf, AreDrives};
+ghost use Rattle.extent_groups.specs.Stores.{Wrote, NamesGone, IsOwnOf, AreCopies, IsGroupOf, ReadLeaves};
 ghost use Rattle.extent_groups.specs.declared.place.Place.{Place};
 ghost use Rattle.extent_groups.specs.Planned.{after, WroteByPlan};
 
-use extent_groups::{GroupTable, Member, Place, SLOTS, StoreRefusal, read_front};
-use extents::Drive;
+use extent_groups::{GroupTable, Member, MirroredAt, Place, SLOTS, StoreRefusal, read_front};
+use extents::{Drive, HEADER_BYTES};
 pub use planning::plan;
 
 /// Reads the first bytes of a slot's effective unit, `buffer.len()` of them, from the first copy that is there, with another
@@ -25,20 +27,22 @@ fn read_fronts<D: Drive>(
     groups: &GroupTable,
     members: &[Member],
     drives: &mut [D],
-    slot: u16,
+    at: &MirroredAt,
     buffer: &mut [u8],
     scratch: &mut [u8],
 ) -> bool
-    requires slot { IsSlotOf Mirrored groups.now slot }
-    requires members { IsGroupOf groups.now (slot / 128) members.now }
+    requires slot { IsSlotOf Mirrored groups.now at.now.slot }
+    requires members { IsGroupOf groups.now (at.now.slot / 128) members.now }
+    requires copies { IsMirroredAt (length members.now) at.now }
     requires drives { AreDrives D.units groups.now drives.old }
     requires size { length buffer.old ≤ unit_bytes groups.now }
     requires scratch { IsBuffer (unit_bytes groups.now) (length buffer.old) (length scratch.old) }
-    ensures front { front (length buffer.old) (unit_of groups.now (cells D.units D.lost drives.new) slot) ≡ if_ok result buffer.new }
-    ensures whole { length buffer.old ≡ unit_bytes groups.now → unit_of groups.now (cells D.units D.lost drives.new) slot ≡ if_ok result buffer.new }
-    ensures leaves { ReadLeaves D.units D.lost D.failures groups.now (slot / 128) drives.old drives.new }
+    ensures front { front (length buffer.old) (unit_of groups.now (cells D.units D.lost drives.new) at.now.slot) ≡ if_ok result buffer.new }
+    ensures whole { length buffer.old ≡ unit_bytes groups.now
+        → unit_of groups.now (cells D.units D.lost drives.new) at.now.slot ≡ if_ok result buffer.new }
+    ensures leaves { ReadLeaves D.units D.lost D.failures groups.now (at.now.slot / 128) drives.old drives.new }
 {
-    let (first, second) = groups.pair_among(members, slot);
+    let (first, second) = groups.pair_among(members, at);
     read_pair(drives, first, second, buffer, scratch)
 }
 
@@ -79,23 +83,13 @@ pub fn read<D: Drive>(
     requires scratch { length _scratch.old ≡ 2 * unit_bytes groups.now }
     ensures ok { OnOk result (unit_of groups.now (cells D.units D.lost drives.new) slot ≡ Some unit.new) }
     ensures gone { IfErr result (NamesGone groups.now (cells D.units D.lost drives.new) slot) }
-    ensures units { AreSound groups.now (cells D.units D.lost drives.old)
-        → KeepsUnits groups.now (cells D.units D.lost drives.old) (cells D.units D.lost drives.new) }
-    ensures sound { AreSound groups.now (cells D.units D.lost drives.old) → AreSound groups.now (cells D.units D.lost drives.new) }
-    ensures touched { KeepsDrives D.units D.lost D.failures NoPlace drives.old drives.new }
-    ensures elsewhere { SameBut (HasMemberOn groups.now (slot / 128)) drives.old drives.new }
-    ensures drives { AreDrives D.units groups.now drives.new }
+    ensures leaves { ReadLeaves D.units D.lost D.failures groups.now (slot / 128) drives.old drives.new }
 {
-    read_fronts(
-        groups,
-        groups.members(slot / SLOTS),
-        drives,
-        slot,
-        unit,
-        &mut [],
-    )
-    .then_some(())
-    .ok_or(StoreRefusal::Gone(slot))
+    let members = groups.members(slot / SLOTS);
+    let at = groups.locate_mirrored(members, slot);
+    read_fronts(groups, members, drives, &at, unit, &mut [])
+        .then_some(())
+        .ok_or(StoreRefusal::Gone(slot))
 }
 
 /// Reads the header of a slot's effective unit alone, with a buffer of two units' length; refused where that unit's read is.
@@ -112,47 +106,70 @@ pub fn read_header<D: Drive>(
     requires scratch { length scratch.old ≡ 2 * unit_bytes groups.now }
     ensures ok { OnOk result (header_of groups.now (cells D.units D.lost drives.new) slot ≡ Some header.new) }
     ensures gone { IfErr result (NamesGone groups.now (cells D.units D.lost drives.new) slot) }
-    ensures units { AreSound groups.now (cells D.units D.lost drives.old)
-        → KeepsUnits groups.now (cells D.units D.lost drives.old) (cells D.units D.lost drives.new) }
-    ensures sound { AreSound groups.now (cells D.units D.lost drives.old) → AreSound groups.now (cells D.units D.lost drives.new) }
-    ensures touched { KeepsDrives D.units D.lost D.failures NoPlace drives.old drives.new }
-    ensures elsewhere { SameBut (HasMemberOn groups.now (slot / 128)) drives.old drives.new }
-    ensures drives { AreDrives D.units groups.now drives.new }
+    ensures leaves { ReadLeaves D.units D.lost D.failures groups.now (slot / 128) drives.old drives.new }
 {
-    read_header_among(
-        groups,
-        groups.members(slot / SLOTS),
-        drives,
-        slot,
-        header,
-        scratch,
-    )
-    .then_some(())
-    .ok_or(StoreRefusal::Gone(slot))
+    let members = groups.members(slot / SLOTS);
+    let at = groups.locate_mirrored(members, slot);
+    read_header_at(groups, members, drives, &at, header, scratch)
+        .then_some(())
+        .ok_or(StoreRefusal::Gone(slot))
 }
 
-/// Reads the 32 bytes of a slot's header alone, by the members of its group, for a caller that reads many slots of one group.
-/// False where both copies' drives are lost. Takes a buffer of two units' length. Inlined, so that the members aren't
-/// looked up again.
+/// Reads the header of a slot by where it lies, with a buffer of two units' length; false where both copies' drives are lost.
 #[inline(always)]
-pub fn read_header_among<D: Drive>(
+fn read_header_at<D: Drive>(
     groups: &GroupTable,
     members: &[Member],
     drives: &mut [D],
-    slot: u16,
+    at: &MirroredAt,
     header: &mut [u8],
     scratch: &mut [u8],
 ) -> bool
-    requires slot { IsSlotOf Mirrored groups.now slot }
-    requires members { IsGroupOf groups.now (slot / 128) members.now }
+    requires slot { IsSlotOf Mirrored groups.now at.now.slot }
+    requires members { IsGroupOf groups.now (at.now.slot / 128) members.now }
+    requires copies { IsMirroredAt (length members.now) at.now }
     requires drives { AreDrives D.units groups.now drives.old }
     requires header { length header.old ≡ HEADER_BYTES }
     requires scratch { length scratch.old ≡ 2 * unit_bytes groups.now }
-    ensures header { header_of groups.now (cells D.units D.lost drives.new) slot ≡ if_ok result header.new }
-    ensures leaves { ReadLeaves D.units D.lost D.failures groups.now (slot / 128) drives.old drives.new }
+    ensures header { header_of groups.now (cells D.units D.lost drives.new) at.now.slot ≡ if_ok result header.new }
+    ensures leaves { ReadLeaves D.units D.lost D.failures groups.now (at.now.slot / 128) drives.old drives.new }
 {
     let (whole, _part) = scratch.split_at_mut(scratch.len() / 2);
-    read_fronts(groups, members, drives, slot, header, whole)
+    read_fronts(groups, members, drives, at, header, whole)
+}
+
+/// Reads the headers of a mirrored group's slots in ascending order, that of index i into `headers[i]`, with a buffer of two
+/// units' length. Takes as many buffers as the group has slots. Returns the index of the first slot both of whose copies' drives
+/// are lost, or the count of slots. Where each slot lies is counted on from the one before it.
+pub fn read_headers<D: Drive>(
+    groups: &GroupTable,
+    drives: &mut [D],
+    group: u16,
+    headers: &mut [[u8; HEADER_BYTES]],
+    scratch: &mut [u8],
+) -> u16
+    requires group { group < 512 }
+    requires mirrored { class_in (group_at groups.now group) ≡ Some Mirrored }
+    requires many { length headers.old ≡ slots_in groups.now.segments (group_at groups.now group) }
+    requires drives { AreDrives D.units groups.now drives.old }
+    requires scratch { length scratch.old ≡ 2 * unit_bytes groups.now }
+    ensures read { AreSound groups.now (cells D.units D.lost drives.old)
+        → AreHeaders groups.now (cells D.units D.lost drives.old) group result headers.new }
+    ensures gone { result < length headers.old → unit_of groups.now (cells D.units D.lost drives.new) (128 * group + result) ≡ None }
+    ensures within { result ≤ length headers.old }
+    ensures leaves { ReadLeaves D.units D.lost D.failures groups.now group drives.old drives.new }
+{
+    let members = groups.members(group);
+    let count = groups.slots_of(group);
+    let mut at = MirroredAt::first(members.len() as u8, group);
+    for index in 0..count {
+        let header = &mut headers[index as usize];
+        if !read_header_at(groups, members, drives, &at, header, scratch) {
+            return index;
+        }
+        at = at.next(members.len() as u8);
+    }
+    count
 }
 
 /// Writes the unit of a slot to the copies whose drives are there; refused where both are lost.

@@ -10,19 +10,21 @@ mod stripe;
 mod target;
 mod way;
 
-ghost use Rattle.std.specs.Prelude.{◌≡◌, ◌≤◌, ◌*◌, ◌/◌, length, Some, OnOk, OnErr, IfErr};
+ghost use Rattle.std.specs.Prelude.{◌≡◌, ◌<◌, ◌≤◌, ◌+◌, ◌*◌, ◌/◌, length, Some, None, OnOk, OnErr, IfErr};
 ghost use Rattle.extents.specs.declared.shape.TheConstants.{HEADER_BYTES};
 ghost use Rattle.extent_groups.specs.declared.class.Class.TheVariants.{Parity};
 ghost use Rattle.extent_groups.specs.Cells.{cells, front};
 ghost use Rattle.extent_groups.specs.Calls.{if_ok, NoPlace, SameBut, KeepsDrives, FadesAt};
-ghost use Rattle.extent_groups.specs.Stores.{unit_bytes, unit_of, header_of, IsBuffer, AreSound, IsSlotOf};
-ghost use Rattle.extent_groups.specs.Stores.{AreDrives, KeepsUnits, Wrote, NamesGone, IsOwnOf, HasMemberOn, IsGroupOf, ReadLeaves};
+ghost use Rattle.extent_groups.specs.Cursors.{IsParityAt};
+ghost use Rattle.extent_groups.specs.Groups.{group_at, class_in, slots_in};
+ghost use Rattle.extent_groups.specs.Stores.{unit_bytes, unit_of, header_of, IsBuffer, AreHeaders, AreSound, IsSlotOf};
+ghost use Rattle.extent_groups.specs.Stores.{AreDrives, Wrote, NamesGone, IsOwnOf, IsGroupOf, ReadLeaves};
 ghost use Rattle.extent_groups.specs.declared.place.Place.{Place};
 ghost use Rattle.extent_groups.specs.Planned.{WroteByPlan};
 
 pub use exclusive_or::xor_into;
-use extent_groups::{GroupTable, Member, SLOTS, StoreRefusal};
-use extents::Drive;
+use extent_groups::{GroupTable, Member, ParityAt, SLOTS, StoreRefusal};
+use extents::{Drive, HEADER_BYTES};
 pub use listing::plan;
 pub use parity::read_parity;
 pub use way::Way;
@@ -35,24 +37,26 @@ fn read_fronts<D: Drive>(
     groups: &GroupTable,
     members: &[Member],
     drives: &mut [D],
-    slot: u16,
+    at: &ParityAt,
     buffer: &mut [u8],
     part: &mut [u8],
     scratch: &mut [u8],
 ) -> bool
-    requires slot { IsSlotOf Parity groups.now slot }
-    requires members { IsGroupOf groups.now (slot / 128) members.now }
+    requires slot { IsSlotOf Parity groups.now at.now.slot }
+    requires members { IsGroupOf groups.now (at.now.slot / 128) members.now }
+    requires stripe { IsParityAt (length members.now) at.now }
     requires drives { AreDrives D.units groups.now drives.old }
     requires size { length buffer.old ≤ unit_bytes groups.now }
     requires part { length part.old ≡ length buffer.old }
     requires scratch { IsBuffer (unit_bytes groups.now) (length buffer.old) (length scratch.old) }
-    ensures front { front (length buffer.old) (unit_of groups.now (cells D.units D.lost drives.new) slot) ≡ if_ok result buffer.new }
-    ensures whole { length buffer.old ≡ unit_bytes groups.now → unit_of groups.now (cells D.units D.lost drives.new) slot ≡ if_ok result buffer.new }
-    ensures leaves { ReadLeaves D.units D.lost D.failures groups.now (slot / 128) drives.old drives.new }
+    ensures front { front (length buffer.old) (unit_of groups.now (cells D.units D.lost drives.new) at.now.slot) ≡ if_ok result buffer.new }
+    ensures whole { length buffer.old ≡ unit_bytes groups.now
+        → unit_of groups.now (cells D.units D.lost drives.new) at.now.slot ≡ if_ok result buffer.new }
+    ensures leaves { ReadLeaves D.units D.lost D.failures groups.now (at.now.slot / 128) drives.old drives.new }
 {
-    let at = groups.row_among(members, slot);
-    let group = slot / SLOTS;
-    stripe::read_stripe(groups, members, drives, group, &at, buffer, part, scratch)
+    let row = groups.row_among(members, at);
+    let group = at.slot / SLOTS;
+    stripe::read_stripe(groups, members, drives, group, &row, buffer, part, scratch)
 }
 
 /// Reads the effective unit of a slot, with two buffers of a unit's length; refused where the unit's drive and another member's are lost.
@@ -69,17 +73,13 @@ pub fn read<D: Drive>(
     requires scratch { length scratch.old ≡ 2 * unit_bytes groups.now }
     ensures ok { OnOk result (unit_of groups.now (cells D.units D.lost drives.new) slot ≡ Some unit.new) }
     ensures gone { IfErr result (NamesGone groups.now (cells D.units D.lost drives.new) slot) }
-    ensures units { AreSound groups.now (cells D.units D.lost drives.old)
-        → KeepsUnits groups.now (cells D.units D.lost drives.old) (cells D.units D.lost drives.new) }
-    ensures sound { AreSound groups.now (cells D.units D.lost drives.old) → AreSound groups.now (cells D.units D.lost drives.new) }
-    ensures touched { KeepsDrives D.units D.lost D.failures NoPlace drives.old drives.new }
-    ensures elsewhere { SameBut (HasMemberOn groups.now (slot / 128)) drives.old drives.new }
-    ensures drives { AreDrives D.units groups.now drives.new }
+    ensures leaves { ReadLeaves D.units D.lost D.failures groups.now (slot / 128) drives.old drives.new }
 {
     let size = unit.len();
     let members = groups.members(slot / SLOTS);
+    let at = groups.locate_parity(members, slot);
     let part = &mut scratch[..size];
-    read_fronts(groups, members, drives, slot, unit, part, &mut [])
+    read_fronts(groups, members, drives, &at, unit, part, &mut [])
         .then_some(())
         .ok_or(StoreRefusal::Gone(slot))
 }
@@ -98,56 +98,72 @@ pub fn read_header<D: Drive>(
     requires scratch { length scratch.old ≡ 2 * unit_bytes groups.now }
     ensures ok { OnOk result (header_of groups.now (cells D.units D.lost drives.new) slot ≡ Some header.new) }
     ensures gone { IfErr result (NamesGone groups.now (cells D.units D.lost drives.new) slot) }
-    ensures units { AreSound groups.now (cells D.units D.lost drives.old)
-        → KeepsUnits groups.now (cells D.units D.lost drives.old) (cells D.units D.lost drives.new) }
-    ensures sound { AreSound groups.now (cells D.units D.lost drives.old) → AreSound groups.now (cells D.units D.lost drives.new) }
-    ensures touched { KeepsDrives D.units D.lost D.failures NoPlace drives.old drives.new }
-    ensures elsewhere { SameBut (HasMemberOn groups.now (slot / 128)) drives.old drives.new }
-    ensures drives { AreDrives D.units groups.now drives.new }
+    ensures leaves { ReadLeaves D.units D.lost D.failures groups.now (slot / 128) drives.old drives.new }
 {
-    read_header_among(
-        groups,
-        groups.members(slot / SLOTS),
-        drives,
-        slot,
-        header,
-        scratch,
-    )
-    .then_some(())
-    .ok_or(StoreRefusal::Gone(slot))
+    let members = groups.members(slot / SLOTS);
+    let at = groups.locate_parity(members, slot);
+    read_header_at(groups, members, drives, &at, header, scratch)
+        .then_some(())
+        .ok_or(StoreRefusal::Gone(slot))
 }
 
-/// Reads the 32 bytes of a slot's header alone, by the members of its group, for a caller that reads many slots of one group.
-/// False where the unit's drive and another member's are lost. Takes a buffer of two units' length. Inlined, so that the members aren't
-/// looked up again.
+/// Reads the header of a slot by where it lies, with a buffer of two units' length; false where the unit's drive and another
+/// member's are lost.
 #[inline(always)]
-pub fn read_header_among<D: Drive>(
+fn read_header_at<D: Drive>(
     groups: &GroupTable,
     members: &[Member],
     drives: &mut [D],
-    slot: u16,
+    at: &ParityAt,
     header: &mut [u8],
     scratch: &mut [u8],
 ) -> bool
-    requires slot { IsSlotOf Parity groups.now slot }
-    requires members { IsGroupOf groups.now (slot / 128) members.now }
+    requires slot { IsSlotOf Parity groups.now at.now.slot }
+    requires members { IsGroupOf groups.now (at.now.slot / 128) members.now }
+    requires stripe { IsParityAt (length members.now) at.now }
     requires drives { AreDrives D.units groups.now drives.old }
     requires header { length header.old ≡ HEADER_BYTES }
     requires scratch { length scratch.old ≡ 2 * unit_bytes groups.now }
-    ensures header { header_of groups.now (cells D.units D.lost drives.new) slot ≡ if_ok result header.new }
-    ensures leaves { ReadLeaves D.units D.lost D.failures groups.now (slot / 128) drives.old drives.new }
+    ensures header { header_of groups.now (cells D.units D.lost drives.new) at.now.slot ≡ if_ok result header.new }
+    ensures leaves { ReadLeaves D.units D.lost D.failures groups.now (at.now.slot / 128) drives.old drives.new }
 {
-    let (whole, part) = scratch.split_at_mut(scratch.len() / 2);
-    let size = header.len();
-    read_fronts(
-        groups,
-        members,
-        drives,
-        slot,
-        header,
-        &mut part[..size],
-        whole,
-    )
+    let (whole, rest) = scratch.split_at_mut(scratch.len() / 2);
+    let part = &mut rest[..header.len()];
+    read_fronts(groups, members, drives, at, header, part, whole)
+}
+
+/// Reads the headers of a parity group's slots in ascending order, that of index i into `headers[i]`, with a buffer of two
+/// units' length. Takes as many buffers as the group has slots. Returns the index of the first slot whose drive and another
+/// member's are lost, or the count of slots. Where each slot lies is counted on from the one before it.
+pub fn read_headers<D: Drive>(
+    groups: &GroupTable,
+    drives: &mut [D],
+    group: u16,
+    headers: &mut [[u8; HEADER_BYTES]],
+    scratch: &mut [u8],
+) -> u16
+    requires group { group < 512 }
+    requires parity { class_in (group_at groups.now group) ≡ Some Parity }
+    requires many { length headers.old ≡ slots_in groups.now.segments (group_at groups.now group) }
+    requires drives { AreDrives D.units groups.now drives.old }
+    requires scratch { length scratch.old ≡ 2 * unit_bytes groups.now }
+    ensures read { AreSound groups.now (cells D.units D.lost drives.old)
+        → AreHeaders groups.now (cells D.units D.lost drives.old) group result headers.new }
+    ensures gone { result < length headers.old → unit_of groups.now (cells D.units D.lost drives.new) (128 * group + result) ≡ None }
+    ensures within { result ≤ length headers.old }
+    ensures leaves { ReadLeaves D.units D.lost D.failures groups.now group drives.old drives.new }
+{
+    let members = groups.members(group);
+    let count = groups.slots_of(group);
+    let mut at = ParityAt::first(members.len() as u8, group);
+    for index in 0..count {
+        let header = &mut headers[index as usize];
+        if !read_header_at(groups, members, drives, &at, header, scratch) {
+            return index;
+        }
+        at = at.next(members.len() as u8);
+    }
+    count
 }
 
 /// Writes the unit of a slot and its parity, as far as their drives are there, with two buffers of a unit's length; refused

@@ -8,10 +8,10 @@ use Rattle.extent_groups.proofs.StoreCalls.{read_keeps, drives_kept}
 use Rattle.mirrored_store.proofs.read_fronts.Goals as goal
 
 pub read_pair-requires-clause-first : goal.read_pair-requires-clause-first
-read_pair-requires-clause-first g c = site_places _ _ _ c.args.slot _ c.requires.members.formed c.requires.drives c.pair_among.ensures.site _ (inl refl)
+read_pair-requires-clause-first g c = site_places _ _ _ c.args.at.now.slot _ c.requires.members.formed c.requires.drives c.pair_among.ensures.site _ (inl refl)
 
 pub read_pair-requires-clause-second : goal.read_pair-requires-clause-second
-read_pair-requires-clause-second g c = site_places _ _ _ c.args.slot _ c.requires.members.formed c.requires.drives c.pair_among.ensures.site _ (inr refl)
+read_pair-requires-clause-second g c = site_places _ _ _ c.args.at.now.slot _ c.requires.members.formed c.requires.drives c.pair_among.ensures.site _ (inr refl)
 
 pub returns-clause-leaves : goal.returns-clause-leaves
 returns-clause-leaves g c = record {
@@ -21,8 +21,8 @@ returns-clause-leaves g c = record {
   elsewhere =
       same_more c.args.drives.now c.read_pair.new.drives
       (λ d is. elim is [
-        | inl e ↦ subst (HasMemberOn c.args.groups.now (c.args.slot / 128)) (sym e) (site_member c.args.groups.now c.args.slot _ c.pair_among.result.0 c.requires.members.formed c.pair_among.ensures.site (inl refl))
-        | inr e ↦ subst (HasMemberOn c.args.groups.now (c.args.slot / 128)) (sym e) (site_member c.args.groups.now c.args.slot _ c.pair_among.result.1 c.requires.members.formed c.pair_among.ensures.site (inr refl))
+        | inl e ↦ subst (HasMemberOn c.args.groups.now (c.args.at.now.slot / 128)) (sym e) (site_member c.args.groups.now c.args.at.now.slot _ c.pair_among.result.0 c.requires.members.formed c.pair_among.ensures.site (inl refl))
+        | inr e ↦ subst (HasMemberOn c.args.groups.now (c.args.at.now.slot / 128)) (sym e) (site_member c.args.groups.now c.args.at.now.slot _ c.pair_among.result.1 c.requires.members.formed c.pair_among.ensures.site (inr refl))
       ])
       c.read_pair.ensures.elsewhere;
   drives = drives_kept _ c.read_pair.ensures.touched c.requires.drives;
@@ -35,9 +35,9 @@ pub read_pair-requires-clause-scratch : goal.read_pair-requires-clause-scratch
 read_pair-requires-clause-scratch g c = have_room g.D.Drive.units _ _ _ c.args.drives.now c.requires.scratch c.requires.drives.sized
 
 pub returns-clause-front : goal.returns-clause-front
-returns-clause-front g c = slot_front g.D.Drive.units g.D.Drive.lost c.read_pair.new.drives c.args.groups.now c.args.slot _ (length c.args.buffer.now) _ c.pair_among.ensures.site c.requires.size c.read_pair.ensures.unit
+returns-clause-front g c = slot_front g.D.Drive.units g.D.Drive.lost c.read_pair.new.drives c.args.groups.now c.args.at.now.slot _ (length c.args.buffer.now) _ c.pair_among.ensures.site c.requires.size c.read_pair.ensures.unit
 
 pub returns-clause-whole : goal.returns-clause-whole
 returns-clause-whole g c = λ same.
-    slot_whole g.D.Drive.units g.D.Drive.lost c.read_pair.new.drives c.args.groups.now c.args.slot (length c.args.buffer.now) _ (drives_kept _ c.read_pair.ensures.touched c.requires.drives) same
-    (slot_front g.D.Drive.units g.D.Drive.lost c.read_pair.new.drives c.args.groups.now c.args.slot _ (length c.args.buffer.now) _ c.pair_among.ensures.site c.requires.size c.read_pair.ensures.unit)
+    slot_whole g.D.Drive.units g.D.Drive.lost c.read_pair.new.drives c.args.groups.now c.args.at.now.slot (length c.args.buffer.now) _ (drives_kept _ c.read_pair.ensures.touched c.requires.drives) same
+    (slot_front g.D.Drive.units g.D.Drive.lost c.read_pair.new.drives c.args.groups.now c.args.at.now.slot _ (length c.args.buffer.now) _ c.pair_among.ensures.site c.requires.size c.read_pair.ensures.unit)

@@ -16,7 +16,7 @@ slot g c =
 elsewhere : (g : given.Over) (c : After-read_slot g) → c.args.index < 128 → SameBut (HasMemberOn c.args.groups.now c.args.at.group) c.args.drives.now c.read_slot.new.drives
 elsewhere g c small =
     let whole : (128 * c.args.at.group + c.args.index) / 128 ≡ c.args.at.group = omega (arith, small) in
-    subst (λ h. SameBut (HasMemberOn c.args.groups.now h) c.args.drives.now c.read_slot.new.drives) whole c.read_slot.ensures.elsewhere
+    subst (λ h. SameBut (HasMemberOn c.args.groups.now h) c.args.drives.now c.read_slot.new.drives) whole c.read_slot.ensures.leaves.elsewhere
 
 pub overflow_add-at : goal.overflow_add-at
 overflow_add-at g c =
@@ -30,12 +30,12 @@ read_slot-requires-clause-slot g c = (slot g (goal.at.read_slot-requires-clause-
 pub returns-in-Ok-clause-outcome : goal.returns-in-Ok-clause-outcome
 returns-in-Ok-clause-outcome g c =
     index_had g.D.Drive.units g.D.Drive.lost c.args.groups.now c.read_slot.new.drives c.args.at.group c.args.at.member c.args.offset c.args.index c.args.at.from c.read_slot.new.unit
-    c.requires.route.groups_are c.read_slot.ensures.drives c.requires.route.member c.requires.offset c.requires.role c.in-Ok.ensures.ok
+    c.requires.route.groups_are c.read_slot.ensures.leaves.drives c.requires.route.member c.requires.offset c.requires.role c.in-Ok.ensures.ok
 
 pub returns-in-Err-clause-outcome : goal.returns-in-Err-clause-outcome
 returns-in-Err-clause-outcome g c =
     index_beyond g.D.Drive.units g.D.Drive.lost c.args.groups.now c.read_slot.new.drives c.args.at.group c.args.at.member c.args.offset c.args.index c.args.at.from
-    c.requires.route.groups_are c.read_slot.ensures.drives c.requires.route.member c.requires.offset c.requires.role c.in-Err.ensures.gone.1
+    c.requires.route.groups_are c.read_slot.ensures.leaves.drives c.requires.route.member c.requires.offset c.requires.role c.in-Err.ensures.gone.1
 
 pub returns-in-Ok-clause-elsewhere : goal.returns-in-Ok-clause-elsewhere
 returns-in-Ok-clause-elsewhere g c =

@@ -1,5 +1,5 @@
 use Rattle.std.proofs.Common.{◌<◌, sym, subst}
-use Rattle.array_parts.proofs.Headers.{few_slots}
+use Rattle.extent_groups.proofs.GroupReads.{few_slots}
 use Rattle.header_scan.proofs.pass.count_slots.Goals as goal
 
 pub returns-clause-few : goal.returns-clause-few

@@ -1,7 +1,7 @@
 use Rattle.std.proofs.Common.{◌≡◌, ◌+◌, ◌*◌, refl, sym, subst, None}
 use Rattle.extent_groups.specs.Cells.{Cells}
-use Rattle.extent_groups.specs.Stores.{unit_of, AreSound, KeepsUnits}
-use Rattle.array_parts.specs.Slots.{cells_in, AreHeaders}
+use Rattle.extent_groups.specs.Stores.{unit_of, AreHeaders, AreSound, KeepsUnits}
+use Rattle.array_parts.specs.Slots.{cells_in}
 use Rattle.array_parts.specs.Views.{view_of, cells_of, Loses}
 use Rattle.array_parts.proofs.Calls.{loses_view}
 use Rattle.array_parts.proofs.Views.{view_cells}
