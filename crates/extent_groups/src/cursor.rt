@@ -1,4 +1,4 @@
-// Slots of a group in ascending order, each with where it lies.
+// A slot with where it lies, and the step to the next slot of its group.
 ghost use Rattle.std.specs.Prelude.{◌≡◌, ◌+◌, ◌*◌, ◌%◌, ◌<◌, ◌≤◌};
 ghost use Rattle.extent_groups.specs.Cursors.{IsMirroredAt, IsParityAt};
 
@@ -20,7 +20,7 @@ pub struct ParityAt {
 }
 
 impl MirroredAt {
-    /// The first slot of a group, 0 to 511, of 3 to 8 members.
+    /// The first slot of a mirrored group, by its count of members, 3 to 8, and its number, 0 to 511.
     pub fn first(members: u8, group: u16) -> MirroredAt
         requires some { 1 ≤ members }
         requires group { group < 512 }
@@ -33,7 +33,7 @@ impl MirroredAt {
         }
     }
 
-    /// The next slot of a group, counted on from this one. A group has fewer than 128 slots.
+    /// The next slot of a group of this count of members, which has fewer than 128 slots. It takes no division.
     #[inline(always)]
     pub fn next(&self, members: u8) -> MirroredAt
         requires many { (2 ≤ members) × (members ≤ 8) }
@@ -50,7 +50,7 @@ impl MirroredAt {
 }
 
 impl ParityAt {
-    /// The first slot of a group, 0 to 511, of 3 to 8 members.
+    /// The first slot of a parity group, by its count of members, 3 to 8, and its number, 0 to 511.
     pub fn first(members: u8, group: u16) -> ParityAt
         requires some { 2 ≤ members }
         requires group { group < 512 }
@@ -63,7 +63,7 @@ impl ParityAt {
         }
     }
 
-    /// The next slot of a group, counted on from this one. A group has fewer than 128 slots.
+    /// The next slot of a group of this count of members, which has fewer than 128 slots. It takes no division.
     #[inline(always)]
     pub fn next(&self, members: u8) -> ParityAt
         requires many { (2 ≤ members) × (members ≤ 8) }

@@ -56,7 +56,7 @@ pub fn two_copies(members: u8, index: u16) -> Copies
     }
 }
 
-/// The unit two positions after an odd unit's, which is even.
+/// The even unit of the segment two positions after that of an odd unit.
 fn two_further(members: u8, at: Spot) -> Spot
     requires many { (2 ≤ members) × (members ≤ 8) }
     requires member { at.member < members }
@@ -76,7 +76,7 @@ fn two_further(members: u8, at: Spot) -> Spot
     }
 }
 
-/// The unit after an even one of the same segment.
+/// The odd unit of a segment, by its even one.
 fn unit_after(at: Spot) -> Spot
     requires { at.offset < 256 }
     ensures { result ≡ record { member = at.member; offset = at.offset + 1 } }
@@ -87,7 +87,7 @@ fn unit_after(at: Spot) -> Spot
     }
 }
 
-/// Where the two copies of the slot after that of an index lie, counted on from its own: no number is divided by another one.
+/// Where the two copies of the slot after that of an index lie, by where its own lie: a step takes no division.
 #[inline(always)]
 pub fn next_copies(members: u8, index: u16, at: &Copies) -> Copies
     requires many { (2 ≤ members) × (members ≤ 8) }
@@ -140,7 +140,7 @@ pub fn one_stripe(members: u8, index: u16) -> Stripe
     }
 }
 
-/// The member itself, or the next one where it is the parity's.
+/// A member, or the one after it if it holds the parity.
 fn but_parity(parity: u8, member: u8) -> u8
     requires { member < 255 }
     ensures { result ≡ if member == parity then member + 1 else member }
@@ -148,7 +148,7 @@ fn but_parity(parity: u8, member: u8) -> u8
     if member == parity { member + 1 } else { member }
 }
 
-/// Where the parity slot after that of an index lies, counted on from its own: no number is divided by another one.
+/// Where the parity slot after that of an index lies, by where its own lies: a step takes no division.
 #[inline(always)]
 pub fn next_stripe(members: u8, index: u16, at: &Stripe) -> Stripe
     requires many { (2 ≤ members) × (members ≤ 8) }

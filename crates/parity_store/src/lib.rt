@@ -134,7 +134,7 @@ fn read_header_at<D: Drive>(
 
 /// Reads the headers of a parity group's slots in ascending order, that of index i into `headers[i]`, with a buffer of two
 /// units' length. Takes as many buffers as the group has slots. Returns the index of the first slot whose drive and another
-/// member's are lost, or the count of slots. Where each slot lies is counted on from the one before it.
+/// member's are lost, or the count of slots. Each slot's place is found from that of the slot before it.
 pub fn read_headers<D: Drive>(
     groups: &GroupTable,
     drives: &mut [D],
