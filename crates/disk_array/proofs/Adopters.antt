@@ -77,7 +77,7 @@ is_adopted units lost failures names parts M claims ready places live has is kep
   parts_are = refl;
   log = is.log;
   keys_are = keys_told parts.groups.blocks M ready.keys.items has.blocks is.keys;
-  kept = λ s. rw (kept s) (wants_placed M ready.log.items ready.wanted.items is.log (all_keys parts.groups M ready.keys.items has is.keys) is.wanted s);
+  kept = λ s. rw (kept s) (wants_placed M ready.log.items (vec_len ready.room.places) ready.wanted.items is.log (all_keys parts.groups M ready.keys.items has is.keys) is.wanted s);
 }
 
 -- it keeps what every array keeps

@@ -14,7 +14,7 @@ use Rattle.slot_tables.specs.Adopted.{IsPlaced}
 use Rattle.slot_tables.specs.Kept.{HavePlaces}
 use Rattle.slot_tables.proofs.Placing.{placed_slot}
 use Rattle.slot_tables.proofs.Seated.{some_here}
-use Rattle.slot_tables.specs.Claims.{how_many, claims_in, AreKeys, AreShared, AreOfPlaces, IsKey, IsWanted, AreWanted, wanted_at, kept_for, IsLowestUnclaimed, IsUnclaimed}
+use Rattle.slot_tables.specs.Claims.{how_many, claims_in, AreKeys, AreShared, AreOfPlaces, IsKey, IsWanted, AreWanted, LieBelow, wanted_at, kept_for, IsLowestUnclaimed, IsUnclaimed}
 
 -- a map of an array's blocks has keys of records everywhere
 pub all_keys : (groups : Groups) (M : ℕ → ℕ) (keys : List ℕ) → HasPlaces groups M → AreKeys groups.blocks M keys → (b : ℕ) → IsKey (M b)
@@ -53,9 +53,9 @@ of_list M records list r has = go (nat_lt (M r.block) (2 ^ 32)) refl ((list.each
         (omega (arith, many), same_Some _ _ (sym (at_told r.block (M r.block) many) ∙ at))
 
 -- what is wanted of a slot is what the map has there
-pub wants_placed : (M : ℕ → ℕ) (records : List Record) (wanted : List (Option ℕ)) → IsListOf M records → ((b : ℕ) → IsKey (M b)) → AreWanted records wanted
+pub wants_placed : (M : ℕ → ℕ) (records : List Record) (slots : ℕ) (wanted : List (Option ℕ)) → IsListOf M records → ((b : ℕ) → IsKey (M b)) → AreWanted records slots wanted
     → (s : ℕ) → IsPlaced M s (kept_for (wanted_at wanted s))
-wants_placed M records wanted list keys are s = go (wanted_at wanted s) (are.each s)
+wants_placed M records slots wanted list keys are s = go (wanted_at wanted s) (are.each s)
   where
     go : (o : Option ℕ) → IsWanted records s o → IsPlaced M s (kept_for o)
     go None none = λ b some at. none (record_of b (M b)) (in_list M records list b (keys b) some) at
@@ -63,34 +63,33 @@ wants_placed M records wanted list keys are s = go (wanted_at wanted s) (are.eac
         let told = of_list M records list some.0 some.1 in
         subst (λ n. (0 < M n) × ((record_of n (M n)).place ≡ s)) some.2 (told.0, ap (λ (r : Record). r.place) told.1 ∙ some.3)
 
--- so a slot that is wanted is of a group that is made, and has a place
-pub wanted_inside : (groups : Groups) (M : ℕ → ℕ) (records : List Record) (wanted : List (Option ℕ)) (n : ℕ) → IsListOf M records → ((b : ℕ) → IsKey (M b)) → AreWanted records wanted
-    → HasPlaces groups M → HavePlaces groups n → (slot b : ℕ) → wanted_at wanted slot ≡ Some b → slot < n
-wanted_inside groups M records wanted n list keys are places have slot b is =
-    let placed = subst (λ o. IsPlaced M slot (kept_for o)) is (wants_placed M records wanted list keys are slot) in
-    placed_slot groups slot n (subst (λ s. class_at groups s ≢ None) placed.1 (places.slots b placed.0)) have
+-- a record's place is of a group that is made, and so one of the slots that have places
+pub listed_low : (groups : Groups) (M : ℕ → ℕ) (records : List Record) (n : ℕ) → IsListOf M records → HasPlaces groups M → HavePlaces groups n → LieBelow n records
+listed_low groups M records n list places have r has =
+    let told = of_list M records list r has in
+    placed_slot groups r.place n (subst (λ (q : Record). class_at groups q.place ≢ None) told.1 (places.slots r.block told.0)) have
 
 -- the place of a block that has a key is wanted
-pub place_wanted : (M : ℕ → ℕ) (records : List Record) (wanted : List (Option ℕ)) → IsListOf M records → ((b : ℕ) → IsKey (M b)) → AreWanted records wanted
+pub place_wanted : (M : ℕ → ℕ) (records : List Record) (slots : ℕ) (wanted : List (Option ℕ)) → IsListOf M records → ((b : ℕ) → IsKey (M b)) → AreWanted records slots wanted
     → (b : ℕ) → 0 < M b → (c : ℕ) × (wanted_at wanted (record_of b (M b)).place ≡ Some c)
-place_wanted M records wanted list keys are b some = go (wanted_at wanted (record_of b (M b)).place) refl (are.each (record_of b (M b)).place)
+place_wanted M records slots wanted list keys are b some = go (wanted_at wanted (record_of b (M b)).place) refl (are.each (record_of b (M b)).place)
   where
     go : (o : Option ℕ) → wanted_at wanted (record_of b (M b)).place ≡ o → IsWanted records (record_of b (M b)).place o → (c : ℕ) × (wanted_at wanted (record_of b (M b)).place ≡ Some c)
     go None at none = absurd (none (record_of b (M b)) (in_list M records list b (keys b) some) refl)
     go (Some c) at here = (c, at)
 
 -- so the lowest slot that is wanted and not claimed is the lowest place without a claim
-pub unclaimed : {C : Type 0} (names : C → ℕ) (claims : List C) (M : ℕ → ℕ) (records : List Record) (wanted : List (Option ℕ)) (slot : ℕ)
-    → IsListOf M records → ((b : ℕ) → IsKey (M b)) → AreWanted records wanted → IsLowestUnclaimed names claims wanted slot → IsUnclaimed names claims M slot
-unclaimed {C} names claims M records wanted slot list keys are low =
-    let placed = subst (λ o. IsPlaced M slot (kept_for o)) low.wants (wants_placed M records wanted list keys are slot) in
+pub unclaimed : {C : Type 0} (names : C → ℕ) (claims : List C) (M : ℕ → ℕ) (records : List Record) (slots : ℕ) (wanted : List (Option ℕ)) (slot : ℕ)
+    → IsListOf M records → ((b : ℕ) → IsKey (M b)) → AreWanted records slots wanted → IsLowestUnclaimed names claims wanted slot → IsUnclaimed names claims M slot
+unclaimed {C} names claims M records slots wanted slot list keys are low =
+    let placed = subst (λ o. IsPlaced M slot (kept_for o)) low.wants (wants_placed M records slots wanted list keys are slot) in
     record {
       block = low.block;
       there = placed.0;
       place = placed.1;
       none = low.none;
       lowest = λ b some below.
-          let c = place_wanted M records wanted list keys are b some in
+          let c = place_wanted M records slots wanted list keys are b some in
           low.lowest (record_of b (M b)).place below c.0 c.1;
     }
 

@@ -5,9 +5,9 @@ use Rattle.std.proofs.Math.ListN.{set}
 use Rattle.std.proofs.Math.ListN.{get_or-append}
 use Rattle.std.proofs.Math.Seq.{get_or-append_seam, take-suc, take-length}
 use Rattle.std.proofs.lemmas.List.{get_or_past, get_or-set_same, get_or-set_other, length-set, length-append, get_or-replicate, length-replicate}
-use Rattle.std.proofs.lemmas.List.Elements.{Contains-append_left, Contains-push_cases, Contains-push}
+use Rattle.std.proofs.lemmas.List.Elements.{Contains-append_left, Contains-get_or, Contains-push_cases, Contains-push}
 use Rattle.std.proofs.lemmas.List.Sums.{sum_by-append}
-use Rattle.std.proofs.lemmas.Bool.{cases_eq}
+use Rattle.std.proofs.lemmas.Bool.{cases_eq, cases_lt}
 use Rattle.std.proofs.lemmas.Option.{same_Some}
 use Rattle.std.proofs.lemmas.Bool.Decides.{nat_tests}
 use Rattle.map_join.specs.declared.records.Record.{Record}
@@ -16,12 +16,20 @@ use Rattle.slot_tables.specs.declared.slot_state.SlotState.{SlotState}
 use Rattle.slot_tables.specs.declared.slot_state.SlotState.TheVariants as state
 use Rattle.slot_tables.specs.Kept.{kept_of, kepts_of, IsOf, AreOf}
 use Rattle.slot_tables.proofs.Places.{kept_past, kept_there}
-use Rattle.slot_tables.specs.Claims.{how_many, claims_in, IsWanted, AreWanted, wanted_at, kept_for, IsClaimed}
+use Rattle.slot_tables.specs.Claims.{how_many, claims_in, IsWanted, AreWanted, LieBelow, wanted_at, kept_for, IsClaimed}
+
+-- a slot that is wanted is in the table
+pub wanted_low : (wanted : List (Option ℕ)) (slot b : ℕ) → wanted_at wanted slot ≡ Some b → slot < length wanted
+wanted_low wanted slot b is = by (cases_lt slot (length wanted))
+  where
+    by : (slot < length wanted) ⊎ (length wanted ≤ slot) → slot < length wanted
+    by (inl inside) = inside
+    by (inr past) = absurd (let none = get_or_past wanted slot None past in cc)
 
 -- one more record: its slot is its block's
-pub wanted_more : (records : List Record) (wanted : List (Option ℕ)) (r : Record) → r.place < 65536 → AreWanted records wanted
-    → AreWanted (records ++ r ∷ []) (set wanted r.place (Some r.block))
-wanted_more records wanted r inside before = record {
+pub wanted_more : (records : List Record) (slots : ℕ) (wanted : List (Option ℕ)) (r : Record) → r.place < slots → AreWanted records slots wanted
+    → AreWanted (records ++ r ∷ []) slots (set wanted r.place (Some r.block))
+wanted_more records slots wanted r inside before = record {
   many = length-set wanted r.place (Some r.block) ∙ before.many;
   each = λ slot. go slot (cases_eq slot r.place);
 }
@@ -70,7 +78,7 @@ pub data IsSeat (was now : Option ℕ) (kept : Kept) : Type 0 where
 
 -- claims on their way into places: those that are left to place, those that are placed and the others are all
 pub record AreSeated {C : Type 0} (names : C → ℕ) (all : List C) (wanted : List (Option ℕ)) (left : List C) (now : List (Option ℕ)) (kept : List Kept) (others : List C) : Type 0 where
-  pub many : length now ≡ 65536
+  pub many : length now ≡ length wanted
   pub room : length kept ≡ 65536
   pub seats : (slot : ℕ) → IsSeat (wanted_at wanted slot) (wanted_at now slot) (get_or kept slot Nothing)
   pub claimed : (slot : ℕ) → IsClaimed names left now slot
@@ -79,10 +87,6 @@ pub record AreSeated {C : Type 0} (names : C → ℕ) (all : List C) (wanted : L
 seat_taken : (was : Option ℕ) (b : ℕ) (kept : Kept) → IsSeat was (Some b) kept → (was ≡ Some b) × (kept ≡ Nothing)
 seat_taken was b kept (waits e k) = (sym e, k)
 seat_taken was b kept (has e k) = absurd (cc)
-
--- what is wanted still was wanted
-pub still_wanted : (wanted now : List (Option ℕ)) (slot b : ℕ) (kept : Kept) → wanted_at now slot ≡ Some b → IsSeat (wanted_at wanted slot) (wanted_at now slot) kept → wanted_at wanted slot ≡ Some b
-still_wanted wanted now slot b kept is seat = (seat_taken (wanted_at wanted slot) b kept (subst (λ o. IsSeat (wanted_at wanted slot) o kept) is seat)).0
 
 -- a claim that a place wants
 pub seated_more : {C : Type 0} (names : C → ℕ) (all : List C) (wanted : List (Option ℕ)) (left : List C) (claim : C) (now : List (Option ℕ)) (kept : List Kept) (others : List C) (b : ℕ)
@@ -101,7 +105,7 @@ seated_more {C} names all wanted left claim now kept others b inside wants befor
     here = names claim
 
     in_now : here < length now
-    in_now = let m = before.many in omega (arith, m, inside)
+    in_now = wanted_low now here b wants
 
     in_kept : here < length kept
     in_kept = let m = before.room in omega (arith, m, inside)
@@ -284,11 +288,11 @@ last_of names all left p claims before = (out_less names left p before.of).1
 
 -- before the first claim, all are left
 pub none_seated : {C : Type 0} (names : C → ℕ) (all : List C) (wanted : List (Option ℕ)) (kept : List Kept) (others : List C)
-    → length wanted ≡ 65536 → length kept ≡ 65536 → ((slot : ℕ) → get_or kept slot Nothing ≡ Nothing) → ((slot : ℕ) → IsClaimed names all wanted slot) → length others ≡ 0
+    → length kept ≡ 65536 → ((slot : ℕ) → get_or kept slot Nothing ≡ Nothing) → ((slot : ℕ) → IsClaimed names all wanted slot) → length others ≡ 0
     → AreSeated names all wanted all wanted kept others
-none_seated names all wanted kept (c ∷ others) many room free claimed none = absurd (omega (arith, none))
-none_seated names all wanted kept [] many room free claimed none = record {
-  many = many;
+none_seated names all wanted kept (c ∷ others) room free claimed none = absurd (omega (arith, none))
+none_seated names all wanted kept [] room free claimed none = record {
+  many = refl;
   room = room;
   seats = λ slot. waits refl (free slot);
   claimed = claimed;
@@ -324,20 +328,21 @@ left_one {C} names all wanted left claim other now later kept after others done 
     go (Some b) at = absurd (let e = (done.seated b at).0 in cc)
     go None at = let d = done.left at in rw (same_Some _ _ d.0, d.1, d.2) (left_over names all wanted left claim now kept others at before)
 
--- marks of the slots that have a claim
-pub record AreMarked {C : Type 0} (names : C → ℕ) (claims : List C) (marks : List Bool) : Type 0 where
-  pub many : length marks ≡ 65536
-  pub each : (slot : ℕ) → slot < 65536 → get_or marks slot true ≡ nat_lt 0 (how_many names claims slot)
+-- marks of those of the first `slots` slots that have a claim
+pub record AreMarked {C : Type 0} (names : C → ℕ) (claims : List C) (slots : ℕ) (marks : List Bool) : Type 0 where
+  pub many : length marks ≡ slots
+  pub each : (slot : ℕ) → slot < slots → get_or marks slot true ≡ nat_lt 0 (how_many names claims slot)
 
-pub none_marked : {C : Type 0} (names : C → ℕ) (marks : List Bool) (count : ℕ) → count ≡ 65536 → marks ≡ replicate count false → AreMarked names [] marks
-none_marked names marks count is same = record {
-  many = ap length same ∙ length-replicate count false ∙ is;
-  each = λ slot inside. ap (λ m. get_or m slot true) same ∙ get_or-replicate count slot false true (omega (arith, is, inside));
+pub none_marked : {C : Type 0} (names : C → ℕ) (slots : ℕ) (marks : List Bool) → marks ≡ replicate slots false → AreMarked names [] slots marks
+none_marked names slots marks same = record {
+  many = ap length same ∙ length-replicate slots false;
+  each = λ slot inside. ap (λ m. get_or m slot true) same ∙ get_or-replicate slots slot false true inside;
 }
 
-pub marked_more : {C : Type 0} (names : C → ℕ) (claims : List C) (marks : List Bool) (claim : C) → names claim < 65536 → AreMarked names claims marks
-    → AreMarked names (claims ++ claim ∷ []) (set marks (names claim) true)
-marked_more {C} names claims marks claim inside before = record {
+-- one claim more; of a slot past the marks it changes none
+pub marked_more : {C : Type 0} (names : C → ℕ) (claims : List C) (slots : ℕ) (marks : List Bool) (claim : C) → AreMarked names claims slots marks
+    → AreMarked names (claims ++ claim ∷ []) slots (set marks (names claim) true)
+marked_more {C} names claims slots marks claim before = record {
   many = length-set marks (names claim) true ∙ before.many;
   each = λ slot low. go slot low (cases_eq slot (names claim));
 }
@@ -345,22 +350,22 @@ marked_more {C} names claims marks claim inside before = record {
     some_more : (n m : ℕ) → m ≡ n + 1 → true ≡ nat_lt 0 m
     some_more n m e = grind (arith, nat_tests)
 
-    go : (slot : ℕ) → slot < 65536 → (slot ≡ names claim) ⊎ (slot ≡ names claim → ⊥) → get_or (set marks (names claim) true) slot true ≡ nat_lt 0 (how_many names (claims ++ claim ∷ []) slot)
+    go : (slot : ℕ) → slot < slots → (slot ≡ names claim) ⊎ (slot ≡ names claim → ⊥) → get_or (set marks (names claim) true) slot true ≡ nat_lt 0 (how_many names (claims ++ claim ∷ []) slot)
     go slot low (inl e) =
         let m = counted_more names claims claim slot in
         let one : one_at (names claim) slot ≡ 1 = ap (one_at (names claim)) e ∙ one_here (names claim) in
         let many = before.many in
-        ap (λ s. get_or (set marks (names claim) true) s true) e ∙ get_or-set_same marks (names claim) true true (omega (arith, many, inside)) ∙ some_more (how_many names claims slot) (how_many names (claims ++ claim ∷ []) slot) (omega (arith, m, one))
+        ap (λ s. get_or (set marks (names claim) true) s true) e ∙ get_or-set_same marks (names claim) true true (omega (arith, many, low, e)) ∙ some_more (how_many names claims slot) (how_many names (claims ++ claim ∷ []) slot) (omega (arith, m, one))
     go slot low (inr ne) =
         let m = counted_more names claims claim slot in
         let none = one_else (names claim) slot ne in
         get_or-set_other marks (names claim) slot true true ne ∙ before.each slot low ∙ ap (nat_lt 0) (omega (arith, m, none))
 
 -- no slot is wanted by no record
-pub none_wanted : (wanted : List (Option ℕ)) (count : ℕ) → count ≡ 65536 → wanted ≡ replicate count None → AreWanted [] wanted
-none_wanted wanted count is same = record {
-  many = ap length same ∙ length-replicate count None ∙ is;
-  each = λ slot. rw (ap (λ w. wanted_at w slot) same ∙ replicated count slot) (λ r has e. absurd (let h = has.1 in omega (arith, h)));
+pub none_wanted : (slots : ℕ) (wanted : List (Option ℕ)) → wanted ≡ replicate slots None → AreWanted [] slots wanted
+none_wanted slots wanted same = record {
+  many = ap length same ∙ length-replicate slots None;
+  each = λ slot. rw (ap (λ w. wanted_at w slot) same ∙ replicated slots slot) (λ r has e. absurd (let h = has.1 in omega (arith, h)));
 }
   where
     replicated : (n slot : ℕ) → wanted_at (replicate n None) slot ≡ None
@@ -376,23 +381,27 @@ take_next xs index d inside = ap (λ n. take n xs) (next index) ∙ take-suc xs 
     next : (n : ℕ) → n + 1 ≡ suc n
     next n = omega arith
 
--- the next record of a list, and the next claim
-pub wanted_next : (records : List Record) (index : ℕ) (wanted : List (Option ℕ)) (d : Record) (here : ℕ) → index < length records
-    → here ≡ (get_or records index d).place → here < 65536 → AreWanted (take index records) wanted
-    → AreWanted (take (index + 1) records) (set wanted here (Some (get_or records index d).block))
-wanted_next records index wanted d here inside is low before =
-    rw (take_next records index d inside, is) (wanted_more (take index records) wanted (get_or records index d) (rw (sym is) low) before)
+-- the place of a record of the list is below what all its places are
+pub place_low : (records : List Record) (index slots : ℕ) (d : Record) (here : ℕ) → index < length records → here ≡ (get_or records index d).place → LieBelow slots records → here < slots
+place_low records index slots d here inside is all = rw is (all (get_or records index d) (Contains-get_or records index d inside))
 
-pub marked_next : {C : Type 0} (names : C → ℕ) (claims : List C) (index : ℕ) (marks : List Bool) (claim : C) (here : ℕ) → index < length claims
-    → claim ≡ get_or claims index claim → here ≡ names claim → names claim < 65536 → AreMarked names (take index claims) marks
-    → AreMarked names (take (index + 1) claims) (set marks here true)
-marked_next {C} names claims index marks claim here inside is named low before =
-    rw (take_next claims index claim inside, sym is, named) (marked_more names (take index claims) marks claim low before)
+-- the next record of a list, and the next claim
+pub wanted_next : (records : List Record) (index slots : ℕ) (wanted : List (Option ℕ)) (d : Record) (here : ℕ) → index < length records
+    → here ≡ (get_or records index d).place → LieBelow slots records → AreWanted (take index records) slots wanted
+    → AreWanted (take (index + 1) records) slots (set wanted here (Some (get_or records index d).block))
+wanted_next records index slots wanted d here inside is all before =
+    rw (take_next records index d inside, is) (wanted_more (take index records) slots wanted (get_or records index d) (all (get_or records index d) (Contains-get_or records index d inside)) before)
+
+pub marked_next : {C : Type 0} (names : C → ℕ) (claims : List C) (index slots : ℕ) (marks : List Bool) (claim : C) (here : ℕ) → index < length claims
+    → claim ≡ get_or claims index claim → here ≡ names claim → AreMarked names (take index claims) slots marks
+    → AreMarked names (take (index + 1) claims) slots (set marks here true)
+marked_next {C} names claims index slots marks claim here inside is named before =
+    rw (take_next claims index claim inside, sym is, named) (marked_more names (take index claims) slots marks claim before)
 
 -- all claims have their marks
-pub marked_all : {C : Type 0} (names : C → ℕ) (claims : List C) (index : ℕ) (marks : List Bool) → index ≡ length claims → AreMarked names (take index claims) marks
-    → (slot : ℕ) → slot < 65536 → IsTrue (get_or marks slot true) ↔ (0 < how_many names claims slot)
-marked_all {C} names claims index marks end before slot low =
+pub marked_all : {C : Type 0} (names : C → ℕ) (claims : List C) (index slots : ℕ) (marks : List Bool) → index ≡ length claims → AreMarked names (take index claims) slots marks
+    → (slot : ℕ) → slot < slots → IsTrue (get_or marks slot true) ↔ (0 < how_many names claims slot)
+marked_all {C} names claims index slots marks end before slot low =
     rw (before.each slot low, end, take-length claims) (decides (how_many names claims slot))
   where
     decides : (n : ℕ) → IsTrue (nat_lt 0 n) ↔ (0 < n)

@@ -45,11 +45,17 @@ abbrev pub IsWanted : List Record → ℕ → Option ℕ → Type 0
 IsWanted records slot None = (r : Record) → Contains records r → r.place ≡ slot → ⊥
 IsWanted records slot (Some b) = (r : Record) × Contains records r × (r.block ≡ b) × (r.place ≡ slot)
 
+-- the block that a table has for a slot: none past its end
 abbrev pub wanted_at : List (Option ℕ) → ℕ → Option ℕ
 wanted_at wanted slot = slice_index_or wanted slot None
 
-pub record AreWanted (records : List Record) (wanted : List (Option ℕ)) : Type 0 where
-  pub many : length wanted ≡ 65536
+-- each record's place is one of the first `slots` slots
+abbrev pub LieBelow : ℕ → List Record → Type 0
+LieBelow slots records = (r : Record) → Contains records r → r.place < slots
+
+-- a table for the first `slots` slots; no slot past them is wanted
+pub record AreWanted (records : List Record) (slots : ℕ) (wanted : List (Option ℕ)) : Type 0 where
+  pub many : length wanted ≡ slots
   pub each : (slot : ℕ) → IsWanted records slot (wanted_at wanted slot)
 
 -- what is kept of a slot that a block wants
@@ -98,14 +104,16 @@ IsNotAdopted names claims M Memory = Unit {0}
 IsNotAdopted names claims M (NoClaim slot) = IsUnclaimed names claims M slot
 
 -- all is ready for an array of these groups and this map: its log, what each slot is wanted for, of which there are claims, its
--- keys and buffers, places that are free for the slots of its groups, and room for the claims that are left over
+-- keys and buffers, places that are free for the slots of its groups, and room for the claims that are left over. The tables of
+-- wanted blocks and of places are as short as the groups allow.
 pub record AreReady {C : Type 0} (names : C → ℕ) (groups : Groups) (M : ℕ → ℕ) (claims : List C) (ready : Ready C) : Type 0 where
   pub log : IsListOf M ready.log.items
-  pub wanted : AreWanted ready.log.items ready.wanted.items
+  pub wanted : AreWanted ready.log.items (vec_len ready.room.places) ready.wanted.items
   pub claimed : (slot : ℕ) → IsClaimed names claims ready.wanted.items slot
   pub keys : AreKeys groups.blocks M ready.keys.items
   pub room : HasRoom (unit_bytes groups) (vec_len ready.room.places) (length claims) ready.room
   pub places : HavePlaces groups (vec_len ready.room.places)
+  pub fewest : (n : ℕ) → HavePlaces groups n → vec_len ready.room.places ≤ n
 
 -- no worker holds a slot, or has a ticket of one
 abbrev pub IsIdle : Flat → Type 0

@@ -1,5 +1,5 @@
 // All that an array takes and tests before it is put together from parts, a map and claims.
-ghost use Rattle.std.specs.Prelude.{◌*◌, ◌+◌, ◌<◌, IfOk, IfErr};
+ghost use Rattle.std.specs.Prelude.{ℕ, ◌*◌, ◌+◌, ◌<◌, ◌≤◌, IfOk, IfErr};
 ghost use Rattle.map_join.specs.Maps.{at};
 ghost use Rattle.extents.specs.declared.shape.TheConstants.{HEADER_BYTES};
 ghost use Rattle.array_parts.specs.Fit.{IsFit};
@@ -34,7 +34,7 @@ pub struct Room<C: Hold> {
     pub places: Vec<SlotState<C>>,
 }
 
-// All the memory that it takes, and which block wants which slot.
+// All the memory that it takes, and which block wants which of the slots that have places.
 #[derive(Drop)]
 pub struct Ready<C: Hold> {
     pub log: Vec<Record>,
@@ -56,9 +56,10 @@ fn keys_of(alloc: Global, blocks: u32, map: &BlockMap) -> Result<Vec<u64>, Alloc
     Ok(keys)
 }
 
-// How many places are enough for the slots of the groups that are made.
+// The fewest places that are enough for the slots of the groups that are made.
 fn places_for(groups: &GroupTable) -> usize
-    ensures { HavePlaces groups.now result }
+    ensures enough { HavePlaces groups.now result }
+    ensures fewest { (n : ℕ) → HavePlaces groups.now n → result ≤ n }
 {
     // A lookup of any group's members shows that the table has 512 numbers.
     let _members = groups.members(0);
@@ -115,11 +116,11 @@ pub fn prepare<D: Drive, C: Hold>(
     let Ok(keys) = keys_of(alloc, parts.shape.blocks, map) else {
         return Err(NotAdopted::Memory);
     };
-    let Ok(wanted) = blocks_by_slot(alloc, &log) else {
+    let slots = places_for(&parts.groups);
+    let Ok(wanted) = blocks_by_slot(alloc, &log, slots) else {
         return Err(NotAdopted::Memory);
     };
-    let slots = places_for(&parts.groups);
-    match first_unclaimed(alloc, &wanted, claims, slots) {
+    match first_unclaimed(alloc, &wanted, claims) {
         Ok(None) => {}
         Ok(Some(slot)) => return Err(NotAdopted::NoClaim(slot)),
         Err(_) => return Err(NotAdopted::Memory),

@@ -3,11 +3,10 @@ ghost use Rattle.std.specs.Prelude.{◌≡◌, ℕ, ◌+◌, ◌<◌, ◌≤◌,
 ghost use Rattle.std.specs.Prelude.{vec_len, vec_capacity, IfOk, MatchOption, IsTrue, ◌↔◌, true, false, Some, None};
 ghost use Rattle.slot_tables.specs.Views.{Nothing, Newest};
 ghost use Rattle.slot_tables.specs.Kept.{kept_of, kepts_of, IsOf, AreOf};
-ghost use Rattle.slot_tables.specs.Claims.{how_many, claims_in, AreWanted, IsClaimed, IsLowestUnclaimed, kept_for, wanted_at};
+ghost use Rattle.slot_tables.specs.Claims.{how_many, claims_in, AreWanted, IsClaimed, IsLowestUnclaimed, LieBelow, kept_for, wanted_at};
 
 use crate::hold::Hold;
 use crate::slot_state::{SlotState, put_in};
-use crate::tables::SLOTS;
 use map_join::Record;
 use std::alloc::{AllocError, Global};
 
@@ -23,14 +22,16 @@ fn no_marks(alloc: Global, count: usize) -> Result<Vec<bool>, AllocError>
     vec![in alloc; false; count]
 }
 
-// The block that each slot is the newest place of.
+// The block that each of the first `slots` slots is the newest place of.
 pub(crate) fn blocks_by_slot(
     alloc: Global,
     records: &[Record],
+    slots: usize,
 ) -> Result<Vec<Option<u32>>, AllocError>
-    ensures { IfOk result (λ wanted. AreWanted records.now wanted.items) }
+    requires { LieBelow slots records.now }
+    ensures { IfOk result (λ wanted. AreWanted records.now slots wanted.items) }
 {
-    let mut wanted = no_blocks(alloc, SLOTS)?;
+    let mut wanted = no_blocks(alloc, slots)?;
     for index in 0..records.len() {
         let record = &records[index];
         wanted[usize::from(record.place)] = Some(record.block);
@@ -38,38 +39,55 @@ pub(crate) fn blocks_by_slot(
     Ok(wanted)
 }
 
-// Which slots have a claim.
-fn claimed<C: Hold>(alloc: Global, claims: &[C]) -> Result<Vec<bool>, AllocError>
-    ensures many { IfOk result (λ marks. length marks.items ≡ 65536) }
-    ensures each { IfOk result (λ marks. (slot : ℕ) → slot < 65536 → (IsTrue (slice_index_or marks.items slot true) ↔ (0 < how_many C.names claims.now slot))) }
+// Marks a slot, if the table has a mark for it.
+fn mark(marks: &mut Vec<bool>, slot: u16)
+    ensures { marks.new.items ≡ slice_set marks.old.items slot true }
 {
-    let mut marks = no_marks(alloc, SLOTS)?;
+    if usize::from(slot) < marks.len() {
+        marks[usize::from(slot)] = true;
+    }
+}
+
+// Which of the first `slots` slots have a claim.
+fn claimed<C: Hold>(alloc: Global, claims: &[C], slots: usize) -> Result<Vec<bool>, AllocError>
+    ensures many { IfOk result (λ marks. length marks.items ≡ slots) }
+    ensures each { IfOk result (λ marks. (slot : ℕ) → slot < slots → (IsTrue (slice_index_or marks.items slot true) ↔ (0 < how_many C.names claims.now slot))) }
+{
+    let mut marks = no_marks(alloc, slots)?;
     for index in 0..claims.len() {
-        marks[usize::from(claims[index].slot())] = true;
+        mark(&mut marks, claims[index].slot());
     }
     Ok(marks)
 }
 
-// The lowest slot that is wanted and of which there is no claim. None is wanted from `end` on, where no group is made.
+// The lowest slot that is wanted and of which there is no claim.
 pub(crate) fn first_unclaimed<C: Hold>(
     alloc: Global,
     wanted: &[Option<u32>],
     claims: &[C],
-    end: usize,
 ) -> Result<Option<u16>, AllocError>
-    requires many { length wanted.now ≡ 65536 }
-    requires end { end ≤ 65536 }
-    requires inside { (slot b : ℕ) → wanted_at wanted.now slot ≡ Some b → slot < end }
+    requires { length wanted.now ≤ 65536 }
     ensures { IfOk result (λ found. MatchOption found ((slot : ℕ) → IsClaimed C.names claims.now wanted.now slot)
         (IsLowestUnclaimed C.names claims.now wanted.now)) }
 {
-    let marks = claimed(alloc, claims)?;
-    for slot in 0..end {
+    let marks = claimed(alloc, claims, wanted.len())?;
+    for slot in 0..wanted.len() {
         if wanted[slot].is_some() && !marks[slot] {
             return Ok(Some(slot as u16));
         }
     }
     Ok(None)
+}
+
+// The block that wants a slot; past the table's end there is none.
+fn block_of(wanted: &[Option<u32>], slot: u16) -> Option<u32>
+    ensures { result ≡ wanted_at wanted.now slot }
+{
+    if usize::from(slot) < wanted.len() {
+        wanted[usize::from(slot)]
+    } else {
+        None
+    }
 }
 
 // Takes a claim into the place that wants it, or returns it.
@@ -78,8 +96,7 @@ fn seat<C: Hold>(
     places: &mut Vec<SlotState<C>>,
     claim: C,
 ) -> Option<C>
-    requires many { vec_len wanted.old ≡ 65536 }
-    requires inside { (b : ℕ) → wanted_at wanted.old.items (C.names claim) ≡ Some b → C.names claim < vec_len places.old }
+    requires many { vec_len wanted.old ≡ vec_len places.old }
     requires claims { AreOf C.names places.old.items }
     requires free { (b : ℕ) → wanted_at wanted.old.items (C.names claim) ≡ Some b
         → slice_index_or (kepts_of places.old.items) (C.names claim) Nothing ≡ Nothing }
@@ -93,7 +110,7 @@ fn seat<C: Hold>(
     ensures slot { C.names claim < 65536 }
 {
     let slot = claim.slot();
-    match wanted[usize::from(slot)] {
+    match block_of(wanted, slot) {
         None => Some(claim),
         Some(block) => {
             wanted[usize::from(slot)] = None;
@@ -110,10 +127,9 @@ pub fn seat_all<C: Hold>(
     places: &mut Vec<SlotState<C>>,
     others: &mut Vec<C>,
 )
-    requires many { vec_len wanted ≡ 65536 }
+    requires many { vec_len wanted ≡ vec_len places.old }
     requires all { (slot : ℕ) → IsClaimed C.names claims.items wanted.items slot }
     requires free { (slot : ℕ) → slice_index_or (kepts_of places.old.items) slot Nothing ≡ Nothing }
-    requires inside { (slot b : ℕ) → wanted_at wanted.items slot ≡ Some b → slot < vec_len places.old }
     requires most { vec_len places.old ≤ 65536 }
     requires claims { AreOf C.names places.old.items }
     requires none { vec_len others.old ≡ 0 }

@@ -1,9 +1,15 @@
-use Rattle.std.proofs.Common.{rules, refl}
-use Rattle.slot_tables.proofs.Seated.{none_wanted, wanted_next}
+use Rattle.std.proofs.Common.{arith}
+use Rattle.slot_tables.proofs.Seated.{none_wanted, place_low, wanted_next}
 use Rattle.slot_tables.proofs.seats.blocks_by_slot.Goals as goal
 
+pub index_mut-requires : goal.index_mut-requires
+index_mut-requires c =
+    let low = place_low c.args.records.now c.loop-index.index c.args.slots (record { block = 0; version = 0; hop = 0; place = 0 }) c.from.result c.loop-index-test.true c.from.ensures c.requires in
+    let many = c.loop-index.invariant.many in
+    omega (arith, low, many)
+
 pub loop-index-init : goal.loop-index-init
-loop-index-init c = none_wanted c.in_ok-wanted.wanted.items 65536 refl c.in_ok-wanted.ensures
+loop-index-init c = none_wanted c.args.slots c.in_ok-wanted.wanted.items c.in_ok-wanted.ensures
 
 pub loop-index-preserved : goal.loop-index-preserved
-loop-index-preserved c = wanted_next c.args.records.now c.loop-index.index c.loop-index.wanted.items (record { block = 0; version = 0; hop = 0; place = 0 }) c.from.result c.loop-index-test.true c.from.ensures (search rules) c.loop-index.invariant
+loop-index-preserved c = wanted_next c.args.records.now c.loop-index.index c.args.slots c.loop-index.wanted.items (record { block = 0; version = 0; hop = 0; place = 0 }) c.from.result c.loop-index-test.true c.from.ensures c.requires c.loop-index.invariant

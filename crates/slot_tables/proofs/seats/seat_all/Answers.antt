@@ -1,25 +1,26 @@
-use Rattle.std.proofs.Common.{get_or, refl, sym, ◌∙◌, arith}
-use Rattle.slot_tables.specs.Views.{Nothing}
+use Rattle.std.proofs.Common.{refl, sym, ◌∙◌, arith}
 use Rattle.slot_tables.specs.Kept.{kepts_of}
 use Rattle.slot_tables.proofs.Places.{kepts_many}
-use Rattle.slot_tables.proofs.Seated.{still_wanted, none_seated, seated_one, left_one, all_seated, seats_end}
+use Rattle.slot_tables.proofs.Seated.{none_seated, seated_one, left_one, all_seated, seats_end}
 use Rattle.slot_tables.proofs.seats.seat_all.Goals as goal
 
 pub loop-claim-init : goal.loop-claim-init
 loop-claim-init g c = record {
   seated = none_seated g.C.Hold.names c.args.claims.items c.args.wanted.items (kepts_of c.args.places.now.items) c.args.others.now.items
-      (sym c.args.wanted.ok.0 ∙ c.requires.many) (kepts_many c.args.places.now.items (let m = c.requires.most in let l = c.args.places.now.ok.0 in omega (arith, m, l))) c.requires.free c.requires.all (sym c.args.others.now.ok.0 ∙ c.requires.none);
+      (kepts_many c.args.places.now.items (let m = c.requires.most in let l = c.args.places.now.ok.0 in omega (arith, m, l))) c.requires.free c.requires.all (sym c.args.others.now.ok.0 ∙ c.requires.none);
   of = c.requires.claims;
   places = refl;
   room = let n = c.requires.none in let r = c.requires.room in omega (arith, n, r);
 }
 
-pub seat-requires-clause-inside : goal.seat-requires-clause-inside
-seat-requires-clause-inside g c b is =
-    let seats = c.loop-claim.invariant.seated.seats (g.C.Hold.names c.in-Some.claim) in
-    let low = c.requires.inside (g.C.Hold.names c.in-Some.claim) b (still_wanted c.args.wanted.items c.loop-claim.wanted.items (g.C.Hold.names c.in-Some.claim) b (get_or (kepts_of c.loop-claim.places.items) (g.C.Hold.names c.in-Some.claim) Nothing) is seats) in
+pub seat-requires-clause-many : goal.seat-requires-clause-many
+seat-requires-clause-many g c =
+    let many = c.loop-claim.invariant.seated.many in
     let same = c.loop-claim.invariant.places in
-    omega (arith, low, same)
+    let first = c.requires.many in
+    let own = c.loop-claim.wanted.ok.0 in
+    let own_first = c.args.wanted.ok.0 in
+    omega (arith, many, same, first, own, own_first)
 
 pub loop-claim-preserved-in-None : goal.loop-claim-preserved-in-None
 loop-claim-preserved-in-None g c = record {

@@ -1,10 +1,9 @@
-use Rattle.std.proofs.Common.{◌≤◌, length, vec_len, sym, arith}
+use Rattle.std.proofs.Common.{◌≤◌, length, sym, ◌∙◌, arith}
 use Rattle.std.proofs.lemmas.List.{length-map}
 use Rattle.map_join.specs.Maps.{at}
 use Rattle.array_parts.specs.Views.{drive_view, view_of}
 use Rattle.slot_tables.proofs.Adopting.{adopted_shows}
 use Rattle.disk_array.specs.Inside.{seen}
-use Rattle.slot_tables.proofs.Adoptions.{all_keys, wanted_inside}
 use Rattle.slot_tables.proofs.Places.{none_kept}
 use Rattle.disk_array.proofs.Adopters.{fit_parts, free_of, adopted, is_adopted, is_whole, is_ready_too}
 use Rattle.disk_array.proofs.array.Array.adopt_among.Goals as goal
@@ -18,12 +17,8 @@ seat_all-requires-clause-free g c = none_kept c.in-Ok.ready.room.places.items c.
 pub seat_all-requires-clause-claims : goal.seat_all-requires-clause-claims
 seat_all-requires-clause-claims g c = free_of g.C.Hold.names c.in-Ok.ready.room.places.items c.in-Ok.ensures.ok.room.free
 
-pub seat_all-requires-clause-inside : goal.seat_all-requires-clause-inside
-seat_all-requires-clause-inside g c =
-    let ready = c.in-Ok.ready in
-    let ok = c.in-Ok.ensures.ok in
-    wanted_inside c.args.parts.groups (at c.args.map) ready.log.items ready.wanted.items (vec_len ready.room.places) ok.log (all_keys c.args.parts.groups (at c.args.map) ready.keys.items c.requires.places ok.keys) ok.wanted
-    c.requires.places ok.places
+pub seat_all-requires-clause-many : goal.seat_all-requires-clause-many
+seat_all-requires-clause-many g c = c.in-Ok.ready.wanted.ok.0 ∙ c.in-Ok.ensures.ok.wanted.many
 
 pub seat_all-requires-clause-most : goal.seat_all-requires-clause-most
 seat_all-requires-clause-most g c = c.in-Ok.ensures.ok.places.most
