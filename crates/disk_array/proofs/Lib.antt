@@ -11,3 +11,4 @@ pub mod Beginnings
 pub mod Closing
 pub mod Regrouping
 pub mod Entering
+pub mod Refusing

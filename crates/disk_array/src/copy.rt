@@ -1,5 +1,5 @@
 // A copy of a block's newest content into a slot that a worker holds.
-ghost use Rattle.std.specs.Prelude.{◌≡◌, ℕ, ◌<◌, MatchResult, IfOk, IfErr, true, Some, None};
+ghost use Rattle.std.specs.Prelude.{◌≡◌, ◌≢◌, ℕ, ◌<◌, MatchResult, IfOk, IfErr, true, Some, None};
 ghost use Rattle.map_join.specs.declared.records.Record.{Record};
 ghost use Rattle.map_join.specs.Record.{record_at};
 ghost use Rattle.extents.specs.declared.header.Kind.{Kind as KindOf};
@@ -34,6 +34,7 @@ impl<D: Drive, C: Hold> Array<D, C> {
             × (self.new ≡ copy_view (with_parts self.old self.new.parts) ticket r k)
             × WasCopied self.old.parts self.new.parts r.place ticket k)) }
         ensures err { IfErr result (λ e. (e.1 ≡ claim) × IsRefused self.old self.new e.0) }
+        ensures memory { IfErr result (λ e. e.0 ≢ Refusal.Memory) }
         ensures flat { (F : Flat) (w : ℕ) → ShowsArray self.old F → F.held (C.names claim) (Worker w) ≡ true
             → MatchResult result
             (λ ticket. (G : Flat) × CopyCase F w ticket block (say.Copied ticket) G × ShowsArray self.new G)

@@ -1,5 +1,5 @@
 // What is learned of a record that may be stale.
-ghost use Rattle.std.specs.Prelude.{◌≡◌, ◌<◌, length, IfOk, IfErr, MatchOption, MatchResult};
+ghost use Rattle.std.specs.Prelude.{◌≡◌, ◌<◌, length, IfOk, IfErr, IsErr, IsErrOf, MatchOption, MatchResult};
 ghost use Rattle.flat_machine.specs.Flat.{Flat, Payload, Trim, content_under};
 ghost use Rattle.flat_machine.specs.Cases.{IsBehind};
 ghost use Rattle.flat_machine.specs.Learning.{LearnedCase, UnlearnedCase};
@@ -93,6 +93,7 @@ impl<D: Drive, C: Hold> Array<D, C> {
         requires block { asked.block < self.old.parts.groups.blocks }
         requires room { IfOk room (λ payload. length payload.items ≡ self.old.parts.groups.payload) }
         ensures err { IfErr result (IsRefused self.old self.new) }
+        ensures memory { IsErrOf result Refusal.Memory → IsErr room }
         ensures rest { self.new ≡ with_parts self.old self.new.parts }
         ensures flat { (F : Flat) → ShowsArray self.old F → MatchResult result
             (λ reading. (G : Flat) × LearnedCase F asked reading.told reading.content G × ShowsArray self.new G)

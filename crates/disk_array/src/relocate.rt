@@ -1,5 +1,5 @@
 // A member of a group goes onto another extent.
-ghost use Rattle.std.specs.Prelude.{◌≡◌, ◌<◌, length, IfErr, OnOk, MatchResult, None};
+ghost use Rattle.std.specs.Prelude.{◌≡◌, ◌≢◌, ◌<◌, length, IfErr, OnOk, MatchResult, None};
 ghost use Rattle.array_parts.specs.Views.{NotShifted, Shifted};
 ghost use Rattle.flat_machine.specs.Cases.{IsWanted, MoveCase};
 ghost use Rattle.flat_machine.specs.Flat.{Flat};
@@ -35,6 +35,7 @@ impl<D: Drive, C: Hold> Array<D, C> {
     ) -> Result<(), Refusal>
         ensures ok { OnOk result (Shifted self.old.parts group member to self.new.parts) }
         ensures err { IfErr result (IsRefused self.old self.new) }
+        ensures memory { IfErr result (λ refusal. refusal ≢ Refusal.Memory) }
         ensures rest { self.new ≡ with_parts self.old self.new.parts }
         ensures flat { (F : Flat) → ShowsArray self.old F → MatchResult result
             (λ done. (G : Flat) × MoveCase F group member to say.MovedExtent G × ShowsArray self.new G)

@@ -1,5 +1,5 @@
 // A trim into a slot that a worker holds.
-ghost use Rattle.std.specs.Prelude.{◌≡◌, ℕ, MatchResult, IfOk, IfErr, true};
+ghost use Rattle.std.specs.Prelude.{◌≡◌, ◌≢◌, ℕ, MatchResult, IfOk, IfErr, true};
 ghost use Rattle.flat_machine.specs.Steps as say;
 ghost use Rattle.flat_machine.specs.Flat.{Flat, Worker, Trim, waiting_unit};
 ghost use Rattle.flat_machine.specs.Cases.{FillCase, FillPasses};
@@ -24,6 +24,7 @@ impl<D: Drive, C: Hold> Array<D, C> {
         ensures ticket { IfOk result (λ ticket. (ticket ≡ C.names claim) × (self.new ≡ fill_view (with_parts self.old self.new.parts) ticket kind.Trim)
             × WasPut self.old.parts self.new.parts ticket (waiting_unit self.old.parts.groups.payload Trim)) }
         ensures err { IfErr result (λ e. (e.1 ≡ claim) × IsRefused self.old self.new e.0) }
+        ensures memory { IfErr result (λ e. e.0 ≢ Refusal.Memory) }
         ensures flat { (F : Flat) (w : ℕ) → ShowsArray self.old F → F.held (C.names claim) (Worker w) ≡ true
             → MatchResult result
             (λ ticket. (G : Flat) × FillCase F w ticket Trim (say.Filled ticket) G × ShowsArray self.new G)

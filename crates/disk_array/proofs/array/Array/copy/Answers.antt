@@ -1,6 +1,7 @@
 use Rattle.std.proofs.Common.{◌≡◌, ◌≢◌, vec_len, None, ◌∙◌, ap, refl, sym, subst, rules}
 use Rattle.std.specs.Vec.{with_items}
 use Rattle.map_join.specs.declared.records.Record.{Record}
+use Rattle.map_join.specs.Record.{record_at}
 use Rattle.flat_machine.specs.Flat.{Worker}
 use Rattle.flat_machine.specs.Steps.{Copied, Refused}
 use Rattle.flat_machine.specs.Cases.{CopyCase, CopyPasses}
@@ -11,13 +12,14 @@ use Rattle.array_parts.specs.Slots.{IsSlot}
 use Rattle.array_parts.specs.Views.{view_of, WasCopied, WasNotCarried}
 use Rattle.array_parts.proofs.Views.{view_drives}
 use Rattle.slot_tables.specs.Changes.{copy_view}
-use Rattle.slot_tables.specs.Views.{ArrayView, Moving, Nothing, kept_at, with_parts}
+use Rattle.slot_tables.specs.Views.{ArrayView, Moving, Nothing, kept_at, key_at, with_parts}
 use Rattle.slot_tables.proofs.Fills.{as_whole, as_shown}
 use Rattle.slot_tables.proofs.Finds.{read_slot}
 use Rattle.slot_tables.proofs.Copies.{CanCopy, can_copy, copy_slot, copy_case, copy_gone, copy_refused, copy_whole}
 use Rattle.slot_tables.specs.Counted.{is_newest}
 use Rattle.disk_array.specs.Inside.{seen}
 use Rattle.disk_array.proofs.Ready.{either_way, Keeps, keeps, uncarried_keeps, still_ready, still_stands, slot_ready, as_refused}
+use Rattle.disk_array.proofs.Refusing.{uncarried_told, uncopied_told}
 use Rattle.disk_array.proofs.array.Array.copy.Goals as goal
 
 pub returns-in-Err-clause-flat : goal.returns-in-Err-clause-flat
@@ -108,3 +110,10 @@ returns-clause-flat g c F w shows held =
 
 pub returns-clause-ticket : goal.returns-clause-ticket
 returns-clause-ticket g c = search rules
+
+pub returns-in-Err-clause-memory : goal.returns-in-Err-clause-memory
+returns-in-Err-clause-memory g c =
+    uncopied_told c.args.self.now (g.C.Hold.names c.args.claim) (record_at c.args.block (key_at c.args.self.now c.args.block)) c.in-Err.refusal (search rules)
+
+pub returns-in-Err-copy-clause-memory : goal.returns-in-Err-copy-clause-memory
+returns-in-Err-copy-clause-memory g c = uncarried_told _ _ _ _ c.in-Err-copy.refusal c.in-Err-copy.ensures.err

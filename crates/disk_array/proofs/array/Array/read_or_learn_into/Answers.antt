@@ -59,3 +59,12 @@ pub returns-in-Err-look-clause-flat : goal.returns-in-Err-look-clause-flat
 returns-in-Err-look-clause-flat g c F shows =
     let newest = c.in-Ok.ensures.ok in
     unlearned_here c.args.self.now c.look.new.self F c.args.asked c.in-Ok.newest c.in-Err-look.refusal shows (record { told = newest.0; most = newest.1 }) c.look.ensures.rest c.in-Err-look.ensures.err
+
+pub returns-in-Err-clause-memory : goal.returns-in-Err-clause-memory
+returns-in-Err-clause-memory g c is = let told = c.in-Err.ensures.err.0 in absurd (cc)
+
+pub returns-in-Err-payload_at-clause-memory : goal.returns-in-Err-payload_at-clause-memory
+returns-in-Err-payload_at-clause-memory g c is = let told = c.in-Err-payload_at.ensures.err.told in absurd (cc)
+
+pub returns-in-Err-look-clause-memory : goal.returns-in-Err-look-clause-memory
+returns-in-Err-look-clause-memory g c is = let told = c.in-Err-look.ensures.err.told in absurd (cc)

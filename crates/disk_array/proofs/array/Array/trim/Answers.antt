@@ -11,6 +11,7 @@ use Rattle.slot_tables.specs.Changes.{fill_view}
 use Rattle.slot_tables.specs.Views.{ArrayView, IsWhole, Pending, with_parts}
 use Rattle.slot_tables.proofs.Fills.{fill_slot, fill_case, fill_gone, fill_refused, fill_whole, as_whole, as_shown}
 use Rattle.disk_array.proofs.Ready.{either_way, Keeps, keeps, gone_keeps, still_ready, still_stands, slot_ready, as_refused}
+use Rattle.disk_array.proofs.Refusing.{gone_told, unfilled_told}
 use Rattle.disk_array.proofs.array.Array.trim.Goals as goal
 
 pub returns-in-Some-clause-flat : goal.returns-in-Some-clause-flat
@@ -71,3 +72,9 @@ returns-clause-flat g c F w shows held =
 
 pub returns-clause-ticket : goal.returns-clause-ticket
 returns-clause-ticket g c = search rules
+
+pub returns-in-Some-clause-memory : goal.returns-in-Some-clause-memory
+returns-in-Some-clause-memory g c = unfilled_told c.args.self.now (g.C.Hold.names c.args.claim) c.in-Some.refusal (search rules)
+
+pub returns-in-Err-clause-memory : goal.returns-in-Err-clause-memory
+returns-in-Err-clause-memory g c = gone_told _ _ _ c.in-Err.refusal c.in-Err.ensures.err
