@@ -1,5 +1,5 @@
 // What lies under a Book's lock, and the calls that borrow it.
-ghost use Rattle.std.specs.Prelude.{◌≡◌, ◌≢◌, ℕ, ◌<◌, ◌≤◌, length, IfOk, IfErr, MatchResult, true, None};
+ghost use Rattle.std.specs.Prelude.{◌≡◌, ◌≢◌, ℕ, ◌<◌, ◌≤◌, length, IfOk, IfErr, IsErr, IsErrOf, MatchResult, true, None};
 ghost use Rattle.map_join.specs.Record.{key_of, record_at};
 ghost use Rattle.flat_machine.specs.Steps as say;
 ghost use Rattle.flat_machine.specs.Flat.{Flat, Payload, Trim, Worker, Ticket as ticket_of};
@@ -72,6 +72,7 @@ pub fn fill_in<D: Drive, N: Naming + Sizes>(
     requires { length payload.now ≡ N.payload }
     ensures ticket { IfOk result (λ ticket. ticket ≡ claim.0.slot) }
     ensures err { IfErr result (λ e. (e.1 ≡ claim) × (e.0 ≢ refusal.InUse) × IsRefused kept.old.array kept.new.array e.0) }
+    ensures memory { IfErr result (λ e. e.0 ≢ refusal.Memory) }
     ensures rest { OnlyArray kept.old kept.new }
     ensures filled { IfOk result (λ ticket. WasFilled N.blocks N.payload ticket (Payload payload.now)) }
     ensures flat { (F : Flat) (w : ℕ) → ShowsArray kept.old.array F → F.held claim.0.slot (Worker w) ≡ true
@@ -95,6 +96,7 @@ pub fn trim_in<D: Drive, N: Naming + Sizes>(
 ) -> Result<Ticket, (Refusal, Claim<N>)>
     ensures ticket { IfOk result (λ ticket. ticket ≡ claim.0.slot) }
     ensures err { IfErr result (λ e. (e.1 ≡ claim) × (e.0 ≢ refusal.InUse) × IsRefused kept.old.array kept.new.array e.0) }
+    ensures memory { IfErr result (λ e. e.0 ≢ refusal.Memory) }
     ensures rest { OnlyArray kept.old kept.new }
     ensures filled { IfOk result (λ ticket. WasFilled N.blocks N.payload ticket Trim) }
     ensures flat { (F : Flat) (w : ℕ) → ShowsArray kept.old.array F → F.held claim.0.slot (Worker w) ≡ true
@@ -120,6 +122,7 @@ pub fn copy_in<D: Drive, N: Naming + Sizes>(
     requires { block < N.blocks }
     ensures ticket { IfOk result (λ ticket. ticket ≡ claim.0.slot) }
     ensures err { IfErr result (λ e. (e.1 ≡ claim) × (e.0 ≢ refusal.InUse) × IsRefused kept.old.array kept.new.array e.0) }
+    ensures memory { IfErr result (λ e. e.0 ≢ refusal.Memory) }
     ensures rest { OnlyArray kept.old kept.new }
     ensures copied { IfOk result (λ ticket. WasCopied N.blocks N.payload ticket block) }
     ensures flat { (F : Flat) (w : ℕ) → ShowsArray kept.old.array F → F.held claim.0.slot (Worker w) ≡ true
@@ -215,6 +218,7 @@ pub fn read_in<D: Drive, N: Naming + Sizes>(
     ensures told { IfOk result (λ reading. (reading.told.block ≡ «asked».block) × (key_of «asked» ≤ key_of reading.told)) }
     ensures written { IfOk result (λ reading. 0 < «asked».version → 0 < reading.told.version) }
     ensures err { IfErr result (IsRefused kept.old.array kept.new.array) }
+    ensures memory { IsErrOf result refusal.Memory → IsErr room }
     ensures rest { OnlyArray kept.old kept.new }
     ensures answered { MatchResult result (WasLearned N.blocks N.payload «asked»)
         (λ q. q ≢ refusal.Memory → WasUnlearned N.blocks N.payload «asked» q) }
