@@ -37,8 +37,8 @@ impl World {
     }
 
     /// The world restarted with a map of its headers: the map's list is the log, each block's newest place is held and no other
-    /// slot, and nothing is pending. It allocates about 30 bytes for each slot number, about half of it in place of the old
-    /// tables. If an allocation fails, the world is dropped.
+    /// slot, and nothing is pending. It allocates about 30 bytes for each slot number up to the last made group's, about half of
+    /// it in place of the old tables, and 2 for each of all 65,536. If an allocation fails, the world is dropped.
     pub fn restarted(self, alloc: Global, map: BlockMap) -> Result<World, NotAdopted>
         requires { HasPlaces self.array.parts.groups (at map) }
         ensures ok { IfOk result (λ world. (F : Flat) → Represents self F → IsMapOf F.emitted (at map) → WasRestarted F (at map) world) }
