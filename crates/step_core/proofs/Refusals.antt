@@ -1,5 +1,5 @@
 -- What a world's step answers, whether its array carried it out or refused it.
-use Rattle.std.proofs.Common.{◌≡◌, ◌≢◌, ℕ, List, [], refl, sym, ap, ◌∙◌, subst, inl, inr, Option, Some, None, Vec, Result, Ok, Err, IfOk, IfErr, OnErr, MatchResult}
+use Rattle.std.proofs.Common.{◌≡◌, ◌≢◌, ℕ, List, [], refl, sym, ap, ◌∙◌, subst, inl, inr, Option, Some, None, Vec, Result, Ok, Err, IsOk, IfOk, IfErr, OnErr, MatchResult}
 use Rattle.std.specs.Global.{Global}
 use Rattle.std.specs.declared.alloc.AllocError.{AllocError}
 use Rattle.map_join.specs.declared.records.Record.{Record}
@@ -32,6 +32,11 @@ refused_of _ W P may ne = may
 
 pub wanted_of : (r : Refusal) (W P : Type 0) → MayRefuse r W P → r ≡ Memory → W
 wanted_of r W P may is = subst (λ q. MayRefuse q W P) is may
+
+-- a refusal that isn't out of memory is an answer
+pub answered : (result : Result Answer AllocError) (r : Refusal) → OnErr result (r ≡ Memory) → r ≢ Memory → IsOk result
+answered (Ok answer) r out ne = refl
+answered (Err e) r out ne = absurd (ne out)
 
 -- arrays with the same tables have the same sizes
 pub same_sizes : (a b : ArrayView) → b.parts.groups ≡ a.parts.groups → SameSizes a b

@@ -1,5 +1,5 @@
 // An array with eight workers, who hold plain claims.
-ghost use Rattle.std.specs.Prelude.{◌≡◌, ◌≢◌, ◌<◌, ◌≤◌, length, nat_le, IfOk, IfErr, OnErr, Some};
+ghost use Rattle.std.specs.Prelude.{◌≡◌, ◌≢◌, ◌<◌, ◌≤◌, length, nat_le, IsOk, IfOk, IfErr, OnErr, Some};
 ghost use Rattle.map_join.specs.declared.records.Record.{Record};
 ghost use Rattle.extents.specs.Failures.{no_failures};
 ghost use Rattle.extents.specs.Shapes.{IsShapeOf};
@@ -122,7 +122,7 @@ impl World {
         }
     }
 
-    /// Fills a slot that the worker holds.
+    /// Fills a slot that the worker holds. It allocates nothing, and never runs out of memory.
     pub fn fill(
         &mut self,
         alloc: Global,
@@ -133,6 +133,7 @@ impl World {
         requires { length payload.now ≡ self.old.array.parts.groups.payload }
         ensures ok { IfOk result (λ answer. (F : Flat) → Represents self.old F
             → (G : Flat) × Case F (say.Fill worker slot (Payload payload.now)) (flat_answer answer) G × Represents self.new G) }
+        ensures succeeds { IsOk result }
         ensures err { OnErr result (self.new ≡ self.old) }
         ensures wants { OnErr result ((F : Flat) → Represents self.old F → IsWanted F (say.Fill worker slot (Payload payload.now))) }
         ensures room { SameSizes self.old.array self.new.array }
@@ -149,10 +150,11 @@ impl World {
         }
     }
 
-    /// Fills a slot that the worker holds with a trim.
+    /// Fills a slot that the worker holds with a trim. It allocates nothing, and never runs out of memory.
     pub fn trim(&mut self, alloc: Global, worker: u8, slot: u16) -> Result<Answer, AllocError>
         ensures ok { IfOk result (λ answer. (F : Flat) → Represents self.old F
             → (G : Flat) × Case F (say.Fill worker slot Trim) (flat_answer answer) G × Represents self.new G) }
+        ensures succeeds { IsOk result }
         ensures err { OnErr result (self.new ≡ self.old) }
         ensures wants { OnErr result ((F : Flat) → Represents self.old F → IsWanted F (say.Fill worker slot Trim)) }
         ensures room { SameSizes self.old.array self.new.array }
@@ -169,7 +171,7 @@ impl World {
         }
     }
 
-    /// Copies what a block holds into a slot that the worker holds.
+    /// Copies what a block holds into a slot that the worker holds. It allocates nothing, and never runs out of memory.
     pub fn copy(
         &mut self,
         alloc: Global,
@@ -180,6 +182,7 @@ impl World {
         requires { block < self.old.array.parts.groups.blocks }
         ensures ok { IfOk result (λ answer. (F : Flat) → Represents self.old F
             → (G : Flat) × Case F (say.Copy worker slot block) (flat_answer answer) G × Represents self.new G) }
+        ensures succeeds { IsOk result }
         ensures err { OnErr result (self.new ≡ self.old) }
         ensures wants { OnErr result ((F : Flat) → Represents self.old F → IsWanted F (say.Copy worker slot block)) }
         ensures room { SameSizes self.old.array self.new.array }

@@ -8,7 +8,7 @@ use Rattle.slot_tables.specs.Views.{ArrayView, WorldView, hand_at}
 use Rattle.slot_tables.specs.Represents.{ShowsArray, is_claim}
 use Rattle.slot_tables.proofs.Hands.{as_world}
 use Rattle.step_core.proofs.Worlds.{block_there, hands_kept, copy_world}
-use Rattle.step_core.proofs.Refusals.{array_refused, refused_same, refused_sizes}
+use Rattle.step_core.proofs.Refusals.{answered, array_refused, refused_same, refused_sizes}
 use Rattle.step_core.proofs.world.World.copy.Goals as goal
 
 pub returns-in-Ok-clause-ok : goal.returns-in-Ok-clause-ok
@@ -36,4 +36,4 @@ returns-in-Err c =
     (λ F rep. (search rules, block_there c.args.self.now F c.args.block rep c.requires))
     (refused_sizes _ a r c.in-Err.ensures.err.1) (refused_same _ a r c.in-Err.ensures.err.1) (λ F rep shows. c.in-Err.ensures.flat F w shows ((rep.hands s).claims w ∙ held))
     in
-    record { ok = told.ok; err = told.err; wants = told.wants; room = told.room }
+    record { ok = told.ok; succeeds = answered c.refused.result r c.refused.ensures.err c.in-Err.ensures.memory; err = told.err; wants = told.wants; room = told.room }
