@@ -14,9 +14,7 @@ use extents::{Drive, Header, Kind};
 use flat_machine::Refusal;
 
 impl<D: Drive> Parts<D> {
-    /// Writes a payload under a blank header, to parity slots with a buffer of a unit's length and one of two units'. Inlined
-    /// into its one caller, a fill.
-    #[inline(always)]
+    /// Writes a payload under a blank header, to parity slots with a buffer of a unit's length and one of two units'.
     pub fn put(
         &mut self,
         slot: u16,

@@ -157,9 +157,7 @@ impl<D: Drive> Parts<D> {
         read_group_headers(&self.groups, drives, group, headers, scratch)
     }
 
-    /// Writes the unit of a slot, with a buffer of two units' length. Inlined, as a commit makes one such call: its result would go
-    /// through memory.
-    #[inline(always)]
+    /// Writes the unit of a slot, with a buffer of two units' length.
     pub fn write(&mut self, slot: u16, unit: &[u8], scratch: &mut [u8]) -> Result<(), Refusal>
         requires fit { IsFit D.units self.old }
         requires slot { IsSlot self.old.groups slot }

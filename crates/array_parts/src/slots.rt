@@ -10,8 +10,7 @@ ghost use Rattle.array_parts.specs.Slots.{IsSlot};
 use extent_groups::{Class, GroupTable, SLOTS, StoreRefusal};
 use extents::{Drive, HEADER_BYTES};
 
-/// Reads the effective unit of a slot of either class. Inlined, as a commit makes one such call: its result would go through memory.
-#[inline(always)]
+/// Reads the effective unit of a slot of either class.
 pub(crate) fn read_slot<D: Drive>(
     groups: &GroupTable,
     drives: &mut [D],
