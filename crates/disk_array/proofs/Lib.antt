@@ -12,3 +12,4 @@ pub mod Closing
 pub mod Regrouping
 pub mod Entering
 pub mod Refusing
+pub mod InHand

@@ -1,13 +1,16 @@
 -- An array as plain data, and what it keeps by itself for the calls of its drives.
-use Rattle.std.specs.Prelude.{◌≡◌, ℕ, ◌*◌, Bool, List, length, vec_len}
+use Rattle.std.specs.Prelude.{◌≡◌, ℕ, ◌*◌, Bool, List, length, vec_len, None}
 use Rattle.extents.specs.Failures.{Failures}
 use Rattle.extent_groups.specs.Stores.{unit_bytes}
+use Rattle.array_parts.specs.declared.parts.Parts.{Parts}
 use Rattle.array_parts.specs.Fit.{IsFit}
 use Rattle.array_parts.specs.Views.{view_of}
 use Rattle.slot_tables.specs.Views.{ArrayView}
 use Rattle.disk_array.specs.declared.array.Array.TheInside.{Inside}
+use Rattle.disk_array.specs.declared.buffers.Buffers.{Buffers}
 use Rattle.slot_tables.specs.Kept.{kepts_of, HavePlaces}
 use Rattle.slot_tables.specs.Counted.{AreCounts}
+use Rattle.slot_tables.specs.Claims.{AreClaimsOf}
 
 abbrev pub seen : {D C : Type 0} → (D → List (List ℕ)) → (D → Bool) → (D → Failures) → Inside D C → ArrayView
 seen units lost failures a = record {
@@ -16,6 +19,19 @@ seen units lost failures a = record {
   keys = a.keys.items;
   kept = kepts_of a.places.items;
 }
+
+-- buffers for units of that many bytes: one of a unit's length and one of two units'
+pub record AreBuffers (bytes : ℕ) (buffers : Buffers) : Type 0 where
+  pub unit : length buffers.unit.items ≡ bytes
+  pub scratch : length buffers.scratch.items ≡ 2 * bytes
+
+-- an array's parts without a note, the claims of all slots that it kept, and its buffers
+pub record WasTakenApart {D C : Type 0} (units : D → List (List ℕ)) (lost : D → Bool) (failures : D → Failures) (names : C → ℕ) (a : ArrayView) (parts : Parts D) (claims : List C) (buffers : Buffers) : Type 0 where
+  pub parts_are : view_of units lost failures parts ≡ a.parts
+  pub fit : IsFit units parts
+  pub note : parts.note ≡ None
+  pub claims_are : AreClaimsOf names a claims
+  pub buffers_are : AreBuffers (unit_bytes parts.groups) buffers
 
 -- the drives are those of the tables, and there is a buffer of a unit's length and one of two units'; there are places for
 -- the slots of each made group, and the counts are those of the places

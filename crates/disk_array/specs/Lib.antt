@@ -6,3 +6,4 @@ pub mod Losing
 pub mod Claimed
 pub mod Shifting
 pub mod Waits
+pub mod InHand

@@ -1,6 +1,7 @@
 // An array taken apart into its parts and claims, and put together from parts, a map and claims.
-ghost use Rattle.std.specs.Prelude.{◌≡◌, ℕ, ◌<◌, false, IfOk, IfErr, None};
+ghost use Rattle.std.specs.Prelude.{◌≡◌, ℕ, ◌+◌, ◌<◌, List, false, IfOk, IfErr, None};
 ghost use Rattle.map_join.specs.Maps.{at};
+ghost use Rattle.extents.specs.declared.shape.TheConstants.{HEADER_BYTES};
 ghost use Rattle.array_parts.specs.Fit.{IsFit};
 ghost use Rattle.array_parts.specs.Views.{view_of};
 ghost use Rattle.flat_machine.specs.Flat.{Flat, Shut};
@@ -8,9 +9,11 @@ ghost use Rattle.flat_machine.specs.Restarted.{HasPlaces, TellMap, restarted};
 ghost use Rattle.slot_tables.specs.Represents.{ShowsArray};
 ghost use Rattle.slot_tables.specs.Views.{key_at};
 ghost use Rattle.slot_tables.specs.Adopted.{IsAdopted, HasParts};
-ghost use Rattle.slot_tables.specs.Claims.{AreClaimsOf, AreShared, AreOfPlaces, IsNotAdopted};
+ghost use Rattle.slot_tables.specs.Claims.{AreClaimsOf, AreShared, AreOfPlaces, IsNotAdopted, IsNotRestarted};
+ghost use Rattle.disk_array.specs.Inside.{AreBuffers, WasTakenApart};
 
 use crate::array::Array;
+use crate::buffers::Buffers;
 use crate::live::counted;
 use array_parts::Parts;
 use extents::Drive;
@@ -31,6 +34,17 @@ impl<D: Drive, C: Hold> Array<D, C> {
             → AreOfPlaces C.names (key_at self) r.1.items) }
         ensures err { IfErr result (λ array. array ≡ self) }
     {
+        match self.taken_apart(alloc) {
+            Ok((parts, claims, _buffers)) => Ok((parts, claims)),
+            Err(array) => Err(array),
+        }
+    }
+
+    // Takes the array apart, its two buffers too.
+    fn taken_apart(self, alloc: Global) -> Result<(Parts<D>, Vec<C>, Buffers), Array<D, C>>
+        ensures parts { IfOk result (λ r. WasTakenApart D.units D.lost D.failures C.names self r.0 r.1.items r.2) }
+        ensures err { IfErr result (λ array. array ≡ self) }
+    {
         let Ok(mut claims) = Vec::with_capacity(alloc, self.places.len()) else {
             return Err(self);
         };
@@ -38,7 +52,11 @@ impl<D: Drive, C: Hold> Array<D, C> {
         let mut parts = self.parts;
         // No call of an array sets a note: none is lost here.
         parts.note = None;
-        Ok((parts, claims))
+        let buffers = Buffers {
+            unit: self.unit,
+            scratch: self.scratch,
+        };
+        Ok((parts, claims, buffers))
     }
 
     /// Puts an array together from its parts and the map that their headers hold, as `header_scan` does in a restart: it takes
@@ -59,6 +77,30 @@ impl<D: Drive, C: Hold> Array<D, C> {
             → ShowsArray r.0 (restarted F (at map) r.0.log)) }
         ensures err { IfErr result (λ e. IsNotAdopted C.names claims.items (at map) e.0 × (e.1 ≡ parts) × (e.2 ≡ map) × (e.3 ≡ claims)) }
     {
+        match Buffers::new(alloc, &parts.shape) {
+            Ok(buffers) => Array::adopt_with(alloc, buffers, parts, map, claims),
+            Err(_) => Err((NotAdopted::Memory, parts, map, claims)),
+        }
+    }
+
+    // `adopt_among` with buffers that there are.
+    fn adopt_with(
+        alloc: Global,
+        buffers: Buffers,
+        parts: Parts<D>,
+        map: BlockMap,
+        claims: Vec<C>,
+    ) -> Result<(Array<D, C>, Vec<C>), (NotAdopted, Parts<D>, BlockMap, Vec<C>)>
+        requires buffers { AreBuffers (HEADER_BYTES + parts.shape.payload) buffers }
+        requires fit { IsFit D.units parts }
+        requires note { parts.note ≡ None }
+        requires places { HasPlaces parts.groups (at map) }
+        ensures ok { IfOk result (λ r. IsAdopted (view_of D.units D.lost D.failures parts) (at map) r.0) }
+        ensures claims { IfOk result (λ r. AreShared C.names claims.items r.0 r.1.items) }
+        ensures flat { IfOk result (λ r. (F : Flat) → HasParts (view_of D.units D.lost D.failures parts) F → TellMap F.groups F.units (at map)
+            → ShowsArray r.0 (restarted F (at map) r.0.log)) }
+        ensures err { IfErr result (λ e. IsNotAdopted C.names claims.items (at map) e.0 × (e.1 ≡ parts) × (e.2 ≡ map) × (e.3 ≡ claims)) }
+    {
         match prepare(alloc, &parts, &map, &claims) {
             Err(why) => Err((why, parts, map, claims)),
             Ok(ready) => {
@@ -69,8 +111,6 @@ impl<D: Drive, C: Hold> Array<D, C> {
                     room,
                 } = ready;
                 let Room {
-                    unit,
-                    scratch,
                     mut others,
                     mut places,
                 } = room;
@@ -82,8 +122,8 @@ impl<D: Drive, C: Hold> Array<D, C> {
                     keys,
                     places,
                     live,
-                    unit,
-                    scratch,
+                    unit: buffers.unit,
+                    scratch: buffers.scratch,
                 };
                 Ok((array, others))
             }
@@ -116,6 +156,32 @@ impl<D: Drive, C: Hold> Array<D, C> {
                 Err((Refusal::Memory, parts, map, claims))
             }
             Err((NotAdopted::NoClaim(_), _parts, _map, _claims)) => unreachable!(),
+        }
+    }
+}
+
+impl<D: Drive + Drop, C: Hold + Drop> Array<D, C> {
+    /// The array restarted with the map that its headers hold: taken apart and put together again, with the claims that it kept
+    /// and in the memory of its buffers. It returns the claims that it doesn't keep. If an allocation fails, or a newest place of
+    /// the map has no claim, the array is dropped.
+    pub fn restarted(
+        self,
+        alloc: Global,
+        map: BlockMap,
+    ) -> Result<(Array<D, C>, Vec<C>), NotAdopted>
+        requires { HasPlaces self.parts.groups (at map) }
+        ensures ok { IfOk result (λ r. IsAdopted self.parts (at map) r.0) }
+        ensures claims { IfOk result (λ r. (claims : List C) × AreClaimsOf C.names self claims × AreShared C.names claims r.0 r.1.items) }
+        ensures flat { IfOk result (λ r. (F : Flat) → HasParts self.parts F → TellMap F.groups F.units (at map)
+            → ShowsArray r.0 (restarted F (at map) r.0.log)) }
+        ensures err { IfErr result (IsNotRestarted C.names self (at map)) }
+    {
+        let Ok((parts, claims, buffers)) = self.taken_apart(alloc) else {
+            return Err(NotAdopted::Memory);
+        };
+        match Array::adopt_with(alloc, buffers, parts, map, claims) {
+            Ok(made) => Ok(made),
+            Err((why, _parts, _map, _claims)) => Err(why),
         }
     }
 }

@@ -1,5 +1,5 @@
 // What workers have in hand of each slot, their tickets too: each ticket comes out where one went in.
-ghost use Rattle.std.specs.Prelude.{◌≡◌, ℕ, length, slice_set, IfOk, MatchOption, true, false};
+ghost use Rattle.std.specs.Prelude.{◌≡◌, ℕ, length, replicate, slice_set, IfOk, MatchOption, true, false};
 ghost use Rattle.slot_tables.specs.Views.{hand_at};
 ghost use Rattle.slot_tables.specs.Represents.{is_ticket};
 
@@ -8,20 +8,27 @@ use slot_tables::{Hand, SLOTS};
 use std::alloc::{AllocError, Global};
 use std::marker::Model;
 
+// A word's kind, next to which it has the worker's number.
+const CLAIM: u16 = 256;
+
+const TICKET: u16 = 512;
+
 /// What a worker has in hand, by slot. A slot waits from `keep`, which takes its ticket, until `take` returns it or something
 /// else is in hand.
 #[derive(Drop)]
 pub struct Hands {
-    hands: Vec<Hand>,
+    /// Of each slot 0 for nothing, or the kind and the worker's number: all are cleared by writing zeros.
+    hands: Vec<u16>,
 }
 
 impl Model for Hands {
     ghost use Rattle.std.specs.Prelude.{◌≡◌, List, length};
     ghost use Rattle.slot_tables.specs.declared.hand.Hand.{Hand};
+    ghost use Rattle.disk_array.specs.InHand.{hands_of};
 
     ghost Value = { List Hand };
 
-    ghost view = { λ all. all.hands.items };
+    ghost view = { λ all. hands_of all.hands.items };
 
     ghost invariant = { λ all. length all.hands.items ≡ 65536 };
 }
@@ -32,7 +39,7 @@ impl Hands {
         ensures many { IfOk result (λ hands. length hands ≡ 65536) }
         ensures empty { IfOk result (λ hands. (s : ℕ) → hand_at hands s ≡ Hand.Empty) }
     {
-        let hands = empty_hands(alloc, SLOTS)?;
+        let hands = zeros(alloc, SLOTS)?;
         Ok(Hands { hands })
     }
 
@@ -40,28 +47,42 @@ impl Hands {
     pub fn of(&self, slot: u16) -> Hand
         ensures { result ≡ hand_at self.now slot }
     {
-        self.hands[usize::from(slot)]
+        let word = self.hands[usize::from(slot)];
+        let worker = (word % 256) as u8;
+        match word / 256 {
+            1 => Hand::Holds(worker),
+            2 => Hand::Waits(worker),
+            _ => Hand::Empty,
+        }
     }
 
     /// The worker has a claim of the slot in hand from now on.
     pub fn hold(&mut self, slot: u16, worker: u8)
         ensures { self.new ≡ slice_set self.old slot (Hand.Holds worker) }
     {
-        self.hands[usize::from(slot)] = Hand::Holds(worker);
+        self.hands[usize::from(slot)] = CLAIM + u16::from(worker);
     }
 
     /// Nobody has the slot in hand from now on.
     pub fn clear(&mut self, slot: u16)
         ensures { self.new ≡ slice_set self.old slot Hand.Empty }
     {
-        self.hands[usize::from(slot)] = Hand::Empty;
+        self.hands[usize::from(slot)] = 0;
+    }
+
+    /// Nobody has anything in hand from now on. It allocates nothing.
+    pub fn clear_all(&mut self)
+        ensures many { length self.new ≡ 65536 }
+        ensures empty { (s : ℕ) → hand_at self.new s ≡ Hand.Empty }
+    {
+        self.hands.fill(0);
     }
 
     /// Takes a worker's ticket.
     pub fn keep(&mut self, worker: u8, ticket: Ticket)
         ensures { self.new ≡ slice_set self.old ticket (Hand.Waits worker) }
     {
-        self.hands[usize::from(ticket.slot())] = Hand::Waits(worker);
+        self.hands[usize::from(ticket.slot())] = TICKET + u16::from(worker);
     }
 
     /// The worker's ticket of a slot, if it has one; nobody has the slot in hand then.
@@ -70,19 +91,18 @@ impl Hands {
             ((is_ticket (hand_at self.old slot) worker ≡ false) × (self.new ≡ self.old))
             (λ ticket. (is_ticket (hand_at self.old slot) worker ≡ true) × (ticket ≡ slot) × (self.new ≡ slice_set self.old slot Hand.Empty)) }
     {
-        match self.hands[usize::from(slot)] {
-            Hand::Waits(other) if other == worker => {
-                self.clear(slot);
-                Some(Ticket::of(slot))
-            }
-            _ => None,
+        if self.hands[usize::from(slot)] == TICKET + u16::from(worker) {
+            self.clear(slot);
+            Some(Ticket::of(slot))
+        } else {
+            None
         }
     }
 }
 
-fn empty_hands(alloc: Global, count: usize) -> Result<Vec<Hand>, AllocError>
-    ensures len { IfOk result (λ hands. length hands.items ≡ count) }
-    ensures empty { IfOk result (λ hands. (s : ℕ) → hand_at hands.items s ≡ Hand.Empty) }
+fn zeros(alloc: Global, count: usize) -> Result<Vec<u16>, AllocError>
+    ensures len { IfOk result (λ words. length words.items ≡ count) }
+    ensures zero { IfOk result (λ words. words.items ≡ replicate count 0) }
 {
-    vec![in alloc; Hand::Empty; count]
+    vec![in alloc; 0; count]
 }

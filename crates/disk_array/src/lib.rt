@@ -4,6 +4,7 @@
 mod adopt;
 mod apart;
 mod array;
+mod buffers;
 mod commit;
 mod copy;
 mod discard;

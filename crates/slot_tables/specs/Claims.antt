@@ -1,10 +1,9 @@
 -- The claims of an array that is taken apart, or put together from parts and a map.
-use Rattle.std.specs.Prelude.{◌≡◌, ℕ, ◌+◌, ◌*◌, ◌^◌, ◌<◌, ◌≤◌, ◌==◌, if◌then◌else◌, List, length, count_by, false, slice_index, slice_index_or, vec_len, vec_capacity, Contains, Option, Some, None}
+use Rattle.std.specs.Prelude.{◌≡◌, ℕ, ◌+◌, ◌^◌, ◌<◌, ◌≤◌, ◌==◌, if◌then◌else◌, List, length, count_by, false, slice_index, slice_index_or, vec_len, vec_capacity, Contains, Option, Some, None}
 use Rattle.map_join.specs.declared.records.Record.{Record}
 use Rattle.map_join.specs.Record.{record_of}
 use Rattle.map_join.specs.Maps.{IsListOf}
 use Rattle.extent_groups.specs.Groups.{Groups}
-use Rattle.extent_groups.specs.Stores.{unit_bytes}
 use Rattle.flat_machine.specs.Flat.{Flat, Worker, Ticket}
 use Rattle.flat_machine.specs.Restarted.{restarted}
 use Rattle.slot_tables.specs.Views.{Kept, Nothing, Newest, ArrayView, WorldView, is_kept, kept_at}
@@ -89,10 +88,8 @@ pub record AreKeys (blocks : ℕ) (M : ℕ → ℕ) (keys : List ℕ) : Type 0 w
   pub same : (b : ℕ) → b < blocks → slice_index keys b ≡ M b
   pub told : (b : ℕ) → b < blocks → IsKey (M b)
 
--- buffers for units of that many bytes, `slots` places that are free, and room for `count` claims
-pub record HasRoom {C : Type 0} (bytes slots count : ℕ) (room : Room C) : Type 0 where
-  pub unit : length room.unit.items ≡ bytes
-  pub scratch : length room.scratch.items ≡ 2 * bytes
+-- `slots` places that are free, and room for `count` claims
+pub record HasRoom {C : Type 0} (slots count : ℕ) (room : Room C) : Type 0 where
   pub none : vec_len room.others ≡ 0
   pub others : count ≤ vec_capacity room.others
   pub places : vec_len room.places ≡ slots
@@ -103,15 +100,20 @@ abbrev pub IsNotAdopted : {C : Type 0} → (C → ℕ) → List C → (ℕ → �
 IsNotAdopted names claims M Memory = Unit {0}
 IsNotAdopted names claims M (NoClaim slot) = IsUnclaimed names claims M slot
 
+-- why an array wasn't restarted with a map: out of memory, or it had no claim of a place
+abbrev pub IsNotRestarted : {C : Type 0} → (C → ℕ) → ArrayView → (ℕ → ℕ) → NotAdopted → Type 0
+IsNotRestarted names a M Memory = Unit {0}
+IsNotRestarted {C} names a M (NoClaim slot) = (claims : List C) × AreClaimsOf names a claims × IsUnclaimed names claims M slot
+
 -- all is ready for an array of these groups and this map: its log, what each slot is wanted for, of which there are claims, its
--- keys and buffers, places that are free for the slots of its groups, and room for the claims that are left over. The tables of
--- wanted blocks and of places are as short as the groups allow.
+-- keys, places that are free for the slots of its groups, and room for the claims that are left over. The tables of wanted blocks
+-- and of places are as short as the groups allow.
 pub record AreReady {C : Type 0} (names : C → ℕ) (groups : Groups) (M : ℕ → ℕ) (claims : List C) (ready : Ready C) : Type 0 where
   pub log : IsListOf M ready.log.items
   pub wanted : AreWanted ready.log.items (vec_len ready.room.places) ready.wanted.items
   pub claimed : (slot : ℕ) → IsClaimed names claims ready.wanted.items slot
   pub keys : AreKeys groups.blocks M ready.keys.items
-  pub room : HasRoom (unit_bytes groups) (vec_len ready.room.places) (length claims) ready.room
+  pub room : HasRoom (vec_len ready.room.places) (length claims) ready.room
   pub places : HavePlaces groups (vec_len ready.room.places)
   pub fewest : (n : ℕ) → HavePlaces groups n → vec_len ready.room.places ≤ n
 

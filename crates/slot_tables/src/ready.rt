@@ -1,7 +1,6 @@
 // All that an array takes and tests before it is put together from parts, a map and claims.
-ghost use Rattle.std.specs.Prelude.{ℕ, ◌*◌, ◌+◌, ◌<◌, ◌≤◌, IfOk, IfErr};
+ghost use Rattle.std.specs.Prelude.{ℕ, ◌*◌, ◌<◌, ◌≤◌, IfOk, IfErr};
 ghost use Rattle.map_join.specs.Maps.{at};
-ghost use Rattle.extents.specs.declared.shape.TheConstants.{HEADER_BYTES};
 ghost use Rattle.array_parts.specs.Fit.{IsFit};
 ghost use Rattle.flat_machine.specs.Restarted.{HasPlaces};
 ghost use Rattle.slot_tables.specs.Kept.{HavePlaces};
@@ -13,7 +12,7 @@ use crate::slot_state::SlotState;
 use crate::tables::free_places;
 use array_parts::Parts;
 use extent_groups::{GROUPS, GroupTable, SLOTS};
-use extents::{Drive, Shape};
+use extents::Drive;
 use map_join::{BlockMap, Record};
 use std::alloc::{AllocError, Global};
 
@@ -25,16 +24,14 @@ pub enum NotAdopted {
     NoClaim(u16),
 }
 
-// Places and buffers of an array that is put together, and room for the claims that it doesn't take.
+// Places of an array that is put together, and room for the claims that it doesn't take.
 #[derive(Drop)]
 pub struct Room<C: Hold> {
-    pub unit: Vec<u8>,
-    pub scratch: Vec<u8>,
     pub others: Vec<C>,
     pub places: Vec<SlotState<C>>,
 }
 
-// All the memory that it takes, and which block wants which of the slots that have places.
+// All the memory that it takes but its buffers, and which block wants which of the slots that have places.
 #[derive(Drop)]
 pub struct Ready<C: Hold> {
     pub log: Vec<Record>,
@@ -72,25 +69,12 @@ fn places_for(groups: &GroupTable) -> usize
     places
 }
 
-fn new_room<C: Hold>(
-    alloc: Global,
-    shape: &Shape,
-    slots: usize,
-    count: usize,
-) -> Result<Room<C>, AllocError>
-    ensures { IfOk result (HasRoom (HEADER_BYTES + shape.now.payload) slots count) }
+fn new_room<C: Hold>(alloc: Global, slots: usize, count: usize) -> Result<Room<C>, AllocError>
+    ensures { IfOk result (HasRoom slots count) }
 {
-    let size = shape.unit_bytes();
-    let unit = vec![in alloc; 0; size]?;
-    let scratch = vec![in alloc; 0; 2 * size]?;
     let others = Vec::with_capacity(alloc, count)?;
     match free_places(alloc, slots) {
-        Ok(places) => Ok(Room {
-            unit,
-            scratch,
-            others,
-            places,
-        }),
+        Ok(places) => Ok(Room { others, places }),
         Err(refused) => {
             others.destroy_empty();
             Err(refused)
@@ -125,7 +109,7 @@ pub fn prepare<D: Drive, C: Hold>(
         Ok(Some(slot)) => return Err(NotAdopted::NoClaim(slot)),
         Err(_) => return Err(NotAdopted::Memory),
     }
-    match new_room(alloc, &parts.shape, slots, claims.len()) {
+    match new_room(alloc, slots, claims.len()) {
         Ok(room) => Ok(Ready {
             log,
             wanted,

@@ -13,7 +13,7 @@ use Rattle.array_parts.specs.Views.{PartsView}
 use Rattle.slot_tables.specs.Views.{Kept, Nothing, Pending, Moving, Newest, Unmade, ArrayView, WorldView, SameSizes, kept_at, key_at, hand_at}
 use Rattle.slot_tables.specs.Represents.{ShowsArray, HandSlot, Represents, is_newest}
 use Rattle.slot_tables.specs.Adopted.{HasParts}
-use Rattle.slot_tables.specs.Claims.{how_many, claims_in, AreClaimsOf, IsIdle, IsNotAdopted, WasRestarted}
+use Rattle.slot_tables.specs.Claims.{how_many, claims_in, AreClaimsOf, IsIdle, IsNotAdopted, IsNotRestarted, WasRestarted}
 use Rattle.slot_tables.specs.declared.ready.NotAdopted.{NotAdopted}
 use Rattle.slot_tables.specs.declared.ready.NotAdopted.TheVariants.{Memory, NoClaim}
 
@@ -57,7 +57,7 @@ has_parts a F shows = record {
 }
 
 -- the array keeps a claim of each place of its map
-pub none_unclaimed : {C : Type 0} (names : C → ℕ) (claims : List C) (a : ArrayView) (F : Flat) (M : ℕ → ℕ) (why : NotAdopted) → ShowsArray a F → IsMapOf F.emitted M
+none_unclaimed : {C : Type 0} (names : C → ℕ) (claims : List C) (a : ArrayView) (F : Flat) (M : ℕ → ℕ) (why : NotAdopted) → ShowsArray a F → IsMapOf F.emitted M
     → AreClaimsOf names a claims → IsNotAdopted names claims M why → why ≡ Memory
 none_unclaimed names claims a F M Memory shows map are is = refl
 none_unclaimed {C} names claims a F M (NoClaim slot) shows map are is = absurd (go (kept_at a slot) (are slot) newest)
@@ -77,6 +77,12 @@ none_unclaimed {C} names claims a F M (NoClaim slot) shows map are is = absurd (
     go (Moving r k) e n = absurd (cc)
     go (Newest b) e n = let z = is.none in omega (arith, e, z)
     go Unmade e n = absurd (cc)
+
+-- so it isn't refused
+pub never_refused : {C : Type 0} (names : C → ℕ) (a : ArrayView) (F : Flat) (M : ℕ → ℕ) (why : NotAdopted) → ShowsArray a F → IsMapOf F.emitted M
+    → IsNotRestarted names a M why → why ≡ Memory
+never_refused names a F M Memory shows map is = refl
+never_refused names a F M (NoClaim slot) shows map (claims, are, is) = none_unclaimed names claims a F M (NoClaim slot) shows map are is
 
 -- restarted with its own map, a world represents the restarted state
 pub world_restarted : (v : WorldView) (F : Flat) (M : ℕ → ℕ) (a : ArrayView) (w : WorldView) → w.array ≡ a → IsListOf M a.log → ShowsArray a (restarted F M a.log)

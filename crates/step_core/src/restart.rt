@@ -36,24 +36,28 @@ impl World {
         }
     }
 
+    // The world of an array in which nothing is pending, with these hands emptied.
+    fn at_rest(array: Array<MemDrive, Plain>, mut hands: Hands) -> World
+        ensures array { result.array ≡ array }
+        ensures hands { (s : ℕ) → hand_at result.hands s ≡ Hand.Empty }
+        ensures flat { (F : Flat) → ShowsArray array F → IsIdle F → Represents result F }
+    {
+        hands.clear_all();
+        World { array, hands }
+    }
+
     /// The world restarted with a map of its headers: the map's list is the log, each block's newest place is held and no other
     /// slot, and nothing is pending. It allocates about 30 bytes for each slot number up to the last made group's, about half of
-    /// it in place of the old tables, and 2 for each of all 65,536. If an allocation fails, the world is dropped.
+    /// it in place of the old tables. If an allocation fails, the world is dropped.
     pub fn restarted(self, alloc: Global, map: BlockMap) -> Result<World, NotAdopted>
         requires { HasPlaces self.array.parts.groups (at map) }
         ensures ok { IfOk result (λ world. (F : Flat) → Represents self F → IsMapOf F.emitted (at map) → WasRestarted F (at map) world) }
         ensures err { IfErr result (λ why. (F : Flat) → Represents self F → IsMapOf F.emitted (at map) → why ≡ NotAdopted.Memory) }
         ensures room { IfOk result (λ world. SameSizes self.array world.array) }
     {
-        let Ok((parts, claims)) = self.array.into_parts(alloc) else {
-            return Err(NotAdopted::Memory);
-        };
-        match Array::adopt_among(alloc, parts, map, claims) {
-            Ok((array, _free)) => match World::of(alloc, array) {
-                Ok(world) => Ok(world),
-                Err(_) => Err(NotAdopted::Memory),
-            },
-            Err((why, _parts, _map, _claims)) => Err(why),
+        match self.array.restarted(alloc, map) {
+            Ok((array, _free)) => Ok(World::at_rest(array, self.hands)),
+            Err(why) => Err(why),
         }
     }
 }

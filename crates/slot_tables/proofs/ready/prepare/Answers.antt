@@ -1,7 +1,6 @@
-use Rattle.std.proofs.Common.{ℕ, ◌+◌, List, Option, MatchOption, length, vec_len, subst, sym, arith}
+use Rattle.std.proofs.Common.{ℕ, List, Option, MatchOption, length, subst, sym, arith}
 use Rattle.map_join.specs.declared.records.Record.{Record}
 use Rattle.map_join.specs.Maps.{at}
-use Rattle.extents.specs.declared.shape.TheConstants.{HEADER_BYTES}
 use Rattle.slot_tables.specs.Kept.{HavePlaces}
 use Rattle.slot_tables.specs.Claims.{AreKeys, AreWanted, HasRoom, IsClaimed, IsLowestUnclaimed}
 use Rattle.slot_tables.proofs.Adoptions.{all_keys, unclaimed, listed_low}
@@ -30,8 +29,7 @@ returns-in-Ok-new_room-clause-ok g c = record {
       (subst (λ (rs : List Record). AreWanted rs c.places_for-slots.result c.in-Ok-blocks_by_slot.wanted.items) c.deref.ensures.value c.in-Ok-blocks_by_slot.ensures);
   claimed = subst (λ (ws : List (Option ℕ)). (slot : ℕ) → IsClaimed g.C.Hold.names c.args.claims.now ws slot) c.deref-2.ensures.value (subst (λ (o : Option ℕ). MatchOption o ((slot : ℕ) → IsClaimed g.C.Hold.names c.args.claims.now c.deref-2.result.now slot) (IsLowestUnclaimed g.C.Hold.names c.args.claims.now c.deref-2.result.now)) c.in-Ok-None.field-0-is c.in-Ok-None.ensures);
   keys = subst (λ n. AreKeys n (at c.args.map.now) c.in-Ok-keys_of.keys.items) c.requires.fit.shape.of_blocks c.in-Ok-keys_of.ensures;
-  room = subst (λ n. HasRoom (HEADER_BYTES + n) (vec_len c.in-Ok-new_room.room.places) (length c.args.claims.now) c.in-Ok-new_room.room) c.requires.fit.shape.of_payload
-      (subst (λ n. HasRoom (HEADER_BYTES + c.args.parts.now.shape.payload) n (length c.args.claims.now) c.in-Ok-new_room.room) (sym c.in-Ok-new_room.ensures.places) c.in-Ok-new_room.ensures);
+  room = subst (λ n. HasRoom n (length c.args.claims.now) c.in-Ok-new_room.room) (sym c.in-Ok-new_room.ensures.places) c.in-Ok-new_room.ensures;
   places = subst (HavePlaces c.args.parts.now.groups) (sym c.in-Ok-new_room.ensures.places) c.places_for-slots.ensures.enough;
   fewest = λ n have. let many = c.in-Ok-new_room.ensures.places in let least = c.places_for-slots.ensures.fewest n have in omega (arith, many, least);
 }
