@@ -412,9 +412,9 @@ impl<
         ensures err { OnErr result ((key : ℕ)
             × HasAsked (taker_of controller self.old.even self.old.odd) block key (taker_of controller self.new.even self.new.odd)) }
         ensures learned { (reading : Lesson) → result ≡ Ok (Some reading) → (found : Record) × (found.block ≡ block)
-            × WasLearned N.blocks N.payload found reading }
-        ensures refused { (q : Refusal) → result ≡ Err (Core q)
-            → (found : Record) × HasAsked (taker_of controller self.old.even self.old.odd) block (key_of found) (taker_of controller self.new.even self.new.odd)
+            × IsNewest (taker_of controller self.old.even self.old.odd) block (key_of found) × WasLearned N.blocks N.payload found reading }
+        ensures refused { (q : Refusal) → result ≡ Err (Core q) → (found : Record) × (found.block ≡ block)
+            × HasAsked (taker_of controller self.old.even self.old.odd) block (key_of found) (taker_of controller self.new.even self.new.odd)
             × WasUnlearned N.blocks N.payload found q }
         ensures other { other_of controller self.new.even self.new.odd ≡ other_of controller self.old.even self.old.odd }
         ensures fault { result ≢ Err (Core refusal.Memory) }

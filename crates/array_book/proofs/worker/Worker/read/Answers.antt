@@ -1,5 +1,6 @@
 use Rattle.std.proofs.Common.{◌≡◌, ◌≢◌, ◌<◌, rules, sym, ap, ◌∙◌, subst}
 use Rattle.map_join.specs.Record.{key_of}
+use Rattle.map_words.specs.Answers.{IsNewest}
 use Rattle.flat_machine.specs.declared.refusal.Refusal.{Refusal}
 use Rattle.flat_machine.specs.declared.refusal.Refusal.TheVariants.{Memory}
 use Rattle.array_book.specs.declared.fault.WorkFault.TheVariants.{Core}
@@ -28,7 +29,8 @@ returns-in-Ok-clause-learned g c reading is =
     let found = c.in-Some.found in
     let same : c.in-Ok.reading ≡ reading = search rules in
     let of : found.block ≡ c.args.block = search rules in
-    (found, of, subst (λ (l : Lesson). WasLearned g.N.Sizes.blocks g.N.Sizes.payload found l) same c.in-Ok.ensures.answered)
+    let newest : IsNewest (taker_of c.args.controller c.args.self.now.even c.args.self.now.odd) c.args.block (key_of found) = search rules in
+    (found, of, newest, subst (λ (l : Lesson). WasLearned g.N.Sizes.blocks g.N.Sizes.payload found l) same c.in-Ok.ensures.answered)
 
 pub returns-in-Err-clause-refused : goal.returns-in-Err-clause-refused
 returns-in-Err-clause-refused g c q is =
@@ -39,7 +41,8 @@ returns-in-Err-clause-refused g c q is =
     let told : c.of.result ≡ Core q = cc in
     let same : c.in-Err.refusal ≡ q = c.of.ensures.core q told in
     let other : c.in-Err.refusal ≢ Memory = λ m. c.of.ensures.memory (told ∙ ap Core (sym same ∙ m)) in
-    (found, asked, subst (λ (z : Refusal). WasUnlearned g.N.Sizes.blocks g.N.Sizes.payload found z) same (c.in-Err.ensures.answered other))
+    let of : found.block ≡ c.args.block = search rules in
+    (found, of, asked, subst (λ (z : Refusal). WasUnlearned g.N.Sizes.blocks g.N.Sizes.payload found z) same (c.in-Err.ensures.answered other))
 
 pub returns-in-Ok-clause-read : goal.returns-in-Ok-clause-read
 returns-in-Ok-clause-read g c reading is =
