@@ -80,7 +80,7 @@ struct behkuna_header {
 uint32_t behkuna_header_decode(const uint8_t bytes[32], struct behkuna_header *header);
 
 /* The 32 bytes of a header, in layout 2; of a blank one they are zeros, and its record isn't read.
-   BEHKUNA_RANGE: the kind is above 2. BEHKUNA_VERSION: the header isn't blank and its record's version is 0. */
+   BEHKUNA_RANGE: the kind is above 2. BEHKUNA_VERSION: the kind is 1 or 2 and the record's version is 0. */
 uint32_t behkuna_header_encode(const struct behkuna_header *header, uint8_t bytes[32]);
 
 /* ---- Lists of records, twelve bytes each ------------------------------------------------------------------------------ */

@@ -81,7 +81,7 @@ pub extern "C" fn behkuna_header_decode(bytes: &[u8; 32], header: &mut UnitHeade
 }
 
 /// Writes the 32 bytes of a header in layout 2; of a blank one the record isn't read. Range, where the kind is above 2; Version,
-/// where it is no blank header's and the record has version 0: the bytes stay.
+/// where it is 1 or 2 and the record has version 0: the bytes stay.
 #[unsafe(no_mangle)]
 pub extern "C" fn behkuna_header_encode(header: &UnitHeader, bytes: &mut [u8; 32]) -> u32
     ensures { Returns result (λ status. EncodesHeader status header.now bytes.old bytes.new) }

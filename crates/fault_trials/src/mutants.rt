@@ -8,7 +8,7 @@ use std::alloc::{AllocError, Global};
 
 /// The words that an answer begins with.
 const ANSWERS: &str =
-    "array made claimed taken released notheld filled copied record discarded data none stale noroom nothing moved added lost took merged same differs map log scan restarted refused";
+    "array made unmade claimed taken released notheld filled copied record discarded data trimmed none stale noroom nothing moved added lost took merged same differs map log scan restarted refused";
 
 /// How many scripts were run, and how many of them to their end and to a fault.
 #[derive(Drop)]

@@ -78,7 +78,7 @@ fn step_in(alloc: Global, world: &World, line: &str) -> Result<Answered, Trouble
     })
 }
 
-// An error of what is refused for want of memory alone.
+// An error of what is refused only if out of memory.
 fn unless_refused<T: Drop>(made: Result<T, Refusal>) -> Result<T, Trouble> {
     made.ok().ok_or(Trouble::Memory)
 }
