@@ -1,9 +1,9 @@
 -- What is planned where no demotion is due, and which slots a plan tries.
-use Rattle.std.proofs.Common.{◌≡◌, ℕ, ◌<◌, ◌+◌, ◌/◌, ◌%◌, ◌==◌, Bool, true, false, cond, List, inl, inr, Option, Some, None, subst, arith}
+use Rattle.std.proofs.Common.{◌≡◌, ℕ, List, inl, inr, Option, Some, None, subst}
 use Rattle.std.specs.Prelude.{MatchOption}
 use Rattle.background.specs.Planning.{IsNextAppend, IsPlugOf, IsCleanOf}
 use Rattle.array_book.specs.Kept.{KeptView}
-use Rattle.array_book.specs.Planned.{IsRegrouped, IsPlanned, IsDone, IsNext, NoDemotion, turn_of}
+use Rattle.array_book.specs.Planned.{IsRegrouped, IsPlanned, IsDone, IsNext, NoDemotion}
 use Rattle.array_book.specs.Outcomes.{State, IsTried, HadNoRoom}
 use Rattle.array_book.specs.declared.plan.Plan.{Plan}
 
@@ -23,15 +23,6 @@ pub first_is : (k : KeptView) (free : ℕ → Type 0) (r : Option ℕ) → IsNex
 first_is k free None is = tt
 first_is k free (Some slot) (inl is) = is.holds.1
 first_is k free (Some slot) (inr is) = is.1.holds.1
-
--- how many turns there are
-pub turn_below : (group : Option ℕ) (slot : ℕ) → slot < 65536 → turn_of group slot < 65664
-turn_below None slot below = omega arith
-turn_below (Some group) slot below = go (group == (slot / 128))
-  where
-    go : (b : Bool) → cond b (slot % 128) (128 + slot) < 65664
-    go true = omega arith
-    go false = omega arith
 
 -- what comes next is tried, and where nothing does there was no room
 pub next_tried : (blocks payload : ℕ) (plan : Plan) (before : ℕ) (r : Option ℕ) (slot : ℕ) → (state : State blocks payload) × IsNext state.view plan before r

@@ -50,23 +50,6 @@ finished_two groups c m e slot p q u v wanted one two own here_is there_is apart
       (also.beside x (λ same. never (subst (IsOwnOf groups slot) (sym same) there_is)));
 }
 
--- one was, and the other's drive is lost
-pub finished_one : (groups : Groups) (c e : Cells) (slot : ℕ) (p q : Place) (u : List ℕ) (wanted : Place → List ℕ) (ok : Bool)
-    → ((x : Place) → IsOwnOf groups slot x → (x ≡ p) ⊎ (x ≡ q)) → IsOwnOf groups slot p → p ≢ q
-    → wanted p ≡ u → held c q ≡ None → DidWrite c e p u ok → IsFinished groups c e slot wanted
-finished_one groups c e slot p q u wanted ok own here_is apart first gone did = record {
-  own = λ x mine. elim (own x mine) [
-    | inl is ↦ subst (λ y. (held e y ≡ over (held c y) (wanted y)) ⊎ (held e y ≡ None)) (sym is)
-        (subst (λ w. (held e p ≡ over (held c p) w) ⊎ (held e p ≡ None)) (sym first) (here (held c p) (held e p) u ok did.here did.was))
-    | inr is ↦ inr (ap (held e) is ∙ lost (held c q) (held e q) gone (did.beside q (λ same. apart (sym same))))
-  ];
-  others = λ x never. did.beside x (λ same. never (subst (IsOwnOf groups slot) (sym same) here_is));
-}
-  where
-    lost : (a b : Option (List ℕ)) → a ≡ None → Fades a b → b ≡ None
-    lost a b gone (inl same) = same ∙ gone
-    lost a b gone (inr none) = none
-
 -- what a note has for the places of a site: of a pair the unit, of a row the parity where it has one, and the unit
 pub noted_pair : (site : Option Site) (p q : Place) (unit : List ℕ) (sum : Option (List ℕ)) → site ≡ Some (Pair p q) → (x : Place) → unit_noted site unit sum x ≡ unit
 noted_pair site p q unit sum at x = ap (λ s. unit_noted s unit sum x) at

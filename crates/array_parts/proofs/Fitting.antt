@@ -32,11 +32,6 @@ fits units p shape least most groups many sized agree rows wide =
       wide = same;
     }
 
--- the drives of parts that fit have the units that the shape asks
-pub fit_units : {D : Type 0} (units : D → List (List ℕ)) (p : Parts D) → IsFit units p → HaveUnits units p.drives.items (p.shape.extents * extent_units p.shape.segments)
-fit_units units p fit d x e =
-    fit.drives.many d x e ∙ ap (λ n. n * extent_units p.groups.segments) (sym fit.shape.of_extents) ∙ ap (λ n. p.shape.extents * extent_units n) (sym fit.shape.of_segments)
-
 -- drives of which each element of the list says that its units are sized
 pub sized_within : {D : Type 0} (units : D → List (List ℕ)) (bytes : ℕ) (drives : List D) → AllWithin (λ x. IsSized bytes (units x)) drives 0 (length drives) → AreSized units bytes drives
 sized_within units bytes drives all d x e =

@@ -1,5 +1,5 @@
 -- The units of a member put on another extent one after another.
-use Rattle.std.proofs.Common.{◌≡◌, ◌≢◌, ℕ, ◌+◌, ◌*◌, ◌%◌, ◌<◌, inl, inr, Bool, true, Some, None, List, length, sym, ◌∙◌, ap, subst, arith, refl}
+use Rattle.std.proofs.Common.{◌≡◌, ◌≢◌, ℕ, ◌+◌, ◌*◌, ◌%◌, ◌<◌, inl, inr, Bool, true, Some, None, List, length, sym, ◌∙◌, ap, subst, arith}
 use Rattle.std.specs.Prelude.{slice_get}
 use Rattle.std.proofs.lemmas.List.{length-map}
 use Rattle.std.proofs.lemmas.Option.{none-some, slice_get_within}
@@ -19,7 +19,7 @@ use Rattle.extent_groups.specs.Moving.{member_unit}
 use Rattle.extent_groups.specs.Stores.{unit_bytes, HasMemberOn}
 use Rattle.extent_groups.specs.Units.{Site, row_of, place_of, places_of, site_in, site_of, IsSoundAt}
 use Rattle.extent_groups.specs.Wiping.{IsIn}
-use Rattle.extent_groups.proofs.DriveCalls.{keeps_trans, keeps_more, keeps_none, keeps_place}
+use Rattle.extent_groups.proofs.DriveCalls.{keeps_trans, keeps_more, keeps_place}
 use Rattle.extent_groups.proofs.Elsewhere.{same_trans, same_more}
 use Rattle.extent_groups.proofs.Fading.{faded, fade_effective, row_fades, row_sized, site_fades}
 use Rattle.extent_groups.proofs.LayoutLaw.{layout_law}
@@ -107,10 +107,6 @@ target_lost units lost failures t g k o was to old mid new route low read wrote 
 pub one_touched : {D : Type 0} (units : D → List (List ℕ)) (lost : D → Bool) (failures : D → Failures) (p : Place) (old mid new : List D) → KeepsDrives units lost failures NoPlace old mid
     → KeepsDrives units lost failures (Only p) mid new → KeepsDrives units lost failures (Only p) old new
 one_touched units lost failures p old mid new read wrote = keeps_trans (keeps_more (λ x never. absurd never) read) wrote
-
--- at first no unit is there
-pub none_on_target : {D : Type 0} (units : D → List (List ℕ)) (lost : D → Bool) (failures : D → Failures) (t : Groups) (g k : ℕ) (was to : Member) (ds : List D) → AreOnTarget units lost failures t g k was to 0 ds ds
-none_on_target units lost failures t g k was to ds = record { each = λ o low. absurd (omega arith); touched = keeps_none ds; elsewhere = λ d apart. refl }
 
 -- what one more offset touches
 pub more_in : {D : Type 0} (units : D → List (List ℕ)) (lost : D → Bool) (failures : D → Failures) (s o : ℕ) (to : Member) (old mid new : List D) → o < extent_units s

@@ -13,13 +13,9 @@ use Rattle.extent_groups.specs.Missing.{missing_of}
 use Rattle.extent_groups.specs.Units.{place_of}
 use Rattle.extent_groups.specs.Wiping.{HasExtent, IsIn, HoldBelow}
 use Rattle.extent_groups.proofs.Places.{same_or_not}
-use Rattle.extent_groups.proofs.DriveCalls.{keeps_trans, keeps_more, keeps_none, keeps_place}
+use Rattle.extent_groups.proofs.DriveCalls.{keeps_trans, keeps_more, keeps_place}
 use Rattle.extent_groups.proofs.Missing.{cell_missing}
 use Rattle.array_parts.specs.Making.{AreWipedTo}
-
--- at first nothing is wiped
-pub none_wiped : {D : Type 0} (units : D → List (List ℕ)) (lost : D → Bool) (failures : D → Failures) (s : ℕ) (ms : List Member) (bytes : List ℕ) (ds : List D) → AreWipedTo units lost failures s ms bytes 0 ds ds
-none_wiped units lost failures s ms bytes ds = record { wiped = λ k m low. absurd (omega arith); others = λ d no. refl; touched = keeps_none ds }
 
 -- the drives have the extents still
 pub extent_kept : {D : Type 0} {units : D → List (List ℕ)} {lost : D → Bool} {failures : D → Failures} {touched : Place → Type 0} {old new : List D} (s : ℕ) (m : Member)

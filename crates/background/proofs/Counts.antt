@@ -14,9 +14,6 @@ abbrev pub IsCounted : (ℕ → ℕ) → ℕ → ℕ → ℕ → ℕ → Type 0
 IsCounted keys group slots index count =
     (found : List ℕ) × ListsBelow (IsLiveIn keys group slots) (128 * group + index) found × (length found ≡ count) × (count ≤ index)
 
-pub counted_none : (keys : ℕ → ℕ) (group slots : ℕ) → IsCounted keys group slots 0 0
-counted_none keys group slots = ([], below_none (IsLiveIn keys group slots) (128 * group + 0) (λ n l live. let own = live.own in omega (arith, l, own)), refl, omega arith)
-
 pub counted_more : (keys : ℕ → ℕ) (group slots index count : ℕ) → index < slots → slots ≤ 128 → IsLive keys (128 * group + index)
     → IsCounted keys group slots index count → IsCounted keys group slots (index + 1) (count + 1)
 counted_more keys group slots index count l few live h =

@@ -1,10 +1,10 @@
 -- The best of the groups that were looked at, group by group and row by row.
-use Rattle.std.proofs.Common.{◌≡◌, ◌≢◌, ◌∙◌, ◌⊎◌, inl, inr, ℕ, ◌+◌, ◌-◌, ◌*◌, ◌<◌, ◌≤◌, sym, ap, subst, arith, List, slice_index, Option, Some, None}
+use Rattle.std.proofs.Common.{◌≡◌, ◌≢◌, ◌∙◌, ◌⊎◌, inl, inr, ℕ, ◌+◌, ◌-◌, ◌*◌, ◌<◌, ◌≤◌, sym, ap, arith, List, slice_index, Option, Some}
 use Rattle.std.proofs.lemmas.Bool.{cases_lt}
 use Rattle.std.proofs.lemmas.Simd.{Each1-get_or}
 use Rattle.std.specs.Simd.Lanes.{Each1}
 use Rattle.cleaner.specs.declared.choice.Ranked.{Ranked}
-use Rattle.cleaner.specs.Choosing.{IsFewest, IsMost, IsRow, IsNoBetter, IsChoice, IsBestTo, IsBetter}
+use Rattle.cleaner.specs.Choosing.{IsFewest, IsMost, IsRow, IsNoBetter, IsChoice, IsBestTo}
 
 module _ (rank : ℕ → ℕ) (left_out : Option ℕ) where
   no_more : (group value other : ℕ) → rank other ≤ value → group ≤ other → IsNoBetter rank group value other
@@ -13,16 +13,6 @@ module _ (rank : ℕ → ℕ) (left_out : Option ℕ) where
       by : (rank other < value) ⊎ (value ≤ rank other) → IsNoBetter rank group value other
       by (inl l) = inl l
       by (inr m) = inr (omega (arith, le, m), first)
-
-  -- before the first group
-  pub best_none : IsBestTo rank left_out 0 0 0
-  best_none = record {
-    below = λ l. absurd (omega (arith, l));
-    other = λ l. absurd (omega (arith, l));
-    is = λ l. absurd (omega (arith, l));
-    first = omega arith;
-    best = λ other l o. absurd (omega (arith, l));
-  }
 
   -- a row in which no group is better
   pub best_row : (row group value : ℕ) (lanes : List ℕ) → IsRow rank row lanes → Each1 (λ lane. lane ≤ value) lanes
@@ -51,47 +41,6 @@ module _ (rank : ℕ → ℕ) (left_out : Option ℕ) where
       by : (other < bound) ⊎ (bound ≤ other) → (other < bound) ⊎ (other ≡ bound)
       by (inl m) = inl m
       by (inr m) = inr (omega (arith, l, m))
-
-  -- a group more
-  pub best_next : (group value : ℕ) (best result : Ranked) → value ≡ rank group → IsBetter left_out group value best result
-      → IsBestTo rank left_out group best.group best.rank → IsBestTo rank left_out (group + 1) result.group result.rank
-  best_next group value best result is (inl taken) h = subst (λ r. IsBestTo rank left_out (group + 1) r.group r.rank) (sym taken.2) (record {
-    below = λ l. omega arith;
-    other = λ l. taken.1;
-    is = λ l. sym is;
-    first = omega arith;
-    best = λ other l o. by other o (last_of group other l);
-  })
-    where
-      less : (other : ℕ) → IsNoBetter rank best.group best.rank other → IsNoBetter rank group value other
-      less other (inl m) = inl (omega (arith, m, taken.0))
-      less other (inr m) = inl (omega (arith, m.0, taken.0))
-
-      by : (other : ℕ) → left_out ≢ Some other → (other < group) ⊎ (other ≡ group) → IsNoBetter rank group value other
-      by other o (inl m) = less other (h.best other m o)
-      by other o (inr e) = inr (ap rank e ∙ sym is, omega (arith, e))
-  best_next group value best result is (inr kept) h = subst (λ r. IsBestTo rank left_out (group + 1) r.group r.rank) (sym kept.1) (record {
-    below = λ l. omega (arith, h.below l);
-    other = h.other;
-    is = h.is;
-    first = omega (arith, h.first);
-    best = λ other l o. by other o (last_of group other l);
-  })
-    where
-      by : (other : ℕ) → left_out ≢ Some other → (other < group) ⊎ (other ≡ group) → IsNoBetter rank best.group best.rank other
-      by other o (inl m) = h.best other m o
-      by other o (inr e) =
-          let le : value ≤ best.rank = kept.0 (subst (λ g. left_out ≢ Some g) e o) in
-          let same : rank other ≡ value = ap rank e ∙ sym is in
-          no_more best.group best.rank other (omega (arith, le, same)) (omega (arith, e, h.first))
-
-  -- after the last
-  pub none_chosen : (best : Ranked) → best.rank ≡ 0 → IsBestTo rank left_out 512 best.group best.rank → IsChoice rank left_out None
-  none_chosen best zeroed h other l o = by (h.best other l o)
-    where
-      by : IsNoBetter rank best.group best.rank other → rank other ≡ 0
-      by (inl m) = absurd (omega (arith, m, zeroed))
-      by (inr m) = m.0 ∙ zeroed
 
   pub chosen : (best : Ranked) → (best.rank ≡ 0 → ⊥) → IsBestTo rank left_out 512 best.group best.rank → IsChoice rank left_out (Some best)
   chosen best some h = by (cases_lt 0 best.rank)

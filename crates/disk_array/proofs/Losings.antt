@@ -1,9 +1,9 @@
 -- Drives in memory: new ones, and what a loss or a fuse leaves of an array's.
-use Rattle.std.proofs.Common.{◌≡◌, ℕ, zero, suc, ◌<◌, Bool, true, List, [], ◌∷◌, ◌++◌, length, map, refl, sym, ap, ◌∙◌, subst, Some}
+use Rattle.std.proofs.Common.{◌≡◌, ℕ, ◌<◌, Bool, true, List, [], length, map, refl, sym, ap, ◌∙◌, subst, Some}
 use Rattle.std.specs.Prelude.{slice_get, slice_set}
 use Rattle.std.specs.Option.{option_map}
 use Rattle.std.proofs.lemmas.List.{map-set, length-set}
-use Rattle.std.proofs.lemmas.Option.{slice_get-get_or, slice_get-map, same_Some, none-some}
+use Rattle.std.proofs.lemmas.Option.{slice_get-get_or, slice_get-map, same_Some}
 use Rattle.extents.specs.Condition.{Held, after_loss, after_fuse}
 use Rattle.extents.specs.declared.mem_drive.Condition.{Condition}
 use Rattle.extents.specs.declared.mem_drive.Condition.TheVariants.{Present, Fused, Lost, Burnt}
@@ -155,13 +155,6 @@ new_drive bytes count = record { units = zero_units bytes count; condition = Pre
 -- each of these drives is new
 abbrev pub AreNewDrives : ℕ → ℕ → List Held → Type 0
 AreNewDrives bytes count ds = (d : ℕ) (m : Held) → slice_get ds d ≡ Some m → m ≡ new_drive bytes count
-
--- one more
-pub one_new : (bytes count : ℕ) (ds : List Held) (m : Held) → AreNewDrives bytes count ds → m ≡ new_drive bytes count → AreNewDrives bytes count (ds ++ m ∷ [])
-one_new bytes count [] m new is zero x at = same_Some x m (sym at) ∙ is
-one_new bytes count [] m new is (suc d) x at = absurd (none-some x at)
-one_new bytes count (y ∷ ds) m new is zero x at = new zero x at
-one_new bytes count (y ∷ ds) m new is (suc d) x at = one_new bytes count ds m (λ e z there. new (suc e) z there) is d x at
 
 -- an array whose drives were lost or fused is whole and ready as it was
 pub still_stands : {C : Type 0} (names : C → ℕ) (a : Inside Held C) (p : Parts Held) → Keeps (held_parts a.parts) (held_parts p) → IsFit held_units p

@@ -36,13 +36,6 @@ stripe_is n r q u i h low e =
     let rest : i / 2 % (n - 1) ≡ q = ap (λ x. x % (n - 1)) half ∙ both.1 in
     ap (λ x. stripe_in n x (i / 2 % (n - 1)) (i % 2)) row ∙ ap (λ x. stripe_in n r x (i % 2)) rest ∙ ap (stripe_in n r q) unit
 
--- the stripe of the slot after an even one, after an odd one of the same row, and after the last one of a row
-pub stripe_even : (n i : ℕ) → 2 ≤ n → i % 2 ≡ 0 → stripe_of n (i + 1) ≡ stripe_in n (i / 2 / (n - 1)) (i / 2 % (n - 1)) 1
-stripe_even n i two e =
-    let whole : i / 2 / (n - 1) * (n - 1) + i / 2 % (n - 1) ≡ i / 2 = omega arith in
-    let rest : i / 2 % (n - 1) < n - 1 = omega (arith, two) in
-    stripe_is n (i / 2 / (n - 1)) (i / 2 % (n - 1)) 1 (i + 1) rest (omega arith) (rw whole (omega (arith, e)))
-
 pub stripe_odd : (n i : ℕ) → i % 2 ≢ 0 → i / 2 % (n - 1) + 1 < n - 1 → stripe_of n (i + 1) ≡ stripe_in n (i / 2 / (n - 1)) (i / 2 % (n - 1) + 1) 0
 stripe_odd n i ne h =
     let whole : i / 2 / (n - 1) * (n - 1) + i / 2 % (n - 1) ≡ i / 2 = omega arith in

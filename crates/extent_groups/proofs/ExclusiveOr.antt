@@ -78,7 +78,3 @@ add_swap a b c = sym (add-assoc a b c) ∙ ap (λ z. add z c) (add-comm a b) ∙
 pub add-zeros : (n : ℕ) (a : Option (List ℕ)) → ((v : List ℕ) → a ≡ Some v → length v ≤ n) → add (Some (replicate n 0)) a ≡ a
 add-zeros n None h = refl
 add-zeros n (Some v) h = ap (λ t. Some t) (plus-zeros n v (h v refl))
-
-pub add-none : (a : Option (List ℕ)) → add a None ≡ None
-add-none None = refl
-add-none (Some u) = refl

@@ -5,13 +5,12 @@ use Rattle.std.proofs.lemmas.List.{take-replicate, take_all}
 use Rattle.std.proofs.lemmas.Option.{slice_get-map, slice_get-get_or, slice_get_within, same_Some, none-some}
 use Rattle.extents.specs.Failures.{Failures}
 use Rattle.extents.specs.Units.{IsSized, fronts}
-use Rattle.extents.specs.declared.shape.TheConstants.{HEADER_BYTES}
 use Rattle.extent_groups.specs.declared.place.Place.{Place}
 use Rattle.extent_groups.specs.Groups.{Groups}
 use Rattle.extent_groups.specs.Cells.{Cells, cell, cells, held, front, front_units}
 use Rattle.extent_groups.specs.Units.{Site, Pair, InStripe, plus, add, total, put, others, or_else, held_in, row_of, unit_at, unit_in, site_of}
 use Rattle.extent_groups.specs.Calls.{AreSized, HaveFronts, HaveRoom, NoPlace, KeepsDrives}
-use Rattle.extent_groups.specs.Stores.{unit_bytes, unit_of, header_of, IsBuffer, AreDrives}
+use Rattle.extent_groups.specs.Stores.{unit_bytes, unit_of, IsBuffer, AreDrives}
 use Rattle.extent_groups.proofs.Places.{same_or_not}
 use Rattle.extent_groups.proofs.Totals.{Row, put_same, put_other, put_sized, total_sized}
 use Rattle.extent_groups.proofs.Fading.{row_sized}
@@ -19,11 +18,6 @@ use Rattle.extent_groups.proofs.DriveCalls.{cells_sized}
 use Rattle.extent_groups.proofs.Losses.{site_same}
 use Rattle.extent_groups.proofs.SlotWrites.{AreSizedCells, unit_at_site}
 use Rattle.extent_groups.proofs.StoreCalls.{sized_cells}
-
--- what isn't there has no front
-pub front_none : (n : ℕ) (o : Option (List ℕ)) → front n o ≡ None → o ≡ None
-front_none n None e = refl
-front_none n (Some u) e = absurd (none-some (take n u) (sym e))
 
 -- what has one is there
 pub front_some : (n : ℕ) (o : Option (List ℕ)) (bytes : List ℕ) → front n o ≡ Some bytes → (unit : List ℕ) × (o ≡ Some unit) × (take n unit ≡ bytes)
@@ -116,10 +110,6 @@ slot_front units lost ds t slot site n a at short e =
     ∙ sym (front_unit n (unit_bytes t) (cells units lost ds) (cells (front_units n units) lost ds) short (front_held n units lost ds) site)
     ∙ e
 
--- the first n bytes are the header, where n is a header's size
-pub slot_header : (t : Groups) (c : Cells) (slot n : ℕ) (a : Option (List ℕ)) → n ≡ HEADER_BYTES → front n (unit_of t c slot) ≡ a → header_of t c slot ≡ a
-slot_header t c slot n a same e = ap (λ m. front m (unit_of t c slot)) (sym same) ∙ e
-
 first_sized : (n : ℕ) (a b : Option (List ℕ)) → ((u : List ℕ) → a ≡ Some u → length u ≡ n) → ((u : List ℕ) → b ≡ Some u → length u ≡ n)
     → (u : List ℕ) → or_else a b ≡ Some u → length u ≡ n
 first_sized n None b one two u e = two u e
@@ -141,10 +131,6 @@ pub slot_whole : {D : Type 0} (units : D → List (List ℕ)) (lost : D → Bool
     → AreDrives units t ds → n ≡ unit_bytes t → front n (unit_of t (cells units lost ds) slot) ≡ a → unit_of t (cells units lost ds) slot ≡ a
 slot_whole units lost ds t slot n a are same e =
     sym (front_whole n (unit_of t (cells units lost ds) slot) (λ u is. unit_sized (unit_bytes t) (cells units lost ds) (sized_cells units lost t ds are) (site_of t slot) u is ∙ sym same)) ∙ e
-
--- what has no front isn't there
-pub slot_gone : (t : Groups) (c : Cells) (slot n : ℕ) → front n (unit_of t c slot) ≡ None → unit_of t c slot ≡ None
-slot_gone t c slot n e = front_none n (unit_of t c slot) e
 
 -- ---- drives
 

@@ -1,5 +1,5 @@
 -- The list of a plan: of a pair, and of two places of a row; and the writes of a pair, one call after the other.
-use Rattle.std.proofs.Common.{◌≡◌, ◌≢◌, ℕ, inl, inr, Bool, true, false, if◌then◌else◌, Option, Some, None, List, [], ◌∷◌, length, refl, sym, ◌∙◌, ap, subst}
+use Rattle.std.proofs.Common.{◌≡◌, ◌≢◌, ℕ, inl, inr, Bool, true, false, if◌then◌else◌, Option, Some, None, List, [], ◌∷◌, length, refl, sym, ◌∙◌, ap}
 use Rattle.std.specs.Prelude.{◌==◌, ◌&&◌, slice_get}
 use Rattle.std.proofs.lemmas.Option.{none-some}
 use Rattle.extent_groups.specs.declared.place.Place.{Place}
@@ -65,17 +65,9 @@ module _ (c one two : Cells) (p q : Place) (u : List ℕ) (a b : Bool) (apart : 
       go (Some v) (Some w) es et =
           fades_more c one two (record { place = p; unit = u } ∷ []) (record { place = q; unit = u }) b (fades_more c c one [] (record { place = p; unit = u }) a (λ y. inl refl) first) second
 
-  -- both are refused: nothing was written
-  pub pair_unwritten : a ≡ false → b ≡ false → (x : Place) → FadesAt c two x
-  pair_unwritten ea eb = λ x. fades_trans (held c x) (held one x) (held two x)
-      (refused_fades c one p u (subst (DidWrite c one p u) ea first) x) (refused_fades one two q u (subst (DidWrite one two q u) eb second) x)
-
   -- one is made: a copy was there
   pub first_there : a ≡ true → held c p ≡ None → ⊥
   first_there ea = first.was ea
-
-  pub second_there : b ≡ true → held c q ≡ None → ⊥
-  second_there eb gone = second.was eb (still gone)
 
 -- a write is listed where its place holds a unit, and not where it holds none
 pub held_some : (a : Option (List ℕ)) (w : Wanted) (ws : List Wanted) → (a ≡ None → ⊥) → if_held a w ws ≡ w ∷ ws

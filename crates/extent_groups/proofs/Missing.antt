@@ -123,12 +123,3 @@ never_gone t missing slot (InStripe row parity i) groups most at whole gone =
 there_is : (o : Option (List ℕ)) → (o ≡ None → ⊥) → (v : List ℕ) × (o ≡ Some v)
 there_is None h = absurd (h refl)
 there_is (Some v) h = (v, refl)
-
--- where each group misses at most one member every slot of a made group has an effective unit
-pub unit_there : {D : Type 0} (units : D → List (List ℕ)) (lost : D → Bool) (t : Groups) (ds : List D) (slot : ℕ) (site : Site) → AreGroups t → AreDrives units t ds → MissAtMostOne t (missing_of lost ds)
-    → site_of t slot ≡ Some site → (v : List ℕ) × (unit_of t (cells units lost ds) slot ≡ Some v)
-unit_there units lost t ds slot site groups are most at =
-    let whole = (layout_law t groups).whole slot site at in
-    there_is (unit_of t (cells units lost ds) slot)
-    (λ none. never_gone t (missing_of lost ds) slot site groups most at whole
-    (gone_at units lost ds (unit_bytes t) site whole (site_places units t ds slot site groups are at) (sym (unit_at_site t (cells units lost ds) slot site at) ∙ none)))

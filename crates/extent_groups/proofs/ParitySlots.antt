@@ -1,7 +1,7 @@
 -- The table of how many slots each parity group has: kept as groups change, and read at one number.
 use Rattle.std.proofs.Common.{◌≡◌, ◌∙◌, ℕ, zero, suc, ◌-◌, ◌*◌, ◌<◌, ◌≤◌, Option, Some, None, List, [], ◌∷◌, length, refl, sym, ap, subst, arith, get_or}
 use Rattle.std.specs.Prelude.{slice_get, slice_set, slice_index, option_map, unwrap_or, map, replicate}
-use Rattle.std.proofs.lemmas.List.{map-set, length-map, length-set}
+use Rattle.std.proofs.lemmas.List.{map-set, length-set}
 use Rattle.std.proofs.Math.Seq.{map-set_same}
 use Rattle.extents.specs.declared.shape.Shape.{Shape}
 use Rattle.extent_groups.specs.declared.class.Class.{Class}
@@ -59,10 +59,6 @@ read_map segments (x ∷ table) (suc g) = read_map segments table g
 -- the slots of one number
 pub slots_at : (groups : Groups) (g : ℕ) → slice_index (parity_slots_of groups) g ≡ parity_slots_in groups.segments (group_at groups g)
 slots_at groups g = read_map groups.segments groups.table g
-
--- as many as there are numbers
-pub slots_many : (groups : Groups) → AreGroups groups → length (parity_slots_of groups) ≡ 512
-slots_many groups are = length-map groups.table (parity_slots_in groups.segments) ∙ are.numbers
 
 -- of a parity group they are its slots
 slots_if_parity : (segments : ℕ) (o : Option Group) → class_in o ≡ Some Parity → parity_slots_in segments o ≡ slots_in segments o

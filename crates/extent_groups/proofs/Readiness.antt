@@ -1,5 +1,5 @@
 -- Drives are those of the groups, and ready for the stores: from groups and owners that agree, over losses from outside, and with a drive more.
-use Rattle.std.proofs.Common.{◌≡◌, ℕ, zero, suc, ◌*◌, ◌/◌, ◌%◌, ◌<◌, inl, inr, Bool, true, false, Option, Some, None, List, [], ◌∷◌, ◌++◌, length, refl, sym, ◌∙◌, ap, subst, arith, length-append, if◌then◌else◌}
+use Rattle.std.proofs.Common.{◌≡◌, ℕ, zero, suc, ◌*◌, ◌<◌, inl, inr, Bool, true, false, Option, Some, None, List, [], ◌∷◌, ◌++◌, length, refl, sym, ◌∙◌, ap, subst, arith, length-append, if◌then◌else◌}
 use Rattle.std.specs.Prelude.{slice_get, slice_set, replicate}
 use Rattle.std.proofs.lemmas.List.{length-set, length-replicate}
 use Rattle.std.proofs.lemmas.Option.{same_Some, none-some}
@@ -11,14 +11,14 @@ use Rattle.extents.specs.Sizes.{extent_units}
 use Rattle.extents.specs.Units.{IsSized, zero_units}
 use Rattle.extent_groups.specs.declared.class.Member.{Member}
 use Rattle.extent_groups.specs.declared.place.Place.{Place}
-use Rattle.extent_groups.specs.Groups.{Groups, group_at, AreGroups, Agree, with_owners}
+use Rattle.extent_groups.specs.Groups.{Groups, AreGroups, Agree, with_owners}
 use Rattle.extent_groups.specs.Cells.{cell, cells, held}
-use Rattle.extent_groups.specs.Units.{Site, site_of, site_of_index}
+use Rattle.extent_groups.specs.Units.{Site, site_of}
 use Rattle.extent_groups.specs.Calls.{AreSized}
 use Rattle.extent_groups.specs.Layout.{IsOf, IsLayout}
 use Rattle.extent_groups.specs.Stores.{unit_bytes, unit_of, AreSound, AreDrives, KeepsUnits, IsReady}
 use Rattle.extent_groups.proofs.Places.{get-set_same, get-set_other, same_or_not}
-use Rattle.extent_groups.proofs.Fresh.{or_none, no_members}
+use Rattle.extent_groups.proofs.Fresh.{or_none}
 use Rattle.extent_groups.proofs.Blank.{blank_site}
 use Rattle.extent_groups.proofs.Losses.{set_fades, site_same, unit_same}
 use Rattle.extent_groups.proofs.Sites.{site_places}
@@ -60,14 +60,6 @@ agree_drives t o ds agree rows wide many sized = record {
   there = λ g k m at. let is = (agree.owned g k m at).0 in (omega (arith, is.within, rows), omega (arith, is.inside, wide));
 }
 
--- drives with the array's sizes are ready for a table without groups, with any contents
-pub free_ready : {D : Type 0} (units : D → List (List ℕ)) (lost : D → Bool) (t : Groups) (ds : List D) → ((g : ℕ) → group_at t g ≡ None)
-    → ((d : ℕ) (x : D) → slice_get ds d ≡ Some x → length (units x) ≡ t.extents * extent_units t.segments) → AreSized units (unit_bytes t) ds → IsReady units lost t ds
-free_ready units lost t ds free many sized = record {
-  drives_are = record { many = many; sized = sized; there = λ g k m at. absurd (no_members t g k m (free g) at) };
-  sound = λ slot site at. absurd (none-some site (sym (ap (λ o. site_of_index t.segments o (slot % 128)) (free (slot / 128))) ∙ at));
-}
-
 -- drives of zeros are ready for the groups that agree with the owners, where both count the same drives and extents
 pub new_drives_ready : {D : Type 0} (units : D → List (List ℕ)) (lost : D → Bool) (t : Groups) (o : Owners) (ds : List D) → Agree t o → length o.rows ≡ length ds → o.extents ≡ t.extents
     → ((d : ℕ) (x : D) → slice_get ds d ≡ Some x → units x ≡ zero_units (unit_bytes t) (t.extents * extent_units t.segments)) → IsReady units lost t ds
@@ -104,14 +96,6 @@ pub loss_keeps : {D : Type 0} (units : D → List (List ℕ)) (lost : D → Bool
 loss_keeps units lost t ds d x y layout are sound inside there same stays =
     slots_fade t (cells units lost ds) (cells units lost (slice_set ds d y)) layout (sized_cells units lost t ds are) sound (set_fades units lost ds d x y inside there same stays)
 
--- and it keeps the drives ready
-pub loss_keeps_ready : {D : Type 0} (units : D → List (List ℕ)) (lost : D → Bool) (t : Groups) (ds : List D) (d : ℕ) (x y : D) → IsLayout t → IsReady units lost t ds
-    → d < length ds → slice_get ds d ≡ Some x → units y ≡ units x → (lost x ≡ true → lost y ≡ true) → IsReady units lost t (slice_set ds d y)
-loss_keeps_ready units lost t ds d x y layout ready inside there same stays = record {
-  drives_are = drives_set t ds d x y ready.drives_are inside there same;
-  sound = (loss_keeps units lost t ds d x y layout ready.drives_are ready.sound inside there same stays).1;
-}
-
 -- one more after the others leaves them where they were
 get-more : {X : Type 0} (xs : List X) (y : X) (d : ℕ) → d < length xs → slice_get (xs ++ y ∷ []) d ≡ slice_get xs d
 get-more [] y d h = absurd (omega arith)
@@ -143,13 +127,6 @@ drive_more units lost t ds y groups are many sized =
       λ slot. unit_same (unit_bytes t) (cells units lost ds) (cells units lost (ds ++ y ∷ [])) (site_of t slot) (λ site at. same slot site at),
       λ sound slot site at. (site_same (unit_bytes t) (cells units lost ds) (cells units lost (ds ++ y ∷ [])) site (same slot site at)).1 (sound slot site at),
     )
-
--- the same, of drives that are ready
-pub drive_more_ready : {D : Type 0} (units : D → List (List ℕ)) (lost : D → Bool) (t : Groups) (ds : List D) (y : D) → AreGroups t → IsReady units lost t ds
-    → length (units y) ≡ t.extents * extent_units t.segments → IsSized (unit_bytes t) (units y) → IsReady units lost t (ds ++ y ∷ [])
-drive_more_ready units lost t ds y groups ready many sized =
-    let more = drive_more units lost t ds y groups ready.drives_are many sized in
-    record { drives_are = more.0; sound = more.2 ready.sound }
 
 -- a fuse and a loss from outside bring no drive back
 pub fused_stays : (c : Condition) (n : ℕ) → is_gone c ≡ true → is_gone (after_fuse c n) ≡ true

@@ -1,14 +1,13 @@
 -- What reads and writes of a site leave, as what they leave of every slot.
-use Rattle.std.proofs.Common.{◌≡◌, ◌≢◌, ℕ, ◌<◌, ◌⊎◌, inl, inr, Bool, true, false, Option, Some, None, List, length, refl, sym, ◌∙◌, ap, subst}
-use Rattle.std.specs.Prelude.{◌||◌}
+use Rattle.std.proofs.Common.{◌≡◌, ◌≢◌, ℕ, ◌<◌, inl, inr, Bool, true, false, Option, Some, None, List, length, refl, sym, ◌∙◌, ap, subst}
 use Rattle.std.proofs.lemmas.Option.{same_Some, none-some}
 use Rattle.extent_groups.specs.declared.place.Place.{Place}
 use Rattle.extent_groups.specs.Groups.{Groups}
 use Rattle.extent_groups.specs.Cells.{Cells, held}
-use Rattle.extent_groups.specs.Units.{Site, Pair, InStripe, or_else, row_of, unit_at, unit_in, IsSoundAt, site_of}
+use Rattle.extent_groups.specs.Units.{Site, Pair, InStripe, row_of, unit_at, unit_in, IsSoundAt, site_of}
 use Rattle.extent_groups.specs.Calls.{FadesAt, if_ok, DidWrite}
 use Rattle.extent_groups.specs.Layout.{IsOf, AreBeside, IsWhole, IsLayout}
-use Rattle.extent_groups.specs.Stores.{unit_bytes, unit_of, AreSound, KeepsUnits, KeepsOthers, KeepsAt, LeavesSites, IsOwn, AreCopies}
+use Rattle.extent_groups.specs.Stores.{unit_bytes, unit_of, AreSound, KeepsUnits, KeepsOthers, KeepsAt, LeavesSites, IsOwn}
 use Rattle.extent_groups.proofs.Places.{same_or_not}
 use Rattle.extent_groups.proofs.Fading.{fades_trans, site_fades}
 use Rattle.extent_groups.proofs.RowWrites.{WritesRow}
@@ -66,31 +65,6 @@ unit_at_site groups c slot site at = ap (unit_in (unit_bytes groups) c) at
 pub ok_is : (b : Bool) (u v : List ℕ) → if_ok b u ≡ Some v → u ≡ v
 ok_is true u v e = same_Some u v e
 ok_is false u v e = absurd (none-some v e)
-
-ok_either : (a b : Bool) (u : List ℕ) → or_else (if_ok a u) (if_ok b u) ≡ if_ok (a || b) u
-ok_either true b u = refl
-ok_either false b u = refl
-
--- both copies of a pair written, each as far as its drive is there
-pub pair_unit : (n : ℕ) (c one two : Cells) (p q : Place) (u : List ℕ) (a b : Bool) → p.drive ≢ q.drive → DidWrite c one p u a → DidWrite one two q u b
-    → unit_at n two (Pair p q) ≡ if_ok (a || b) u
-pair_unit n c one two p q u a b apart first second =
-    ap (λ x. or_else x (held two q)) (second.elsewhere p apart ∙ first.here) ∙ ap (or_else (if_ok a u)) second.here ∙ ok_either a b u
-
--- and each of them holds it, or its drive is lost
-pub pair_copies : (c one two : Cells) (p q : Place) (u : List ℕ) (a b : Bool) → p.drive ≢ q.drive → DidWrite c one p u a → DidWrite one two q u b
-    → AreCopies (IsOwn (Pair p q)) two u
-pair_copies c one two p q u a b apart first second x own = elim own [
-  | inl e ↦ subst Holds (sym e) (told a p (second.elsewhere p apart ∙ first.here))
-  | inr e ↦ subst Holds (sym e) (told b q second.here)
-]
-  where
-    Holds : Place → Type 0
-    Holds y = (held two y ≡ Some u) ⊎ (held two y ≡ None)
-
-    told : (ok : Bool) (y : Place) → held two y ≡ if_ok ok u → Holds y
-    told true y h = inl h
-    told false y h = inr h
 
 pub pair_leaves : (n : ℕ) (c one two : Cells) (p q : Place) (u : List ℕ) (a b : Bool) → p.drive ≢ q.drive → AreSizedCells n c → DidWrite c one p u a → DidWrite one two q u b
     → LeavesSites n c two (Pair p q)

@@ -109,10 +109,6 @@ thin_first size count capacity small room = record {
 -- ---- the units of places
 
 module _ {size count stored capacity : ℕ} {bytes places : List ℕ} (thin : IsThin size count stored capacity bytes places) where
-  -- there are as many as places
-  pub many_units : length (units_of size stored bytes places) ≡ count
-  many_units = length-map places (unit_of size (units_in size stored bytes)) ∙ thin.many
-
   -- one of them is the unit of its place
   pub unit_at : (at : ℕ) → at < length places → slice_get (units_of size stored bytes places) at ≡ Some (unit_of size (units_in size stored bytes) (get_or places at 0))
   unit_at at h =

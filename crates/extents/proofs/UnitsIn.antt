@@ -2,10 +2,10 @@
 use Rattle.std.proofs.Common.{◌≡◌, ℕ, zero, suc, ◌+◌, ◌-◌, ◌*◌, ◌≤◌, ◌<◌, Some, List, ◌∷◌, ◌++◌, length, take, drop, refl, sym, ◌∙◌, ap, subst, arith, length-drop, append_assoc}
 use Rattle.std.proofs.Math.Seq.{take-add}
 use Rattle.std.proofs.Math.Nat.{mul-le-mul_right}
-use Rattle.std.specs.Prelude.{slice_get, slice_set, replicate}
-use Rattle.std.proofs.lemmas.List.{take-replicate, drop-replicate, drop-drop, take_at, drop_at, length-take-le, length-append}
+use Rattle.std.specs.Prelude.{slice_get, slice_set}
+use Rattle.std.proofs.lemmas.List.{drop-drop, take_at, drop_at, length-take-le, length-append}
 use Rattle.std.proofs.lemmas.Option.{slice_get_within, same_Some}
-use Rattle.extents.specs.Units.{IsSized, units_in, zero_units}
+use Rattle.extents.specs.Units.{IsSized, units_in}
 
 -- there are `count` units
 pub length-units_in : (size count : ℕ) (bytes : List ℕ) → length (units_in size count bytes) ≡ count
@@ -22,14 +22,6 @@ get-units_in size (suc count) (suc at) start bytes h e =
     get-units_in size count at (at * size) (drop size bytes) (omega arith) refl
     ∙ ap (λ s. Some (take size s)) (drop-drop (at * size) size bytes)
     ∙ ap (λ s. Some (take size (drop s bytes))) more
-
--- zero bytes are zero units
-pub units_in-zeros : (size count total : ℕ) → total ≡ count * size → units_in size count (replicate total 0) ≡ zero_units size count
-units_in-zeros size zero total h = refl
-units_in-zeros size (suc count) total h =
-    ap (λ u. u ∷ units_in size count (drop size (replicate total 0))) (take-replicate size total 0 (omega arith))
-    ∙ ap (λ bytes. replicate size 0 ∷ units_in size count bytes) (drop-replicate size total 0)
-    ∙ ap (λ units. replicate size 0 ∷ units) (units_in-zeros size count (total - size) (omega arith))
 
 -- bytes that begin with a unit
 began : (size count : ℕ) (bytes unit rest : List ℕ) → bytes ≡ unit ++ rest → length unit ≡ size → units_in size (suc count) bytes ≡ unit ∷ units_in size count rest

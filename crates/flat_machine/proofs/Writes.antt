@@ -1,16 +1,13 @@
 -- The last write of a list that grows, and chains of writes.
-use Rattle.std.proofs.Common.{◌≡◌, ℕ, suc, Bool, true, false, ◌+◌, ◌/◌, ◌^◌, ◌<◌, ◌≤◌, ◌==◌, cond, List, [], ◌∷◌, ◌++◌, refl, sym, ap, ◌∙◌, arith, ◌⊎◌, inl, inr, Option, Some, None, Contains, subst}
+use Rattle.std.proofs.Common.{◌≡◌, ℕ, suc, Bool, true, false, ◌+◌, ◌≤◌, ◌==◌, cond, List, [], ◌∷◌, ◌++◌, refl, sym, ap, ◌∙◌, arith, ◌⊎◌, inl, inr, Option, Some, None, Contains, subst}
 use Rattle.std.proofs.lemmas.List.{append-nil, append_assoc}
 use Rattle.std.proofs.lemmas.List.Elements.{Contains-push_cases}
 use Rattle.std.proofs.lemmas.Bool.{cases_eq}
 use Rattle.std.proofs.lemmas.Option.{same_Some}
 use Rattle.map_join.specs.declared.records.Record.{Record}
-use Rattle.map_join.specs.Record.{key_of, record_of, record_at}
 use Rattle.flat_machine.specs.Flat.{Write, or_else, last_write, IsNewest}
-use Rattle.flat_machine.specs.Cases.{next_version}
 use Rattle.flat_machine.specs.History.{ComesNext, IsChain, IsWriteChain}
 use Rattle.flat_machine.proofs.Pairs.{equal, unequal, equal_back}
-use Rattle.flat_machine.proofs.Newest.{told_at, untold_at}
 
 -- a write that is pushed is the last of its block, and no other block's
 pub last_here : (ws : List Write) (w : Write) → last_write (ws ++ w ∷ []) w.block ≡ Some w
@@ -82,17 +79,6 @@ most_along before (w ∷ ws) all is =
 -- so it is for each write of a chain
 pub write_most : (ws : List Write) (w : Write) → IsWriteChain [] ws → Contains ws w → IsMost ws w
 write_most ws w is has = most_along [] ws (λ v none. let low = none.1 in absurd (omega arith)) is w has
-
--- the key of the next version is above the key
-pub next_above : (key block place : ℕ) → (key ≡ 0) ⊎ (2 ^ 32 ≤ key)
-    → key < key_of (record { block = block; version = next_version (record_at block key); hop = 0; place = place })
-next_above key block place (inl e) =
-    let n : next_version (record_at block key) ≡ 1 = ap next_version (untold_at block key (omega arith)) in
-    omega arith
-next_above key block place (inr big) =
-    let told : record_at block key ≡ Some (record_of block key) = told_at block key big in
-    let n : next_version (record_at block key) ≡ key / 2 ^ 32 + 1 = ap next_version told in
-    omega arith
 
 -- a chain that goes one record on, which comes next after those before it
 pub chained : (before log : List Record) (r : Record) → IsChain before log → ((n : Record) → IsNewest (before ++ log) r.block (Some n) → ComesNext n r)

@@ -2,7 +2,7 @@
 use Rattle.std.proofs.Common.{◌≡◌, ◌≢◌, ℕ, ◌+◌, ◌<◌, ◌≤◌, ◌^◌, max, suc, zero, [], ◌∷◌, length, get_or, set, slice_index, replicate, refl, sym, ap, ◌∙◌, arith, ◌⊎◌, inl, inr}
 use Rattle.std.proofs.lemmas.Bool.{cases_eq, cases_lt}
 use Rattle.std.proofs.lemmas.List.{get_or-set_same, get_or-set_other, get_or-replicate, get_or_past, length-replicate, length-set}
-use Rattle.map_join.specs.Maps.{Lanes, IsSame, join, lone}
+use Rattle.map_join.specs.Maps.{Lanes, IsSame, lone}
 use Rattle.map_join.specs.Pages.{HasKey, IsPage}
 use Rattle.map_join.specs.Tables.{IsTable}
 use Rattle.map_join.proofs.Joins.{lone_here, lone_else}
@@ -91,37 +91,6 @@ pub record AreJoined (lane : ℕ) (was theirs now : Lanes) : Type 0 where
 
 pub joined_none : (was theirs : Lanes) → AreJoined 0 was theirs was
 joined_none was theirs = record { below = λ k lt. absurd (omega arith); rest = λ k le. refl }
-
-pub joined_lane : (lane : ℕ) (was theirs now : Lanes) → lane < length now → AreJoined lane was theirs now
-    → AreJoined (lane + 1) was theirs (set now lane (max (get_or now lane 0) (get_or theirs lane 0)))
-joined_lane lane was theirs now lt done = record { below = λ k l. below k l (cases_eq k lane); rest = rest }
-  where
-    key : ℕ
-    key = max (get_or now lane 0) (get_or theirs lane 0)
-
-    below : (k : ℕ) → k < lane + 1 → (k ≡ lane) ⊎ (k ≡ lane → ⊥) → get_or (set now lane key) k 0 ≡ max (get_or was k 0) (get_or theirs k 0)
-    below k l (inl is) =
-        ap (λ i. get_or (set now lane key) i 0) is ∙ get_or-set_same now lane key 0 lt
-        ∙ ap (λ n. max n (get_or theirs lane 0)) (done.rest lane (omega arith)) ∙ ap (λ i. max (get_or was i 0) (get_or theirs i 0)) (sym is)
-    below k l (inr ne) = get_or-set_other now lane k key 0 ne ∙ done.below k (omega arith)
-
-    rest : (k : ℕ) → lane + 1 ≤ k → get_or (set now lane key) k 0 ≡ get_or was k 0
-    rest k l = let ne : k ≢ lane = omega arith in get_or-set_other now lane k key 0 ne ∙ done.rest k (omega arith)
-
-pub joined_lanes : (lane : ℕ) (was theirs now : Lanes) → length theirs ≤ lane → AreJoined lane was theirs now → IsSame (slice_index now) (join (slice_index was) (slice_index theirs))
-joined_lanes lane was theirs now long done k = go (cases_lt k lane)
-  where
-    go : (k < lane) ⊎ (lane ≤ k) → get_or now k 0 ≡ max (get_or was k 0) (get_or theirs k 0)
-    go (inl lt) = done.below k lt
-    go (inr le) = let e = done.rest k le in let z = get_or_past theirs k 0 (omega arith) in omega arith
-
--- of two pages all lanes were compared
-pub all_same : (lane : ℕ) (ours theirs : Lanes) → length ours ≤ lane → length theirs ≤ lane → ((k : ℕ) → k < lane → get_or ours k 0 ≡ get_or theirs k 0) → IsSame (slice_index ours) (slice_index theirs)
-all_same lane ours theirs long long' done k = go (cases_lt k lane)
-  where
-    go : (k < lane) ⊎ (lane ≤ k) → get_or ours k 0 ≡ get_or theirs k 0
-    go (inl lt) = done k lt
-    go (inr le) = get_or_past ours k 0 (omega arith) ∙ sym (get_or_past theirs k 0 (omega arith))
 
 -- the first key of a page that has one
 pub record IsFirstKey (keys : Lanes) (lane : ℕ) : Type 0 where

@@ -146,8 +146,3 @@ pub numbers_where : (result : Answer) (m n : Entries) (number : ℕ) (f : ℕ �
     → OnErr result (n ≡ m) → AreNumbers n
 numbers_where (Ok _) m n number f low were new same = raised_numbers m n number f low were new
 numbers_where (Err _) m n number f low were new same = subst AreNumbers (sym same) were
-
-pub numbers_set : (result : Answer) (m n : Entries) (number : ℕ) (keys : Lanes) → number < 2 ^ 26 → AreNumbers m → OnOk result (HasSet m n number keys)
-    → OnErr result (n ≡ m) → AreNumbers n
-numbers_set (Ok _) m n number keys low were new same = set_numbers m n number keys new low were
-numbers_set (Err _) m n number keys low were new same = subst AreNumbers (sym same) were

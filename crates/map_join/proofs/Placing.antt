@@ -36,14 +36,6 @@ placed_live keys slot live =
     let r = record_told live.0 (keys live.0) live.1.0 live.1.1 in
     (live.0, (r.0, ap (λ (q : Record). q.place) r.1 ∙ live.1.2))
 
--- keys of which none is placed at a slot, and one more
-pub placed_skip : (keys : ℕ → ℕ) (bound slot : ℕ) → (IsPlacedBelow bound keys slot → ⊥) → (IsPlacedAt keys slot bound → ⊥) → IsPlacedBelow (bound + 1) keys slot → ⊥
-placed_skip keys bound slot none ne p = go (cases_eq p.0 bound)
-  where
-    go : (p.0 ≡ bound) ⊎ (p.0 ≡ bound → ⊥) → ⊥
-    go (inl is) = ne (subst (IsPlacedAt keys slot) is p.2)
-    go (inr other) = none (p.0, (let l = p.1 in omega arith), p.2)
-
 -- the places of a map with one page more are those of the map and those of the page
 module _ (es front : Entries) (number : ℕ) (keys : Lanes) (rest : Entries) (met : IsMet es front number keys rest) (slot : ℕ) where
   abbrev pub more : Entries

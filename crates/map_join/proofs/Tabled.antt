@@ -13,9 +13,6 @@ pub record IsTabled (keys : List ℕ) (pages : ℕ) (M : ℕ → ℕ) : Type 0 w
   pub below : (block : ℕ) → block < 64 * pages → M block ≡ slice_index keys block
   pub rest : (block : ℕ) → 64 * pages ≤ block → M block ≡ 0
 
-pub tabled_none : (keys : List ℕ) (M : ℕ → ℕ) → IsSame M (λ _. 0) → IsTabled keys 0 M
-tabled_none keys M none = record { below = λ block lt. absurd (omega arith); rest = λ block le. none block }
-
 -- one page more
 pub tabled_page : (keys table : List ℕ) (pages : ℕ) (M N : ℕ → ℕ) → IsPageOf (slice_index keys) pages table → IsSame N (with_page M pages (slice_index table))
     → IsTabled keys pages M → IsTabled keys (pages + 1) N
@@ -40,13 +37,6 @@ tabled_blank keys table pages M own none was = record { below = λ b lt. below b
     below b lt (inr le) =
         let whole : 64 * pages + b % 64 ≡ b = omega arith in
         was.rest b le ∙ sym (none (b % 64)) ∙ sym (own (b % 64) (omega arith)) ∙ ap (slice_index keys) whole
-
-pub tabled_all : (keys : List ℕ) (pages : ℕ) (M : ℕ → ℕ) → length keys ≤ 64 * pages → IsTabled keys pages M → IsSame M (slice_index keys)
-tabled_all keys pages M long done b = go (cases_lt b (64 * pages))
-  where
-    go : (b < 64 * pages) ⊎ (64 * pages ≤ b) → M b ≡ slice_index keys b
-    go (inl lt) = done.below b lt
-    go (inr le) = done.rest b le ∙ sym (get_or_past keys b 0 (omega arith))
 
 -- a table has no key exactly where each is 0
 pub all_zero : (keys : List ℕ) → list_all (λ (key : ℕ). key == 0) keys ≡ true → IsSame (slice_index keys) (λ _. 0)

@@ -1,5 +1,5 @@
 -- Records and their keys.
-use Rattle.std.proofs.Common.{◌≡◌, ℕ, ◌/◌, ◌^◌, ◌<◌, ◌≤◌, ◌≢◌, IfSome, nat_lt, Bool, true, false, sym, refl, arith}
+use Rattle.std.proofs.Common.{◌≡◌, ℕ, ◌/◌, ◌^◌, ◌<◌, ◌≤◌, ◌≢◌, nat_lt, Bool, true, false, sym, refl, arith}
 use Rattle.std.proofs.Math.Nat.{div-div-eq-div-mul}
 use Rattle.std.proofs.lemmas.Bool.Decides.{nat_tests}
 use mathlib.Core.Logic.{dite}
@@ -40,11 +40,3 @@ key_told block key is = go (nat_lt key (2 ^ 32)) refl
             (λ (zero : key ≡ 0). sym zero)
             (λ (ne : key ≢ 0). let high : 2 ^ 32 ≤ key = is (omega arith) in absurd (omega arith))
     go false e = rw e (key_back block key)
-
--- and a record there is of that block, and of a version
-pub block_told : (block key : ℕ) → IfSome (record_at block key) (λ r. (r.block ≡ block) × (0 < r.version))
-block_told block key = go (nat_lt key (2 ^ 32)) refl
-  where
-    go : (b : Bool) → nat_lt key (2 ^ 32) ≡ b → IfSome (record_at block key) (λ r. (r.block ≡ block) × (0 < r.version))
-    go true e = rw e tt
-    go false e = rw e (refl, let high : 2 ^ 32 ≤ key = grind (arith, nat_tests) in omega arith)

@@ -1,6 +1,5 @@
 -- The first free slot, group by group.
-use Rattle.std.proofs.Common.{◌≡◌, ◌⊎◌, inl, inr, ℕ, ◌+◌, ◌*◌, ◌/◌, ◌%◌, ◌<◌, arith, List, length, sym, ◌∙◌, Option, Some, None}
-use Rattle.std.proofs.lemmas.Option.{same_Some}
+use Rattle.std.proofs.Common.{◌≡◌, ◌⊎◌, inl, inr, ℕ, ◌+◌, ◌*◌, ◌/◌, ◌%◌, arith, List, length, Option, Some, None}
 use Rattle.extent_groups.proofs.Bounds.{made_low}
 use Rattle.extent_groups.specs.declared.class.Class.TheVariants.{Parity}
 use Rattle.extent_groups.specs.Groups.{Groups}
@@ -57,15 +56,3 @@ module _ (end : End) (groups : Groups) (keys : ℕ → ℕ) (free : ℕ → Type
       (λ s b. none s (from_behind s b)),
       record { holds = to_fresh slot other.holds; least = λ m p. other.least m (from_fresh m p) },
     )
-
--- where the log goes on in the write group: the first slot among those of this group is the first of all
-pub behind_first : (end : End) (groups : Groups) (keys : ℕ → ℕ) (free : ℕ → Type 0) (group : ℕ) (result : Option ℕ) → end.group ≡ Some group
-    → IsFirst (λ slot. (slot / 128 ≡ group) × Behind end groups keys free slot) result → IsFirst (Behind end groups keys free) result
-behind_first end groups keys free group None is first = λ n p. first n (same_Some (n / 128) group (sym p.picked.group_too ∙ is), p)
-behind_first end groups keys free group (Some slot) is first =
-    record { holds = first.holds.1; least = λ n p. first.least n (same_Some (n / 128) group (sym p.picked.group_too ∙ is), p) }
-
--- there is none where there is no write group of a number that groups have
-pub behind_none : (end : End) (groups : Groups) (keys : ℕ → ℕ) (free : ℕ → Type 0) → length groups.table ≡ 512
-    → ((group : ℕ) → end.group ≡ Some group → group < 512 → ⊥) → IsFirst (Behind end groups keys free) None
-behind_none end groups keys free long none = λ n p. none (n / 128) p.picked.group_too (made_low groups (n / 128) Parity long p.picked.slot_of.made)

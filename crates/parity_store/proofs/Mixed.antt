@@ -10,12 +10,6 @@ mixed (suc i) [] from = []
 mixed (suc i) (x ∷ old) [] = x ∷ old
 mixed (suc i) (x ∷ old) (y ∷ from) = bit_xor x y ∷ mixed i old from
 
-pub length-mixed : (i : ℕ) (old from : List ℕ) → length (mixed i old from) ≡ length old
-length-mixed zero old from = refl
-length-mixed (suc i) [] from = refl
-length-mixed (suc i) (x ∷ old) [] = refl
-length-mixed (suc i) (x ∷ old) (y ∷ from) = ap (λ n. suc n) (length-mixed i old from)
-
 -- one byte more
 pub mixed_more : (i j : ℕ) (old from : List ℕ) → j ≡ i + 1 → i < length old → length old ≡ length from
     → set (mixed i old from) i (bit_xor (get_or (mixed i old from) i 0) (get_or from i 0)) ≡ mixed j old from

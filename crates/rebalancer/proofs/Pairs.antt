@@ -79,8 +79,3 @@ is_shift o g lost c extent sixteen choice best free = record {
   member = choice.member;
   extent = free;
 }
-
--- where no pair of the first 256 is allowed, none is
-pub none_allowed : (o : Owners) (g : Groups) (lost : List Bool) → length lost ≡ 16 → IsBestOf o g lost 256 None
-    → (f t h : ℕ) → IsAllowed o g lost f t h → ⊥
-none_allowed o g lost sixteen best f t h allowed = let low = within_256 o g lost f t h sixteen allowed in best f t h low.0 low.1 allowed

@@ -1,9 +1,9 @@
 -- A step that the world took is the answer to its command.
-use Rattle.std.proofs.Common.{◌≡◌, ℕ, List, [], ◌∷◌, ◌++◌, codes, slice_index_or, Result, Ok, Err, Option, Some, refl, subst, arith}
+use Rattle.std.proofs.Common.{◌≡◌, ℕ, List, [], ◌∷◌, ◌++◌, codes, slice_index_or, Result, Ok, Err, Some, refl, subst, arith}
 use Rattle.std.specs.Prelude.{OnOk}
 use Rattle.map_join.specs.declared.records.Record.{Record}
 use Rattle.map_join.specs.Record.{record_at}
-use Rattle.map_join.specs.Maps.{Entries, at, IsDifference}
+use Rattle.map_join.specs.Maps.{Entries, at}
 use Rattle.flat_machine.specs.Flat.{Flat, put}
 use Rattle.flat_machine.specs.Steps.{FlatStep, FlatAnswer}
 use Rattle.flat_machine.specs.Cases.{Case}
@@ -20,7 +20,7 @@ use Rattle.script_syntax.specs.Order.{Order}
 use Rattle.script_syntax.specs.Order as o
 use Rattle.script_exec.specs.State.{Position, State}
 use Rattle.script_exec.specs.Answers.{Answers, Steps, TierSteps, with_flat, with_taken}
-use Rattle.script_exec.specs.Text.{answer_text, asked_version, difference_text, outcome_text, record_text}
+use Rattle.script_exec.specs.Text.{answer_text, asked_version, outcome_text, record_text}
 use Rattle.script_exec.specs.Carrying.{AreMapsOf, Carries, IsCarried, IsMap, StandsAt}
 use Rattle.script_exec.specs.declared.bench.Bench.{Bench}
 use Rattle.script_exec.proofs.Benches.{put_here}
@@ -121,42 +121,6 @@ took_record P tiers maps map r newest old new is_map shows are told out = record
     state_is = refl;
   };
   stands = record { tiers = shows; maps = are };
-  out = out;
-}
-
--- a map that was joined with another
-pub merged_maps : (P : Position) (tiers : Tiers) (maps : List Entries) (into from : ℕ) (old new : List ℕ)
-    → StandsFor tiers P.tiers → AreMapsOf maps (put P.taken into (P.taken into ++ P.taken from))
-    → new ≡ old ++ codes "merged" → IsCarried (Some P) (Some (record { tiers = tiers; maps = maps })) (o.Merge into from) old new
-merged_maps P tiers maps into from old new shows are out = record {
-  text = codes "merged";
-  next = Some (with_taken P into (P.taken into ++ P.taken from));
-  answers = record { text_is = refl; state_is = refl };
-  stands = record { tiers = shows; maps = are };
-  out = out;
-}
-
--- two maps that were compared
-pub compared_maps : (P : Position) (bench : Bench) (left right : ℕ) (lowest : Option ℕ) (old new : List ℕ)
-    → IsMap left → IsMap right → StandsAt bench P
-    → IsDifference (at (slice_index_or bench.maps left [])) (at (slice_index_or bench.maps right [])) lowest
-    → new ≡ old ++ difference_text lowest → IsCarried (Some P) (Some bench) (o.Same left right) old new
-compared_maps P bench left right lowest old new is_left is_right stands differs out = record {
-  text = difference_text lowest;
-  next = Some P;
-  answers = (
-    record {
-      left_keys = at (slice_index_or bench.maps left []);
-      right_keys = at (slice_index_or bench.maps right []);
-      left_map = stands.maps left [] (omega arith);
-      right_map = stands.maps right [] (omega arith);
-      lowest = lowest;
-      differs = differs;
-      text_is = refl;
-    },
-    refl,
-  );
-  stands = stands;
   out = out;
 }
 

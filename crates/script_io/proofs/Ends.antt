@@ -1,13 +1,13 @@
 -- How turns lead to a script's end.
 use Rattle.std.proofs.Common.{◌≡◌, ℕ, List, [], ◌++◌, ◌⊎◌, Option, Some, None, refl, sym, ap, ◌∙◌, inl, inr, append_assoc, append-nil, take, arith}
 use Rattle.std.specs.Prelude.{IfSome}
-use Rattle.std.specs.Io.KnownBytes.{Appends, Consumes, IsAtEnd, Keeps}
-use Rattle.std.proofs.KnownBytes.{Appends-nil, Appends-trans}
+use Rattle.std.specs.Io.KnownBytes.{Appends, Consumes, IsAtEnd}
+use Rattle.std.proofs.KnownBytes.{Appends-trans}
 use Rattle.script_io.specs.Opens.{AreLines}
 use Rattle.script_exec.specs.State.{State}
 use Rattle.script_exec.specs.Carrying.{Stands}
 use Rattle.script_io.specs.Says.{Says, Tells, lines_of}
-use Rattle.script_io.specs.Feeding.{IsCut, IsScript, Leads, Left}
+use Rattle.script_io.specs.Feeding.{IsCut, Leads, Left}
 use Rattle.script_io.specs.Turns.{AllSaid, Concludes, GoesOn, IsAllSaid, IsFronted, IsPartSaid, IsPartWritten, PartSaid, SaysBy, TurnsTo, end_of}
 use Rattle.script_io.specs.declared.end.End.{End}
 use Rattle.script_io.specs.declared.end.End.TheVariants as end
@@ -15,7 +15,7 @@ use Rattle.script_io.specs.declared.halt.Halt.{Halt}
 use Rattle.script_io.specs.declared.halt.Halt.TheVariants as halt
 use Rattle.script_io.specs.declared.script.Script.{Script}
 use Rattle.script_io.proofs.Opens.{count_more, lines_more, text_join, text_more}
-use Rattle.script_io.proofs.Feeds.{cut_behind, cut_more, leads_left, leads_more, leads_none}
+use Rattle.script_io.proofs.Feeds.{cut_behind, cut_more, leads_left, leads_more}
 
 -- whole lines before a prefix of the rest
 ends_behind : (whole front rest : List ℕ) → AreLines whole → AreLines front ⊎ (rest ≡ []) → AreLines (whole ++ front) ⊎ (rest ≡ [])
@@ -100,26 +100,6 @@ turn_on (Some (halt.WriteBroke broke)) (Some xs) (Some ys) chunk old state new h
 }
 turn_on (Some halt.Whole) before after chunk old state new held now consumed on = absurd on
 turn_on (Some (halt.ReadBroke broke)) before after chunk old state new held now consumed on = absurd on
-
--- nothing was read nor written
-pub part_none : (before after : Option (List ℕ)) (script : Script) (state : State) (held : Option (List ℕ)) → Keeps before after
-    → IsScript script → Stands script.bench state → PartSaid before after script state script held held
-part_none None after script state held kept good stands = (state, stands)
-part_none (Some xs) None script state held kept good stands = absurd kept
-part_none (Some xs) (Some ys) script state held kept good stands = record {
-  next = state;
-  stands = stands;
-  whole = [];
-  lines = inl refl;
-  text_is = ap (λ rest. script.line.items ++ rest) (sym kept);
-  counted = omega arith;
-  open_line = good.open_line;
-  short = good.short;
-  soon = good.soon;
-  bytes = [];
-  wrote = Appends-nil held;
-  leads = leads_none script.number state;
-}
 
 -- one part after the other
 join_parts : (xs ys zs : List ℕ) (old : Script) (state : State) (mid new : Script) (held wrote now : Option (List ℕ))
@@ -224,19 +204,6 @@ said_of script start held now last number line said =
 -- a text after no open line
 at_start : (line script text : List ℕ) → line ≡ [] → line ++ script ≡ text → script ≡ text
 at_start line script text none is = ap (λ xs. xs ++ script) (sym none) ∙ is
-
--- a script of which nothing was read
-pub none_said : (before after held : Option (List ℕ)) → IfSome before (λ script. SaysBy end.Memory script after held held)
-none_said None after held = tt
-none_said (Some script) after held = record {
-  whole = [];
-  rest = script;
-  script_is = refl;
-  lines = inl refl;
-  out = [];
-  wrote = Appends-nil held;
-  says = (refl, refl);
-}
 
 pub run_said : (last : Halt) (before after : Option (List ℕ)) (start new : Script) (held now : Option (List ℕ)) → start.number ≡ 1
     → start.line.items ≡ [] → TurnsTo (Some last) before after start None new held now

@@ -6,7 +6,7 @@ use Rattle.script_exec.specs.State.{State}
 use Rattle.script_exec.specs.Carrying.{Stands}
 use Rattle.script_exec.specs.Meaning.{Means, Wrong, fault_line, most_bytes}
 use Rattle.script_io.specs.Says.{Tells, lines_of}
-use Rattle.script_io.specs.Feeding.{Answered, Closes, Faults, Feeds, IsAlong, IsLineAnswered, IsClosed, IsCut, IsLineWrong, IsUnfinished, IsStopped, Leads}
+use Rattle.script_io.specs.Feeding.{Answered, Closes, Faults, Feeds, IsAlong, IsLineAnswered, IsCut, IsLineWrong, IsUnfinished, IsStopped, Leads}
 use Rattle.script_io.specs.declared.end.End.{End}
 use Rattle.script_io.specs.declared.end.End.TheVariants as end
 use Rattle.script_io.specs.declared.script.Script.{Script}
@@ -131,21 +131,6 @@ short_none old state new chunk out = record {
   cut = cut_none old.number state (old.line.items ++ chunk);
 }
 
--- the open line grew
-pub along_open : (old : Script) (state : State) (new : Script) (part : List ℕ) → Stands new.bench state → new.number ≡ old.number
-    → new.line.items ≡ old.line.items ++ part → new.out.items ≡ old.out.items → IsAlong old state new part []
-along_open old state new part stands number line out = record {
-  next = state;
-  stands = stands;
-  whole = [];
-  lines = inl refl;
-  text_is = sym line ∙ sym (append-nil new.line.items);
-  counted = omega (arith, number);
-  bytes = [];
-  out = out ∙ sym (append-nil old.out.items);
-  leads = λ more told last rest. rw number at rest;
-}
-
 -- the open line ended and was answered
 along_answered : (old : Script) (state : State) (line : List ℕ) (new : Script) (part : List ℕ) → old.line.items ++ part ≡ line → IsOpen line
     → IsLineAnswered old state line new → IsAlong old state new (part ++ 10 ∷ []) []
@@ -200,14 +185,6 @@ stopped_front (Err stop.Fault) old state new part reason none some means told = 
       let text : lines_of (old.line.items ++ (part ++ more)) ≡ (front ++ first.more) ∷ first.others =
       ap lines_of (sym (append_assoc old.line.items part more)) ∙ first.is in
       rw text (Wrong reason, means first.more, (refl, refl));
-}
-
--- nothing is left to answer
-pub closed_empty : (script : Script) (state : State) → script.line.items ≡ [] → IsClosed script state script end.Whole
-closed_empty script state empty = record {
-  bytes = [];
-  out = sym (append-nil script.out.items);
-  told = rw empty (refl, refl);
 }
 
 -- the open line is the last one

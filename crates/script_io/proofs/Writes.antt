@@ -5,8 +5,8 @@ use Rattle.std.proofs.KnownBytes.{Appends-trans}
 use Rattle.std.proofs.lemmas.List.{take_all}
 use Rattle.script_exec.specs.State.{State}
 use Rattle.script_io.specs.Says.{Tells, lines_of}
-use Rattle.script_io.specs.Feeding.{Closes, Feeds, IsCut, IsUnfinished}
-use Rattle.script_io.specs.Turns.{IsBroken, IsBrokenOff, IsCutSaid, IsFronted, IsPartWritten}
+use Rattle.script_io.specs.Feeding.{Closes, Feeds, IsCut}
+use Rattle.script_io.specs.Turns.{IsBroken, IsBrokenOff, IsFronted, IsPartWritten}
 use Rattle.script_io.specs.declared.end.End.{End}
 use Rattle.script_io.specs.declared.end.End.TheVariants as end
 use Rattle.script_io.specs.declared.script.Script.{Script}
@@ -134,13 +134,4 @@ broken_closed (Err stop.Fault) old state new held now wrote closed told empty pa
   bytes = closed.bytes;
   part = part_of held now wrote closed.bytes part (told_bytes wrote new.out.items old.out.items closed.bytes told closed.out empty);
   fronted = fronted_all old.number state (old.line.items ++ []) closed.bytes end.Fault closed.told;
-}
-
--- a chunk without memory, whose whole answers were written
-pub cut_written : (old : Script) (state : State) (new : Script) (chunk : List ℕ) (held now : Option (List ℕ)) (wrote : List ℕ)
-    → IsUnfinished old state new chunk → Appends held now wrote → wrote ≡ new.out.items → old.out.items ≡ [] → IsCutSaid old state chunk held now
-cut_written old state new chunk held now wrote short appended told empty = record {
-  bytes = short.bytes;
-  wrote = wrote_bytes held now wrote new.out.items old.out.items short.bytes appended told short.out empty;
-  cut = short.cut;
 }

@@ -1,7 +1,6 @@
 -- Members as words, read from the left.
-use Rattle.std.proofs.Common.{◌≡◌, ℕ, ◌+◌, ◌<◌, ◌==◌, List, [], ◌∷◌, ◌++◌, length, refl, sym, ap, ◌∙◌, arith, map, decimal, eqb-true, length-append}
+use Rattle.std.proofs.Common.{◌≡◌, ℕ, ◌+◌, ◌<◌, ◌==◌, List, [], ◌∷◌, ◌++◌, refl, sym, ap, ◌∙◌, arith, map, decimal, eqb-true}
 use Rattle.std.specs.List.{AllByRecursion, All, join_with_byte}
-use Rattle.std.proofs.lemmas.List.{length-map}
 use Rattle.std.proofs.lemmas.List.Elements.{All-from_get_or}
 use Rattle.std.proofs.lemmas.List.Splits.{join_with_byte-slice_split}
 use Rattle.script_syntax.specs.Number.{IsWritable}
@@ -57,12 +56,6 @@ dotted word front back drive extent are drive_short extent_short drive_is extent
     let all : parts 46 word ≡ decimal drive ∷ decimal extent ∷ [] = cc in
     sym (join_with_byte-slice_split 46 word) ∙ ap (join_with_byte 46) all
 
--- one member more
-pub short_more : (members : List Named) (member : Named) → AllByRecursion IsWritableMember members → IsWritableMember member
-    → AllByRecursion IsWritableMember (members ++ member ∷ [])
-short_more [] member all short = (short, tt)
-short_more (m ∷ members) member all short = (all.0, short_more members member all.1 short)
-
 pub words_more : (members : List Named) (member : Named) (rest : List (List ℕ))
     → map member_word members ++ member_word member ∷ rest ≡ map member_word (members ++ member ∷ []) ++ rest
 words_more [] member rest = refl
@@ -76,9 +69,3 @@ word_within [] [] word rest short e = cc e
 word_within [] (b ∷ before) word rest short e = cc e
 word_within (m ∷ all) [] word rest short e = (m, short.0, cc)
 word_within (m ∷ all) (b ∷ before) word rest short e = word_within all before word rest short.1 (cc)
-
--- as many words as members
-pub count_words : (all before : List Named) (rest : List (List ℕ)) → map member_word all ≡ map member_word before ++ rest
-    → length all ≡ length before + length rest
-count_words all before rest e =
-    let lengths = ap length e in omega (arith, simp (length-map, length-append) at lengths)

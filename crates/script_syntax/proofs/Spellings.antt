@@ -10,9 +10,9 @@ use Rattle.map_join.specs.declared.records.Record.{Record}
 use Rattle.script_syntax.specs.Number.{IsWritable}
 use Rattle.script_syntax.specs.Words.{words}
 use Rattle.script_syntax.specs.Order.{Order, Behind, Nothing, Told, Content, Members, behind_of, kind_behind, kinds_of, ordered, tail_of, values_of, verb_of, word_of}
-use Rattle.script_syntax.specs.Reading.{Finds, IsFound, IsRead, Reads}
+use Rattle.script_syntax.specs.Reading.{Finds, IsFound, Reads}
 use Rattle.script_syntax.specs.declared.command.Command.{Command}
-use Rattle.script_syntax.specs.Spelling.{member_word, line_of, ClassAndMembers, Follows, IsBehind, IsClassWord, IsLong, IsSized, IsWritableMember, PayloadAlone, RecordAlone, Spells}
+use Rattle.script_syntax.specs.Spelling.{member_word, line_of, Follows, IsBehind, IsClassWord, IsLong, IsSized, IsWritableMember, PayloadAlone, Spells}
 use Rattle.extent_groups.specs.declared.class.Class.{Class}
 use Rattle.extent_groups.specs.declared.class.Class.TheVariants as class
 use Rattle.script_syntax.specs.declared.command.Named.{Named}
@@ -110,12 +110,6 @@ spelled_found asked size line word ws order cut named sized s =
       follows = rw rest s.follows;
     }
 
--- a line whose first word is no verb's spells nothing
-pub unspelled : (size : ℕ) (line word : List ℕ) (ws : List (List ℕ)) → words line ≡ word ∷ ws
-    → ((asked : Verb) → word ≡ word_of asked → ⊥) → (order : Order) → IsRead size line order → ⊥
-unspelled size line word ws cut none order read =
-    let told = sym cut ∙ spelled_words order line read.spells in none (verb_of order) (cc)
-
 -- a command that was read after its verb
 pub found_as : (asked : Verb) (t : Tail) (size count : ℕ) (ns : List ℕ) (r : Record) (payload : List ℕ) (level : Class) (members : List Named)
     (ws back : List (List ℕ)) → length ns ≡ 5 → count ≡ length (kinds_of asked) → tail_of asked ≡ t
@@ -157,25 +151,10 @@ no_behind asked t size count ns ws back five few counted tailed spelled none ord
     let same : f.rest ≡ back = rest_again (values_of order) (take count ns) f.rest back as_many (sym f.spelled ∙ spelled) in
     none (behind_of order) (tail_again order ∙ ap tail_of found.asked ∙ tailed) found.sized (rw same at f.behind)
 
-pub no_end : (back : List (List ℕ)) → (back ≡ [] → ⊥) → (size : ℕ) (behind : Behind) → kind_behind behind ≡ tail.Nothing → IsLong size behind
-    → IsBehind behind back → ⊥
-no_end back none size Nothing is long there = none there
-no_end back none size _ is long there = cc is
-
-pub no_record_behind : (back : List (List ℕ)) → ((r : Record) → RecordAlone r back → ⊥) → (size : ℕ) (behind : Behind)
-    → kind_behind behind ≡ tail.Record → IsLong size behind → IsBehind behind back → ⊥
-no_record_behind back none size (Told r) is long there = none r there
-no_record_behind back none size _ is long there = cc is
-
 pub no_payload_behind : (back : List (List ℕ)) (size : ℕ) → ((bytes : List ℕ) → length bytes ≡ size → PayloadAlone bytes back → ⊥)
     → (behind : Behind) → kind_behind behind ≡ tail.Payload → IsLong size behind → IsBehind behind back → ⊥
 no_payload_behind back size none (Content payload) is long there = none payload long there
 no_payload_behind back size none _ is long there = cc is
-
-pub no_members_behind : (back : List (List ℕ)) → ((level : Class) (members : List Named) → ClassAndMembers level members back → ⊥) → (size : ℕ)
-    (behind : Behind) → kind_behind behind ≡ tail.Members → IsLong size behind → IsBehind behind back → ⊥
-no_members_behind back none size (Members level members) is long there = none level members there
-no_members_behind back none size _ is long there = cc is
 
 -- whether a payload follows the numbers
 pub payload_found : (asked : Verb) (size count : ℕ) (command : Command) (bytes : List ℕ) (ws back : List (List ℕ)) (told : Bool)

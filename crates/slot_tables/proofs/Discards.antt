@@ -1,11 +1,10 @@
 -- A ticket that is given up is the flat machine's case.
-use Rattle.std.proofs.Common.{◌≡◌, ◌≢◌, ℕ, ◌<◌, true, false, length, refl, sym, ap, ◌∙◌, arith, ◌⊎◌, inl, inr, None}
+use Rattle.std.proofs.Common.{◌≡◌, ◌≢◌, ℕ, ◌<◌, true, length, refl, sym, ap, ◌∙◌, arith, ◌⊎◌, inl, inr, None}
 use Rattle.std.proofs.lemmas.List.{length-set, get_or-set_same, get_or-set_other}
 use Rattle.std.proofs.lemmas.Bool.{cases_eq}
 use Rattle.map_join.specs.Record.{record_of}
-use Rattle.flat_machine.specs.declared.refusal.Refusal.TheVariants.{NoTicket}
 use Rattle.flat_machine.specs.Flat.{Flat, Worker, Ticket, put, turned, IsArrays, for_ticket}
-use Rattle.flat_machine.specs.Steps.{Discard, Discarded, Refused}
+use Rattle.flat_machine.specs.Steps.{Discard, Discarded}
 use Rattle.flat_machine.specs.Cases.{DiscardCase, discarded}
 use Rattle.flat_machine.proofs.Pairs.{put_here, put_else, turned_else, turned_just, just_one, IsJust}
 use Rattle.slot_tables.specs.Changes.{discard_view}
@@ -13,7 +12,7 @@ use Rattle.slot_tables.specs.Views.{Kept, Nothing, Moving, Newest, Unmade, Array
 use Rattle.slot_tables.specs.Represents.{ArraySlot, InTables, ShowsArray}
 use Rattle.slot_tables.proofs.Fares.{itself}
 use Rattle.slot_tables.proofs.Slots.{worker_slot, slot_same, one_slot, shows_after}
-use Rattle.slot_tables.proofs.Kepts.{waiting_newest, waiting_made, unticketed}
+use Rattle.slot_tables.proofs.Kepts.{waiting_newest, waiting_made}
 
 -- an array is whole after a ticket was given up
 pub discard_whole : (a : ArrayView) (s : ℕ) → s < 65536 → is_waiting (kept_at a s) ≡ true → IsWhole a → IsWhole (discard_view a s)
@@ -95,7 +94,3 @@ discard_case a F w s inside waits whole shows mine =
       groups = shows.tables.groups;
       slots = one_slot P s here rest;
     }
-
--- where nothing waits there is no ticket
-pub discard_refused : (a : ArrayView) (F : Flat) (w s : ℕ) → is_waiting (kept_at a s) ≡ false → ShowsArray a F → DiscardCase F w s (Refused NoTicket) F
-discard_refused a F w s waits shows = (unticketed a F w s waits shows, itself F)

@@ -3,7 +3,7 @@ use Rattle.std.proofs.Common.{◌↔◌, ◌≡◌, ℕ, ◌<◌, Bool, true, fa
 use Rattle.std.proofs.Math.ListN.{set}
 use Rattle.std.proofs.lemmas.List.{get_or-set_same, get_or-set_other}
 use Rattle.flat_machine.specs.Flat.{Flat, Holder, Worker, Ticket, Block, Shut, with_pair, without_pair, IsArrays, for_block, for_shut, IsFree}
-use Rattle.flat_machine.specs.Steps.{Claim, Claimed, Taken, Release, Released, NotHeld}
+use Rattle.flat_machine.specs.Steps.{Claim, Claimed, Taken, Release, Released}
 use Rattle.flat_machine.specs.Cases.{ClaimCase, ReleaseCase}
 use Rattle.flat_machine.proofs.Pairs.{equal, with_else, with_just, without_else, without_nobody, just_one, IsNobodys, Any}
 use Rattle.slot_tables.specs.declared.hand.Hand.{Hand}
@@ -161,10 +161,6 @@ release_case v F w s inside is_held rep = (
 
     kept : (t : ℕ) (k : Holder) → IsArrays k → H t k ≡ F.held t k
     kept = without_worker F w s
-
--- a worker without a claim of the slot has nothing to release
-pub unheld_case : (v : WorldView) (F : Flat) (w s : ℕ) → is_claim (hand_at v.hands s) w ≡ false → Represents v F → ReleaseCase F w s (NotHeld s) F
-unheld_case v F w s held rep = (refl, (rep.hands s).claims w ∙ held, itself F)
 
 -- what holds of some state for one world does for an equal one
 pub as_world : (P : Flat → Type 0) (u v : WorldView) → u ≡ v → (G : Flat) × (P G) × (Represents v G) → (G : Flat) × (P G) × (Represents u G)

@@ -73,15 +73,6 @@ members_of_test a ms whole are = record {
       (omega arith, omega arith);
 }
 
-pub test_of_members : (a : ArrayView) (ms : List Member) → IsWhole a → AreMembers a.parts.groups.extents (length a.parts.drives) ms → (3 ≤ length ms) × (length ms ≤ 8) × AreThere a.parts.owners ms
-test_of_members a ms whole are = (
-  are.least,
-  are.most,
-  λ k m at.
-      let low = (are.there k m at).0 in let small = (are.there k m at).1 in let rows = whole.rows in let wide = whole.wide in
-      record { within = omega arith; inside = omega arith },
-)
-
 -- what the test finds of three to eight members
 abbrev last : Bool → Bool → Option GroupRefusal
 last x y = cond x (Some fault.SameDrive) (cond y (Some fault.ExtentTaken) None)

@@ -2,9 +2,8 @@
 use Rattle.std.proofs.Common.{◌≡◌, ℕ, zero, suc, ◌-◌, ◌<◌, ◌≤◌, List, [], ◌∷◌, ◌++◌, length, map, replicate, Vec, vec_len, get_or, refl, sym, ap, ◌∙◌, arith, ◌⊎◌, inl, inr}
 use Rattle.std.proofs.Math.ListN.{set}
 use Rattle.std.specs.Global.{Global}
-use Rattle.std.proofs.lemmas.List.{map-set, map-append, append_assoc, length-append, length-map, length-replicate, length-set, set-append_left, get_or-map, get_or_append_left, get_or-append_right, get_or_past, get_or_push, get_or-set_same, get_or-set_other}
-use Rattle.std.proofs.lemmas.Bool.{cases_eq, cases_lt}
-use Rattle.std.proofs.lemmas.Option.{same_Some, slice_get-get_or}
+use Rattle.std.proofs.lemmas.List.{map-set, map-append, append_assoc, length-append, length-map, length-replicate, length-set, set-append_left, get_or-map, get_or_append_left, get_or-append_right, get_or_past, get_or_push}
+use Rattle.std.proofs.lemmas.Bool.{cases_lt}
 use Rattle.slot_tables.specs.declared.slot_state.SlotState.{SlotState}
 use Rattle.slot_tables.specs.declared.slot_state.SlotState.TheVariants as state
 use Rattle.slot_tables.specs.Kept.{kept_of, kepts_of, IsOf, AreOf}
@@ -114,20 +113,6 @@ kepts_push {C} places fewer =
     ∙ append_assoc (map kept_of places) (Nothing ∷ []) (replicate (65536 - length (places ++ state.Free ∷ [])) Nothing)
     ∙ ap (λ n. map kept_of places ++ replicate n Nothing) (sym one)
 
--- one place with a claim of its slot put in, each place has a claim of its slot
-pub claims_put : {C : Type 0} (names : C → ℕ) (places : List (SlotState C)) (s : ℕ) (p : SlotState C)
-    → AreOf names places → IsOf names s p → AreOf names (set places s p)
-claims_put {C} names places s p all of slot inside = go (cases_eq slot s)
-  where
-    go : (slot ≡ s) ⊎ (slot ≡ s → ⊥) → IsOf names slot (get_or (set places s p) slot state.Free)
-    go (inl e) =
-        let long = length-set places s p in
-        let here : s < length places = omega arith in
-        rw (e, get_or-set_same places s p state.Free here) of
-    go (inr ne) =
-        let long = length-set places s p in
-        rw (get_or-set_other places s slot p state.Free ne) (all slot (omega arith))
-
 -- a free place more has no claim of another slot
 pub claims_push : {C : Type 0} (names : C → ℕ) (places : List (SlotState C)) → AreOf names places → AreOf names (places ++ state.Free ∷ [])
 claims_push {C} names places all slot inside = by (cases_lt slot (length places))
@@ -136,19 +121,8 @@ claims_push {C} names places all slot inside = by (cases_lt slot (length places)
     by (inl low) = rw (get_or_append_left places (state.Free ∷ []) state.Free slot low) (all slot low)
     by (inr past) = rw (get_or_push places state.Free state.Free slot (let more = length-append places (state.Free ∷ []) in omega (arith, more, inside, past))) tt
 
--- a list that has d at each place has it still with one more d
-pub all_same_more : {X : Type 0} (xs : List X) (d : X) → ((k : ℕ) → get_or xs k d ≡ d) → (k : ℕ) → get_or (xs ++ d ∷ []) k d ≡ d
-all_same_more [] d all zero = refl
-all_same_more [] d all (suc k) = refl
-all_same_more (x ∷ xs) d all zero = all zero
-all_same_more (x ∷ xs) d all (suc k) = all_same_more xs d (λ j. all (suc j)) k
-
 -- of two changes at one place the last is kept
 pub set_twice : {X : Type 0} (xs : List X) (s : ℕ) (x y : X) → set (set xs s x) s y ≡ set xs s y
 set_twice [] s x y = refl
 set_twice (z ∷ xs) zero x y = refl
 set_twice (z ∷ xs) (suc s) x y = ap (λ t. z ∷ t) (set_twice xs s x y)
-
--- a place of a list is the same with any default past its end
-pub get_or_any : {X : Type 0} (xs : List X) (i : ℕ) (d e : X) → i < length xs → get_or xs i d ≡ get_or xs i e
-get_or_any xs i d e inside = same_Some _ _ (sym (slice_get-get_or xs i d inside) ∙ slice_get-get_or xs i e inside)

@@ -1,5 +1,5 @@
 -- An array with a drive more, or with a member on another extent, is whole, and represents the state with the same.
-use Rattle.std.proofs.Common.{◌≡◌, ◌≢◌, ℕ, ◌+◌, ◌/◌, ◌<◌, ◌≤◌, Bool, true, false, [], ◌∷◌, length, refl, sym, ap, ◌∙◌, subst, arith, inl, inr, Option, Some, None}
+use Rattle.std.proofs.Common.{◌≡◌, ◌≢◌, ℕ, ◌+◌, ◌/◌, ◌<◌, ◌≤◌, Bool, false, [], ◌∷◌, length, refl, sym, ap, ◌∙◌, subst, arith, inr, Option, Some, None}
 use Rattle.std.specs.Prelude.{slice_get}
 use Rattle.std.proofs.lemmas.List.{length-append}
 use Rattle.extents.specs.Failures.{Failures, no_failures}
@@ -11,7 +11,7 @@ use Rattle.extent_groups.proofs.Agreement.{agree_more}
 use Rattle.extent_groups.proofs.Readiness.{rows_given}
 use Rattle.array_parts.specs.Views.{PartsView, WasAdded, Shifted, NotShifted, TellsUnmoved, drive_units, lost_of, failed_of}
 use Rattle.flat_machine.specs.declared.refusal.Refusal.{Refusal}
-use Rattle.flat_machine.specs.declared.refusal.Refusal.TheVariants.{NoGroup, BadMember, SameDrive, ExtentTaken, DriveLost, Gone, Full}
+use Rattle.flat_machine.specs.declared.refusal.Refusal.TheVariants.{NoGroup, BadMember, SameDrive, ExtentTaken, DriveLost, Gone}
 use Rattle.flat_machine.specs.Groups.{GroupsStand, class_at}
 use Rattle.flat_machine.specs.Flat.{Flat, put}
 use Rattle.flat_machine.specs.Moves.{IsMoveReason, MovePasses, IsBeyondOf, IsFirstGone, moved_to, with_new_drive}
@@ -71,9 +71,6 @@ added_shows a v F lost failures shows e room = record {
 pub add_case : (F : Flat) (a : ArrayView) → ShowsArray a F → length a.parts.drives < 16 → AddCase F (AddedDrive (length a.parts.drives)) (with_new_drive F false no_failures)
 add_case F a shows room = (sym shows.tables.drives, subst (λ n. n < 16) (sym shows.tables.drives) room, refl)
 
-pub add_full : (F : Flat) (a : ArrayView) → ShowsArray a F → 16 ≤ length a.parts.drives → AddCase F (Refused Full) F
-add_full F a shows full = (subst (λ n. 16 ≤ n) (sym shows.tables.drives) full, refl)
-
 -- why a member can't be moved, stated over the flat state
 pub reason_as : (a : ArrayView) (F : Flat) (g k : ℕ) (to : Member) (why : Option Refusal) → ShowsArray a F → IsMoveReason a.parts.groups (length a.parts.drives) g k to why
     → IsMoveReason F.groups F.drives g k to why
@@ -88,11 +85,6 @@ move_refused a F g k to BadMember reason shows = (F, (reason_as a F g k to (Some
 move_refused a F g k to SameDrive reason shows = (F, (reason_as a F g k to (Some SameDrive) shows reason, itself F), shows)
 move_refused a F g k to ExtentTaken reason shows = (F, (reason_as a F g k to (Some ExtentTaken) shows reason, itself F), shows)
 move_refused a F g k to _ reason shows = absurd reason
-
-pub move_lost : (a : ArrayView) (F : Flat) (g k : ℕ) (to : Member) → IsMoveReason a.parts.groups (length a.parts.drives) g k to None → lost_of a.parts to.drive ≡ true → ShowsArray a F
-    → (G : Flat) × MoveCase F g k to (Refused (DriveLost to.drive)) G × ShowsArray a G
-move_lost a F g k to reason lost shows =
-    (F, (reason_as a F g k to None shows reason, refl, inl (ap (λ f. f to.drive) shows.tables.lost ∙ lost, refl)), shows)
 
 pub move_passes : (a : ArrayView) (F : Flat) (g k : ℕ) (to : Member) → IsMoveReason a.parts.groups (length a.parts.drives) g k to None → lost_of a.parts to.drive ≡ false → ShowsArray a F
     → MovePasses F g k to

@@ -1,22 +1,17 @@
 -- Claims and hands of a group's first slots, one slot more in each turn of a loop.
-use Rattle.std.proofs.Common.{◌≡◌, ◌≢◌, ℕ, zero, suc, ◌+◌, ◌*◌, ◌<◌, ◌≤◌, ◌/◌, ◌%◌, ◌==◌, ◌&&◌, Bool, true, false, cond, nat_lt, List, [], ◌∷◌, ◌++◌, length, take, drop, get_or, replicate, refl, sym, ap, ◌∙◌, subst, arith, ◌⊎◌, inl, inr, Option, Some, None}
+use Rattle.std.proofs.Common.{◌≡◌, ℕ, zero, suc, ◌+◌, ◌*◌, ◌<◌, ◌≤◌, ◌/◌, ◌%◌, ◌==◌, ◌&&◌, Bool, true, false, cond, nat_lt, List, [], ◌∷◌, ◌++◌, length, take, drop, get_or, replicate, refl, sym, ap, ◌∙◌, subst, arith, ◌⊎◌, inl, inr}
 use Rattle.std.proofs.Math.ListN.{set}
-use Rattle.std.proofs.Math.Seq.{take-length}
 use Rattle.std.proofs.lemmas.List.{get_or-set_same, get_or-set_other, length-set, take-append-drop, get_or-replicate}
 use Rattle.std.proofs.lemmas.List.Sums.{sum_by-append}
 use Rattle.std.proofs.lemmas.Bool.{cases_eq}
 use Rattle.std.proofs.lemmas.Bool.Decides.{nat_tests}
-use Rattle.extent_groups.specs.Groups.{Groups, Group, AreGroups, group_at, slots_in}
-use Rattle.extent_groups.proofs.Bounds.{slot_count_small}
-use Rattle.flat_machine.proofs.Unmakes.{number_within}
 use Rattle.slot_tables.specs.declared.hand.Hand.{Hand}
-use Rattle.slot_tables.specs.declared.hand.Hand.TheVariants.{Empty}
-use Rattle.slot_tables.specs.Changes.{opened_of, IsOpened, IsClosed}
+use Rattle.slot_tables.specs.Changes.{opened_of, IsClosed}
 use Rattle.slot_tables.specs.Represents.{is_claim}
 use Rattle.slot_tables.specs.Views.{Kept, Nothing, Pending, Moving, Newest, Unmade, ArrayView, hand_at, is_kept, kept_at}
 use Rattle.slot_tables.specs.Claims.{how_many}
 use Rattle.slot_tables.specs.Counted.{is_newest, AreCounts}
-use Rattle.slot_tables.specs.Shut.{one_of, count_in, shut_of, closed_of, emptied, CanUnmake, IsGiven, IsFirstUngiven, IsFirstNotHeld}
+use Rattle.slot_tables.specs.Shut.{one_of, count_in, shut_of, closed_of, CanUnmake, IsGiven, IsFirstNotHeld}
 use Rattle.slot_tables.proofs.Counts.{counts_alike}
 use Rattle.slot_tables.proofs.Seated.{one_at, counted_more, one_here, one_else, take_next}
 
@@ -66,10 +61,6 @@ next_of g i slot low = go (cases_eq (slot / 128) g) (cases_eq (slot % 128) i)
       not = λ is. ne (omega (arith, is, low));
       same = ap (λ b. b && nat_lt (slot % 128) (i + 1)) (unequal (slot / 128) g ne) ∙ sym (ap (λ b. b && nat_lt (slot % 128) i) (unequal (slot / 128) g ne));
     }
-
--- no slot is one of a group's first none
-pub none_first : (g slot : ℕ) → is_first g 0 slot ≡ false
-none_first g slot = grind (arith, nat_tests)
 
 pub first_of : (g count slot : ℕ) → slot / 128 ≡ g → slot % 128 < count → is_first g count slot ≡ true
 first_of g count slot e low = grind (arith, nat_tests)
@@ -121,33 +112,12 @@ one_more {C} names claims claim g i low named all slot = go (next_of g i slot lo
         let is : one_of g (i + 1) slot ≡ one_of g i slot = ap (λ b. cond b 1 0) y.same in
         omega (arith, more, none, was, is)
 
--- hands of which one more is empty
-pub emptied_more : (old now : List Hand) (g i : ℕ) → i < 128 → 128 * g + i < length now → ((slot : ℕ) → hand_at now slot ≡ emptied g i slot (hand_at old slot))
-    → (slot : ℕ) → hand_at (set now (128 * g + i) Empty) slot ≡ emptied g (i + 1) slot (hand_at old slot)
-emptied_more old now g i low inside all slot = go (next_of g i slot low)
-  where
-    go : (IsNext g i slot) ⊎ (IsOther g i slot) → hand_at (set now (128 * g + i) Empty) slot ≡ emptied g (i + 1) slot (hand_at old slot)
-    go (inl y) = ap (hand_at (set now (128 * g + i) Empty)) y.is ∙ get_or-set_same now (128 * g + i) Empty Empty inside ∙ sym (ap (λ b. cond b Empty (hand_at old slot)) y.now)
-    go (inr y) = get_or-set_other now (128 * g + i) slot Empty Empty y.not ∙ all slot ∙ sym (ap (λ b. cond b Empty (hand_at old slot)) y.same)
-
 -- claims of a dissolved number's first slots that were taken out: together with what is kept after it, they are what was kept before
 pub record IsOpening {C : Type 0} (names : C → ℕ) (g i : ℕ) (old now : List Kept) (claims : List C) : Type 0 where
   pub many : length now ≡ length old
   pub here : (slot : ℕ) → is_first g i slot ≡ true → get_or now slot Nothing ≡ opened_of (get_or old slot Nothing)
   pub rest : (slot : ℕ) → is_first g i slot ≡ false → get_or now slot Nothing ≡ get_or old slot Nothing
   pub taken : (slot : ℕ) → how_many names claims slot + shut_of g slot (get_or now slot Nothing) ≡ shut_of g slot (get_or old slot Nothing)
-
-pub none_open : {C : Type 0} (names : C → ℕ) (g : ℕ) (old : List Kept) (claims : List C) → length claims ≡ 0 → IsOpening names g 0 old old claims
-none_open {C} names g old [] none = record {
-  many = refl;
-  here = λ slot first. let bad : false ≡ true = sym (none_first g slot) ∙ first in absurd (cc);
-  rest = λ slot other. refl;
-  taken = λ slot. plus_none (shut_of g slot (get_or old slot Nothing));
-}
-  where
-    plus_none : (n : ℕ) → 0 + n ≡ n
-    plus_none n = omega arith
-none_open {C} names g old (c ∷ claims) none = absurd (omega (arith, none))
 
 -- what a number's slot gives away
 shut_opened : (g slot : ℕ) (kept : Kept) → shut_of g slot (opened_of kept) ≡ 0
@@ -156,19 +126,6 @@ shut_opened g slot (Pending k) = refl
 shut_opened g slot (Moving r k) = refl
 shut_opened g slot (Newest b) = refl
 shut_opened g slot Unmade = refl
-
-shut_else : (g slot : ℕ) (kept : Kept) → (kept ≡ Unmade → ⊥) → shut_of g slot kept ≡ 0
-shut_else g slot Nothing other = refl
-shut_else g slot (Pending k) other = refl
-shut_else g slot (Moving r k) other = refl
-shut_else g slot (Newest b) other = refl
-shut_else g slot Unmade other = absurd (other refl)
-
-shut_here : (g slot : ℕ) (kept : Kept) → slot / 128 ≡ g → kept ≡ Unmade → shut_of g slot kept ≡ 1
-shut_here g slot kept e is = ap (shut_of g slot) is ∙ ap (λ b. cond b 1 0) (equal g (slot / 128) (sym e))
-  where
-    equal : (a b : ℕ) → a ≡ b → (a == b) ≡ true
-    equal a b e = grind (arith, nat_tests)
 
 module _ {C : Type 0} (names : C → ℕ) (g i : ℕ) (old now : List Kept) (claims : List C) (low : i < 128) (inside : 128 * g + i < length now) (before : IsOpening names g i old now claims) where
   abbrev at : ℕ
@@ -207,95 +164,12 @@ module _ {C : Type 0} (names : C → ℕ) (g i : ℕ) (old now : List Kept) (cla
   still_else : (slot : ℕ) → (slot ≡ at → ⊥) → shut_of g slot (get_or after slot Nothing) ≡ shut_of g slot (get_or now slot Nothing)
   still_else slot ne = ap (shut_of g slot) (get_or-set_other now at slot (opened_of (get_or now at Nothing)) Nothing ne)
 
-  pub open_one : (claim : C) → names claim ≡ at → get_or now at Nothing ≡ Unmade → IsOpening names g (i + 1) old after (claims ++ claim ∷ [])
-  open_one claim named is = record {
-    many = length-set now at (opened_of (get_or now at Nothing)) ∙ before.many;
-    here = here;
-    rest = rest;
-    taken = λ slot. taken slot (cases_eq slot at);
-  }
-    where
-      taken : (slot : ℕ) → (slot ≡ at) ⊎ (slot ≡ at → ⊥) → how_many names (claims ++ claim ∷ []) slot + shut_of g slot (get_or after slot Nothing) ≡ shut_of g slot (get_or old slot Nothing)
-      taken slot (inl e) =
-          let more = counted_more names claims claim slot in
-          let one : one_at (names claim) slot ≡ 1 = ap (one_at (names claim)) (e ∙ sym named) ∙ one_here (names claim) in
-          let was = before.taken slot in
-          let had : shut_of g slot (get_or now slot Nothing) ≡ 1 = ap (λ s. shut_of g s (get_or now s Nothing)) e ∙ shut_here g at (get_or now at Nothing) number is in
-          let gone = gone_here slot e in
-          omega (arith, more, one, was, had, gone)
-      taken slot (inr ne) =
-          let more = counted_more names claims claim slot in
-          let none : one_at (names claim) slot ≡ 0 = one_else (names claim) slot (λ e. ne (e ∙ named)) in
-          let was = before.taken slot in
-          let same = still_else slot ne in
-          omega (arith, more, none, was, same)
-
-  pub open_none : (get_or now at Nothing ≡ Unmade → ⊥) → IsOpening names g (i + 1) old after claims
-  open_none other = record {
-    many = length-set now at (opened_of (get_or now at Nothing)) ∙ before.many;
-    here = here;
-    rest = rest;
-    taken = λ slot. taken slot (cases_eq slot at);
-  }
-    where
-      taken : (slot : ℕ) → (slot ≡ at) ⊎ (slot ≡ at → ⊥) → how_many names claims slot + shut_of g slot (get_or after slot Nothing) ≡ shut_of g slot (get_or old slot Nothing)
-      taken slot (inl e) =
-          let was = before.taken slot in
-          let had : shut_of g slot (get_or now slot Nothing) ≡ 0 = ap (λ s. shut_of g s (get_or now s Nothing)) e ∙ shut_else g at (get_or now at Nothing) other in
-          let gone = gone_here slot e in
-          omega (arith, was, had, gone)
-      taken slot (inr ne) =
-          let was = before.taken slot in
-          let same = still_else slot ne in
-          omega (arith, was, same)
-
--- once all of a number's slots were looked at, its claims are out
-pub all_opened : {C : Type 0} (names : C → ℕ) (g : ℕ) (old now : List Kept) (claims : List C) → IsOpening names g 128 old now claims → IsOpened g old now
-all_opened names g old now claims done = record {
-  many = done.many;
-  here = λ slot e. done.here slot (first_of g 128 slot e (omega arith));
-  rest = λ slot ne. done.rest slot (not_first g 128 slot (λ e low. ne e));
-}
-
-pub all_taken : {C : Type 0} (names : C → ℕ) (g : ℕ) (old now : List Kept) (claims : List C) → IsOpening names g 128 old now claims
-    → (slot : ℕ) → how_many names claims slot ≡ shut_of g slot (get_or old slot Nothing)
-all_taken names g old now claims done slot = go (is_first g 128 slot) refl
-  where
-    none_shut : (kept : Kept) → (slot / 128 ≡ g → ⊥) → shut_of g slot kept ≡ 0
-    none_shut Nothing ne = refl
-    none_shut (Pending k) ne = refl
-    none_shut (Moving r k) ne = refl
-    none_shut (Newest b) ne = refl
-    none_shut Unmade ne = ap (λ b. cond b 1 0) (unequal g (slot / 128) (λ e. ne (sym e)))
-      where
-        unequal : (a b : ℕ) → (a ≡ b → ⊥) → (a == b) ≡ false
-        unequal a b ne = grind (arith, nat_tests)
-
-    go : (b : Bool) → is_first g 128 slot ≡ b → how_many names claims slot ≡ shut_of g slot (get_or old slot Nothing)
-    go true first =
-        let y = done.taken slot in
-        let z : shut_of g slot (get_or now slot Nothing) ≡ 0 = ap (shut_of g slot) (done.here slot first) ∙ shut_opened g slot (get_or old slot Nothing) in
-        omega (arith, y, z)
-    go false other =
-        let y = done.taken slot in
-        let ne : slot / 128 ≡ g → ⊥ = λ e. let bad : true ≡ false = sym (first_of g 128 slot e (omega arith)) ∙ other in cc in
-        let z = none_shut (get_or now slot Nothing) ne in
-        omega (arith, y, z)
-
 -- claims on their way into the places of a dissolved group
 pub record AreClosing {C : Type 0} (names : C → ℕ) (all left : List C) (old now : List Kept) : Type 0 where
   pub most : (slot : ℕ) → how_many names left slot ≤ how_many names all slot
   pub waits : (slot : ℕ) → 0 < how_many names left slot → get_or now slot Nothing ≡ Nothing
   pub same : (slot : ℕ) → how_many names left slot ≡ how_many names all slot → get_or now slot Nothing ≡ get_or old slot Nothing
   pub in_it : (slot : ℕ) → how_many names left slot < how_many names all slot → get_or now slot Nothing ≡ Unmade
-
-pub none_closed : {C : Type 0} (names : C → ℕ) (all : List C) (old : List Kept) → ((slot : ℕ) → 0 < how_many names all slot → get_or old slot Nothing ≡ Nothing) → AreClosing names all all old old
-none_closed names all old free = record {
-  most = λ slot. omega arith;
-  waits = free;
-  same = λ slot e. refl;
-  in_it = λ slot less. absurd (omega (arith, less));
-}
 
 pub one_closed : {C : Type 0} (names : C → ℕ) (all left : List C) (claim : C) (old now : List Kept) → names claim < length now → ((slot : ℕ) → how_many names all slot ≤ 1)
     → AreClosing names all (left ++ claim ∷ []) old now → AreClosing names all left old (set now (names claim) Unmade)
@@ -340,14 +214,6 @@ one_closed {C} names all left claim old now inside once before = record {
         let more = counted_more names left claim slot in
         let none = one_else here slot ne in
         get_or-set_other now here slot Unmade Nothing ne ∙ before.in_it slot (omega (arith, less, more, none))
-
-pub all_closed : {C : Type 0} (names : C → ℕ) (all : List C) (old now : List Kept) → AreClosing names all [] old now
-    → (slot : ℕ) → get_or now slot Nothing ≡ closed_of (how_many names all slot) (get_or old slot Nothing)
-all_closed names all old now done slot = go (how_many names all slot) refl
-  where
-    go : (n : ℕ) → how_many names all slot ≡ n → get_or now slot Nothing ≡ closed_of n (get_or old slot Nothing)
-    go zero e = done.same slot (sym e)
-    go (suc n) e = done.in_it slot (omega (arith, e))
 
 -- a claim that is still to be taken in is one of all
 pub closing_inside : {C : Type 0} (names : C → ℕ) (all left : List C) (claim : C) (old now : List Kept) (n : ℕ) → ((slot : ℕ) → 0 < how_many names all slot → slot < n)
@@ -435,10 +301,6 @@ marks_more {C} names claims claim g count marks number low unmarked before = rec
         let zero_here = one_else here slot ne in
         get_or-set_other marks (names claim % 128) (slot % 128) true true (λ same. ne (omega (arith, same, e, number))) ∙ before.each slot e ∙ ap (nat_lt 0) (omega (arith, more, zero_here))
 
--- all claims have their marks
-pub all_marked : {C : Type 0} (names : C → ℕ) (g count index : ℕ) (claims : List C) (marks : List Bool) → index ≡ length claims → AreMarks names g count (take index claims) marks → AreMarks names g count claims marks
-all_marked {C} names g count index claims marks end before = subst (λ cs. AreMarks names g count cs marks) (ap (λ n. take n claims) end ∙ take-length claims) before
-
 -- of a slot that isn't one of the group's none is known, and of one that is marked one was seen
 pub none_of_other : (g count slot n : ℕ) → (slot / 128 ≡ g → ⊥) → one_of g count slot ≤ n
 none_of_other g count slot n ne = let z : one_of g count slot ≡ 0 = ap (λ b. cond b 1 0) (not_first g count slot (λ e low. ne e)) in omega (arith, z)
@@ -452,14 +314,6 @@ one_marked names g count seen marks slot are number marked = let most = most_one
   where
     above : (n : ℕ) → true ≡ nat_lt 0 n → 0 < n
     above n e = grind (arith, nat_tests)
-
--- a number of which there is a group is below 512, and the group has at most 128 slots
-pub made_small : (groups : Groups) (g : ℕ) → AreGroups groups → group_at groups g ≢ None → (slots_in groups.segments (group_at groups g) ≤ 128) × (g < 512)
-made_small groups g are made = (go (group_at groups g) refl, let low = number_within groups g made in let many = are.numbers in omega (arith, low, many))
-  where
-    go : (o : Option Group) → group_at groups g ≡ o → slots_in groups.segments o ≤ 128
-    go None e = omega arith
-    go (Some group) e = let few = slot_count_small group.class (length group.members) groups.segments (are.formed g group e).few are.segments.1 in omega (arith, few)
 
 -- marks as they are looked up, slot by slot
 pub given_of : {C : Type 0} (names : C → ℕ) (a : ArrayView) (g count i : ℕ) (claims : List C) (marks : List Bool) → i < 128
@@ -483,63 +337,6 @@ given_of {C} names a g count i claims marks low each marked free = (above (how_m
     unkept (Newest b) e = absurd (cc)
     unkept Unmade e = absurd (cc)
 
--- a slot that isn't marked, or that the array keeps, isn't given
-pub ungiven_of : {C : Type 0} (names : C → ℕ) (a : ArrayView) (g i : ℕ) (claims : List C) (marks : List Bool) → i < 128
-    → ((slot : ℕ) → slot / 128 ≡ g → get_or marks (slot % 128) true ≡ nat_lt 0 (how_many names claims slot)) → (get_or marks i true ≡ false) ⊎ (is_kept (kept_at a (128 * g + i)) ≡ true)
-    → IsGiven names a claims (128 * g + i) → ⊥
-ungiven_of {C} names a g i claims marks low each (inl unmarked) given = none (how_many names claims (128 * g + i)) (sym (ap (λ k. get_or marks k true) index ∙ unmarked) ∙ each (128 * g + i) number) given.0
-  where
-    number : (128 * g + i) / 128 ≡ g
-    number = omega (arith, low)
-
-    index : (128 * g + i) % 128 ≡ i
-    index = omega (arith, low)
-
-    none : (n : ℕ) → false ≡ nat_lt 0 n → 0 < n → ⊥
-    none n e some = absurd (grind (arith, nat_tests))
-ungiven_of {C} names a g i claims marks low each (inr kept) given = let bad : true ≡ false = sym kept ∙ ap is_kept given.1 in cc
-
--- the group's first slots are given, and the next
-pub given_more : {C : Type 0} (names : C → ℕ) (a : ArrayView) (g i : ℕ) (claims : List C) → i < 128 → ((slot : ℕ) → is_first g i slot ≡ true → IsGiven names a claims slot)
-    → IsGiven names a claims (128 * g + i) → (slot : ℕ) → is_first g (i + 1) slot ≡ true → IsGiven names a claims slot
-given_more {C} names a g i claims low before here slot first = go (next_of g i slot low)
-  where
-    go : (IsNext g i slot) ⊎ (IsOther g i slot) → IsGiven names a claims slot
-    go (inl y) = subst (IsGiven names a claims) (sym y.is) here
-    go (inr y) = before slot (sym y.same ∙ first)
-
--- the first that isn't
-pub first_ungiven : {C : Type 0} (names : C → ℕ) (a : ArrayView) (g i : ℕ) (claims : List C) → group_at a.parts.groups g ≢ None → i < 128 → i < count_in a g
-    → ((slot : ℕ) → how_many names claims slot ≤ one_of g (count_in a g) slot) → ((slot : ℕ) → is_first g i slot ≡ true → IsGiven names a claims slot)
-    → (IsGiven names a claims (128 * g + i) → ⊥) → IsFirstUngiven names a g claims (128 * g + i)
-first_ungiven {C} names a g i claims made low inside known before ungiven = record {
-  made = made;
-  known = known;
-  is = let one = one_first g (count_in a g) (128 * g + i) (first_of g (count_in a g) (128 * g + i) (omega (arith, low)) (omega (arith, low, inside))) in omega (arith, one);
-  not_given = ungiven;
-  below = λ other less is. let y = of_first g (count_in a g) other (first_one g (count_in a g) other is) in before other (first_of g i other y.0 (let e = y.0 in omega (arith, e, less, low)));
-}
-
--- all of them are given
-pub can_unmake : {C : Type 0} (names : C → ℕ) (a : ArrayView) (g : ℕ) (claims : List C) → group_at a.parts.groups g ≢ None → ((slot : ℕ) → how_many names claims slot ≤ one_of g (count_in a g) slot)
-    → ((slot : ℕ) → is_first g (count_in a g) slot ≡ true → IsGiven names a claims slot) → CanUnmake names a g claims
-can_unmake {C} names a g claims made known given = record {
-  made = made;
-  all = λ slot. all slot (is_first g (count_in a g) slot) refl;
-  free = λ slot some. (given slot (first_one g (count_in a g) slot some)).1;
-}
-  where
-    all : (slot : ℕ) (b : Bool) → is_first g (count_in a g) slot ≡ b → how_many names claims slot ≡ one_of g (count_in a g) slot
-    all slot true first =
-        let one = one_first g (count_in a g) slot first in
-        let some = (given slot first).0 in
-        let most = known slot in
-        omega (arith, one, some, most)
-    all slot false other =
-        let none : one_of g (count_in a g) slot ≡ 0 = ap (λ b. cond b 1 0) other in
-        let most = known slot in
-        omega (arith, none, most)
-
 -- the places of a dissolved group's slots are closed
 pub closed_number : {C : Type 0} (names : C → ℕ) (a : ArrayView) (g : ℕ) (claims : List C) (old new : List Kept) → CanUnmake names a g claims → length new ≡ length old
     → ((slot : ℕ) → get_or new slot Nothing ≡ closed_of (how_many names claims slot) (get_or old slot Nothing)) → IsClosed g (count_in a g) old new
@@ -548,15 +345,6 @@ closed_number {C} names a g claims old new can many closed = record {
   here = λ slot e low. closed slot ∙ ap (λ n. closed_of n (get_or old slot Nothing)) (can.all slot ∙ one_first g (count_in a g) slot (first_of g (count_in a g) slot e low));
   rest = λ slot off. closed slot ∙ ap (λ n. closed_of n (get_or old slot Nothing)) (can.all slot ∙ ap (λ b. cond b 1 0) (not_first g (count_in a g) slot off));
 }
-
--- hands of a group's first slots of which the worker has claims, and the first of which not
-pub held_more : (hands : List Hand) (w g i : ℕ) → i < 128 → ((slot : ℕ) → is_first g i slot ≡ true → is_claim (hand_at hands slot) w ≡ true) → is_claim (hand_at hands (128 * g + i)) w ≡ true
-    → (slot : ℕ) → is_first g (i + 1) slot ≡ true → is_claim (hand_at hands slot) w ≡ true
-held_more hands w g i low before here slot first = go (next_of g i slot low)
-  where
-    go : (IsNext g i slot) ⊎ (IsOther g i slot) → is_claim (hand_at hands slot) w ≡ true
-    go (inl y) = ap (λ s. is_claim (hand_at hands s) w) y.is ∙ here
-    go (inr y) = before slot (sym y.same ∙ first)
 
 pub first_not_held : (hands : List Hand) (w g i count : ℕ) → i < 128 → i < count → ((slot : ℕ) → is_first g i slot ≡ true → is_claim (hand_at hands slot) w ≡ true)
     → is_claim (hand_at hands (128 * g + i)) w ≡ false → IsFirstNotHeld hands w g count (128 * g + i)

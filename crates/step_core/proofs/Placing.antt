@@ -1,17 +1,17 @@
 -- A block is put into a free slot: what each of the array's calls leaves of the world. The hands in between are those of a worker
 -- that does the steps one by one; before the first and after the last nobody has the slots in hand.
-use Rattle.std.proofs.Common.{◌≡◌, ℕ, ◌<◌, Bool, true, false, List, ◌∷◌, length, refl, sym, ap, ◌∙◌, subst, arith, inl, inr, Option, Some, None, Result, Ok, Err, MatchResult, IfOk, IfErr}
+use Rattle.std.proofs.Common.{◌≡◌, ℕ, ◌<◌, Bool, true, List, ◌∷◌, length, refl, sym, ap, ◌∙◌, subst, arith, inl, inr, Option, Some, None, Result, Ok, Err, MatchResult, IfOk, IfErr}
 use Rattle.std.proofs.Math.ListN.{set}
 use Rattle.std.proofs.lemmas.List.{length-set, get_or-set_same, get_or-set_other, set-get_or}
 use Rattle.map_join.specs.declared.records.Record.{Record}
 use Rattle.map_join.specs.Record.{record_at}
 use Rattle.extent_groups.specs.Groups.{Groups}
 use Rattle.flat_machine.specs.declared.refusal.Refusal.{Refusal}
-use Rattle.flat_machine.specs.declared.refusal.Refusal.TheVariants.{Memory, NoTicket}
+use Rattle.flat_machine.specs.declared.refusal.Refusal.TheVariants.{Memory}
 use Rattle.flat_machine.specs.Flat.{Flat, Content, Holder, Worker, Ticket, Block, IsNewest}
 use Rattle.flat_machine.specs.Steps.{Claimed, Released, Committed, Discarded, Refused, Claim, Commit}
 use Rattle.flat_machine.specs.Steps as step
-use Rattle.flat_machine.specs.Cases.{Case, Leaves, Runs, ClaimCase, FillCase, CopyCase, CommitCase, DiscardCase, ReleaseCase}
+use Rattle.flat_machine.specs.Cases.{Case, Runs, ClaimCase, FillCase, CopyCase, CommitCase, DiscardCase, ReleaseCase}
 use Rattle.flat_machine.specs.History.{IsStep}
 use Rattle.flat_machine.proofs.Newest.{place_small}
 use Rattle.flat_machine.proofs.Holding.{once_any}
@@ -319,16 +319,6 @@ refused_last v F a e k what w s b r W ready block rep puts denies same ends = go
         let d = refused_world (record { array = a; hands = hands }) x.state (Commit w s b) k_is e there x.stands may in
         let y = back d.0 d.2 in
         (y.2.0, inr (x.before.state, x.before.claim, (x.state, x.put, (d.0, d.1, (y.0, y.1, (y.2.0, y.2.1, refl))))), y.2.2)
-
--- a ticket that a worker holds ends
-pub gives_up : {C E : Type 0} (F : Flat) (w s : ℕ) (k : ArrayView) (refusal : E → Refusal) (result : Result C E) → IfErr result (λ e. refusal e ≡ NoTicket) → F.held s (Ticket w) ≡ true
-    → MatchResult result (λ claim. (G : Flat) × (DiscardCase F w s (Discarded s) G) × (ShowsArray k G)) (λ e. DiscardCase F w s (Refused (refusal e)) F)
-    → (G : Flat) × (DiscardCase F w s (Discarded s) G) × (ShowsArray k G)
-gives_up F w s k refusal (Ok claim) err held is = is
-gives_up F w s k refusal (Err e) err held is =
-    let not_held : (F.held s (Ticket w) ≡ false) × (Leaves F F) = subst (λ r. DiscardCase F w s (Refused r) F) err is in
-    let both : true ≡ false = sym held ∙ not_held.0 in
-    absurd (cc)
 
 -- less is said where it is out of memory
 may_less : (r : Refusal) (W P : Type 0) → MayRefuse r W P → MayRefuse r (Unit {0}) P

@@ -1,5 +1,5 @@
 -- What a world's step answers, whether its array carried it out or refused it.
-use Rattle.std.proofs.Common.{◌≡◌, ◌≢◌, ℕ, List, [], refl, sym, ap, ◌∙◌, subst, inl, inr, Option, Some, None, Vec, Result, Ok, Err, IsOk, IfOk, IfErr, OnErr, MatchResult}
+use Rattle.std.proofs.Common.{◌≡◌, ◌≢◌, ℕ, List, [], refl, sym, ap, ◌∙◌, subst, inl, inr, Option, Some, None, Vec, Result, Ok, Err, IsOk, IfOk, OnErr, MatchResult}
 use Rattle.std.specs.Global.{Global}
 use Rattle.std.specs.declared.alloc.AllocError.{AllocError}
 use Rattle.map_join.specs.declared.records.Record.{Record}
@@ -20,7 +20,7 @@ use Rattle.slot_tables.specs.Views.{ArrayView, WorldView, SameSizes}
 use Rattle.slot_tables.proofs.Hands.{as_world}
 use Rattle.step_core.specs.declared.step.Answer.{Answer}
 use Rattle.step_core.specs.declared.step.Answer.TheVariants as answer
-use Rattle.disk_array.specs.Reads.{WasFound, WasFoundIn, WasGone, WasNotFound, version_in}
+use Rattle.disk_array.specs.Reads.{WasFound, WasFoundIn, WasNotFound, version_in}
 use Rattle.disk_array.specs.Refused.{IsRefused, OnlyLoses}
 use Rattle.step_core.specs.Told.{flat_answer, read_answer}
 use Rattle.step_core.proofs.Worlds.{stays_world, refused_world, move_world}
@@ -183,12 +183,6 @@ unread_same a b slot r (inr gone) memory = let bad : Memory ≡ Gone slot = sym 
 
 pub not_found_same : (a b : ArrayView) (block : ℕ) (r : Refusal) → WasNotFound a b block r → r ≡ Memory → b ≡ a
 not_found_same a b block r is = unread_same a b is.0.place r is.2
-
--- a block that was read into a buffer, or wasn't: the world's step is the flat machine's, and the sizes stay
-pub read_sizes : (a b : ArrayView) (block : ℕ) (result : Result (Option ℕ) Refusal) (bytes : List ℕ)
-    → IfOk result (λ found. WasFoundIn a b block found bytes) → IfErr result (WasGone a b block) → SameSizes a b
-read_sizes a b block (Ok found) bytes ok err = found_in_sizes a b block found bytes ok
-read_sizes a b block (Err r) bytes ok err = same_sizes a b err.2.loses.rest.groups
 
 read_stays : (v : WorldView) (a : ArrayView) (F : Flat) (block : ℕ) (result : Result (Option ℕ) Refusal) (bytes : List ℕ) → Represents v F
     → MatchResult result (λ found. (G : Flat) × (ReadCase F block (Found (version_in found bytes)) G) × (ShowsArray a G))

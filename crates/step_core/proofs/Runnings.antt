@@ -55,9 +55,6 @@ pub fits_at : (steps : List Step) (i : ℕ) (one : Step) → i < length steps �
 fits_at steps i one inside is a b same all =
     fits_same a b one same (subst (FitsStep a.parts.groups) (sym is) (All-get_or (FitsStep a.parts.groups) steps i one inside all))
 
-pub sizes_same : (a : ArrayView) → SameSizes a a
-sizes_same a = record { payload = refl; blocks = refl }
-
 pub sizes_again : (a b c : ArrayView) → SameSizes a b → SameSizes b c → SameSizes a c
 sizes_again a b c one two = record { payload = two.payload ∙ one.payload; blocks = two.blocks ∙ one.blocks }
 
