@@ -1,6 +1,7 @@
 pub mod Adopters
 pub mod Resting
 pub mod Ready
+pub mod UnitReads
 pub mod Living
 pub mod Uncounted
 pub mod News
