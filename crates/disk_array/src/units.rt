@@ -19,11 +19,17 @@ impl<D: Drive, C: Hold> Units for Array<D, C> {
 
     ghost leaves = { λ a b. OnlyLoses a b };
 
+    // An array has buffers of its own.
+    ghost scratch_length = { λ _. 0 };
+
     fn groups(&self) -> &GroupTable {
         &self.parts.groups
     }
 
-    // An array has buffers of its own: the caller's stays as it is.
+    fn scratch_length(&self) -> usize {
+        0
+    }
+
     fn unit(&mut self, slot: u16, unit: &mut [u8], _scratch: &mut [u8]) -> Result<(), Refusal> {
         self.unit_at(slot, unit)
     }

@@ -3,7 +3,7 @@ ghost use Rattle.std.specs.Prelude.{◌≡◌, ℕ, ◌+◌, ◌*◌, ◌^◌, �
 ghost use Rattle.map_join.specs.Maps.{at};
 ghost use Rattle.extent_groups.specs.Cells.{Cells};
 ghost use Rattle.extent_groups.specs.Groups.{group_at, slots_in};
-ghost use Rattle.extent_groups.specs.Stores.{unit_bytes, unit_of, AreSound};
+ghost use Rattle.extent_groups.specs.Stores.{unit_of, AreSound};
 ghost use Rattle.flat_machine.specs.Scanned.{IsScanned};
 ghost use Rattle.flat_machine.specs.Restarted.{HasPlaces};
 ghost use Rattle.header_scan.specs.Faults.{AreFine, IsFirstFault, IsTwice, between};
@@ -28,7 +28,7 @@ fn count_slots(groups: &GroupTable, group: u16) -> u16
     groups.slots_of(group)
 }
 
-/// Notes the headers of the slots of one group, read in one call, with buffers for 128 headers and of two units' length.
+/// Notes the headers of the slots of one group, read in one call, with buffers for 128 headers and for the reads.
 pub(crate) fn scan_group<U: Units>(
     alloc: Global,
     units: &mut U,
@@ -43,7 +43,7 @@ pub(crate) fn scan_group<U: Units>(
     requires blocks { blocks ≡ (U.groups units.old).blocks }
     requires many { length found.old.newest ≡ blocks }
     requires headers { length headers.old ≡ 128 }
-    requires scratch { length scratch.old ≡ 2 * unit_bytes (U.groups units.old) }
+    requires scratch { U.scratch_length (U.groups units.old) ≤ length scratch.old }
     ensures many { OnOk result (length found.new.newest ≡ blocks) }
     ensures ok { (low : ℕ) (start : Cells) → low ≤ 128 * group
         → IsUnderway (U.groups units.old) start (U.cells units.old) low (128 * group) (key_in found.old.newest) (at found.old.twins)
@@ -95,11 +95,10 @@ fn note_groups<U: Units>(
     ensures inside { IfOk result (λ f. ArePlaced (U.groups units.old) (128 * end) (key_in f.newest)) }
     ensures left { WasOnlyRead U.groups U.cells U.fits U.leaves units.old units.new }
 {
-    let shape = units.groups().shape();
-    let blocks = shape.blocks;
+    let blocks = units.groups().shape().blocks;
     let newest = Keys::new(alloc, blocks)?;
     let mut headers = [[0; HEADER_BYTES]; SLOTS as usize];
-    let mut scratch = vec![in alloc; 0; 2 * shape.unit_bytes()]?;
+    let mut scratch = vec![in alloc; 0; units.scratch_length()]?;
     let mut found = Found {
         newest,
         twins: BlockMap::new(alloc),

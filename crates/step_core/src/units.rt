@@ -18,8 +18,14 @@ impl Units for World {
 
     ghost leaves = { λ v w. OnlyLosesOf v w };
 
+    ghost scratch_length = { λ _. 0 };
+
     fn groups(&self) -> &GroupTable {
         self.array().groups()
+    }
+
+    fn scratch_length(&self) -> usize {
+        0
     }
 
     fn unit(&mut self, slot: u16, unit: &mut [u8], scratch: &mut [u8]) -> Result<(), Refusal> {

@@ -32,8 +32,14 @@ impl<U: Units> Units for Watched<U> {
 
     ghost leaves = { λ v w. U.leaves v.units w.units };
 
+    ghost scratch_length = { U.scratch_length };
+
     fn groups(&self) -> &GroupTable {
         self.units.groups()
+    }
+
+    fn scratch_length(&self) -> usize {
+        self.units.scratch_length()
     }
 
     fn unit(&mut self, slot: u16, unit: &mut [u8], scratch: &mut [u8]) -> Result<(), Refusal> {
