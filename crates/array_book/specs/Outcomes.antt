@@ -1,6 +1,8 @@
 -- What the steps of a worker's call came to. Each was made under the lock, in some state that the lock's value had.
-use Rattle.std.specs.Prelude.{◌≡◌, ◌⊎◌, ℕ, List, Option, Some, None, MatchOption}
+use Rattle.std.specs.Prelude.{◌≡◌, ◌⊎◌, ℕ, ◌<◌, List, Option, Some, None, MatchOption}
 use Rattle.map_join.specs.declared.records.Record.{Record}
+use Rattle.map_join.specs.Record.{key_of}
+use Rattle.map_words.specs.declared.view.View.{View}
 use Rattle.flat_machine.specs.declared.refusal.Refusal.{Refusal}
 use Rattle.flat_machine.specs.declared.refusal.Refusal.TheVariants as refusal
 use Rattle.flat_machine.specs.Flat.{Flat, Content}
@@ -14,6 +16,7 @@ use Rattle.array_book.specs.declared.worker.Migration.{Migration}
 use Rattle.array_book.specs.declared.worker.Migration.TheVariants.{Moved, Outrun, Idle, NoRoom}
 use Rattle.array_book.specs.Kept.{KeptView, IsKept}
 use Rattle.array_book.specs.Planned.{IsPlanned, IsDone, IsNext}
+use Rattle.array_book.specs.Takes.{HasAsked, Learnt}
 
 -- a state of the lock's value, for an array of these sizes, and a flat state that its array shows
 pub record State (blocks payload : ℕ) : Type 0 where
@@ -93,3 +96,14 @@ pub record WasUnlearned (blocks payload : ℕ) (asked : Record) (q : Refusal) : 
   pub state : State blocks payload
   pub after : Flat
   pub case : UnlearnedCase state.flat asked q after
+
+-- a read that returned this lesson of the block: one step of the Taker found a written record of that block, the lesson is what was
+-- learned of it in some state, and where the lesson has another record a second step took that
+pub record HasRead (blocks payload : ℕ) (before : View) (block : ℕ) (lesson : Lesson) (after : View) : Type 0 where
+  pub found : Record
+  pub between : View
+  pub of : found.block ≡ block
+  pub written : 0 < found.version
+  pub asked : HasAsked before block (key_of found) between
+  pub learned : WasLearned blocks payload found lesson
+  pub learnt : Learnt lesson.told found between after

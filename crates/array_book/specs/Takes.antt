@@ -1,5 +1,5 @@
 -- Which of a worker's two Takers a call is about, and what it has taken and found.
-use Rattle.std.specs.Prelude.{◌≡◌, ◌⊎◌, ℕ, ◌<◌, ◌%◌, ◌==◌, if◌then◌else◌, Contains}
+use Rattle.std.specs.Prelude.{◌≡◌, ◌⊎◌, ℕ, ◌%◌, ◌==◌, if◌then◌else◌, Contains}
 use Rattle.map_join.specs.declared.records.Record.{Record}
 use Rattle.map_join.specs.Record.{key_of}
 use Rattle.map_words.specs.declared.view.Found.{Found}
@@ -56,8 +56,3 @@ HasAsked before block key after = IsNewest before block key × HasFound before b
 -- the returned record is the one that was found, and nothing was taken; or it was taken
 abbrev pub Learnt : Record → Record → View → View → Type 0
 Learnt told found before after = ((told ≡ found) × (after ≡ before)) ⊎ Took told before after
-
--- what a read that returns this record of the block leaves of the Taker: one step more, which found a written record's key;
--- and where that record isn't the one that is returned, another, which took this
-abbrev pub HasRead : View → ℕ → Record → View → Type 0
-HasRead before block told after = (found : Record) × (between : View) × (found.block ≡ block) × (0 < found.version) × HasAsked before block (key_of found) between × Learnt told found between after

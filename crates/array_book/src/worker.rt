@@ -9,9 +9,9 @@ ghost use Rattle.flat_machine.specs.declared.refusal.Refusal.{Refusal};
 ghost use Rattle.flat_machine.specs.declared.refusal.Refusal.TheVariants as refusal;
 ghost use Rattle.slot_words.specs.Places.{slots_of};
 ghost use Rattle.array_book.specs.Given.{content_of, IsGivenFor};
-ghost use Rattle.array_book.specs.Takes.{controller_of, taker_of, other_of, AreSame, HasAsked, HasMigrated, HasRead, Took, Learnt, IsTold};
+ghost use Rattle.array_book.specs.Takes.{controller_of, taker_of, other_of, AreSame, HasAsked, HasMigrated, Took, Learnt, IsTold};
 ghost use Rattle.array_book.specs.Outcomes.{WasCopied, WasCommitted, WasRefused, WasGivenUp, WasWritten};
-ghost use Rattle.array_book.specs.Outcomes.{WasPlanned, IsTried, HadNoRoom, WentSo, WasLearned, WasUnlearned};
+ghost use Rattle.array_book.specs.Outcomes.{WasPlanned, IsTried, HadNoRoom, WentSo, HasRead, WasUnlearned};
 ghost use Rattle.array_book.specs.declared.fault.WorkFault.TheVariants.{Core};
 
 use crate::book::Book;
@@ -406,13 +406,12 @@ impl<
         ensures some { (reading : Lesson) → result ≡ Ok (Some reading)
             → IsTold (taker_of controller self.old.even self.old.odd) block (taker_of controller self.new.even self.new.odd) reading.told }
         ensures read { (reading : Lesson) → result ≡ Ok (Some reading)
-            → HasRead (taker_of controller self.old.even self.old.odd) block reading.told (taker_of controller self.new.even self.new.odd) }
+            → HasRead N.blocks N.payload (taker_of controller self.old.even self.old.odd) block reading
+            (taker_of controller self.new.even self.new.odd) }
         ensures none { result ≡ Ok None
             → HasAsked (taker_of controller self.old.even self.old.odd) block 0 (taker_of controller self.new.even self.new.odd) }
         ensures err { OnErr result ((key : ℕ)
             × HasAsked (taker_of controller self.old.even self.old.odd) block key (taker_of controller self.new.even self.new.odd)) }
-        ensures learned { (reading : Lesson) → result ≡ Ok (Some reading) → (found : Record) × (found.block ≡ block)
-            × IsNewest (taker_of controller self.old.even self.old.odd) block (key_of found) × WasLearned N.blocks N.payload found reading }
         ensures refused { (q : Refusal) → result ≡ Err (Core q) → (found : Record) × (found.block ≡ block)
             × HasAsked (taker_of controller self.old.even self.old.odd) block (key_of found) (taker_of controller self.new.even self.new.odd)
             × WasUnlearned N.blocks N.payload found q }

@@ -1,13 +1,12 @@
 use Rattle.std.proofs.Common.{◌≡◌, ◌≢◌, ◌<◌, rules, sym, ap, ◌∙◌, subst}
 use Rattle.map_join.specs.Record.{key_of}
-use Rattle.map_words.specs.Answers.{IsNewest}
 use Rattle.flat_machine.specs.declared.refusal.Refusal.{Refusal}
 use Rattle.flat_machine.specs.declared.refusal.Refusal.TheVariants.{Memory}
 use Rattle.array_book.specs.declared.fault.WorkFault.TheVariants.{Core}
-use Rattle.array_book.specs.Outcomes.{WasLearned, WasUnlearned}
+use Rattle.array_book.specs.Outcomes.{HasRead, WasUnlearned}
 use Rattle.step_core.specs.Told.{Lesson}
 use Rattle.map_join.specs.declared.records.Record.{Record}
-use Rattle.array_book.specs.Takes.{taker_of, HasAsked, HasRead, IsTold, Learnt}
+use Rattle.array_book.specs.Takes.{taker_of, HasAsked, IsTold, Learnt}
 use Rattle.array_book.proofs.Telling.{told_is}
 use Rattle.array_book.proofs.worker.Worker.read.Goals as goal
 
@@ -23,14 +22,6 @@ returns-in-Ok-clause-some g c reading is =
     subst (λ (l : Lesson). IsTold before c.args.block after l.told) same
     (told_is before between after c.args.block found c.in-Ok.reading.told (search rules) (search rules) (search rules)
     (search rules) (search rules) learned)
-
-pub returns-in-Ok-clause-learned : goal.returns-in-Ok-clause-learned
-returns-in-Ok-clause-learned g c reading is =
-    let found = c.in-Some.found in
-    let same : c.in-Ok.reading ≡ reading = search rules in
-    let of : found.block ≡ c.args.block = search rules in
-    let newest : IsNewest (taker_of c.args.controller c.args.self.now.even c.args.self.now.odd) c.args.block (key_of found) = search rules in
-    (found, of, newest, subst (λ (l : Lesson). WasLearned g.N.Sizes.blocks g.N.Sizes.payload found l) same c.in-Ok.ensures.answered)
 
 pub returns-in-Err-clause-refused : goal.returns-in-Err-clause-refused
 returns-in-Err-clause-refused g c q is =
@@ -55,5 +46,6 @@ returns-in-Ok-clause-read g c reading is =
     let of : found.block ≡ c.args.block = search rules in
     let written : 0 < found.version = search rules in
     let asked : HasAsked before c.args.block (key_of found) between = search rules in
-    let learned = subst (λ (r : Record). Learnt r found between after) told c.learn.ensures.learnt in
-    subst (λ (l : Lesson). HasRead before c.args.block l.told after) same (found, between, of, written, asked, learned)
+    let learnt = subst (λ (r : Record). Learnt r found between after) told c.learn.ensures.learnt in
+    subst (λ (l : Lesson). HasRead g.N.Sizes.blocks g.N.Sizes.payload before c.args.block l after) same
+    (record { found = found; between = between; of = of; written = written; asked = asked; learned = c.in-Ok.ensures.answered; learnt = learnt })
