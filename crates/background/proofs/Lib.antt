@@ -7,4 +7,5 @@ pub mod Words
 pub mod Hinted
 pub mod Counts
 pub mod Standing
+pub mod Stopping
 pub mod Moving

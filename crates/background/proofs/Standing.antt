@@ -41,7 +41,7 @@ use Rattle.step_core.specs.Placing.{Places}
 use Rattle.flat_machine.specs.declared.refusal.Refusal.{Refusal}
 use Rattle.flat_machine.specs.declared.refusal.Refusal.TheVariants.{Memory}
 use Rattle.background.specs.Placing.{Put, Fresh, Again, PlaceCase, place_of, put_step, put_answer}
-use Rattle.background.specs.Steps.{Write, StepNoted, AppendsAt, MovesTo, WritesAt, WritesIn, PutStops, TierStops, DemoteCase, PlugCase, Cleans, CleanCase, WriteCase, CommitNoted, IsFreeMirror, end_after, order_behind}
+use Rattle.background.specs.Steps.{StepNoted, AppendsAt, MovesTo, WritesAt, WritesIn, PutStops, DemoteCase, PlugCase, Cleans, CleanCase, WriteCase, CommitNoted, IsFreeMirror, end_after, order_behind}
 use Rattle.background.specs.Stands.{StandsFor}
 use Rattle.background.specs.Inside.{IsFreeHere}
 use Rattle.background.specs.Marking.{AreMarked, IsNoted, PutsAt, is_mirrors, order_noted, order_put}
@@ -232,12 +232,12 @@ puts_refused t v w s b what k o is some places =
     told F G j ne case = case
 
 puts_stop : (t : Tiers) (v : WorldView) (w s b : ℕ) (what : Put) (k : Refusal) → k ≡ Memory → PlacesTo t.world v w s b what (Err (denied.Refused k))
-    → (T : Tiered) → StandsFor t T → (U : Tiered) × PutStops T w what U × StandsFor (record t { world = v }) U
+    → (T : Tiered) → StandsFor t T → (U : Tiered) × PutStops T w what b s U × StandsFor (record t { world = v }) U
 puts_stop t v w s b what k is places T stands =
     let p = places T.flat stands.world in
     let stops = subst (λ j. Places T.flat w s b what (Err (denied.Refused j)) p.0) is p.1 in (
       record T { flat = p.0 },
-      record { slot = s; block = b; left = p.0; stops = stops; same = refl },
+      record { left = p.0; stops = stops; same = refl },
       stands_alike t v T p.0 stands p.2 (stops_alike T.flat p.0 w s b what stops) (stops_free T.flat p.0 w s b what stops),
     )
 
@@ -250,7 +250,7 @@ refused_puts t v w s b what k (Err e) is places = tt
 
 pub refused_stops : (t : Tiers) (v : WorldView) (w s b : ℕ) (what : Put) (k : Refusal) (result : Result Outcome AllocError)
     → OnErr result (k ≡ Memory) → PlacesTo t.world v w s b what (Err (denied.Refused k))
-    → OnErr result ((T : Tiered) → StandsFor t T → (U : Tiered) × PutStops T w what U × StandsFor (record t { world = v }) U)
+    → OnErr result ((T : Tiered) → StandsFor t T → (U : Tiered) × PutStops T w what b s U × StandsFor (record t { world = v }) U)
 refused_stops t v w s b what k (Ok o) is places = tt
 refused_stops t v w s b what k (Err e) is places = puts_stop t v w s b what k is places
 
@@ -315,10 +315,10 @@ oldest_is t a chosen same oldest T stands =
     subst (λ order. IsOldest order (IsMirrored T.flat.groups keys) chosen) stands.order (subst (λ z. IsOldest t.planner.ages.order (IsMirrored z keys) chosen) (sym groups) is)
 
 -- what is so of the world's groups and the planner's end is so of the state's
-as_state : (P : Groups → End → Type 0) (t : Tiers) (T : Tiered) → StandsFor t T → P t.world.array.parts.groups t.planner.end → P T.flat.groups T.end
+pub as_state : (P : Groups → End → Type 0) (t : Tiers) (T : Tiered) → StandsFor t T → P t.world.array.parts.groups t.planner.end → P T.flat.groups T.end
 as_state P t T stands h = subst (P T.flat.groups) stands.end (subst (λ z. P z t.planner.end) (sym (groups_of t T stands)) h)
 
-append_is : (t : Tiers) (p : Planner) (a : ArrayView) (T : Tiered) (slot : Option ℕ) → a ≡ t.world.array → p ≡ t.planner → StandsFor t T
+pub append_is : (t : Tiers) (p : Planner) (a : ArrayView) (T : Tiered) (slot : Option ℕ) → a ≡ t.world.array → p ≡ t.planner → StandsFor t T
     → IsNextAppend a p (IsFreeHere t.world) slot → IsFirstAppend T.end T.flat.groups (key_at t.world.array) (IsFree T.flat) slot
 append_is t p a T slot array planner stands h =
     let here = subst (λ (x : ArrayView). IsNextAppend x t.planner (IsFreeHere t.world) slot) array
@@ -374,7 +374,7 @@ demotes_nothing t p w planner oldest T stands = (
   subst (λ (q : Planner). StandsFor (record t { planner = q }) T) (sym planner) stands,
 )
 
-plug_is : (t : Tiers) (a : ArrayView) (T : Tiered) (plan : Option Move) → a ≡ t.world.array → StandsFor t T → IsPlugOf a t.planner plan
+pub plug_is : (t : Tiers) (a : ArrayView) (T : Tiered) (plan : Option Move) → a ≡ t.world.array → StandsFor t T → IsPlugOf a t.planner plan
     → IsPlugPlan T.flat.groups (key_at t.world.array) T.end.group plan
 plug_is t a T plan array stands h =
     as_state (λ groups end. IsPlugPlan groups (key_at t.world.array) end.group plan) t T stands (subst (λ (x : ArrayView). IsPlugOf x t.planner plan) array h)
@@ -478,22 +478,6 @@ writes_behind t m v u w b x demoted (Ok o) none down again = λ T stands.
       },
       a.2.2,
     )
-
-pub stops_behind : {E : Type 0} (t m v u : Tiers) (w b : ℕ) (x : Content) (demoted : Outcome) (r : Result Outcome E) → FirstFree t m None
-    → ((T : Tiered) → StandsFor m T → (V : Tiered) × DemoteCase T w demoted V × StandsFor v V)
-    → OnErr r ((T : Tiered) → StandsFor v T → (U : Tiered) × PutStops T w (Fresh x) U × StandsFor u U)
-    → OnErr r ((T : Tiered) → StandsFor t T → (U : Tiered) × TierStops T (Write w b x) U × StandsFor u U)
-stops_behind t m v u w b x demoted (Ok o) none down stopped = tt
-stops_behind t m v u w b x demoted (Err e) none down stopped = λ T stands.
-    let d = down T (none T stands).1 in
-    let s = stopped d.0 d.2 in
-    (s.0, inr (inr (record { demoted = demoted; between = d.0; down = d.1; stops = s.1 })), s.2)
-
-pub stops_here : {E : Type 0} (t m u : Tiers) (w b s : ℕ) (x : Content) (r : Result Outcome E) → FirstFree t m (Some s)
-    → OnErr r ((T : Tiered) → StandsFor m T → (U : Tiered) × PutStops T w (Fresh x) U × StandsFor u U)
-    → OnErr r ((T : Tiered) → StandsFor t T → (U : Tiered) × TierStops T (Write w b x) U × StandsFor u U)
-stops_here t m u w b s x (Ok o) first stopped = tt
-stops_here t m u w b s x (Err e) first stopped = λ T stands. let d = stopped T (first T stands).1 in (d.0, inl d.1, d.2)
 
 -- a new planner has a place for each block, and marks where there are any to be
 pub begins : (v : WorldView) (F : Flat) (p : Planner) (hints : List ℕ) → p.ages.order ≡ by_number v.array.parts.groups.blocks → length p.ages.marks ≡ v.array.parts.groups.blocks

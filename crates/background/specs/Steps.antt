@@ -136,27 +136,66 @@ TierCase T (Demote w) outcome U = DemoteCase T w outcome U
 TierCase T (Plug w) outcome U = PlugCase T w outcome U
 TierCase T (Clean w) outcome U = CleanCase T w outcome U
 
--- an allocation failed on the way into some slot: the slot is released
-pub record PutStops (T : Tiered) (w : ℕ) (what : Put) (U : Tiered) : Type 0 where
-  pub slot : ℕ
-  pub block : ℕ
+-- an allocation failed on the block's way into the slot: the slot is released
+pub record PutStops (T : Tiered) (w : ℕ) (what : Put) (b s : ℕ) (U : Tiered) : Type 0 where
   pub left : Flat
-  pub stops : PlaceStops T.flat w slot block what left
+  pub stops : PlaceStops T.flat w s b what left
   pub same : U ≡ record T { flat = left }
 
--- an allocation of a write failed, after a demotion: the slot is released
-pub record StopsBehind (T : Tiered) (w : ℕ) (x : Content) (U : Tiered) : Type 0 where
+-- an allocation failed on the way of the block that is to be demoted into the first free slot where the log goes on
+pub record DemoteStops (T : Tiered) (w : ℕ) (U : Tiered) : Type 0 where
+  pub keys : ℕ → ℕ
+  pub map_of : IsMapOf T.flat.emitted keys
+  pub block : ℕ
+  pub oldest : IsOldest T.order (IsMirrored T.flat.groups keys) (Some block)
+  pub slot : ℕ
+  pub first : IsFirstAppend T.end T.flat.groups keys (IsFree T.flat) (Some slot)
+  pub stops : PutStops T w Again block slot U
+
+-- an allocation of a write failed after one demotion with any outcome, on the way into the lowest free slot of mirrored groups
+pub record StopsBehind (T : Tiered) (w b : ℕ) (x : Content) (U : Tiered) : Type 0 where
   pub demoted : Outcome
   pub between : Tiered
   pub down : DemoteCase T w demoted between
-  pub stops : PutStops between w (Fresh x) U
+  pub slot : ℕ
+  pub first : IsFirst (IsFreeMirror between.flat) (Some slot)
+  pub stops : PutStops between w (Fresh x) b slot U
 
--- what is left of a step that ran out of memory
+-- it failed on the way into the lowest free slot of mirrored groups; or where there is none, in the demotion or after it
+abbrev pub WritesStop : Tiered → ℕ → ℕ → Content → Option ℕ → Tiered → Type 0
+WritesStop T w b x None U = DemoteStops T w U ⊎ StopsBehind T w b x U
+WritesStop T w b x (Some s) U = PutStops T w (Fresh x) b s U
+
+-- an allocation of a write failed
+pub record WriteStops (T : Tiered) (w b : ℕ) (x : Content) (U : Tiered) : Type 0 where
+  pub slot : Option ℕ
+  pub first : IsFirst (IsFreeMirror T.flat) slot
+  pub stops : WritesStop T w b x slot U
+
+-- an allocation failed while a hole was plugged as planned
+pub record PlugStops (T : Tiered) (w : ℕ) (U : Tiered) : Type 0 where
+  pub keys : ℕ → ℕ
+  pub map_of : IsMapOf T.flat.emitted keys
+  pub move : Move
+  pub planned : IsPlugPlan T.flat.groups keys T.end.group (Some move)
+  pub stops : PutStops T w Again move.block move.to U
+
+-- an allocation failed while a block left a group as planned
+pub record CleanStops (T : Tiered) (w : ℕ) (U : Tiered) : Type 0 where
+  pub keys : ℕ → ℕ
+  pub map_of : IsMapOf T.flat.emitted keys
+  pub append : Option ℕ
+  pub first : IsFirstAppend T.end T.flat.groups keys (λ _. Unit {0}) append
+  pub move : Move
+  pub planned : IsCleanPlan T.flat.groups keys T.end.group append (Some move)
+  pub stops : PutStops T w Again move.block move.to U
+
+-- what is left of a step that ran out of memory: it stops in the put that its case would have made
 abbrev pub TierStops : Tiered → TierStep → Tiered → Type 0
-TierStops T (Write w b x) U = PutStops T w (Fresh x) U ⊎ (PutStops T w Again U ⊎ StopsBehind T w x U)
-TierStops T (Demote w) U = PutStops T w Again U
-TierStops T (Plug w) U = PutStops T w Again U
-TierStops T (Clean w) U = PutStops T w Again U
+TierStops T (Write w b x) U = WriteStops T w b x U
+TierStops T (Demote w) U = DemoteStops T w U
+TierStops T (Plug w) U = PlugStops T w U
+TierStops T (Clean w) U = CleanStops T w U
 
 -- the order of last writes after a commit, by what waited in the slot: a commit of a fresh content is a write
 abbrev pub order_behind : List ℕ → ℕ → FlatAnswer → Option Waiting → List ℕ

@@ -70,7 +70,8 @@ impl Tiers {
         requires { block < self.old.world.array.parts.groups.blocks }
         ensures ok { IfOk result (λ outcome. (T : Tiered) → StandsFor self.old T
             → (U : Tiered) × AppendsAt T worker block slot outcome U × StandsFor self.new U) }
-        ensures err { OnErr result ((T : Tiered) → StandsFor self.old T → (U : Tiered) × PutStops T worker Again U × StandsFor self.new U) }
+        ensures err { OnErr result ((T : Tiered) → StandsFor self.old T
+            → (U : Tiered) × PutStops T worker Again block slot U × StandsFor self.new U) }
         ensures room { SameSizes self.old.world.array self.new.world.array }
     {
         match self.put(alloc, worker, slot, block, None) {

@@ -28,7 +28,7 @@ impl Tiers {
         ensures ok { IfOk result (λ outcome. (T : Tiered) → StandsFor self.old T
             → (U : Tiered) × PutsAt T worker block (put_of given.entry) slot outcome U × StandsFor self.new U) }
         ensures err { OnErr result ((T : Tiered) → StandsFor self.old T
-            → (U : Tiered) × PutStops T worker (put_of given.entry) U × StandsFor self.new U) }
+            → (U : Tiered) × PutStops T worker (put_of given.entry) block slot U × StandsFor self.new U) }
         ensures room { SameSizes self.old.world.array self.new.world.array }
     {
         match self.world.place(alloc, slot, block, given) {

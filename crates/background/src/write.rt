@@ -1,5 +1,5 @@
 //! Blocks that are written into the mirrored level.
-ghost use Rattle.std.specs.Prelude.{◌≡◌, ℕ, ◌<◌, IfOk, OnErr, Option};
+ghost use Rattle.std.specs.Prelude.{◌≡◌, ℕ, ◌<◌, IfOk, OnErr, Option, Some};
 ghost use Rattle.slot_tables.specs.Views.{SameSizes};
 ghost use Rattle.migrator.specs.First.{IsFirst};
 ghost use Rattle.background.specs.Placing.{Fresh, IsGivenFor, content_of};
@@ -53,8 +53,8 @@ impl Tiers {
         requires given { IsGivenFor self.old.world.array.parts.groups.payload given }
         ensures ok { IfOk result (λ outcome. (T : Tiered) → StandsFor self.old T → (slot : Option ℕ) × IsFirst (IsFreeMirror T.flat) slot
             × ((U : Tiered) × WritesIn T worker block (content_of given.entry) slot outcome U × StandsFor self.new U)) }
-        ensures err { OnErr result ((T : Tiered) → StandsFor self.old T
-            → (U : Tiered) × PutStops T worker (Fresh (content_of given.entry)) U × StandsFor self.new U) }
+        ensures err { OnErr result ((T : Tiered) → StandsFor self.old T → (slot : ℕ) × IsFirst (IsFreeMirror T.flat) (Some slot)
+            × ((U : Tiered) × PutStops T worker (Fresh (content_of given.entry)) block slot U × StandsFor self.new U)) }
         ensures room { SameSizes self.old.world.array self.new.world.array }
     {
         match self.free_mirror() {

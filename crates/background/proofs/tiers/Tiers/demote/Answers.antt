@@ -1,11 +1,6 @@
-use Rattle.std.proofs.Common.{subst, Some, None}
-use Rattle.std.specs.Prelude.{OnErr}
-use Rattle.background.specs.Placing.{Again}
-use Rattle.background.specs.Stands.{StandsFor}
-use Rattle.background.specs.Steps.{PutStops}
-use Rattle.background.specs.Tiered.{Tiered}
-use Rattle.background.specs.declared.planner.Planner.{Planner}
+use Rattle.std.proofs.Common.{Some, None}
 use Rattle.background.proofs.Standing.{demotes, demotes_nothing, demotes_nowhere, oldest_is}
+use Rattle.background.proofs.Stopping.{stops_demote}
 use Rattle.background.proofs.tiers.Tiers.demote.Goals as goal
 
 pub returns-in_default-clause-ok : goal.returns-in_default-clause-ok
@@ -32,5 +27,7 @@ returns-clause-ok c =
 pub returns-clause-err : goal.returns-clause-err
 returns-clause-err c =
     let t = c.args.self.now in
-    subst (λ (q : Planner). OnErr c.append.result ((T : Tiered) → StandsFor (record t { planner = q }) T → (U : Tiered) × PutStops T c.args.worker Again U × StandsFor c.append.new.self U))
-    c.oldest_mirrored.ensures.same c.append.ensures.err
+    let array = c.array-array in
+    stops_demote t c.append.new.self c.oldest_mirrored.new.self array.result.now c.args.worker c.in-Some.block c.in-Some-next_append.slot c.append.result
+    array.ensures c.oldest_mirrored.ensures.same (oldest_is t array.result.now (Some c.in-Some.block) array.ensures c.in-Some.ensures.oldest)
+    c.in-Some-next_append.ensures c.append.ensures.err

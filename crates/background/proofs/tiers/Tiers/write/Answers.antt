@@ -1,4 +1,5 @@
-use Rattle.background.proofs.Standing.{writes_here, stops_here, writes_behind, stops_behind}
+use Rattle.background.proofs.Standing.{writes_here, writes_behind}
+use Rattle.background.proofs.Stopping.{stops_here, stops_down, stops_behind}
 use Rattle.background.proofs.tiers.Tiers.write.Goals as goal
 use Rattle.background.specs.Placing.{content_of}
 
@@ -23,3 +24,8 @@ returns-in-Ok-clause-err c =
     let a = c.args in
     stops_behind a.self.now c.free_mirror.new.self c.demote.new.self c.write_behind.new.self a.worker a.block (content_of a.given) c.in-Ok.field-0 c.write_behind.result
     c.in_default.ensures.first c.in-Ok.ensures.ok c.write_behind.ensures.err
+
+pub returns-in-Err-clause-err : goal.returns-in-Err-clause-err
+returns-in-Err-clause-err c =
+    let a = c.args in
+    stops_down a.self.now c.free_mirror.new.self c.demote.new.self a.worker a.block (content_of a.given) c.in_default.ensures.first c.in-Err.ensures.err

@@ -1,4 +1,5 @@
 use Rattle.background.proofs.Standing.{finds_again, finds_none}
+use Rattle.background.proofs.Stopping.{stops_again}
 use Rattle.background.proofs.tiers.Tiers.write_behind.Goals as goal
 use Rattle.background.specs.Placing.{content_of}
 
@@ -6,6 +7,11 @@ pub returns-in-Some-clause-ok : goal.returns-in-Some-clause-ok
 returns-in-Some-clause-ok c =
     let a = c.args in
     finds_again a.self.now c.free_mirror.new.self c.put.new.self a.worker a.block c.in-Some.slot (content_of a.given) c.put.result c.in-Some.ensures.first c.put.ensures.ok
+
+pub returns-in-Some-clause-err : goal.returns-in-Some-clause-err
+returns-in-Some-clause-err c =
+    let a = c.args in
+    stops_again a.self.now c.free_mirror.new.self c.put.new.self a.worker a.block c.in-Some.slot (content_of a.given) c.put.result c.in-Some.ensures.first c.put.ensures.err
 
 pub returns-in-None-clause-ok : goal.returns-in-None-clause-ok
 returns-in-None-clause-ok c =
