@@ -89,7 +89,7 @@ fn join(values: u8x16) -> u8x8
     (highs << u8x8::splat(4)) + lows
 }
 
-// The same of two vectors. Nothing is said of what aren't half bytes.
+// Each pair of half bytes of two vectors as a byte. Nothing is said of values that aren't half bytes.
 #[inline(always)]
 fn join_both(first: u8x16, second: u8x16) -> u8x16
     ensures { Each1 (λ value. value < 16) first → Each1 (λ value. value < 16) second → result ≡ joined (first ++ second) }

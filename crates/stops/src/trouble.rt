@@ -48,7 +48,7 @@ impl Trouble {
         }
     }
 
-    /// The same trouble, with the file and the line where a text isn't of the form.
+    /// The trouble with a file and one of its lines, counted from 1: where the text isn't of the form, it names both.
     pub(crate) fn located(self, alloc: Global, file: &str, line: usize) -> Trouble {
         match self {
             Trouble::Form => match String::from_str(alloc, file) {
