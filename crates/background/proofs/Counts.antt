@@ -7,7 +7,7 @@ use Rattle.migrator.specs.Counts.{AreZeroIfIdle}
 use Rattle.std.proofs.lemmas.List.{length_push}
 use Rattle.map_join.specs.Lists.{ListsBelow, IsCount}
 use Rattle.map_join.specs.Live.{IsLive, IsLiveIn, IsLiveCount}
-use Rattle.map_join.proofs.Rising.{below_none, below_more, below_skip, below_all, count_zero, count_none}
+use Rattle.map_join.proofs.Rising.{below_more, below_skip, below_all, count_zero, count_none}
 
 -- exactly `count` of a group's slots below an index are live
 abbrev pub IsCounted : (ℕ → ℕ) → ℕ → ℕ → ℕ → ℕ → Type 0

@@ -1,6 +1,5 @@
 -- What a read of an array's parts leaves, in the words of the array.
 use Rattle.std.proofs.Common.{◌≡◌, ℕ, Bool, List, Result, IfErr, None, refl, sym, subst}
-use Rattle.std.specs.Global.{Global}
 use Rattle.std.proofs.lemmas.Result.{IfErr-weaker}
 use Rattle.extents.specs.Failures.{Failures}
 use Rattle.extent_groups.specs.Cells.{Cells}
