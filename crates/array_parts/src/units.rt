@@ -29,24 +29,24 @@ pub trait Units {
     /// What reads leave of it: all but which drives are lost.
     ghost leaves: { Self → Self → Type 0 };
 
-    /// How long the scratch buffer of a read is at least, in bytes: two units, or 0 where the source has buffers of its own.
+    /// How long the scratch buffer of `headers` is at least, in bytes: two units, or 0 where the source has buffers of its own.
     ghost scratch_length: { Groups → ℕ };
 
     /// The groups of the slots.
     fn groups(&self) -> &GroupTable
         ensures { result.now ≡ groups self.now };
 
-    /// How long the scratch buffer of a read is at least, in bytes.
+    /// How long the scratch buffer of `headers` is at least, in bytes.
     fn scratch_length(&self) -> usize
         ensures { result ≡ scratch_length (groups self.now) };
 
-    /// Reads a slot's effective unit. Refused with `Gone` where too many drives of its group are lost; only which drives are lost
-    /// may change.
+    /// Reads a slot's effective unit, with a buffer of two units' length. Refused with `Gone` where too many drives of its group
+    /// are lost; only which drives are lost may change.
     fn unit(&mut self, slot: u16, unit: &mut [u8], scratch: &mut [u8]) -> Result<(), Refusal>
         requires fits { fits self.old }
         requires slot { IsSlot (groups self.old) slot }
         requires unit { length unit.old ≡ unit_bytes (groups self.old) }
-        requires scratch { scratch_length (groups self.old) ≤ length scratch.old }
+        requires scratch { length scratch.old ≡ 2 * unit_bytes (groups self.old) }
         ensures ok { OnOk result (unit_of (groups self.new) (cells self.new) slot ≡ Some unit.new) }
         ensures gone { IfErr result (λ e. (e ≡ Gone slot) × (unit_of (groups self.new) (cells self.new) slot ≡ None)) }
         ensures units { AreSound (groups self.old) (cells self.old) → KeepsUnits (groups self.old) (cells self.old) (cells self.new) }
@@ -55,12 +55,12 @@ pub trait Units {
         ensures fits { fits self.new }
         ensures leaves { leaves self.old self.new };
 
-    /// Reads the header of a slot's effective unit alone; refused where that unit's read is.
+    /// Reads the header of a slot's effective unit alone, with a buffer of two units' length; refused where that unit's read is.
     fn header(&mut self, slot: u16, header: &mut [u8], scratch: &mut [u8]) -> Result<(), Refusal>
         requires fits { fits self.old }
         requires slot { IsSlot (groups self.old) slot }
         requires header { length header.old ≡ HEADER_BYTES }
-        requires scratch { scratch_length (groups self.old) ≤ length scratch.old }
+        requires scratch { length scratch.old ≡ 2 * unit_bytes (groups self.old) }
         ensures ok { OnOk result (header_of (groups self.new) (cells self.new) slot ≡ Some header.new) }
         ensures gone { IfErr result (λ e. (e ≡ Gone slot) × (unit_of (groups self.new) (cells self.new) slot ≡ None)) }
         ensures units { AreSound (groups self.old) (cells self.old) → KeepsUnits (groups self.old) (cells self.old) (cells self.new) }
@@ -69,9 +69,10 @@ pub trait Units {
         ensures fits { fits self.new }
         ensures leaves { leaves self.old self.new };
 
-    /// Reads the headers of a group's slots, that of index i into `headers[i]`. Takes a group's number, 0 to 511, and as many
-    /// buffers as it has slots, none where the number is free. Returns the index of the first slot whose unit can't be had, or the
-    /// count of slots. The headers below are those of before the call, if all slots were sound; nothing is said of the others.
+    /// Reads the headers of a group's slots, that of index i into `headers[i]`, with a buffer of at least `scratch_length` bytes.
+    /// Takes a group's number, 0 to 511, and as many buffers for headers as it has slots, none where the number is free. Returns
+    /// the index of the first slot whose unit can't be had, or the count of slots. The headers below are those of before the call,
+    /// if all slots were sound; nothing is said of the others.
     fn headers(&mut self, group: u16, headers: &mut [[u8; HEADER_BYTES]], scratch: &mut [u8]) -> u16
         requires fits { fits self.old }
         requires group { group < 512 }
@@ -113,13 +114,11 @@ impl<D: Drive> Units for Parts<D> {
     }
 
     fn unit(&mut self, slot: u16, unit: &mut [u8], scratch: &mut [u8]) -> Result<(), Refusal> {
-        let length = self.scratch_length();
-        self.read(slot, unit, &mut scratch[..length])
+        self.read(slot, unit, scratch)
     }
 
     fn header(&mut self, slot: u16, header: &mut [u8], scratch: &mut [u8]) -> Result<(), Refusal> {
-        let length = self.scratch_length();
-        self.read_header(slot, header, &mut scratch[..length])
+        self.read_header(slot, header, scratch)
     }
 
     fn headers(

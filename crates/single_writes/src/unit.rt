@@ -56,8 +56,12 @@ pub(crate) fn read_unit<D: Drive, C: Hold>(
     ensures err { IfErr result (λ e. ((e ≡ refusal.Memory) × (array.new ≡ array.old)) ⊎ FoundGone array.old.parts array.new.parts slot e) }
     ensures loses { OnlyLoses array.old array.new }
 {
+    let bytes = array.shape().unit_bytes();
     let mut unit = blank_unit(alloc, array)?;
-    let read = array.unit(slot, &mut unit, &mut []);
+    let Ok(mut scratch) = vec![in alloc; 0; 2 * bytes] else {
+        return Err(Refusal::Memory);
+    };
+    let read = array.unit(slot, &mut unit, &mut scratch);
     // For the proof alone: nothing is done.
     array.whole();
     match read {
