@@ -1,4 +1,4 @@
--- What a step leaves that runs out of memory: the put that stops it is the one that the step would have made.
+-- What a step leaves that runs out of memory: it stopped in the put that it would have made.
 use Rattle.std.proofs.Common.{◌≡◌, ℕ, inl, inr, sym, subst, Some, None, Result, Ok, Err}
 use Rattle.std.specs.Prelude.{OnErr}
 use Rattle.flat_machine.specs.Flat.{Content}

@@ -136,13 +136,13 @@ TierCase T (Demote w) outcome U = DemoteCase T w outcome U
 TierCase T (Plug w) outcome U = PlugCase T w outcome U
 TierCase T (Clean w) outcome U = CleanCase T w outcome U
 
--- an allocation failed on the block's way into the slot: the slot is released
+-- an allocation failed after the block was put into the slot: the slot is released
 pub record PutStops (T : Tiered) (w : ℕ) (what : Put) (b s : ℕ) (U : Tiered) : Type 0 where
   pub left : Flat
   pub stops : PlaceStops T.flat w s b what left
   pub same : U ≡ record T { flat = left }
 
--- an allocation failed on the way of the block that is to be demoted into the first free slot where the log goes on
+-- an allocation failed after the block to demote was put into the first free slot where the log goes on
 pub record DemoteStops (T : Tiered) (w : ℕ) (U : Tiered) : Type 0 where
   pub keys : ℕ → ℕ
   pub map_of : IsMapOf T.flat.emitted keys
@@ -152,7 +152,7 @@ pub record DemoteStops (T : Tiered) (w : ℕ) (U : Tiered) : Type 0 where
   pub first : IsFirstAppend T.end T.flat.groups keys (IsFree T.flat) (Some slot)
   pub stops : PutStops T w Again block slot U
 
--- an allocation of a write failed after one demotion with any outcome, on the way into the lowest free slot of mirrored groups
+-- after one demotion with any outcome a content was put into the lowest free slot of mirrored groups, and an allocation failed
 pub record StopsBehind (T : Tiered) (w b : ℕ) (x : Content) (U : Tiered) : Type 0 where
   pub demoted : Outcome
   pub between : Tiered
@@ -161,7 +161,7 @@ pub record StopsBehind (T : Tiered) (w b : ℕ) (x : Content) (U : Tiered) : Typ
   pub first : IsFirst (IsFreeMirror between.flat) (Some slot)
   pub stops : PutStops between w (Fresh x) b slot U
 
--- it failed on the way into the lowest free slot of mirrored groups; or where there is none, in the demotion or after it
+-- it failed after the content was put into the lowest free slot of mirrored groups; or where there is none, in the demotion or after it
 abbrev pub WritesStop : Tiered → ℕ → ℕ → Content → Option ℕ → Tiered → Type 0
 WritesStop T w b x None U = DemoteStops T w U ⊎ StopsBehind T w b x U
 WritesStop T w b x (Some s) U = PutStops T w (Fresh x) b s U
@@ -172,7 +172,7 @@ pub record WriteStops (T : Tiered) (w b : ℕ) (x : Content) (U : Tiered) : Type
   pub first : IsFirst (IsFreeMirror T.flat) slot
   pub stops : WritesStop T w b x slot U
 
--- an allocation failed while a hole was plugged as planned
+-- an allocation failed after a block was put into a hole as planned
 pub record PlugStops (T : Tiered) (w : ℕ) (U : Tiered) : Type 0 where
   pub keys : ℕ → ℕ
   pub map_of : IsMapOf T.flat.emitted keys
@@ -180,7 +180,7 @@ pub record PlugStops (T : Tiered) (w : ℕ) (U : Tiered) : Type 0 where
   pub planned : IsPlugPlan T.flat.groups keys T.end.group (Some move)
   pub stops : PutStops T w Again move.block move.to U
 
--- an allocation failed while a block left a group as planned
+-- an allocation failed after a block that leaves a group was put where the log goes on, as planned
 pub record CleanStops (T : Tiered) (w : ℕ) (U : Tiered) : Type 0 where
   pub keys : ℕ → ℕ
   pub map_of : IsMapOf T.flat.emitted keys

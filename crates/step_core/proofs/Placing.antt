@@ -1,6 +1,6 @@
 -- A block is put into a free slot: what each of the array's calls leaves of the world. The hands in between are those of a worker
 -- that does the steps one by one; before the first and after the last nobody has the slots in hand.
-use Rattle.std.proofs.Common.{◌≡◌, ℕ, ◌<◌, Bool, true, List, ◌∷◌, length, refl, sym, ap, ◌∙◌, subst, arith, inl, inr, Option, Some, None, Result, Ok, Err, MatchResult, IfOk, IfErr}
+use Rattle.std.proofs.Common.{◌≡◌, ◌≢◌, ℕ, ◌<◌, Bool, true, List, ◌∷◌, length, refl, sym, ap, ◌∙◌, subst, arith, inl, inr, Option, Some, None, Result, Ok, Err, MatchResult, IfOk, IfErr}
 use Rattle.std.proofs.Math.ListN.{set}
 use Rattle.std.proofs.lemmas.List.{length-set, get_or-set_same, get_or-set_other, set-get_or}
 use Rattle.map_join.specs.declared.records.Record.{Record}
@@ -251,9 +251,9 @@ places v F a e what w s b r ready block rep puts commits = (
     g = back found refl c.2
 
 -- a fill or a copy that was refused: the claim goes back
-pub refused_first : (v : WorldView) (F : Flat) (a : ArrayView) (what : Put) (w s b : ℕ) (r : Refusal) → IsOpen v what s b → Represents v F → Denies v.array a what s b r → (r ≡ Memory → a ≡ v.array)
+pub refused_first : (v : WorldView) (F : Flat) (a : ArrayView) (what : Put) (w s b : ℕ) (r : Refusal) → IsOpen v what s b → Represents v F → Denies v.array a what s b r → r ≢ Memory
     → (G : Flat) × (Places F w s b what (Err (denied.Refused r)) G) × (Represents (record { array = a; hands = v.hands }) G)
-refused_first v F a what w s b r ready rep denies same = go r (denies c.state w c.stands.array c.held) same
+refused_first v F a what w s b r ready rep denies some = go r (denies c.state w c.stands.array c.held) some
   where
     c : IsClaimed v F what w s b
     c = claimed v F what w s b ready rep
@@ -267,12 +267,10 @@ refused_first v F a what w s b r ready rep denies same = go r (denies c.state w 
     back : (H : Flat) → Represents (record { array = a; hands = hands }) H → (G : Flat) × (ReleaseCase H w s (Released s) G) × (Represents (record { array = a; hands = v.hands }) G)
     back H stands = goes_back H w s a hands v.hands (many v.hands s (Holds w) ready.long) ready.small c.hand gone stands
 
-    go : (k : Refusal) → MayRefuse k (Unit {0}) ((G : Flat) × (Case c.state (put_step what w s b) (Refused k) G) × (ShowsArray a G)) → (k ≡ Memory → a ≡ v.array)
+    go : (k : Refusal) → MayRefuse k (Unit {0}) ((G : Flat) × (Case c.state (put_step what w s b) (Refused k) G) × (ShowsArray a G)) → k ≢ Memory
         → (G : Flat) × (Places F w s b what (Err (denied.Refused k)) G) × (Represents (record { array = a; hands = v.hands }) G)
-    go Memory may was =
-        let y = back c.state (subst (λ (z : ArrayView). Represents (record { array = z; hands = hands }) c.state) (sym (was refl)) c.stands) in
-        (y.0, inl (c.state, c.claim, (y.0, y.1, refl)), y.2)
-    go k may was =
+    go Memory may ne = absurd (ne refl)
+    go k may ne =
         let d = refused_world (record { array = v.array; hands = hands }) c.state (put_step what w s b) k a c.fits c.stands may in
         let y = back d.0 d.2 in
         (y.0, inl (c.state, c.claim, (d.0, d.1, (y.0, y.1, refl))), y.2)
@@ -314,7 +312,7 @@ refused_last v F a e k what w s b r W ready block rep puts denies same ends = go
         → (G : Flat) × (Places F w s b what (Err (denied.Refused k_is)) G) × (Represents (record { array = k; hands = v.hands }) G)
     go Memory may was =
         let y = back x.state (subst (λ (z : ArrayView). Represents (record { array = z; hands = hands }) x.state) (sym (was refl)) x.stands) in
-        (y.2.0, inr (x.before.state, x.before.claim, (x.state, x.put, (y.0, y.1, (y.2.0, y.2.1, refl)))), y.2.2)
+        (y.2.0, (x.before.state, x.before.claim, (x.state, x.put, (y.0, y.1, (y.2.0, y.2.1, refl)))), y.2.2)
     go k_is may was =
         let d = refused_world (record { array = a; hands = hands }) x.state (Commit w s b) k_is e there x.stands may in
         let y = back d.0 d.2 in

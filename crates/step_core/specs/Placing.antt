@@ -74,11 +74,10 @@ IsRefusedLate F w s b what k G =
     Runs F (step.Claim w s ∷ put_step what w s b ∷ step.Commit w s b ∷ step.Discard w s ∷ step.Release w s ∷ [])
     (Claimed s ∷ put_answer what s ∷ step.Refused k ∷ Discarded s ∷ Released s ∷ []) G
 
--- an allocation failed on the way: the slot is released
+-- an allocation of the commit failed: the slot has what was put into it, and is released. No fill and no copy is out of memory
 abbrev pub PlaceStops : Flat → ℕ → ℕ → ℕ → Put → Flat → Type 0
 PlaceStops F w s b what G =
-    Runs F (step.Claim w s ∷ step.Release w s ∷ []) (Claimed s ∷ Released s ∷ []) G
-    ⊎ Runs F (step.Claim w s ∷ put_step what w s b ∷ step.Discard w s ∷ step.Release w s ∷ [])
+    Runs F (step.Claim w s ∷ put_step what w s b ∷ step.Discard w s ∷ step.Release w s ∷ [])
     (Claimed s ∷ put_answer what s ∷ Discarded s ∷ Released s ∷ []) G
 
 -- the slot of a record, if there is one

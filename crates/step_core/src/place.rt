@@ -1,5 +1,5 @@
 // A block goes into a slot that nobody holds.
-ghost use Rattle.std.specs.Prelude.{◌≡◌, ℕ, ◌<◌, IfOk, IfErr, MatchResult, Option, true};
+ghost use Rattle.std.specs.Prelude.{◌≡◌, ◌≢◌, ℕ, ◌<◌, IfOk, IfErr, MatchResult, Option, true};
 ghost use Rattle.map_join.specs.declared.records.Record.{Record};
 ghost use Rattle.flat_machine.specs.Cases.{Case, DiscardCase};
 ghost use Rattle.flat_machine.specs.Flat.{Flat, Ticket as ticket_of, Worker};
@@ -7,7 +7,6 @@ ghost use Rattle.flat_machine.specs.Steps as say;
 ghost use Rattle.slot_tables.specs.Changes.{IsPlaceOf, MayRefuse};
 ghost use Rattle.slot_tables.specs.Represents.{Represents, ShowsArray};
 ghost use Rattle.slot_tables.specs.Views.{SameSizes};
-ghost use Rattle.disk_array.specs.Refused.{IsRefused};
 ghost use Rattle.step_core.specs.Placing.{IsSizedFor, Places, place_of, put_answer, put_of, put_step};
 
 use crate::world::World;
@@ -88,7 +87,7 @@ fn put_in(
     requires block { block < array.old.parts.groups.blocks }
     requires given { IsSizedFor array.old.parts.groups.payload given }
     ensures ticket { IfOk result (λ ticket. ticket ≡ slot) }
-    ensures err { IfErr result (λ refusal. IsRefused array.old array.new refusal) }
+    ensures memory { IfErr result (λ refusal. refusal ≢ Refusal.Memory) }
     ensures flat { (F : Flat) (w : ℕ) → ShowsArray array.old F → F.held slot (Worker w) ≡ true
         → MatchResult result
         (λ ticket. (G : Flat) × Case F (put_step (put_of given.entry) w slot block) (put_answer (put_of given.entry) slot) G × ShowsArray array.new G)

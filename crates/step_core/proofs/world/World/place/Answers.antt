@@ -25,7 +25,7 @@ returns-in-Err-clause-flat c F w rep =
     let b = c.args.block in
     let ready = opened u c.args.self.now c.args.given s b c.self.view_is (search rules) (search rules) (search rules) c.requires.block c.requires.given in
     refused_first u F c.put_in.new.array (put_of c.args.given) w s b c.in-Err.refusal ready (subst (λ (x : WorldView). Represents x F) (sym c.self.view_is) rep)
-    (λ H x shows held. c.in-Err.ensures.flat H x shows held) (refused_same u.array c.put_in.new.array c.in-Err.refusal c.in-Err.ensures.err)
+    (λ H x shows held. c.in-Err.ensures.flat H x shows held) c.in-Err.ensures.memory
 
 pub returns-in-Ok-commit-clause-flat : goal.returns-in-Ok-commit-clause-flat
 returns-in-Ok-commit-clause-flat c F w rep =
