@@ -38,4 +38,4 @@ told_is before between after block found told of same above newest has learnt = 
   where
     go : Learnt told found between after → Knows after told
     go (inl is) = subst (λ (v : View). Knows v told) (sym is.1) (subst (Knows between) (sym is.0) (found_known before between found block of has))
-    go (inr took) = took_known between after told took
+    go (inr took) = took_known between after told took.1

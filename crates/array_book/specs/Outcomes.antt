@@ -1,4 +1,4 @@
--- What the steps of a worker's call came to. Each was made under the lock, in some state that the lock's value had.
+-- What the steps of a worker's call came to. Each was made under the lock; of the state then only the lock's invariant is known.
 use Rattle.std.specs.Prelude.{◌≡◌, ◌⊎◌, ℕ, ◌<◌, List, Option, Some, None, MatchOption}
 use Rattle.map_join.specs.declared.records.Record.{Record}
 use Rattle.map_join.specs.Record.{key_of}

@@ -1,5 +1,5 @@
 -- Which of a worker's two Takers a call is about, and what it has taken and found.
-use Rattle.std.specs.Prelude.{◌≡◌, ◌⊎◌, ℕ, ◌%◌, ◌==◌, if◌then◌else◌, Contains}
+use Rattle.std.specs.Prelude.{◌≡◌, ◌≢◌, ◌⊎◌, ℕ, ◌%◌, ◌==◌, if◌then◌else◌, Contains}
 use Rattle.map_join.specs.declared.records.Record.{Record}
 use Rattle.map_join.specs.Record.{key_of}
 use Rattle.map_words.specs.declared.view.Found.{Found}
@@ -53,6 +53,6 @@ IsTold before block after r = (r.block ≡ block) × Knows after r × IsNewest b
 abbrev pub HasAsked : View → ℕ → ℕ → View → Type 0
 HasAsked before block key after = IsNewest before block key × HasFound before block key after
 
--- the returned record is the one that was found, and nothing was taken; or it was taken
+-- the returned record is the one that was found, and nothing was taken; or it is another, and was taken
 abbrev pub Learnt : Record → Record → View → View → Type 0
-Learnt told found before after = ((told ≡ found) × (after ≡ before)) ⊎ Took told before after
+Learnt told found before after = ((told ≡ found) × (after ≡ before)) ⊎ ((told ≢ found) × Took told before after)
