@@ -1,8 +1,8 @@
 #!/usr/bin/env python3
-"""Runs each benchmark, and prints one table of the ratios that they tell.
+"""Runs each benchmark, and prints one table of their ratios.
 
-Usage: bench/all.py [NAME..]: those of these names, or all of them. A ratio of speeds above 1 says that the proved program is the faster
-one; a ratio of memory above 1, that it takes more; a growth is the dearest round by the cheapest one; bytes are
+Usage: bench/all.py [NAME..]. Without names it runs all of them. A ratio of speeds above 1 means that the proved program is
+faster, and a ratio of memory above 1 that it takes more. A growth is the costliest round by the cheapest one. Bytes are
 those of the units that were read.
 """
 
@@ -20,7 +20,7 @@ def cells(line):
 
 
 def rows(name):
-    """Each row of the benchmark's table: what it is of, and what is told of it."""
+    """Each row of the benchmark's table: what it measures, and its ratios."""
     head = None
     with subprocess.Popen([sys.executable, HERE / name / "run.py"], stdout=subprocess.PIPE, text=True) as child:
         for line in child.stdout:

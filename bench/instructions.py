@@ -3,10 +3,14 @@
 
 Usage: bench/instructions.py [--csv] PROGRAM [OTHER [SCRIPT..]]
 
-Lines: 20,000 lines that claim, fill, commit, release and read, with payloads of 8, 64 and 1,024 bytes; each SCRIPT; `storm 8 1000`; a scan and a
-restart of 10,240 slots, by header; and steps by a plan with few and with many blocks and groups, also where they find nothing to do. A ratio is the other's by ours, so that above 1
-ours takes fewer. Answers have to be the same, byte for byte. --csv appends the rows to bench/instructions.csv. Other jobs of the machine don't change
-counts. It takes about five minutes.
+Rows of the table:
+- 20,000 lines that claim, fill, commit, release and read, with payloads of 8, 64 and 1,024 bytes
+- each SCRIPT, and `storm 8 1000`
+- a scan and a restart of 10,240 slots, by header
+- steps by a plan with few and with many blocks and groups, also where they find nothing to do
+
+A ratio is the other's count by ours: above 1 ours takes fewer instructions. The answers must be the same, byte for byte.
+--csv appends the rows to bench/instructions.csv. Other jobs of the machine don't change counts. It takes about five minutes.
 """
 
 import csv

@@ -1,5 +1,5 @@
-"""What the benchmarks share: a scratch repository with the crates that are measured and a program over them, the script program proved and
-in plain Rust, and clocks."""
+"""What the benchmarks share: a scratch repository with the crates that are measured and a program over them, the script
+program proved and in plain Rust, and clocks."""
 
 import os
 import pathlib
@@ -14,13 +14,13 @@ TOP = pathlib.Path(__file__).resolve().parent.parent
 
 
 def lines_of_crates():
-    """The lines of crates.txt, by the crate that each is of."""
+    """The lines of crates.txt, by crate."""
     lines = [line for line in (TOP / "crates.txt").read_text().splitlines() if line and not line.startswith("#")]
     return {line.split(":")[0].split(" ")[0]: line for line in lines}
 
 
 def lay_out(folder, crates):
-    """Copies the crates into a repository of their own, without their must-fail edits."""
+    """Copies the crates into a scratch repository, without their must-fail edits."""
     for name in crates:
         passed_over = shutil.ignore_patterns("out", "must-fail")
         shutil.copytree(TOP / "crates" / name, folder / "crates" / name, ignore=passed_over, dirs_exist_ok=True)
@@ -31,7 +31,7 @@ def lay_out(folder, crates):
 
 def add_program(folder, here, program, stands_on):
     """Copies a program over crates that are laid out."""
-    # Its files end in .txt here, since the gate wants every file of code to be of a crate that it proves.
+    # Its files end in .txt here, since the gate requires that every file of code is of a crate that it proves.
     for file in (here / program).rglob("*.txt"):
         to = folder / "crates" / program / file.relative_to(here / program).with_suffix("")
         to.parent.mkdir(parents=True, exist_ok=True)
@@ -41,7 +41,7 @@ def add_program(folder, here, program, stands_on):
 
 
 def prove(folder, program):
-    """The program, proved and built. What the gate passed with the same files on this machine the kit has kept, and it isn't proved again."""
+    """The program, proved and built. The kit doesn't prove again what passed on this machine with the same files."""
     told = folder / "told"
     with open(told, "w") as target:
         done = subprocess.run(["rt", "ci"], cwd=folder, stdin=subprocess.DEVNULL, stdout=target, stderr=subprocess.STDOUT)
@@ -61,15 +61,15 @@ def build(folder, here, program, stands_on, crates):
 
 
 def seconds(program, line):
-    """How long a run takes, and what it says."""
+    """How long a run takes, and what it prints."""
     start = time.perf_counter()
     said = subprocess.run([program], input=line + "\n", capture_output=True, text=True, check=True).stdout
     return time.perf_counter() - start, said
 
 
 def compare(here, program, crates, works, rounds, stands_on=None):
-    """Builds a program and the one in plain Rust, runs both on each line of work in turn, and prints a table of their times. What the
-    program stands on is all the crates, where nothing else is said."""
+    """Builds a program and the one in plain Rust, runs both on each line of work in turn, and prints a table of their times.
+    Without `stands_on` the program depends on all the crates."""
     folder = pathlib.Path(sys.argv[1] if len(sys.argv) > 1 else tempfile.mkdtemp(prefix=f"{program}_"))
     proved, plain = build(folder, here, program, stands_on or " ".join(crates), crates)
     print(f"{time.strftime('%Y-%m-%d')}, {os.cpu_count()} processors, {rounds} runs each, in turn")
@@ -118,8 +118,8 @@ def processor_seconds(program, script, answers):
 
 
 def a_round(programs, made, rounds, times, folder, of):
-    """Microseconds a round by each program: the difference of a script of three times the rounds and one of so many, the best of each. The
-    programs have to give the same answers."""
+    """Microseconds a round by each program: the difference of a script of `rounds` rounds and one of three times as many, each
+    by its best run. The programs must give the same answers."""
     best = {program: {} for program in programs}
     script, answers = folder / "script", folder / "answers"
     for many in (rounds, 3 * rounds):

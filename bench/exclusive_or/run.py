@@ -1,5 +1,6 @@
 #!/usr/bin/env python3
-"""Builds the proved program, the plain one and, where libisal-dev is there, one over ISA-L in a scratch folder, times them, and prints the ratios of their speeds.
+"""Builds the proved program, the plain one and, where libisal-dev is installed, one over ISA-L in a scratch folder, times them,
+and prints the ratios of their speeds.
 
 Usage: bench/exclusive_or/run.py [FOLDER]. A ratio above 1 says that the proved program is the faster one.
 """

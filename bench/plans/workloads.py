@@ -1,4 +1,4 @@
-"""Scripts of one kind of step by a plan each, made by a fixed rule: what comes first, and so many rounds of the same."""
+"""Scripts made by a fixed rule, each for one kind of step by a plan: a preparation, and then equal rounds."""
 
 import random
 
@@ -7,7 +7,7 @@ UPPER, LOWER = 64, 112  # slots of a mirrored and of a parity group of eight mem
 
 
 def groups(blocks, mirrored, parity):
-    """An array with so many groups of each class, those in mirrored groups first."""
+    """An array with these numbers of mirrored and of parity groups, the mirrored ones first."""
     lines = [f"array {DRIVES} 512 {SEGMENTS} 8 {blocks}"]
     for group in range(mirrored + parity):
         extent, half = divmod(group, 2)
@@ -31,7 +31,7 @@ def laid(chance, block, slot):
 
 
 def write(blocks, count, rounds):
-    """Writes of blocks at random, with two slots of mirrored groups free where there are as many blocks."""
+    """Writes of blocks at random. Two slots of mirrored groups are free, or more where there are too few blocks."""
     chance = random.Random(1)
     lines = groups(blocks, count // 2, count // 2)
     live = chance.sample(range(blocks), min(blocks, UPPER * (count // 2) - 2))
@@ -40,7 +40,7 @@ def write(blocks, count, rounds):
 
 
 def demote(blocks, count, rounds):
-    """The oldest block goes down, and is written again."""
+    """The block written longest ago is demoted, and written again."""
     chance = random.Random(2)
     lines = groups(blocks, count // 2, count // 2)
     live = chance.sample(range(blocks), min(blocks, UPPER * (count // 2) - 2))
@@ -72,7 +72,7 @@ def plug(blocks, count, rounds):
 
 
 def clean(blocks, count, rounds):
-    """A block leaves the one group with a hole for where the log goes on, and goes back by four plain steps."""
+    """A block moves from the one group with a hole to the log's end, and back by four plain steps."""
     chance = random.Random(4)
     parity = count - count // 4
     first = count - parity

@@ -24,7 +24,7 @@ SEGMENTS, UPPER, LOWER = 8, 32, 48
 
 
 def lines(payload, groups, kind, count):
-    """All mirrored slots but four are written, and then every other block goes down, as far as there is room."""
+    """All mirrored slots but four are written, and then half of the blocks are demoted, as far as there is room."""
     chance = random.Random(4)
     blocks = UPPER * (groups // 2) - 4
     text = [f"array 8 512 {SEGMENTS} {payload} {blocks}"]

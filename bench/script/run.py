@@ -20,7 +20,7 @@ ROUNDS = 15
 
 
 def peak(program, script, told):
-    """Peak memory of one run in KB, as GNU time tells it. A child of this process would be told with this one's memory, while that is greater."""
+    """Peak memory of one run in KB, by GNU time. A direct child would report this process's memory where that is greater."""
     with open(script) as source:
         subprocess.run(["/usr/bin/time", "-f", "%M", "-o", told, *program], stdin=source, stdout=subprocess.DEVNULL, check=True)
     return int(told.read_text())

@@ -17,7 +17,7 @@ def mirrored(groups, drives, segments):
 
 
 def parity(first, groups, drives, segments, loads):
-    """Groups of four members behind those that are made, and the slots they have."""
+    """Groups of four members after those that are made, and the slots they have."""
     lines, slots = [], []
     for group in range(first, first + groups):
         members = [(4 * group + k) % drives for k in range(4)]

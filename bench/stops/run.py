@@ -21,7 +21,7 @@ WORKS = ["begun", "copies", "commits", "plans", "runs"]
 
 
 def crates_below(name):
-    """The crate and all of the repository's that it stands on, in the order of crates.txt."""
+    """The crate and all of the repository's crates that it depends on, in the order of crates.txt."""
     lines = lines_of_crates()
     wanted, left = set(), [name]
     while left:

@@ -1,4 +1,5 @@
--- What the steps of a worker's call came to. Each was made under the lock; of the state then only the lock's invariant is known.
+-- The outcomes of the steps of a worker's call. Each was made under the lock; of the state then only the lock's invariant is
+-- known.
 use Rattle.std.specs.Prelude.{◌≡◌, ◌⊎◌, ℕ, ◌<◌, List, Option, Some, None, MatchOption}
 use Rattle.map_join.specs.declared.records.Record.{Record}
 use Rattle.map_join.specs.Record.{key_of}
@@ -77,7 +78,7 @@ pub record WasPut (blocks payload : ℕ) (plan : Plan) (slot : ℕ) : Type 0 whe
   pub tried : IsTried blocks payload plan slot
   pub copied : WasCopied blocks payload slot plan.block
 
--- what a migration came to
+-- the outcome of a migration
 abbrev pub WentSo : ℕ → ℕ → List ℕ → ℕ → Migration → Type 0
 WentSo blocks payload mirrors low Idle = WasPlanned blocks payload mirrors low None
 WentSo blocks payload mirrors low NoRoom = (plan : Plan) × WasPlanned blocks payload mirrors low (Some plan) × HadNoRoom blocks payload plan

@@ -1,4 +1,4 @@
--- What the Passes of all that ended come to.
+-- The Passes of all workers that ended, joined into one.
 use Rattle.std.specs.Prelude.{List, [], ◌∷◌, Option, Some, None}
 use Rattle.slot_words.specs.declared.view.View.{View}
 use Rattle.slot_words.specs.Steps.{both_pairs}

@@ -15,7 +15,7 @@ turn_of (Some group) slot = if group == (slot / 128) then slot % 128 else 128 + 
 abbrev pub WantsDemotion : KeptView → List ℕ → ℕ → Type 0
 WantsDemotion k mirrors low = length mirrors < count_by (λ slot. is_kept (kept_at k.array slot)) mirrors + low
 
--- that block goes to where the log goes on
+-- the plan moves the block in a mirrored group that was written longest ago to where the log goes on
 pub record IsDemotion (k : KeptView) (plan : Plan) : Type 0 where
   pub oldest : IsOldestMirrored k.array k.planner (Some plan.block)
   pub slot : IsNextAppend k.array k.planner (λ slot. Unit {0}) plan.slot
@@ -23,7 +23,7 @@ pub record IsDemotion (k : KeptView) (plan : Plan) : Type 0 where
   pub group : plan.group ≡ k.planner.end.group
   pub appends : plan.appends ≡ true
 
--- the move's block goes to the move's slot, and the log goes on after it or doesn't
+-- the plan moves the move's block to the move's slot, and `after` says whether the log goes on after that slot
 pub record IsMoveBy (move : Move) (after : Bool) (plan : Plan) : Type 0 where
   pub block : plan.block ≡ move.block
   pub slot : plan.slot ≡ Some move.to
@@ -34,7 +34,7 @@ pub record IsMoveBy (move : Move) (after : Bool) (plan : Plan) : Type 0 where
 abbrev pub NoDemotion : KeptView → List ℕ → ℕ → Type 0
 NoDemotion k mirrors low = WantsDemotion k mirrors low → IsOldestMirrored k.array k.planner None
 
--- a plug, after which the log goes on where it did before it, or a clean
+-- a plug, which leaves the log's end where it is, or a clean, after whose slot the log goes on
 abbrev pub IsRegrouped : KeptView → Plan → Type 0
 IsRegrouped k plan =
     (move : Move) × ((IsPlugOf k.array k.planner (Some move) × IsMoveBy move false plan) ⊎ (IsCleanOf k.array k.planner (Some move) × IsMoveBy move true plan))

@@ -4,7 +4,8 @@ use Rattle.array_book.specs.declared.fault.WorkFault.{WorkFault}
 use Rattle.array_book.specs.declared.run.RunFault.{RunFault}
 use Rattle.array_book.specs.declared.run.RunFault.TheVariants.{Memory, Job}
 
--- of a run, given what came of it before, in which the job of this worker failed: the fault of the lower number; memory stays
+-- the result of a run after the job of this worker failed too: the fault of the worker of the lower number, but out of memory
+-- stays
 abbrev pub lowest_of : Result (Unit {0}) RunFault → ℕ → WorkFault → Result (Unit {0}) RunFault
 lowest_of (Ok u) number fault = Err (Job number fault)
 lowest_of (Err Memory) number fault = Err Memory

@@ -44,8 +44,8 @@ HasMigrated number even odd even_after odd_after NoRoom = AreSame even odd even_
 abbrev pub Knows : View → Record → Type 0
 Knows taker r = Contains taker.taken r ⊎ ((f : Found) × Contains taker.found f × (f.block ≡ r.block) × (f.key ≡ key_of r))
 
--- what a read of a block returns, given the view of the Taker before and after: a record of that block that the Taker knows by
--- then, and that isn't below any that it knew
+-- what a read of a block returns, given the view of the Taker before and after: a record of that block that the Taker knows
+-- afterwards, and that isn't below any that it knew
 abbrev pub IsTold : View → ℕ → View → Record → Type 0
 IsTold before block after r = (r.block ≡ block) × Knows after r × IsNewest before block (key_of r)
 

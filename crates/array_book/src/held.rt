@@ -86,7 +86,7 @@ fn give_up_in<D: Drive, N: Naming + Sizes>(
     Refused { refusal, claim }
 }
 
-/// Commits what was filled; refused the ticket is given up.
+/// Commits what was filled. If that is refused, the ticket is given up.
 pub(crate) fn end_fresh_in<D: Drive, N: Naming + Sizes>(
     kept: &mut Kept<D, N>,
     alloc: Global,
@@ -104,7 +104,7 @@ pub(crate) fn end_fresh_in<D: Drive, N: Naming + Sizes>(
     }
 }
 
-/// Commits a copy, and notes where the write log goes on; refused the ticket is given up.
+/// Commits a copy, and notes where the write log goes on. If the commit is refused, the ticket is given up.
 pub(crate) fn end_moved_in<D: Drive, N: Naming + Sizes>(
     kept: &mut Kept<D, N>,
     alloc: Global,

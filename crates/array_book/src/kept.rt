@@ -61,7 +61,7 @@ impl<D: Drive, N: Naming + Sizes> Kept<D, N> {
     }
 }
 
-/// Fills a mirrored slot with a fresh payload, as the array does; that its slot is in use it never answers.
+/// Fills a mirrored slot with a fresh payload, as the array does, but is never refused as `InUse`.
 pub fn fill_in<D: Drive, N: Naming + Sizes>(
     kept: &mut Kept<D, N>,
     words: &SlotWords<N>,
@@ -87,7 +87,7 @@ pub fn fill_in<D: Drive, N: Naming + Sizes>(
     kept.array.fill(alloc, claim, payload)
 }
 
-/// Fills a mirrored slot with a trim, as the array does; that its slot is in use it never answers.
+/// Fills a mirrored slot with a trim, as the array does, but is never refused as `InUse`.
 pub fn trim_in<D: Drive, N: Naming + Sizes>(
     kept: &mut Kept<D, N>,
     words: &SlotWords<N>,
@@ -111,7 +111,7 @@ pub fn trim_in<D: Drive, N: Naming + Sizes>(
     kept.array.trim(alloc, claim)
 }
 
-/// Copies what a block holds into a slot, as the array does; that its slot is in use it never answers.
+/// Copies what a block holds into a slot, as the array does, but is never refused as `InUse`.
 pub fn copy_in<D: Drive, N: Naming + Sizes>(
     kept: &mut Kept<D, N>,
     words: &SlotWords<N>,
@@ -168,7 +168,7 @@ pub fn commit_in<D: Drive, N: Naming + Sizes>(
     }
 }
 
-/// Commits a ticket under which a fresh payload or trim waits. Where none does it is refused, as there is no such ticket.
+/// Commits a ticket under which a fresh payload or trim waits; refused with `NoTicket` where neither does.
 #[tactic(auto, using(crate::proofs::Fresh::no_hop))]
 pub(crate) fn commit_fresh_in<D: Drive, N: Naming + Sizes>(
     kept: &mut Kept<D, N>,

@@ -27,7 +27,7 @@ pub(crate) struct Plan {
     pub(crate) appends: bool,
 }
 
-// The slot that a plan tries where it can't have this one: of a demotion the next where the write log goes on.
+// The slot that a plan tries if it can't claim this one: for a demotion the next where the write log goes on, else none.
 pub(crate) fn slot_after<D: Drive, N: Naming + Sizes>(
     kept: &Kept<D, N>,
     plan: &Plan,

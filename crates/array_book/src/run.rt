@@ -118,7 +118,7 @@ fn join_all<R: Threads>(
     result
 }
 
-// What is returned of a run, whose outcome was `before`, in which one job more failed.
+// The result of a run after one more job failed: the fault of the worker of the lower number, but out of memory stays.
 fn lowest(before: Result<(), RunFault>, number: u8, fault: WorkFault) -> Result<(), RunFault>
     ensures { result ≡ lowest_of before number fault }
 {

@@ -49,7 +49,7 @@ pub struct Worker<
     pub(crate) odd: Taker<B>,
 }
 
-/// What came of a migration.
+/// The outcome of a migration.
 #[derive(Debug, Drop)]
 pub enum Migration {
     Moved(Emitted),
@@ -242,7 +242,7 @@ impl<
         Ok(ended)
     }
 
-    // What came of a step; or why nothing did, and then the claim that it left is released.
+    // The outcome of a step. If the step was refused, the claim that it left is released.
     fn or_released<T>(&mut self, tried: Result<T, Refused<N>>) -> Result<T, WorkFault>
         ensures ok { IfOk result (λ done. tried ≡ Ok done) }
         ensures refused { (q : Refusal) → result ≡ Err (Core q) → MatchResult tried (λ _. ⊥) (λ e. e.refusal ≡ q) }
@@ -462,7 +462,7 @@ impl<
         }
     }
 
-    /// Lets go of the Book.
+    /// Ends the worker, and returns its Pass and both Takers.
     pub fn end(self) -> Ended<N, A, B>
         ensures { (result.pass ≡ self.entry.pass) × (result.even ≡ self.entry.even) × (result.odd ≡ self.entry.odd) }
     {

@@ -5,7 +5,7 @@ use Rattle.extent_groups.specs.Groups.{AreGroups, Agree}
 use Rattle.extent_groups.specs.Stores.{AreDrives}
 use Rattle.array_parts.specs.declared.parts.Parts.{Parts}
 
--- each drive has so many units
+-- each drive has `count` units
 abbrev pub HaveUnits : {D : Type 0} → (D → List (List ℕ)) → List D → ℕ → Type 0
 HaveUnits {D} units drives count = (d : ℕ) (x : D) → slice_get drives d ≡ Some x → length (units x) ≡ count
 

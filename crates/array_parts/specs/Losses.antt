@@ -1,4 +1,4 @@
--- What becomes of drives whose units are read and written: some may be lost.
+-- What may happen to drives whose units are read and written: some may be lost.
 use Rattle.std.specs.Prelude.{◌≡◌, ℕ, Bool, Option, Some, None, List, length, slice_get}
 use Rattle.extents.specs.Failures.{Failures, no_failures}
 use Rattle.extent_groups.specs.Calls.{NoPlace, KeepsDrives}
@@ -15,8 +15,8 @@ failures_at failures (Some drive) = failures drive
 abbrev pub failures_of : {D : Type 0} → (D → Failures) → List D → ℕ → Failures
 failures_of failures drives drive = failures_at failures (slice_get drives drive)
 
--- how all drives fare: there are as many, lost stays lost with one failure more where a drive is lost now and wasn't, and a
--- steady drive isn't lost by it and stays steady
+-- how all drives fare: there are as many as before. A lost drive stays lost, a drive that fails counts one failure more, and
+-- a steady drive doesn't fail and stays steady
 pub record AllFare {D : Type 0} (lost : D → Bool) (failures : D → Failures) (old new : List D) : Type 0 where
   pub many : length new ≡ length old
   pub each : (d : ℕ) → Fares (missing_of lost old d) (missing_of lost new d) (failures_of failures old d) (failures_of failures new d)

@@ -4,7 +4,8 @@ use Rattle.extents.specs.Failures.{Failures}
 use Rattle.extents.specs.Condition.{Held, is_gone, failures_of}
 use Rattle.extents.specs.declared.mem_drive.Condition.{Condition}
 
--- the units of a drive in memory, whether it is lost, and its failures: how often it failed by itself, and whether it is steady
+-- the units of a drive in memory; whether it is lost; and its failures: how often it failed spontaneously, and whether it is
+-- steady
 abbrev pub held_units : Held → List (List ℕ)
 held_units m = m.units
 

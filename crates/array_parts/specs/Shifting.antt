@@ -42,9 +42,9 @@ KeepsUnused groups g k was to c new missing = (offset : ℕ) → offset < extent
     → (held new (place_of groups.segments offset to) ≡ held c (place_of groups.segments offset was))
     ⊎ ((missing was.drive ≡ true) × (held new (place_of groups.segments offset to) ≡ Some (replicate (unit_bytes groups) 0)))
 
--- the unit is the one for an offset of a group's member: what the member was to hold for each slot whose site has that place,
--- none of which was gone where the member's drive was lost; or where no slot lies what the place held, or zeros where its drive
--- is lost
+-- the unit is the one for an offset of a group's member. If all slots are sound, it is what the member is to hold for each
+-- slot whose site has that place. None of these slots was gone if the member's drive was lost. Where no slot lies, it is what
+-- the place held, or zeros if its drive is lost
 pub record IsUnitFor (groups : Groups) (g k : ℕ) (was : Member) (offset : ℕ) (c : Cells) (before after : ℕ → Bool) (unit : List ℕ) : Type 0 where
   pub copied : AreSound groups c → (slot : ℕ) (site : Site) → slot / 128 ≡ g → site_of groups slot ≡ Some site → IsOf site (place_of groups.segments offset was)
       → member_unit (unit_bytes groups) c site k ≡ Some unit
@@ -74,11 +74,11 @@ abbrev pub StopsFor : Groups → (ℕ → Bool) → ℕ → Member → Member �
 StopsFor groups missing g was to Beyond = IsBeyond groups missing g was.drive
 StopsFor groups missing g was to TargetLost = missing to.drive ≡ true
 
--- another of the members than the one of this number is on a missing drive
+-- a member other than the one of this number is on a missing drive
 abbrev pub HasOtherMissing : (ℕ → Bool) → List Member → ℕ → Type 0
 HasOtherMissing missing members own = (k : ℕ) × (m : Member) × (k ≢ own) × (slice_get members k ≡ Some m) × (missing m.drive ≡ true)
 
--- the refusal tells why a member isn't moved: the other extent's drive is lost, or one of the member's units can't be had, and
+-- the refusal says why a member isn't moved: the other extent's drive is lost, or one of the member's units can't be had, and
 -- then it names the lowest slot of the group that is gone
 abbrev pub IsWhyUnmoved : Groups → (ℕ → Bool) → ℕ → ℕ → Member → Refusal → Type 0
 IsWhyUnmoved groups missing g k to (DriveLost d) = (d ≡ to.drive) × (missing d ≡ true)

@@ -1,4 +1,5 @@
--- An array's parts as plain data, and what calls of its drives leave of its slots, told of any units that the drives show.
+-- An array's parts as plain data, and what calls of its drives leave of its slots, stated over any units that the drives
+-- show.
 use Rattle.std.specs.Prelude.{◌≡◌, ◌≢◌, ◌⊎◌, ℕ, ◌+◌, ◌/◌, Bool, false, List, length, take, map, Option, Some, None}
 use Rattle.extents.specs.Failures.{Failures}
 use Rattle.map_join.specs.declared.records.Record.{Record}
@@ -29,7 +30,7 @@ use Rattle.array_parts.specs.Making.{TellsLost}
 use Rattle.array_parts.specs.Shifting.{IsWhyUnmoved}
 use Rattle.array_parts.specs.Shows.{ShowsUnits}
 
--- a drive: its units, whether it is lost, how often it failed by itself, and whether it is steady
+-- a drive: its units, whether it is lost, how often it failed spontaneously, and whether it is steady
 pub record DriveView : Type 0 where
   pub units : List (List ℕ)
   pub lost : Bool
@@ -153,7 +154,7 @@ pub record WasRead (a b : PartsView) (slot : ℕ) (content : Content) : Type 0 w
   pub there : IsLost b slot → ⊥
   pub unit : (units : ℕ → Option Stored) → Shows a units → (u : Stored) × (units slot ≡ Some u) × (content ≡ content_in u)
 
--- what a sight of a record's place tells, given the payload that was read
+-- what a sight of a record's place says, given the payload that was read
 abbrev pub seen_of : Sight → List ℕ → Seen
 seen_of (sight.Here told) payload = Data (content_under told payload)
 seen_of (sight.Stale found) payload = Stale found
@@ -190,7 +191,7 @@ pub record WasAdded (a : PartsView) (lost : Bool) (failures : Failures) (b : Par
   pub groups : b.groups ≡ a.groups
   pub owners : b.owners ≡ with_drive a.owners
 
--- a group's member of this number was moved onto another extent, whose drive isn't lost: the tables tell it and agree, each of
+-- a group's member of this number was moved onto another extent, whose drive isn't lost: the tables say so and agree, each of
 -- its units could be had, and the drives show the same units of slots
 pub record Shifted (a : PartsView) (g k : ℕ) (to : Member) (b : PartsView) : Type 0 where
   pub bytes : KeepsBytes a b
@@ -202,16 +203,16 @@ pub record Shifted (a : PartsView) (g k : ℕ) (to : Member) (b : PartsView) : T
   pub owners : IsMove a.groups a.owners b.owners g k to
   pub agree : Agree b.groups b.owners
 
--- the refusal tells why a member isn't moved
+-- the refusal says why a member isn't moved
 abbrev pub TellsUnmoved : PartsView → ℕ → ℕ → Member → Refusal → Type 0
 TellsUnmoved b g k to refusal = IsWhyUnmoved b.groups (lost_of b) g k to refusal
 
--- it wasn't: drives may have been lost, and the refusal tells why
+-- it wasn't: drives may have been lost, and the refusal says why
 pub record NotShifted (a : PartsView) (g k : ℕ) (to : Member) (b : PartsView) (refusal : Refusal) : Type 0 where
   pub loses : Loses a b
   pub told : TellsUnmoved b g k to refusal
 
--- a group was unmade: its extents are free, its slots have no unit, and drives are as they were
+-- a group was dissolved: its extents are free, its slots have no unit, and drives are as they were
 pub record WasTaken (a : PartsView) (g : ℕ) (b : PartsView) : Type 0 where
   pub groups : b.groups ≡ with_group a.groups g None
   pub owners : b.owners ≡ with_owners a.owners (members_of a.groups g) None

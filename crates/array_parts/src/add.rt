@@ -1,4 +1,4 @@
-// A drive more.
+// Adding a drive.
 ghost use Rattle.std.specs.Prelude.{◌≡◌, ◌<◌, ◌*◌, length, IfOk, IfErr, OnErr};
 ghost use Rattle.extents.specs.Sizes.{extent_units};
 ghost use Rattle.extents.specs.Units.{IsSized};
@@ -11,8 +11,8 @@ use extents::Drive;
 use std::alloc::Global;
 
 impl<D: Drive> Parts<D> {
-    /// Adds a drive under the number behind the last; its extents are free. It has the units that the
-    /// shape asks, whatever they hold. Refused for want of memory it hands the drive back.
+    /// Adds a drive under the number after the last; its extents are free. It has the units that the shape asks for, with any
+    /// content. If out of memory, it returns the drive.
     pub fn add(&mut self, alloc: Global, drive: D) -> Result<(), D>
         requires fit { IsFit D.units self.old }
         requires room { length self.old.drives.items < 16 }

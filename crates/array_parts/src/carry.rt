@@ -1,4 +1,4 @@
-// What the drives do for a slot: its unit is written, or another's is written there under a header of its own.
+// Writing a slot's unit: from a payload, as a trim, or from the unit of a slot under another header.
 ghost use Rattle.std.specs.Prelude.{◌≡◌, ◌*◌, length, OnOk, IfOk, IfErr};
 ghost use Rattle.extents.specs.Header.{IsHeader};
 ghost use Rattle.extent_groups.specs.Stores.{unit_bytes};
@@ -14,7 +14,8 @@ use extents::{Drive, Header, Kind};
 use flat_machine::Refusal;
 
 impl<D: Drive> Parts<D> {
-    /// Writes a payload under a blank header, to parity slots with a buffer of a unit's length and one of two units'.
+    /// Writes a payload under a blank header into a slot of either class. Takes a buffer of a unit's length and one of two
+    /// units'.
     pub fn put(
         &mut self,
         slot: u16,
@@ -98,7 +99,7 @@ impl<D: Drive> Parts<D> {
         }
     }
 
-    /// Writes what a slot holds into a slot, under another header, with a buffer of a unit's length and
+    /// Writes what the slot `from` holds into the slot `to`, under the given header. Takes a buffer of a unit's length and
     /// one of two units'.
     pub fn carry(
         &mut self,

@@ -1,4 +1,4 @@
-// A group enters, told of the units that its drives show; and the first drive among its members that is lost.
+// Making a group, stated over the units that its drives show; and the first member whose drive is lost.
 ghost use Rattle.std.specs.Prelude.{◌≡◌, ◌<◌, ℕ, length, slice_get, None, Some, OnOk, IfErr, IfSome, IsNone};
 ghost use Rattle.extent_groups.specs.declared.class.Member.{Member};
 ghost use Rattle.extent_groups.specs.Faults.{put_fault};
@@ -39,8 +39,8 @@ impl<D: Drive> Parts<D> {
         first_lost(&self.drives, members)
     }
 
-    /// Makes a group under a free number, of members that pass every check, with a buffer of a unit's
-    /// length to wipe their extents with.
+    /// Makes a group under a free number, of members that pass every check, and wipes their extents first. Takes a buffer of
+    /// a unit's length. Refused with the first member's drive that is lost.
     pub fn enter(
         &mut self,
         group: u16,

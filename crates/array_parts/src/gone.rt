@@ -1,4 +1,4 @@
-// Which slots of a group are gone, told by the lost drives and the geometry alone: no unit is read.
+// Which slots of a group are gone. It depends on the lost drives and the geometry alone: no unit is read.
 ghost use Rattle.std.specs.Prelude.{◌≡◌, ◌↔◌, ◌/◌, ◌<◌, ℕ, IsTrue, length, slice_get, Some, None, IfSome, IsNone};
 ghost use Rattle.extent_groups.specs.declared.class.Class.TheVariants.{Mirrored, Parity};
 ghost use Rattle.extent_groups.specs.declared.class.Member.{Member};
@@ -20,7 +20,7 @@ pub(crate) fn is_lost<D: Drive>(drives: &[D], drive: u8) -> bool
     drives[usize::from(drive)].is_lost()
 }
 
-/// Whether another of the members than the one of this number is on a lost drive.
+/// Whether a member other than the one of this number is on a lost drive.
 fn is_other_lost<D: Drive>(drives: &[D], members: &[Member], own: u8) -> bool
     requires { (k : ℕ) (m : Member) → slice_get members.now k ≡ Some m → m.drive < length drives.now }
     ensures { IsTrue result ↔ HasOtherMissing (missing_of D.lost drives.now) members.now own }
@@ -43,7 +43,7 @@ fn is_pair_gone<D: Drive>(groups: &GroupTable, drives: &[D], slot: u16) -> bool
     is_lost(drives, first.drive) && is_lost(drives, second.drive)
 }
 
-/// Whether a parity slot's unit is lost, and another of its row.
+/// Whether a parity slot's drive is lost, and so is the drive of another unit of its row.
 fn is_row_gone<D: Drive>(groups: &GroupTable, drives: &[D], slot: u16) -> bool
     requires slot { IsSlotOf Parity groups.now slot }
     requires drives { AreDrives D.units groups.now drives.now }

@@ -30,7 +30,7 @@ impl Parts<MemDrive> {
         self.drives[drive as usize].lose();
     }
 
-    /// Loses a drive at the given read or write of it from now on, counted from 1, and for all later ones.
+    /// Makes a drive fail at its `calls`-th read or write from now (1 = the next) and at all later ones.
     pub fn fuse(&mut self, drive: u8, calls: u64)
         requires fit { IsFit held_units self.old }
         requires drive { drive < length self.old.drives.items }

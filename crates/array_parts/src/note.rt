@@ -17,8 +17,8 @@ use crate::gone::is_lost;
 use extent_groups::{Class, GroupTable, Place, SLOTS, write_place};
 use extents::Drive;
 
-/// The write that a step is in the middle of: whole units, so that finishing it gives the same whatever part of it was made.
-/// Firmware keeps it in durable memory, and writes it in one piece.
+/// The write that a step is in the middle of: whole units, so that finishing it gives the same result however much of it was
+/// made. Firmware keeps it in durable memory, and writes it in one piece.
 #[derive(Debug, Drop)]
 pub struct Note {
     pub slot: u16,

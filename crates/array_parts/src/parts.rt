@@ -1,4 +1,4 @@
-// What an array consists of, without what is remembered of its blocks.
+// The parts of an array: its shape, its groups, the owners of its extents, its drives and its note.
 ghost use Rattle.std.specs.Prelude.{◌≡◌, ◌+◌, ◌*◌, ◌<◌, ◌≤◌, ◌↔◌, ℕ, length, slice_get, Some, None, OnOk, IfErr, IsTrue};
 ghost use Rattle.extents.specs.Shapes.{IsShapeOf};
 ghost use Rattle.extents.specs.declared.shape.TheConstants.{HEADER_BYTES};
@@ -40,14 +40,14 @@ fn is_shape_of(shape: &Shape, groups: &GroupTable) -> bool
         && shape.blocks == other.blocks
 }
 
-/// Whether each drive has so many units.
+/// Whether each drive has `units` units.
 fn have_units<D: Drive>(drives: &[D], units: u32) -> bool
     ensures { IsTrue result ↔ HaveUnits D.units drives.now units }
 {
     drives.iter().all(|drive| drive.units() == units)
 }
 
-// Whether each unit of the drives, of which each has one, has so many bytes.
+// Whether each unit of each drive has `bytes` bytes. Each drive has at least one unit.
 fn have_unit_bytes<D: Drive>(drives: &[D], bytes: usize) -> bool
     requires { (d : ℕ) (x : D) → slice_get drives.now d ≡ Some x → 1 ≤ length (D.units x) }
     ensures { IsTrue result ↔ AreSized D.units bytes drives.now }
@@ -88,7 +88,7 @@ impl<D: Drive> Parts<D> {
         ensures there { OnOk result (IsGone self.new.groups (missing_in D.lost self.new) slot → ⊥) }
         ensures gone { IfErr result (TellsGone D.units D.lost self.new slot) }
 
-        // No unit changes: where all was sound it is, and each unit that exists afterwards is what it was.
+        // No unit changes: if all slots were sound they still are, and each unit that exists afterwards is what it was.
         ensures units { AreSound self.old.groups (cells_in D.units D.lost self.old)
             → KeepsUnits self.old.groups (cells_in D.units D.lost self.old) (cells_in D.units D.lost self.new) }
         ensures sound { AreSound self.old.groups (cells_in D.units D.lost self.old) → AreSound self.new.groups (cells_in D.units D.lost self.new) }
@@ -102,7 +102,7 @@ impl<D: Drive> Parts<D> {
             .ok_or(Refusal::Gone(slot))
     }
 
-    /// Reads the header of a slot's effective unit alone, with a buffer of two units' length; else as `read` does.
+    /// Reads only the header of a slot's effective unit, with a buffer of two units' length. Refused as `read` is.
     pub fn read_header(
         &mut self,
         slot: u16,
@@ -129,9 +129,10 @@ impl<D: Drive> Parts<D> {
             .ok_or(Refusal::Gone(slot))
     }
 
-    /// Reads the headers of a group's slots in ascending order, that of index i into `headers[i]`, with a buffer of two units'
-    /// length. Takes a group's number, 0 to 511, and as many buffers as it has slots. Returns the index of the first slot that is
-    /// gone, or the count of slots. The headers below are those of before the call, if all slots were sound.
+    /// Reads the headers of a group's slots in ascending order, that of index i into `headers[i]`, with a buffer of two
+    /// units' length. Takes a group's number, 0 to 511, and one header buffer for each of its slots. Returns the index of the
+    /// first slot that is gone, or the count of slots. The headers below that index are those of before the call, if all
+    /// slots were sound.
     pub fn read_headers(
         &mut self,
         group: u16,

@@ -1,4 +1,4 @@
-// The units of a group's member, put on another extent one after another.
+// Copying the units of a group's member to another extent, one by one.
 ghost use Rattle.std.specs.Prelude.{◌≡◌, ◌⊎◌, ◌*◌, ◌<◌, true, length, replicate, OnOk, IfErr};
 ghost use Rattle.std.specs.Bool.{MatchBool};
 ghost use Rattle.extents.specs.Sizes.{extent_units};
@@ -29,10 +29,10 @@ pub(crate) struct Route {
     pub(crate) to: Member,
 }
 
-/// Why no more of a member's units is put on another extent.
+/// Why copying a member's units to another extent stopped.
 #[derive(Clone, Copy)]
 pub(crate) enum Stop {
-    /// A unit of the member can't be had: its drive is lost, and so is one that would make up for it.
+    /// A unit of the member is unavailable: its drive is lost, and so is another that the rebuild needs.
     Beyond,
     /// The other extent's drive is lost.
     TargetLost,
@@ -50,7 +50,7 @@ fn place_in(groups: &GroupTable, member: Member, offset: u16) -> Place
     }
 }
 
-/// Reads the unit at a place, or takes zeros for it where its drive is lost.
+/// Reads the unit at a place, or fills the buffer with zeros if its drive is lost.
 fn read_or_clear<D: Drive>(drives: &mut [D], place: Place, unit: &mut [u8])
     requires place { IsPlace D.units drives.old place }
     requires size { AreSized D.units (length unit.old) drives.old }
@@ -64,7 +64,7 @@ fn read_or_clear<D: Drive>(drives: &mut [D], place: Place, unit: &mut [u8])
     }
 }
 
-/// Reads the unit of the slot of which one lies at an offset; false where it can't be had.
+/// Reads the unit of the slot that has a unit at an offset of the member; false if it is unavailable.
 fn read_index<D: Drive>(
     groups: &GroupTable,
     drives: &mut [D],
@@ -91,7 +91,7 @@ fn read_index<D: Drive>(
     }
 }
 
-/// Reads the parity unit that lies at an offset; false where it can't be had.
+/// Reads the parity unit at an offset of the member; false if it is unavailable.
 fn read_wandering<D: Drive>(
     groups: &GroupTable,
     drives: &mut [D],
@@ -114,7 +114,7 @@ fn read_wandering<D: Drive>(
     read_parity(groups, drives, at.group, offset, unit, scratch)
 }
 
-/// Reads the unit at an offset where no slot lies, or takes zeros for it where the member's drive is lost.
+/// Reads the unit at an offset where no slot lies, or fills the buffer with zeros if the member's drive is lost.
 fn read_unused<D: Drive>(
     groups: &GroupTable,
     drives: &mut [D],
@@ -134,7 +134,8 @@ fn read_unused<D: Drive>(
     read_or_clear(drives, place_in(groups, at.from, offset), unit);
 }
 
-/// Reads the unit for an offset of the member, with two buffers of a unit's length; false where it can't be had.
+/// Reads the unit for an offset of the member, with a buffer of a unit's length and one of two units'; false if it is
+/// unavailable.
 fn unit_for<D: Drive>(
     groups: &GroupTable,
     drives: &mut [D],

@@ -24,7 +24,7 @@ use extents::Drive;
 use flat_machine::Refusal;
 
 impl<D: Drive> Parts<D> {
-    /// The lowest slot of a group that is gone, told by the lost drives alone: no unit is read.
+    /// The lowest slot of a group that is gone. It depends on the lost drives alone: no unit is read.
     pub fn first_gone(&self, group: u16) -> Option<u16>
         requires fit { IsFit D.units self.now }
         ensures some { IfSome result (IsFirstGone self.now.groups (missing_in D.lost self.now) group) }
@@ -50,7 +50,7 @@ impl<D: Drive> Parts<D> {
         shift_units(&self.groups, drives, at, unit, scratch)
     }
 
-    /// The refusal for why no more was moved.
+    /// The refusal that reports why the copy stopped.
     fn why_unmoved(&self, stop: Stop, at: Route) -> Refusal
         requires fit { IsFit D.units self.now }
         requires member { slice_get (members_of self.now.groups at.group) at.member ≡ Some at.from }
@@ -61,7 +61,7 @@ impl<D: Drive> Parts<D> {
             Stop::TargetLost => Refusal::DriveLost(at.to.drive),
             Stop::Beyond => match self.first_gone(at.group) {
                 Some(slot) => Refusal::Gone(slot),
-                // Whatever can't be had makes a slot of the group gone.
+                // A unit that is unavailable makes a slot of the group gone.
                 None => unreachable!(),
             },
         }

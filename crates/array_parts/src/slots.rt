@@ -32,7 +32,7 @@ pub(crate) fn read_slot<D: Drive>(
     }
 }
 
-/// Reads the header of the effective unit of a slot of either class alone, with a buffer of two units' length.
+/// Reads only the header of the effective unit of a slot of either class, with a buffer of two units' length.
 pub(crate) fn read_slot_header<D: Drive>(
     groups: &GroupTable,
     drives: &mut [D],

@@ -1,4 +1,4 @@
-// A group that is unmade.
+// Dissolving a group.
 ghost use Rattle.std.specs.Prelude.{IsSome};
 ghost use Rattle.extent_groups.specs.Groups.{group_at};
 ghost use Rattle.array_parts.specs.Fit.{IsFit};
@@ -8,7 +8,7 @@ use crate::Parts;
 use extents::Drive;
 
 impl<D: Drive> Parts<D> {
-    /// Unmakes a group: its extents are free then, and no drive is used.
+    /// Dissolves a group: its extents are free then, and no drive is used.
     pub fn take(&mut self, group: u16)
         requires fit { IsFit D.units self.old }
         requires made { IsSome (group_at self.old.groups group) }

@@ -1,4 +1,4 @@
-// The bytes of a unit: a header of 32 bytes, and the payload behind it.
+// The bytes of a unit: a header of 32 bytes, and the payload after it.
 ghost use Rattle.std.specs.Prelude.{◌≡◌, ◌+◌, ◌-◌, ◌≤◌, ◌++◌, length, drop, replicate};
 ghost use Rattle.extents.specs.Header.{header_bytes, kind_in};
 ghost use Rattle.extents.specs.declared.shape.TheConstants.{HEADER_BYTES};
@@ -15,7 +15,7 @@ pub(crate) fn put_header(unit: &mut [u8], header: &Header)
     unit[..HEADER_BYTES].copy_from_slice(&header.encode());
 }
 
-// Puts two pieces into a buffer, the one behind the other.
+// Puts two pieces into a buffer, one after the other.
 pub(crate) fn join(unit: &mut [u8], front: &[u8], rest: &[u8])
     requires { length unit.old ≡ length front.now + length rest.now }
     ensures { unit.new ≡ front.now ++ rest.now }
@@ -37,7 +37,8 @@ pub(crate) fn header_in(unit: &[u8]) -> Header
     }
 }
 
-// Makes the unit one that waits, with a blank header and, of a trim, a payload of zeros; returns the kind that it was of.
+// Turns the unit into one that waits: a blank header, and zeros as the payload if it was a trim. Returns the kind that it
+// had.
 pub(crate) fn make_wait(unit: &mut [u8]) -> Kind
     requires { HEADER_BYTES ≤ length unit.old }
     ensures { (u : Stored) → IsUnit unit.old u → (result ≡ kind_in u.header) × IsUnit unit.new (waiting_unit (length unit.old - HEADER_BYTES) (content_in u)) }

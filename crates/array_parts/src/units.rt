@@ -26,7 +26,7 @@ pub trait Units {
     /// When a header may be read.
     ghost fits: { Self → Type 0 };
 
-    /// What reads leave of it: all but which drives are lost.
+    /// How a read may change the source: only in which drives are lost.
     ghost leaves: { Self → Self → Type 0 };
 
     /// How long the scratch buffer of `headers` is at least, in bytes: two units, or 0 where the source has buffers of its own.
@@ -55,7 +55,7 @@ pub trait Units {
         ensures fits { fits self.new }
         ensures leaves { leaves self.old self.new };
 
-    /// Reads the header of a slot's effective unit alone, with a buffer of two units' length; refused where that unit's read is.
+    /// Reads only the header of a slot's effective unit, with a buffer of two units' length. Refused as `unit` is.
     fn header(&mut self, slot: u16, header: &mut [u8], scratch: &mut [u8]) -> Result<(), Refusal>
         requires fits { fits self.old }
         requires slot { IsSlot (groups self.old) slot }
@@ -69,10 +69,10 @@ pub trait Units {
         ensures fits { fits self.new }
         ensures leaves { leaves self.old self.new };
 
-    /// Reads the headers of a group's slots, that of index i into `headers[i]`, with a buffer of at least `scratch_length` bytes.
-    /// Takes a group's number, 0 to 511, and as many buffers for headers as it has slots, none where the number is free. Returns
-    /// the index of the first slot whose unit can't be had, or the count of slots. The headers below are those of before the call,
-    /// if all slots were sound; nothing is said of the others.
+    /// Reads the headers of a group's slots, that of index i into `headers[i]`, with a buffer of at least `scratch_length`
+    /// bytes. Takes a group's number, 0 to 511, and one header buffer for each of its slots, none if the number is free.
+    /// Returns the index of the first slot whose unit is unavailable, or the count of slots. The headers below that index are
+    /// those of before the call, if all slots were sound; nothing is said of the others.
     fn headers(&mut self, group: u16, headers: &mut [[u8; HEADER_BYTES]], scratch: &mut [u8]) -> u16
         requires fits { fits self.old }
         requires group { group < 512 }
@@ -87,10 +87,10 @@ pub trait Units {
         ensures fits { fits self.new }
         ensures leaves { leaves self.old self.new };
 
-    /// No read leaves all as it was.
+    /// `leaves` holds where nothing is read.
     ghost none: { (x : Self) → leaves x x };
 
-    /// And what one read after another leaves is left.
+    /// `leaves` holds of two reads, one after the other, if it holds of each.
     ghost more: { (x y z : Self) → leaves x y → leaves y z → leaves x z };
 }
 

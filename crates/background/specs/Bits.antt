@@ -19,13 +19,13 @@ abbrev pub IsLowestBit : ℕ → Option ℕ → Type 0
 IsLowestBit word None = word ≡ 0
 IsLowestBit word (Some bit) = (bit < 64) × HasBit word bit × ((lower : ℕ) → lower < bit → HasBit word lower → ⊥)
 
--- the bit came, and no other came or went
+-- the bit is set, and no other bit changed
 pub record IsPut (was is : List ℕ) (at : ℕ) : Type 0 where
   pub here : HasBitAt is at
   pub keeps : AreAmong was is
   pub only : (n : ℕ) → HasBitAt is n → (n ≡ at) ⊎ HasBitAt was n
 
--- the bit went, and no other came or went
+-- the bit was cleared, and no other bit changed
 pub record IsTaken (was is : List ℕ) (at : ℕ) : Type 0 where
   pub gone : HasBitAt is at → ⊥
   pub fewer : AreAmong is was

@@ -6,25 +6,25 @@ use Rattle.background.specs.Bits.{HasBitAt, AreAmong}
 abbrev pub IsHinted : List ℕ → ℕ → Type 0
 IsHinted slots s = HasBitAt slots s
 
--- a row that has any bit has its own bit in the row above
+-- each row of slots in which a bit is set has its own bit set in the table of rows
 pub record AreHints (slots rows : List ℕ) : Type 0 where
   pub all : length slots ≡ 1024
   pub few : length rows ≡ 16
   pub above : (s : ℕ) → IsHinted slots s → HasBitAt rows (s / 64)
 
--- bits that went are of no slot that is free, and none came
+-- no bit was set, and no bit of a free slot was cleared
 pub record IsSought (was is : List ℕ) (free : ℕ → Type 0) : Type 0 where
   pub less : AreAmong is was
   pub keeps : (s : ℕ) → IsHinted was s → free s → IsHinted is s
 
--- the lowest of a part of the slots that may be free; it is
+-- the lowest hinted slot of a part of the slots, which is free
 pub record IsLowestHint (within : ℕ → Type 0) (slots : List ℕ) (free : ℕ → Type 0) (slot : ℕ) : Type 0 where
   pub inside : within slot
   pub hinted : IsHinted slots slot
   pub is_free : free slot
   pub least : (s : ℕ) → within s → IsHinted slots s → slot ≤ s
 
--- the lowest of a part of the slots that may be free, and that is free; none where no slot of the part may be free
+-- the lowest hinted slot of a part of the slots, which is free; none where no slot of the part is hinted
 abbrev pub IsFirstHint : (ℕ → Type 0) → List ℕ → (ℕ → Type 0) → Option ℕ → Type 0
 IsFirstHint within slots free None = (s : ℕ) → within s → IsHinted slots s → ⊥
 IsFirstHint within slots free (Some slot) = IsLowestHint within slots free slot

@@ -12,7 +12,7 @@ use Rattle.background.specs.Steps.{order_after}
 use Rattle.background.specs.Tiered.{Tiered}
 use Rattle.background.specs.declared.outcome.Outcome.{Outcome}
 
--- just the blocks whose newest place is in a mirrored group are marked
+-- exactly the blocks whose newest place is in a mirrored group are marked
 abbrev pub AreMarked : List Bool → Groups → (ℕ → ℕ) → Type 0
 AreMarked marks groups keys = (b : ℕ) → IsMarked marks b ↔ IsMirrored groups keys b
 

@@ -30,7 +30,7 @@ pub record AreLostOf (v : PartsView) (lost : List Bool) : Type 0 where
   pub many : length lost ≡ 16
   pub each : (drive : ℕ) → drive < 16 → slice_index_or lost drive true ≡ lost_of v drive
 
--- the plan that evens out the loads of a state's drives
+-- the plan that rebalances the loads of a state's drives
 pub record IsBalanceOf (F : Flat) (plan : Option Shift) : Type 0 where
   pub owners : Owners
   pub owners_are : AreOwners F owners
@@ -38,7 +38,7 @@ pub record IsBalanceOf (F : Flat) (plan : Option Shift) : Type 0 where
   pub lost_are : AreLost F lost
   pub is : IsBalance owners F.groups lost plan
 
--- the plan that rebuilds what lay on a drive of it
+-- the plan that rebuilds what lay on one of a state's drives
 pub record IsRebuildOf (F : Flat) (drive : ℕ) (plan : Option Shift) : Type 0 where
   pub owners : Owners
   pub owners_are : AreOwners F owners
@@ -46,18 +46,18 @@ pub record IsRebuildOf (F : Flat) (drive : ℕ) (plan : Option Shift) : Type 0 w
   pub lost_are : AreLost F lost
   pub is : IsRebuild owners F.groups lost drive plan
 
--- a shift: the member that it names is moved, or that is refused
+-- a shift: the member that it names is moved, or the move is refused
 abbrev pub ShiftCase : Flat → Shift → Regrouped → Flat → Type 0
 ShiftCase F s (Moved t) G = (t ≡ s) × (Case F (MoveExtent s.group s.member s.to) MovedExtent G)
 ShiftCase F s (Refused r) G = Case F (MoveExtent s.group s.member s.to) (step.Refused r) G
 ShiftCase F s Nothing G = ⊥
 
--- evening out: the shift of the plan, or nothing where there is none
+-- rebalancing: the shift of the plan, or nothing where there is none
 abbrev pub BalanceCase : Flat → Regrouped → Flat → Type 0
 BalanceCase F Nothing G = (IsBalanceOf F None) × (G ≡ F)
 BalanceCase F outcome G = (s : Shift) × (IsBalanceOf F (Some s)) × (ShiftCase F s outcome G)
 
--- rebuilding: of a drive that is there, the same
+-- rebuilding: the shift of the plan, or nothing where there is none; refused as a bad member where there is no such drive
 abbrev pub RebuildCase : Flat → ℕ → Regrouped → Flat → Type 0
 RebuildCase F drive Nothing G = (drive < F.drives) × (IsRebuildOf F drive None) × (G ≡ F)
 RebuildCase F drive (Refused r) G =

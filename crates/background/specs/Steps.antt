@@ -18,7 +18,7 @@ use Rattle.background.specs.Placing.{Put, Fresh, Again, PlaceCase, PlaceStops}
 use Rattle.background.specs.declared.outcome.Outcome.{Outcome}
 use Rattle.background.specs.declared.outcome.Outcome.TheVariants.{Placed, NoRoom, Nothing}
 
--- a worker comes first, then what goes in
+-- a step, with its worker; a write also has the block and its content
 pub data TierStep : Type 0 where
   Write : ℕ → ℕ → Content → TierStep
   Demote : ℕ → TierStep
@@ -58,18 +58,18 @@ pub record Stays (T : Tiered) (is outcome : Outcome) (U : Tiered) : Type 0 where
   pub told : outcome ≡ is
   pub same : U ≡ T
 
--- a block is demoted to the first free slot where the log goes on, if there is one
+-- a block is demoted to the first free slot where the log goes on; `NoRoom` where there is none
 abbrev pub GoesDown : Tiered → ℕ → ℕ → Option ℕ → Outcome → Tiered → Type 0
 GoesDown T w b None outcome U = Stays T NoRoom outcome U
 GoesDown T w b (Some s) outcome U = AppendsAt T w b s outcome U
 
--- the block that is to be demoted goes down, if there is one
+-- the block that is due is demoted; `Nothing` where there is none
 abbrev pub Demotes : Tiered → (ℕ → ℕ) → ℕ → Option ℕ → Outcome → Tiered → Type 0
 Demotes T keys w None outcome U = Stays T Nothing outcome U
 Demotes T keys w (Some b) outcome U =
     (slot : Option ℕ) × IsFirstAppend T.end T.flat.groups keys (IsFree T.flat) slot × GoesDown T w b slot outcome U
 
--- demote: of the blocks in mirrored groups, the one that was written longest ago goes down
+-- demote: of the blocks in mirrored groups, the one that was written longest ago is demoted
 pub record DemoteCase (T : Tiered) (w : ℕ) (outcome : Outcome) (U : Tiered) : Type 0 where
   pub keys : ℕ → ℕ
   pub map_of : IsMapOf T.flat.emitted keys
@@ -202,12 +202,12 @@ abbrev pub order_behind : List ℕ → ℕ → FlatAnswer → Option Waiting →
 order_behind order b (Committed r) (Some (f.Fresh x)) = written order b
 order_behind order b _ _ = order
 
--- a commit by itself, noted where it is a write
+-- a single commit, noted where it is a write
 pub record CommitNoted (T : Tiered) (w s b : ℕ) (answer : FlatAnswer) (U : Tiered) : Type 0 where
   pub case : Case T.flat (step.Commit w s b) answer U.flat
   pub noted : U.order ≡ order_behind T.order b answer (T.flat.tickets s)
   pub same : U.end ≡ T.end
 
--- a step of the flat machine by itself, which notes nothing
+-- a single step of the flat machine, which notes nothing
 abbrev pub StepNoted : Tiered → FlatStep → FlatAnswer → Tiered → Type 0
 StepNoted T taken answer U = (G : Flat) × Case T.flat taken answer G × (U ≡ record T { flat = G })

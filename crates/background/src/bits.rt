@@ -16,7 +16,7 @@ pub(crate) fn lowest_bit(word: u64) -> Option<u32>
     Some(word.trailing_zeros())
 }
 
-// The bit comes.
+// Sets a bit.
 #[inline(always)]
 pub(crate) fn put(words: &mut [u64], at: usize)
     requires { at < 64 * length words.old }
@@ -25,7 +25,7 @@ pub(crate) fn put(words: &mut [u64], at: usize)
     words[at / BITS] |= 1 << (at % BITS);
 }
 
-// The bit goes, and its word falls.
+// Clears a bit that is set, which makes its word smaller.
 #[inline(always)]
 pub(crate) fn take(words: &mut [u64], at: usize)
     requires inside { at < 64 * length words.old }

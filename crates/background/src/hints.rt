@@ -1,4 +1,4 @@
-// Which slots may be free: each that is, and some that are no longer.
+// Which slots may be free: each that is, and some that aren't.
 ghost use Rattle.std.specs.Prelude.{◌≡◌, ℕ, ◌/◌, ◌<◌, length, IfOk, MatchOption};
 ghost use Rattle.migrator.specs.First.{IsFirst};
 ghost use Rattle.step_core.specs.declared.step.Answer.TheVariants as Answer;
@@ -45,7 +45,7 @@ impl FreeHints {
         })
     }
 
-    /// A slot may be free from now on.
+    /// Records that a slot may be free.
     pub(crate) fn add(&mut self, slot: u16)
         ensures here { IsHinted self.new slot }
         ensures others { (other : ℕ) → IsHinted self.old other → IsHinted self.new other }
@@ -55,7 +55,7 @@ impl FreeHints {
         put(&mut self.rows, slot / BITS);
     }
 
-    /// The lowest slot that may be free and is. What is found on the way and isn't free goes.
+    /// The lowest hinted slot that is free. Hints of slots that aren't free are cleared on the way.
     pub(crate) fn first<F: Free>(&mut self, free: &F) -> Option<u16>
         ensures first { IsFirst (λ slot. IsHinted self.old slot × F.free free.now slot) result }
         ensures keeps { (slot : ℕ) → IsHinted self.old slot → F.free free.now slot → IsHinted self.new slot }
@@ -64,7 +64,7 @@ impl FreeHints {
     }
 }
 
-// The place that a block had, if any, may be free.
+// Records that the place that a block had, if any, may be free.
 pub(crate) fn hint_left(hints: &mut FreeHints, left: Option<u16>)
     ensures left { MatchOption left (Unit {0}) (λ slot. IsHinted hints.new slot) }
     ensures others { (other : ℕ) → IsHinted hints.old other → IsHinted hints.new other }
@@ -74,7 +74,7 @@ pub(crate) fn hint_left(hints: &mut FreeHints, left: Option<u16>)
     }
 }
 
-// The slots of a group that was made are free.
+// Records that the slots of a group that was made may be free.
 pub(crate) fn hint_made(hints: &mut FreeHints, answer: &Answer)
     ensures made { (group slot : ℕ) → answer.now ≡ Answer.Made group → group < 512 → slot / 128 ≡ group → IsHinted hints.new slot }
     ensures others { (other : ℕ) → IsHinted hints.old other → IsHinted hints.new other }
@@ -84,7 +84,7 @@ pub(crate) fn hint_made(hints: &mut FreeHints, answer: &Answer)
     }
 }
 
-// Each slot of a group may be free.
+// Records that each slot of a group may be free.
 fn hint_group(hints: &mut FreeHints, group: u16)
     ensures all { group < 512 → (slot : ℕ) → slot / 128 ≡ group → IsHinted hints.new slot }
     ensures others { (other : ℕ) → IsHinted hints.old other → IsHinted hints.new other }
@@ -97,7 +97,7 @@ fn hint_group(hints: &mut FreeHints, group: u16)
     }
 }
 
-// The lowest slot that may be free and is.
+// The lowest hinted slot that is free.
 fn first_of_all<F: Free>(slots: &mut [u64], rows: &mut [u64], free: &F) -> Option<u16>
     requires { AreHints slots.old rows.old }
     ensures hints { AreHints slots.new rows.new }

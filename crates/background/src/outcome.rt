@@ -1,8 +1,8 @@
-//! What comes of a step that a plan chose.
+//! The outcome of a step that a plan chose.
 use map_join::Record;
 use step_core::Refusal;
 
-/// What comes of writing, demoting, plugging or cleaning.
+/// The outcome of writing, demoting, plugging or cleaning.
 #[derive(Clone, Copy, Debug, PartialEq, Eq)]
 pub enum Outcome {
     /// The block lies at the record's place; its old place is free.

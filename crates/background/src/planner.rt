@@ -1,4 +1,4 @@
-// What the plans of an array go by, and what they choose.
+// What the plans of an array depend on, and what they choose.
 ghost use Rattle.std.specs.Prelude.{◌≡◌, ℕ, ◌<◌, length, IfOk, MatchOption, None};
 ghost use Rattle.slot_tables.specs.Views.{key_at};
 ghost use Rattle.cleaner.specs.Counts.{AreLiveCounts};
@@ -16,7 +16,7 @@ use map_join::Record;
 use migrator::{Free, LogEnd, MarkedAges, first_append};
 use std::alloc::{AllocError, Global};
 
-/// What the plans of an array go by, next to its tables. Each commit has to be noted. Only `new` allocates.
+/// What the plans of an array depend on, in addition to its tables. Each commit has to be noted. Only `new` allocates.
 #[derive(Drop)]
 pub struct Planner {
     /// The order of last writes since the array was made or restarted. Blocks in mirrored groups are marked.
@@ -123,7 +123,7 @@ impl Planner {
         if block as usize >= self.ages.len() {
             return;
         }
-        // A block that is written too is noted first: then the order's oldest mark isn't sought twice.
+        // A write is noted before the mark: then the order's oldest mark is sought at most once.
         if committed.hop == 0 {
             self.ages.wrote(block);
         }

@@ -1,4 +1,4 @@
-//! Blocks that go down to the parity level, or from one place in it to another.
+//! Moving blocks to the parity level, or from one place in it to another.
 ghost use Rattle.std.specs.Prelude.{◌<◌, IfOk, OnErr};
 ghost use Rattle.slot_tables.specs.Views.{SameSizes};
 ghost use Rattle.background.specs.Placing.{Again};

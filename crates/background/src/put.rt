@@ -1,4 +1,4 @@
-// A block goes into a slot, and what is kept next to the world follows.
+// Putting a block into a slot, and updating what is kept next to the world.
 ghost use Rattle.std.specs.Prelude.{◌≡◌, ◌≢◌, ◌<◌, IfOk, OnErr};
 ghost use Rattle.slot_tables.specs.Views.{SameSizes};
 ghost use Rattle.background.specs.Marking.{PutsAt};
@@ -43,7 +43,7 @@ impl Tiers {
     }
 }
 
-// What a placing comes to that was refused; out of memory is no outcome.
+// The outcome of a refused placing; out of memory is no outcome.
 fn refused(refusal: Refusal) -> Result<Outcome, AllocError>
     ensures ok { IfOk result (λ outcome. (outcome ≡ Outcome.Refused refusal) × (refusal ≢ Refusal.Memory)) }
     ensures err { OnErr result (refusal ≡ Refusal.Memory) }

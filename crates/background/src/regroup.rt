@@ -1,4 +1,4 @@
-//! One extent after another, by a plan.
+//! Moving one extent by a plan: rebalancing, or rebuilding.
 ghost use Rattle.std.specs.Prelude.{◌≡◌, ◌≢◌, ◌+◌, ◌<◌, ◌≤◌, Bool, IfOk, IfSome, List, OnErr, Some};
 ghost use Rattle.slot_tables.specs.Represents.{Represents};
 ghost use Rattle.slot_tables.specs.Views.{SameSizes, IsWhole};
@@ -84,7 +84,7 @@ fn carry_out(alloc: Global, world: &mut World, shift: Shift) -> Result<Regrouped
     }
 }
 
-// What a shift comes to that was refused; out of memory is no outcome.
+// The outcome of a refused shift; out of memory is no outcome.
 fn refused(refusal: Refusal) -> Result<Regrouped, AllocError>
     ensures ok { IfOk result (λ outcome. (outcome ≡ Regrouped.Refused refusal) × (refusal ≢ Refusal.Memory)) }
     ensures err { OnErr result (refusal ≡ Refusal.Memory) }

@@ -1,8 +1,8 @@
-//! What comes of a shift that a plan chose.
+//! The outcome of a shift that a plan chose.
 use rebalancer::Shift;
 use step_core::Refusal;
 
-/// What comes of evening out, or of rebuilding.
+/// The outcome of rebalancing or rebuilding one extent.
 #[derive(Clone, Copy, Debug, PartialEq, Eq)]
 pub enum Regrouped {
     /// The member is the extent that the plan chose.

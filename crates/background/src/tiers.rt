@@ -14,9 +14,9 @@ use crate::{FreeHints, Planner};
 use std::alloc::{AllocError, Global};
 use step_core::{Answer, Class, Member, World};
 
-/// A world; what its plans go by; and which slots may be free. Commits, releases, and making or dissolving a group go by the
-/// calls here: if the world itself is called for one of them, the planner and the free slots are out of date. Its other steps may
-/// go by the world.
+/// A world, what its plans depend on, and which slots may be free. Commits, releases, and making or dissolving a group must
+/// use the calls here: if the world itself is called for one of them, the planner and the free slots are out of date. Other
+/// steps may call the world.
 #[derive(Drop)]
 pub struct Tiers {
     pub world: World,
@@ -25,8 +25,8 @@ pub struct Tiers {
 }
 
 impl Tiers {
-    /// The world with no write noted and nothing appended. It takes memory by the number of blocks; no step takes any later,
-    /// but what the world's steps take.
+    /// The world with no write noted and nothing appended. It allocates memory by the number of blocks; later steps allocate
+    /// only what the world's steps do.
     pub fn new(alloc: Global, world: World) -> Result<Tiers, AllocError>
         ensures same { IfOk result (λ tiers. tiers.world ≡ world) }
         ensures ok { IfOk result (λ tiers. (F : Flat) → Represents world F → StandsFor tiers (begun F)) }
@@ -40,7 +40,7 @@ impl Tiers {
         })
     }
 
-    /// Commits a slot that waits for the worker, and notes the write where what waited was a fresh payload.
+    /// Commits a slot that waits for the worker, and notes the write where what waited was a fresh payload or trim.
     pub fn commit(
         &mut self,
         alloc: Global,
@@ -90,7 +90,7 @@ impl Tiers {
         Ok(answer)
     }
 
-    /// Unmakes a group of which the worker holds all slots.
+    /// Dissolves a group of which the worker holds all slots.
     pub fn unmake(&mut self, alloc: Global, worker: u8, group: u16) -> Result<Answer, AllocError>
         ensures ok { IfOk result (λ answer. (T : Tiered) → StandsFor self.old T
             → (U : Tiered) × StepNoted T (f.Unmake worker group) (flat_answer answer) U × StandsFor self.new U) }

@@ -1,4 +1,4 @@
--- Places of slots as C sees them, and what calls on them come to.
+-- Places of slots as C sees them, and what calls on them return.
 use Rattle.std.specs.Prelude.{◌≡◌, ℕ, zero, suc, ◌<◌, ◌≤◌}
 use Rattle.extent_groups.specs.declared.class.Class.{Class}
 use Rattle.extent_groups.specs.declared.class.Class.TheVariants.{Mirrored, Parity}
@@ -15,7 +15,7 @@ abbrev pub class_of : ℕ → Class
 class_of zero = Mirrored
 class_of (suc _) = Parity
 
--- a group may have this class, and as many members and segments
+-- a group may have this class and these numbers of members and segments
 pub record IsGroup (class members segments : ℕ) : Type 0 where
   pub known : class ≤ 1
   pub enough : 3 ≤ members

@@ -1,4 +1,4 @@
--- Headers as C sees them, and what calls on them come to.
+-- Headers as C sees them, and what calls on them return.
 use Rattle.std.specs.Prelude.{◌≡◌, ℕ, ◌<◌, ◌≤◌, List}
 use Rattle.extents.specs.declared.header.Header.{Header}
 use Rattle.extents.specs.declared.header.Header.TheVariants.{Blank, Is}

@@ -1,4 +1,4 @@
--- Lists of records as bytes, twelve for each, and what calls on them come to.
+-- Lists of records as bytes, twelve for each, and what calls on them return.
 use Rattle.std.specs.Prelude.{◌≡◌, ◌≢◌, ◌+◌, ◌*◌, ◌/◌, ◌%◌, ◌<◌, ◌≤◌, ◌⊎◌, ℕ, List, [], ◌∷◌, ◌++◌, length, slice_range, take, drop, Contains}
 use Rattle.byteorder.specs.Endian.{big_number}
 use Rattle.map_join.specs.declared.records.Record.{Record}
@@ -7,19 +7,19 @@ use Rattle.map_join.specs.Maps.{IsMapOf, IsListOf, IsLowestDifference, IsSame}
 use Rattle.behkuna.specs.declared.status.Status.{Status}
 use Rattle.behkuna.specs.declared.status.Status.TheVariants as is
 
--- bytes were put out: they are at the start of the buffer, and the rest of it is as before
+-- bytes were written to the buffer: they are at its start, and the rest of it is as before
 pub record IsPut (bytes old new : List ℕ) (count : ℕ) : Type 0 where
   pub counted : count ≡ length bytes
   pub room : length bytes ≤ length old
   pub put : new ≡ bytes ++ drop (length bytes) old
 
--- bytes had no room: the count says how many they are, and the buffer is as before
+-- the buffer is too short for the bytes: the count says how many they are, and the buffer is as before
 pub record LacksRoom (bytes old new : List ℕ) (count : ℕ) : Type 0 where
   pub counted : count ≡ length bytes
   pub short : length old < length bytes
   pub same : new ≡ old
 
--- bytes were put out, or had no room
+-- bytes were written to the buffer, or it is too short for them
 abbrev pub PutsOut : Status → List ℕ → List ℕ → List ℕ → ℕ → Type 0
 PutsOut is.Done bytes old new count = IsPut bytes old new count
 PutsOut is.Room bytes old new count = LacksRoom bytes old new count
@@ -66,14 +66,14 @@ pub record IsJoinOf (bytes joined : List ℕ) : Type 0 where
   pub newest : IsListOf keys records
   pub spelled : AreRecords joined records
 
--- the join of a list was put out
+-- the join of a list was written to the buffer, or it is too short; or the list is refused
 abbrev pub Joins : Status → List ℕ → List ℕ → List ℕ → ℕ → Type 0
 Joins is.Done bytes old new count = (joined : List ℕ) × IsJoinOf bytes joined × IsPut joined old new count
 Joins is.Room bytes old new count = (joined : List ℕ) × IsJoinOf bytes joined × LacksRoom joined old new count
 Joins status bytes old new count = Refuses status bytes × (new ≡ old) × (count ≡ 0)
 
--- two lists have one map, or maps that differ, and then first at this block; or the first list is refused, or is one and the
--- second is refused
+-- two lists have the same map, or maps of which this is the lowest block with different keys; or the first list is refused, or
+-- it isn't and the second is
 abbrev pub Compares : Status → List ℕ → List ℕ → ℕ → ℕ → Type 0
 Compares is.Done ours theirs old new =
     (mine yours : ℕ → ℕ) × IsMapOfBytes ours mine × IsMapOfBytes theirs yours × IsSame mine yours × (new ≡ old)

@@ -1,4 +1,4 @@
--- The newest record of a block in a list of records, and what its call comes to.
+-- The newest record of a block in a list of records, and what the call for it returns.
 use Rattle.std.specs.Prelude.{◌≡◌, ℕ, ◌≤◌, List, Option, Some, None, Contains}
 use Rattle.map_join.specs.declared.records.Record.{Record}
 use Rattle.map_join.specs.Record.{key_of}

@@ -1,4 +1,4 @@
--- Records as C sees them, and what calls on them come to.
+-- Records as C sees them, and what calls on them return.
 use Rattle.std.specs.Prelude.{◌≡◌, ℕ, ◌<◌, List, Some, None}
 use Rattle.map_join.specs.declared.records.Record.{Record}
 use Rattle.map_join.specs.declared.records.RecordFault.TheVariants.{Length, ZeroVersion}

@@ -1,4 +1,4 @@
--- What a run of a script over bytes in memory comes to.
+-- What a run of a script over bytes in memory returns.
 use Rattle.std.specs.Prelude.{◌≡◌, ℕ, List}
 use Rattle.script_io.specs.Says.{Says}
 use Rattle.script_io.specs.declared.end.End.{End}
@@ -13,7 +13,8 @@ HasRun end.Whole script text = Says script text end.Whole
 HasRun end.Fault script text = Says script text end.Fault
 HasRun _ script text = Unit {0}
 
--- the answers that the script says were put out, and it ended so; without room the count says how many bytes they are
+-- the script's answers were written to the buffer, and it ended so; if the buffer is too short the count says how many bytes
+-- they are
 abbrev pub Answers : Status → List ℕ → List ℕ → List ℕ → ℕ → Type 0
 Answers is.Done script old new count = (text : List ℕ) × Says script text end.Whole × IsPut text old new count
 Answers is.Fault script old new count = (text : List ℕ) × Says script text end.Fault × IsPut text old new count

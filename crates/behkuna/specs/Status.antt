@@ -1,4 +1,4 @@
--- The numbers of what calls come to.
+-- The numbers of the statuses that calls return.
 use Rattle.std.specs.Prelude.{◌≡◌, ℕ}
 use Rattle.behkuna.specs.declared.status.Status.{Status}
 use Rattle.behkuna.specs.declared.status.Status.TheVariants as is

@@ -1,4 +1,4 @@
--- What the exclusive or of two byte slices comes to.
+-- What the call for the exclusive or of two byte slices returns.
 use Rattle.std.specs.Prelude.{◌≡◌, ◌≢◌, ℕ, List, length}
 use Rattle.extent_groups.specs.Units.{plus}
 use Rattle.behkuna.specs.declared.status.Status.{Status}

@@ -1,9 +1,9 @@
-// Bytes that a call hands out.
+// Bytes that a call writes to its caller's buffer.
 ghost use Rattle.behkuna.specs.Lists.{PutsOut};
 
 use crate::status::Status;
 
-// Copies bytes to the start of a buffer and counts them; Room, where they don't fit: the buffer stays.
+// Copies bytes to the start of a buffer and counts them. Room if they don't fit: then the buffer is unchanged.
 pub(crate) fn put_out(bytes: &[u8], out: &mut [u8], count: &mut usize) -> Status
     ensures { PutsOut result bytes.now out.old out.new count.new }
 {

@@ -7,7 +7,7 @@ ghost use Rattle.behkuna.specs.Geometry.{CountsSlots, FindsCopies, FindsStripe, 
 use crate::status::Status;
 use extent_groups::{Class, Copies, Spot, Stripe, count_slots, one_stripe, two_copies};
 
-/// The classes of a group.
+/// The numbers of the classes: a mirrored group, and then a parity group.
 const MIRRORED: u32 = 0;
 
 const PARITY: u32 = 1;
@@ -71,7 +71,7 @@ fn stripe_of(stripe: Stripe) -> SlotStripe
     }
 }
 
-// Whether a group may have this class, and as many members and segments.
+// Whether a group may have this class and these numbers of members and segments.
 fn is_group(class: u32, members: u32, segments: u32) -> bool
     ensures { IsTrue result ↔ IsGroup class members segments }
 {
@@ -98,8 +98,8 @@ fn is_slot(class: u32, members: u32, segments: u32, index: u32) -> bool
     is_group(class, members, segments) && index < u32::from(slots_of(class, members, segments))
 }
 
-/// How many slots a group has, by its class (0 mirrored, 1 parity), 3 to 8 members and 1 to 8 segments of an extent. Range,
-/// where one of them is out of its range: the count stays.
+/// How many slots a group has, by its class (0 mirrored, 1 parity), 3 to 8 members and 1 to 8 segments of an extent. Range if
+/// one of them is out of its range: then `slots` is unchanged.
 #[unsafe(no_mangle)]
 pub extern "C" fn behkuna_slot_count(
     class: u32,
@@ -116,8 +116,8 @@ pub extern "C" fn behkuna_slot_count(
     Status::Done.number()
 }
 
-/// Where the two copies of a mirrored slot lie, by its group's members and segments and its index in the group. Range, where no
-/// mirrored group has such a slot: the copies stay.
+/// Where the two copies of a mirrored slot lie, by its group's members and segments and its index in the group. Range if no
+/// mirrored group has such a slot: then `copies` is unchanged.
 #[unsafe(no_mangle)]
 pub extern "C" fn behkuna_two_copies(
     members: u32,
@@ -134,8 +134,8 @@ pub extern "C" fn behkuna_two_copies(
     Status::Done.number()
 }
 
-/// Where a parity slot lies, by its group's members and segments and its index in the group. Range, where no parity group has
-/// such a slot: the stripe stays.
+/// Where a parity slot lies, by its group's members and segments and its index in the group. Range if no parity group has such
+/// a slot: then `stripe` is unchanged.
 #[unsafe(no_mangle)]
 pub extern "C" fn behkuna_one_stripe(
     members: u32,

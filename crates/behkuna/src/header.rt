@@ -8,7 +8,7 @@ use crate::record::StampedRecord;
 use crate::status::Status;
 use extents::{Header, Kind};
 
-/// The kinds of a header: of none, of a write, and of a trim.
+/// The numbers of a header's kinds: blank, and then a write of data and a trim.
 const BLANK: u32 = 0;
 
 const DATA: u32 = 1;
@@ -66,7 +66,7 @@ impl UnitHeader {
     }
 }
 
-/// The header that 32 bytes spell, in either layout. NoHeader, where they spell none: the header stays.
+/// The header that 32 bytes spell, in either layout. NoHeader if they spell none: then `header` is unchanged.
 #[unsafe(no_mangle)]
 pub extern "C" fn behkuna_header_decode(bytes: &[u8; 32], header: &mut UnitHeader) -> u32
     ensures { Returns result (λ status. DecodesHeader status bytes.now header.old header.new) }
@@ -80,8 +80,8 @@ pub extern "C" fn behkuna_header_decode(bytes: &[u8; 32], header: &mut UnitHeade
     }
 }
 
-/// Writes the 32 bytes of a header in layout 2; of a blank one the record isn't read. Range, where the kind is above 2; Version,
-/// where it is 1 or 2 and the record has version 0: the bytes stay.
+/// Writes the 32 bytes of a header in layout 2; of a blank one the record isn't read. Range if the kind is above 2; Version if
+/// it is 1 or 2 and the record has version 0. With both, `bytes` is unchanged.
 #[unsafe(no_mangle)]
 pub extern "C" fn behkuna_header_encode(header: &UnitHeader, bytes: &mut [u8; 32]) -> u32
     ensures { Returns result (λ status. EncodesHeader status header.now bytes.old bytes.new) }

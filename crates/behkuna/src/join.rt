@@ -62,10 +62,10 @@ fn joined_of(alloc: Global, records: &[u8]) -> Result<Vec<u8>, Status>
     Ok(bytes_of(alloc, &list)?)
 }
 
-/// The newest record of each block of a list of records, in the blocks' order, at the start of a buffer; the count is of bytes.
-/// Length, where the list has a part of a record; Version, where one of its records has version 0; Memory; Room, where the
-/// buffer is too short, and then the count says how many bytes are needed. But for Done the buffer stays, and but for Done and
-/// Room the count is 0.
+/// Writes the newest record of each block of a list, in the blocks' order, to the start of a buffer, and counts the bytes.
+/// Length if the list's length is no multiple of 12; Version if one of its records has version 0; Memory if out of memory; Room
+/// if the buffer is too short, and then the count is the number of bytes needed. Only Done changes the buffer. With Length,
+/// Version and Memory the count is 0.
 #[unsafe(no_mangle)]
 pub extern "C" fn behkuna_join(
     alloc: Global,
@@ -82,9 +82,9 @@ pub extern "C" fn behkuna_join(
     }
 }
 
-/// Whether two lists of records have one map. Differs, where they don't, and then the lowest block of which their maps have
-/// different keys is written; Length, Version and Memory as `behkuna_join` has them, of the first list before the second. But
-/// for Differs the block stays.
+/// Whether two lists of records have the same map. Differs if they don't: then `block` is the lowest block of which their maps
+/// have different keys. Length, Version and Memory as of `behkuna_join`, for the first list before the second. Only Differs
+/// changes `block`.
 #[unsafe(no_mangle)]
 pub extern "C" fn behkuna_agree(alloc: Global, ours: &[u8], theirs: &[u8], block: &mut u32) -> u32
     ensures { Returns result (λ status. Compares status ours.now theirs.now block.old block.new) }

@@ -49,8 +49,8 @@ fn newest_of(records: &[u8], block: u32) -> Result<Option<Record>, Status>
     Ok(newest)
 }
 
-/// The newest record of a block in a list of records, without memory. Absent, where none has the block; Length and Version as
-/// `behkuna_join` has them. But for Done the record stays.
+/// The newest record of a block in a list of records; allocates nothing. Absent if no record has the block; Length and Version
+/// as of `behkuna_join`. Only Done changes `record`.
 #[unsafe(no_mangle)]
 pub extern "C" fn behkuna_newest(records: &[u8], block: u32, record: &mut StampedRecord) -> u32
     ensures { Returns result (λ status. FindsNewest status records.now block «record».old «record».new) }

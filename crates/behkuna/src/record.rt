@@ -47,8 +47,8 @@ impl StampedRecord {
     }
 }
 
-/// Writes the twelve bytes of a record: block, version, hop and place, each with its highest byte first. Version, where the
-/// record has version 0: the bytes stay.
+/// Writes the twelve bytes of a record: block, version, hop and place, each with its highest byte first. Version if the record
+/// has version 0: then `bytes` is unchanged.
 #[unsafe(no_mangle)]
 pub extern "C" fn behkuna_record_encode(record: &StampedRecord, bytes: &mut [u8; 12]) -> u32
     ensures { Returns result (λ status. EncodesRecord status «record».now bytes.old bytes.new) }
@@ -60,7 +60,8 @@ pub extern "C" fn behkuna_record_encode(record: &StampedRecord, bytes: &mut [u8;
     Status::Done.number()
 }
 
-/// The record that twelve bytes spell. Length, where there aren't twelve; Version, where they spell version 0: the record stays.
+/// The record that twelve bytes spell. Length if there aren't twelve; Version if they spell version 0. With both, `record` is
+/// unchanged.
 #[unsafe(no_mangle)]
 pub extern "C" fn behkuna_record_decode(bytes: &[u8], record: &mut StampedRecord) -> u32
     ensures { Returns result (λ status. DecodesRecord status bytes.now «record».old «record».new) }
@@ -83,7 +84,7 @@ pub extern "C" fn behkuna_record_key(record: &StampedRecord) -> u64
     record.record().key()
 }
 
-/// The record of a block that has this key. Version, where the key is below 2^32: the record stays.
+/// The record of a block that has this key. Version if the key is below 2^32: then `record` is unchanged.
 #[unsafe(no_mangle)]
 pub extern "C" fn behkuna_record_of_key(block: u32, key: u64, record: &mut StampedRecord) -> u32
     ensures { Returns result (λ status. HasKey status block key «record».old «record».new) }

@@ -17,10 +17,10 @@ fn answer(alloc: Global, script: &[u8], text: &mut Vec<u8>) -> End
     run_script(alloc, &mut reader, text)
 }
 
-/// Runs a script on an array in memory that ends with the call, and puts its answers, a line each, at the start of a buffer; the
-/// count is of bytes. Fault, where a line is wrong, with the answers before it and its fault in the buffer. Room, where the
-/// buffer is too short, and then the count says how many bytes are needed; Memory. With Room and Memory the buffer stays, and
-/// with Memory the count is 0.
+/// Runs a script on an array in memory that ends with the call. Writes its answers, a line each, to the start of a buffer, and
+/// counts the bytes. Fault if a line is wrong: the buffer then has the answers before it and its fault. Room if the buffer is
+/// too short: the count is then the number of bytes needed. Memory if out of memory: the count is then 0. Room and Memory leave
+/// the buffer unchanged.
 #[unsafe(no_mangle)]
 pub extern "C" fn behkuna_run_script(
     alloc: Global,
@@ -38,7 +38,7 @@ pub extern "C" fn behkuna_run_script(
             Status::Done => Status::Fault.number(),
             status => status.number(),
         },
-        // A reader of bytes doesn't fail, and a writer into memory fails only if that is short.
+        // A reader of bytes doesn't fail, and a writer into memory fails only if out of memory.
         End::Memory | End::ReadFault | End::WriteFault => Status::Memory.number(),
     }
 }

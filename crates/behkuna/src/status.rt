@@ -1,4 +1,4 @@
-// What a call comes to.
+// The status that a call returns.
 ghost use Rattle.std.specs.Prelude.{◌≡◌};
 ghost use Rattle.behkuna.specs.declared.status.Status.TheVariants.{Memory};
 ghost use Rattle.behkuna.specs.Status.{number_of};
@@ -6,14 +6,14 @@ ghost use Rattle.behkuna.specs.Status.{number_of};
 use map_join::MapRefusal;
 use std::alloc::AllocError;
 
-/// What a call comes to. A call returns the number; `behkuna.h` has the numbers too.
+/// How a call ended. A call returns the number; `behkuna.h` has the numbers too.
 #[derive(Clone, Copy)]
 pub enum Status {
     /// The call did what it is for.
     Done = 0,
-    /// Bytes of another length than wanted.
+    /// The bytes don't have the length that the call requires.
     Length = 1,
-    /// A line of the script is wrong: the answers up to it are there, and the fault after them.
+    /// A line of the script is wrong: the buffer has the answers before it, and then its fault.
     Fault = 2,
     /// The buffer is too short: the count says how many bytes are needed.
     Room = 3,

@@ -2,12 +2,12 @@
 use Rattle.std.specs.Prelude.{◌≡◌, ◌≢◌, ◌⊎◌, ℕ, ◌+◌, ◌*◌, ◌<◌, ◌≤◌, Option, Some, None, List, length, slice_index}
 use Rattle.cleaner.specs.declared.choice.Ranked.{Ranked}
 
--- a group that is offered, of fewest live slots, the lowest of those alike
+-- of the groups that are offered the one of fewest live slots, and of several such the lowest
 pub record IsFewest (offers : ℕ → ℕ → Type 0) (group live : ℕ) : Type 0 where
   pub offered : offers group live
   pub best : (other count : ℕ) → offers other count → (live < count) ⊎ ((live ≡ count) × (group ≤ other))
 
--- a group that is offered, of most live slots, the lowest of those alike
+-- of the groups that are offered the one of most live slots, and of several such the lowest
 pub record IsMost (offers : ℕ → ℕ → Type 0) (group live : ℕ) : Type 0 where
   pub offered : offers group live
   pub best : (other count : ℕ) → offers other count → (count < live) ⊎ ((live ≡ count) × (group ≤ other))
@@ -21,7 +21,7 @@ pub record IsRow (rank : ℕ → ℕ) (row : ℕ) (lanes : List ℕ) : Type 0 wh
 abbrev pub IsNoBetter : (ℕ → ℕ) → ℕ → ℕ → ℕ → Type 0
 IsNoBetter rank group value other = (rank other < value) ⊎ ((rank other ≡ value) × (group ≤ other))
 
--- the group of greatest rank, at least 1, the lowest of those alike, but not the group that is left out
+-- of all groups but the one that is left out the one of greatest rank, at least 1, and of several such the lowest
 pub record IsGreatest (rank : ℕ → ℕ) (left_out : Option ℕ) (group value : ℕ) : Type 0 where
   pub low : group < 512
   pub other : left_out ≢ Some group

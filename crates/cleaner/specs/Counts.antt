@@ -28,7 +28,7 @@ pub record AreLiveCounts (groups : Groups) (keys : ℕ → ℕ) (counts : List �
   pub many : length counts ≡ 512
   pub each : (group : ℕ) → group < 512 → class_in (group_at groups group) ≡ Some Parity → HasLive groups keys group (slice_index counts group)
 
--- the lowest number that is so
+-- the lowest number that has the property P
 pub record IsLowest (P : ℕ → Type 0) (n : ℕ) : Type 0 where
   pub holds : P n
   pub least : (m : ℕ) → P m → n ≤ m

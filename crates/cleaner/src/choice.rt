@@ -28,7 +28,7 @@ pub(crate) trait Ranks {
         ensures { IsRow (rank self.now) row result };
 }
 
-// The group of greatest rank, the lowest of those alike, but not the group that is left out.
+// Of all groups but the one that is left out the one of greatest rank, at least 1, and of several such the lowest.
 pub(crate) fn greatest<R: Ranks>(ranks: &R, left_out: Option<u16>) -> Option<Ranked>
     requires { R.whole ranks.now }
     ensures { IsChoice (R.rank ranks.now) left_out result }

@@ -11,8 +11,8 @@ use crate::{Move, plug_plan_counted};
 use extent_groups::{GROUPS, GroupTable, SLOTS};
 use map_join::Live;
 
-/// The move out of the emptiest parity group with a hole, but the write group, to where the log goes on, if nothing can
-/// be plugged.
+/// The move of a block to `append`, where the log goes on, out of the emptiest parity group with a live slot and a hole, the
+/// write group aside. None if something can be plugged, there is no such group, or `append` is none or in that group.
 pub fn clean_plan<L: Live>(
     groups: &GroupTable,
     live: &L,
@@ -24,8 +24,7 @@ pub fn clean_plan<L: Live>(
     clean_plan_counted(groups, live, &counts_of(groups, live), write, append)
 }
 
-/// The move out of the emptiest parity group with a hole, but the write group, to where the log goes on, if nothing can be
-/// plugged. `counts` has each group's live slots, kept as blocks moved: so only the slots of the chosen groups are read.
+/// The plan of `clean_plan`. `counts` has each group's number of live slots, so only the slots of the chosen groups are read.
 pub fn clean_plan_counted<L: Live>(
     groups: &GroupTable,
     live: &L,
@@ -42,8 +41,8 @@ pub fn clean_plan_counted<L: Live>(
     }
 }
 
-/// The move out of the emptiest parity group with a hole, but the write group, to where the log goes on. For a caller that has
-/// found that nothing can be plugged. `counts` has each group's live slots.
+/// The plan of `clean_plan`, for a caller that has found that nothing can be plugged. `counts` has each group's number of live
+/// slots.
 pub fn clean_plan_unplugged<L: Live>(
     groups: &GroupTable,
     live: &L,

@@ -10,17 +10,15 @@ use crate::slots::{lowest_hole, lowest_live};
 use extent_groups::{GROUPS, GroupTable};
 use map_join::Live;
 
-/// The move that fills the lowest hole of the fullest parity group with one, but the write group, from the emptiest
-/// other parity group.
+/// The move that plugs the lowest hole of the fullest parity group with a live slot and a hole, the write group aside, from the
+/// emptiest other parity group with a live slot. None if there is no such group, or no other that is as empty or emptier.
 pub fn plug_plan<L: Live>(groups: &GroupTable, live: &L, write: Option<u16>) -> Option<Move>
     ensures { IsPlugPlan groups.now (L.keys live.now) write result }
 {
     plug_plan_counted(groups, live, &counts_of(groups, live), write)
 }
 
-/// The move that fills the lowest hole of the fullest parity group with one, but the write group, from the emptiest other
-/// parity group. `counts` has each group's live slots, kept as blocks moved: so only the slots of the two chosen groups are
-/// read.
+/// The plan of `plug_plan`. `counts` has each group's number of live slots, so only the slots of the two chosen groups are read.
 pub fn plug_plan_counted<L: Live>(
     groups: &GroupTable,
     live: &L,

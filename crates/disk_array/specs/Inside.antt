@@ -1,4 +1,4 @@
--- An array as plain data, and what it keeps by itself for the calls of its drives.
+-- An array as plain data, with the buffers and counts that contracts don't see, and what always holds of them.
 use Rattle.std.specs.Prelude.{◌≡◌, ℕ, ◌*◌, Bool, List, length, vec_len, None}
 use Rattle.extents.specs.Failures.{Failures}
 use Rattle.extent_groups.specs.Stores.{unit_bytes}

@@ -4,7 +4,7 @@ use Rattle.extents.specs.Failures.{settled, fused}
 use Rattle.flat_machine.specs.Flat.{Stored, put}
 use Rattle.array_parts.specs.Views.{DriveView, PartsView, Shows, SameTables, lost_of, failed_of}
 
--- the drive is lost now, which is no failure of its own, and none lies ahead; and nothing else happened
+-- the drive is lost, which counts as no failure of its own, and no such failure lies ahead; nothing else happened
 pub record WasLost (a b : PartsView) (drive : ℕ) : Type 0 where
   pub drives : (x : DriveView) → slice_get a.drives drive ≡ Some x → b.drives ≡ slice_set a.drives drive (record x { lost = true; failures = settled x.failures })
   pub lost : (d : ℕ) → lost_of b d ≡ put (lost_of a) drive true d
@@ -13,7 +13,7 @@ pub record WasLost (a b : PartsView) (drive : ℕ) : Type 0 where
   pub many : length b.drives ≡ length a.drives
   pub rest : SameTables a b
 
--- the drive has a fuse now, if it isn't lost, and nothing else happened
+-- the drive has a fuse, if it isn't lost, and nothing else happened
 pub record WasFused (a b : PartsView) (drive : ℕ) : Type 0 where
   pub drives : (x : DriveView) → slice_get a.drives drive ≡ Some x → b.drives ≡ slice_set a.drives drive (record x { failures = fused x.lost x.failures })
   pub lost : (d : ℕ) → lost_of b d ≡ lost_of a d

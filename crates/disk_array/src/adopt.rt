@@ -83,7 +83,7 @@ impl<D: Drive, C: Hold> Array<D, C> {
         }
     }
 
-    // `adopt_among` with buffers that there are.
+    // `adopt_among` with existing buffers.
     fn adopt_with(
         alloc: Global,
         buffers: Buffers,

@@ -31,7 +31,7 @@ impl<D: Drive, C: Hold> Array<D, C> {
     }
 }
 
-// Where a claim is kept at the place, it and the other are of different slots; so none is.
+// Shows that the place keeps no claim: `apart` says that a kept one would be of a different slot.
 #[tactic(auto, using(slot_tables::proofs::Places::kept_past))]
 fn apart_at<C: Hold, W: Apart<C>>(
     places: &mut Vec<SlotState<C>>,
@@ -68,7 +68,7 @@ fn apart_at<C: Hold, W: Apart<C>>(
     }
 }
 
-/// What an array shows leaves free which slots workers have claims of: with one more it is shown by the same array.
+/// A law: an array that shows a flat state also shows the state in which a worker has one claim more.
 pub fn claims_are_free()
     ensures shows { (array : ArrayView) (F : Flat) (slot worker : ℕ) → ShowsArray array F → ShowsArray array (with_claim F slot worker) }
     ensures holds { (F : Flat) (slot worker : ℕ) → (with_claim F slot worker).held slot (Worker worker) ≡ true }

@@ -1,4 +1,4 @@
-// The array: its tables, and the small reads of them.
+// The array: its tables, how a new one is made, and the calls that only read them.
 ghost use Rattle.std.specs.Prelude.{◌≡◌, ℕ, ◌+◌, ◌*◌, ◌<◌, ◌≤◌, length, map, drop};
 ghost use Rattle.std.specs.Prelude.{slice_index_or, None, true, IsTrue, ◌↔◌, IsOk, IfOk, IfErr, OnOk};
 ghost use Rattle.map_join.specs.Record.{record_at};
@@ -32,7 +32,7 @@ pub struct Array<D: Drive, C: Hold> {
     pub(crate) log: Vec<Record>,
     /// The key of each block, 0 where it was never written.
     pub(crate) keys: Vec<u64>,
-    /// What is kept of each slot of the group numbers up to the greatest that was made: past its end nothing is.
+    /// What is kept of each slot, for group numbers up to the greatest that was made. Of slots past its end nothing is kept.
     pub(crate) places: Vec<SlotState<C>>,
     /// Of each group, how many of its slots are newest places.
     pub(crate) live: [u16; GROUPS],

@@ -158,7 +158,7 @@ impl<D: Drive, C: Hold> Array<D, C> {
     }
 }
 
-// The claim of a block's last place, which is kept no longer.
+// Takes out the claim of a block's last place, if it had one.
 fn let_go<C: Hold>(
     places: &mut Vec<SlotState<C>>,
     live: &mut [u16; GROUPS],
@@ -187,7 +187,7 @@ fn let_go<C: Hold>(
     }
 }
 
-// The claim that waited is kept for the block.
+// Keeps the claim of a slot that waits as that of the block's newest place.
 #[tactic(auto, using(slot_tables::proofs::Places::set_twice))]
 fn keep_newest<C: Hold>(
     places: &mut Vec<SlotState<C>>,

@@ -1,5 +1,5 @@
-// What an array has its drives do for a slot, and for a group that is made. All but its parts stays as it was, and what it keeps of
-// a group's number that is made.
+// The array's calls of its drives for a slot, and for making a group. Only its parts change, and what it keeps of the slots
+// of a group's number that is made.
 ghost use Rattle.std.specs.Prelude.{◌≡◌, ◌⊎◌, ◌+◌, ◌*◌, ◌<◌, ◌≤◌, length, vec_len, vec_capacity, OnOk, OnErr, IfOk, IfErr, Some, None};
 ghost use Rattle.extents.specs.declared.shape.TheConstants.{HEADER_BYTES};
 ghost use Rattle.extent_groups.specs.Faults.{put_fault};
@@ -38,8 +38,8 @@ impl<D: Drive, C: Hold> Array<D, C> {
         self.parts.payload(slot, payload, unit, scratch)
     }
 
-    // Makes a group under a free number, of members that pass every check, and takes out the claims that were
-    // kept of that number. Where there is no memory for its places, all is as it was.
+    // Makes a group under a free number, of members that pass every check, and takes out the claims that were kept of that
+    // number. If out of memory for its places, nothing has changed.
     pub(crate) fn enter(
         &mut self,
         number: u16,

@@ -1,4 +1,4 @@
-// What workers have in hand of each slot, their tickets too: each ticket comes out where one went in.
+// What workers have in hand of each slot: nothing, a claim or a ticket. A ticket comes out only where one went in.
 ghost use Rattle.std.specs.Prelude.{◌≡◌, ℕ, length, replicate, slice_set, IfOk, MatchOption, true, false};
 ghost use Rattle.slot_tables.specs.Views.{hand_at};
 ghost use Rattle.slot_tables.specs.Represents.{is_ticket};
@@ -8,7 +8,7 @@ use slot_tables::{Hand, SLOTS};
 use std::alloc::{AllocError, Global};
 use std::marker::Model;
 
-// A word's kind, next to which it has the worker's number.
+// The kinds of a word that isn't 0. Its low byte is the worker's number.
 const CLAIM: u16 = 256;
 
 const TICKET: u16 = 512;
@@ -34,7 +34,7 @@ impl Model for Hands {
 }
 
 impl Hands {
-    /// Nobody has anything in hand.
+    /// New hands, in which nobody has anything.
     pub fn new(alloc: Global) -> Result<Hands, AllocError>
         ensures many { IfOk result (λ hands. length hands ≡ 65536) }
         ensures empty { IfOk result (λ hands. (s : ℕ) → hand_at hands s ≡ Hand.Empty) }
@@ -56,21 +56,21 @@ impl Hands {
         }
     }
 
-    /// The worker has a claim of the slot in hand from now on.
+    /// Records that the worker has a claim of the slot in hand.
     pub fn hold(&mut self, slot: u16, worker: u8)
         ensures { self.new ≡ slice_set self.old slot (Hand.Holds worker) }
     {
         self.hands[usize::from(slot)] = CLAIM + u16::from(worker);
     }
 
-    /// Nobody has the slot in hand from now on.
+    /// Records that nobody has the slot in hand.
     pub fn clear(&mut self, slot: u16)
         ensures { self.new ≡ slice_set self.old slot Hand.Empty }
     {
         self.hands[usize::from(slot)] = 0;
     }
 
-    /// Nobody has anything in hand from now on. It allocates nothing.
+    /// Records that nobody has anything in hand. It allocates nothing.
     pub fn clear_all(&mut self)
         ensures many { length self.new ≡ 65536 }
         ensures empty { (s : ℕ) → hand_at self.new s ≡ Hand.Empty }
@@ -85,7 +85,7 @@ impl Hands {
         self.hands[usize::from(ticket.slot())] = TICKET + u16::from(worker);
     }
 
-    /// The worker's ticket of a slot, if it has one; nobody has the slot in hand then.
+    /// Returns the worker's ticket of a slot, if it has one; nobody has the slot in hand then.
     pub fn take(&mut self, worker: u8, slot: u16) -> Option<Ticket>
         ensures { MatchOption result
             ((is_ticket (hand_at self.old slot) worker ≡ false) × (self.new ≡ self.old))

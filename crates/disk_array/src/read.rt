@@ -21,8 +21,8 @@ use map_join::Record;
 use slot_tables::Hold;
 use std::alloc::{AllocError, Global};
 
-/// What lies at a record's place: the payload or the trim under exactly that record, or in its stead the
-/// header found, none where it is blank or the place is in no group.
+/// What lies at a record's place: the payload or the trim under exactly that record; else the record in the header that was
+/// found, none where it is blank or the place is in no group.
 #[derive(Debug, Drop)]
 pub enum At {
     Data(Vec<u8>),
@@ -142,7 +142,7 @@ impl<D: Drive, C: Hold> Array<D, C> {
         self.parts.see(asked, payload, unit, scratch)
     }
 
-    // As many zeros as a payload has bytes, to read one into.
+    // A buffer of a payload's length, to read a payload into.
     pub(crate) fn no_payload(&self, alloc: Global) -> Result<Vec<u8>, AllocError>
         ensures { IfOk result (λ payload. length payload.items ≡ self.now.parts.groups.payload) }
     {

@@ -1,4 +1,4 @@
-// A member of a group goes onto another extent.
+// Moving a member of a group to another extent.
 ghost use Rattle.std.specs.Prelude.{◌≡◌, ◌≢◌, ◌<◌, length, IfErr, OnOk, MatchResult, None};
 ghost use Rattle.array_parts.specs.Views.{NotShifted, Shifted};
 ghost use Rattle.flat_machine.specs.Cases.{IsWanted, MoveCase};
@@ -20,12 +20,11 @@ use slot_tables::Hold;
 use std::alloc::Global;
 
 impl<D: Drive, C: Hold> Array<D, C> {
-    /// Copies what lies on a group's member onto another extent, or rebuilds it from the other members
-    /// where its drive is lost, also in the midst; then that extent is the member, and the old one is free.
-    /// Refused where there is no such member, or the other extent isn't there, is on a drive of one of the
-    /// members, is owned, or its drive is lost then; and as gone, with the lowest slot of the group that is
-    /// gone, where a unit can't be rebuilt. A refused move leaves tables and slots as they were, but for
-    /// drives that were lost; the other extent may have been written.
+    /// Copies the units of a group's member onto another extent, or rebuilds them from the other members if the member's
+    /// drive is lost, also during the move. Then that extent is the member, and the old one is free. Refused where there is
+    /// no such member, or the other extent isn't there, is on a drive of one of the members, is owned, or is on a lost drive;
+    /// and as gone, with the lowest slot of the group that is gone, where a unit can't be rebuilt. A refused move leaves
+    /// tables and slots as they were, but for drives that were lost; the other extent may have been written.
     pub fn move_extent(
         &mut self,
         _alloc: Global,

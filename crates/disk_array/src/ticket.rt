@@ -1,4 +1,4 @@
-// What a call hands out for a claim that it took.
+// What a call returns for a claim that it took.
 ghost use Rattle.std.specs.Prelude.{◌≡◌};
 
 use std::marker::Model;

@@ -22,7 +22,7 @@ pub record IsPlace {D : Type 0} (units : D → List (List ℕ)) (drives : List D
   pub inside : p.drive < length drives
   pub low : (x : D) → slice_get drives p.drive ≡ Some x → p.address < length (units x)
 
--- what may be a unit is what it was, or lost
+-- an optional unit is what it was, or lost
 abbrev pub Fades : Option (List ℕ) → Option (List ℕ) → Type 0
 Fades old new = (new ≡ old) ⊎ (new ≡ None)
 
@@ -41,7 +41,8 @@ pub record DidRead (c new : Cells) (p : Place) (unit : List ℕ) (ok : Bool) : T
   pub fades : (x : Place) → FadesAt c new x
   pub elsewhere : (x : Place) → x.drive ≢ p.drive → held new x ≡ held c x
 
--- a write of a place: it holds the unit, or its drive is lost; another place of the drive holds what it held, or the drive is lost; other drives hold what they held
+-- a write of a place: it holds the unit, or its drive is lost; every other place of the drive holds what it held, unless the
+-- drive is lost; other drives hold what they held
 pub record DidWrite (c new : Cells) (p : Place) (unit : List ℕ) (ok : Bool) : Type 0 where
   pub here : held new p ≡ if_ok ok unit
   pub was : ok ≡ true → held c p ≡ None → ⊥
@@ -56,12 +57,13 @@ NoPlace p = ⊥
 abbrev pub Only : Place → Place → Type 0
 Only p x = x ≡ p
 
--- drives that calls don't use are the same
+-- drives that calls don't use are as they were
 abbrev pub SameBut : {D : Type 0} → (ℕ → Type 0) → List D → List D → Type 0
 SameBut used old new = (d : ℕ) → (used d → ⊥) → slice_get new d ≡ slice_get old d
 
--- what calls leave of a drive: as many units as before and as long, those untouched as they were. Lost stays lost. The count of
--- its own failures rose by one where it is lost now and wasn't, and else not. A steady drive isn't lost by it, and stays steady.
+-- what calls leave of a drive: its number of units and their size are unchanged, and untouched units are as they were. A lost
+-- drive stays lost. The count of its own failures rises by one if the calls lost it, and else stays. A steady drive isn't lost by
+-- them, and stays steady.
 pub record KeepsDrive {D : Type 0} (units : D → List (List ℕ)) (lost : D → Bool) (failures : D → Failures) (touched : ℕ → Type 0) (x y : D) : Type 0 where
   pub room : length (units y) ≡ length (units x)
   pub sizes : (bytes : ℕ) → IsSized bytes (units x) → IsSized bytes (units y)

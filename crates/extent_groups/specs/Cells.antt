@@ -7,7 +7,7 @@ use Rattle.extent_groups.specs.declared.place.Place.{Place}
 abbrev pub Cells : Type 0
 Cells = ℕ → ℕ → Option (List ℕ)
 
--- the unit at an address of what may be a drive: none where the drive is lost or isn't there
+-- the unit at an address of an optional drive: none where the drive is lost or isn't there
 abbrev pub cell : {D : Type 0} → (D → List (List ℕ)) → (D → Bool) → Option D → ℕ → Option (List ℕ)
 cell units lost None at = None
 cell units lost (Some drive) at = if lost drive then None else slice_get (units drive) at
@@ -20,7 +20,7 @@ cells units lost drives drive at = cell units lost (slice_get drives drive) at
 abbrev pub held : Cells → Place → Option (List ℕ)
 held c p = c p.drive p.address
 
--- the first `count` bytes of what may be a unit
+-- the first `count` bytes of an optional unit
 abbrev pub front : ℕ → Option (List ℕ) → Option (List ℕ)
 front count unit = option_map (take count) unit
 

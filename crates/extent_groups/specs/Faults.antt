@@ -36,7 +36,7 @@ swap_check_of owners members to =
     else if is_owned owners to then Some ExtentTaken
     else None
 
--- why a member of what may be a group isn't swapped for an extent: there is no group, or the check above fails
+-- why a member of an optional group isn't swapped for an extent: there is no group, or the check above fails
 abbrev pub swap_fault : Owners → Option Group → Member → Option GroupRefusal
 swap_fault owners None to = Some NoGroup
 swap_fault owners (Some group) to = swap_check_of owners group.members to

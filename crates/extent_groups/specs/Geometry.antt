@@ -43,7 +43,8 @@ stripe_index n member offset =
     let parity = parity_of n (offset / 2) in
     2 * (offset / 2 * (n - 1) + (if nat_lt member parity then member else member - 1)) + offset % 2
 
--- what holds of the copies of an index below the number of slots: they lie within the group, on different members, and each gives the index
+-- what holds of the copies of an index below the number of slots: they lie within the group, on different members, and each gives
+-- the index
 pub record AreCopies (n s i : ℕ) (copies : Copies) : Type 0 where
   pub first_inside : (copies.first.member < n) × (copies.first.offset < 2 * s)
   pub second_inside : (copies.second.member < n) × (copies.second.offset < 2 * s)

@@ -23,22 +23,22 @@ pub record Groups : Type 0 where
 abbrev pub group_at : Groups → ℕ → Option Group
 group_at groups g = unwrap_or (slice_get groups.table g) None
 
--- the members of what may be a group
+-- the members of an optional group
 abbrev pub members_in : Option Group → List Member
 members_in None = []
 members_in (Some group) = group.members
 
--- the class of what may be a group
+-- the class of an optional group
 abbrev pub class_in : Option Group → Option Class
 class_in None = None
 class_in (Some group) = Some group.class
 
--- how many slots what may be a group has
+-- how many slots an optional group has
 abbrev pub slots_in : ℕ → Option Group → ℕ
 slots_in segments None = 0
 slots_in segments (Some group) = slot_count group.class (length group.members) segments
 
--- how many slots what may be a group has as a parity group: none where the number is free or the group mirrored
+-- how many slots an optional group has as a parity group: 0 where the number is free or the group mirrored
 abbrev pub parity_count : Class → ℕ → ℕ → ℕ
 parity_count Mirrored n s = 0
 parity_count Parity n s = slot_count Parity n s
@@ -73,7 +73,7 @@ pub record AreGroups (groups : Groups) : Type 0 where
   pub apart : (g h j k : ℕ) (a b : Member) → slice_get (members_of groups g) j ≡ Some a → slice_get (members_of groups h) k ≡ Some b
       → a.drive ≡ b.drive → a.extent ≡ b.extent → g ≡ h
 
--- every row of the owners has as many extents
+-- every row of the owners has the number of extents that the owners state
 abbrev pub AreWide : Owners → Type 0
 AreWide owners = (drive : ℕ) → drive < length owners.rows → length (row_of owners drive) ≡ owners.extents
 
@@ -98,7 +98,8 @@ Stands members drive extent = (k : ℕ) × (slice_get members k ≡ Some (record
 abbrev pub RowStands : Groups → List (Option ℕ) → ℕ → Type 0
 RowStands groups row drive = (extent g : ℕ) → slice_get row extent ≡ Some (Some g) → Stands (members_of groups g) drive extent
 
--- the groups and the owners agree: each extent of a group is there and owned by that group, and each owned extent is a member of its owner
+-- the groups and the owners agree: each extent of a group is there and owned by that group, and each owned extent is a member of
+-- its owner
 pub record Agree (groups : Groups) (owners : Owners) : Type 0 where
   pub owned : (g : ℕ) → AreOwned owners (members_of groups g) g
   pub stands : (g drive extent : ℕ) → owner_of owners drive extent ≡ Some g → Stands (members_of groups g) drive extent

@@ -5,7 +5,7 @@ use Rattle.extent_groups.specs.declared.place.Place.{Place}
 use Rattle.extent_groups.specs.Groups.{Groups, members_of}
 use Rattle.extent_groups.specs.Units.{Site, Pair, InStripe, site_of}
 
--- whether what may be a drive is missing: lost, or not there
+-- whether an optional drive is missing: lost, or not there
 abbrev pub is_missing : {D : Type 0} → (D → Bool) → Option D → Bool
 is_missing lost None = true
 is_missing lost (Some drive) = lost drive

@@ -12,7 +12,7 @@ pub record Wanted : Type 0 where
   pub place : Place
   pub unit : List ℕ
 
--- what may be a unit, with another in its stead: a write to a lost drive is skipped
+-- an optional unit, replaced by another if it is there: a write to a lost drive is skipped
 abbrev pub over : Option (List ℕ) → List ℕ → Option (List ℕ)
 over None unit = None
 over (Some old) unit = Some unit
@@ -53,7 +53,7 @@ abbrev pub own_places : Site → List Place
 own_places (Pair p q) = p ∷ q ∷ []
 own_places (InStripe row parity i) = before (slice_get row i) (before (slice_get row parity) [])
 
--- the same of what may be a site
+-- the places that a write of an optional site writes; none where there is no site
 abbrev pub places_in : Option Site → List Place
 places_in None = []
 places_in (Some site) = own_places site
@@ -68,11 +68,12 @@ abbrev pub present : Cells → (Place → List ℕ) → List Place → List Want
 present c wanted [] = []
 present c wanted (x ∷ xs) = if_held (held c x) (record { place = x; unit = wanted x }) (present c wanted xs)
 
--- the writes are those of exactly the slot's places that hold a unit: the first copy before the second, the data before the parity
+-- the writes are those of exactly the slot's places that hold a unit: the first copy before the second, the data before the
+-- parity
 abbrev pub IsListed : Groups → Cells → ℕ → (Place → List ℕ) → List Wanted → Type 0
 IsListed groups c slot wanted writes = writes ≡ present c wanted (places_in (site_of groups slot))
 
--- what is wanted of what may be a place, where it holds a unit
+-- what is wanted of an optional place, where it holds a unit
 abbrev pub wanted_in : Cells → (Place → List ℕ) → Option Place → Option (List ℕ)
 wanted_in c wanted None = None
 wanted_in c wanted (Some x) = over (held c x) (wanted x)

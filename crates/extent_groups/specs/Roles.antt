@@ -21,7 +21,7 @@ IsRole Parity n s m o ParityUnit = m ≡ parity_of n (o / 2)
 IsRole Mirrored n s m o Unused = (i : ℕ) → i < slot_count Mirrored n s → LiesAt Mirrored n i m o → ⊥
 IsRole Parity n s m o Unused = ⊥
 
--- the role of a unit in what may be a group: any role where there is none
+-- the role of a unit in an optional group: any role where there is none
 abbrev pub IsRoleIn : Option Group → ℕ → ℕ → ℕ → Role → Type 0
 IsRoleIn None s m o role = Unit {0}
 IsRoleIn (Some group) s m o role = IsRole group.class (length group.members) s m o role

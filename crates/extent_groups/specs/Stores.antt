@@ -99,7 +99,8 @@ pub record IsGroupOf (groups : Groups) (g : ℕ) (members : List Member) : Type 
   pub found : members ≡ members_of groups g
   pub formed : AreGroups groups
 
--- what reads of a group's slots leave: units that are sound and hold what they held, and the drives outside the group as they were
+-- what reads of a group's slots leave: units that are sound and hold what they held, and the drives outside the group as they
+-- were
 pub record ReadLeaves {D : Type 0} (units : D → List (List ℕ)) (lost : D → Bool) (failures : D → Failures) (groups : Groups) (group : ℕ) (old new : List D) : Type 0 where
   pub units_kept : AreSound groups (cells units lost old) → KeepsUnits groups (cells units lost old) (cells units lost new)
   pub sound : AreSound groups (cells units lost old) → AreSound groups (cells units lost new)
@@ -112,7 +113,8 @@ pub record KeepsAt (bytes : ℕ) (c new : Cells) (t : Site) : Type 0 where
   pub unit : (v : List ℕ) → unit_at bytes new t ≡ Some v → unit_at bytes c t ≡ Some v
   pub sound : IsSoundAt bytes new t
 
--- what a write of a sound site leaves: it is sound, and every sound site that shares its row or is apart from it is kept
+-- what a write of a sound site leaves: it is sound, and every other sound site, of its row or apart from it, is sound and keeps
+-- its effective unit, if it has one
 pub record LeavesSites (bytes : ℕ) (c new : Cells) (site : Site) : Type 0 where
   pub sound : IsSoundAt bytes new site
   pub others : (t : Site) → IsWhole t → IsApart site t ⊎ AreBeside site t → IsSoundAt bytes c t → KeepsAt bytes c new t

@@ -42,7 +42,7 @@ abbrev pub or_else : Option (List ℕ) → Option (List ℕ) → Option (List �
 or_else (Some u) _ = Some u
 or_else None v = v
 
--- what may be a place holds
+-- what an optional place holds
 abbrev pub held_in : Cells → Option Place → Option (List ℕ)
 held_in c None = None
 held_in c (Some p) = held c p
@@ -57,7 +57,8 @@ abbrev pub unit_at : ℕ → Cells → Site → Option (List ℕ)
 unit_at bytes c (Pair p q) = or_else (held c p) (held c q)
 unit_at bytes c (InStripe places parity i) = or_else (row_of c places i) (others bytes (length places) (row_of c places) i)
 
--- a site is sound where its copies are equal, as far as both are present, or the exclusive or of its row, as far as no member is missing, is zero throughout
+-- a site of two copies is sound if these are equal, or one is missing; a site in a row, if the exclusive or of the row is zero
+-- throughout, or a member is missing
 abbrev pub IsSoundAt : ℕ → Cells → Site → Type 0
 IsSoundAt bytes c (Pair p q) = (u v : List ℕ) → held c p ≡ Some u → held c q ≡ Some v → u ≡ v
 IsSoundAt bytes c (InStripe places parity i) = (v : List ℕ) → total bytes (length places) (row_of c places) ≡ Some v → v ≡ replicate bytes 0
@@ -83,7 +84,7 @@ site_in segments Parity members i =
     let at = stripe_of (length members) i in
     InStripe (places_of segments members at.offset) at.parity at.member
 
--- where an index of what may be a group lies, if it is one of its slots
+-- where an index of an optional group lies, if it is one of its slots
 abbrev pub site_of_index : ℕ → Option Group → ℕ → Option Site
 site_of_index segments None i = None
 site_of_index segments (Some group) i =

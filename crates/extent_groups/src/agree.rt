@@ -50,7 +50,7 @@ impl GroupTable {
         true
     }
 
-    /// Whether the owner of an extent of a drive's row, if it has one, has it.
+    /// Whether the group that owns an extent of a drive's row, if one does, has it as a member.
     fn has_owned(&self, row: &[Option<u16>], drive: usize, extent: usize) -> bool
         requires { extent < length row.now }
         ensures { IsTrue result ↔ ((g : ℕ) → slice_get row.now extent ≡ Some (Some g) → Stands (members_of self.now g) drive extent) }

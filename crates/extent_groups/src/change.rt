@@ -1,4 +1,4 @@
-// Making and unmaking a group, and swapping a member: the groups and the owners change together.
+// Making and dissolving a group, and swapping a member: the groups and the owners change together.
 ghost use Rattle.std.specs.Prelude.{◌≡◌, ◌↔◌, IsTrue, ℕ, ◌<◌, ◌⊎◌, Bool, length, Some, None, IsSome, OnOk, OnErr, IfErr, option_map};
 ghost use Rattle.std.specs.List.{list_any};
 ghost use Rattle.extents.specs.Owners.{IsExtent, with_owner, owner_of};
@@ -63,7 +63,7 @@ fn is_any_owned(extents: &ExtentTable, members: &[Member]) -> bool
     false
 }
 
-/// Why the members make no group, none where they do.
+/// Why the members can't be a group, none where they can.
 pub fn put_check(extents: &ExtentTable, members: &[Member]) -> Option<GroupRefusal>
     requires { AreThere extents.now members.now }
     ensures { result ≡ put_fault extents.now members.now }
@@ -97,7 +97,7 @@ pub fn swap_check(extents: &ExtentTable, members: &[Member], to: Member) -> Opti
     None
 }
 
-/// Puts another extent in the place of a member of what may be a group.
+/// Puts another extent in the place of a member of an optional group, where both are there.
 fn replace(kept: &mut Option<Kept>, member: usize, to: Member)
     ensures { option_map group_of kept.new ≡ option_map (λ g. with_member g member to) (option_map group_of kept.old) }
 {
@@ -160,7 +160,7 @@ impl GroupTable {
         Ok(())
     }
 
-    /// Unmakes a group, whose extents are free then; refused where the number is free.
+    /// Dissolves a group, and frees its extents; refused where the number is free.
     pub fn take_group(&mut self, extents: &mut ExtentTable, group: u16) -> Result<(), GroupRefusal>
         requires { Agree self.old extents.old }
         ensures made { OnOk result (IsSome (group_at self.old group)) }
@@ -195,7 +195,7 @@ impl GroupTable {
         }
     }
 
-    /// Puts another extent in the place of a member, which keeps its number; the extent of the member is free then.
+    /// Puts another extent in the place of a member, which keeps its number, and frees the member's old extent.
     pub fn swap_member(
         &mut self,
         extents: &mut ExtentTable,

@@ -1,6 +1,6 @@
 // Where the slots of a group lie. Segments of a mirrored group have positions 0, 1, ..: position k is on
 // member k mod n in row k / n, and two positions in turn are a pair. A stripe of a parity group is one
-// row of all members; its parity wanders from the last member down.
+// row of all members; its parity moves from the last member down, a member a stripe.
 ghost use Rattle.std.specs.Prelude.{◌≡◌, ◌≢◌, ℕ, ◌+◌, ◌*◌, ◌<◌, ◌≤◌, ◌==◌, if◌then◌else◌};
 
 /// A unit of a group: which member, and the offset in its extent.

@@ -31,7 +31,7 @@ impl GroupRefusal {
 /// Why a store can't read or write a slot.
 #[derive(Clone, Copy, Debug, PartialEq, Eq)]
 pub enum StoreRefusal {
-    /// The unit of this slot can't be had or kept: too many drives of its group are lost.
+    /// The unit of this slot can't be read or stored: too many drives of its group are lost.
     Gone(u16),
 }
 

@@ -12,7 +12,7 @@ use std::marker::Model;
 /// How many numbers there are for groups.
 pub const GROUPS: usize = 512;
 
-/// Slot numbers of each group.
+/// How many slot numbers belong to each group number.
 pub const SLOTS: u16 = 128;
 
 /// A group that is made.

@@ -9,7 +9,7 @@ pub record Held : Type 0 where
   pub units : List (List ℕ)
   pub condition : Condition
 
--- whether the drive answers no more
+-- whether the drive is lost
 abbrev pub is_gone : Condition → Bool
 is_gone Present = false
 is_gone (Fused _) = false

@@ -11,7 +11,7 @@ pub record Failures : Type 0 where
 abbrev pub no_failures : Failures
 no_failures = record { count = 0; steady = true }
 
--- of a drive that failed so often, and of which nothing is said
+-- of a drive that failed `count` times, and isn't steady
 abbrev pub unsteady : ℕ → Failures
 unsteady count = record { count = count; steady = false }
 

@@ -1,7 +1,7 @@
 -- Which group owns which extent of which drive.
 use Rattle.std.specs.Prelude.{ℕ, ◌<◌, Option, None, List, [], ◌∷◌, ◌++◌, length, slice_get, slice_set, unwrap_or, is_some, is_none, count_by, position, replicate}
 
--- the owners of the extents, drive by drive; each drive has as many extents
+-- the owners of the extents, drive by drive, and how many extents each drive has
 pub record Owners : Type 0 where
   pub extents : ℕ
   pub rows : List (List (Option ℕ))
@@ -27,7 +27,7 @@ load_of owners drive = count_by is_some (row_of owners drive)
 abbrev pub lowest_free_of : Owners → ℕ → Option ℕ
 lowest_free_of owners drive = position is_none (row_of owners drive)
 
--- the owners, with another one for one extent
+-- the owners, with one extent given to another group or to none
 abbrev pub with_owner : Owners → ℕ → ℕ → Option ℕ → Owners
 with_owner owners drive extent owner =
     record owners { rows = slice_set owners.rows drive (slice_set (row_of owners drive) extent owner) }

@@ -11,13 +11,13 @@ unit_of size kept (suc number) = slice_index_or kept number []
 abbrev pub units_of : ℕ → ℕ → List ℕ → List ℕ → List (List ℕ)
 units_of size stored bytes places = map (unit_of size (units_in size stored bytes)) places
 
--- how many places are of no kept unit
+-- how many of the places name no kept unit
 abbrev pub blanks : List ℕ → ℕ
 blanks [] = 0
 blanks (zero ∷ places) = suc (blanks places)
 blanks (suc number ∷ places) = blanks places
 
--- `stored` of `count` units are kept, each of one place, with room for all that may still be written
+-- `stored` of `count` units are kept, each named by one place, with room for all `count` units
 pub record IsThin (size count stored capacity : ℕ) (bytes places : List ℕ) : Type 0 where
   pub small : size ≤ 131072
   pub many : length places ≡ count

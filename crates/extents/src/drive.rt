@@ -3,7 +3,7 @@ ghost use Rattle.std.specs.Prelude.{◌≡◌, ℕ, ◌+◌, ◌<◌, Bool, true
 ghost use Rattle.extents.specs.Failures.{Failures, Counts, StaysSteady};
 ghost use Rattle.extents.specs.Units.{IsSized, HaveFront, HasRoom, fronts};
 
-/// The drive answers no more, and never will again.
+/// The drive is lost, and stays so.
 #[derive(Clone, Copy, Debug, PartialEq, Eq)]
 pub struct DriveLost;
 
@@ -15,7 +15,7 @@ pub trait Drive {
     /// Whether the drive answers no more.
     ghost lost: { Self → Bool };
 
-    /// How often the drive failed by itself, and whether it is steady: no failure of its own lies ahead.
+    /// How often the drive failed spontaneously, and whether it is steady: no failure of its own lies ahead.
     ghost failures: { Self → Failures };
 
     /// How many units the drive has.

@@ -189,7 +189,8 @@ impl Header {
         }
     }
 
-    /// The header that 32 bytes spell, in either layout; refused where they spell none. Inlined, since a scan decodes each slot's.
+    /// The header that 32 bytes spell, in either layout; refused where they spell none. Inlined, since a scan decodes each
+    /// slot's.
     #[inline(always)]
     pub fn decode(bytes: &[u8; 32]) -> Result<Header, HeaderFault>
         ensures ok { IfOk result (Spells bytes.now) }

@@ -16,7 +16,7 @@ use std::marker::Model;
 enum Condition {
     /// It answers.
     Present,
-    /// It answers all calls before the one of this number, counted from 1.
+    /// It answers all calls before the one of this number (1 = the next), at which it is lost.
     Fused(u64),
     /// It was lost from outside.
     Lost,
@@ -24,7 +24,7 @@ enum Condition {
     Burnt,
 }
 
-/// A drive in memory. Its units have one allocation, of which those that were never written touch nothing.
+/// A drive in memory. The memory for its units is allocated at once, and a unit that was never written touches none of it.
 #[derive(Drop)]
 pub struct MemDrive {
     units: ThinUnits,
@@ -44,7 +44,7 @@ impl MemDrive {
     ghost use Rattle.extents.specs.Sizes.{extent_units};
     ghost use Rattle.extents.specs.Condition.{after_loss, after_fuse};
 
-    /// A drive of this shape, all its units zero; refused where memory is out.
+    /// A drive of this shape, all its units zero; refused if out of memory.
     pub fn new(alloc: Global, shape: &Shape) -> Result<MemDrive, AllocError>
         ensures units { IfOk result (λ m. m.units ≡ zero_units (HEADER_BYTES + shape.now.payload) (shape.now.extents * extent_units shape.now.segments)) }
         ensures present { IfOk result (λ m. m.condition ≡ Present) }
@@ -56,7 +56,7 @@ impl MemDrive {
         })
     }
 
-    /// Loses the drive, its units unread from then on.
+    /// Loses the drive from outside: it answers no later call. A drive that its fuse has lost stays as it is.
     pub fn lose(&mut self)
         ensures units { self.new.units ≡ self.old.units }
         ensures condition { self.new.condition ≡ after_loss self.old.condition }
@@ -67,7 +67,8 @@ impl MemDrive {
         self.condition = Condition::Lost;
     }
 
-    /// Loses the drive at the given read or write from now on, counted from 1, and for all later ones.
+    /// Makes the drive fail at its `calls`-th read or write after this call (1 = the next), and at all later ones. A lost drive
+    /// stays as it is.
     pub fn fuse(&mut self, calls: u64)
         requires { 1 ≤ calls }
         ensures units { self.new.units ≡ self.old.units }
@@ -80,7 +81,7 @@ impl MemDrive {
     }
 }
 
-/// Whether this call answers; the fuse has one call less afterwards.
+/// Whether the drive answers this call, which is counted off its fuse, if one is set.
 fn spend(condition: &mut Condition) -> bool
     ensures answers { result ≡ not (is_gone condition.new) }
     ensures spent { condition.new ≡ after_call condition.old }

@@ -6,7 +6,7 @@ use crate::Shape;
 use std::alloc::{AllocError, Global};
 use std::marker::Model;
 
-/// The most drives that an array has.
+/// The greatest number of drives of an array.
 pub const DRIVES: usize = 16;
 
 /// The extents of one drive.

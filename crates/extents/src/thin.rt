@@ -59,7 +59,7 @@ impl ThinUnits {
         self.count
     }
 
-    /// Reads the first bytes of a unit, as many as the buffer has.
+    /// Reads the first bytes of a unit, `front.len()` of them.
     pub fn read(&self, at: u32, front: &mut [u8])
         requires at { at < length self.now }
         requires size { HaveFront (length front.old) self.now }
@@ -127,7 +127,7 @@ fn append(bytes: &mut Vec<u8>, front: &[u8], rest: &[u8])
     }
 }
 
-/// Reads the bytes from a place on, as many as the buffer has.
+/// Reads the bytes from a place on, `front.len()` of them.
 fn load(bytes: &[u8], start: usize, front: &mut [u8])
     requires { start + length front.old ≤ length bytes.now }
     ensures { front.new ≡ take (length front.old) (drop start bytes.now) }

@@ -13,7 +13,7 @@ pub(crate) fn is_answer(wanted: &Words<'_>, answer: &Answer) -> bool {
     wanted.verb == verb && wanted.numbers == numbers
 }
 
-/// Whether there is one answer for each line, and each is the one that it spells.
+/// Whether there is one answer for each line, and each answer is the one that its line spells.
 pub(crate) fn are_answers(wanted: &[Words<'_>], answers: &[Answer]) -> bool {
     for (line, answer) in wanted.iter().zip(answers) {
         if !is_answer(line, answer) {

@@ -5,7 +5,7 @@ use crate::words::{Words, byte, words_of};
 use std::alloc::Global;
 use step_core::{Shape, Step, World};
 
-/// Steps, each with the answer that is wanted of it.
+/// Steps, each with its expected answer.
 #[derive(Drop)]
 pub(crate) struct Part<'a> {
     pub(crate) steps: Vec<Step>,
@@ -33,7 +33,7 @@ pub(crate) fn read_case(alloc: Global, text: &str) -> Result<Case<'_>, Trouble> 
     })
 }
 
-/// The steps of a text, each with its answer, and this character after each but the last; empty pieces are none.
+/// The steps of a text, each with its answer, separated by this character. Empty pieces are skipped.
 pub(crate) fn steps_of(alloc: Global, text: &str, end: char) -> Result<Part<'_>, Trouble> {
     let mut part = Part {
         steps: Vec::new(alloc),

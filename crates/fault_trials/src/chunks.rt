@@ -1,4 +1,4 @@
-// Readers that give their bytes in pieces and may fail, and writers that take them so.
+// Readers that return their bytes in pieces and may fail, and writers that accept bytes in pieces and may fail.
 use std::io;
 use std::io::{ErrorKind, Read, Write};
 
@@ -7,13 +7,13 @@ use std::io::{ErrorKind, Read, Write};
 pub(crate) enum Then {
     /// There is no more.
     End,
-    /// Each read fails from then on.
+    /// Each read fails.
     Fail,
     /// One read fails, and the rest follows.
     FailOnce,
 }
 
-/// Gives at most `piece` bytes a read.
+/// A reader that returns at most `piece` bytes a read.
 #[derive(Drop)]
 pub(crate) struct Feed<'a> {
     pub(crate) front: &'a [u8],
@@ -42,15 +42,15 @@ impl Read for Feed<'_> {
     }
 }
 
-/// Takes at most `piece` bytes a write, and only as many as there is room for: then it takes none or fails.
+/// A writer that accepts at most `piece` bytes a write, and `room` bytes in all. After that it accepts none or fails.
 #[derive(Drop)]
 pub(crate) struct Sink {
     pub(crate) taken: Vec<u8>,
     pub(crate) room: usize,
     pub(crate) piece: usize,
-    /// It answers an error where there is no room, in place of 0 bytes.
+    /// Without room it returns an error, instead of accepting 0 bytes.
     pub(crate) fails: bool,
-    /// After the first write that took nothing there is room for all.
+    /// After the first write that accepts nothing it has room for all bytes.
     pub(crate) goes_on: bool,
 }
 

@@ -4,7 +4,7 @@ use crate::trouble::Trouble;
 use script_io::{End, run_script};
 use std::alloc::Global;
 
-/// How many runs a reader broke off, and how many a writer.
+/// How many runs ended by a failed read, and how many by a failed write.
 #[derive(Drop)]
 pub(crate) struct Edges {
     pub(crate) readers: u64,
@@ -49,7 +49,7 @@ pub(crate) fn break_off(alloc: Global, script: &[u8], answers: &[u8]) -> Result<
     Ok(counts)
 }
 
-// The answers' lines, as many as there are whole lines in the front of a script.
+// The answers to the whole lines of a prefix of a script.
 fn lines_of<'a>(answers: &'a [u8], front: &[u8]) -> &'a [u8] {
     let mut lines = 0usize;
     for byte in front {

@@ -34,7 +34,7 @@ pub(crate) fn fuse_all(alloc: Global, case: &Case<'_>) -> Result<Fuses, Trouble>
     Ok(counts)
 }
 
-// Fuses a drive at its first call, and so on.
+// Fuses a drive at its first call, then at its second, and so on, until the drive isn't lost.
 fn fuse_each(alloc: Global, case: &Case<'_>, drive: u8, counts: &mut Fuses) -> Result<(), Trouble> {
     for call in 1..MOST_CALLS {
         let (is_lost, refused) = fuse_once(alloc, case, drive, call)?;
@@ -93,7 +93,7 @@ fn is_as_wanted(
     Ok(is_wanted)
 }
 
-// Whether a step is answered as without the loss; else it is a move that is refused for it.
+// Whether a step is answered as without the loss. If not, it is a move that is refused because of the loss.
 fn is_wanted_or_lost(
     alloc: Global,
     world: &mut World,

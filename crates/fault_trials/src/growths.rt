@@ -1,4 +1,4 @@
-// A run of steps that goes on from where memory was wanted, and a restart from what is handed back.
+// A run of steps that goes on from where an allocation failed, and a restart from the parts that a failed call returns.
 use crate::answers::are_answers;
 use crate::case::{Case, Part};
 use crate::runs::{answered, run, run_once};
@@ -13,7 +13,7 @@ use step_core::{Array, MemDrive, Plain, Stopped, World};
 /// An array of drives in memory, with plain claims.
 pub(crate) type Memory = Array<MemDrive, Plain>;
 
-/// How many answers a case had, and how often memory was wanted in it.
+/// How many answers a case had, and how many of its calls ran out of memory.
 #[derive(Drop)]
 pub(crate) struct Growths {
     pub(crate) answers: usize,
@@ -36,12 +36,12 @@ pub(crate) fn run_case(alloc: Global, case: &Case<'_>) -> Result<Growths, Troubl
     })
 }
 
-// One more time that memory was wanted.
+// Counts a call that ran out of memory.
 fn count(wanted: &mut u32) {
     *wanted = wanted.saturating_add(1);
 }
 
-// Runs a world over steps, again from where it stopped, if it did.
+// Runs a world over steps. If it stopped out of memory, it goes on from there.
 fn run_on(
     alloc: Global,
     world: World,
@@ -108,7 +108,7 @@ fn scan_again(
     }
 }
 
-// A scan of parts that fit; for those that don't it returns that slot 0 is gone.
+// Scans parts that fit one another. For parts that don't it returns slot 0 as gone.
 fn scan_fit(alloc: Global, parts: &mut Parts<MemDrive>) -> Result<BlockMap, ScanFault> {
     if !are_fit(parts) {
         return Err(ScanFault::Gone(0));
@@ -160,7 +160,7 @@ fn made(
     }
 }
 
-// An array of parts that fit and claims; wanting memory both come back.
+// Restarts an array from parts and claims. If out of memory, both are returned.
 fn made_once(
     alloc: Global,
     parts: Parts<MemDrive>,

@@ -1,4 +1,4 @@
-// Units of random bytes, and of headers with one bit flipped: what a scan answers is what a plain walk over bytes does.
+// Units of random bytes, and headers with one bit flipped: a scan returns what a plain walk over the bytes returns.
 use crate::noise::Noise;
 use crate::payloads::payload_of;
 use crate::slots::Slots;
@@ -39,8 +39,8 @@ fn no_scans() -> Headers {
     }
 }
 
-/// `rounds` times a slot is written with forty bytes by chance, of which no scan returns a map, and then with a header that is
-/// mostly one.
+/// Each of `rounds` rounds writes forty random bytes to a slot, after which no scan returns a map, and then a header that
+/// is mostly valid.
 pub(crate) fn scan_noise(alloc: Global, seed: u32, rounds: u32) -> Result<Headers, Trouble> {
     let mut slots = Slots::new(alloc)?;
     let mut counts = no_scans();
@@ -166,7 +166,8 @@ fn payload(noise: &mut Noise) -> [u8; 8] {
     payload_of(noise.byte())
 }
 
-// A header of a record of the slot; one of three is blank, and one of some twenty of another slot or of a block too many.
+// A header of a record of the slot. One in three is blank; of the others one in twenty has another slot, or a block past
+// the last.
 fn header(noise: &mut Noise, slot: u16) -> [u8; 32] {
     if noise.below(3) == 0 {
         return [0; 32];

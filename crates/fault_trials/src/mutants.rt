@@ -8,7 +8,8 @@ use std::alloc::{AllocError, Global};
 
 /// The words that an answer begins with.
 const ANSWERS: &str =
-    "array made unmade claimed taken released notheld filled copied record discarded data trimmed none stale noroom nothing moved added lost took merged same differs map log scan restarted refused";
+    "array made unmade claimed taken released notheld filled copied record discarded data trimmed none \
+    stale noroom nothing moved added lost took merged same differs map log scan restarted refused";
 
 /// How many scripts were run, and how many of them to their end and to a fault.
 #[derive(Drop)]
@@ -25,7 +26,7 @@ struct Said {
     bytes: Vec<u8>,
 }
 
-/// `count` times a script is changed and run: its answers are the same for any size of the pieces it is read in.
+/// Changes a script and runs it, `count` times. The answers must not depend on the size of the pieces in which it is read.
 pub(crate) fn run_mutants(
     alloc: Global,
     seed: u32,
@@ -65,7 +66,7 @@ pub(crate) fn mutant(
     Ok(changed)
 }
 
-// How a script ends, which is the same for each size of pieces, as its answers are.
+// How a script ends. Its end and its answers must be the same for each size of pieces.
 fn run_in_pieces(alloc: Global, script: &[u8]) -> Result<End, Trouble> {
     let first = run(alloc, script, 1);
     if !is_answered(&first) {
@@ -143,7 +144,7 @@ fn mutated(alloc: Global, noise: &mut Noise, script: &[u8]) -> Result<Vec<u8>, A
     Ok(changed)
 }
 
-// A byte becomes another, a line is doubled, loses its end, or goes on with the next one.
+// Replaces a byte, doubles a line, cuts a line short, or joins a line with the next one.
 fn changed_once(alloc: Global, noise: &mut Noise, script: &[u8]) -> Result<Vec<u8>, AllocError> {
     let length = u32::try_from(script.len()).unwrap_or(u32::MAX);
     let at = (noise.below(length) as usize).min(script.len());

@@ -1,7 +1,7 @@
 // Numbers by a fixed rule.
 
-/// A row of numbers that look like chance, the same for the same seed: a multiplication and an addition modulo 2^64, of which
-/// the upper half is returned.
+/// Pseudo-random numbers by a linear congruential generator modulo 2^64, of which the upper half is returned. One seed
+/// gives one sequence.
 #[derive(Drop)]
 pub(crate) struct Noise {
     state: u64,

@@ -17,7 +17,7 @@ use step_core::{Step, World};
 /// The number that represents a trim among contents.
 const TRIMMED: u32 = 999;
 
-/// How many restarts came out as their rows say, how many of them with a fault, and the first row that didn't.
+/// How many restarts ended as their rows say, how many of them with a fault, and the first row that differs.
 #[derive(Drop)]
 pub(crate) struct Restarts {
     pub(crate) rows: u64,
@@ -27,7 +27,8 @@ pub(crate) struct Restarts {
 
 /// Carries out each row. It has, with commas between: a number; units to write, as slot, header and the payload's number;
 /// drives to lose; `fault` and its numbers, or each block's record and content; steps with their answers; and slots with
-/// the bytes of their units at the end. Several of one are parted by semicolons, none is `-`; the first line names them.
+/// the bytes of their units at the end. A field separates its items by semicolons, and `-` is none. The first line names
+/// the fields.
 pub(crate) fn restart_all(alloc: Global, text: &str) -> Result<Restarts, Trouble> {
     let mut counts = Restarts {
         rows: 0,
@@ -48,7 +49,7 @@ pub(crate) fn restart_all(alloc: Global, text: &str) -> Result<Restarts, Trouble
     Ok(counts)
 }
 
-// The items of a field, parted by semicolons; none of `-`.
+// The items of a field, separated by semicolons; none if it is `-`.
 fn items(field: &str) -> &str {
     if field == "-" { "" } else { field }
 }
@@ -72,7 +73,7 @@ fn restart_row(alloc: Global, row: &str) -> Result<bool, Trouble> {
     }
 }
 
-// The two groups with these units, and then without these drives.
+// The two groups with these units, after which these drives are lost.
 fn written(alloc: Global, units: &str, drives: &str) -> Result<Slots, Trouble> {
     let mut slots = Slots::new(alloc)?;
     for unit in units.split(';') {
@@ -97,7 +98,7 @@ fn number(word: &str) -> Result<u32, Trouble> {
     word.parse::<u32>().ok().ok_or(Trouble::Input)
 }
 
-// Whether the fault is the one that is wanted.
+// Whether the fault is the expected one.
 fn is_fault(fault: ScanFault, wanted: &str) -> Result<bool, Trouble> {
     let told: [u32; 4] = match fault {
         ScanFault::BadHeader(slot) => [2, u32::from(slot), 0, 0],

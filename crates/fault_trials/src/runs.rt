@@ -1,4 +1,4 @@
-// Runs of a world over steps, each of which is answered as wanted.
+// Runs of a world over steps, each of which must be answered as expected.
 use crate::answers::are_answers;
 use crate::trouble::Trouble;
 use crate::words::Words;
@@ -17,7 +17,7 @@ pub(crate) fn run_once(
     Ok(run_steps(alloc, world, steps))
 }
 
-/// The world after the steps, each of which is answered as wanted.
+/// The world after the steps. An error unless each step is answered as expected.
 pub(crate) fn run(
     alloc: Global,
     world: World,
@@ -30,7 +30,7 @@ pub(crate) fn run(
     }
 }
 
-/// The world of a run whose answers are those that are wanted.
+/// The world of a run. An error unless its answers are the expected ones.
 pub(crate) fn answered(run: Run, wanted: &[Words<'_>]) -> Result<World, Trouble> {
     if are_answers(wanted, &run.answers) {
         Ok(run.world)

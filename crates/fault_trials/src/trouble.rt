@@ -7,11 +7,11 @@ use std::io::ErrorKind;
 /// Why a trial ends before its end.
 #[derive(Drop)]
 pub(crate) enum Trouble {
-    /// An answer isn't the one that is wanted.
+    /// An answer isn't the expected one.
     Wrong,
     /// A line that says no trial, step or answer, or a file that can't be read.
     Input,
-    /// Memory was wanted outside what is tried.
+    /// Out of memory outside of what is tried.
     Memory,
 }
 

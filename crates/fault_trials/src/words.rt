@@ -1,7 +1,7 @@
 // A line as a verb and the numbers after it.
 use crate::trouble::Trouble;
 
-/// As many numbers as any line has.
+/// The most numbers of a line.
 pub(crate) const NUMBERS: usize = 8;
 
 /// A verb, and numbers; those that the line doesn't have are 0.

@@ -7,7 +7,8 @@ use Rattle.images.specs.Images.{IsImage}
 abbrev pub written_over : (start : ℕ) (piece bytes : List ℕ) → List ℕ
 written_over start piece bytes = take start bytes ++ (piece ++ drop (start + length piece) bytes)
 
--- a piece was written over the bytes from `start` on, where they are known and it lies within them; what isn't known stays unknown
+-- a piece was written over the bytes from `start` on, where they are known and it lies within them; what isn't known stays
+-- unknown
 pub record Puts (old : Option (List ℕ)) (start : ℕ) (piece : List ℕ) (new : Option (List ℕ)) : Type 0 where
   pub unknown : old ≡ None → new ≡ None
   pub over : (bytes : List ℕ) → old ≡ Some bytes → start + length piece ≤ length bytes → new ≡ Some (written_over start piece bytes)

@@ -11,7 +11,8 @@ refusal_number Memory = 1
 refusal_number Length = 2
 refusal_number Read = 3
 
--- why a backing with these bytes isn't opened: where they are known, Memory says that their length fits, and Length that it doesn't
+-- why a backing with these bytes isn't opened: where they are known, Memory says that their length fits, and Length that it
+-- doesn't
 abbrev pub RefusesFor : Shape → Option (List ℕ) → OpenRefusal → Type 0
 RefusesFor shape known Memory = (bytes : List ℕ) → known ≡ Some bytes → length bytes ≡ image_bytes shape
 RefusesFor shape known Length = (bytes : List ℕ) → known ≡ Some bytes → length bytes ≢ image_bytes shape

@@ -14,7 +14,7 @@ pub(crate) enum Fault {
     Short,
 }
 
-/// Bytes in memory that take `left` writes more, and no sync.
+/// Bytes in memory that accept `left` more writes, and refuse every sync.
 #[derive(Drop)]
 pub(crate) struct Faulty {
     pub(crate) inner: InMemory,

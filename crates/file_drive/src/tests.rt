@@ -56,7 +56,7 @@ fn a_backing_holds_what_was_written(rt: HostRuntime) {
     assert!(rt; backing.bytes[..] == image[..]);
 }
 
-// The drive of two units whose backing takes one write.
+// A drive of two units whose backing accepts one write.
 fn one_write(rt: &impl Abort, alloc: Global, fault: Fault) -> FileDrive<Faulty> {
     let backing = Faulty {
         inner: zeros(rt, alloc, 80),

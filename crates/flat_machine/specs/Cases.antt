@@ -64,7 +64,7 @@ ticketed F w s waiting = record F {
   units = put F.units s (Some (waiting_unit F.groups.payload (content_of waiting)));
 }
 
--- nothing that a fill tests before it allocates speaks against it
+-- a fill passes all that it tests before it allocates
 abbrev pub FillPasses : Flat → ℕ → ℕ → Type 0
 FillPasses F w s = (F.held s (Worker w) ≡ true) × (class_of F s ≡ Some Mirrored) × (IsKept F s → ⊥)
 
@@ -78,7 +78,7 @@ FillCase F w s x (Refused (Gone t)) G = (t ≡ s) × (FillPasses F w s) × (IsGo
 FillCase F w s x (Filled t) G = (t ≡ s) × (FillPasses F w s) × (IsGoneIn G s → ⊥) × (Leaves (ticketed F w s (Fresh x)) G)
 FillCase F w s x _ G = ⊥
 
--- nothing that a copy of the record tests before it allocates speaks against it
+-- a copy of the record passes all that it tests before it allocates
 abbrev pub CopyPasses : Flat → ℕ → ℕ → ℕ → Record → Type 0
 CopyPasses F w s b r =
     (F.held s (Worker w) ≡ true) × (class_of F s ≢ None) × (IsKept F s → ⊥) × (IsNewest F.emitted b (Some r)) × (r.hop < last_hop)
@@ -246,7 +246,7 @@ pub record AreFit (F : Flat) (members : List Member) : Type 0 where
   pub apart : AreApart members
   pub unowned : AreUnowned F.groups members
 
--- nothing that making a group tests before it allocates speaks against it
+-- making a group passes all that it tests before it allocates
 abbrev pub MakePasses : Flat → List Member → ℕ → Type 0
 MakePasses F members g = (AreFit F members) × (ArePresent F.lost members) × (IsLowestFree F.groups g)
 
@@ -263,7 +263,7 @@ MakeCase F class members (Refused Full) G = (AreFit F members) × (ArePresent F.
 MakeCase F class members (MadeGroup g) G = (MakePasses F members g) × (ArePresent G.lost members) × (Leaves (made F class members g) G)
 MakeCase F class members _ G = ⊥
 
--- unmake: where the worker has a plain claim of every slot of the group, they are its number's
+-- unmake: where the worker has a plain claim of every slot of the group, the group's number becomes their holder
 abbrev pub UnmakeCase : Flat → ℕ → ℕ → FlatAnswer → Flat → Type 0
 UnmakeCase F w g (Refused NoGroup) G = (group_at F.groups g ≡ None) × (Leaves F G)
 UnmakeCase F w g (Refused (SlotsHeld s)) G = (IsFirstStray F w g s) × (Leaves F G)
@@ -327,7 +327,7 @@ CommitPasses F found (Some (Fresh x)) = (next_version found ≤ last_version) ×
 CommitPasses F found (Some (Moved c v h x)) = (HasStamp found v h) × (length F.emitted < longest_log)
 CommitPasses F found None = ⊥
 
--- a step may run out of memory: nothing that it tests before it allocates speaks against it
+-- a step may run out of memory: it passes all that it tests before it allocates
 abbrev pub IsWanted : Flat → FlatStep → Type 0
 IsWanted F (Fill w s x) = FillPasses F w s
 IsWanted F (Copy w s b) = (r : Record) × CopyPasses F w s b r

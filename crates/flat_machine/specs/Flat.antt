@@ -119,7 +119,7 @@ same_holder _ _ = false
 abbrev pub put : {X : Type 0} → (ℕ → X) → ℕ → X → ℕ → X
 put f place x other = if other == place then x else f other
 
--- the set of pairs, and (slot, holder)
+-- the set of pairs with (slot, holder) added
 abbrev pub with_pair : (ℕ → Holder → Bool) → ℕ → Holder → ℕ → Holder → Bool
 with_pair held slot holder = put held slot (λ k. held slot k || same_holder k holder)
 

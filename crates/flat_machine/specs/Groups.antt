@@ -10,7 +10,7 @@ use Rattle.extent_groups.specs.Groups.{Group, Groups, group_at, members_of, AreG
 abbrev pub AreSizes : Groups → Type 0
 AreSizes groups = AreInRange groups.extents groups.segments groups.payload groups.blocks
 
--- the class of what may be a group, where it has a slot of that index
+-- the class of an optional group, where it has a slot of that index
 abbrev pub class_below : ℕ → Option Group → ℕ → Option Class
 class_below segments None index = None
 class_below segments (Some group) index = if nat_lt index (slot_count group.class (length group.members) segments) then Some group.class else None

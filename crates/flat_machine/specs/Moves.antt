@@ -63,7 +63,7 @@ IsMoveReason groups drives g k to (Some ExtentTaken) =
 IsMoveReason groups drives g k to None = (slice_get (members_of groups g) k ≢ None) × (IsTarget groups drives g to)
 IsMoveReason groups drives g k to (Some _) = ⊥
 
--- nothing that moving the group's member of this number tests before it allocates speaks against it
+-- moving the group's member of this number passes all that it tests before it allocates
 abbrev pub MovePasses : Flat → ℕ → ℕ → Member → Type 0
 MovePasses F g k to = (IsMoveReason F.groups F.drives g k to None) × (F.lost to.drive ≡ false)
 
@@ -83,7 +83,7 @@ pub record IsFirstGone (groups : Groups) (missing : ℕ → Bool) (g slot : ℕ)
   pub gone : IsGone groups missing slot
   pub below : (other : ℕ) → other < slot → other / 128 ≡ g → IsGone groups missing other → ⊥
 
--- a unit of the group's member of this number can't be had
+-- a unit of the group's member of this number can't be rebuilt
 abbrev pub IsBeyondOf : Groups → (ℕ → Bool) → ℕ → ℕ → Type 0
 IsBeyondOf groups missing g k = (was : Member) × (slice_get (members_of groups g) k ≡ Some was) × (IsBeyond groups missing g was.drive)
 
@@ -91,7 +91,7 @@ IsBeyondOf groups missing g k = (was : Member) × (slice_get (members_of groups 
 abbrev pub moved_to : Flat → ℕ → ℕ → Member → Flat
 moved_to F g k to = record F { groups = with_group F.groups g (swapped_in (group_at F.groups g) k to) }
 
--- the state with one drive more, which is lost or not, has failed so often, and is steady or not
+-- the state with one more drive, of which it is given whether it is lost, how often it failed, and whether it is steady
 abbrev pub with_new_drive : Flat → Bool → Failures → Flat
 with_new_drive F lost failures = record F {
   drives = F.drives + 1;
@@ -99,6 +99,6 @@ with_new_drive F lost failures = record F {
   failures = put F.failures F.drives failures;
 }
 
--- the state in which a drive has a fuse: it may fail from now on, unless it is lost; nothing else differs
+-- the state after a drive was given a fuse: it isn't steady, unless it is lost; nothing else differs
 abbrev pub with_fuse : Flat → ℕ → Flat
 with_fuse F drive = record F { failures = put F.failures drive (fused (F.lost drive) (F.failures drive)) }

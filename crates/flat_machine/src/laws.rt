@@ -11,8 +11,8 @@ ghost use Rattle.flat_machine.specs.Cases.{Case};
 ghost use Rattle.flat_machine.specs.History.{IsHistory, AreHeld, IsStep};
 ghost use Rattle.flat_machine.specs.Restarted.{TellMap, restarted};
 
-/// What is true of every state, and that no slot has two holders: so it is of a new array's, and each case
-/// of each step keeps it.
+/// A new array's state has all that is true of every state, and no slot of it has two holders. Each case of each step keeps
+/// both.
 pub fn history_laws()
     ensures new { (groups : Groups) (drives : ℕ) (lost : ℕ → Bool) (failures : ℕ → Failures) → AreSizes groups → IsEmpty groups → 3 ≤ drives → drives ≤ 16
         → IsHistory (new_flat groups drives lost failures) (λ _. 0) }
@@ -25,9 +25,8 @@ pub fn history_laws()
     // The laws are the contract: there is nothing to do.
 }
 
-/// The units of every state have its map, and units have only one map. What is restarted with a map that the units have keeps
-/// what is true of every state, and no slot has two holders; where they are a state's own, each block has the last write that
-/// it had.
+/// The units of every state have its map, and units have only one map. A restart with the units' map gives a state with all that
+/// is true of every state, and in which no slot has two holders. A restart with a state's own map keeps each block's last write.
 pub fn restart_laws()
     ensures tells { (F : Flat) (keys : ℕ → ℕ) → IsHistory F keys → TellMap F.groups F.units keys }
     ensures one { (groups : Groups) (units : ℕ → Option Stored) (M N : ℕ → ℕ) → TellMap groups units M → TellMap groups units N → IsSame M N }

@@ -19,10 +19,10 @@ pub enum Refusal {
     /// The array itself holds a claim of the slot.
     #[error("the slot is in use")]
     InUse,
-    /// Nothing waits at the slot, or a copy of another block.
-    #[error("no ticket for this block waits at the slot")]
+    /// The worker has no ticket at the slot, or one for a copy of another block.
+    #[error("the worker has no ticket for this block at the slot")]
     NoTicket,
-    /// The copy's stamp is no longer the newest: the newest record.
+    /// The block's newest record, which isn't the one that was copied.
     #[error("a newer record was emitted")]
     Outrun(Record),
     #[error("the block has had its last version")]
@@ -31,7 +31,7 @@ pub enum Refusal {
     HopsSpent,
     #[error("the block was never written")]
     Unwritten,
-    /// The slot whose unit can't be had.
+    /// The slot whose unit is lost.
     #[error("the unit of slot {0} is gone")]
     Gone(u16),
     /// The lowest slot of which the caller has no claim.
@@ -41,7 +41,7 @@ pub enum Refusal {
     ExtentTaken,
     #[error("two members lie on one drive")]
     SameDrive,
-    /// The named drive.
+    /// The lost drive.
     #[error("drive {0} is lost")]
     DriveLost(u8),
     /// The array's newest record of the block, if any.

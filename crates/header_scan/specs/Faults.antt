@@ -16,7 +16,7 @@ use Rattle.header_scan.specs.declared.fault.ScanFault.TheVariants.{Memory, BadHe
 abbrev pub Bytes : Type 0
 Bytes = ℕ → Option (List ℕ)
 
--- the units of the slots from one on, below another
+-- the units of the slots from `low` on and below `high`
 abbrev pub between : ℕ → ℕ → Bytes → Bytes
 between low high bytes slot = if nat_le low slot && nat_lt slot high then bytes slot else None
 
@@ -46,7 +46,7 @@ IsFaultAt blocks bytes left slot (Twice block first second) = ⊥
 IsFaultAt blocks bytes left slot (NoClaim s) = ⊥
 IsFaultAt blocks bytes left slot (BadNote s) = ⊥
 
--- the headers of the slots of groups from one on, below another, are fine
+-- the headers of the slots of groups are fine, from the slot `low` on and below `high`
 abbrev pub AreFine : Groups → ℕ → ℕ → Bytes → Type 0
 AreFine groups low high bytes = (slot : ℕ) → IsSlot groups slot → low ≤ slot → slot < high → (told : Option Record) × Tells groups.blocks bytes slot told
 

@@ -1,4 +1,4 @@
--- What is noted of headers while slots are gone through in ascending order.
+-- What is noted of headers while slots are scanned in ascending order.
 use Rattle.std.specs.Prelude.{◌≡◌, ◌⊎◌, ℕ, ◌==◌, if◌then◌else◌, ◌%◌, ◌^◌, ◌<◌, ◌≤◌, Option, Some, None, List, slice_index}
 use Rattle.map_join.specs.declared.records.Record.{Record}
 use Rattle.map_join.specs.Record.{stamp_of, stamp_in, record_of, record_at}
@@ -52,23 +52,23 @@ twins_in (Some one) (Some other) = if stamp_of one == stamp_of other then Some (
 abbrev pub twins_at : (ℕ → ℕ) → (ℕ → ℕ) → ℕ → Option (ℕ × ℕ)
 twins_at newest twins block = twins_in (record_at block (newest block)) (record_at block (twins block))
 
--- no block below one has two
+-- no block below the bound has its newest stamp at two slots
 abbrev pub HasNoTwins : (ℕ → ℕ) → (ℕ → ℕ) → ℕ → Type 0
 HasNoTwins newest twins bound = (block : ℕ) → block < bound → twins_at newest twins block ≡ None
 
--- a block has two, and no lower one
+-- the block has its newest stamp at these two slots, and no lower block has its own at two
 pub record AreFirstTwins (newest twins : ℕ → ℕ) (block first second : ℕ) : Type 0 where
   pub here : twins_at newest twins block ≡ Some (first, second)
   pub lower : HasNoTwins newest twins block
 
--- the slots from one on, below another, were gone through, and this is noted of the units as they were at the start
+-- the slots from `low` on and below `high` were scanned, and this is noted of the units as they were at the start
 pub record IsUnderway (groups : Groups) (start now : Cells) (low high : ℕ) (newest twins : ℕ → ℕ) : Type 0 where
   pub sound : AreSound groups now
   pub keeps : KeepsUnits groups start now
   pub fine : AreFine groups low high (unit_of groups start)
   pub noted : (block : ℕ) → IsNoted (HasStamp (between low high (unit_of groups start)) block) (newest block) (twins block)
 
--- what reads leave of sound units: those that exist afterwards are what they were, and all is sound
+-- what reads leave of sound units: all slots are still sound, and each unit that exists afterwards is what it was
 abbrev pub Keeps : Groups → Cells → Cells → Type 0
 Keeps groups c new = AreSound groups c → KeepsUnits groups c new × AreSound groups new
 

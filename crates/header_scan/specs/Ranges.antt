@@ -13,8 +13,8 @@ use Rattle.header_scan.specs.Faults.{Bytes, between, AreFine, IsFirstFault, IsTw
 abbrev pub MakeUp : (whole one other : ℕ → Option (List ℕ)) → Type 0
 MakeUp whole one other = (slot : ℕ) (r : Record) → HasHeader whole slot r ↔ (HasHeader one slot r ⊎ HasHeader other slot r)
 
--- the map of the slots from one on, below another, whose headers are all fine: clauses `map` and `fine` of a scan of the range
--- that returned this map, over what the drives held when it began
+-- the map of the slots from `low` on and below `high`, whose headers are all fine: clauses `map` and `fine` of a scan of the
+-- range that returned this map, over what the drives held when it began
 pub record IsMapOfRange (groups : Groups) (c : Cells) (low high : ℕ) (M : ℕ → ℕ) : Type 0 where
   pub map : IsScanned (between low high (unit_of groups c)) M
   pub fine : AreFine groups low high (unit_of groups c)

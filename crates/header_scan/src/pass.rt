@@ -19,7 +19,7 @@ use extents::HEADER_BYTES;
 use map_join::BlockMap;
 use std::alloc::Global;
 
-/// How many slots a group has; `members` tells that there are few.
+/// How many slots a group has. The contract of `members` implies that there are fewer than 128.
 fn count_slots(groups: &GroupTable, group: u16) -> u16
     ensures count { result ≡ slots_in groups.now.segments (group_at groups.now group) }
     ensures few { result < 128 }

@@ -8,8 +8,8 @@ use crate::{STEP, WIDE};
 use hex::decode_to_slice;
 use std::simd::prelude::*;
 
-/// Puts the bytes that the digits spell into the buffer, where they fill it. Where they don't, what the buffer
-/// then holds is not said.
+/// Puts the bytes that the digits spell into the buffer, and returns true, if they fill it. Otherwise returns false, and the
+/// buffer may hold any bytes.
 pub fn decode_hex(digits: &[u8], out: &mut [u8]) -> bool
     ensures { MatchResult (decode_sized digits.now (length out.old))
         (λ bytes. (result ≡ true) × (out.new ≡ bytes))
@@ -20,7 +20,7 @@ pub fn decode_hex(digits: &[u8], out: &mut [u8]) -> bool
     }
     let turns = out.len() / (2 * WIDE);
     let steps = out.len() / STEP;
-    // What isn't a digit is found at the end: until then its lane's greatest value stays too great.
+    // The digits of all turns are tested once, after the loop: a byte that is no digit leaves its lane at 16 or more.
     let mut greatest = u8x16::splat(0);
     for turn in 0..turns {
         let at = 2 * WIDE * turn;

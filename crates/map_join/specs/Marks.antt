@@ -5,11 +5,11 @@ use Rattle.std.specs.Prelude.{◌≡◌, ℕ, ◌/◌, ◌%◌, ◌^◌, ◌<◌
 abbrev pub IsPlacedAt : (ℕ → ℕ) → ℕ → ℕ → Type 0
 IsPlacedAt keys slot block = (2 ^ 32 ≤ keys block) × (keys block % 65536 ≡ slot)
 
--- some key below a bound has
+-- some block below a bound has such a key
 abbrev pub IsPlacedBelow : ℕ → (ℕ → ℕ) → ℕ → Type 0
 IsPlacedBelow bound keys slot = (block : ℕ) × (block < bound) × IsPlacedAt keys slot block
 
--- some block's key has
+-- some block has such a key
 abbrev pub IsPlaced : (ℕ → ℕ) → ℕ → Type 0
 IsPlaced keys slot = (block : ℕ) × IsPlacedAt keys slot block
 

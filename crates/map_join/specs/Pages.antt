@@ -40,7 +40,8 @@ HasSet m n number keys = (other : ℕ) → find n other ≡ cond (is_eq (nat_cmp
 abbrev pub IsRaised : Entries → Entries → ℕ → (ℕ → ℕ) → Type 0
 IsRaised m n number lanes = (keys : Lanes) × HasSet m n number keys × IsSame (slice_index keys) (join (lanes_of (find m number)) lanes)
 
--- the lowest block of which a map has a key and another map has not the same, if any
+-- a block of which two maps have different keys, where they agree on each lower block of which the first has a key; none where
+-- they agree on each block of which the first has a key
 abbrev pub IsDifferenceOf : (ℕ → ℕ) → (ℕ → ℕ) → Option ℕ → Type 0
 IsDifferenceOf M N None = (block : ℕ) → 0 < M block → M block ≡ N block
 IsDifferenceOf M N (Some block) = (M block ≢ N block) × ((lower : ℕ) → lower < block → 0 < M lower → M lower ≡ N lower)
@@ -49,7 +50,7 @@ IsDifferenceOf M N (Some block) = (M block ≢ N block) × ((lower : ℕ) → lo
 abbrev pub IsFirstBlock : (ℕ → ℕ) → ℕ → Type 0
 IsFirstBlock M block = (0 < M block) × ((lower : ℕ) → lower < block → M lower ≡ 0)
 
--- the lower of two blocks, where there are any
+-- the lower of two blocks, or the one that there is
 abbrev pub lower_of : Option ℕ → Option ℕ → Option ℕ
 lower_of None theirs = theirs
 lower_of (Some one) None = Some one

@@ -33,7 +33,7 @@ impl Model for BlockMap {
 /// Why a map did not grow.
 #[derive(Clone, Copy, Debug, PartialEq, Eq)]
 pub enum MapRefusal {
-    /// There is no memory for one more page of 64 blocks.
+    /// Out of memory for one more page of 64 blocks.
     Memory,
 }
 
@@ -141,14 +141,14 @@ impl BlockMap {
         )
     }
 
-    /// Joins the map with another: page after page, or by one copy if it holds none itself. Allocates only for blocks that it
-    /// doesn't have.
+    /// Joins the map with another: page by page, or by one copy if this map has no page. Allocates only for blocks of the other
+    /// that this map doesn't have. After a refusal the map may be joined with a part of the other.
     pub fn merge(&mut self, alloc: Global, other: &BlockMap) -> Result<(), MapRefusal>
         ensures ok { OnOk result (IsSame (at self.new) (join (at self.old) (at other.now))) }
         ensures err { OnErr result (IsPartlyJoined (at self.old) (at other.now) (at self.new)) }
         ensures there { ((block : ℕ) → 0 < at other.now block → 0 < at self.old block) → IsOk result }
 
-        // What is joined in part comes to the same join.
+        // After a refusal, another merge with the same map comes to the whole join.
         ensures again { OnErr result (IsSame (join (at self.new) (at other.now)) (join (at self.old) (at other.now))) }
 
         // So the merge of maps of two lists is the map of them together.
@@ -246,7 +246,7 @@ impl BlockMap {
     }
 }
 
-// What is read where there is no page.
+// The keys that are read where a map has no page.
 static NO_KEYS: [u64; LANES] = [0; LANES];
 
 // The keys of a page, all 0 where it isn't there.
@@ -260,7 +260,7 @@ fn lanes_in(pages: &BTreeMap<u32, Page>, number: u32) -> &[u64; LANES]
     }
 }
 
-// Gives a block of a page the greater of its key and this one. A page that is there needs no memory.
+// Raises the key of a block of a page to this one, where that is greater. Allocates only if the page isn't there.
 fn raise_key(
     pages: &mut BTreeMap<u32, Page>,
     alloc: Global,
@@ -284,7 +284,7 @@ fn raise_key(
     }
 }
 
-// Gives each block of a page the greater of its keys. A page that is there needs no memory.
+// Raises the keys of a page to those of another, where these are greater. Allocates only if the page isn't there.
 fn raise_page(pages: &mut BTreeMap<u32, Page>, number: u32, theirs: &Page) -> Result<(), MapRefusal>
     ensures ok { OnOk result (IsRaised pages.old.entries pages.new.entries number (slice_index theirs.now)) }
     ensures err { OnErr result (pages.new.entries ≡ pages.old.entries) }
@@ -313,7 +313,8 @@ fn put_page(pages: &mut BTreeMap<u32, Page>, number: u32, page: Page) -> Result<
     }
 }
 
-// The lowest block of which the first has a key and the second has not the same.
+// A block of which the two have different keys, where they agree on each lower block of which the first has a key; none where
+// they agree on each block of which the first has a key.
 fn first_difference(ours: &BTreeMap<u32, Page>, theirs: &BTreeMap<u32, Page>) -> Option<u32>
     requires { AreNumbers ours.now.entries }
     ensures { IsDifferenceOf (at ours.now.entries) (at theirs.now.entries) result }
@@ -326,7 +327,7 @@ fn first_difference(ours: &BTreeMap<u32, Page>, theirs: &BTreeMap<u32, Page>) ->
     None
 }
 
-// The lower of two blocks, where there are any.
+// The lower of two blocks, or the one that there is.
 fn lower(ours: Option<u32>, theirs: Option<u32>) -> Option<u32>
     ensures { result ≡ lower_of ours theirs }
 {

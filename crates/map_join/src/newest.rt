@@ -1,4 +1,4 @@
-// What knows where the newest records of blocks lie: a map joined from records, or an array that keeps one.
+// Where the newest records of blocks lie: the traits of a map joined from records, and of an array that keeps one.
 ghost use Rattle.std.specs.Prelude.{◌≡◌, ◌↔◌, ◌⊎◌, ℕ, ◌+◌, ◌*◌, ◌%◌, ◌<◌, ◌≤◌, MatchOption, IfSome, slice_index};
 ghost use Rattle.map_join.specs.Record.{record_at};
 ghost use Rattle.map_join.specs.Maps.{at};
@@ -28,7 +28,7 @@ pub trait Live {
     /// The key of each block, or 0.
     ghost keys: { Self → ℕ → ℕ };
 
-    /// A block whose newest place is the slot.
+    /// A block whose newest place is the slot, or none if it is no block's.
     fn block_at(&self, slot: u16) -> Option<u32>
         ensures { IsBlockAt (keys self.now) slot result };
 
@@ -95,7 +95,7 @@ fn placed_lane(keys: &[u64; LANES], slot: u16) -> Option<u32>
     None
 }
 
-// Which of the group's indexes are places in keys.
+// Marks for the indexes of the group: set where some key has the slot as its place.
 fn places_in(pages: &BTreeMap<u32, Page>, group: u16) -> [bool; 128]
     requires { group < 512 }
     ensures { (index : ℕ) → index < 128 → IsSet result index ↔ IsPlaced (at pages.now.entries) (128 * group + index) }

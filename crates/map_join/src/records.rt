@@ -43,7 +43,7 @@ impl RecordFault {
     }
 }
 
-/// A record's key and its bytes begin their parts here.
+/// The byte of a record at which its version begins; then those of its hop and place, its length, and the least key.
 const VERSION_AT: usize = 4;
 
 const HOP_AT: usize = 8;

@@ -1,4 +1,4 @@
--- What the answers of takes and finds have to do with what their Taker took and found.
+-- How the results of `take` and `find` relate to what their Taker took and found.
 use Rattle.std.specs.Prelude.{◌≡◌, ℕ, ◌<◌, ◌≤◌, List, Option, Some, None, Contains, max, [], ◌∷◌, ◌++◌}
 use Rattle.map_join.specs.declared.records.Record.{Record}
 use Rattle.map_join.specs.Record.{key_of}
@@ -16,14 +16,14 @@ pub record IsGreatest (records : List Record) (block key : ℕ) : Type 0 where
   pub told : 0 < key → (r : Record) × Contains records r × Tells block key r
   pub most : (r : Record) → Contains records r → r.block ≡ block → key_of r ≤ key
 
--- A step among all takes and finds, which this Taker has: it found the key of a record taken or 0, exactly what the steps
--- of earlier times had left at its block, and it left the key of a record taken or 0.
+-- A step among all calls of `take` and `find`, which this Taker has: it found the key of a record taken or 0, exactly what the
+-- steps of earlier times had left at its block, and it left the key of a record taken or 0.
 pub record IsExact (taker : View) (f : Found) : Type 0 where
   pub found : IsLeft (Contains taker.found) f.block f.time f.key
   pub known : 0 < f.key → (r : Record) × Contains taker.taken r × Tells f.block f.key r
   pub left : 0 < f.left → (r : Record) × Contains taker.taken r × Tells f.block f.left r
 
--- all steps at this block are that
+-- all steps of the Taker at this block are exact
 abbrev pub AreExact : View → ℕ → Type 0
 AreExact taker block = (f : Found) → Contains taker.found f → f.block ≡ block → IsExact taker f
 

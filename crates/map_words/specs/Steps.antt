@@ -8,7 +8,7 @@ use Rattle.map_words.specs.Places.{word_of}
 use Rattle.map_words.specs.TakeRule.{knows, whole}
 use Rattle.map_words.specs.Answers.{IsNewest, IsGreatest, AreExact, HasTaken, HasFound}
 
--- no number between is the key of a record
+-- the number is 0, or at least 2^32, the least key of a record
 abbrev pub IsKeyOrNone : ℕ → Type 0
 IsKeyOrNone key = 0 < key → 2 ^ 32 ≤ key
 
@@ -23,7 +23,7 @@ abbrev pub Saw : {S : Type 0} → Step S → Me S View → ℕ → Me S View →
 Saw s before found after = (block : ℕ) → word_of block ≡ s.word
     → IsNewest before.0 block found × IsKeyOrNone found × HasFound before.0 block found after.0 × (after.1 ≡ [])
 
--- a load by who has the whole share: the word is the greatest key of its block among the records taken, nothing found
+-- a load by the seat with the whole share: the word is the greatest key of its block among the records taken, nothing found
 -- is above it, and each step on it found exactly what was there
 abbrev pub Closed : {S : Type 0} → Step S → Me S View → ℕ → Me S View → Type 0
 Closed s before found after = (after ≡ before)

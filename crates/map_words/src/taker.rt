@@ -1,4 +1,4 @@
-// What a Taker is, and what is refused to it.
+// A Taker, and why its calls are refused.
 ghost use Rattle.std.specs.Prelude.{◌≡◌};
 ghost use Rattle.map_words.specs.Refused.{number_of};
 
@@ -6,7 +6,8 @@ use crate::naming::Naming;
 use crate::rule::Sitting;
 use std::marker::{Model, PhantomData};
 
-/// Takes and finds in the table N, and has a share of it. A contract sees its share, and all that it took and found.
+/// A share of the table N, by which a thread takes records and finds them. A contract sees the share, and all that was taken
+/// and found by it.
 #[derive(Drop)]
 pub struct Taker<N: Naming> {
     pub(crate) share: u32,
@@ -48,7 +49,7 @@ impl SplitRefusal {
 pub enum CloseRefusal {
     /// The Taker has this share, and not the whole.
     NotWhole(u32),
-    /// There is no memory for the map.
+    /// Out of memory for the map.
     Memory,
 }
 

@@ -12,7 +12,7 @@ pub struct Found {
     pub left: u64,
 }
 
-/// A share of all that is taken, the records taken, and what each take and find found.
+/// A seat's share, the records that it took, and what each of its calls of `take` and `find` found.
 pub struct View {
     pub share: u64,
     pub taken: LinkedList<Record>,

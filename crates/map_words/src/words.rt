@@ -18,7 +18,7 @@ use std::marker::{Brand, Model, PhantomData};
 /// The words before the first block's, so that it shares no cache line with word 0, on which shares are split.
 const FIRST: usize = 8;
 
-/// The share of all.
+/// The whole share.
 const WHOLE: u32 = 65536;
 
 /// One word for each block of the table N: the greatest key taken of the block, or 0.
@@ -56,7 +56,7 @@ impl Model for Unnamed {
 /// Why a table was not made.
 #[derive(Clone, Copy, Debug, PartialEq, Eq)]
 pub enum TableRefusal {
-    /// There is no memory for its words.
+    /// Out of memory for its words.
     Memory = 1,
 }
 
@@ -141,7 +141,7 @@ impl<N: Naming> MapWords<N> {
         })
     }
 
-    /// Adds the other Taker's share, and all that it knows.
+    /// Merges the other Taker into this one: adds its share, and all that it took and found.
     pub fn join(&self, taker: &mut Taker<N>, other: Taker<N>)
         ensures both { taker.new ≡ both_views taker.old other }
         ensures within { taker.old.share + other.share ≤ whole }
@@ -151,18 +151,18 @@ impl<N: Naming> MapWords<N> {
         self.table.shared.join_seat::<Both>(&mut taker.seat, seat);
         taker.share += share;
         if taker.share > WHOLE {
-            // No run comes in here: no seat has more than the whole share.
+            // Never reached: no seat has more than the whole share.
             self.table.shared.load::<Weighs>(&mut taker.seat, 0);
             unreachable!()
         }
     }
 
-    /// Takes the record by one fetch-max, and answers the block's key before, or 0.
+    /// Takes the record by one fetch-max. Returns the key that the block's word had before, or 0.
     pub fn take(&self, taker: &mut Taker<N>, record: Record) -> u64
         requires block { «record».block < blocks_of N.table }
         requires written { 0 < «record».version }
         ensures newest { IsNewest taker.old «record».block result }
-        // from now on the record is taken, and the answer found, by a step that left the greater of the two
+        // the Taker took the record and found the returned key, by a step that left the greater of the two
         ensures taken { HasTaken taker.old «record» result taker.new }
     {
         let place = place_of(record.block);
@@ -176,7 +176,7 @@ impl<N: Naming> MapWords<N> {
         requires { block < blocks_of N.table }
         ensures newest { IsNewest taker.old block (key_in result) }
         ensures block { IfSome result (λ r. (r.block ≡ block) × (0 < r.version)) }
-        // from now on the answer is found, by a step that left it there
+        // the Taker found the returned key, by a step that left it there
         ensures found { HasFound taker.old block (key_in result) taker.new }
     {
         let key = self
@@ -186,7 +186,8 @@ impl<N: Naming> MapWords<N> {
         Record::of_key(block, key)
     }
 
-    /// The map of all that was ever taken. The table ends with it; refused, it comes back with its Taker.
+    /// Ends the table and returns the map of all records ever taken. Refused unless the Taker has the whole share, or if out of
+    /// memory; the table and the Taker are then returned.
     pub fn close(
         self,
         alloc: Global,
@@ -196,7 +197,7 @@ impl<N: Naming> MapWords<N> {
         ensures ok { IfOk result (λ map. IsMapOf taker.taken (at map)) }
         // nothing that was found is above what was taken
         ensures found { IfOk result (λ map. All (λ f. f.key ≤ at map f.block) taker.found) }
-        // all takes and finds had one order, and each found exactly what those before had left
+        // all calls of `take` and `find` had one order, and each found exactly what those before it had left
         ensures exact { OnOk result (All (IsExact taker) taker.found) }
         ensures err { IfErr result (λ e. IsOpen taker e.0) }
         ensures same { IfErr result (λ e. e.2 ≡ taker) }

@@ -6,7 +6,7 @@ use Rattle.extent_groups.specs.Groups.{Groups}
 use Rattle.migrator.specs.Slots.{End, IsBehind, IsFresh}
 use Rattle.migrator.specs.Picking.{IsPicked, IsFreeFrom}
 
--- the lowest number that is so
+-- the lowest number that has the property P
 pub record IsLowest (P : ℕ → Type 0) (n : ℕ) : Type 0 where
   pub holds : P n
   pub least : (m : ℕ) → P m → n ≤ m

@@ -9,7 +9,7 @@ use Rattle.extent_groups.specs.declared.class.Class.TheVariants.{Mirrored, Parit
 use Rattle.extent_groups.specs.Groups.{Groups, group_at, class_in}
 use Rattle.extent_groups.specs.Stores.{IsSlotOf}
 
--- the class of the group in which what may be a record lies
+-- the class of the group in which an optional record lies
 abbrev pub class_at : Groups → Option Record → Option Class
 class_at groups None = None
 class_at groups (Some r) = class_in (group_at groups (r.place / 128))

@@ -1,10 +1,10 @@
-// Where the write log goes on, and when a block has to go down.
+// Where the write log goes on, and when a block has to be demoted.
 ghost use Rattle.std.specs.Prelude.{◌≡◌, ◌↔◌, ◌<◌, ◌+◌, ◌/◌, ◌%◌, IsTrue};
 
 use extent_groups::SLOTS;
 use std::marker::Model;
 
-/// The group that was appended to last, and the index that follows there.
+/// The group to which the log last appended, if any, and the next index in it.
 #[derive(Drop)]
 pub struct LogEnd {
     group: Option<u16>,
@@ -22,7 +22,7 @@ impl Model for LogEnd {
 impl LogEnd {
     ghost use Rattle.migrator.specs.Slots.{at_start, end_at};
 
-    /// Nothing was appended yet.
+    /// The end of an empty log.
     pub fn new() -> LogEnd
         ensures { result ≡ at_start }
     {
@@ -32,7 +32,7 @@ impl LogEnd {
         }
     }
 
-    /// A slot was appended: the log goes on after it.
+    /// Notes that the log appended to a slot: it goes on after that.
     pub fn appended(&mut self, slot: u16)
         ensures { self.new ≡ end_at slot }
     {
@@ -54,7 +54,7 @@ impl LogEnd {
     }
 }
 
-/// Whether so few slots are free that a block has to go down.
+/// Whether a block has to be demoted: fewer than `low` slots are free.
 pub fn wants_demotion(free: u32, low: u32) -> bool
     ensures { IsTrue result ↔ (free < low) }
 {

@@ -27,7 +27,7 @@ impl Model for Recency {
 }
 
 impl Recency {
-    /// No block is written yet: all of them, by number.
+    /// The order of `blocks` blocks before any write: by number. Refused if out of memory.
     pub fn new(alloc: Global, blocks: u32) -> Result<Recency, AllocError>
         requires { blocks ≤ 65536 }
         ensures { IfOk result (λ recency. recency ≡ by_number blocks) }
@@ -37,7 +37,7 @@ impl Recency {
         })
     }
 
-    /// A block is written: it is the last from now on. Takes no memory, and constant time on the average.
+    /// Notes a write of a block, which becomes the last in the order. Allocates nothing, and takes constant time on average.
     pub fn wrote(&mut self, block: u32)
         requires { block < length self.old }
         ensures order { self.new ≡ written self.old block }

@@ -1,4 +1,4 @@
-// Rows of group numbers, which a walk passes over where they have no group that it looks for.
+// Rows of group numbers, of which a walk skips those without a group that it looks for.
 ghost use Rattle.std.specs.Prelude.{◌≡◌, ◌↔◌, ℕ, ◌*◌, ◌/◌, ◌<◌, false, Some, length, slice_index};
 ghost use Rattle.std.specs.Simd.Lanes.{chunk};
 ghost use Rattle.extent_groups.specs.declared.class.Class.TheVariants.{Parity};
@@ -14,8 +14,8 @@ pub(crate) const ROW: u16 = 16;
 /// How many rows there are.
 pub(crate) const ROWS: u16 = 32;
 
-// Whether there may be groups of the class in the row: where not, there is none. Of parity groups there are some where it
-// may be; of mirrored ones it always may.
+// Whether the row may have a group of the class. False means that it has none. For parity groups true means that it has one;
+// for mirrored groups it is always true.
 pub(crate) fn may_have(groups: &GroupTable, class: Class, row: u16) -> bool
     requires { row < 32 }
     ensures none { result ≡ false → (group : ℕ) → group / 16 ≡ row → class_in (group_at groups.now group) ≡ Some class → ⊥ }

@@ -30,7 +30,7 @@ impl Model for Turns {
 }
 
 impl Turns {
-    /// No block is written yet: all of them, by number.
+    /// The order of `blocks` blocks before any write: by number. Refused if out of memory.
     pub(crate) fn new(alloc: Global, blocks: u32) -> Result<Turns, AllocError>
         requires { blocks ≤ 65536 }
         ensures { IfOk result (λ turns. in_order turns ≡ by_number blocks) }
@@ -67,8 +67,8 @@ impl Turns {
         self.turns[block as usize] as usize
     }
 
-    /// A block is written: it is the last in the order. Returns whether all gaps were taken out for it. Allocates nothing, and
-    /// takes constant time on the average.
+    /// Notes a write of a block, which becomes the last in the order. Returns whether all gaps were removed for it. Allocates
+    /// nothing, and takes constant time on average.
     pub(crate) fn wrote(&mut self, block: u32) -> bool
         requires { block < length (in_order self.old) }
         ensures order { in_order self.new ≡ written (in_order self.old) block }
@@ -80,7 +80,7 @@ impl Turns {
         packed
     }
 
-    // Takes all gaps out if there is no room for one more, and returns whether it did.
+    // Removes all gaps if there is no room for one more, and returns whether it did.
     fn make_room(&mut self) -> bool
         requires { 0 < length (in_order self.old) }
         ensures order { in_order self.new ≡ in_order self.old }
@@ -104,14 +104,14 @@ impl Turns {
     {
         let turn = self.turns[block as usize];
         let last = self.len;
-        // No block has the number of all blocks.
+        // A gap: blocks are numbered from 0, so no block has this number.
         self.numbers[turn as usize] = self.blocks;
         self.numbers[last] = block;
         self.turns[block as usize] = last as u32;
         self.len += 1;
     }
 
-    // Takes all gaps out.
+    // Removes all gaps.
     fn pack(&mut self)
         ensures order { in_order self.new ≡ in_order self.old }
         ensures length { length self.new.kept ≡ length (in_order self.old) }

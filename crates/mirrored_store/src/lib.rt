@@ -139,8 +139,8 @@ fn read_header_at<D: Drive>(
 }
 
 /// Reads the headers of a mirrored group's slots in ascending order, that of index i into `headers[i]`, with a buffer of two
-/// units' length. Takes as many buffers as the group has slots. Returns the index of the first slot both of whose copies' drives
-/// are lost, or the count of slots. Each slot's place is found from that of the slot before it.
+/// units' length. `headers` has one buffer for each of the group's slots. Returns the index of the first slot both of whose
+/// copies' drives are lost, or the count of slots. Each slot's place is found from that of the slot before it.
 pub fn read_headers<D: Drive>(
     groups: &GroupTable,
     drives: &mut [D],

@@ -12,8 +12,8 @@ use extent_groups::{GroupTable, PlanRefusal, Planned, is_there, write_of};
 use extents::Drive;
 use std::alloc::Global;
 
-/// Plans the writes that give a slot the unit: of each copy whose drive is there, the first before the second. Refused where
-/// both are lost, and before that for want of memory; no drive is called.
+/// Plans the writes that give a slot the unit: of each copy whose drive is there, the first before the second. Refused if out
+/// of memory, and then where both drives are lost. No drive is called.
 pub fn plan<D: Drive>(
     alloc: Global,
     groups: &GroupTable,

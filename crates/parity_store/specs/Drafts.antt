@@ -21,7 +21,7 @@ IsRead c home parity unit sum Alone = (d : List ℕ) × (held c home ≡ Some d)
 IsRead c home parity unit sum Parity = ⊥
 IsRead c home parity unit sum Missed = held c home ≡ None
 
--- the same, and where the unit's drive is lost the sum is the parity from all others, or the unit can't be had
+-- a complete draft: as read above, and where the unit's drive is lost the sum is the parity from all others, or the unit is lost
 abbrev pub IsDraft : ℕ → Cells → List Place → ℕ → ℕ → Place → Place → List ℕ → List ℕ → Way → Type 0
 IsDraft n c row p i home parity unit sum Parity =
     (rest : List ℕ) × (held c home ≡ None) × (held c parity ≡ None → ⊥) × (total n (length row) (bare n (row_of c row) i p) ≡ Some rest) × (sum ≡ plus unit rest)
@@ -41,7 +41,7 @@ parity_by sum Both = Some sum
 parity_by sum Parity = Some sum
 parity_by sum _ = None
 
--- what the drives hold after a way's writes: each is made, and the second whatever comes of it; or the first of them was refused
+-- what the drives hold after a way's writes: each is made, the second Ok or refused; or the first was refused
 abbrev pub IsCarried : Cells → Cells → Place → Place → List ℕ → List ℕ → Way → Bool → Type 0
 IsCarried c new home parity unit sum Both true = (mid : Cells) × (kept : Bool) × DidWrite c mid home unit true × DidWrite mid new parity sum kept
 IsCarried c new home parity unit sum Both false = DidWrite c new home unit false
@@ -49,7 +49,8 @@ IsCarried c new home parity unit sum Alone ok = DidWrite c new home unit ok
 IsCarried c new home parity unit sum Parity ok = DidWrite c new parity sum ok
 IsCarried c new home parity unit sum Missed ok = (ok ≡ false) × (new ≡ c)
 
--- a member of a row was written by a draft: drafted from what the drives held after reads, and all its writes were made, but for losses
+-- a member of a row was written by a draft: drafted from what the drives held after reads, and all its writes were made, but
+-- for losses
 pub record WroteByDraft (n : ℕ) (c new : Cells) (row : List Place) (p i : ℕ) (unit : List ℕ) : Type 0 where
   pub home : Place
   pub parity : Place
@@ -68,7 +69,8 @@ pub record WroteByDraft (n : ℕ) (c new : Cells) (row : List Place) (p i : ℕ)
 abbrev pub IsDraftOf : Groups → Cells → Target → List ℕ → List ℕ → Way → Type 0
 IsDraftOf groups c target unit sum way = IsDraft (length unit) c (row_to groups target) target.at.parity target.at.member target.home target.parity unit sum way
 
--- a slot's write was drafted from what the drives held after reads, and its way's writes were made, or the first of them was refused
+-- a slot's write was drafted from what the drives held after reads, and its way's writes were made, or the first of them was
+-- refused
 pub record Tried (groups : Groups) (c new : Cells) (target : Target) (unit : List ℕ) (way : Way) (ok : Bool) : Type 0 where
   pub mid : Cells
   pub sum : List ℕ

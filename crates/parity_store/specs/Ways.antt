@@ -1,4 +1,5 @@
--- The ways of a write: unit and parity by difference, the unit alone, the parity alone; and the exclusive or of the other members.
+-- The ways of a write: unit and parity by difference, the unit alone, the parity alone; and the exclusive or of the other
+-- members.
 use Rattle.std.specs.Prelude.{◌≡◌, ◌≢◌, ℕ, ◌/◌, ◌<◌, ◌≤◌, ◌⊎◌, Option, Some, None, List, length, slice_get, replicate}
 use Rattle.extents.specs.Sizes.{extent_units}
 use Rattle.extent_groups.specs.declared.place.Place.{Place}
@@ -23,14 +24,16 @@ parity_unit groups c group offset =
 abbrev pub IsRow : {D : Type 0} → (D → List (List ℕ)) → List D → List Place → Type 0
 IsRow units drives row = (k : ℕ) (x : Place) → slice_get row k ≡ Some x → IsPlace units drives x
 
--- a stripe at an offset of a group can be read and written: the group's members are few and have that offset, and its places are those of drives whose units have this size
+-- a stripe at an offset of a group can be read and written: the group has at most 8 members, their extents have that offset, and
+-- its places are those of drives whose units have this size
 pub record IsLaid {D : Type 0} (units : D → List (List ℕ)) (groups : Groups) (group offset bytes : ℕ) (drives : List D) : Type 0 where
   pub few : length (members_of groups group) ≤ 8
   pub low : offset < extent_units groups.segments
   pub row : IsRow units drives (row_at groups group offset)
   pub size : AreSized units bytes drives
 
--- so many first bytes of the units at an offset of a group can be read: its members are few and have that offset, and its places are those of drives whose units have as many
+-- the first `count` bytes of the units at an offset of a group can be read: it has at most 8 members, their extents have that
+-- offset, and its places are those of drives whose units have at least `count` bytes
 pub record IsReadable {D : Type 0} (units : D → List (List ℕ)) (groups : Groups) (group offset count : ℕ) (drives : List D) : Type 0 where
   pub few : length (members_of groups group) ≤ 8
   pub low : offset < extent_units groups.segments
@@ -41,12 +44,12 @@ pub record IsReadable {D : Type 0} (units : D → List (List ℕ)) (groups : Gro
 abbrev pub bare : ℕ → (ℕ → Option (List ℕ)) → ℕ → ℕ → ℕ → Option (List ℕ)
 bare bytes row i p = put (put row i (Some (replicate bytes 0))) p (Some (replicate bytes 0))
 
--- the units of the row's members but two are in the sum now, and nothing else is different
+-- the units of all members of the row but two were added to the sum, and every place holds what it held
 pub record Added (bytes : ℕ) (c new : Cells) (row : List Place) (i p : ℕ) (before after : List ℕ) : Type 0 where
   pub same : (x : Place) → held new x ≡ held c x
   pub sum : add (Some before) (total bytes (length row) (bare bytes (row_of c row) i p)) ≡ Some after
 
--- the same of one member's unit
+-- member k's unit was added to the sum, unless k is one of the two, and every place holds what it held
 pub record AddedOne (bytes : ℕ) (c new : Cells) (row : List Place) (i p k : ℕ) (before after : List ℕ) : Type 0 where
   pub same : (x : Place) → held new x ≡ held c x
   pub sum : add (Some before) (bare bytes (row_of c row) i p k) ≡ Some after
@@ -68,7 +71,8 @@ pub record Differs (c new : Cells) (home parity : Place) (unit : List ℕ) : Typ
   pub beside : (x : Place) → x ≢ home → x ≢ parity → FadesAt c new x
   pub elsewhere : (x : Place) → x.drive ≢ home.drive → x.drive ≢ parity.drive → held new x ≡ held c x
 
--- the parity, member p, holds the exclusive or of the unit and all members but it and member i, which were read; other drives hold what they held
+-- the parity, member p, holds the exclusive or of the unit and all members but it and member i, which were read; other drives
+-- hold what they held
 pub record ParityWritten (bytes : ℕ) (c new : Cells) (row : List Place) (i p : ℕ) (unit : List ℕ) : Type 0 where
   pub there : (rest : List ℕ) × (total bytes (length row) (bare bytes (row_of c row) i p) ≡ Some rest) × (row_of new row p ≡ Some (plus unit rest))
   pub beside : (x : Place) → (slice_get row p ≡ Some x → ⊥) → FadesAt c new x

@@ -59,7 +59,8 @@ fn read_fronts<D: Drive>(
     stripe::read_stripe(groups, members, drives, group, &row, buffer, part, scratch)
 }
 
-/// Reads the effective unit of a slot, with two buffers of a unit's length; refused where the unit's drive and another member's are lost.
+/// Reads the effective unit of a slot, with two buffers of a unit's length; refused where the unit's drive and another member's
+/// are lost.
 pub fn read<D: Drive>(
     groups: &GroupTable,
     drives: &mut [D],
@@ -133,8 +134,8 @@ fn read_header_at<D: Drive>(
 }
 
 /// Reads the headers of a parity group's slots in ascending order, that of index i into `headers[i]`, with a buffer of two
-/// units' length. Takes as many buffers as the group has slots. Returns the index of the first slot whose drive and another
-/// member's are lost, or the count of slots. Each slot's place is found from that of the slot before it.
+/// units' length. `headers` has one buffer for each of the group's slots. Returns the index of the first slot whose drive and
+/// another member's are lost, or the count of slots. Each slot's place is found from that of the slot before it.
 pub fn read_headers<D: Drive>(
     groups: &GroupTable,
     drives: &mut [D],

@@ -59,7 +59,8 @@ fn add_member<D: Drive>(
 }
 
 /// Adds the first bytes of the others' units to a sum, `sum.len()` of them, with a buffer for each and one of a unit's length
-/// or, for whole units, an empty one; false where one of them is lost. Kept out of line, since it runs only where a drive is lost.
+/// or, for whole units, an empty one; false where one of them is lost. Kept out of line, since it runs only where a drive is
+/// lost.
 #[inline(never)]
 pub(crate) fn add_others<D: Drive>(
     groups: &GroupTable,

@@ -1,4 +1,4 @@
-// The parity unit of an offset, for whoever moves a member onto another extent.
+// The parity unit of an offset, for a caller that moves a member onto another extent.
 ghost use Rattle.std.specs.Prelude.{◌≡◌, ◌*◌, ◌<◌, length, Some};
 ghost use Rattle.extents.specs.Sizes.{extent_units};
 ghost use Rattle.extent_groups.specs.declared.class.Class.TheVariants.{Parity};

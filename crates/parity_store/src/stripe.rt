@@ -1,4 +1,4 @@
-// A unit of a stripe: read, or had from the others.
+// A unit of a stripe: read, or rebuilt from the others.
 ghost use Rattle.std.specs.Prelude.{◌≡◌, ◌<◌, length, replicate};
 ghost use Rattle.extent_groups.specs.Cells.{cells, front_units};
 ghost use Rattle.extent_groups.specs.Calls.{if_ok, HaveRoom, NoPlace, SameBut, KeepsDrives};

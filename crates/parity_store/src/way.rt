@@ -21,7 +21,7 @@ pub enum Way {
     Alone,
     /// The parity alone, the unit's drive being lost.
     Parity,
-    /// In none.
+    /// No way was found.
     Missed,
 }
 
@@ -55,8 +55,8 @@ fn read_two<D: Drive>(
     Way::Both
 }
 
-// Finds the way of a unit whose drive was found lost: the parity is had from all other members. Kept out of line, since it runs
-// only where a drive is lost.
+// Finds the way of a unit whose drive was found lost: the parity is computed from all other members. Kept out of line, since it
+// runs only where a drive is lost.
 #[inline(never)]
 fn find_without<D: Drive>(
     groups: &GroupTable,

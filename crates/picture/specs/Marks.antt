@@ -27,7 +27,7 @@ abbrev pub IsParity : Site → Place → Type 0
 IsParity (Pair p q) x = ⊥
 IsParity (InStripe row parity i) x = slice_get row parity ≡ Some x
 
--- the slot has a site, and the place is such a one of it
+-- the slot has a site, and the place has this part in it
 abbrev pub HasAt : Groups → ℕ → (Site → Place → Type 0) → Place → Type 0
 HasAt groups slot IsPart x = (site : Site) × (site_of groups slot ≡ Some site) × IsPart site x
 
@@ -40,7 +40,7 @@ IsMarkIn groups blocks group x (mark.SecondCopy slot block) = HasAt groups slot 
 IsMarkIn groups blocks group x (mark.Parity owner) = (owner ≡ group) × ((slot : ℕ) × HasAt groups slot IsParity x × (slot / 128 ≡ group))
 IsMarkIn groups blocks group x (mark.Unused owner) = (owner ≡ group) × ((slot : ℕ) → HasAt groups slot IsOf x → ⊥)
 
--- the extent belongs to a group, and its place at the offset is so marked
+-- the extent is a member of the group that owns it, and this is what its place at the offset is
 pub record IsMarkOf (groups : Groups) (owners : Owners) (blocks : List (Option ℕ)) (drive extent offset : ℕ) (mark : Mark) : Type 0 where
   pub group : ℕ
   pub owned : owner_of owners drive extent ≡ Some group
@@ -54,7 +54,7 @@ IsMark groups owners blocks drive extent offset (mark.Stray group) =
     (owner_of owners drive extent ≡ Some group) × (Stands (members_of groups group) drive extent → ⊥)
 IsMark groups owners blocks drive extent offset m = IsMarkOf groups owners blocks drive extent offset m
 
--- a member of what may be a group has the second copy of an index
+-- a member of an optional group has the second copy of an index
 abbrev pub is_second_of : Class → ℕ → ℕ → ℕ → Bool
 is_second_of Mirrored n i m = (copies_of n i).second.member == m
 is_second_of Parity n i m = false

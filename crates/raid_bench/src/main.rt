@@ -9,7 +9,7 @@ use std::{env, io};
 use storm::{end_storm, run_storm};
 use task::{Task, task_of};
 
-/// The status for a command line that asks for nothing that the program does.
+/// The exit status for a command line that names no task of the program.
 const NO_TASK: u8 = 2;
 
 fn main(rt: HostRuntime) -> ExitCode {

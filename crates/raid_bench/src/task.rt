@@ -15,7 +15,7 @@ pub enum Task {
     Storm { workers: u8, writes: u32 },
 }
 
-/// The task that the words ask for, if they ask for one. For words that ask for none nothing is allocated.
+/// The task that the words ask for, if any. Allocates nothing for words that ask for none.
 pub fn task_of(alloc: Global, words: &[String]) -> Result<Option<Task>, AllocError>
     ensures ok { IfOk result (IsAsked (map string_bytes words.now)) }
     ensures other { IsAsked (map string_bytes words.now) None → result ≡ Ok None }

@@ -84,7 +84,7 @@ pub(crate) fn parts_of(rt: &HostRuntime, files: Files<'_, '_>) -> Result<Parts<M
     })
 }
 
-// The name under which a file is written, until all are.
+// The name of a file until all files are written.
 fn fresh_name(alloc: Global, name: &str) -> Result<String, AllocError> {
     let mut fresh = String::new(alloc);
     fresh.push_str(name)?;
@@ -121,7 +121,7 @@ fn unwritten(error: &io::Error, file: usize) -> Trouble {
     }
 }
 
-/// Writes and syncs a file under its name with `.new` appended. The file of the name itself stays.
+/// Writes and syncs a file under its name with `.new` appended. An older file with the name itself is left as it is.
 pub(crate) fn write_file(
     rt: &HostRuntime,
     files: Files<'_, '_>,
@@ -135,7 +135,7 @@ pub(crate) fn write_file(
     }
 }
 
-// Gives a file that was written its name.
+// Renames a file that was written to its own name.
 fn rename_file(rt: &HostRuntime, files: Files<'_, '_>, file: usize) -> Result<(), Trouble> {
     let name = files.name(file);
     let fresh = fresh_name(rt.alloc(), name)?;
@@ -145,8 +145,8 @@ fn rename_file(rt: &HostRuntime, files: Files<'_, '_>, file: usize) -> Result<()
     }
 }
 
-/// Gives all files that were written their names, after the older table was removed; the table comes last. So wherever this
-/// stops there is no table next to images of two arrays.
+/// Removes the older table, and then renames all files that were written to their own names, the table last. So a stop at
+/// any point leaves no table next to images of two arrays.
 pub(crate) fn rename_all(rt: &HostRuntime, files: Files<'_, '_>) -> Result<(), Trouble> {
     if let Err(error) = fs::remove_file(rt, files.table) {
         if error.kind() != io::ErrorKind::NotFound {

@@ -123,7 +123,8 @@ impl Table {
         self.enter(alloc, group as u16, command.class, &command.members)
     }
 
-    /// The table that a text spells. Empty lines after the first are skipped; the first line that can't be taken is the trouble's.
+    /// The table that a text spells. Empty lines after the first are skipped. `Trouble::Line` names the first line that
+    /// can't be taken.
     pub(crate) fn parse(alloc: Global, text: &[u8]) -> Result<Table, Trouble> {
         let mut lines = text.split(|byte| *byte == b'\n');
         let Some(first) = lines.next() else {

@@ -6,13 +6,13 @@ use std::io;
 /// Why nothing was answered. A file is given by its place among the words of the command line, from 0.
 #[derive(Clone, Copy, Debug)]
 pub(crate) enum Trouble {
-    /// The words ask for nothing that the program does.
+    /// The words name no task of the program.
     Words,
     /// Two of the files to be written have one name, or one has the word for a lost drive.
     Names,
-    /// A line of the table, from 1, isn't one, or is of a group that can't be entered.
+    /// This line of the table, counted from 1, isn't of its form, or its group can't be entered.
     Line(usize),
-    /// There are not as many images as the table has drives.
+    /// The number of images isn't the table's number of drives.
     Count,
     /// The table's groups don't fit the drives.
     Misfit,
@@ -30,7 +30,8 @@ pub(crate) enum Trouble {
 }
 
 impl Trouble {
-    /// The status that the program ends with: 2 for what was asked for or given, 4 out of memory, 5 for a read or write that failed.
+    /// The exit status: 2 for a command line or a file that is wrong, 4 for out of memory, 5 for a read or write that
+    /// failed.
     pub(crate) fn status(self) -> u8 {
         match self {
             Trouble::Memory => 4,

@@ -28,7 +28,7 @@ impl<'m, 'w> Files<'m, 'w> {
         }
     }
 
-    /// Whether each file has a name of its own, and none is the word for a lost drive.
+    /// Whether all files have different names, and no image's is the word for a lost drive.
     pub(crate) fn can_be_written(&self) -> bool {
         for (number, image) in self.images.iter().enumerate() {
             let is_taken = self.images[..number].iter().any(|other| *other == *image);
@@ -54,7 +54,7 @@ fn command<'a>(alloc: Global, verb: &'a str, block: bool) -> Result<Command<'a>,
     )
 }
 
-/// What the words say; Words where they ask for nothing that the program does.
+/// What the words ask for; `Trouble::Words` if that is no task of the program.
 pub(crate) fn matches_of<'a>(
     alloc: Global,
     words: &'a [String],

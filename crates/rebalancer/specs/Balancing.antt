@@ -1,4 +1,4 @@
--- The plan that evens out the drives' loads, and what a shift does to them.
+-- The plan that rebalances the drives' loads, and what a shift does to them.
 use Rattle.std.specs.Prelude.{◌≡◌, ◌⊎◌, ℕ, ◌+◌, ◌*◌, ◌<◌, ◌≤◌, Bool, Option, Some, None, List, is_some, count_by}
 use Rattle.std.specs.List.{sum_by}
 use Rattle.extents.specs.Owners.{Owners, load_of, lowest_free_of}

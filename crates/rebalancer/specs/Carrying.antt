@@ -15,7 +15,7 @@ pub record CanGive (groups : Groups) (from to g : ℕ) : Type 0 where
   pub on : Carries groups from g
   pub off : IsNone (member_on groups g to)
 
--- the lowest number that is so
+-- the lowest number that has the property P
 pub record IsLowest (P : ℕ → Type 0) (n : ℕ) : Type 0 where
   pub holds : P n
   pub least : (m : ℕ) → P m → n ≤ m

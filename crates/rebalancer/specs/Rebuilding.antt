@@ -11,7 +11,7 @@ pub record IsTarget (owners : Owners) (groups : Groups) (lost : List Bool) (g dr
   pub room : HasRoom owners lost drive
   pub apart : IsNone (member_on groups g drive)
 
--- of all of these the one of least load, the lowest of those alike
+-- of all of these the one of least load, and of several such the lowest
 pub record IsBestTarget (owners : Owners) (groups : Groups) (lost : List Bool) (g drive : ℕ) : Type 0 where
   pub target : IsTarget owners groups lost g drive
   pub best : (other : ℕ) → IsTarget owners groups lost g other

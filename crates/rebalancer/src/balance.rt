@@ -1,4 +1,4 @@
-// Evening out the drives' loads.
+// Rebalancing the drives' loads.
 ghost use Rattle.std.specs.Prelude.{◌≡◌, ℕ, ◌↔◌, ◌+◌, ◌*◌, ◌<◌, ◌≤◌, IsTrue, IfSome, IfNone};
 ghost use Rattle.extents.specs.Owners.{Owners};
 ghost use Rattle.extent_groups.specs.Groups.{Agree, IsMove};
@@ -25,9 +25,10 @@ struct Choice {
     carrier: Carrier,
 }
 
-/// The next extent to move so that loads (extents in groups, drive by drive) are more even: from the drive of greatest
-/// load to that of least load among those pairs of present drives that are at least two apart, with a group on the one
-/// and not on the other, and room on the other; of drives and groups alike the lowest. None where no pair is left.
+/// The next extent to move to rebalance the loads; a drive's load is its number of extents in groups. A pair of present drives
+/// is allowed if their loads differ by at least two, a group is on the fuller drive and not on the other, and the other has a
+/// free extent. Of the allowed pairs: from the greatest load to the least; of equals the lowest drive, and the lowest group.
+/// None where no pair is allowed.
 pub fn balance_plan(
     extents: &ExtentTable,
     groups: &GroupTable,

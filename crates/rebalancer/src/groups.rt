@@ -5,7 +5,7 @@ ghost use Rattle.rebalancer.specs.Carrying.{member_on, IsLowest, Carries, CanGiv
 
 use extent_groups::{GROUPS, GroupTable, Member};
 
-/// A group, and the number of its member on the drive that was asked for.
+/// A group, and the number of its member on the drive in question.
 #[derive(Clone, Copy)]
 pub(crate) struct Carrier {
     pub(crate) group: u16,

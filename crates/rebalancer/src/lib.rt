@@ -1,4 +1,4 @@
-//! Which extent moves to which drive: towards even loads, and off a drive that is lost.
+//! Which extent moves to which drive: to rebalance the drives' loads, and off a lost drive.
 #![tactic(auto)]
 
 mod balance;

@@ -26,7 +26,7 @@ use Rattle.script_exec.specs.State.{Position, State, nothing_taken}
 use Rattle.script_exec.specs.Text.{answer_text, asked_version, outcome_text, regrouped_text, difference_text, fault_text, listing, record_text}
 use Rattle.script_syntax.specs.declared.command.Named.{Named}
 
--- the same position with another flat state
+-- a position with its flat state replaced
 abbrev pub with_flat : Position → Flat → Position
 with_flat P next = record P { tiers = record P.tiers { flat = next } }
 
@@ -38,7 +38,7 @@ pub record Steps (P : Position) (step : FlatStep) (text : List ℕ) (t : State) 
   pub text_is : text ≡ answer_text (asked_version step) answer
   pub state_is : t ≡ Some (with_flat P next)
 
--- a commit, and the write is noted where it is one
+-- a commit; if it is of a write, the write is noted in the order of last writes
 pub record Commits (P : Position) (worker slot block : ℕ) (text : List ℕ) (t : State) : Type 0 where
   pub answer : FlatAnswer
   pub next : Tiered
@@ -46,7 +46,7 @@ pub record Commits (P : Position) (worker slot block : ℕ) (text : List ℕ) (t
   pub text_is : text ≡ answer_text (asked_version (s.Commit worker slot block)) answer
   pub state_is : t ≡ Some (record P { tiers = next })
 
--- a step by a plan, and what came of it
+-- a step by a plan, its outcome, and the state after it
 pub record TierSteps (P : Position) (step : TierStep) (text : List ℕ) (t : State) : Type 0 where
   pub outcome : Outcome
   pub next : Tiered
@@ -54,7 +54,7 @@ pub record TierSteps (P : Position) (step : TierStep) (text : List ℕ) (t : Sta
   pub text_is : text ≡ outcome_text outcome
   pub state_is : t ≡ Some (record P { tiers = next })
 
--- a shift by a plan, and what came of it, as this says; the maps are as they were
+-- a shift by a plan, with an outcome and a flat state that the given relation allows; the maps are as they were
 pub record Regroups (P : Position) (comes : Regrouped → Flat → Type 0) (text : List ℕ) (t : State) : Type 0 where
   pub outcome : Regrouped
   pub next : Flat
@@ -74,7 +74,7 @@ pub record ShowsMap (records : List Record) (text : List ℕ) : Type 0 where
 abbrev pub ShowsLog : Flat → List ℕ → Type 0
 ShowsLog F text = text ≡ codes "log " ++ listing F.emitted
 
--- one of the maps has these records now
+-- a position with the records of one map replaced
 abbrev pub with_taken : Position → ℕ → List Record → Position
 with_taken P map records = record P { taken = put P.taken map records }
 
@@ -120,7 +120,7 @@ abbrev pub restart_text : RestartAnswer → List ℕ
 restart_text (Restarted count) = codes "restarted " ++ decimal count
 restart_text (NotRestarted slot) = fault_text (Gone slot)
 
--- after a restart no write is noted, and nothing was appended
+-- a restart starts the order of last writes and the write log over; a failed one leaves them
 abbrev pub tiers_behind : Tiered → RestartAnswer → Flat → Tiered
 tiers_behind T (Restarted count) next = begun next
 tiers_behind T (NotRestarted slot) next = record T { flat = next }

@@ -24,7 +24,7 @@ pub record StandsAt (bench : Bench) (P : Position) : Type 0 where
   pub tiers : StandsFor bench.tiers P.tiers
   pub maps : AreMapsOf bench.maps P.taken
 
--- the same before there is a world
+-- no bench before the array is made; after that, one that represents the script's position
 abbrev pub Stands : Option Bench → State → Type 0
 Stands None None = Unit {0}
 Stands (Some bench) (Some P) = StandsAt bench P
@@ -38,7 +38,7 @@ pub record IsCarried (state : State) (bench : Option Bench) (order : Order) (old
   pub stands : Stands bench next
   pub out : new ≡ old ++ text
 
--- the same from each state that the bench stood for
+-- the command was carried out from each position that the first bench represents
 abbrev pub Carries : Bench → Bench → Order → List ℕ → List ℕ → Type 0
 Carries before after order old new = (P : Position) → StandsAt before P → IsCarried (Some P) (Some after) order old new
 
@@ -54,7 +54,7 @@ pub record IsOut (state : State) (order : Order) (old new : List ℕ) : Type 0 w
   pub range : IsInRange (block_count state) order → ⊥
   pub out : new ≡ old
 
--- what came of the command that makes the array
+-- the outcome of the command that makes the array
 abbrev pub MakesBench : Result Bench Failure → Order → List ℕ → List ℕ → Type 0
 MakesBench (Ok bench) order old new = IsAnswered None (Some bench) order old new
 MakesBench (Err failure.Memory) order old new = Unit {0}

@@ -30,7 +30,7 @@ pub record Counts (n : ℕ) (line : List ℕ) : Type 0 where
   pub short : length line ≤ most_bytes
   pub said : is_skipped line ≡ false
 
--- the line spells a command that may come now
+-- the line spells a command that is allowed in this state
 pub record IsSaid (state : State) (line : List ℕ) (order : Order) : Type 0 where
   pub spells : Spells order line
   pub due : IsDue state order

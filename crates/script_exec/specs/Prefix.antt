@@ -1,4 +1,4 @@
--- What stays of a buffer to which texts are appended, also where there is no memory for all of them.
+-- A buffer keeps its bytes when texts are appended, also if an allocation fails half-way.
 use Rattle.std.specs.Prelude.{◌≡◌, ℕ, List, ◌++◌}
 
 -- the old bytes are a prefix of the new ones, for any bytes after them

@@ -12,8 +12,7 @@ use Rattle.script_syntax.specs.declared.verb.Kind.TheVariants as kind
 use Rattle.script_syntax.specs.declared.verb.Verb.TheVariants as verb
 use Rattle.script_syntax.specs.declared.command.Named.{Named}
 
--- a state of the array with what is kept next to it for its plans, and of each of the four maps the records that it took or
--- merged
+-- the state of the array and of what its plans keep, and for each of the four maps the records that it took or merged
 pub record Position : Type 0 where
   pub tiers : Tiered
   pub taken : ℕ → List Record
@@ -36,7 +35,7 @@ abbrev pub IsDue : State → Order → Type 0
 IsDue None order = verb_of order ≡ verb.Array
 IsDue (Some P) order = (verb_of order ≡ verb.Array → ⊥) × IsSized P.tiers.flat.groups.payload order
 
--- the limit of each kind of number, with `count` blocks; the array has a rule of its own for its sizes
+-- the limit of each kind of number, with `count` blocks; sizes have theirs in `IsArrayInRange`
 abbrev pub IsKindInRange : ℕ → Kind → ℕ → Type 0
 IsKindInRange count kind.Worker n = n ≤ 7
 IsKindInRange count kind.Slot n = n ≤ 65535
@@ -67,7 +66,7 @@ pub record IsArrayInRange (drives extents segments payload blocks : ℕ) : Type 
   pub most : drives ≤ 16
   pub limits : AreInRange extents segments payload blocks
 
--- an array's numbers go together
+-- the numbers of `array` are within the limits of an array; other commands have no such rule
 abbrev pub IsFit : Order → Type 0
 IsFit (o.Array drives extents segments payload blocks) = IsArrayInRange drives extents segments payload blocks
 IsFit _ = Unit {0}

@@ -86,7 +86,7 @@ answer_text asked (s.AddedDrive drive) = codes "added " ++ decimal drive
 answer_text asked (s.LostDrive drive) = codes "lost " ++ decimal drive
 answer_text asked (s.Refused r) = codes "refused " ++ (decimal (number_of r) ++ detail r)
 
--- what comes of a step by a plan
+-- the outcome of a step by a plan
 abbrev pub outcome_text : Outcome → List ℕ
 outcome_text (outcome.Placed r) = answer_text 0 (s.Committed r)
 outcome_text (outcome.Refused k) = answer_text 0 (s.Refused k)
@@ -100,13 +100,13 @@ extent_text m = decimal m.drive ++ (codes "." ++ decimal m.extent)
 abbrev pub shift_text : Shift → List ℕ
 shift_text shift = codes "moved " ++ (decimal shift.group ++ (codes " " ++ (decimal shift.member ++ (codes " " ++ extent_text shift.to))))
 
--- what comes of a shift by a plan
+-- the outcome of a shift by a plan
 abbrev pub regrouped_text : Regrouped → List ℕ
 regrouped_text (regrouped.Moved shift) = shift_text shift
 regrouped_text (regrouped.Refused k) = answer_text 0 (s.Refused k)
 regrouped_text regrouped.Nothing = codes "nothing"
 
--- the lowest block of which two maps differ, if they do
+-- the lowest block of which two maps differ, or that they are the same
 abbrev pub difference_text : Option ℕ → List ℕ
 difference_text None = codes "same"
 difference_text (Some block) = codes "differs " ++ decimal block

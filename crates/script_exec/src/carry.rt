@@ -1,4 +1,4 @@
-//! Commands after the first one.
+//! Carries out the commands after the first one, which makes the array.
 ghost use Rattle.std.specs.Prelude.{◌≡◌, ◌↔◌, ◌<◌, ◌^◌, ℕ, List, IfOk, OnOk, IsTrue, length};
 ghost use Rattle.slot_tables.specs.Views.{key_at};
 ghost use Rattle.map_join.specs.Maps.{IsListOf};
@@ -54,8 +54,8 @@ pub fn is_in_range(command: &Command, blocks: u32) -> bool
     }
 }
 
-/// Carries out a command that is within the limits, and appends its answer. The buffer holds the payload of a fill,
-/// and is room for what a read finds. A restart is carried out by `restart`.
+/// Carries out a command that is within the limits, and appends its answer. `payload` holds the payload of a fill or a
+/// write, and takes the payload of a block that is read. A restart is carried out by `restart`.
 pub fn carry_out(
     alloc: Global,
     bench: &mut Bench,

@@ -1,4 +1,4 @@
-// Laws of what a line means, as the contract of a function that does nothing.
+// The law of what a line means, as the contract of a function that does nothing.
 ghost use Rattle.std.specs.Prelude.{◌≡◌, ℕ, List};
 ghost use Rattle.script_syntax.specs.Order.{Order};
 ghost use Rattle.script_syntax.specs.Spelling.{Spells};

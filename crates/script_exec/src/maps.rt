@@ -34,7 +34,7 @@ pub fn take(
     put_took(out, &newest)
 }
 
-// Takes the record into one of the maps, and gives that map's record of its block.
+// Takes the record into one of the maps, and returns that map's newest record of the block.
 fn take_into(
     alloc: Global,
     maps: &mut [BlockMap],
@@ -53,7 +53,7 @@ fn take_into(
     Ok(maps[map].get(record.block).unwrap_or(record))
 }
 
-/// Joins a map with another one, or with itself, which leaves it as it is.
+/// Merges one map into another. A map merged into itself stays as it is.
 pub fn merge(
     alloc: Global,
     bench: &mut Bench,
@@ -73,7 +73,7 @@ pub fn merge(
     put(out, b"merged")
 }
 
-// Joins one of the maps with another one.
+// Merges map `from` into map `into`.
 fn join(alloc: Global, maps: &mut [BlockMap], into: usize, from: usize) -> Result<(), MapRefusal>
     requires four { length maps.old ≡ 4 }
     requires into { IsMap into }
@@ -90,7 +90,7 @@ fn join(alloc: Global, maps: &mut [BlockMap], into: usize, from: usize) -> Resul
     merged
 }
 
-/// Appends the lowest block of which two maps have different keys, if there is one.
+/// Appends that two maps are the same, or the lowest block of which they have different keys.
 pub fn same(
     bench: &mut Bench,
     left: usize,

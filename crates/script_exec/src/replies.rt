@@ -17,7 +17,8 @@ use script_syntax::{Command, Verb, read_command};
 use std::alloc::Global;
 use step_core::World;
 
-/// Appends the answer to a line's command. The buffer is for a payload: of a fill, or what a read finds.
+/// Appends the answer to a line's command. `payload` is a buffer for a payload that the line spells or that is read from a
+/// block.
 pub fn reply(
     alloc: Global,
     bench: &mut Option<Bench>,
@@ -96,7 +97,7 @@ fn begin(
     Ok(Bench::new(alloc, tiers))
 }
 
-// Every later command is for the array and the maps.
+// Every later command is for the array or the maps.
 fn later(
     alloc: Global,
     bench: &mut Option<Bench>,

@@ -11,7 +11,7 @@ use background::Tiers;
 use header_scan::scan_world;
 use std::alloc::{AllocError, Global};
 
-/// Lists the map that the headers hold, or reports the fault that comes first.
+/// Lists the map that the headers hold, or reports the first fault.
 pub fn scan(alloc: Global, bench: &mut Bench, out: &mut Vec<u8>) -> Result<(), AllocError>
     ensures carried { OnOk result (Carries bench.old bench.new o.Scan out.old.items out.new.items) }
     ensures kept { IsPrefix out.old.items out.new.items }
@@ -26,8 +26,8 @@ pub fn scan(alloc: Global, bench: &mut Bench, out: &mut Vec<u8>) -> Result<(), A
     put_listing(out, b"scan ", &records)
 }
 
-/// Rebuilds the array from the map that the headers hold, or reports the fault that comes first. The bench is taken out for
-/// it, and is lost on out of memory. Kept out of line, since its frame has room for a second bench.
+/// Rebuilds the array from the map that the headers hold, or reports the first fault. The bench is moved out of `bench` for
+/// this, and is lost if out of memory. Kept out of line, since its frame has room for a second bench.
 #[inline(never)]
 pub fn restart(
     alloc: Global,

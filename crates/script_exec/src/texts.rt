@@ -16,16 +16,16 @@ use rebalancer::Shift;
 use std::alloc::AllocError;
 use step_core::{Answer, At, Refusal};
 
-/// The bytes whose digits are put in one step.
+/// How many bytes are encoded in hex in one step.
 const STEP: usize = 8;
 
-/// The most bytes whose digits are put step by step.
+/// The most bytes that are encoded step by step.
 const MOST_STEPPED: usize = 64;
 
 /// The bytes of a record.
 const RECORD_BYTES: usize = 12;
 
-/// The bytes of a record, filled up to whole steps.
+/// The bytes of a record, rounded up to whole steps.
 const STEPPED_BYTES: usize = 16;
 
 /// The digits of a record in hex.
@@ -39,7 +39,7 @@ pub fn put(out: &mut Vec<u8>, text: &[u8]) -> Result<(), AllocError>
     out.extend_from_slice(text)
 }
 
-/// A number in decimal.
+/// Appends a number in decimal.
 pub fn put_number(out: &mut Vec<u8>, number: u64) -> Result<(), AllocError>
     ensures told { OnOk result (out.new.items ≡ out.old.items ++ decimal number) }
     ensures kept { IsPrefix out.old.items out.new.items }
@@ -48,7 +48,7 @@ pub fn put_number(out: &mut Vec<u8>, number: u64) -> Result<(), AllocError>
     out.extend_from_slice(buffer.format(number).as_bytes())
 }
 
-/// Bytes in hex.
+/// Appends bytes in hex.
 pub fn put_hex(out: &mut Vec<u8>, bytes: &[u8]) -> Result<(), AllocError>
     ensures told { OnOk result (out.new.items ≡ out.old.items ++ encode_lower bytes.now) }
     ensures kept { IsPrefix out.old.items out.new.items }
@@ -65,7 +65,7 @@ pub fn put_hex(out: &mut Vec<u8>, bytes: &[u8]) -> Result<(), AllocError>
     Ok(())
 }
 
-// The digits of a few whole steps of bytes, for which no room is filled with zeros before.
+// Appends a few whole steps of bytes in hex, without filling the buffer with zeros first.
 fn put_short_hex(out: &mut Vec<u8>, bytes: &[u8]) -> Result<(), AllocError>
     requires { length bytes.now % 8 ≡ 0 }
     ensures told { OnOk result (out.new.items ≡ out.old.items ++ encode_lower bytes.now) }
@@ -78,7 +78,7 @@ fn put_short_hex(out: &mut Vec<u8>, bytes: &[u8]) -> Result<(), AllocError>
     Ok(())
 }
 
-// The digits of one step.
+// Appends one step of bytes in hex.
 #[inline(always)]
 fn put_step(out: &mut Vec<u8>, bytes: &[u8]) -> Result<(), AllocError>
     requires { length bytes.now ≡ 8 }
@@ -90,7 +90,7 @@ fn put_step(out: &mut Vec<u8>, bytes: &[u8]) -> Result<(), AllocError>
     put(out, &digits)
 }
 
-/// A record in hex.
+/// Appends a record in hex.
 pub fn put_record(out: &mut Vec<u8>, record: &Record) -> Result<(), AllocError>
     ensures told { OnOk result (out.new.items ≡ out.old.items ++ record_text «record».now) }
     ensures kept { IsPrefix out.old.items out.new.items }
@@ -103,7 +103,7 @@ pub fn put_record(out: &mut Vec<u8>, record: &Record) -> Result<(), AllocError>
     put(out, &digits[..RECORD_DIGITS])
 }
 
-// A space and a record in hex, in one piece: listings have thousands.
+// Appends a space and a record in hex by one call, since listings have thousands of records.
 #[inline(always)]
 fn put_listed(out: &mut Vec<u8>, record: &Record) -> Result<(), AllocError>
     ensures told { OnOk result (out.new.items ≡ out.old.items ++ (32 ∷ record_text «record».now)) }
@@ -116,7 +116,7 @@ fn put_listed(out: &mut Vec<u8>, record: &Record) -> Result<(), AllocError>
     put(out, &text[..1 + RECORD_DIGITS])
 }
 
-/// A word and a number.
+/// Appends a word and a number in decimal.
 pub fn put_numbered(out: &mut Vec<u8>, word: &[u8], number: u64) -> Result<(), AllocError>
     ensures told { OnOk result (out.new.items ≡ out.old.items ++ (word.now ++ decimal number)) }
     ensures kept { IsPrefix out.old.items out.new.items }
@@ -125,7 +125,7 @@ pub fn put_numbered(out: &mut Vec<u8>, word: &[u8], number: u64) -> Result<(), A
     put_number(out, number)
 }
 
-// A version and its payload.
+// Appends a version and its payload in hex.
 fn put_data(out: &mut Vec<u8>, version: u32, payload: &[u8]) -> Result<(), AllocError>
     ensures told { OnOk result (out.new.items ≡ out.old.items ++ data_text version payload.now) }
     ensures kept { IsPrefix out.old.items out.new.items }
@@ -151,7 +151,7 @@ pub fn put_found(
     }
 }
 
-// What is seen at the place of a record of this version.
+// Appends what was found at the place of a record of this version.
 fn put_seen(out: &mut Vec<u8>, version: u32, seen: &At) -> Result<(), AllocError>
     ensures told { OnOk result (out.new.items ≡ out.old.items ++ seen_text version (seen_of seen.now)) }
     ensures kept { IsPrefix out.old.items out.new.items }
@@ -164,7 +164,7 @@ fn put_seen(out: &mut Vec<u8>, version: u32, seen: &At) -> Result<(), AllocError
     }
 }
 
-// A header that is found in another one's place.
+// Appends the header that was found at a record's place instead of the record's own.
 fn put_header(out: &mut Vec<u8>, header: &Record) -> Result<(), AllocError>
     ensures told { OnOk result (out.new.items ≡ out.old.items ++ (codes "stale " ++ header_text header.now)) }
     ensures kept { IsPrefix out.old.items out.new.items }
@@ -175,7 +175,7 @@ fn put_header(out: &mut Vec<u8>, header: &Record) -> Result<(), AllocError>
     put_numbered(out, b" ", u64::from(header.place))
 }
 
-/// The answer to a step. What is read at a record's place has the version that was asked for.
+/// Appends the answer to a step. `asked` is the version that is printed with the content found at a record's place.
 pub fn put_answer(out: &mut Vec<u8>, answer: &Answer, asked: u32) -> Result<(), AllocError>
     ensures told { OnOk result (out.new.items ≡ out.old.items ++ answer_text asked (flat_answer answer.now)) }
     ensures kept { IsPrefix out.old.items out.new.items }
@@ -201,7 +201,7 @@ pub fn put_answer(out: &mut Vec<u8>, answer: &Answer, asked: u32) -> Result<(), 
     }
 }
 
-/// What comes of a step by a plan.
+/// Appends the outcome of a step by a plan.
 pub fn put_outcome(out: &mut Vec<u8>, outcome: Outcome) -> Result<(), AllocError>
     ensures told { OnOk result (out.new.items ≡ out.old.items ++ outcome_text outcome) }
     ensures kept { IsPrefix out.old.items out.new.items }
@@ -214,7 +214,7 @@ pub fn put_outcome(out: &mut Vec<u8>, outcome: Outcome) -> Result<(), AllocError
     }
 }
 
-/// What comes of a shift by a plan.
+/// Appends the outcome of a shift by a plan.
 pub fn put_regrouped(out: &mut Vec<u8>, outcome: Regrouped) -> Result<(), AllocError>
     ensures told { OnOk result (out.new.items ≡ out.old.items ++ regrouped_text outcome) }
     ensures kept { IsPrefix out.old.items out.new.items }
@@ -226,7 +226,7 @@ pub fn put_regrouped(out: &mut Vec<u8>, outcome: Regrouped) -> Result<(), AllocE
     }
 }
 
-// The group, the number of its member, and the extent that this is now.
+// Appends a shift: the group, the number of its member, and the extent that the member was moved onto.
 fn put_shift(out: &mut Vec<u8>, shift: Shift) -> Result<(), AllocError>
     ensures told { OnOk result (out.new.items ≡ out.old.items ++ shift_text shift) }
     ensures kept { IsPrefix out.old.items out.new.items }
@@ -237,7 +237,7 @@ fn put_shift(out: &mut Vec<u8>, shift: Shift) -> Result<(), AllocError>
     put_numbered(out, b".", u64::from(shift.to.extent))
 }
 
-// A record that was emitted.
+// Appends a record that was emitted.
 fn put_emitted(out: &mut Vec<u8>, record: &Record) -> Result<(), AllocError>
     ensures told { OnOk result (out.new.items ≡ out.old.items ++ answer_text 0 (s.Committed «record».now)) }
     ensures kept { IsPrefix out.old.items out.new.items }
@@ -246,7 +246,7 @@ fn put_emitted(out: &mut Vec<u8>, record: &Record) -> Result<(), AllocError>
     put_record(out, record)
 }
 
-/// A refusal: its number, and what it names.
+/// Appends a refusal: its number, and what it names.
 fn put_refusal(out: &mut Vec<u8>, refusal: &Refusal) -> Result<(), AllocError>
     ensures told { OnOk result (out.new.items ≡ out.old.items ++ answer_text 0 (s.Refused refusal.now)) }
     ensures kept { IsPrefix out.old.items out.new.items }
@@ -255,7 +255,7 @@ fn put_refusal(out: &mut Vec<u8>, refusal: &Refusal) -> Result<(), AllocError>
     put_detail(out, refusal)
 }
 
-// The record, the slot or the drive that a refusal names.
+// Appends the record, the slot or the drive that a refusal names.
 fn put_detail(out: &mut Vec<u8>, refusal: &Refusal) -> Result<(), AllocError>
     ensures told { OnOk result (out.new.items ≡ out.old.items ++ detail refusal.now) }
     ensures kept { IsPrefix out.old.items out.new.items }
@@ -272,7 +272,7 @@ fn put_detail(out: &mut Vec<u8>, refusal: &Refusal) -> Result<(), AllocError>
     }
 }
 
-/// A scan's fault: its number, and what it names. Out of memory has no text: it is an `AllocError`.
+/// Appends a scan's fault: its number, and what it names. Out of memory has no text: it is an `AllocError`.
 pub fn put_fault(out: &mut Vec<u8>, fault: &ScanFault) -> Result<(), AllocError>
     ensures told { OnOk result (out.new.items ≡ out.old.items ++ fault_text fault.now) }
     ensures memory { OnOk result (fault.now ≢ ScanFault.Memory) }
@@ -285,7 +285,7 @@ pub fn put_fault(out: &mut Vec<u8>, fault: &ScanFault) -> Result<(), AllocError>
     put_fault_detail(out, fault)
 }
 
-// The slots and the block that a scan's fault names.
+// Appends the slots and the block that a scan's fault names.
 fn put_fault_detail(out: &mut Vec<u8>, fault: &ScanFault) -> Result<(), AllocError>
     ensures told { OnOk result (out.new.items ≡ out.old.items ++ fault_detail fault.now) }
     ensures kept { IsPrefix out.old.items out.new.items }
@@ -308,7 +308,7 @@ fn put_fault_detail(out: &mut Vec<u8>, fault: &ScanFault) -> Result<(), AllocErr
     }
 }
 
-/// The lowest block of which two maps differ, if they do.
+/// Appends the lowest block of which two maps differ, or that they are the same.
 pub fn put_difference(out: &mut Vec<u8>, lowest: Option<u32>) -> Result<(), AllocError>
     ensures told { OnOk result (out.new.items ≡ out.old.items ++ difference_text lowest) }
     ensures kept { IsPrefix out.old.items out.new.items }
@@ -319,7 +319,7 @@ pub fn put_difference(out: &mut Vec<u8>, lowest: Option<u32>) -> Result<(), Allo
     }
 }
 
-/// How many records, and the records.
+/// Appends a word, the number of records, and the records in hex.
 pub fn put_listing(out: &mut Vec<u8>, word: &[u8], records: &[Record]) -> Result<(), AllocError>
     ensures told { OnOk result (out.new.items ≡ out.old.items ++ (word.now ++ listing records.now)) }
     ensures kept { IsPrefix out.old.items out.new.items }

@@ -7,11 +7,11 @@ use std::alloc::AllocError;
 /// Why a line is wrong.
 #[derive(Clone, Copy)]
 pub enum Why {
-    /// There are lines enough before it.
+    /// It is past the last line that a script may have.
     Many,
     /// It has too many bytes.
     Long,
-    /// It spells no command that may come now.
+    /// It spells no command, or one that isn't allowed in this state.
     Form,
     /// A number is out of its limits.
     Range,
@@ -20,7 +20,7 @@ pub enum Why {
 /// Why a command was not answered.
 #[derive(Clone, Copy)]
 pub enum Failure {
-    /// There was no memory.
+    /// Out of memory.
     Memory,
     /// The line is wrong.
     Wrong(Why),

@@ -1,4 +1,4 @@
--- How a script is fed in pieces: the whole lines of each piece are answered, and lead on to the next.
+-- How a script is fed in pieces: the lines that end in a piece are answered, and the rest is kept as the open line.
 use Rattle.std.specs.Prelude.{◌≡◌, ℕ, ◌+◌, ◌-◌, ◌*◌, ◌≤◌, List, [], ◌∷◌, ◌++◌, length, Result, Ok, Err, Option}
 use Rattle.script_exec.specs.declared.bench.Bench.{Bench}
 use Rattle.script_io.specs.Opens.{AreLines, IsOpen}
@@ -13,13 +13,13 @@ use Rattle.script_io.specs.declared.stop.Stop.TheVariants as stop
 use Rattle.script_exec.specs.declared.why.Why.{Why}
 use Rattle.script_io.specs.declared.script.Script.{Script}
 
--- a fault was reported, unless there was no memory for it
+-- a fault was reported, unless out of memory
 abbrev pub TellsFault : Result (Unit {0}) Stop → ℕ → Why → List ℕ → List ℕ → Type 0
 TellsFault (Ok _) number why old new = ⊥
 TellsFault (Err stop.Memory) number why old new = Unit {0}
 TellsFault (Err stop.Fault) number why old new = new ≡ old ++ fault_line number why
 
--- a fault of a script's open line was reported; without memory for it the answers are as they were
+-- a fault of a script's open line was reported; if out of memory, the answers are as they were
 abbrev pub Faults : Result (Unit {0}) Stop → Why → Script → Script → Type 0
 Faults (Ok _) why old new = ⊥
 Faults (Err stop.Memory) why old new = new.out.items ≡ old.out.items
@@ -34,13 +34,13 @@ pub record IsLineTold (n : ℕ) (state : State) (bench : Option Bench) (line old
   pub told : (lines : List (List ℕ)) (more : List ℕ) (last : End) → Tells (n + 1) next lines more last
       → Tells n state (line ∷ lines) (bytes ++ more) last
 
--- line n is a fault, for any lines after it
+-- line n is at fault, with any lines after it
 pub record IsLineWrong (n : ℕ) (state : State) (line old new : List ℕ) : Type 0 where
   pub bytes : List ℕ
   pub out : new ≡ old ++ bytes
   pub told : (lines : List (List ℕ)) → Tells n state (line ∷ lines) bytes end.Fault
 
--- what came of line n, by the outcome
+-- what was done with line n, by the outcome
 abbrev pub LineComes : Result (Unit {0}) Stop → ℕ → State → Option Bench → List ℕ → List ℕ → List ℕ → Type 0
 LineComes (Ok _) n state bench line old new = IsLineTold n state bench line old new
 LineComes (Err stop.Memory) n state bench line old new = Unit {0}
@@ -79,13 +79,13 @@ pub record IsAlong (old : Script) (state : State) (new : Script) (chunk rest : L
   pub out : new.out.items ≡ old.out.items ++ bytes
   pub leads : Leads old.number state whole bytes new.number next
 
--- the chunk holds a fault, for any bytes after it
+-- the chunk holds a fault, with any bytes after it
 pub record IsStopped (old : Script) (state : State) (new : Script) (chunk : List ℕ) : Type 0 where
   pub bytes : List ℕ
   pub out : new.out.items ≡ old.out.items ++ bytes
   pub told : (more : List ℕ) → Left old.number state old.line.items (chunk ++ more) bytes end.Fault
 
--- of a text from line n on, whole lines at its front have these answers
+-- the answers are those to a prefix of whole lines of a text, which begins at line n
 pub record IsCut (n : ℕ) (state : State) (text out : List ℕ) : Type 0 where
   pub whole : List ℕ
   pub rest : List ℕ
@@ -93,25 +93,25 @@ pub record IsCut (n : ℕ) (state : State) (text out : List ℕ) : Type 0 where
   pub lines : AreLines whole
   pub told : Tells n state (lines_of whole) out end.Whole
 
--- there was no memory: whole lines were answered, and nothing else was appended
+-- out of memory: whole lines were answered, and nothing else was appended
 pub record IsUnfinished (old : Script) (state : State) (new : Script) (chunk : List ℕ) : Type 0 where
   pub bytes : List ℕ
   pub out : new.out.items ≡ old.out.items ++ bytes
   pub cut : IsCut old.number state (old.line.items ++ chunk) bytes
 
--- what came of a chunk, by the outcome
+-- what was done with a chunk, by the outcome
 abbrev pub Feeds : Result (Unit {0}) Stop → Script → State → Script → List ℕ → Type 0
 Feeds (Ok _) old state new chunk = IsAlong old state new chunk []
 Feeds (Err stop.Memory) old state new chunk = IsUnfinished old state new chunk
 Feeds (Err stop.Fault) old state new chunk = IsStopped old state new chunk
 
--- nothing comes after the open line
+-- the input ended after the open line
 pub record IsClosed (old : Script) (state : State) (new : Script) (last : End) : Type 0 where
   pub bytes : List ℕ
   pub out : new.out.items ≡ old.out.items ++ bytes
   pub told : Left old.number state old.line.items [] bytes last
 
--- what came of the end after the open line, by the outcome
+-- what was done at the end of the input, by the outcome
 abbrev pub Closes : Result (Unit {0}) Stop → Script → State → Script → Type 0
 Closes (Ok _) old state new = IsClosed old state new end.Whole
 Closes (Err stop.Memory) old state new = IsUnfinished old state new []
@@ -123,7 +123,7 @@ pub record IsLineAnswered (old : Script) (state : State) (line : List ℕ) (new 
   pub none : new.line.items ≡ []
   pub told : IsLineTold old.number state new.bench line old.out.items new.out.items
 
--- what came of the line, by the outcome: without memory nothing is appended
+-- what was done with a whole line, by the outcome; if out of memory, nothing is appended
 abbrev pub Answered : Result (Unit {0}) Stop → Script → State → List ℕ → Script → Type 0
 Answered (Ok _) old state line new = IsLineAnswered old state line new
 Answered (Err stop.Memory) old state line new = new.out.items ≡ old.out.items

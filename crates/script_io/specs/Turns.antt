@@ -50,13 +50,13 @@ pub record IsEnded (old : Script) (state : State) (chunk : List ℕ) (held now :
   pub wrote : Appends held now bytes
   pub told : (more : List ℕ) → Left old.number state old.line.items (chunk ++ more) bytes end.Fault
 
--- there was no memory: the answers to whole lines at the input's front are written
+-- out of memory: the answers to a prefix of the input, of whole lines, are written
 pub record IsCutSaid (old : Script) (state : State) (input : List ℕ) (held now : Option (List ℕ)) : Type 0 where
   pub bytes : List ℕ
   pub wrote : Appends held now bytes
   pub cut : IsCut old.number state (old.line.items ++ input) bytes
 
--- of a text from line n on, whole lines at its front, or all of it, have these answers
+-- the answers are those to a prefix of a text which begins at line n; the prefix is of whole lines, or the whole text
 pub record IsFronted (n : ℕ) (state : State) (text out : List ℕ) : Type 0 where
   pub front : List ℕ
   pub rest : List ℕ
@@ -65,13 +65,13 @@ pub record IsFronted (n : ℕ) (state : State) (text out : List ℕ) : Type 0 wh
   pub last : End
   pub told : Tells n state (lines_of front) out last
 
--- a write failed: a prefix of the answers is written, for any bytes after the chunk
+-- a write failed: a prefix of the answers is written, with any bytes after the chunk
 pub record IsBroken (old : Script) (state : State) (chunk : List ℕ) (held now : Option (List ℕ)) : Type 0 where
   pub bytes : List ℕ
   pub part : IsPartWritten held now bytes
   pub fronted : (more : List ℕ) → IsFronted old.number state (old.line.items ++ (chunk ++ more)) bytes
 
--- what came of a chunk
+-- what was done with a chunk, by what halted the script, if anything did
 abbrev pub GoesOn : Option Halt → Script → State → Script → List ℕ → Option (List ℕ) → Option (List ℕ) → Type 0
 GoesOn None old state new chunk held now = IsPartSaid old state new chunk [] held now
 GoesOn (Some halt.Fault) old state new chunk held now = IsEnded old state chunk held now
@@ -92,7 +92,7 @@ pub record IsBrokenOff (old : Script) (state : State) (input : List ℕ) (held n
   pub part : IsPartWritten held now bytes
   pub fronted : IsFronted old.number state (old.line.items ++ input) bytes
 
--- what came of the rest of the input, and how it ended
+-- what was done with the rest of the input, by what halted the script
 abbrev pub Concludes : Halt → Script → State → List ℕ → Option (List ℕ) → Option (List ℕ) → Type 0
 Concludes halt.Whole old state input held now = IsAllSaid old state input held now end.Whole
 Concludes halt.Fault old state input held now = IsAllSaid old state input held now end.Fault
@@ -100,30 +100,30 @@ Concludes halt.Memory old state input held now = IsCutSaid old state input held 
 Concludes (halt.WriteBroke broke) old state input held now = IsBrokenOff old state input held now
 Concludes (halt.ReadBroke broke) old state input held now = ⊥
 
--- what came of a part of the input, by what is known of the reader's bytes
+-- what was done with a part of the input, by whether the reader's bytes are known
 abbrev pub PartSaid : Option (List ℕ) → Option (List ℕ) → Script → State → Script → Option (List ℕ) → Option (List ℕ) → Type 0
 PartSaid None rest old state new held now = (next : State) × Stands new.bench next
 PartSaid (Some input) None old state new held now = ⊥
 PartSaid (Some input) (Some rest) old state new held now = IsPartSaid old state new input rest held now
 
--- the same of all that is left of it
+-- what was done with the rest of the input, if the reader's bytes are known
 abbrev pub AllSaid : Halt → Option (List ℕ) → Script → State → Option (List ℕ) → Option (List ℕ) → Type 0
 AllSaid last None old state held now = Unit {0}
 AllSaid last (Some input) old state held now = Concludes last old state input held now
 
--- what came of a turn
+-- what was done in a turn, by what halted the script, if anything did
 abbrev pub TurnsTo : Option Halt → Option (List ℕ) → Option (List ℕ) → Script → State → Script → Option (List ℕ) → Option (List ℕ) → Type 0
 TurnsTo None before after old state new held now = PartSaid before after old state new held now
 TurnsTo (Some (halt.ReadBroke broke)) before after old state new held now = PartSaid before after old state new held now
 TurnsTo (Some last) before after old state new held now = AllSaid last before old state held now
 
--- what is written of a script and how it ends are what it says
+-- all answers of the script are written, and its end is the one that `Says` gives
 pub record IsSaidOf (script : List ℕ) (held now : Option (List ℕ)) (last : End) : Type 0 where
   pub out : List ℕ
   pub wrote : Appends held now out
   pub says : Says script out last
 
--- what is written are the answers to whole lines at the script's front
+-- what is written are the answers to a prefix of the script, of whole lines
 pub record IsSaidBefore (script : List ℕ) (held now : Option (List ℕ)) : Type 0 where
   pub whole : List ℕ
   pub rest : List ℕ

@@ -1,4 +1,4 @@
-//! The calls of a reader and a writer. Only here can it be reported that one of them failed.
+//! The calls of a reader and a writer. The values that report a failed call can be made only here.
 ghost use Rattle.std.specs.Prelude.{OnOk, OnErr};
 ghost use Rattle.std.specs.Io.{ReadsAtMost};
 ghost use Rattle.std.specs.Io.KnownBytes.{Appends, ReadConsumes};
@@ -6,15 +6,15 @@ ghost use Rattle.script_io.specs.Turns.{IsPartWritten};
 
 use std::io::{Read, Write};
 
-/// A call of `read` answered an error.
+/// A call of `read` returned an error.
 #[derive(Drop)]
 pub struct ReadBroke(());
 
-/// A call of `write` answered an error, or took no byte.
+/// A call of `write` returned an error, or accepted no byte.
 #[derive(Drop)]
 pub struct WriteBroke(());
 
-/// Reads bytes to the buffer's front. An error is not tried again.
+/// Reads bytes into the front of the buffer. A failed read is not retried.
 pub fn read_some<R: Read>(reader: &mut R, buffer: &mut [u8]) -> Result<usize, ReadBroke>
     ensures bound { ReadsAtMost result buffer.new }
     ensures bytes { ReadConsumes (R.remaining reader.old) (R.remaining reader.new) result buffer.new }
@@ -25,7 +25,7 @@ pub fn read_some<R: Read>(reader: &mut R, buffer: &mut [u8]) -> Result<usize, Re
     }
 }
 
-/// Writes the bytes. An error is not tried again, nor a write of no byte.
+/// Writes all the bytes. A write that fails or accepts no byte is not retried.
 pub fn write_out<W: Write>(writer: &mut W, bytes: &[u8]) -> Result<(), WriteBroke>
     ensures whole { OnOk result (Appends (W.contents writer.old) (W.contents writer.new) bytes.now) }
     ensures part { OnErr result (IsPartWritten (W.contents writer.old) (W.contents writer.new) bytes.now) }

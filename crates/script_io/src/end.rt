@@ -9,11 +9,11 @@ pub enum End {
     Whole,
     /// A line was wrong.
     Fault,
-    /// There was no memory.
+    /// Out of memory.
     Memory,
-    /// A read answered an error.
+    /// A read returned an error.
     ReadFault,
-    /// A write answered an error, or took no byte.
+    /// A write returned an error, or accepted no byte.
     WriteFault,
 }
 

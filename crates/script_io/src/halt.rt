@@ -5,7 +5,7 @@ ghost use Rattle.script_io.specs.Turns.{end_of};
 use crate::calls::{ReadBroke, WriteBroke};
 use crate::end::End;
 
-/// Why no more of a script is read. For a call that failed it takes what only that call can give.
+/// Why no more of a script is read. The variant for a failed call holds a value that only that call can make.
 #[derive(Drop)]
 pub enum Halt {
     Whole,
@@ -16,7 +16,7 @@ pub enum Halt {
 }
 
 impl Halt {
-    /// How the script ends by it.
+    /// How a script that is halted for this reason ends.
     pub fn end(self) -> End
         ensures { result ≡ end_of self }
     {

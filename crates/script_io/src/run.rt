@@ -20,7 +20,7 @@ const CHUNK: usize = 65_536;
 /// The longest payload.
 const LONGEST_PAYLOAD: usize = 65_536;
 
-/// Reads a script, and writes its answers, those to the lines that were read before the next read.
+/// Reads a script and writes its answers. The answers to all whole lines that were read are written before the next read.
 pub fn run_script<R: Read, W: Write>(alloc: Global, reader: &mut R, writer: &mut W) -> End
     ensures { IfSome (R.remaining reader.old) (λ script.
         SaysBy result script (R.remaining reader.new) (W.contents writer.old) (W.contents writer.new)) }
@@ -50,7 +50,7 @@ pub fn run_and_leave<R: Read, W: Write>(
     (end, bench)
 }
 
-// Turn after turn, up to the end: one read, the answers to the lines that end in it, and their write.
+// Repeats turns until the script ends: read a chunk, answer the lines that end in it, and write the answers.
 fn turns<R: Read, W: Write>(
     alloc: Global,
     reader: &mut R,
@@ -78,7 +78,7 @@ fn turns<R: Read, W: Write>(
     }
 }
 
-// The answers to the lines that end in a chunk.
+// Answers the lines that end in a chunk, and writes the answers.
 fn go_on<W: Write>(alloc: Global, writer: &mut W, script: &mut Script, chunk: &[u8]) -> Option<Halt>
     requires good { IsScript script.old }
     requires written { script.old.out.items ≡ [] }
@@ -103,7 +103,7 @@ fn go_on<W: Write>(alloc: Global, writer: &mut W, script: &mut Script, chunk: &[
     }
 }
 
-// The answer to the last line.
+// Answers the line that is open at the end of the input, if there is one, and writes the answer.
 fn close<W: Write>(alloc: Global, writer: &mut W, script: &mut Script) -> Halt
     requires good { IsScript script.old }
     requires written { script.old.out.items ≡ [] }

@@ -43,7 +43,8 @@ impl Script {
         }
     }
 
-    /// Reads the next bytes, and answers the lines that end in them. A line whose bytes are all among them is answered where it lies.
+    /// Takes the next bytes, and answers the lines that end in them. A line that lies in `chunk` as a whole is answered
+    /// without a copy.
     pub fn feed(&mut self, alloc: Global, chunk: &[u8]) -> Result<(), Stop>
         requires { IsScript self.old }
         ensures keeps { OnOk result (IsScript self.new) }
@@ -63,7 +64,7 @@ impl Script {
         self.take_in(rest)
     }
 
-    /// Answers the last line, which has no end, where there is one.
+    /// Answers the line that is open at the end of the input, if there is one.
     pub fn finish(&mut self, alloc: Global) -> Result<(), Stop>
         requires { IsScript self.old }
         ensures { (state : State) → Stands self.old.bench state → Closes result self.old state self.new }
@@ -74,7 +75,7 @@ impl Script {
         self.answer_open(alloc)
     }
 
-    // More bytes of the open line.
+    // Appends bytes to the open line, or reports that it is too long or one too many.
     fn take_in(&mut self, part: &[u8]) -> Result<(), Stop>
         requires good { IsScript self.old }
         requires part { IsOpen part.now }
@@ -94,7 +95,7 @@ impl Script {
         Ok(self.line.extend_from_slice(part)?)
     }
 
-    // Reports a fault of the open line. Without memory for all of it, nothing of it is kept.
+    // Reports a fault of the open line. If out of memory, no part of the report is kept.
     fn tell_fault(&mut self, why: Why) -> Result<(), Stop>
         ensures { Faults result why self.old self.new }
     {
@@ -123,7 +124,7 @@ impl Script {
         Ok(())
     }
 
-    // Appends a line's answer to the whole answers. Without memory for all of its answer, nothing of it is kept.
+    // Appends a line's answer to the whole answers. If out of memory, no part of the answer is kept.
     fn answer(&mut self, alloc: Global, line: &[u8]) -> Result<(), Stop>
         requires good { IsScript self.old }
         requires none { self.old.line.items ≡ [] }

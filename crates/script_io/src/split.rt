@@ -10,7 +10,7 @@ use std::simd::prelude::*;
 /// What ends a line.
 const LINE_END: u8 = b'\n';
 
-/// The bytes of a first look.
+/// How many leading bytes are compared in one step.
 const LOOK: usize = 32;
 
 /// The bytes before the first line's end, and those after it.
@@ -24,7 +24,7 @@ pub fn split_line(text: &[u8]) -> Option<(&[u8], &[u8])>
     }
 }
 
-// The first line's end. Most lines are short, so their first bytes are looked at by themselves.
+// The first line's end. Most lines are short, so the first bytes are compared in one step before `memchr` is called.
 fn line_end(text: &[u8]) -> Option<usize>
     ensures { IsFirstByte (is_byte 10) text.now result }
 {

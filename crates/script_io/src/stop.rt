@@ -7,7 +7,7 @@ use std::alloc::AllocError;
 /// Why a script ended before its last line.
 #[derive(Clone, Copy)]
 pub enum Stop {
-    /// There was no memory.
+    /// Out of memory.
     Memory,
     /// A line was wrong, and its fault was reported.
     Fault,

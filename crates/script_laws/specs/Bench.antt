@@ -15,7 +15,7 @@ pub record IsTiered (z : Groups) (T : Tiered) : Type 0 where
   pub reached : IsReached z T.flat
   pub distinct : AreDistinct T.order
 
--- no array yet, or such a state of it
+-- no array yet, or one whose flat state is steady and reached, with each block once in its order of last writes
 abbrev pub IsOneBench : State → Type 0
 IsOneBench None = Unit {0}
 IsOneBench (Some P) = IsTiered P.tiers.flat.groups P.tiers

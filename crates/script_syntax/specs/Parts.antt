@@ -8,11 +8,11 @@ use Rattle.std.specs.Option.{option_map}
 abbrev pub parts : ℕ → List ℕ → List (List ℕ)
 parts separator text = slice_split (λ byte. byte == separator) text
 
--- the parts of what is left of a text, of which nothing may be left
+-- the parts of the rest of a text; no parts if there is no rest
 abbrev pub parts_left : ℕ → Option (List ℕ) → List (List ℕ)
 parts_left separator None = []
 parts_left separator (Some text) = parts separator text
 
--- the text that is borrowed
+-- the text of an optional borrow
 abbrev pub text_of : Option (Bor (List ℕ)) → Option (List ℕ)
 text_of text = option_map (λ rest. rest.now) text

@@ -16,7 +16,7 @@ abbrev pub Finds : Verb → ℕ → List (List ℕ) → List ℕ → Command →
 Finds verb size ws bytes command true = IsFound verb size ws (order_of command bytes)
 Finds verb size ws bytes command false = (order : Order) → IsFound verb size ws order → ⊥
 
--- the line spells this command, with a payload of the length that is wanted
+-- the line spells this command, and its payload, if it has one, is of this size
 pub record IsRead (size : ℕ) (line : List ℕ) (order : Order) : Type 0 where
   pub spells : Spells order line
   pub sized : IsSized size order

@@ -72,7 +72,7 @@ pub record Follows (order : Order) (ws : List (List ℕ)) : Type 0 where
   pub behind : IsBehind (behind_of order) rest
   pub spelled : ws ≡ map decimal (values_of order) ++ rest
 
--- a record that a command names is one of a write
+-- a record that a command names has a version above 0
 abbrev pub IsOfWrite : Behind → Type 0
 IsOfWrite (Told r) = 0 < r.version
 IsOfWrite _ = Unit {0}
@@ -90,7 +90,7 @@ pub record Spells (order : Order) (line : List ℕ) : Type 0 where
   pub follows : Follows order rest
   pub line_is : line ≡ line_of (word_of (verb_of order) ∷ rest)
 
--- the payload has the length that is wanted of one
+-- what follows the numbers, if it is a payload, has this length
 abbrev pub IsLong : ℕ → Behind → Type 0
 IsLong size (Content payload) = length payload ≡ size
 IsLong size _ = Unit {0}

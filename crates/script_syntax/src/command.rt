@@ -14,8 +14,8 @@ pub struct Named {
     pub extent: u64,
 }
 
-/// A command of a script. A field that its verb doesn't ask for means nothing. The payload of a fill is in the buffer that the
-/// caller gave for it.
+/// A command of a script. A field that its verb doesn't use has no meaning. A payload isn't here: it is in the caller's
+/// buffer.
 #[derive(Drop)]
 pub struct Command {
     pub numbers: [u64; MOST_NUMBERS],
@@ -27,7 +27,7 @@ pub struct Command {
 }
 
 impl Command {
-    /// Room for a command.
+    /// A placeholder, for `read_command` to fill in.
     pub fn new(alloc: Global) -> Command {
         Command {
             numbers: [0; MOST_NUMBERS],

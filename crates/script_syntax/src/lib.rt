@@ -1,4 +1,4 @@
-//! A line of a script as a command: numbers, members, records and verbs as they are spelled.
+//! Parses a line of a script into a command: its verb, numbers, members, record and payload.
 #![tactic(auto)]
 
 mod command;

@@ -33,7 +33,7 @@ fn member_of(word: &[u8]) -> Option<Named>
     Some(Named { drive, extent })
 }
 
-// The three to eight members that are left.
+// The members that the remaining words name, three to eight of them.
 fn members_of(alloc: Global, text: Option<&[u8]>) -> Result<Option<Vec<Named>>, AllocError>
     ensures some { IfOk result (λ found. IfSome found (λ members.
         AreMembers members.items (words_left (text_of text.entry)))) }
@@ -60,7 +60,7 @@ fn members_of(alloc: Global, text: Option<&[u8]>) -> Result<Option<Vec<Named>>, 
     Ok(if is_end(rest) { Some(members) } else { None })
 }
 
-/// The class of groups and its members that are left.
+/// The class and the three to eight members that the remaining words name.
 pub fn class_and_members(
     alloc: Global,
     text: Option<&[u8]>,
@@ -81,7 +81,7 @@ pub fn class_and_members(
     Ok(Some((class, members)))
 }
 
-// The class that the word asks for.
+// The class that the word names, if it names one.
 fn class_of(word: &[u8]) -> Option<Class>
     ensures some { IfSome result (λ class. IsClassWord class word.now) }
     ensures none { IfNone result ((class : Class) → IsClassWord class word.now → ⊥) }

@@ -13,8 +13,8 @@ use crate::verb::{Tail, Verb, verb_of};
 use crate::words::{is_end, next_numbers};
 use std::alloc::{AllocError, Global};
 
-/// Whether the line spells a command, which is put into the room for it. The payload of a fill, which has to be as
-/// long as the buffer, is put there.
+/// Parses a line into `command`, and a payload, which must be as long as the buffer, into `payload`. Returns whether the
+/// line spells a command.
 pub fn read_command(
     alloc: Global,
     line: &[u8],
@@ -30,7 +30,7 @@ pub fn read_command(
     follow(alloc, verb, rest, payload, command)
 }
 
-// Whether the words that are left make a command of the verb.
+// Whether the words after the verb make it a command, which is then in `command` and `payload`.
 fn follow(
     alloc: Global,
     verb: Verb,

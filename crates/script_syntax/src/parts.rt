@@ -11,14 +11,14 @@ pub const SPACE: u8 = b' ';
 /// The separator between a drive and an extent.
 pub const DOT: u8 = b'.';
 
-/// The bytes of a first look.
+/// How many leading bytes are compared in one step.
 const LOOK: usize = 8;
 
 /// The text before the first separator, and the text after it where there is one.
 pub fn cut(text: &[u8], separator: u8) -> (&[u8], Option<&[u8]>)
     ensures { parts separator text.now ≡ result.0.now ∷ parts_left separator (text_of result.1) }
 {
-    // Words are short, so the first bytes are looked at together.
+    // Words are short: the separator is mostly among the first bytes, which are compared in one step.
     if text.len() >= LOOK {
         let front = bytes_before(u8x8::from_slice(text), separator);
         if front < LOOK {

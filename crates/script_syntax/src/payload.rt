@@ -6,7 +6,7 @@ ghost use Rattle.script_syntax.specs.Spelling.{PayloadAlone};
 
 use hex_lanes::decode_hex;
 
-/// Puts the payload that is left into the buffer, where it fills it.
+/// Decodes the remaining text into the buffer. Returns whether it is a payload in hex that fills the buffer exactly.
 pub fn put_payload(text: Option<&[u8]>, payload: &mut [u8]) -> bool
     ensures put { result ≡ true → PayloadAlone payload.new (words_left (text_of text.entry)) }
     ensures none { result ≡ false → (bytes : List ℕ) → length bytes ≡ length payload.old →

@@ -28,7 +28,7 @@ fn record_of(word: &[u8]) -> Option<Record>
     }
 }
 
-/// The one record that is left.
+/// The record that the remaining text spells, if it is exactly one word.
 pub fn last_record(text: Option<&[u8]>) -> Option<Record>
     ensures some { IfSome result (λ r. RecordAlone r (words_left (text_of text.entry))) }
     ensures none { IfNone result ((r : Record) → RecordAlone r (words_left (text_of text.entry)) → ⊥) }

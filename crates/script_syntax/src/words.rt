@@ -33,7 +33,7 @@ pub fn next_numbers<'a>(
     Some(rest)
 }
 
-/// The one word that is left.
+/// The remaining text, if it is exactly one word.
 pub fn last_word(text: Option<&[u8]>) -> Option<&[u8]>
     ensures some { IfSome result (λ word. words_left (text_of text.entry) ≡ word.now ∷ []) }
     ensures none { IfNone result ((word : List ℕ) → words_left (text_of text.entry) ≡ word ∷ [] → ⊥) }
@@ -46,7 +46,7 @@ pub fn last_word(text: Option<&[u8]>) -> Option<&[u8]>
     Some(word)
 }
 
-/// Whether nothing is left.
+/// Whether no words remain.
 pub fn is_end(text: Option<&[u8]>) -> bool
     ensures { IsTrue result ↔ (words_left (text_of text.entry) ≡ []) }
 {

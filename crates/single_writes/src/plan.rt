@@ -25,8 +25,8 @@ use step_core::{Array, Hold};
 /// the note cleared. Nothing is written: claim, ticket, map and log stay, so the same step can be planned again. Drives may be
 /// found lost.
 ///
-/// Refused as the step is, in the same order, but that nobody's claim is asked for: `InUse` is a slot that the array holds, where
-/// the step isn't a commit. Memory only where the step's checks pass.
+/// Refused as the step is, in the same order, except that no claim is asked for: `InUse` is a slot that the array holds,
+/// where the step isn't a commit. Memory only where the step's checks pass.
 pub fn plan_micro<D: Drive, C: Hold>(
     alloc: Global,
     array: &mut Array<D, C>,

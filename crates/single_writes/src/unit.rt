@@ -78,7 +78,7 @@ pub(crate) fn set_header(unit: &mut [u8], header: Header)
     unit[..HEADER_BYTES].copy_from_slice(&header.encode());
 }
 
-// Makes the unit one that waits: a blank header, and of a trim a payload of zeros whatever lies there.
+// Turns the unit into one that waits: a blank header, and zeros as the payload if it was a trim.
 pub(crate) fn set_waiting(unit: &mut [u8])
     requires { HEADER_BYTES ≤ length unit.old }
     ensures { (u : Stored) → IsUnit unit.old u → IsUnit unit.new (waiting_unit (length unit.old - HEADER_BYTES) (content_in u)) }
@@ -89,7 +89,7 @@ pub(crate) fn set_waiting(unit: &mut [u8])
     }
 }
 
-// Puts two pieces into a buffer, the one behind the other.
+// Puts two pieces into a buffer, one after the other.
 fn join(unit: &mut [u8], front: &[u8], rest: &[u8])
     requires { length unit.old ≡ length front.now + length rest.now }
     ensures { unit.new ≡ front.now ++ rest.now }

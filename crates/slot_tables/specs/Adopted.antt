@@ -1,4 +1,4 @@
--- An array that was put together from parts and a map, and the states that parts have to do with.
+-- An array that was put together from parts and a map, and the flat states that the parts agree with.
 use Rattle.std.specs.Prelude.{◌≡◌, ℕ, ◌<◌, length}
 use Rattle.map_join.specs.Record.{record_of}
 use Rattle.map_join.specs.Maps.{IsSame, IsListOf}

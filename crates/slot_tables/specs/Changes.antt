@@ -16,7 +16,7 @@ use Rattle.flat_machine.specs.Cases.{next_version, last_version, last_hop, longe
 use Rattle.array_parts.specs.Views.{PartsView}
 use Rattle.slot_tables.specs.Views.{Kept, Nothing, Pending, Moving, Newest, Unmade, ArrayView, kept_at}
 
--- memory runs out only where all that is tested before an allocation is passed, and any other refusal is the case p
+-- for the refusal Memory: `wanted`, that all tests before an allocation pass; for any other refusal: the case p
 abbrev pub MayRefuse : Refusal → Type 0 → Type 0 → Type 0
 MayRefuse Memory wanted p = wanted
 MayRefuse _ wanted p = p
@@ -52,7 +52,7 @@ copy_reason_of (Some class) _ _ = Some InUse
 abbrev pub copy_reason : ArrayView → ℕ → Option Record → Option Refusal
 copy_reason a slot found = copy_reason_of (class_at a.parts.groups slot) (kept_at a slot) found
 
--- what is kept of a slot, without the claim of a dissolved group's
+-- what is kept of a slot, without the claim that is kept of it for a dissolved group
 abbrev pub opened_of : Kept → Kept
 opened_of Unmade = Nothing
 opened_of kept = kept

@@ -39,7 +39,7 @@ pub record IsUnclaimed {C : Type 0} (names : C → ℕ) (claims : List C) (M : �
   pub none : how_many names claims slot ≡ 0
   pub lowest : (b : ℕ) → 0 < M b → (record_of b (M b)).place < slot → 0 < how_many names claims (record_of b (M b)).place
 
--- the block whose place each slot is, by a list of records
+-- the block whose place the slot is in a list of records; none if it is no record's place
 abbrev pub IsWanted : List Record → ℕ → Option ℕ → Type 0
 IsWanted records slot None = (r : Record) → Contains records r → r.place ≡ slot → ⊥
 IsWanted records slot (Some b) = (r : Record) × Contains records r × (r.block ≡ b) × (r.place ≡ slot)

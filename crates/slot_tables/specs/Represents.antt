@@ -1,4 +1,4 @@
--- When an array or a world represents a flat state: what is true of that state alone, and what their tables have to do with it.
+-- When an array or a world represents a flat state: what holds of that state alone, and how their tables agree with it.
 use Rattle.std.specs.Prelude.{◌≡◌, ℕ, length, ◌==◌, ◌/◌, Bool, false, Option, Some, None}
 use Rattle.flat_machine.specs.Flat.{Flat, Content, Holder, Worker, Ticket, Block, Shut, Waiting, Fresh, Moved, kind_of}
 use Rattle.array_parts.specs.Views.{Shows, lost_of, failed_of}
@@ -39,8 +39,8 @@ pub record InTables (a : ArrayView) (F : Flat) : Type 0 where
   pub log : F.emitted ≡ a.log
   pub slots : (s : ℕ) → ArraySlot s (kept_at a s) (F.held s) (F.tickets s)
 
--- an array represents a flat state: all is true of it that is after any steps, with the array's keys as the map of its log;
--- the drives show its units; and the array's tables are its. Which slots workers hold is left free
+-- an array represents a flat state: what holds after any steps holds of that state, with the array's keys as the map of its
+-- log; the drives show its units; and the array's tables are its tables. Which slots workers hold is left open
 pub record ShowsArray (a : ArrayView) (F : Flat) : Type 0 where
   pub history : IsHistory F (key_at a)
   pub units : Shows a.parts F.units

@@ -31,7 +31,7 @@ pub struct Room<C: Hold> {
     pub places: Vec<SlotState<C>>,
 }
 
-// All the memory that it takes but its buffers, and which block wants which of the slots that have places.
+// All the memory that the array takes but its buffers, and for each slot that has a place the block that wants it.
 #[derive(Drop)]
 pub struct Ready<C: Hold> {
     pub log: Vec<Record>,

@@ -120,7 +120,7 @@ fn seat<C: Hold>(
     }
 }
 
-// Takes a claim into each place that wants one, and leaves the others over.
+// Takes a claim into each place that wants one, and puts the other claims into `others`.
 pub fn seat_all<C: Hold>(
     mut wanted: Vec<Option<u32>>,
     mut claims: Vec<C>,

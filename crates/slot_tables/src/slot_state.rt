@@ -80,7 +80,7 @@ fn spent<C: Hold>(place: SlotState<C>)
     }
 }
 
-// The claim of a slot that waits, of which nothing is kept then.
+// Takes out the claim of a slot that waits; nothing is kept of the slot then.
 pub fn take_waiting<C: Hold>(places: &mut Vec<SlotState<C>>, slot: u16) -> C
     requires waits { is_waiting (slice_index_or (kepts_of places.old.items) slot Nothing) ≡ true }
     requires claims { AreOf C.names places.old.items }
@@ -98,9 +98,9 @@ pub fn take_waiting<C: Hold>(places: &mut Vec<SlotState<C>>, slot: u16) -> C
     }
 }
 
-// Makes places for the slots of all groups up to this one. If an allocation fails, the places that there were stay. Room is
-// made for twice as many as there are, but for no more than there are slots. So growing group by group copies each place a
-// constant number of times on average.
+// Makes places for the slots of all groups up to this one. If an allocation fails, the existing places stay. When the vector
+// grows, its capacity is at least twice its length, up to one place for each slot number. So growing group by group copies
+// each place a constant number of times on average.
 pub fn grow_to<C: Hold>(places: &mut Vec<SlotState<C>>, group: u16) -> Result<(), AllocError>
     requires group { group < 512 }
     requires most { vec_len places.old ≤ 65536 }
@@ -123,7 +123,7 @@ pub fn grow_to<C: Hold>(places: &mut Vec<SlotState<C>>, group: u16) -> Result<()
     Ok(())
 }
 
-// For how many places room is made, where `there` are there and `count` are needed.
+// The capacity to reserve where `there` places exist and `count` are needed.
 fn room_for(count: usize, there: usize) -> usize
     requires { count ≤ 65536 }
     ensures enough { count ≤ result }

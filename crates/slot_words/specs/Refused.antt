@@ -12,7 +12,7 @@ use Rattle.slot_words.specs.Sight.{HasStepped, HasTried}
 abbrev pub HasFreed : Held → View → View → Type 0
 HasFreed claim before after = HasStepped Store claim.slot before after × (after.sight.found ≡ 2 * claim.generation + 1) × (after.sight.left ≡ 2 * claim.generation)
 
--- one look found the slot free, and then one exchange found it the same, and left it held at the next generation
+-- one look found the slot free, and then one exchange found the same word, and left it held at the next generation
 abbrev pub IsClaimed : ℕ → View → View → Held → Type 0
 IsClaimed slot before after claim = (claim.slot ≡ slot) × HasTried slot before after × (2 * claim.generation ≡ after.look.found + 2)
     × (after.sight.found ≡ after.look.found) × (after.sight.left ≡ 2 * claim.generation + 1)

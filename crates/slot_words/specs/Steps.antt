@@ -1,4 +1,5 @@
--- What holds for each kind of atomic step, stated over the step, the seat before, the number found (or stored), and the seat after.
+-- What holds for each kind of atomic step, stated over the step, the seat before, the number found (or stored), and the seat
+-- after.
 use Rattle.std.specs.Prelude.{◌≡◌, ◌≢◌, ℕ, ◌+◌, ◌*◌, ◌^◌, ◌<◌, ◌≤◌, ◌==◌, List, [], ◌∷◌, ◌++◌, MatchBool}
 use Rattle.atomic_table.specs.Table.{Me, Step}
 use Rattle.slot_words.specs.declared.view.Held.{Held}

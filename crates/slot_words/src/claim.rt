@@ -54,7 +54,7 @@ pub enum ClaimRefusal {
     Taken(u64),
     /// The slot is free at its last generation, 2^62, and is never claimed again.
     Spent,
-    /// The slot was free at another generation than the look had found, when this word was read there.
+    /// When this word was read there, the slot was free at another generation than the look before had found.
     Moved(u64),
 }
 

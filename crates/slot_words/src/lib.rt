@@ -1,4 +1,4 @@
-//! Claims of slots without a lock: one word a slot, and a claim is a value that no second one is like.
+//! Claims of slots without a lock: one word for each slot, and no two claims that exist at once are of the same slot.
 #![tactic(auto)]
 
 mod claim;

@@ -5,8 +5,8 @@ use crate::naming::Naming;
 use crate::rule::Sitting;
 use std::marker::{Model, PhantomData};
 
-/// Lets its holder step on the words of the table N. It has no bytes. A contract sees its last look and its last step, all
-/// that there were, what was won, and its shares of the right to step.
+/// Lets its holder make steps on the words of the table N. It has no bytes. A contract sees its last look and its last step,
+/// all the steps that it made, the claims that it won, and its shares of the right to step.
 #[derive(Drop)]
 pub struct Pass<N: Naming> {
     pub(crate) seat: Sitting,

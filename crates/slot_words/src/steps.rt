@@ -14,7 +14,7 @@ pub(crate) fn sit(table: &Words) -> Sitting
     table.shared.load_new_seat::<Sits>(0).1
 }
 
-// A new seat, with half of the first one's first share.
+// A new seat with half of the first share of the given seat.
 pub(crate) fn halve(table: &Words, seat: &mut Sitting) -> Sitting
     requires room { 0 < table.now.shared.table_id.words }
     requires seat { seat.old.table_id ≡ table.now.shared.table_id }

@@ -16,8 +16,8 @@ pub enum Kind {
     Store,
 }
 
-/// What a step did, the place of its word, what it found there and what it left, and how many steps the table had had by
-/// then, this one counted.
+/// What a step did, the place of its word, what it found there and what it left, and its number among the table's steps,
+/// counted from 1.
 #[derive(Clone, Copy)]
 pub struct Sight {
     pub kind: Kind,

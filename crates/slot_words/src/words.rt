@@ -56,7 +56,7 @@ impl Model for Unnamed {
 /// Why a table was not made.
 #[derive(Clone, Copy, Debug, PartialEq, Eq)]
 pub enum TableRefusal {
-    /// There is no memory for its words.
+    /// Out of memory for its words.
     Memory = 1,
 }
 
@@ -123,7 +123,7 @@ impl<N: Naming> SlotWords<N> {
         }
     }
 
-    /// Takes the other Pass in, with what it remembers.
+    /// Merges the other Pass into this one, with its shares and all that it remembers.
     pub fn join(&self, pass: &mut Pass<N>, other: Pass<N>)
         ensures { pass.new ≡ both_pairs pass.old other }
     {
@@ -131,14 +131,15 @@ impl<N: Naming> SlotWords<N> {
         merge(&self.table, &mut pass.seat, seat);
     }
 
-    /// Looks once, and where the slot is free tries one exchange to the next generation, held.
+    /// Claims the slot: loads its word once and, where that is free and not spent, tries one compare-exchange to the next
+    /// generation, held.
     pub fn claim(&self, pass: &mut Pass<N>, slot: u16) -> Result<Claim<N>, ClaimRefusal>
         requires { slot < slots_of N.table }
         // one look more, and then one exchange, which won the next generation
         ensures ok { IfOk result (IsClaimed slot pass.old pass.new) }
-        // one look more is why, or then one exchange
+        // the reason is what one look found, or what one exchange found after it
         ensures err { IfErr result (IsRefused slot pass.old pass.new) }
-        // all its right to step is still the Pass's
+        // the Pass keeps its whole right to step
         ensures shares { pass.new.shares ≡ pass.old.shares }
     {
         let seen = self
@@ -190,12 +191,12 @@ impl<N: Naming> SlotWords<N> {
         }
     }
 
-    /// Tries each listed slot once, in order, and gives the first claim.
+    /// Tries the listed slots in order, each once, until one is claimed.
     pub fn claim_first(&self, pass: &mut Pass<N>, slots: &[u16]) -> Result<Claim<N>, NoneFree>
         requires { All (λ s. s < slots_of N.table) slots.now }
-        // those before the claimed one were tried and refused, one after another
+        // those before the claimed slot were tried and refused, in order
         ensures ok { IfOk result (IsFirst slots.now pass.old pass.new) }
-        // all were, and the last refusal is answered
+        // all listed slots were tried and refused, and the last refusal is returned
         ensures err { IfErr result (λ e. WereRefused slots.now (length slots.now) pass.old pass.new e.0) }
         ensures empty { IfErr result (λ e. e.0 ≡ None ↔ slots.now ≡ []) }
         ensures shares { pass.new.shares ≡ pass.old.shares }
@@ -234,7 +235,7 @@ impl<N: Naming> SlotWords<N> {
         ensures same { (one.new ≡ one.old) × (other.new ≡ other.old) }
     {
         if one.slot == other.slot {
-            // No run comes in here: one seat with both pairs would break the rule.
+            // Never reached: one seat with both pairs would break the rule.
             let empty = sit(&self.table);
             let theirs = mem::replace(&mut other.seat, empty);
             merge(&self.table, &mut one.seat, theirs);

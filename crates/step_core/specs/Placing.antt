@@ -85,7 +85,7 @@ abbrev pub place_of : Option Record → Option ℕ
 place_of None = None
 place_of (Some r) = Some r.place
 
--- what comes of it, in the steps of any worker: the slot is taken where somebody holds it
+-- the result of putting a block into a slot, in the steps of any worker: `Taken` where somebody holds the slot
 abbrev pub Places : Flat → ℕ → ℕ → ℕ → Put → Result Placed NotPlaced → Flat → Type 0
 Places F w s b what (Ok placed) G = (is : IsPlaced F w s b what placed.newest G) × (placed.left ≡ place_of is.old)
 Places F w s b what (Err denied.Taken) G = Runs F (step.Claim w s ∷ []) (Taken s ∷ []) G

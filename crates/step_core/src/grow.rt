@@ -1,4 +1,4 @@
-// A drive more.
+// Adding a drive.
 ghost use Rattle.std.specs.Prelude.{◌≡◌, IfOk, OnErr};
 ghost use Rattle.flat_machine.specs.Cases.{Case, IsWanted};
 ghost use Rattle.flat_machine.specs.Flat.{Flat};

@@ -1,4 +1,4 @@
-// A member of a group goes onto another extent.
+// Moving a member of a group to another extent.
 ghost use Rattle.std.specs.Prelude.{◌≡◌, IfErr, IfOk, MatchResult};
 ghost use Rattle.array_parts.specs.Views.{Shifted};
 ghost use Rattle.flat_machine.specs.Cases.{Case, IsWanted};

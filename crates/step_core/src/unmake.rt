@@ -1,4 +1,4 @@
-// A worker unmakes a group.
+// Dissolving a group whose slots a worker holds.
 ghost use Rattle.std.specs.Prelude.{◌≡◌, ℕ, ◌<◌, ◌≤◌, length, true, IfOk, OnErr, MatchOption};
 ghost use Rattle.flat_machine.specs.Steps as say;
 ghost use Rattle.flat_machine.specs.Flat.{Flat};

@@ -65,7 +65,7 @@ impl World {
         &self.array
     }
 
-    /// What the world's array keeps by itself, as a law: nothing is done.
+    /// A law, the invariant of the world's array: the call does nothing.
     pub fn whole(&self)
         ensures { IsWhole self.now.array }
     {

@@ -1,4 +1,4 @@
-// Cells that say what a row wants, each checked for its form and kept as it is spelled.
+// Cells with the expected results of a row. Each is checked for its form, and kept as it is spelled.
 use crate::trouble::Trouble;
 use crate::words::{byte, numbers_of, record_of, verb_of};
 use map_join::Record;

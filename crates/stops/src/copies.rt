@@ -1,4 +1,4 @@
-// Whether the units of the drives agree: copies with each other, and parities with what they are of.
+// Whether the units of the drives agree: copies with each other, and parities with the units that they cover.
 ghost use Rattle.std.specs.Prelude.{IsTrue};
 ghost use Rattle.extent_groups.specs.declared.class.Class.TheVariants.{Mirrored};
 ghost use Rattle.extent_groups.specs.Stores.{IsSlotOf};
@@ -37,7 +37,7 @@ pub(crate) fn unit_at(
     })
 }
 
-/// Whether the copies of each mirrored slot are equal where both drives are there.
+/// Whether the copies of each mirrored slot are equal where both drives are present.
 pub(crate) fn are_equal(alloc: Global, parts: &mut Stopped) -> Result<bool, Trouble> {
     let groups = &parts.groups;
     let drives: &mut [MemDrive] = &mut parts.drives;
@@ -127,7 +127,7 @@ fn is_zero_row(
     Ok(sum.iter().all(|byte| *byte == 0))
 }
 
-/// All units of the drives that are there, one after the other.
+/// All units of the drives that are present, one after the other.
 pub(crate) fn all_units(alloc: Global, parts: &mut Stopped) -> Result<Vec<u8>, Trouble> {
     let mut units = Vec::new(alloc);
     for drive in &mut parts.drives {

@@ -1,4 +1,4 @@
-// A cell of a row that isn't what is found.
+// A cell of a row that differs from what is found.
 ghost use Rattle.std.specs.Prelude.{◌≡◌, IsTrue, OnOk};
 
 use crate::trouble::Trouble;
@@ -12,7 +12,7 @@ pub(crate) struct Difference {
     pub(crate) found: String,
 }
 
-/// An error where what is found isn't what is wanted.
+/// Returns an error unless what is found equals the expected text.
 pub(crate) fn agree(
     alloc: Global,
     column: &'static str,
@@ -31,7 +31,7 @@ pub(crate) fn agree(
     }))
 }
 
-/// An error where something that the column names doesn't hold.
+/// Returns an error unless the condition that the column names holds.
 pub(crate) fn holds(alloc: Global, column: &'static str, is: bool) -> Result<(), Trouble>
     ensures { OnOk result (IsTrue is) }
 {

@@ -15,7 +15,7 @@ struct Table {
     text: String,
 }
 
-/// Reads the tables of a folder and their setups, and then carries out each row; whether all agree.
+/// Reads the tables of a folder and their setups, and then carries out each row. Returns whether all agree.
 pub(crate) fn run_folder(rt: &HostRuntime, folder: &str) -> Result<bool, Trouble> {
     let plans = table_of::<PlanRow>(rt, folder)?;
     let stops = table_of::<StopRow>(rt, folder)?;

@@ -1,4 +1,5 @@
-//! Carries out tables of stops inside a step, row by row; without a folder it tells of one step that is stopped.
+//! Carries out tables of stops inside a step, row by row. Without a folder it prints what a restart finds after stops in
+//! one step.
 #![tactic(auto)]
 
 mod cells;

@@ -14,7 +14,7 @@ use array_parts::Note;
 use std::alloc::{AllocError, Global};
 use step_core::Plain;
 
-/// The drives that are lost before a restart, the note, and the answer: that it is bad, or the map.
+/// The drives that are lost before a restart, the note, and the expected answer: that the note is bad, or the map.
 #[derive(Drop)]
 pub(crate) struct NoteRow {
     id: u32,
@@ -90,7 +90,7 @@ impl Row for NoteRow {
 }
 
 impl NoteRow {
-    // Whether units, note and claims are as they were.
+    // Returns an error unless units, note and claims are as they were.
     fn is_unchanged(
         &self,
         alloc: Global,
@@ -118,7 +118,7 @@ impl NoteRow {
     }
 }
 
-// The bytes of a cell; none of `-`.
+// The bytes of a cell; none if it is `-`.
 fn bytes_of(alloc: Global, cell: &str) -> Result<Option<Vec<u8>>, Trouble> {
     match cell {
         "-" => Ok(None),

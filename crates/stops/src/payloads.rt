@@ -14,7 +14,7 @@ const POLYNOMIAL: u8 = 0x1D;
 /// The highest bit of a byte.
 const HIGH: u8 = 0x80;
 
-/// The order of 2: after as many doublings a byte is what it was.
+/// The order of 2: this many doublings leave a byte as it was.
 const ORDER: usize = 255;
 
 /// What represents a trim among contents.

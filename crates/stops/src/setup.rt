@@ -10,7 +10,7 @@ use step_core::{Array, MemDrive, Plain, Refusal, Shape, Step, World};
 /// An array of drives in memory.
 pub(crate) type Memory = Array<MemDrive, Plain>;
 
-/// A step, and the answer that is wanted of it.
+/// A step, and its expected answer.
 #[derive(Drop)]
 struct Answered {
     step: Step,
@@ -78,7 +78,7 @@ fn step_in(alloc: Global, world: &World, line: &str) -> Result<Answered, Trouble
     })
 }
 
-// An error of what is refused only if out of memory.
+// The result of a call that is refused only if out of memory, or that error.
 fn unless_refused<T: Drop>(made: Result<T, Refusal>) -> Result<T, Trouble> {
     made.ok().ok_or(Trouble::Memory)
 }
@@ -92,7 +92,7 @@ impl Setup {
         unless_refused(World::new(alloc, self.shape, self.drives))
     }
 
-    /// The array after the steps, with all that waits there; each step has to be answered as wanted.
+    /// The array after the steps, with what waits in its slots. Returns an error unless each step is answered as expected.
     pub(crate) fn built(&self, alloc: Global) -> Result<Memory, Trouble> {
         let mut world = self.world(alloc)?;
         for Answered { step, answer } in &self.steps {

@@ -14,8 +14,9 @@ use map_join::Record;
 use single_writes::Intent;
 use std::alloc::Global;
 
-/// A step, the drives that are lost before its writes, how many entries of its list are carried out, the drives that are lost
-/// then, and what is found: whether there is a note, the map after a restart, and what lies at some records' places.
+/// A step, the drives that are lost before its writes, how many entries of its list are carried out, the drives that are
+/// lost after them, and what is expected: whether there is a note, the map after a restart, and what lies at some records'
+/// places.
 #[derive(Drop)]
 pub(crate) struct StopRow {
     id: u32,

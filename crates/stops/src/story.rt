@@ -37,14 +37,14 @@ const OLD_SLOT: u16 = 0;
 
 const NEW_SLOT: u16 = 128;
 
-/// A block that isn't written, its payload's byte and its slot.
+/// A block in the same row that the commit doesn't write, its payload's byte and its slot.
 const OTHER: u32 = 4;
 
 const OTHER_BYTE: u8 = 68;
 
 const OTHER_SLOT: u16 = 130;
 
-/// Prints what a restart finds after each stop in the commit, and then the same without the note.
+/// Prints what a restart finds after each stop in the commit, with its note and without.
 pub(crate) fn tell_story(rt: &HostRuntime) -> Result<(), Trouble> {
     let setup = read_setup(rt.alloc(), "the story", STEPS)?;
     println!(rt;
@@ -95,7 +95,7 @@ fn said_of(
     found(alloc, parts)
 }
 
-// What the library's one call for a stop gives, where no drive is lost.
+// What is found after `stop_after`, the library's one call for a stop and a restart. No drive is lost.
 fn cut_short(alloc: Global, array: Memory, entries: usize) -> Result<&'static str, Trouble> {
     if MOVED >= array.shape().blocks {
         return Err(Trouble::Form);
@@ -143,7 +143,7 @@ fn found(alloc: Global, parts: Stopped) -> Result<&'static str, Trouble> {
     told(alloc, &mut array)
 }
 
-// Where block 3 is, if both blocks read right.
+// Where block 3 is, if both blocks read correctly; else which block doesn't.
 fn told(alloc: Global, array: &mut Memory) -> Result<&'static str, Trouble> {
     if !reads(alloc, array, OTHER, OTHER_BYTE)? {
         return Ok("block 4 is garbled");

@@ -6,7 +6,7 @@ use Rattle.storm.specs.declared.outcome.StormFault.{StormFault}
 use Rattle.storm.specs.declared.told.Told.{Told}
 use Rattle.storm.specs.declared.told.Told.TheVariants as told
 
--- 0 for maps that agree, 3 for maps that differ, 4 for a storm that has no end, 5 for a line that couldn't be written
+-- 0 for maps that agree, 3 for maps that differ, 4 for a storm that ended with a fault, 5 for a line that couldn't be written
 abbrev pub storm_status : Told → ℕ
 storm_status told.Agreed = 0
 storm_status told.Differs = 3

@@ -16,7 +16,8 @@ abbrev pub IsToldOrNot : {E : Type 0} → Result (Unit {0}) E → Told → Told 
 IsToldOrNot (Ok done) good result = result ≡ good
 IsToldOrNot (Err fault) good result = result ≡ told.Unwritten
 
--- that maps agree, or the lowest block at which they differ, is written in a line; of a storm that has no end nothing is
+-- that maps agree, or the lowest block at which they differ, is written in a line; nothing is written where the storm ended
+-- with a fault
 abbrev pub IsTold : Result Storm StormFault → Told → Option (List ℕ) → Option (List ℕ) → Type 0
 IsTold (Ok (storm.Agreed tally)) result held now = IsLine (codes "agreed\n") told.Agreed result held now
 IsTold (Ok (storm.Differs block)) result held now = IsLine (codes "differs " ++ (decimal block ++ codes "\n")) told.Differs result held now

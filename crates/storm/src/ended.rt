@@ -14,8 +14,8 @@ pub fn end_storm<W: Write>(writer: &mut W, ended: Result<Storm, StormFault>) -> 
 }
 
 impl Told {
-    /// The status to end with, once a storm's line was written: 0 where the maps agree, 3 where they differ, 4 where the storm has no
-    /// end, and 5 where its line couldn't be written.
+    /// The status to end with, once a storm's line was written: 0 where the maps agree, 3 where they differ, 4 where the
+    /// storm ended with a fault, and 5 where its line couldn't be written.
     pub fn status(self) -> u8
         ensures { result ≡ storm_status self }
     {

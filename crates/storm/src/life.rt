@@ -22,7 +22,7 @@ use std::sync::Wait;
 use std::thread::Threads;
 use step_core::Array;
 
-/// A drive that is lost in mid-run, at the given read or write of it, counted from 1 once the groups are made.
+/// A drive that fails in mid-run, at its `calls`-th read or write after the groups are made (1 = the first).
 #[derive(Clone, Copy, Debug, PartialEq, Eq)]
 pub struct Fuse {
     pub drive: u8,

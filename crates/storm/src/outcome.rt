@@ -1,4 +1,4 @@
-// What comes of a storm.
+// The result of a storm.
 ghost use Rattle.std.specs.Prelude.{◌≡◌};
 ghost use Rattle.storm.specs.Numbers.{number_of};
 
@@ -41,7 +41,7 @@ pub enum Storm {
     Differs(u32),
 }
 
-/// Why a storm has no end.
+/// Why a storm ended without a result.
 #[derive(Clone, Copy, Debug, PartialEq, Eq)]
 pub enum StormFault {
     /// There is no array, or there are no workers for it: `Full` where the hands can't be split for all workers, `BadMember` where

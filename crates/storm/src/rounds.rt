@@ -9,7 +9,7 @@ use std::sync::Wait;
 use std::sync::atomic::AtomicU64;
 use std::sync::atomic::Ordering::SeqCst;
 
-/// With fewer free mirrored slots than these a demotion is due.
+/// A demotion is due when fewer than this many mirrored slots are free.
 const LOW: u32 = 44;
 
 // `writes` rounds with payloads of `payload` bytes, and what all workers that are done have carried out.

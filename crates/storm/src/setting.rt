@@ -10,13 +10,13 @@ use slot_words::{Naming, Pass, SlotWords};
 use std::alloc::Global;
 use step_core::{Array, TakeBack};
 
-/// How many blocks it has.
+/// The number of blocks of a storm's array.
 pub(crate) const BLOCKS: u32 = 16;
 
 /// Bytes of a payload, by default.
 pub(crate) const PAYLOAD: u32 = 8;
 
-// How many drives it has.
+// The number of drives of a storm's array.
 const DRIVES: u8 = 4;
 
 // Releases the claims that an array returns.

@@ -1,4 +1,4 @@
-// The line that is written of a storm.
+// The line that reports how a storm ended.
 ghost use Rattle.std.specs.Prelude.{◌++◌, codes, OnOk};
 ghost use Rattle.std.specs.Io.KnownBytes.{Appends};
 ghost use Rattle.storm.specs.Telling.{IsTold, IsToldOrNot};
@@ -21,8 +21,8 @@ pub enum Told {
     Unwritten,
 }
 
-/// Writes the line that a storm ends with: `agreed`, or `differs` with the lowest block of which the maps differ. Nothing where the
-/// storm ended with a fault.
+/// Writes the line that a storm ends with: `agreed`, or `differs` with the lowest block of which the maps differ. Writes
+/// nothing where the storm ended with a fault.
 pub fn tell_storm<W: Write>(writer: &mut W, ended: Result<Storm, StormFault>) -> Told
     ensures { IsTold ended result (W.contents writer.old) (W.contents writer.new) }
 {

@@ -1,4 +1,4 @@
-// What an array answers by itself, and what is learned of a stale record.
+// What an array reports of itself, and what is learned of a stale record.
 use crate::rig::{Rig, is_refused, record};
 use map_join::Record;
 use std::alloc::Global;

@@ -1,4 +1,4 @@
-// An array of drives in memory, by calls with no clause: what a call needs is looked at when it is made.
+// An array of drives in memory, by calls without contracts: what a call requires is asserted when it is made.
 use map_join::Record;
 use std::alloc::Global;
 use std::process::Abort;

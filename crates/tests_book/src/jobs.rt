@@ -5,7 +5,7 @@ use std::alloc::Global;
 use std::sync::Wait;
 use step_core::{MemDrive, Refusal};
 
-// Each worker of this number or a greater one fails, with its number in the fault; the lowest of those is reported.
+// Each worker from number `from` on fails, with its number in the fault. The fault of the lowest of them is reported.
 #[derive(Drop)]
 struct Fails {
     from: u8,

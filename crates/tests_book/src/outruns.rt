@@ -10,8 +10,8 @@ use std::sync::atomic::AtomicU64;
 use std::sync::atomic::Ordering::SeqCst;
 use step_core::MemDrive;
 
-// Worker 5 writes block 9 and moves it, and waits at this point until worker 2 is done: at point 1 it moves the block too, else it
-// reads it at the odd controller and writes it. The keys of what came of that.
+// Worker 5 writes block 9 and moves it, and waits at this point until worker 2 is done. At point 1 worker 2 moves the block
+// too, else it reads it at the odd controller and writes it. The keys of the outcomes.
 #[derive(Drop)]
 struct Halts {
     point: u64,

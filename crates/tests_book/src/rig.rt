@@ -85,7 +85,7 @@ pub(crate) trait Story {
         Ok(())
     }
 
-    /// What each does in a thread of its own.
+    /// What each worker does in its own thread.
     fn work<N: slot_words::Naming + Sizes, A: map_words::Naming, B: map_words::Naming, R: Wait>(
         &self,
         _rt: &R,
@@ -95,7 +95,7 @@ pub(crate) trait Story {
         Ok(())
     }
 
-    /// What the first does when all threads have ended.
+    /// What the first worker does when all threads have ended.
     fn tell<
         N: slot_words::Naming + Sizes,
         A: map_words::Naming,
@@ -103,7 +103,7 @@ pub(crate) trait Story {
         R: Abort + Wait,
     >(&self, _rt: &R, _alloc: Global, _worker: &mut Worker<'_, MemDrive, N, A, B>) {}
 
-    /// What all do, in one thread, when all threads have ended.
+    /// What all workers do, in one thread, when all threads have ended.
     fn tell_all<
         N: slot_words::Naming + Sizes,
         A: map_words::Naming,

@@ -1,4 +1,4 @@
-// Mirrored slots that are all claimed, and what a write and a trim find when one is given back.
+// Mirrored slots that are all claimed, and what a write and a trim find when one is released.
 use crate::books::one_after_other;
 use crate::calls::{moved, reads, record, trim, write};
 use crate::rig::Story;

@@ -25,7 +25,7 @@ fn a_worker_alone_writes_and_reads_each_round_and_moves_from_the_fifth_on(rt: Ho
     assert!(rt; told == Some(wanted));
 }
 
-// A write may find no slot while others hold them; that one in sixteen does would be much.
+// A write may find no slot while others hold them, but fewer than one in sixteen should.
 #[test]
 fn one_to_eight_workers_of_fifty_rounds_agree(rt: HostRuntime) {
     for workers in 1..9u8 {

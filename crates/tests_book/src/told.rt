@@ -30,7 +30,7 @@ fn told_in(room: &mut [u8], ended: Result<Storm, StormFault>) -> Told {
     tell_storm(&mut left, ended)
 }
 
-// A line that doesn't fit into the buffer is unwritten.
+// A line that doesn't fit into the buffer is reported as unwritten.
 #[test]
 fn a_line_without_room_for_its_end_is_unwritten(rt: HostRuntime) {
     let mut six = [0; 6];
@@ -43,7 +43,7 @@ fn a_line_without_room_for_its_end_is_unwritten(rt: HostRuntime) {
     assert!(rt; ten == *b"differs 9\n");
 }
 
-// No storm that is run ends with maps that differ, so this end is made up.
+// No run of a storm ends with maps that differ, so the test makes up this end.
 #[test]
 fn maps_that_differ_end_with_their_own_status(rt: HostRuntime) {
     let mut line = Vec::new(rt.alloc());

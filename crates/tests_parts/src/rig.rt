@@ -117,7 +117,7 @@ fn are_on(drives: usize, members: &[Member]) -> bool
         .all(|member| (member.drive as usize) < drives)
 }
 
-//// Whether the slot is one of a made group.
+/// Whether the slot is one of a made group.
 pub(crate) fn is_slot(groups: &GroupTable, slot: u16) -> bool
     ensures { IsTrue result → IsSlot groups.now slot }
 {

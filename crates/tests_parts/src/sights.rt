@@ -43,7 +43,7 @@ fn reads(rt: &impl Abort, rig: &mut Rig, slot: u16, byte: u8) -> bool {
     rig.take_payload(rt, slot) == Ok(Kind::Data) && is_of(&rig.payload, byte)
 }
 
-/// Whether a slot is refused as gone, by a look for this record there and by a reading of its payload.
+/// Whether a slot is refused as gone, both by a lookup of this record there and by a read of its payload.
 fn is_gone(rt: &impl Abort, rig: &mut Rig, asked: Record) -> bool {
     let gone = Refusal::Gone(asked.place);
     rig.see(rt, asked) == Err(gone) && rig.take_payload(rt, asked.place) == Err(gone)

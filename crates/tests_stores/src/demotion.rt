@@ -12,13 +12,13 @@ fn sixteen(rt: &impl Abort, alloc: Global) -> Recency {
     recency
 }
 
-/// Notes a write of a block that is seen to be there.
+/// Notes a write of a block, after asserting that there is such a block.
 fn wrote(rt: &impl Abort, recency: &mut Recency, block: u32) {
     assert!(rt; (block as usize) < recency.len());
     recency.wrote(block);
 }
 
-/// Marks a block that is seen to be there, or takes its mark away.
+/// Marks a block or removes its mark, after asserting that there is such a block.
 fn mark(rt: &impl Abort, ages: &mut MarkedAges, block: u32, marked: bool) {
     assert!(rt; (block as usize) < ages.len());
     ages.mark(block, marked);

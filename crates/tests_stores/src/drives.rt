@@ -190,19 +190,19 @@ fn a_unit_is_written_in_two_pieces_by_one_call(rt: HostRuntime) -> Result<(), Fa
     Ok(())
 }
 
-/// Gives an extent that is seen to be there to a group, or frees it.
+/// Gives an extent to a group or frees it, after asserting that there is such an extent.
 fn set_owner(rt: &impl Abort, table: &mut ExtentTable, drive: u8, extent: u16, owner: Option<u16>) {
     assert!(rt; table.has_extent(drive, extent));
     table.set_owner(drive, extent, owner);
 }
 
-/// The owner of an extent that is seen to be there.
+/// The owner of an extent, after asserting that there is such an extent.
 fn owner(rt: &impl Abort, table: &ExtentTable, drive: u8, extent: u16) -> Option<u16> {
     assert!(rt; table.has_extent(drive, extent));
     table.owner(drive, extent)
 }
 
-/// The load of a drive that is seen to be there, and its lowest free extent.
+/// The load of a drive and its lowest free extent, after asserting that there is such a drive.
 fn load(rt: &impl Abort, table: &ExtentTable, drive: u8) -> (u32, Option<u16>) {
     assert!(rt; (drive as usize) < table.drives());
     (table.load(drive), table.lowest_free(drive))

@@ -1,4 +1,4 @@
-// A hole is plugged, a group is cleaned, and the log goes on.
+// How a hole is plugged, how a group is cleaned, and where the log goes on.
 ghost use Rattle.std.specs.Prelude.{◌≢◌};
 
 use crate::counted::live_counts;

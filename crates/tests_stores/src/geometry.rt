@@ -6,7 +6,7 @@ use std::alloc::Global;
 use std::process::Abort;
 use std::test::Fail;
 
-/// The copies of a slot that is seen to be a mirrored group's.
+/// The copies of a slot, if it is one of a mirrored group.
 pub(crate) fn copies_seen(groups: &GroupTable, group: u16, index: u16) -> Option<Copies> {
     if index >= groups.slots_of(group) {
         return None;
@@ -17,7 +17,7 @@ pub(crate) fn copies_seen(groups: &GroupTable, group: u16, index: u16) -> Option
     }
 }
 
-/// The stripe of a slot that is seen to be a parity group's.
+/// The stripe of a slot, if it is one of a parity group.
 pub(crate) fn stripe_seen(groups: &GroupTable, group: u16, index: u16) -> Option<Stripe> {
     if index >= groups.slots_of(group) {
         return None;
@@ -63,7 +63,7 @@ fn spot(member: u8, offset: u8) -> Spot {
     }
 }
 
-/// What lies at a unit of a group that is seen to have it.
+/// What lies at a unit of a group, if the group has such a unit.
 fn role_seen(groups: &GroupTable, group: u16, member: u8, offset: u8) -> Option<Role> {
     if member as usize >= groups.members(group).len() {
         return None;

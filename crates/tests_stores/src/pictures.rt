@@ -18,7 +18,7 @@ fn three_drives(rt: &impl Abort, alloc: Global) -> Result<Tables, Fail> {
     Ok(tables)
 }
 
-/// What a unit that is seen to be there is.
+/// What a unit is, if there is such a unit.
 fn mark_seen(
     tables: &Tables,
     blocks: &[Option<u32>],

@@ -1,4 +1,4 @@
-// What the drives take in a write, beside what was planned for it.
+// What the drives take in a write, compared with what was planned for it.
 ghost use Rattle.std.specs.Prelude.{◌≡◌, ◌*◌, ◌+◌, ℕ, length, slice_get, Some, IfOk};
 ghost use Rattle.extents.specs.Condition.{is_gone, failures_of};
 ghost use Rattle.extents.specs.Units.{zero_units};

@@ -228,7 +228,7 @@ impl Rig {
         parity_store::read_header(&self.groups, drives, slot, header, &mut self.scratch)
     }
 
-    /// Reads the parity at an offset of a group that is seen to be a parity group.
+    /// Reads the parity at an offset of a group, after asserting that it is a parity group.
     pub(crate) fn read_parity(&mut self, rt: &impl Abort, group: u16, offset: u16) -> bool {
         assert!(rt; self.has_buffers());
         assert!(rt; has_parity(&self.groups, group));
@@ -244,7 +244,7 @@ impl Rig {
         )
     }
 
-    /// Writes the buffered unit over an extent that is seen to be there.
+    /// Writes the buffered unit over an extent, after asserting that there is such an extent.
     pub(crate) fn wipe(&mut self, rt: &impl Abort, member: Member) -> bool {
         assert!(rt; self.has_buffers());
         let shape = self.groups.shape();
@@ -265,7 +265,7 @@ impl Rig {
         self.write(rt, slot)
     }
 
-    /// Fuses a drive for a call of its own.
+    /// Makes a drive fail at its `calls`-th read or write from now (1 = the next).
     pub(crate) fn fuse(&mut self, rt: &impl Abort, drive: usize, calls: u64) {
         assert!(rt; drive < self.drives.len());
         assert!(rt; calls >= 1);

@@ -25,7 +25,7 @@ fn tables(rt: &impl Abort, alloc: Global) -> Result<(GroupTable, ExtentTable), A
     ))
 }
 
-/// Makes a group of members that are seen to be there.
+/// Makes a group of members, after asserting that there are such extents.
 fn put(
     rt: &impl Abort,
     alloc: Global,
@@ -81,8 +81,8 @@ pub(crate) fn took(
     assert!(rt; map.take(alloc, record).is_ok());
 }
 
-/// The places after blocks 0 to 8 were written and went down, blocks 0, 4 and 5 were written again, and block 0
-/// went down once more: group 1 has three live slots, groups 2 and 3 have two.
+/// The places after blocks 0 to 8 were written and demoted, blocks 0, 4 and 5 were written again, and block 0 was demoted
+/// once more: group 1 has three live slots, groups 2 and 3 have two.
 pub(crate) fn places(rt: &impl Abort, alloc: Global) -> BlockMap {
     let mut map = BlockMap::new(alloc);
     let taken = [

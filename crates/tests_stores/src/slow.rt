@@ -1,4 +1,4 @@
-// What a slot holds according to the drives that are there, by reads of the drives alone.
+// What a slot holds, computed from reads of the present drives alone.
 ghost use Rattle.std.specs.Prelude.{◌≡◌};
 
 use crate::rig::is_slot;
@@ -6,7 +6,7 @@ use extent_groups::{Class, GroupTable, Place, SLOTS};
 use extents::{Drive, MemDrive};
 use std::process::Abort;
 
-/// Reads a place into the unit, where its drive is there.
+/// Reads a place into the unit, if its drive is present.
 pub(crate) fn peek(
     rt: &impl Abort,
     drives: &mut [MemDrive],
@@ -27,7 +27,7 @@ fn add(unit: &mut [u8], part: &[u8]) {
     }
 }
 
-/// The unit of a mirrored slot: what its present copies hold, which are to be alike.
+/// The unit of a mirrored slot: what its present copies hold, which must be equal.
 fn copies_hold(
     rt: &impl Abort,
     groups: &GroupTable,
@@ -50,7 +50,7 @@ fn copies_hold(
     true
 }
 
-/// The exclusive or of all members but one at an offset, where their drives are there.
+/// The exclusive or of all members but one at an offset, if their drives are present.
 fn others_hold(
     rt: &impl Abort,
     groups: &GroupTable,

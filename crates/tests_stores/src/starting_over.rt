@@ -1,4 +1,4 @@
-// Where the log starts over, of as many groups as there can be.
+// Where the log starts over, with the most groups that an array can have.
 use crate::counted::live_counts;
 use crate::gathering::AllBut;
 use crate::set_up::took;

@@ -40,7 +40,7 @@ fn rig_of(rt: &impl Abort, alloc: Global, class: Class, drives: u8, segments: u3
     rig
 }
 
-/// Gives each slot of both groups a unit of its own.
+/// Writes a different unit to each slot of both groups.
 fn fill(rt: &impl Abort, rig: &mut Rig) {
     for slot in 0..2 * SLOTS {
         if rig.has(slot) {

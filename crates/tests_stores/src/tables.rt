@@ -1,4 +1,4 @@
-// Tables of groups and owners, and changes of them whose conditions are seen to hold.
+// Tables of groups and owners, and changes of them that assert the conditions of each call first.
 ghost use Rattle.std.specs.Prelude.{IfOk};
 ghost use Rattle.extents.specs.Shapes.{IsShapeOf};
 ghost use Rattle.extent_groups.specs.Groups.{Agree};
@@ -51,7 +51,7 @@ impl Tables {
         Ok(Tables { groups, extents })
     }
 
-    /// Makes a group of members that are seen to be there.
+    /// Makes a group of members, after asserting that there are such extents.
     pub(crate) fn put(
         &mut self,
         rt: &impl Abort,
@@ -69,7 +69,7 @@ impl Tables {
             .put_group(alloc, &mut self.extents, group, class, members)
     }
 
-    /// Unmakes a group.
+    /// Dissolves a group.
     pub(crate) fn take(&mut self, group: u16) -> Result<(), GroupRefusal>
         requires { Agree self.old.groups self.old.extents }
         ensures { Agree self.new.groups self.new.extents }
@@ -77,7 +77,7 @@ impl Tables {
         self.groups.take_group(&mut self.extents, group)
     }
 
-    /// Swaps a member of a group for an extent that is seen to be there.
+    /// Swaps a member of a group for an extent, after asserting that there is such an extent.
     pub(crate) fn swap(
         &mut self,
         rt: &impl Abort,
@@ -103,7 +103,7 @@ impl Tables {
         Ok(())
     }
 
-    /// Whether an extent that is there is the group's.
+    /// Whether there is such an extent, and it is the group's, or free for none.
     pub(crate) fn is_owned_by(&self, member: Member, group: Option<u16>) -> bool {
         self.extents.has_extent(member.drive, member.extent)
             && self.extents.owner(member.drive, member.extent) == group

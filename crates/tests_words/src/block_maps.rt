@@ -133,7 +133,7 @@ fn a_table_of_keys_is_made_a_map(rt: HostRuntime) {
     assert!(rt; map.get(4) == None);
 }
 
-// Whether no block up to `last` is there after one that is missing.
+// Whether the blocks up to `last` that the map has are the first ones.
 fn has_the_first(map: &BlockMap, last: u32) -> bool {
     let mut ended = false;
     for block in 1..=last {
@@ -146,7 +146,7 @@ fn has_the_first(map: &BlockMap, last: u32) -> bool {
     true
 }
 
-// Each allocation may fail here, one in a run: then the first blocks are merged, and merging again ends it.
+// A run may fail one of these allocations. Then the first blocks are merged, and a second merge merges the others.
 #[test]
 fn a_refused_merge_has_the_first_blocks_and_goes_on(rt: HostRuntime) {
     for blocks in [2u16, 100] {

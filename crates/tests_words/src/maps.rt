@@ -35,7 +35,7 @@ fn split_of<N: Naming, R: Abort>(rt: &R, words: &MapWords<N>, taker: &mut Taker<
     }
 }
 
-// The words again, after a close that was refused for this share.
+// Closes the words with a share that isn't whole, asserts the refusal with that share, and returns words and Taker.
 fn not_whole<N: Naming, R: Abort>(
     rt: &R,
     words: MapWords<N>,
@@ -184,7 +184,7 @@ fn nth(n: u32) -> Record
     }
 }
 
-// Takes all, in an order of its own, and says whether each was found from then on.
+// Takes all records, in the order that `step` gives, and says whether a record at least as new was found after each.
 fn take_all<N: Naming>(words: &MapWords<N>, taker: &mut Taker<N>, step: u8) -> bool
     requires { blocks_of N.table ≡ 16 }
 {

@@ -15,7 +15,7 @@ fn needs_send<T: Send>(_: &T) {}
 
 fn needs_sync<T: Sync>(_: &T) {}
 
-// The claim that a free slot gives.
+// Claims a slot, which must be free.
 fn claimed<N: Naming, R: Abort>(
     rt: &R,
     words: &SlotWords<N>,
@@ -31,7 +31,7 @@ fn claimed<N: Naming, R: Abort>(
     }
 }
 
-// The refusal that a held slot gives.
+// The refusal of a claim of a slot, which must be held.
 fn refused<N: Naming, R: Abort>(
     rt: &R,
     words: &SlotWords<N>,

@@ -4,7 +4,7 @@ use std::alloc::Global;
 use std::process::Abort;
 use step_core::{Refusal, Step, World};
 
-// The same array in a new world.
+// The array of this world, in a new world.
 fn anew(rt: &impl Abort, alloc: Global, world: World) -> World {
     let Ok(world) = World::of(alloc, world.into_array()) else {
         panic!(rt; "no world")

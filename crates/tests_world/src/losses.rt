@@ -95,7 +95,7 @@ fn lose_two(rt: &impl Abort, alloc: Global, world: &mut World, one: u8, other: u
     assert!(rt; answers(rt, alloc, world, &script));
 }
 
-// Whether the drive is lost at a call of the run; which drive is lost after it goes by the call.
+// Whether the drive is lost at a call of the run. The number of the call decides which drive is lost after it.
 fn burns(rt: &impl Abort, alloc: Global, drive: u8, call: u64) -> bool {
     assert!(rt; drive < 4);
     let mut world = grouped(rt, alloc);

@@ -1,4 +1,4 @@
-// Blocks that go into slots in one call: what is told of each, and which slots are free then.
+// Blocks that are placed into slots in one call: what is returned for each, and which slots are free after it.
 use crate::script::{Told, answer, bytes_of, grouped, tell};
 use map_join::Record;
 use std::alloc::Global;

@@ -40,12 +40,12 @@ pub(crate) fn running(rt: &impl Abort, alloc: Global, world: &World) -> BlockMap
     map
 }
 
-// Whether the map has the moved block's newest place, and is the other.
+// Whether the map has the moved block's newest place, and equals the other map.
 fn is_newest_and(map: &BlockMap, other: &BlockMap) -> bool {
     map.get(3) == Some(record_of(3, 1, 128)) && map.agrees(other)
 }
 
-// Whether a scan of the world's headers tells that slot 0 is gone.
+// Whether a scan of the world's headers returns that slot 0 is gone.
 fn is_gone(alloc: Global, world: &mut World) -> bool {
     matches!(scan(alloc, world), Err(ScanFault::Gone(0)))
 }
