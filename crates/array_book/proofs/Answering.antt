@@ -31,7 +31,7 @@ state_with blocks payload k s is = record {
   shows = shows_one_more k.array is.flat s 0 is.shows;
 }
 
--- a refusal other than memory
+-- a refusal other than out of memory
 pub may_refused : (q : Refusal) (W P : Type 0) → MayRefuse q W P → q ≢ Memory → P
 may_refused Memory W P may other = absurd (other refl)
 may_refused _ W P may other = may
@@ -80,7 +80,7 @@ pub written_as : {D E : Type 0} (r : Result D E) (record_of : D → Record) (blo
 written_as (Ok d) record_of blocks payload slot block x filled committed = record { slot = slot; filled = filled; committed = committed }
 written_as (Err e) record_of blocks payload slot block x filled committed = tt
 
--- what is so of each refusal but memory is so of the one that is reported
+-- what holds of each refusal but out of memory holds of the one that is reported
 pub refused_as : {D E : Type 0} (r : Result D E) (refusal_of : E → Refusal) (q : Refusal) (Y : D → Type 0) (P : Refusal → Type 0)
     → MatchResult r Y (λ e. refusal_of e ≢ Memory → P (refusal_of e)) → MatchResult r (λ d. ⊥) (λ e. refusal_of e ≡ q) → q ≢ Memory → P q
 refused_as (Ok d) refusal_of q Y P is told other = absurd told

@@ -21,7 +21,7 @@ found_known before after r block of found = inr (
 took_known : (before after : View) (r : Record) → Took r before after → Knows after r
 took_known before after r took = inl (subst (λ (v : View). Contains v.taken r) (sym took.1.1) (Contains-push before.taken r))
 
--- a key that isn't below another is at least all that this is at least
+-- where a key is at least all that a Taker knows of a block, so is each greater one
 newest_above : (taker : View) (block low high : ℕ) → low ≤ high → IsNewest taker block low → IsNewest taker block high
 newest_above taker block low high more is = record {
   taken = λ r has of. let below = is.taken r has of in omega arith;

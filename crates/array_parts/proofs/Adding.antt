@@ -1,4 +1,4 @@
--- A drive more, told of the parts as plain data.
+-- One more drive, stated over the parts as plain data.
 use Rattle.std.proofs.Common.{◌≡◌, ℕ, zero, suc, ◌+◌, ◌*◌, ◌<◌, Bool, List, [], ◌∷◌, ◌++◌, length, refl, sym, ◌∙◌, ap, arith, ◌⊎◌, inl, inr, Option, Some}
 use Rattle.std.specs.Prelude.{slice_get}
 use Rattle.std.proofs.lemmas.List.{length-append}
@@ -35,7 +35,7 @@ other_pushed [] y (suc d) ne = refl
 other_pushed (x ∷ xs) y zero ne = refl
 other_pushed (x ∷ xs) y (suc d) ne = other_pushed xs y d (λ e. ne (ap suc e))
 
--- what is told of each element, with one more behind them
+-- a function of the element at each index, once one more element was appended
 told_pushed : {X Y : Type 0} (f : Option X → Y) (xs : List X) (y : X) (d : ℕ) → f (slice_get (xs ++ y ∷ []) d) ≡ put (λ k. f (slice_get xs k)) (length xs) (f (Some y)) d
 told_pushed f xs y d = go (cases_eq d (length xs))
   where
@@ -44,7 +44,7 @@ told_pushed f xs y d = go (cases_eq d (length xs))
         ∙ sym (ap (put (λ k. f (slice_get xs k)) (length xs) (f (Some y))) e ∙ put_here (λ k. f (slice_get xs k)) (length xs) (f (Some y)))
     go (inr ne) = ap f (other_pushed xs y d ne) ∙ sym (put_else (λ k. f (slice_get xs k)) (length xs) (f (Some y)) d ne)
 
--- the parts with one drive more, whose extents are free
+-- the parts with one more drive, whose extents are free
 pub record IsOneMore {D : Type 0} (p q : Parts D) (y : D) : Type 0 where
   pub shape : q.shape ≡ p.shape
   pub groups : q.groups ≡ p.groups

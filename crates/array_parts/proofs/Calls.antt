@@ -1,4 +1,4 @@
--- What calls of the drives leave, told of the parts as plain data.
+-- What calls of the drives leave, stated over the parts as plain data.
 use Rattle.std.proofs.Common.{◌≡◌, ◌≢◌, ℕ, Bool, Option, Some, None, List, ◌++◌, ◌-◌, length, take, drop, inl, inr, sym, ◌∙◌, ap, subst, ◌+◌, true}
 use Rattle.std.specs.Prelude.{replicate}
 use Rattle.std.proofs.Math.Seq.{take-length}
@@ -245,7 +245,7 @@ not_carried units lost failures p m q from to written refusal loses there tables
     let found = wrote_gone units lost failures m q to written refusal tables fares wrote tells in
     inr (source_there units lost failures p m from loses there, record { loses = loses_more (view_of units lost failures p) (view_of units lost failures m) (view_of units lost failures q) loses found.loses; told = found.told; gone = found.gone })
 
--- what lies behind the header, as a copy takes it
+-- what follows the header, as a copy takes it
 pub behind : (bytes : List ℕ) → take (length bytes - 32) (drop 32 bytes) ≡ drop 32 bytes
 behind bytes = ap (λ n. take n (drop 32 bytes)) (sym (length-drop 32 bytes)) ∙ take-length (drop 32 bytes)
 
@@ -264,7 +264,7 @@ was_read units lost failures p q slot bytes payload told loses e there kind is =
   unit = λ f shows. (let u = read_shows units lost failures q slot bytes e f (loses.shows f shows) in (u.0, u.1, content_told u.0 told payload (kind u.0 u.2) (is ∙ u.2.1)));
 }
 
--- and what its unit tells of a record was seen
+-- and what its unit says about a record was seen
 saw_unit : {D : Type 0} (units : D → List (List ℕ)) (lost : D → Bool) (failures : D → Failures) (p q : Parts D) (r : Record) (bytes : List ℕ) (seen : Seen)
     → Loses (view_of units lost failures p) (view_of units lost failures q) → unit_of q.groups (cells_in units lost q) r.place ≡ Some bytes → (IsGone q.groups (missing_in lost q) r.place → ⊥)
     → ((u : Stored) → IsUnit bytes u → IsSeen (Some u) r seen) → SawUnit (view_of units lost failures p) (view_of units lost failures q) r seen
@@ -289,7 +289,7 @@ pub saw_stale : {D : Type 0} (units : D → List (List ℕ)) (lost : D → Bool)
 saw_stale units lost failures p q r bytes header loses e there told other =
     saw_unit units lost failures p q r bytes (Stale (record_in header)) loses e there (λ u unit. (λ h. other (ap record_in (told u unit) ∙ h), ap record_in (told u unit)))
 
--- the bytes of a unit that waits: behind a blank header those of its payload, and zeros of a trim
+-- the bytes of a unit that waits: for data a blank header followed by its payload, and zeros for a trim
 pub waits_data : (bytes : List ℕ) (size : ℕ) (u : Stored) → IsUnit bytes u → kind.Data ≡ kind_in u.header → IsUnit (header_bytes Blank ++ drop 32 bytes) (waiting_unit size (content_in u))
 waits_data bytes size u is told =
     subst (λ k. IsUnit (header_bytes Blank ++ drop 32 bytes) (waiting_unit size (content_under k u.payload))) told (restamped bytes u Blank tt is)

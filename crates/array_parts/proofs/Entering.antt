@@ -1,4 +1,4 @@
--- A group that enters, or doesn't for a lost drive, told of the parts as plain data.
+-- A group that is made, or isn't because a drive is lost, stated over the parts as plain data.
 use Rattle.std.proofs.Common.{◌≡◌, ◌≢◌, ℕ, ◌/◌, ◌%◌, ◌<◌, Bool, false, Option, Some, None, List, length, inl, inr, sym, ◌∙◌, ap, subst}
 use Rattle.std.specs.Prelude.{slice_get, replicate}
 use Rattle.std.proofs.lemmas.Option.{none-some}

@@ -81,7 +81,7 @@ own_row groups slot row parity i home second at here_is there_is x own = elim (s
 pub row_apart : (row : List Place) (parity i : ℕ) (home second : Place) → IsWhole (InStripe row parity i) → slice_get row i ≡ Some home → slice_get row parity ≡ Some second → home ≢ second
 row_apart row parity i home second whole here_is there_is same = whole.2 (whole.3 i parity home second here_is there_is (ap (λ (x : Place). x.drive) same))
 
--- what a plan wants of each place of a row that is there is what its note has for it
+-- of a row: what a plan wants at each place that holds something is what its note has for it
 held_row : (c : Cells) (row : List Place) (i : ℕ) (home : Place) → slice_get row i ≡ Some home → row_of c row i ≡ held c home
 held_row c row i home is = ap (held_in c) is
 

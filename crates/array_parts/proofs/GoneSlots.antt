@@ -1,4 +1,4 @@
--- Slots that are gone, told by the lost drives and the geometry alone.
+-- Slots that are gone, stated over the lost drives and the geometry alone.
 use Rattle.std.proofs.Common.{◌≡◌, ℕ, ◌+◌, ◌*◌, ◌/◌, ◌%◌, ◌<◌, inl, inr, Bool, true, Option, Some, None, List, length, refl, sym, ◌∙◌, ap, subst, arith, get_or}
 use Rattle.std.specs.Prelude.{slice_get, IsTrue, ◌↔◌}
 use Rattle.std.proofs.lemmas.Option.{same_Some}
@@ -16,7 +16,7 @@ use Rattle.array_parts.specs.Slots.{IsSlot}
 use Rattle.array_parts.proofs.Offsets.{member_there}
 use Rattle.array_parts.proofs.Outcomes.{group_past}
 
--- a slot whose own drive is lost is gone just where another member's drive is
+-- a slot whose own drive is lost is gone exactly where another member's drive is lost too
 pub row_gone : (missing : ℕ → Bool) (t : Groups) (slot o p i : ℕ) (members : List Member) (home : Place) (b : Bool) → members ≡ members_of t (slot / 128)
     → site_of t slot ≡ Some (InStripe (places_of t.segments (members_of t (slot / 128)) o) p i) → slice_get (places_of t.segments (members_of t (slot / 128)) o) i ≡ Some home
     → missing home.drive ≡ true → (IsTrue b ↔ HasOtherMissing missing members i) → (IsTrue b → IsGone t missing slot) × (IsGone t missing slot → IsTrue b)
@@ -73,7 +73,7 @@ first_index t missing g i groups low before gone =
           before (other % 128) under (subst (IsGone t missing) same also));
     }
 
--- one index more isn't gone
+-- one more index isn't gone
 pub more_there : (t : Groups) (missing : ℕ → Bool) (g i : ℕ) → ((j : ℕ) → j < i → IsGone t missing (128 * g + j) → ⊥) → (IsGone t missing (128 * g + i) → ⊥)
     → (j : ℕ) → j < i + 1 → IsGone t missing (128 * g + j) → ⊥
 more_there t missing g i before here j low gone = elim (same_or_not j i) [

@@ -113,7 +113,7 @@ still_fit {units = units} p q ds fit shape groups extents drives keeps =
       wide = ap (λ (o : Owners). o.extents) extents ∙ fit.wide ∙ sym (ap (λ (t : Groups). t.extents) groups);
     }
 
--- the parts fit, with a group more
+-- the parts fit, with one more group
 pub made_fit : {D : Type 0} {units : D → List (List ℕ)} {lost : D → Bool} {failures : D → Failures} {touched : Place → Type 0} (p q : Parts D) (ds : List D) (g : ℕ) (class : Class) (ms : List Member)
     → IsFit units p → g < length p.groups.table → AreThere p.extents ms → put_fault p.extents ms ≡ None → q.shape ≡ p.shape → q.groups ≡ with_group p.groups g (Some (new_group class ms))
     → q.extents ≡ with_owners p.extents ms (Some g) → q.drives.items ≡ ds → KeepsDrives units lost failures touched p.drives.items ds → Agree q.groups q.extents → IsFit units q

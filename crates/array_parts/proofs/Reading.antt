@@ -1,4 +1,4 @@
--- What a read and a write of the drives tell of the parts.
+-- What a read and a write of the drives say about the parts.
 use Rattle.std.proofs.Common.{◌≡◌, ℕ, ◌/◌, ◌%◌, ◌<◌, Bool, true, Option, Some, None, Result, Ok, Err, OnOk, IfErr, List, Vec, length, refl, sym, ◌∙◌, ap, subst, arith, nat_lt, if◌then◌else◌}
 use Rattle.std.specs.Prelude.{slice_get, ok_or}
 use Rattle.std.specs.Result.{result_ok}
@@ -26,11 +26,11 @@ use Rattle.extent_groups.proofs.Missing.{gone_law}
 use Rattle.array_parts.specs.Losses.{AllFare, failures_at}
 use Rattle.array_parts.specs.Slots.{IsSlot, missing_in, HoldsUnit, TellsGone}
 
--- a Vec whose elements were lent and written holds what was written
+-- a Vec whose elements were borrowed and overwritten holds what was written
 pub written_back : {X Z : Type 0} (v : Vec X Z) (lent new : List X) → lent ≡ v.items → length new ≡ length lent → (with_items v new).items ≡ new
 written_back v lent new e l = with_items_is v new (l ∙ ap length e ∙ sym v.ok.0)
 
--- a drive that calls used fares so
+-- how a drive fares that calls used
 drive_fares : {D : Type 0} (units : D → List (List ℕ)) (lost : D → Bool) (failures : D → Failures) (touched : Place → Type 0) (old new : List D) (d : ℕ) (a b : Option D)
     → KeepsDrives units lost failures touched old new → slice_get old d ≡ a → slice_get new d ≡ b
     → Fares (is_missing lost a) (is_missing lost b) (failures_at failures a) (failures_at failures b)
@@ -42,7 +42,7 @@ drive_fares units lost failures touched old new d (Some x) None keeps ea eb =
 drive_fares units lost failures touched old new d (Some x) (Some y) keeps ea eb =
     let k = keeps.each d x y ea eb in record { stays = k.stays; count = k.count; steady = k.steady }
 
--- how drives fare that calls used
+-- how all drives fare that calls used
 pub keeps_fare : {D : Type 0} {units : D → List (List ℕ)} {lost : D → Bool} {failures : D → Failures} {touched : Place → Type 0} (old new : List D)
     → KeepsDrives units lost failures touched old new → AllFare lost failures old new
 keeps_fare {units = units} {lost = lost} {failures = failures} {touched = touched} old new keeps = record {
@@ -76,7 +76,7 @@ pub is_gone : {D : Type 0} (units : D → List (List ℕ)) (lost : D → Bool) (
 is_gone units lost t ds slot is groups are none =
     let site = slot_there t slot is in (gone_law units lost t ds slot site.0 groups are site.1).0 none
 
--- a slot that has no unit, told of the parts
+-- a slot that has no unit is gone, stated over the parts
 pub gone_of : {D : Type 0} (units : D → List (List ℕ)) (lost : D → Bool) (p : Parts D) (ds : List D) (slot : ℕ) → p.drives.items ≡ ds → IsSlot p.groups slot → AreGroups p.groups → AreDrives units p.groups ds
     → unit_of p.groups (cells units lost ds) slot ≡ None → TellsGone units lost p slot (Gone slot)
 gone_of units lost p ds slot same is groups are none = record {
@@ -85,16 +85,16 @@ gone_of units lost p ds slot same is groups are none = record {
   gone = subst (λ xs. IsGone p.groups (missing_of lost xs) slot) (sym same) (is_gone units lost p.groups ds slot is groups are none);
 }
 
--- what the answer to a read or a write of a slot tells of the parts
+-- what the answer to a read or a write of a slot says about the parts
 pub record SlotTold {A D : Type 0} (units : D → List (List ℕ)) (lost : D → Bool) (p : Parts D) (slot : ℕ) (answer : Result A Refusal) : Type 0 where
   pub there : OnOk answer (IsGone p.groups (missing_in lost p) slot → ⊥)
   pub gone : IfErr answer (TellsGone units lost p slot)
 
--- the parts with what was written to the drives that they lent
+-- the parts with what was written to the drives that were borrowed from them
 abbrev pub lent_back : {D : Type 0} → Parts D → List D → Parts D
 lent_back p new = record { shape = p.shape; groups = p.groups; extents = p.extents; drives = with_items p.drives new; note = p.note }
 
--- the answer of a store that was lent the drives, with its refusal as the machine's
+-- the answer of a store that borrowed the drives, with its refusal as the machine's
 pub slot_told : {A D : Type 0} (units : D → List (List ℕ)) (lost : D → Bool) (p : Parts D) (lent new : List D) (slot : ℕ) (u : List ℕ) (found : Result A StoreRefusal) (answer : Result A Refusal)
     → answer ≡ ok_or (result_ok found) (Gone slot) → lent ≡ p.drives.items → length new ≡ length lent → IsSlot p.groups slot → AreGroups p.groups → AreDrives units p.groups new
     → OnOk found (unit_of p.groups (cells units lost new) slot ≡ Some u) → IfErr found (NamesGone p.groups (cells units lost new) slot) → SlotTold units lost (lent_back p new) slot answer
@@ -126,13 +126,13 @@ header_told units lost p lent new slot header (Ok done) answer told e many is gr
 header_told units lost p lent new slot header (Err refusal) answer told e many is groups are there names =
     slot_told units lost p lent new slot header (Err refusal) answer told e many is groups are there names
 
--- what is left of the drives, told of the parts that were lent them
+-- how the drives fare in a call that borrowed them, stated over the Vec that owns them
 pub fares_back : {D : Type 0} {units : D → List (List ℕ)} {lost : D → Bool} {failures : D → Failures} {touched : Place → Type 0} {Z : Type 0} (v : Vec D Z) (lent new : List D) → lent ≡ v.items
     → KeepsDrives units lost failures touched lent new → AllFare lost failures v.items (with_items v new).items
 fares_back {lost = lost} {failures = failures} v lent new e keeps =
     subst (λ xs. AllFare lost failures v.items xs) (sym (written_back v lent new e keeps.many)) (subst (λ ds. AllFare lost failures ds new) e (keeps_fare lent new keeps))
 
--- what is true of lent drives, and of a number that is told twice, is true of the parts'
+-- what is true of borrowed drives and a number is true of the Vec that owns them and of an equal number
 pub told_back : {D Z : Type 0} (P : List D → List D → ℕ → Type 0) (v : Vec D Z) (lent new : List D) (s t : ℕ) → lent ≡ v.items → length new ≡ length lent → s ≡ t → P lent new s → P v.items (with_items v new).items t
 told_back P v lent new s t e many same h =
     subst (λ n. P v.items (with_items v new).items n) same (subst (λ xs. P v.items xs s) (sym (written_back v lent new e many)) (subst (λ ds. P ds new s) e h))

@@ -254,7 +254,7 @@ still_shown units lost failures p q f keeps sound shows =
     let was = shows_in units lost failures p f shows in
     shows_out units lost failures q f (record { sound = sound was.sound; shown = λ slot bytes e. was.shown slot bytes (keeps was.sound slot bytes e) })
 
--- where the member was moved, told of the parts as plain data
+-- where the member was moved, stated over the parts as plain data
 pub shifted : {D : Type 0} (units : D → List (List ℕ)) (lost : D → Bool) (failures : D → Failures) (p q : Parts D) (g k : ℕ) (to : Member)
     → AllFare lost failures p.drives.items q.drives.items → (IsBeyondOf p.groups (missing_in lost p) g k → ⊥) → missing_in lost q to.drive ≡ false
     → (AreSound p.groups (cells_in units lost p) → (slot : ℕ) (v : List ℕ) → unit_of q.groups (cells_in units lost q) slot ≡ Some v → unit_of p.groups (cells_in units lost p) slot ≡ Some v)

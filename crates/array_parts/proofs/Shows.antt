@@ -95,7 +95,7 @@ shows_none t c units free =
       shown = λ slot bytes e. absurd (none-some bytes (sym (ap (unit_in (unit_bytes t) c) (nowhere slot)) ∙ e));
     }
 
--- bytes that spell a header, and a payload behind them, are those of a unit
+-- bytes that spell a header, followed by a payload, are those of a unit
 pub unit_of_bytes : (bytes payload : List ℕ) (h : Header) → Spells bytes h → IsUnit (bytes ++ payload) (record { header = h; payload = payload })
 unit_of_bytes bytes payload h told =
     let whole = spelled_length bytes h told in

@@ -1,4 +1,4 @@
--- What drives show after a stop behind any front of a slot's planned writes, and once these were finished.
+-- What drives show after a stop past any prefix of a slot's planned writes, and once these were finished.
 use Rattle.std.proofs.Common.{◌≡◌, ℕ, Option, Some, List, length, take}
 use Rattle.extent_groups.specs.declared.place.Place.{Place}
 use Rattle.extent_groups.specs.Groups.{Groups}
@@ -18,7 +18,7 @@ pub shows_unbegun : (t : Groups) (c d : Cells) (units : ℕ → Option Stored) �
 shows_unbegun t c d units layout sized shows fades =
     let kept = slots_fade t c d layout sized shows.sound fades in shows_kept t c d units shows kept.0 kept.1
 
--- a front of the writes was made, drives were lost, and then all was finished: the slot has its unit, and all others have theirs
+-- a prefix of the writes was made, drives were lost, and the plan was finished: the slot has its unit, and all others theirs
 pub shows_finished : (t : Groups) (c d e : Cells) (units : ℕ → Option Stored) (slot : ℕ) (bytes : List ℕ) (u : Stored) (wanted : Place → List ℕ) (writes : List Wanted) (n : ℕ)
     → IsLayout t → AreSizedCells (unit_bytes t) c → ((x : Place) → length (wanted x) ≡ unit_bytes t) → ShowsUnits t c units → IsUnit bytes u
     → IsPlanned t c slot bytes wanted writes → ((x : Place) → FadesAt (after c (take n writes)) d x) → IsFinished t d e slot wanted

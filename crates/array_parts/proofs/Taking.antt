@@ -1,4 +1,4 @@
--- A group that is unmade, told of the parts as plain data.
+-- A group that is dissolved, stated over the parts as plain data.
 use Rattle.std.proofs.Common.{◌≡◌, ℕ, ◌/◌, ◌<◌, Bool, true, false, is_some, List, Vec, length, sym, ◌∙◌, ap, subst, inl, inr, cond, Option, None, Result, Ok, Err, OnOk, IfErr}
 use Rattle.std.proofs.lemmas.Option.{none-some}
 use Rattle.extents.specs.Failures.{Failures}

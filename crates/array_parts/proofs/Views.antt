@@ -46,7 +46,7 @@ view_lost units lost failures p = λ i d. same d i
     same : (d : ℕ) → lost_of (view_of units lost failures p) d ≡ missing_in lost p d
     same d = ap (is_missing drive_lost) (slice_get-map (drive_view units lost failures) p.drives.items d) ∙ missing_same units lost failures (slice_get p.drives.items d)
 
--- how often each failed by itself
+-- how often each had a failure of its own
 pub view_failures : {D : Type 0} (units : D → List (List ℕ)) (lost : D → Bool) (failures : D → Failures) (p : Parts D) → failed_of (view_of units lost failures p) ≡ failures_of failures p.drives.items
 view_failures units lost failures p = λ i d. same d i
   where

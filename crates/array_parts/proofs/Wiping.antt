@@ -40,7 +40,7 @@ wiped_present units lost s m bytes ds some wiped =
     held_present (missing_of lost ds m.drive)
     (λ gone. none-some bytes (sym (cell_missing units lost (slice_get ds m.drive) (place_of s 0 m).address gone) ∙ wiped 0 (omega arith)))
 
--- one member's extent more is wiped, or its drive is lost
+-- the next member's extent is wiped, or its drive is lost
 pub more_touched : {D : Type 0} (units : D → List (List ℕ)) (lost : D → Bool) (failures : D → Failures) (s i : ℕ) (m : Member) (ms : List Member) (bytes : List ℕ) (old mid new : List D) → AreApart ms
     → slice_get ms i ≡ Some m → AreWipedTo units lost failures s ms bytes i old mid → SameBut (λ d. d ≡ m.drive) mid new → KeepsDrives units lost failures (IsIn s m) mid new
     → AreWipedTo units lost failures s ms bytes i old new

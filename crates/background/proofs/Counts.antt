@@ -39,7 +39,7 @@ pub counted_all : (keys : ℕ → ℕ) (group slots index count : ℕ) → slots
 counted_all keys group slots index count all few h =
     (h.0, below_all (IsLiveIn keys group slots) (128 * group + index) h.0 (λ n live. let own = live.own in let among = live.among in omega (arith, own, among, all)) h.1, h.2)
 
--- the counts that an array keeps are those that a plan wants
+-- the counts that an array keeps are those that a plan needs
 pub kept_counts : (groups : Groups) (keys : ℕ → ℕ) (counts : List ℕ) → length counts ≡ 512
     → ((group : ℕ) → group < 512 → (slots : ℕ) → slots_in groups.segments (group_at groups group) ≤ slots → IsLiveCount keys group slots (slice_index counts group))
     → AreLiveCounts groups keys counts

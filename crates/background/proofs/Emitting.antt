@@ -123,7 +123,7 @@ emits_between F H I G b r before is behind = record {
   newest = subst (λ rs. IsNewest rs b (Some r)) (sym behind.emitted) is.newest;
 }
 
--- refused, or out of memory, in mid-placing
+-- a placing that was refused, or ran out of memory, half-way
 pub stops_alike : (F G : Flat) (w s b : ℕ) (what : Put) → PlaceStops F w s b what G → IsAlike F G
 stops_alike F G w s b what run =
     let claimed = alike_claimed F run.0 w s s run.1 in
@@ -146,7 +146,7 @@ place_refused F G w s b what k (inr run) =
     let back = alike_given run.2.2.2.0 G w s run.2.2.2.2 in
     alike_more F run.0 G claimed (alike_more run.0 run.2.0 G put (alike_more run.2.0 run.2.2.0 G refused (alike_more run.2.2.0 run.2.2.2.0 G discarded back)))
 
--- a placing emits its record, and none where none comes of it
+-- a placing emits its record, and none where it places nothing
 pub place_emits : (F G : Flat) (w s b : ℕ) (what : Put) (r : Record) → ((q : Record) → Contains F.emitted q → IsRecord q) → PlaceCase F w s b what (outcome.Placed r) G → HasEmitted F G b r
 place_emits F G w s b what r all case =
     let run = case.run in

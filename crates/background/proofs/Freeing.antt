@@ -1,4 +1,4 @@
--- Which slots get free by a step, and by a placing: a release frees its slot, and nothing else frees any.
+-- Which slots a step or a placing frees: a release frees its slot, and nothing else frees any.
 use Rattle.std.proofs.Common.{◌≡◌, ◌≢◌, ◌⊎◌, inl, inr, ℕ, Bool, true, false, ◌||◌, ◌&&◌, not, ◌/◌, List, [], ◌∷◌, refl, sym, ap, ◌∙◌, subst, Option, Some, None}
 use Rattle.std.proofs.lemmas.Bool.{cases_eq}
 use Rattle.map_join.specs.declared.records.Record.{Record}
@@ -105,7 +105,7 @@ commit_frees F G w s b r case = go (F.tickets s) case.2.2
 given_frees : (F G : Flat) (w s : ℕ) → Runs F (step.Release w s ∷ []) (Released s ∷ []) G → Frees F G (λ n. n ≡ s)
 given_frees F G w s run n free = release_frees F run.0 w s s run.1 n (same_frees run.0 G run.2 n free)
 
--- the place of what may be a record
+-- the place of an optional record
 abbrev pub IsPlaceIn : Option Record → ℕ → Type 0
 IsPlaceIn None n = ⊥
 IsPlaceIn (Some r) n = n ≡ r.place
@@ -137,7 +137,7 @@ refused_place F G w s b what k (inr run) =
     (refused_frees run.2.0 run.2.2.0 (step.Commit w s b) k run.2.2.1 n (discard_frees run.2.2.0 run.2.2.2.0 w s s run.2.2.2.1 n free))))
     run.1.1 run.2.2.2.2
 
--- a placing frees the block's old place, and no slot where nothing comes of it
+-- a placing frees no slot but the block's old place, and none where it places nothing
 pub place_frees : (F G : Flat) (w s b : ℕ) (what : Put) (r : Record) (case : PlaceCase F w s b what (outcome.Placed r) G) → Frees F G (IsPlaceIn case.old)
 place_frees F G w s b what r case n free = go (back_frees run.2.2.0 G w case.old run.2.2.2 n free)
   where

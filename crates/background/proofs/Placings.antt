@@ -1,4 +1,4 @@
--- Who holds a slot that changed hands, and what a commit by itself answers.
+-- Who holds a slot that changed hands, and what a commit alone answers.
 use Rattle.std.proofs.Common.{◌≡◌, ℕ, Bool, true, false, ◌||◌, ◌∙◌, refl, Option, Some, None}
 use Rattle.map_join.specs.declared.records.Record.{Record}
 use Rattle.flat_machine.specs.Flat.{Flat, Holder, Waiting, turned, with_pair, without_pair, same_holder}

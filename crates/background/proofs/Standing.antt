@@ -75,7 +75,7 @@ block_there : (t : Tiers) (T : Tiered) (b : ℕ) → StandsFor t T → b < t.wor
 block_there t T b stands inside =
     subst (λ n. b < n) (sym (ap length stands.order ∙ stands.long ∙ ap (λ (z : Groups). z.blocks) (groups_of t T stands))) inside
 
--- hinted slots after a step that leaves the groups, where what gets free is hinted
+-- hinted slots after a step that leaves the groups, where what becomes free is hinted
 hints_keep : (F G : Flat) (was is : List ℕ) (P : ℕ → Type 0) → G.groups ≡ F.groups → Frees F G P → ((s : ℕ) → P s → IsHinted is s)
     → ((s : ℕ) → IsHinted was s → IsHinted is s) → ((s : ℕ) → IsFreeMirror F s → IsHinted was s) → (s : ℕ) → IsFreeMirror G s → IsHinted is s
 hints_keep F G was is P groups frees new others hinted s free = go (frees s free.1)
@@ -84,7 +84,7 @@ hints_keep F G was is P groups frees new others hinted s free = go (frees s free
     go (inl there) = others s (hinted s (subst (λ z. IsSlotOf Mirrored z s) groups free.0, there))
     go (inr left) = new s left
 
--- the same where nothing gets free
+-- the same where nothing becomes free
 hints_still : (F G : Flat) (hints : List ℕ) → G.groups ≡ F.groups → FreesNone F G → ((s : ℕ) → IsFreeMirror F s → IsHinted hints s)
     → (s : ℕ) → IsFreeMirror G s → IsHinted hints s
 hints_still F G hints groups frees hinted = hints_keep F G hints hints (λ s. ⊥) groups (λ s free. inl (frees s free)) (λ s no. absurd no) (λ s h. h) hinted
@@ -180,7 +180,7 @@ order_stays order b (Fresh x) (outcome.Refused k) other = refl
 order_stays order b (Fresh x) outcome.NoRoom other = refl
 order_stays order b (Fresh x) outcome.Nothing other = refl
 
--- what a placing does for each state that is stood for
+-- what a placing does for each state that is represented
 abbrev pub PutsTo : Tiers → Tiers → ℕ → ℕ → ℕ → Put → Outcome → Type 0
 PutsTo t u w s b what o = (T : Tiered) → StandsFor t T → (U : Tiered) × PutsAt T w b what s o U × StandsFor u U
 
@@ -300,7 +300,7 @@ append_as end groups keys P Q (Some n) same (inr h) =
       lowest_as (IsFreeFresh end groups keys P) (IsFreeFresh end groups keys Q) n (λ m. ((λ x. (x.0, (same m).0 x.1)), (λ x. (x.0, (same m).1 x.1)))) h.1,
     )
 
--- which block is the oldest, for each state that is stood for
+-- which block is the oldest, for each state that is represented
 abbrev pub OldestIs : Tiers → Option ℕ → Type 0
 OldestIs t chosen = (T : Tiered) → StandsFor t T → IsOldest T.order (IsMirrored T.flat.groups (key_at t.world.array)) chosen
 
@@ -314,7 +314,7 @@ oldest_is t a chosen same oldest T stands =
     let is = subst (λ (x : ArrayView). IsOldestMirrored x t.planner chosen) same (oldest here) in
     subst (λ order. IsOldest order (IsMirrored T.flat.groups keys) chosen) stands.order (subst (λ z. IsOldest t.planner.ages.order (IsMirrored z keys) chosen) (sym groups) is)
 
--- what is so of the world's groups and the planner's end is so of the state's
+-- what holds of the world's groups and the planner's end holds of the state's
 pub as_state : (P : Groups → End → Type 0) (t : Tiers) (T : Tiered) → StandsFor t T → P t.world.array.parts.groups t.planner.end → P T.flat.groups T.end
 as_state P t T stands h = subst (P T.flat.groups) stands.end (subst (λ z. P z t.planner.end) (sym (groups_of t T stands)) h)
 

@@ -1,4 +1,4 @@
--- Bits come into words and go.
+-- Bits are set in words and cleared.
 use Rattle.std.proofs.Common.{◌≡◌, ◌⊎◌, inl, inr, ℕ, ◌*◌, ◌-◌, ◌≤◌, ◌/◌, ◌%◌, ◌^◌, ◌<◌, arith, List, length, replicate, slice_set, get_or, get_or-set_same, get_or-set_other, bit_and, bit_or, ap, sym, ◌∙◌, subst, w64}
 use Rattle.std.proofs.lemmas.Bool.{cases_eq, cases_lt}
 use Rattle.std.proofs.lemmas.List.{get_or_past, get_or-replicate}
@@ -7,7 +7,7 @@ use Rattle.std.proofs.lemmas.Nat.Bits.{bit_at-zero, bit_at_ones, bit_at_set_same
 use Rattle.std.specs.Int.{bit_at, bit_not}
 use Rattle.background.specs.Bits.{HasBit, HasBitAt, IsPut, IsTaken}
 
--- a word where a bit came, and one where it went
+-- a word with a bit set, and with it cleared
 abbrev pub with_bit : ℕ → ℕ → ℕ
 with_bit word bit = bit_or word (1 * 2 ^ bit % 2 ^ 64)
 
@@ -55,7 +55,7 @@ module _ (words : List ℕ) (at : ℕ) (inside : at < 64 * length words) where
           ∙ same (n % 64) (omega arith) apart ∙ sym (ap (λ r. bit_at (get_or words r 0) (n % 64)) row)
       go (inr row) = ap (λ w. bit_at w (n % 64)) (get_or-set_other words (at / 64) (n / 64) word 0 row)
 
-  -- a bit comes
+  -- a bit is set
   pub put_at : IsPut words (slice_set words (at / 64) (with_bit was (at % 64))) at
   put_at = record {
     here = here;
@@ -80,7 +80,7 @@ module _ (words : List ℕ) (at : ℕ) (inside : at < 64 * length words) where
       only n has (inl same) = inl same
       only n has (inr other) = inr (sym (stays n other) ∙ has)
 
-  -- a bit goes
+  -- a bit is cleared
   pub take_at : IsTaken words (slice_set words (at / 64) (without_bit was (at % 64))) at
   take_at = record {
     gone = gone;
@@ -103,7 +103,7 @@ module _ (words : List ℕ) (at : ℕ) (inside : at < 64 * length words) where
       fewer n has (inl same) = absurd (gone (subst (HasBitAt is) same has))
       fewer n has (inr other) = sym (stays n other) ∙ has
 
-  -- and its word falls
+  -- and its word becomes smaller
   pub falls : HasBitAt words at → get_or (slice_set words (at / 64) (without_bit was (at % 64))) (at / 64) 0 < was
   falls has = go (cases_eq (without_bit was (at % 64)) was)
     where

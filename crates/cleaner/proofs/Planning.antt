@@ -1,4 +1,4 @@
--- What a plan's target, source and cleaned group come to.
+-- What a plan's target, source and cleaned group make of the plan.
 use Rattle.std.proofs.Common.{◌≡◌, ◌∙◌, ℕ, ◌/◌, sym, ap, subst, Option, Some, None}
 use Rattle.std.proofs.lemmas.Option.{same_Some}
 use Rattle.map_join.specs.Live.{LiesAt}
@@ -20,18 +20,18 @@ module _ (groups : Groups) (keys : ℕ → ℕ) (write : Option ℕ) where
       let out_of : IsSource groups keys t most source live = subst (λ g. IsSource groups keys g most source live) same.0 out in
       none source live (subst (λ n. IsSource groups keys t n source live) same.1 out_of)
 
-  -- all of a plug
+  -- a plug, from all its parts
   pub plugged : (t m s n : ℕ) (move : Move) → IsTarget groups keys write t m → IsFewest (IsSource groups keys t m) s n
       → IsLowest (IsLiveOf groups keys s) move.from → LiesAt keys move.block move.from → IsLowest (IsHoleOf groups keys t) move.to
       → IsPlugPlan groups keys write (Some move)
   plugged t m s n move into out slot block hole = (t, m, s, n, record { into = into; out = out; slot = slot; block = block; hole = hole })
 
-  -- a plug and none can't both be
+  -- a plan can't be both a plug and none
   not_both : (move : Move) → IsPlugPlan groups keys write (Some move) → IsPlugPlan groups keys write None → ⊥
   not_both move p none = none p.0 p.1 p.2 p.3 p.4.into p.4.out.offered
 
   module _ (append : Option ℕ) where
-    -- the log goes on nowhere
+    -- the log has no next slot
     pub no_append : append ≡ None → IsCleanPlan groups keys write append None
     no_append none no_plug group live to cleaned is = let both : None ≡ Some to = sym none ∙ is in cc
 
@@ -39,7 +39,7 @@ module _ (groups : Groups) (keys : ℕ → ℕ) (write : Option ℕ) where
     pub plug_first : (move : Move) → IsPlugPlan groups keys write (Some move) → IsCleanPlan groups keys write append None
     plug_first move p none group live to cleaned is = absurd (not_both move p none)
 
-    -- no group can be cleaned, or the log goes on in the one that would be
+    -- no group can be cleaned, or the log's next slot is in the one that would be
     pub no_clean : ((g n : ℕ) → IsHoled groups keys write g n → ⊥) → IsCleanPlan groups keys write append None
     no_clean none no_plug group live to cleaned is = absurd (none group live cleaned.offered)
 
@@ -48,7 +48,7 @@ module _ (groups : Groups) (keys : ℕ → ℕ) (write : Option ℕ) where
         let same = fewest_once (IsHoled groups keys write) group live e n cleaned chosen in
         ap (λ slot. slot / 128) (sym (same_Some _ _ (sym at ∙ is))) ∙ own ∙ sym same.0
 
-    -- all of a clean
+    -- a clean, from all its parts
     pub cleaned : (e n : ℕ) (move : Move) → IsPlugPlan groups keys write None → IsCleaned groups keys write e n
         → IsLowest (IsLiveOf groups keys e) move.from → LiesAt keys move.block move.from → append ≡ Some move.to → (move.to / 128 ≡ e → ⊥)
         → IsCleanPlan groups keys write append (Some move)

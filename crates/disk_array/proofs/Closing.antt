@@ -1,4 +1,4 @@
--- What unmaking a group with a worker's claims is of a flat state.
+-- What dissolving a group with a worker's claims does to a flat state.
 use Rattle.std.proofs.Common.{◌≡◌, ◌≢◌, ℕ, ◌<◌, ◌/◌, ◌%◌, Bool, true, false, cond, nat_lt, List, length, refl, sym, ap, ◌∙◌, subst, arith, ◌⊎◌, inl, inr, Option, Some, None, Result, Ok, Err, OnErr}
 use Rattle.std.proofs.lemmas.Bool.{cases_eq}
 use Rattle.std.proofs.lemmas.Bool.Decides.{nat_tests}
@@ -178,7 +178,7 @@ module _ (v : WorldView) (F : Flat) (w g : ℕ) (rep : Represents v F) where
     below = λ other less of. claim_at other (is.below other less (one_in other of));
   }
 
-  -- one claim of each slot is just what such a worker has
+  -- one claim of each slot is exactly what such a worker has
   pub workers_of : {C : Type 0} (names : C → ℕ) (claims : List C) → HoldsAll → ((slot : ℕ) → how_many names claims slot ≡ one_of g count slot) → AreWorkers names F w g claims
   workers_of {C} names claims all are = subst (λ (z : Groups). group_at z g ≢ None → (slot : ℕ)
       → how_many names claims slot ≡ cond (F.held slot (Worker w)) (one_of g (slots_in z.segments (group_at z g)) slot) 0) (sym groups) (λ made slot. go slot (is_first g count slot) refl)
@@ -237,7 +237,7 @@ module _ (v : WorldView) (F : Flat) (w g : ℕ) (rep : Represents v F) where
     },
   )
 
--- what holds anyway holds of an error
+-- what holds in any case holds in the case of an error
 pub on_err : {T E P : Type 0} (r : Result T E) → P → OnErr r P
 on_err (Ok x) p = tt
 on_err (Err e) p = p

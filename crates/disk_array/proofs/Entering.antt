@@ -1,4 +1,4 @@
--- What comes of a group that couldn't be made: there was no memory for the places of its slots, or a drive was lost.
+-- The result where a group couldn't be made: an allocation for the places of its slots failed, or a drive was lost.
 use Rattle.std.proofs.Common.{◌≡◌, ℕ, ◌⊎◌, inl, inr, List, sym, subst, None}
 use Rattle.extent_groups.specs.declared.class.Class.{Class}
 use Rattle.extent_groups.specs.declared.class.Member.{Member}

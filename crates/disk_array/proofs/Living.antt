@@ -1,4 +1,4 @@
--- The slots that are newest places, listed group by group, are as many as the array counts.
+-- The slots that are newest places, listed group by group, have the number that the array counts.
 use Rattle.std.proofs.Common.{◌≡◌, ℕ, zero, suc, ◌+◌, ◌*◌, ◌/◌, ◌%◌, ◌<◌, ◌≤◌, false, None, List, [], ◌∷◌, ◌++◌, length, get_or, refl, sym, ap, ◌∙◌, subst, arith}
 use Rattle.std.proofs.lemmas.List.{length_push}
 use Rattle.map_join.specs.Lists.{ListsBelow}
@@ -64,7 +64,7 @@ lists_so a group (suc index) whole few = go (lists_so a group index whole (omega
 live_below : (a : ArrayView) (s : ℕ) → IsWhole a → IsLive (key_at a) s → s % 128 < slots_in a.parts.groups.segments (group_at a.parts.groups (s / 128))
 live_below a s whole live = slot_of_class a.parts.groups s (whole.there s (λ e. no_live a s whole (ap block_in e) live) (λ e. no_live a s whole (ap block_in e) live))
 
--- a group's count, of as many slots as it has and more
+-- a group's count, over any number of slots that is at least the group's
 pub live_counted : (a : ArrayView) (live : List ℕ) (group slots : ℕ) → IsWhole a → group < 512 → AreCounts a.kept live
     → slots_in a.parts.groups.segments (group_at a.parts.groups group) ≤ slots → IsLiveCount (key_at a) group slots (get_or live group 0)
 live_counted a live group slots whole low are enough =

@@ -30,7 +30,7 @@ use Rattle.slot_tables.specs.Kept.{AreOf}
 use Rattle.disk_array.specs.Losing.{WasLost, WasFused}
 use Rattle.disk_array.proofs.Ready.{Keeps, parts_ready, still_whole}
 
--- a drive in memory, and the parts that have such, as plain data
+-- a drive in memory, and parts with such drives, as plain data
 abbrev pub held_view : Held → DriveView
 held_view = drive_view held_units held_lost held_failures
 

@@ -1,4 +1,4 @@
--- What an array is put together of, and that nothing has happened to it.
+-- An array that is put together from new tables and drives is new, and ready for the calls of its drives.
 use Rattle.std.proofs.Common.{◌≡◌, ℕ, ◌*◌, ◌+◌, ◌≤◌, Bool, None, List, [], length, map, get_or, sym, ap, ◌∙◌, subst, arith, Vec}
 use Rattle.std.proofs.lemmas.List.{length-map, length-replicate}
 use Rattle.std.specs.Global.{Global}

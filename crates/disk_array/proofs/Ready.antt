@@ -1,4 +1,4 @@
--- What an array keeps by itself, with other drives.
+-- What an array keeps of its own tables, with other drives.
 use Rattle.std.proofs.Common.{◌≡◌, ℕ, ◌*◌, ◌+◌, ◌<◌, ◌≤◌, Bool, false, vec_len, None, ap, inl, inr, List, length, get_or, sym, subst, ◌∙◌, arith, Vec, Result, Ok, Err, IfOk, IfErr}
 use Rattle.std.proofs.Math.ListN.{set}
 use Rattle.std.specs.Global.{Global}
@@ -26,7 +26,7 @@ use Rattle.array_parts.proofs.Views.{view_drives}
 use Rattle.array_parts.specs.Views.{view_of, PartsView, SameTables, DrivesFare, Loses, FoundGone, WasNotCarried, WasTaken}
 use Rattle.flat_machine.specs.declared.refusal.Refusal.{Refusal}
 
--- a vector has as many elements after they were written over
+-- a vector has the same number of elements after they were overwritten
 pub length_again : (v : Vec ℕ Global) (ws : List ℕ) → length (with_items v ws).items ≡ length v.items
 length_again v ws = sym (length_refill v.len v.items ws v.ok.0) ∙ v.ok.0
 
@@ -35,7 +35,7 @@ pub either_way : {T E P : Type 0} {A : T → Type 0} {B : E → Type 0} (r : Res
 either_way (Ok x) ok err a b = ok x a
 either_way (Err e) ok err a b = err e b
 
--- calls of the drives left the tables as they were, and as many drives
+-- calls of the drives left the tables and the number of drives as they were
 pub record Keeps (a b : PartsView) : Type 0 where
   pub tables : SameTables a b
   pub many : length b.drives ≡ length a.drives
@@ -60,7 +60,7 @@ pub still_whole : {D C : Type 0} (units : D → List (List ℕ)) (lost : D → B
 still_whole units lost failures a p same fit whole =
     whole_parts (seen units lost failures a) (view_of units lost failures p) same.tables same.many (view_drives units lost failures p fit.drives) whole
 
--- and ready, its buffers written over
+-- and ready, with its buffers overwritten
 pub still_ready : {D C : Type 0} (units : D → List (List ℕ)) (lost : D → Bool) (failures : D → Failures) (a : Inside D C) (p : Parts D) (unit scratch : List ℕ)
     → Keeps (view_of units lost failures a.parts) (view_of units lost failures p) → IsFit units p → IsReady units a
     → IsReady units (record a { parts = p; unit = with_items a.unit unit; scratch = with_items a.scratch scratch })
@@ -73,7 +73,7 @@ still_ready units lost failures a p unit scratch same fit ready =
       live = ready.live;
     }
 
--- the same where one buffer alone was written over
+-- the same where one buffer alone was overwritten
 pub scratch_ready : {D C : Type 0} (units : D → List (List ℕ)) (lost : D → Bool) (failures : D → Failures) (a : Inside D C) (p : Parts D) (scratch : List ℕ)
     → Keeps (view_of units lost failures a.parts) (view_of units lost failures p) → IsFit units p → IsReady units a
     → IsReady units (record a { parts = p; scratch = with_items a.scratch scratch })
@@ -86,7 +86,7 @@ scratch_ready units lost failures a p scratch same fit ready =
       live = ready.live;
     }
 
--- so all of it holds that is always true of an array
+-- so all that is always true of an array holds
 pub still_stands : {D C Claims : Type 0} (units : D → List (List ℕ)) (lost : D → Bool) (failures : D → Failures) (a : Inside D C) (p : Parts D) (unit scratch : List ℕ)
     → Keeps (view_of units lost failures a.parts) (view_of units lost failures p) → IsFit units p → IsWhole (seen units lost failures a) × Claims × IsReady units a
     → IsWhole (seen units lost failures (record a { parts = p })) × Claims
@@ -97,16 +97,16 @@ still_stands units lost failures a p unit scratch same fit stands = (
   still_ready units lost failures a p unit scratch same fit stands.2,
 )
 
--- as many places are enough
+-- an equal number of places is enough
 pub as_many : (groups : Groups) (m n : ℕ) → n ≡ m → HavePlaces groups m → HavePlaces groups n
 as_many groups m n is have = subst (HavePlaces groups) (sym is) have
 
--- with as many other places, of which as many are newest places, it is ready still
+-- with an equal number of other places, for which the counts of newest places are correct, it is ready still
 pub places_ready : {D C : Type 0} (units : D → List (List ℕ)) (a : Inside D C) (places : Vec (SlotState C) Global) → vec_len places ≡ vec_len a.places → AreCounts (kepts_of places.items) a.live → IsReady units a → IsReady units (record a { places = places })
 places_ready units a places same counts ready =
     record { fit = ready.fit; unit = ready.unit; scratch = ready.scratch; places = as_many a.parts.groups _ _ same ready.places; live = counts }
 
--- so with one slot changed, which wasn't a newest place and isn't one
+-- it is ready with one slot changed, which wasn't a newest place and isn't one
 pub slot_ready : {D C : Type 0} (units : D → List (List ℕ)) (a : Inside D C) (places : Vec (SlotState C) Global) (slot : ℕ) (k : Kept)
     → vec_len places ≡ vec_len a.places → kepts_of places.items ≡ set (kepts_of a.places.items) slot k → length (kepts_of a.places.items) ≡ 65536 → slot < 65536
     → is_newest (get_or (kepts_of a.places.items) slot Nothing) ≡ false → is_newest k ≡ false → IsReady units a → IsReady units (record a { places = places })
@@ -123,20 +123,20 @@ pub carried_gone : (a b : PartsView) (slot : ℕ) (q : Refusal) → WasNotCarrie
 carried_gone a b slot q (inl gone) = gone
 carried_gone a b slot q (inr gone) = gone.1
 
--- with other drives of the same groups
+-- it is ready with other drives of the same groups
 pub parts_ready : {D C : Type 0} (units : D → List (List ℕ)) (a : Inside D C) (p : Parts D) → p.groups ≡ a.parts.groups → IsFit units p → IsReady units a
     → IsReady units (record a { parts = p })
 parts_ready units a p same fit ready = let groups = ap (λ (z : Groups). unit_bytes z) (sym same) in
     record { fit = fit; unit = ready.unit ∙ groups; scratch = ready.scratch ∙ ap (λ n. 2 * n) groups; places = subst (λ (z : Groups). HavePlaces z (vec_len a.places)) (sym same) ready.places; live = ready.live }
 
--- with a group fewer, and other places
+-- it is ready without the group that was taken, with other places
 pub taken_ready : {D C : Type 0} (units : D → List (List ℕ)) (lost : D → Bool) (failures : D → Failures) (a : Inside D C) (p : Parts D) (places : Vec (SlotState C) Global) (g : ℕ)
     → WasTaken (view_of units lost failures a.parts) g (view_of units lost failures p) → 128 * g + 128 ≤ vec_len a.places → vec_len places ≡ vec_len a.places → IsFit units p → AreCounts (kepts_of places.items) a.live → IsReady units a
     → IsReady units (record a { parts = p; places = places })
 taken_ready units lost failures a p places g taken enough same fit counts ready = let groups = ap (λ (z : Groups). unit_bytes z) (sym taken.groups) in
     record { fit = fit; unit = ready.unit ∙ groups; scratch = ready.scratch ∙ ap (λ n. 2 * n) groups; places = as_many p.groups _ _ same (subst (λ (z : Groups). HavePlaces z (vec_len a.places)) (sym taken.groups) (placed_with a.parts.groups g (vec_len a.places) None enough ready.places)); live = counts }
 
--- with groups of the same sizes, other places, and the buffer of a unit written over
+-- it is ready with groups of the same unit size, other places, and the buffer of a unit overwritten
 pub grown_ready : {D C : Type 0} (units : D → List (List ℕ)) (a : Inside D C) (p : Parts D) (places : Vec (SlotState C) Global) (unit : List ℕ)
     → unit_bytes a.parts.groups ≡ unit_bytes p.groups → HavePlaces p.groups (vec_len places) → IsFit units p → AreCounts (kepts_of places.items) a.live → IsReady units a
     → IsReady units (record a { parts = p; places = places; unit = with_items a.unit unit })

@@ -1,4 +1,4 @@
--- What a check refuses, or the drives do, isn't out of memory.
+-- A refusal by a check or by the drives isn't out of memory.
 use Rattle.std.proofs.Common.{◌≡◌, ◌≢◌, ℕ, Bool, true, false, cond, nat_le, subst, inl, inr, Option, Some, None}
 use Rattle.map_join.specs.declared.records.Record.{Record}
 use Rattle.extent_groups.specs.declared.class.Class.{Class}
@@ -15,7 +15,7 @@ use Rattle.array_parts.specs.Shifting.{IsWhyUnmoved}
 use Rattle.slot_tables.specs.Changes.{fill_reason, fill_reason_of, copy_reason, copy_reason_of}
 use Rattle.slot_tables.specs.Views.{Kept, Nothing, Pending, Moving, Newest, Unmade, ArrayView, kept_at}
 
--- a slot is gone
+-- the refusal of a slot that is gone
 pub gone_told : (a b : PartsView) (slot : ℕ) (q : Refusal) → FoundGone a b slot q → q ≢ Memory
 gone_told a b slot q gone is = let told = gone.told in cc
 
@@ -23,11 +23,11 @@ pub uncarried_told : (a b : PartsView) (from to : ℕ) (q : Refusal) → WasNotC
 uncarried_told a b from to q (inl gone) = gone_told a b from q gone
 uncarried_told a b from to q (inr gone) = gone_told a b to q gone.1
 
--- a member isn't moved
+-- the refusal of a member that wasn't moved
 pub unmoved_told : (a b : PartsView) (g k : ℕ) (to : Member) (q : Refusal) → NotShifted a g k to b q → q ≢ Memory
 unmoved_told a b g k to q not is = subst (IsWhyUnmoved b.groups (lost_of b) g k to) is not.told
 
--- something speaks against a fill, a copy or a move
+-- the reason against a fill, a copy or a move
 pub unfilled_told : (a : ArrayView) (slot : ℕ) (q : Refusal) → fill_reason a slot ≡ Some q → q ≢ Memory
 unfilled_told a slot q = go (class_at a.parts.groups slot) (kept_at a slot)
   where

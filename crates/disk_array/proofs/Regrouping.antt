@@ -1,4 +1,4 @@
--- What an array keeps by itself, with a drive more or a member on another extent; and what comes of a move.
+-- What an array keeps of its own tables, with one more drive or a member on another extent; and the result of a move.
 use Rattle.std.proofs.Common.{◌≡◌, ℕ, Bool, false, ap, sym, subst, None, Result, Ok, Err, IfOk, OnErr, OnOk, IfErr, MatchResult}
 use Rattle.extents.specs.Failures.{Failures}
 use Rattle.extent_groups.specs.declared.class.Member.{Member}

@@ -1,4 +1,4 @@
--- What a read of an array's parts leaves, in the words of the array.
+-- What a read of an array's parts leaves, stated over the array.
 use Rattle.std.proofs.Common.{◌≡◌, ℕ, Bool, List, Result, IfErr, None, refl, sym, subst}
 use Rattle.std.proofs.lemmas.Result.{IfErr-weaker}
 use Rattle.extents.specs.Failures.{Failures}
@@ -49,7 +49,7 @@ module _ {D C : Type 0} (units : D → List (List ℕ)) (lost : D → Bool) (fai
   still_sound v is = subst (λ (v : ArrayView). AreSound v.parts.groups (cells_of v.parts) → AreSound q.groups (cells_of (view_of units lost failures q))) is
       (λ fine. subst (AreSound q.groups) (sym (view_cells units lost failures q)) (sound (subst (AreSound a.parts.groups) (view_cells units lost failures a.parts) fine)))
 
-  -- all stands that is always true of an array, its second buffer written over
+  -- all that is always true of an array holds, with its second buffer overwritten
   pub read_stands : {Claims : Type 0} (scratch : List ℕ) → IsFit units q → IsWhole (seen units lost failures a) × Claims × IsReady units a
       → IsWhole (seen units lost failures (record a { parts = q })) × Claims × IsReady units (record a { parts = q; scratch = with_items a.scratch scratch })
   read_stands scratch fit stands = (

@@ -33,7 +33,7 @@ pub stands_only : (ms : List Member) (d e : ℕ) → Stands ms d e → list_any 
 stands_only ms d e s =
     any_in (is_extent d e) ms s.0 (record { drive = d; extent = e }) s.1 (ap (λ b. b && (e == e)) (eq-eqb d d refl) ∙ eq-eqb e e refl)
 
--- a number past all has no group, and so nothing that isn't owned
+-- a number from 512 on has no group, so all its members are owned
 pub owned_past : (t : Groups) (o : Owners) (g : ℕ) → AreGroups t → 512 ≤ g → AreOwned o (members_of t g) g
 owned_past t o g are past k m at =
     let far : length t.table ≤ g = omega (arith, past, are.numbers) in
@@ -49,7 +49,7 @@ stands_all t o rows g d e owned = elim (slice_get_cases o.rows d).1 [
   in_row None at = absurd (none-some g (sym (ap (λ x. unwrap_or x None) at) ∙ owned))
   in_row (Some x) at = at ∙ ap (λ y. Some y) (sym (ap (λ x. unwrap_or x None) at) ∙ owned)
 
--- the parts of the test are all of agreeing
+-- the parts of the test together are agreement
 pub agree_of : (t : Groups) (o : Owners) → AreWide o → ((g : ℕ) → AreOwned o (members_of t g) g) → ((d : ℕ) → d < length o.rows → RowStands t (row_of o d) d) → Agree t o
 agree_of t o wide owned rows = record { owned = owned; stands = stands_all t o rows; wide = wide }
 

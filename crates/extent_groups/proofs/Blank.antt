@@ -49,7 +49,7 @@ blank_site n c (InStripe row parity i) h =
       or_zero n (row_of c row i) (others n (length row) (row_of c row) i) (each i) (total_blank n (length row) (put (row_of c row) i (Some (replicate n 0))) (put_zero n i (row_of c row) each)),
     )
 
--- the same of what may be a site
+-- the same, of an optional site
 pub blank_in : (n : ℕ) (c : Cells) (o : Option Site) → ((site : Site) → o ≡ Some site → (v : List ℕ) → unit_at n c site ≡ Some v → v ≡ replicate n 0) → (v : List ℕ) → unit_in n c o ≡ Some v → v ≡ replicate n 0
 blank_in n c None h v e = absurd (none-some v e)
 blank_in n c (Some site) h v e = h site refl v e

@@ -64,7 +64,7 @@ pub parity_slot : (t : Groups) (g i : ℕ) (members : List Member) → AreGroups
 parity_slot t g i members are same is h =
     subst (IsParitySlot t.segments i) (sym same) (slot_in _ Parity t.segments i (group_at t g) (are.formed g) are.segments.1 is h (λ n. stripe_law n t.segments i))
 
--- what may be a group that has a class has 3 to 8 members
+-- an optional group that has a class has 3 to 8 members
 pub group_size : (class : Class) (o : Option Group) → ((x : Group) → o ≡ Some x → IsFormed x.members) → class_in o ≡ Some class → (3 ≤ length (members_in o)) × (length (members_in o) ≤ 8)
 group_size class None formed is = absurd (none-some class is)
 group_size class (Some x) formed is = ((formed x refl).enough, (formed x refl).few)

@@ -48,7 +48,7 @@ stripe_wrapped n i two ne h =
     let half : (i / 2 / (n - 1) + 1) * (n - 1) + 0 ≡ i / 2 + 1 = omega (arith, whole, h) in
     stripe_is n (i / 2 / (n - 1) + 1) 0 0 (i + 1) (omega (arith, two)) (omega arith) (rw half (omega (arith, ne)))
 
--- the parity goes down by one member a row, from the first to the last
+-- the parity is one member lower in the next row, and after member 0 it is the last
 pub parity_next : (n r : ℕ) → 1 ≤ n → parity_of n (r + 1) ≡ (if parity_of n r == 0 then n - 1 else parity_of n r - 1)
 parity_next n r some = elim (cases_lt (r % n + 1) n) [
   | inl h ↦

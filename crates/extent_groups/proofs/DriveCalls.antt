@@ -251,7 +251,7 @@ keeps_none {units = units} {lost = lost} {failures = failures} {touched = touche
       (keeps_same units lost failures (λ at. touched (record { drive = d; address = at })) x));
 }
 
--- more may be touched
+-- what calls keep with some places touched, they keep with more places counted as touched
 pub keeps_more : {D : Type 0} {units : D → List (List ℕ)} {lost : D → Bool} {failures : D → Failures} {touched more : Place → Type 0} {a b : List D}
     → ((x : Place) → touched x → more x) → KeepsDrives units lost failures touched a b → KeepsDrives units lost failures more a b
 keeps_more into h = record {

@@ -12,7 +12,7 @@ use Rattle.extent_groups.proofs.LayoutLaw.{lies, slot_of, row_member}
 pub same_trans : {D : Type 0} {used : ℕ → Type 0} (a b c : List D) → SameBut used a b → SameBut used b c → SameBut used a c
 same_trans a b c one two d apart = two d apart ∙ one d apart
 
--- more may be used
+-- drives that are the same but for the used ones are the same but for any more
 pub same_more : {D : Type 0} {used more : ℕ → Type 0} (a b : List D) → ((d : ℕ) → used d → more d) → SameBut used a b → SameBut more a b
 same_more a b into same d apart = same d (λ u. apart (into d u))
 

@@ -49,7 +49,7 @@ plus_same n u v hu hv e =
 pub plus_swap : (u v w : List ℕ) → plus u (plus v w) ≡ plus v (plus u w)
 plus_swap u v w = sym (plus-assoc u v w) ∙ ap (λ z. plus z w) (plus-comm u v) ∙ plus-assoc v u w
 
--- new data u and the difference of parity q, old data d and u are as good as d and q
+-- new data u, the parity by difference q + d + u, and a rest r have the sum of old data d, parity q, and r
 pub plus_difference : (d q u r : List ℕ) → length r ≤ length u → plus u (plus (plus (plus q d) u) r) ≡ plus d (plus q r)
 plus_difference d q u r h =
     ap (plus u) (plus-assoc (plus q d) u r)

@@ -82,7 +82,7 @@ front_or_all (w ∷ ws) c (suc n) x once = elim (place_or_not w.place x) [
   ]
 ]
 
--- what was wanted of a place is had again from what it held, from what it holds after the write, and after a loss not at all
+-- a write made twice leaves what it leaves once, and a unit that fades still fades after a write to both
 over_twice : (a : Option (List ℕ)) (u : List ℕ) → over (over a u) u ≡ over a u
 over_twice None u = refl
 over_twice (Some v) u = refl

@@ -22,7 +22,7 @@ or_none zero x i = inr refl
 or_none (suc n) x zero = inl refl
 or_none (suc n) x (suc i) = or_none n x i
 
--- of several that are none, each is none
+-- each element of a list of `None`s is `None`, and so is what is past its end
 pub none_of : {X : Type 0} (n i : ℕ) → unwrap_or (slice_get (replicate {A = Option X} n None) i) None ≡ None
 none_of {X = X} n i = elim (or_none {X = Option X} n None i) [ inl e ↦ ap (λ o. unwrap_or o None) e | inr e ↦ ap (λ o. unwrap_or o None) e ]
 
@@ -56,7 +56,7 @@ free_owner drives extents d e = elim (or_none drives (replicate {A = Option ℕ}
   | inr past ↦ ap (λ o. unwrap_or (slice_get (unwrap_or o []) e) None) past
 ]
 
--- the rows of owners that are free are as wide
+-- the rows of owners that are free throughout have one place an extent
 free_wide : (drives extents d : ℕ) → d < length (replicate drives (replicate {A = Option ℕ} extents None)) → length (row_of (all_free drives extents) d) ≡ extents
 free_wide drives extents d h =
     let within : d < drives = rw length-replicate at h in

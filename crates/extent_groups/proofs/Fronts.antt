@@ -19,12 +19,12 @@ use Rattle.extent_groups.proofs.Losses.{site_same}
 use Rattle.extent_groups.proofs.SlotWrites.{AreSizedCells, unit_at_site}
 use Rattle.extent_groups.proofs.StoreCalls.{sized_cells}
 
--- what has one is there
+-- a unit that has a prefix exists
 pub front_some : (n : ℕ) (o : Option (List ℕ)) (bytes : List ℕ) → front n o ≡ Some bytes → (unit : List ℕ) × (o ≡ Some unit) × (take n unit ≡ bytes)
 front_some n None bytes e = absurd (none-some bytes e)
 front_some n (Some u) bytes e = (u, refl, same_Some _ _ e)
 
--- as many bytes as there are
+-- a prefix as long as the unit is the unit
 front_whole : (n : ℕ) (o : Option (List ℕ)) → ((u : List ℕ) → o ≡ Some u → length u ≡ n) → front n o ≡ o
 front_whole n None h = refl
 front_whole n (Some u) h = ap (λ v. Some v) (let long = h u refl in take_all n u (omega (arith, long)))
@@ -43,7 +43,7 @@ pub front_held : {D : Type 0} (n : ℕ) (units : D → List (List ℕ)) (lost : 
     → held (cells (front_units n units) lost ds) p ≡ front n (held (cells units lost ds) p)
 front_held n units lost ds p = front_cell n units lost (slice_get ds p.drive) p.address
 
--- units of this length are their fronts
+-- where units have n bytes, their prefixes of n bytes are the units
 pub whole_held : {D : Type 0} (n : ℕ) (units : D → List (List ℕ)) (lost : D → Bool) (ds : List D) → AreSized units n ds → (p : Place)
     → held (cells (front_units n units) lost ds) p ≡ held (cells units lost ds) p
 whole_held n units lost ds sized p = front_held n units lost ds p ∙ front_whole n (held (cells units lost ds) p) (cells_sized units lost n ds sized p)
@@ -90,7 +90,7 @@ front_member : (n : ℕ) (c f : Cells) → ((p : Place) → held f p ≡ front n
 front_member n c f e None = refl
 front_member n c f e (Some p) = e p
 
--- the front of a site's unit is the unit of the fronts
+-- the prefix of a site's unit is the site's unit over the prefixes
 front_unit : (n b : ℕ) (c f : Cells) → n ≤ b → ((p : Place) → held f p ≡ front n (held c p)) → (t : Site) → unit_at n f t ≡ front n (unit_at b c t)
 front_unit n b c f h e (Pair p q) = ap (λ x. or_else x (held f q)) (e p) ∙ ap (or_else (front n (held c p))) (e q) ∙ front_or n (held c p) (held c q)
 front_unit n b c f h e (InStripe places parity i) =
@@ -102,7 +102,7 @@ front_unit n b c f h e (InStripe places parity i) =
 
 -- ---- slots
 
--- what the unit of the fronts at a slot's site is, the front of the slot's unit is
+-- the prefix of a slot's unit is the unit of its site over the prefixes
 pub slot_front : {D : Type 0} (units : D → List (List ℕ)) (lost : D → Bool) (ds : List D) (t : Groups) (slot : ℕ) (site : Site) (n : ℕ) (a : Option (List ℕ))
     → site_of t slot ≡ Some site → n ≤ unit_bytes t → unit_at n (cells (front_units n units) lost ds) site ≡ a → front n (unit_of t (cells units lost ds) slot) ≡ a
 slot_front units lost ds t slot site n a at short e =
@@ -134,11 +134,11 @@ slot_whole units lost ds t slot n a are same e =
 
 -- ---- drives
 
--- units of one length have that many bytes at the front, and fewer
+-- units of m bytes have prefixes of each length up to m
 pub have_fronts : {D : Type 0} (units : D → List (List ℕ)) (n m : ℕ) (ds : List D) → n ≤ m → AreSized units m ds → HaveFronts units n ds
 have_fronts units n m ds h sized d x there at u is = omega (arith, h, sized d x there at u is)
 
--- reads leave them
+-- reads leave the prefixes
 pub keeps_fronts : {D : Type 0} {units : D → List (List ℕ)} {lost : D → Bool} {failures : D → Failures} {a b : List D} {n : ℕ}
     → KeepsDrives units lost failures NoPlace a b → HaveFronts units n a → HaveFronts units n b
 keeps_fronts {D = D} {a = a} keeps have d y there at u is =

@@ -9,7 +9,7 @@ use Rattle.extent_groups.specs.Geometry.{spot_at, copies_of, parity_of, data_mem
 row_below : (n s k : ℕ) → 0 < n → k < n * s → k / n < s
 row_below n s k some h = let inside : k < s * n = omega arith in (div-lt_iff_lt-mul {k = n} {x = k} {y = s} some).1 inside
 
--- two numbers in turn are no multiples of one number apart by less than it
+-- two consecutive numbers aren't both multiples of a number that is at least 2
 not_in_turn : (n p q a b : ℕ) → 2 ≤ n → a ≡ n * p → b ≡ n * q → b ≡ a + 1 → ⊥
 not_in_turn n p q a b two e f next =
     elim (cases_lt p q) [
@@ -17,7 +17,7 @@ not_in_turn n p q a b two e f next =
       | inr above ↦ let wide = mul-le-mul_left n above in omega (arith, wide)
     ]
 
--- two positions in turn lie on different members
+-- two consecutive positions lie on different members
 members_differ : (n k : ℕ) → 2 ≤ n → k % n ≡ (k + 1) % n → ⊥
 members_differ n k two e =
     let some : 0 < n = omega arith in

@@ -43,7 +43,7 @@ members_by_index t g i slot members low is found formed =
 pub headers_stay : (t : Groups) (c : Cells) (g i : ℕ) (hs : List (List ℕ)) (h : List ℕ) → AreHeaders t c g i hs → AreHeaders t c g i (slice_set hs i h)
 headers_stay t c g i hs h were = λ j less. were j less ∙ sym (get-set_other hs i j h (λ e. let less = less in let e = e in omega (arith, less, e)))
 
--- no read leaves all as it was
+-- zero reads leave all as it was
 read_none : {D : Type 0} {units : D → List (List ℕ)} {lost : D → Bool} {failures : D → Failures} (t : Groups) (g : ℕ) (ds : List D) → AreDrives units t ds → ReadLeaves units lost failures t g ds ds
 read_none t g ds are = record {
   units_kept = λ s slot u e. e;

@@ -70,7 +70,7 @@ is_put shape kept t o g class v ms view items are agree free there fine =
       groups = subst AreGroups (sym shown) (groups_with t (with_owners o ms (Some g)) g (Some group) are agree' free.within (λ x e. subst (λ (y : Group). IsFormed y.members) (same_Some group x e) ok.formed));
     }
 
--- unmaking a group
+-- dissolving a group
 pub record IsTaken (t' : Groups) (t : Groups) (o : Owners) (g : ℕ) (group : Group) : Type 0 where
   pub shown : t' ≡ with_group t g None
   pub agree : Agree t' (with_owners o group.members None)

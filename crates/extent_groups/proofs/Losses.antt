@@ -89,7 +89,7 @@ site_same n c new (InStripe row parity i) h =
       λ sound v e. sound v (sym (total_same n (length row) (row_of new row) (row_of c row) (λ k _. each k)) ∙ e),
     )
 
--- the same of what may be a site
+-- the same, of an optional site's unit
 pub unit_same : (n : ℕ) (c new : Cells) (o : Option Site) → ((t : Site) → o ≡ Some t → (x : Place) → IsOf t x → held new x ≡ held c x) → unit_in n new o ≡ unit_in n c o
 unit_same n c new None h = refl
 unit_same n c new (Some t) h = (site_same n c new t (h t refl)).0

@@ -32,7 +32,7 @@ owner_other o d e x y w there h = elim (same_or_not x d) [
   | inr apart ↦ ap (λ r. unwrap_or (slice_get r y) None) (row_other o d e x w apart)
 ]
 
--- as many extents and drives are there
+-- an extent that exists before the change exists after it
 pub extent_stays : (o : Owners) (d e x y : ℕ) (w : Option ℕ) → IsExtent o x y → IsExtent (with_owner o d e w) x y
 extent_stays o d e x y w there = record { within = rw length-set there.within; inside = there.inside }
 

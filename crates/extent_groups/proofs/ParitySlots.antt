@@ -24,7 +24,7 @@ slots_written shape kept slots g n x are is =
     ∙ sym (map-set (parity_slots_in shape.segments) (map (option_map group_of) kept) g (option_map group_of x))
     ∙ ap (map (parity_slots_in shape.segments)) (sym (map-set (option_map group_of) kept g x))
 
--- what is read of a list, where there may be none
+-- an optional read of a list, with a default
 read_at : {X : Type 0} (l : List X) (i : ℕ) (d : X) → unwrap_or (slice_get l i) d ≡ get_or l i d
 read_at [] i d = refl
 read_at (x ∷ l) zero d = refl

@@ -25,7 +25,7 @@ use Rattle.extent_groups.proofs.Sites.{site_places}
 use Rattle.extent_groups.proofs.SlotWrites.{slots_fade}
 use Rattle.extent_groups.proofs.StoreCalls.{sized_cells}
 
--- owners given to members: as many drives and extents as before
+-- giving members an owner keeps the number of drives and of extents
 pub rows_given : (o : Owners) (ms : List Member) (x : Option ℕ) → length (with_owners o ms x).rows ≡ length o.rows
 rows_given o [] x = refl
 rows_given o (m ∷ ms) x = rows_given (with_owner o m.drive m.extent x) ms x ∙ length-set o.rows m.drive _
@@ -96,13 +96,13 @@ pub loss_keeps : {D : Type 0} (units : D → List (List ℕ)) (lost : D → Bool
 loss_keeps units lost t ds d x y layout are sound inside there same stays =
     slots_fade t (cells units lost ds) (cells units lost (slice_set ds d y)) layout (sized_cells units lost t ds are) sound (set_fades units lost ds d x y inside there same stays)
 
--- one more after the others leaves them where they were
+-- appending an element leaves the others at their places
 get-more : {X : Type 0} (xs : List X) (y : X) (d : ℕ) → d < length xs → slice_get (xs ++ y ∷ []) d ≡ slice_get xs d
 get-more [] y d h = absurd (omega arith)
 get-more (x ∷ xs) y zero h = refl
 get-more (x ∷ xs) y (suc d) h = get-more xs y d (omega arith)
 
--- a fact of each of several holds of each of one more
+-- what holds of each element of a list, and of one appended to it, holds of each of them all
 pub each_more : {X : Type 0} (P : X → Type 0) (xs : List X) (y : X) → ((d : ℕ) (x : X) → slice_get xs d ≡ Some x → P x) → P y → (d : ℕ) (x : X) → slice_get (xs ++ y ∷ []) d ≡ Some x → P x
 each_more P [] y h p zero x e = subst P (same_Some y x e) p
 each_more P [] y h p (suc d) x e = absurd (none-some x e)

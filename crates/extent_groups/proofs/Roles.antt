@@ -101,7 +101,7 @@ parity_is n s m o two h low = by_test (m == parity_of n (o / 2)) refl where
   by_test true e = same _ _ e
   by_test false e = stripe_lies n s m o two h low (apart _ _ e)
 
--- the same, of what may be a group
+-- the same, of an optional group
 pub mirrored_in : (x : Option Group) (s m o slots n : ℕ) (r : Role) → ((g : Group) → x ≡ Some g → IsFormed g.members) → class_in x ≡ Some Mirrored → m < length (members_in x)
     → n ≡ length (members_in x) → slots ≡ slots_in s x → r ≡ mirrored_role n slots m o → IsRoleIn x s m o r
 mirrored_in None s m o slots n r formed class low en es er = absurd (none-some Mirrored class)

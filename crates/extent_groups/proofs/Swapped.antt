@@ -10,7 +10,8 @@ use Rattle.extent_groups.proofs.Totals.{Row, put_same, put_other, put_agrees, pu
 use Rattle.extent_groups.proofs.RowWrites.{total_present, same_or_missing}
 use Rattle.extent_groups.proofs.Fading.{RowFades, IsSoundRow, effective, faded, fade_effective, fade_sound}
 
--- two units of which one takes the place of a lost one: what is true of a row after that
+-- a row whose members fade but for one, and that one's unit, if any, is its effective unit: the row stays sound, and each
+-- effective unit that exists is what it was
 pub swapped_row : (n m k : ℕ) (r s : Row) → k < m → ((j : ℕ) (u : List ℕ) → r j ≡ Some u → length u ≡ n) → IsSoundRow n m r
     → ((j : ℕ) → j ≢ k → Fades (r j) (s j)) → ((w : List ℕ) → s k ≡ Some w → effective n m r k ≡ Some w)
     → IsSoundRow n m s × ((j : ℕ) (v : List ℕ) → j < m → effective n m s j ≡ Some v → effective n m r j ≡ Some v)

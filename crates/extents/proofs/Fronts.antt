@@ -2,7 +2,7 @@
 use Rattle.std.proofs.Common.{◌≡◌, ◌<◌, ℕ, zero, suc, List, [], ◌∷◌, length, refl, sym, ◌∙◌, arith}
 use Rattle.extents.specs.Units.{IsSized, HaveFront}
 
--- units of a size have as many bytes at the front
+-- units of `size` bytes have prefixes of `size` bytes
 pub have_whole : (size : ℕ) (units : List (List ℕ)) → IsSized size units → HaveFront size units
 have_whole size units sized at unit there = omega (arith, sized at unit there)
 

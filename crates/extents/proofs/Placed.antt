@@ -19,7 +19,7 @@ same_map f g (x ∷ xs) h =
     let first : g x ≡ f x = h 0 (omega arith) in
     rw (first, same_map f g xs (λ j below. h (suc j) (omega arith))) refl
 
--- two that agree on each place but one
+-- two functions that agree on each place but one
 map_but_one : (f g : ℕ → List ℕ) (xs : List ℕ) (at : ℕ) (u : List ℕ) → at < length xs → g (get_or xs at 0) ≡ u
     → ((j : ℕ) → j < length xs → j ≢ at → g (get_or xs j 0) ≡ f (get_or xs j 0)) → map g xs ≡ set (map f xs) at u
 map_but_one f g [] at u h e others = absurd (omega arith)
@@ -62,7 +62,7 @@ sized_unit size stored (suc number) bytes l h =
 
 -- ---- blank places
 
--- where one is blank there is a blank one
+-- where a place is blank, at least one is counted as blank
 some_blank : (places : List ℕ) (at : ℕ) → at < length places → get_or places at 0 ≡ 0 → 1 ≤ blanks places
 some_blank [] at h e = absurd (omega arith)
 some_blank (zero ∷ places) zero h e = omega arith

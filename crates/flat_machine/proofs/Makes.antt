@@ -27,7 +27,7 @@ stands_of ms k m at = (k, at)
 stands_as : (ms : List Member) (k : ℕ) (m n : Member) → slice_get ms k ≡ Some m → m.drive ≡ n.drive → m.extent ≡ n.extent → Stands ms n.drive n.extent
 stands_as ms k m n at drive extent = subst (λ e. Stands ms n.drive e) extent (subst (λ d. Stands ms d m.extent) drive (stands_of ms k m at))
 
--- a group more among groups none of which has one of its members
+-- one more group among groups none of which has one of its members
 pub groups_more : (groups : Groups) (drives g : ℕ) (new : Group) → GroupsStand groups drives → g < 512 → AreMembers groups.extents drives new.members
     → AreApart new.members → AreUnowned groups new.members → GroupsStand (with_group groups g (Some new)) drives
 groups_more groups drives g new all limit are spread unowned = record {

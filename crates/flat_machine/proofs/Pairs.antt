@@ -104,7 +104,7 @@ just_held S h k is of = is k of ∙ itself k
 pub with_just : (S : Holder → Type 0) (held : ℕ → Holder → Bool) (s : ℕ) (k : Holder) → IsNobodys S (held s) → IsJust S (with_pair held s k s) k
 with_just S held s k free j of = with_here held s k j ∙ ap (λ b. b || same_holder j k) (free j of)
 
--- a slot of one holder, without it, and with another in its stead
+-- a slot of one holder, without it, and with another in its place
 leaves_none : (q : Bool) → (q && not q) ≡ false
 leaves_none true = refl
 leaves_none false = refl

@@ -1,4 +1,4 @@
--- A member that goes onto another extent, and a drive more, keep what is true of every state.
+-- A member that goes onto another extent, and one more drive, keep what is true of every state.
 use Rattle.std.proofs.Common.{◌≡◌, ◌≢◌, ℕ, ◌+◌, ◌/◌, ◌%◌, ◌<◌, Bool, false, ◌==◌, cond, nat_lt, List, get_or, length, refl, sym, ap, ◌∙◌, subst, arith, ◌⊎◌, inl, inr, Option, Some, None}
 use Rattle.std.specs.Prelude.{slice_get, slice_set}
 use Rattle.std.proofs.lemmas.List.{length-set}
@@ -144,7 +144,7 @@ move_keeps F keys g k to is passes =
       shut = λ h hh. let y = old.shut h hh in (y.0, none_still F.groups F.drives g k to is.groups passes.0 passes.1 h y.1);
     }
 
--- a drive more
+-- one more drive
 pub add_keeps : (F : Flat) (keys : ℕ → ℕ) (lost : Bool) (failures : Failures) → IsHistory F keys → F.drives < 16 → IsHistory (with_new_drive F lost failures) keys
 add_keeps F keys lost failures is room =
     let groups : GroupsStand F.groups (F.drives + 1) = record { table = is.groups.table; there = λ g k m at. let y = is.groups.there g k m at in let low = y.0 in (omega arith, y.1) } in

@@ -21,7 +21,7 @@ use Rattle.flat_machine.proofs.Rises.{few, rising_chain, rising_writes, write_to
 positive : (k : ℕ) → (k ≡ 0) ⊎ (0 < k)
 positive k = grind arith
 
--- a record in a header tells that its block has a key
+-- the block of a record in a header has a key
 header_some : (keys : ℕ → ℕ) (s : ℕ) (r : Record) → IsHeaderOf keys s r → 0 < keys r.block
 header_some keys s r is = go is.newest
   where

@@ -1,4 +1,4 @@
--- Unmaking a group keeps what is true of every state.
+-- Dissolving a group keeps what is true of every state.
 use Rattle.std.proofs.Common.{◌≡◌, ◌≢◌, ℕ, ◌/◌, ◌%◌, ◌<◌, ◌≤◌, Bool, true, false, ◌==◌, ◌&&◌, cond, nat_lt, is_some, List, length, refl, sym, ap, ◌∙◌, subst, arith, ◌⊎◌, inl, inr, Option, Some, None}
 use Rattle.std.specs.Prelude.{slice_get, unwrap_or}
 use Rattle.std.proofs.lemmas.Option.{slice_get_past}
@@ -42,7 +42,7 @@ number_within groups g some = go (cases_lt g (length groups.table))
     go (inl low) = low
     go (inr past) = absurd (some (ap (λ x. unwrap_or x None) (slice_get_past groups.table g past)))
 
--- a group fewer
+-- one group fewer
 pub groups_fewer : (groups : Groups) (drives g : ℕ) → GroupsStand groups drives → g < length groups.table → GroupsStand (with_group groups g None) drives
 groups_fewer groups drives g all within = record {
   table = record {
@@ -69,7 +69,7 @@ groups_fewer groups drives g all within = record {
         go (inl same) = absurd (no_members (with_group groups g None) h k m (ap (group_at (with_group groups g None)) same ∙ gone) at)
         go (inr ne) = members_other groups g h None ne
 
--- no number becomes one of a group
+-- a number without a group stays without one
 pub none_still : (groups : Groups) (g h : ℕ) → g < length groups.table → group_at groups h ≡ None → group_at (with_group groups g None) h ≡ None
 none_still groups g h within none = go (cases_eq h g)
   where
@@ -77,7 +77,7 @@ none_still groups g h within none = go (cases_eq h g)
     go (inl same) = ap (group_at (with_group groups g None)) same ∙ group_same groups g None within
     go (inr ne) = group_other groups g h None ne ∙ none
 
--- an index below the slots of what may be a group has a class, and only such a one has
+-- an index below the slots of an optional group has a class, and only such an index has
 class_below_some : (segments : ℕ) (o : Option Group) (i : ℕ) → nat_lt i (slots_in segments o) ≡ true → class_below segments o i ≢ None
 class_below_some segments None i low = λ e. let bad : false ≡ true = no_zero i ∙ low in cc
   where

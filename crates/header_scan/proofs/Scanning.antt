@@ -1,4 +1,4 @@
--- One slot more is gone through.
+-- One more slot is scanned.
 use Rattle.std.proofs.Common.{◌≡◌, ℕ, ◌+◌, ◌*◌, ◌/◌, ◌%◌, ◌^◌, ◌<◌, ◌≤◌, ◌⊎◌, inl, inr, Bool, true, false, Option, Some, None, List, take, refl, sym, ◌∙◌, ap, subst, arith, nat_lt, zero, suc, if◌then◌else◌}
 use Rattle.std.specs.Prelude.{◌&&◌, nat_le, Result, IfOk, IfErr}
 use Rattle.std.proofs.lemmas.Bool.Decides.{nat_tests}
@@ -65,14 +65,14 @@ within low high bytes slot r h = let is = in_between low high bytes slot h.0 h.1
 pub ranged : (low high : ℕ) (bytes : Bytes) (slot : ℕ) (r : Record) → low ≤ slot → slot < high → HasHeader bytes slot r → HasHeader (between low high bytes) slot r
 ranged low high bytes slot r l k h = (h.0, ap (λ b. if b then bytes slot else None) (is_range low high slot l k) ∙ h.1, h.2)
 
--- of a slot whose unit holds this, the header is this
+-- where the header of a slot holds a record, a look at the slot returns that record
 pub told_record : (blocks : ℕ) (bytes : Bytes) (slot : ℕ) (told : Option Record) (r : Record) → Tells blocks bytes slot told → HasHeader bytes slot r → told ≡ Some r
 told_record blocks bytes slot told r tells h =
     let same : tells.0 ≡ h.0 = same_Some _ _ (sym tells.1 ∙ h.1) in
     let spelled : Spells (take 32 h.0) tells.2.0 = subst (λ u. Spells (take 32 u) tells.2.0) same tells.2.1 in
     sym tells.2.2 ∙ ap record_in (one_header (take 32 h.0) tells.2.0 h.2.0 spelled h.2.1) ∙ h.2.2
 
--- and where it holds a record, it has that header
+-- and where a look returns a record, the header of the slot holds it
 pub told_header : (blocks : ℕ) (bytes : Bytes) (slot : ℕ) (r : Record) → Tells blocks bytes slot (Some r) → HasHeader bytes slot r
 told_header blocks bytes slot r tells = (tells.0, tells.1, (tells.2.0, tells.2.1, tells.2.2))
 

@@ -32,7 +32,7 @@ use Rattle.header_scan.specs.Restarts.{HasUnits}
 use Rattle.header_scan.specs.Stops.{ArePuts, IsMicro, IsStopped, standing}
 use Rattle.header_scan.proofs.Placing.{classed}
 
--- the writes in the first entries of a list are the first of its writes
+-- the writes in a prefix of a list are a prefix of its writes
 front_writes : (puts : List Micro) (k : ℕ) → ArePuts puts → writes_in (take k (puts ++ NoteClear ∷ [])) ≡ take k (writes_in puts)
 front_writes [] zero only = refl
 front_writes [] (suc zero) only = refl
@@ -42,7 +42,7 @@ front_writes (Write drive at unit ∷ puts) zero only = refl
 front_writes (Write drive at unit ∷ puts) (suc k) only = ap (λ ws. record { place = record { drive = drive; address = at }; unit = unit.items } ∷ ws) (front_writes puts k only)
 front_writes (NoteClear ∷ puts) k only = absurd only
 
--- and the note is there, or it was cleared behind all of them
+-- and the note is there, or it was cleared after all of them
 front_note : (note : Note) (puts : List Micro) (k : ℕ) → ArePuts puts
     → (note_after (Some note) (take k (puts ++ NoteClear ∷ [])) ≡ Some note) ⊎ (note_after (Some note) (take k (puts ++ NoteClear ∷ [])) ≡ None)
 front_note note [] zero only = inl refl
@@ -61,7 +61,7 @@ cleared_whole note (Write drive at unit ∷ puts) zero only none = absurd (none-
 cleared_whole note (Write drive at unit ∷ puts) (suc k) only none = ap (λ ws. record { place = record { drive = drive; address = at }; unit = unit.items } ∷ ws) (cleared_whole note puts k only none)
 cleared_whole note (NoteClear ∷ puts) k only none = absurd only
 
--- what may be a unit is there or isn't
+-- an optional unit is there or isn't
 none_or : (a : Option (List ℕ)) → (a ≡ None) ⊎ (a ≡ None → ⊥)
 none_or None = inl refl
 none_or (Some u) = inr (λ e. none-some u (sym e))
@@ -97,7 +97,7 @@ over_again None b u (inl same) = inr same
 over_again (Some v) b u (inl same) = inl (same ∙ ap (λ o. over o u) (sym same))
 over_again a b u (inr gone) = inr gone
 
--- a slot's unit put there leaves which slots have one
+-- a unit put at a slot that had one leaves which slots have a unit
 some_is : {X : Type 0} (o : Option X) → o ≢ None → is_some o ≡ true
 some_is None some = absurd (some refl)
 some_is (Some x) some = refl

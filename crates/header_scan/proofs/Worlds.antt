@@ -37,7 +37,7 @@ use Rattle.header_scan.proofs.Scanning.{slot_at, has_unit, within, ranged, told_
 use Rattle.header_scan.proofs.Telling.{all_units, AllFine, NoneTwice, slot_low, record_told, scan_tells}
 
 module _ (a : ArrayView) (F : Flat) (whole : IsWhole a) (shows : ShowsArray a F) where
-  -- a slot has a unit just where it is of a group
+  -- a slot has a unit exactly where it is of a group
   there : (s : ℕ) → is_some (F.units s) ≡ is_some (class_at a.parts.groups s)
   there s = (shows.history.units s).there ∙ ap is_some (class_seen a F s shows)
 

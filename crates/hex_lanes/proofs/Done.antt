@@ -55,7 +55,7 @@ pair_done k digits out first second bytes fits twice one other halves too joins 
     rw (two_chunks (2 * k) 16 16 (2 * k + 16) 32 digits refl refl, map-append value_or_more (chunk (2 * k) 16 digits) (chunk (2 * k + 16) 16 digits), one, other) refl in
     more_done k 16 digits out (first ++ second) bytes fits twice is (Each1-append IsHalf first second halves too) joins done
 
--- what a vector holds of the digits is what their values are, and half bytes
+-- a vector holds the values of the digits, and these are half bytes
 pub record IsRead (at : ℕ) (digits values : List ℕ) : Type 0 where
   pub are : values ≡ map value_or_more (chunk at 16 digits)
   pub halves : Each1 IsHalf values
@@ -91,7 +91,7 @@ none_ahead digits out = record { done = λ h. none_done digits out; seen = λ ar
 abbrev pub Tells : Bool → List ℕ → Result (List ℕ) FromHexError → Type 0
 Tells told out spelt = MatchResult spelt (λ bytes. (told ≡ true) × (out ≡ bytes)) (λ e. told ≡ false)
 
--- what aren't all digits is refused
+-- a text that isn't all digits is refused
 pub refused : (digits out : List ℕ) (n : ℕ) → (Each1 IsDigit digits → ⊥) → Tells false out (decode_sized digits n)
 refused digits out n bad = go (decode_sized digits n) refl
   where

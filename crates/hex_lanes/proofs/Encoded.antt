@@ -110,7 +110,7 @@ digits_are (byte ∷ v) rest = ap (λ (more : List ℕ). digit (byte / 16) ∷ d
 
 -- ---- so far
 
--- the first k bytes are encoded, and the digits of the rest would be all
+-- the first k bytes are encoded: their digits, and then those of the rest, are the digits of all bytes
 abbrev pub IsEncoded : ℕ → List ℕ → List ℕ → Type 0
 IsEncoded k bytes out = take (2 * k) out ++ encode_lower (drop k bytes) ≡ encode_lower bytes
 

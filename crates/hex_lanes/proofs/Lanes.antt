@@ -38,7 +38,7 @@ two_chunks (suc i) n m zero t s there all = absurd (omega (arith, there))
 two_chunks (suc i) n m (suc j) t [] there all = rw (take_nothing t, take_nothing n, take_nothing m) refl
 two_chunks (suc i) n m (suc j) t (x ∷ s) there all = two_chunks i n m j t s (omega (arith, there)) all
 
--- each part by itself
+-- each of the two parts
 pub first_chunk : (i n m j t : ℕ) (s : List ℕ) → j ≡ i + n → t ≡ n + m → j ≤ length s → take n (chunk i t s) ≡ chunk i n s
 first_chunk i n m j t s there all fits =
     let long : length (chunk i n s) ≡ n = length-chunk i n s (omega (arith, there, fits)) in

@@ -39,7 +39,7 @@ lane c = lesser (decimal c) (letter c)
 abbrev is_right : ℕ → Bool
 is_right c = cond (ltb (lane c) 16) (lane c == value_or_more c) (leb 16 (value_or_more c))
 
--- the lanes of all bytes below n are right
+-- the lanes of all bytes below n are correct
 abbrev all_right : ℕ → Bool
 all_right zero = true
 all_right (suc n) = is_right n && all_right n
@@ -117,7 +117,7 @@ digits_have_values n v e fits h = subst (λ s. Each1 IsHalf s) (sym (lanes_are n
 abbrev not_below : ℕ → ℕ → ℕ
 not_below a b = cond (leb a b) 255 0
 
--- the lanes that are none
+-- the lanes that aren't half bytes
 abbrev pub others : ℕ → List ℕ → List Bool
 others n v = map (top 7) (zip2 not_below (replicate n 16) v)
 

@@ -1,4 +1,4 @@
--- Pages in order, met one after the other: those in front, one more, and the rest.
+-- Pages in order, met one after the other: those before a page, the page, and the rest.
 use Rattle.std.proofs.Common.{◌≡◌, ℕ, ◌/◌, ◌%◌, ◌<◌, ◌≤◌, max, [], ◌∷◌, ◌++◌, slice_index, refl, sym, ap, ◌∙◌, subst, arith, append_assoc, Option, Some, None, ◌⊎◌, inl, inr, Less, Bor}
 use Rattle.std.proofs.lemmas.Bool.{cases_eq}
 use Rattle.std.proofs.lemmas.Bool.Decides.{nat_tests}
@@ -60,7 +60,7 @@ behind (e ∷ front) es number none =
     go (inl same) later = absurd (none_some (sym none ∙ found e front number same))
     go (inr ne) later = passed e (front ++ es) number ne ∙ later ne
 
--- nothing is after it: what is found is in the prefix
+-- where the rest doesn't have the number, what is found is what the prefix has
 only_front : (front es : Entries) (number : ℕ) → find es number ≡ None → find (front ++ es) number ≡ find front number
 only_front front es number none = go (find front number) refl
   where
@@ -68,7 +68,7 @@ only_front front es number none = go (find front number) refl
     go None e = behind front es number e ∙ none ∙ sym e
     go (Some keys) e = in_front front es number keys e ∙ sym e
 
--- in order, the pages in front of one have lower numbers, and those after it higher ones
+-- in order, the pages before one have lower numbers, and those after it higher ones
 reaches : (P : ℕ → Type 0) (front : Entries) (e : ℕ × Lanes) (rest : Entries) → AllByRecursion P (keys_of (front ++ e ∷ rest)) → P e.0
 reaches P [] e rest all = all.0
 reaches P (x ∷ front) e rest all = reaches P front e rest all.1
@@ -110,11 +110,11 @@ module _ (es front : Entries) (number : ℕ) (keys : Lanes) (rest : Entries) (me
       ap (λ (xs : Entries). find xs number) (sym met.parts) ∙ behind front ((number, keys) ∷ rest) number (none_front number (omega arith))
       ∙ found (number, keys) rest number refl
 
-  -- no block from the page on is in front
+  -- the pages before this one have no block from it on
   pub unmet : (b : ℕ) → number ≤ b / 64 → at front b ≡ 0
   unmet b le = at_is front b ∙ ap (λ o. lanes_of o (b % 64)) (none_front (b / 64) le)
 
-  -- each block of a lower page is in front, if it is anywhere
+  -- each block of a lower page has the key that the pages before this one have
   pub met_below : (b : ℕ) → b / 64 < number → at es b ≡ at front b
   met_below b lt =
       let none : find ((number, keys) ∷ rest) (b / 64) ≡ None =
@@ -126,7 +126,7 @@ module _ (es front : Entries) (number : ℕ) (keys : Lanes) (rest : Entries) (me
   pub met_at : (b : ℕ) → b / 64 ≡ number → at es b ≡ slice_index keys (b % 64)
   met_at b is = at_is es b ∙ ap (λ n. lanes_of (find es n) (b % 64)) is ∙ ap (λ o. lanes_of o (b % 64)) met_page
 
-  -- with it in front, what is in front has one page more
+  -- with this page added, the prefix has one page more
   pub met_more : (front ++ (number, keys) ∷ []) ++ rest ≡ es
   met_more = append_assoc front ((number, keys) ∷ []) rest ∙ met.parts
 

@@ -131,7 +131,7 @@ module _ (es front : Entries) (number : ℕ) (keys : Lanes) (rest : Entries) (me
   pub page_of : IsPageOf (at es) number keys
   page_of lane lt = at_lane es number lane lt ∙ ap (λ o. lanes_of o lane) (met_page es front number keys rest met)
 
-  -- what is listed of the pages in front are the records of the lower blocks
+  -- the list of the pages before this one is that of the records of the lower blocks
   pub list_start : (xs : List Record) → IsListOf (at front) xs → IsListBelow (64 * number) (at es) xs
   list_start xs h = record { rising = h.rising; each = λ r. ((λ c. to r ((h.each r).0 c)), (λ w. from r w.0 w.1)) }
     where
@@ -148,7 +148,7 @@ module _ (es front : Entries) (number : ℕ) (keys : Lanes) (rest : Entries) (me
       from : (r : Record) → r.block < 64 * number → record_at r.block (at es r.block) ≡ Some r → Contains xs r
       from r lt is = (h.each r).1 (ap (record_at r.block) (sym (met_below es front number keys rest met r.block (omega arith))) ∙ is)
 
-  -- with the page's own records they are those of the pages up to it
+  -- with the page's own records it is the list of the pages up to it
   pub list_end : (xs : List Record) → IsListBelow (64 * number + 64) (at es) xs → IsListOf (at (front ++ (number, keys) ∷ [])) xs
   list_end xs h = record { rising = h.rising; each = λ r. ((λ c. let e = (h.each r).0 c in to r e.0 e.1), (λ w. from r w)) }
     where

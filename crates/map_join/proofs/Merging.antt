@@ -26,7 +26,7 @@ module _ (es front : Entries) (number : ℕ) (keys : Lanes) (rest : Entries) (me
       let f = front_more es front number keys rest met b in
       grind arith
 
-  -- or there is no memory for it, and the join stops in front of its first key
+  -- or there is no memory for it, and the join stops before its first key
   stopped : (M now : ℕ → ℕ) (lane : ℕ) → IsFirstKey keys lane → IsSame now (join M (at front)) → now (64 * number + lane) ≡ 0
       → IsJoinedBelow (64 * number + lane) M (at es) now
   stopped M now lane first before none = record { below = below; rest = other; missing = missing; there = there }
@@ -187,12 +187,12 @@ copied_map (Err _) was es now none same = tt
 copied_map (Ok e) was es now none same = λ ours theirs our_map their_map.
     together ours theirs (at was) (at es) (at now) (copied_join (Ok e) was es now none same) our_map their_map
 
--- a map that was refused for memory has not all blocks of the other
+-- a join runs out of memory only where the map lacks a block of the other
 pub partly_where : (result : Answer) (M N now : ℕ → ℕ) → OnErr result (IsPartlyJoined M N now) → ((block : ℕ) → 0 < N block → 0 < M block) → IsOk result
 partly_where (Ok _) M N now stop all = refl
 partly_where (Err _) M N now stop all = stopped_where stop.0 M N now stop.1 all
 
--- what was joined in part comes to the same join
+-- what was joined in part, joined once more, is the whole join
 pub partly_again : (result : Answer) (M N now : ℕ → ℕ) → OnErr result (IsPartlyJoined M N now) → OnErr result (IsSame (join now N) (join M N))
 partly_again (Ok _) M N now stop = tt
 partly_again (Err _) M N now stop = completed stop.0 M N now stop.1

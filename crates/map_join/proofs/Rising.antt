@@ -1,4 +1,4 @@
--- Ascending lists of exactly the numbers that are so: made one by one, and compared.
+-- Ascending lists of exactly the numbers with a property: made one by one, and compared.
 use Rattle.std.proofs.Common.{◌≡◌, ◌∙◌, ◌⊎◌, inl, inr, ℕ, ◌+◌, ◌<◌, ◌≤◌, true, List, [], ◌∷◌, ◌++◌, length, get_or, ap, subst, arith, Contains}
 use Rattle.std.specs.List.Sorted.{IsStrictlyIncreasing}
 use Rattle.std.proofs.lemmas.Bool.{cases_lt, cases_eq}
@@ -34,7 +34,7 @@ module _ (P : ℕ → Type 0) where
     each = λ n. ((λ c. absurd (omega (arith, c.1))), (λ h. absurd (none n h.0 h.1)));
   }
 
-  -- none of the numbers up to another bound is so
+  -- none of the numbers up to another bound has the property
   pub below_skip : (a b : ℕ) (xs : List ℕ) → a ≤ b → ((n : ℕ) → a ≤ n → n < b → P n → ⊥) → ListsBelow P a xs → ListsBelow P b xs
   below_skip a b xs le none h = record {
     rising = h.rising;
@@ -45,7 +45,7 @@ module _ (P : ℕ → Type 0) where
       by n l p (inl m) = m
       by n l p (inr m) = absurd (none n m l p)
 
-  -- the bound is so, and is pushed
+  -- the bound has the property, and is pushed
   pub below_more : (a : ℕ) (xs : List ℕ) → P a → ListsBelow P a xs → ListsBelow P (a + 1) (xs ++ a ∷ [])
   below_more a xs p h = record {
     rising = rising_push xs a h.rising (λ n c. ((h.each n).0 c).0);
@@ -60,25 +60,25 @@ module _ (P : ℕ → Type 0) where
       from n l q (inl e) = subst (Contains (xs ++ a ∷ [])) e (Contains-push xs a)
       from n l q (inr ne) = Contains-append_left xs (a ∷ []) n ((h.each n).1 (omega (arith, l, ne), q))
 
-  -- every number that is so is below the bound
+  -- every number with the property is below the bound
   pub below_all : (b : ℕ) (xs : List ℕ) → ((n : ℕ) → P n → n < b) → ListsBelow P b xs → Lists P xs
   below_all b xs low h = record {
     rising = h.rising;
     each = λ n. ((λ c. ((h.each n).0 c).1), (λ p. (h.each n).1 (low n p, p)));
   }
 
--- a list of the one is a list of the other, where the same numbers are so
+-- a list for one property is a list for the other, where both hold of the same numbers
 pub lists_same : (P Q : ℕ → Type 0) (xs : List ℕ) → ((n : ℕ) → P n → Q n) → ((n : ℕ) → Q n → P n) → Lists P xs → Lists Q xs
 lists_same P Q xs to from h = record {
   rising = h.rising;
   each = λ n. ((λ c. to n ((h.each n).0 c)), (λ q. (h.each n).1 (from n q)));
 }
 
--- and as many of the one are so as of the other
+-- and a count for one is a count for the other
 pub count_same : (P Q : ℕ → Type 0) (count : ℕ) → ((n : ℕ) → P n → Q n) → ((n : ℕ) → Q n → P n) → IsCount P count → IsCount Q count
 count_same P Q count to from h = (h.0, lists_same P Q h.0 to from h.1, h.2)
 
--- numbers that are compared as equal are one
+-- two numbers compare as equal exactly where they are one
 is_one : (a b : ℕ) → Decides (eq_by_cmp nat_cmp a b) (a ≡ b)
 is_one a b = (to, from)
   where
@@ -88,7 +88,7 @@ is_one a b = (to, from)
     from : a ≡ b → eq_by_cmp nat_cmp a b ≡ true
     from e = grind (arith, nat_tests)
 
--- no list of what is so is longer than another
+-- no list of the numbers with a property is longer than another
 no_longer : (P : ℕ → Type 0) (xs ys : List ℕ) → Lists P xs → Lists P ys → length xs ≤ length ys
 no_longer P xs ys h k =
     length-le_from_is_member (eq_by_cmp_equiv nat_cmp_total) xs ys (IsDistinct-from_sorted nat_cmp xs (sorted_from_strictly_increasing xs h.rising))
@@ -98,7 +98,7 @@ no_longer P xs ys h k =
 pub count_once : (P : ℕ → Type 0) (m n : ℕ) → IsCount P m → IsCount P n → m ≡ n
 count_once P m n h k = omega (arith, no_longer P h.0 k.0 h.1 k.1, no_longer P k.0 h.0 k.1 h.1, h.2, k.2)
 
--- it is 0 exactly where nothing is so
+-- it is 0 exactly where no number has the property
 pub count_zero : (P : ℕ → Type 0) → IsCount P 0 → (n : ℕ) → P n → ⊥
 count_zero P h n p = let has = (h.1.each n).1 p in absurd (omega (arith, has.1, h.2))
 
@@ -109,7 +109,7 @@ count_none P count h none = by (cases_lt 0 (length h.0))
     by (inl l) = absurd (none (get_or h.0 0 0) ((h.1.each (get_or h.0 0 0)).0 (Contains-get_or h.0 0 0 l)))
     by (inr l) = omega (arith, h.2)
 
--- where it is more, something is so
+-- where it is above 0, some number has the property
 pub count_some : (P : ℕ → Type 0) (count : ℕ) → IsCount P count → 0 < count → (n : ℕ) × P n
 count_some P count h some =
     let l : 0 < length h.0 = omega (arith, h.2) in

@@ -93,7 +93,7 @@ stepped n ws vs xs e rule within spent more inside now finds_it rises keeps take
         (λ (same : block ≡ e.block). subst (λ (b : ℕ). word ws b ≤ word us b) (sym same) (subst (λ (k : ℕ). word ws e.block ≤ k) (sym written) (subst (λ (k : ℕ). k ≤ e.left) finds_it rises)))
         (λ (ne : block ≢ e.block). subst (λ (k : ℕ). word ws block ≤ k) (sym (unmoved block ne)) (le_refl (word ws block)))
 
-    -- what was left before some time up to now is so still
+    -- what was left before a time up to now is left before it still
     lasting : (block time key : ℕ) → time ≤ steps vs → IsLeft (FoundBy vs) block time key → IsLeft (FoundBy xs) block time key
     lasting block time key past is = record {
       told = λ above. let t = is.told above in (t.0, notes t.0 t.1, t.2, t.3, t.4);

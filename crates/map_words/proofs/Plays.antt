@@ -48,7 +48,7 @@ told_by n ws vs block rule inside above =
 is_key : (n : ℕ) (ws : List ℕ) (vs : List View) (block : ℕ) → TakeRule n ws vs → block < n → IsKeyOrNone (word ws block)
 is_key n ws vs block rule small above = let t = told_by n ws vs block rule small above in told_key block (word ws block) t.0 t.2
 
--- a find: the word that was found is noted
+-- a call of `find`: the word that was found is noted
 pub sees : {S : Type 0} (n slots id block : ℕ) (me : Me S View) → block < n → 0 < me.0.share → me.1 ≡ []
     → Allows (λ (s : State S View). TakeRule n s.words s.views) slots id me (word_of block) (λ m. m) (Saw {S = S} (step slots (word_of block) 0 0 none) me)
 sees {S} n slots id block me inside live away s rule homes here fits = (
@@ -75,7 +75,7 @@ sees {S} n slots id block me inside live away s rule homes here fits = (
         subst (λ (c : ℕ). IsNewest me.0 c old × IsKeyOrNone old × HasFound me.0 c old after × (me.1 ≡ [])) same
         (newest n s.words s.views id me.0 block rule here inside, is_key n s.words s.views block rule inside, (steps s.views, refl), away)
 
--- a take: the word becomes the greater of itself and the record's key
+-- a call of `take`: the word becomes the greater of itself and the record's key
 pub takes : {S : Type 0} (n slots id : ℕ) (r : Record) (me : Me S View) → IsRecord r → r.block < n → 0 < me.0.share → me.1 ≡ []
     → Allows (λ (s : State S View). TakeRule n s.words s.views) slots id me (word_of r.block) (λ m. max m (key_of r)) (Took {S = S} (step slots (word_of r.block) (key_of r) 0 none) me)
 takes {S} n slots id r me is inside live away s rule homes here fits = (

@@ -86,7 +86,7 @@ count_blocks n ns ts len t = let most = at_most in let least = at_least in omega
 pub count_order : (n : ℕ) (ns ts : List ℕ) (len : ℕ) (order : Order) → AreTurns n ns ts len → record { blocks = n; kept = take len ns } ≡ order → length (in_order order) ≡ n
 count_order n ns ts len order t view = ap (λ o. length (in_order o)) (sym view) ∙ count_blocks n ns ts len t
 
--- so much is kept
+-- the order keeps `len` numbers
 pub count_kept : (n : ℕ) (ns ts : List ℕ) (len : ℕ) (order : Order) → AreTurns n ns ts len → record { blocks = n; kept = take len ns } ≡ order → length order.kept ≡ len
 count_kept n ns ts len order t view = ap (λ o. length o.kept) (sym view) ∙ length-take-le len ns (omega (arith, t.room, t.within))
 
@@ -190,7 +190,7 @@ module _ (n b len : ℕ) (ns ts : List ℕ) (t : AreTurns n ns ts len) (low : b 
           let read = get_or-take (len + 1) numbers k 0 (omega (arith, here)) in
           read ∙ other k (λ e. omega (arith, here, e)) (not_left k (omega (arith, read, lo))) ∙ sym (get_or-take len ns k 0 here)
 
--- the same in the words of an order, of which these are the tables
+-- the same, stated over an order whose tables these are
 module _ (n b len : ℕ) (ns ts : List ℕ) (t : AreTurns n ns ts len) (order : Order) (view : record { blocks = n; kept = take len ns } ≡ order)
     (listed : b < length (in_order order)) (room : length order.kept < 2 * length (in_order order)) (from : ℕ) (is : from ≡ get_or ts b from) where
   low : b < n

@@ -133,7 +133,7 @@ module _ (row : List Place) (p i : ℕ) (home parity : Place) (u s : List ℕ) (
   both_lost new lost also =
       both_missing (length u) (length row) i p (row_of new row) h.whole.1 (λ e. h.whole.2 (sym e)) (ap (held_in new) h.home_is ∙ lost) (ap (held_in new) h.parity_is ∙ also)
 
-  -- and the unit can't be had, but where its drive was lost in a write by difference
+  -- and the slot has no effective unit, unless the write was by difference
   way_none : (c new : Cells) (way : Way) → way ≢ Both → IsDraft (length u) c row p i home parity u s way → IsCarried c new home parity u s way false
       → unit_at (length u) new (InStripe row p i) ≡ None
   way_none c new Both ne draft did = absurd (ne refl)

@@ -15,7 +15,7 @@ use Rattle.extent_groups.proofs.Fronts.{have_fronts, keeps_fronts}
 use Rattle.extent_groups.proofs.Sites.{row_places}
 use Rattle.parity_store.specs.Ways.{row_at, IsLaid, IsReadable}
 
--- the stripes of a group of few members
+-- the stripes of a group of at most 8 members can be read and written
 pub laid : {D : Type 0} (units : D → List (List ℕ)) (groups : Groups) (drives : List D) (group offset bytes : ℕ) → AreDrives units groups drives → bytes ≡ unit_bytes groups
     → (offset < extent_units groups.segments) × (length (members_of groups group) ≤ 8) → IsLaid units groups group offset bytes drives
 laid units groups drives group offset bytes are same inside = record {
@@ -35,7 +35,7 @@ still_laid {units = units} {b = b} keeps same h = record {
   size = subst (λ n. AreSized units n b) (sym same) (keeps_sizes keeps h.size);
 }
 
--- so many first bytes of stripes of a group of few members
+-- the first `count` bytes of the stripes of a group of at most 8 members can be read
 pub readable : {D : Type 0} (units : D → List (List ℕ)) (groups : Groups) (drives : List D) (group offset count : ℕ) → AreDrives units groups drives → count ≤ unit_bytes groups
     → (offset < extent_units groups.segments) × (length (members_of groups group) ≤ 8) → IsReadable units groups group offset count drives
 readable units groups drives group offset count are short inside = record {

@@ -1,4 +1,4 @@
--- Bytes of which the first so many are the exclusive or already.
+-- Bytes of which the first i are the exclusive or already.
 use Rattle.std.proofs.Common.{◌≡◌, ℕ, zero, suc, ◌+◌, ◌<◌, ◌≤◌, List, [], ◌∷◌, length, refl, sym, ◌∙◌, ap, arith, get_or, set, take}
 use Rattle.std.specs.Prelude.{bit_xor}
 use Rattle.std.specs.Simd.Lanes.{zip2, chunk, put_chunk}

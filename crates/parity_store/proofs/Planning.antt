@@ -106,7 +106,7 @@ module _ (groups : Groups) (c : Cells) (slot : ℕ) (row : List Place) (p i : �
       planned_site groups c slot (InStripe row p i) u wanted ws layout at ((λ v has. absurd (none_in v has)), tt)
       (λ w has. own_of w (inl (among_one (for_place home u) w has))) (all_two ws one (two ∙ sym (ap (λ o. over o s) gone))) left.0 left.1
 
-  -- the parity alone, where the unit's drive is lost and all others were had
+  -- the parity alone, where the unit's drive is lost and all others were read
   pub planned_parity : (q rest : List ℕ) → held c home ≡ None → held c parity ≡ Some q
       → total (unit_bytes groups) (length row) (bare (unit_bytes groups) (row_of c row) i p) ≡ Some rest → s ≡ plus u rest
       → IsPlanned groups c slot u wanted (for_place parity s ∷ [])

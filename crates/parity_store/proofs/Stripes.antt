@@ -66,7 +66,7 @@ differs_leaves c new row p i home parity u h sized sound d =
     stripe_leaves (length u) c new row p i u sized (differs_row c new row p i home parity u h d) sound
     (λ x never. let both = not_own row p i home parity x h never in d.beside x both.0 both.1)
 
--- what is gone stays gone
+-- a unit that is lost stays lost
 pub stays_gone : (a b : Option (List ℕ)) → Fades a b → a ≡ None → b ≡ None
 stays_gone a b (inl same) e = same ∙ e
 stays_gone a b (inr gone) e = gone
@@ -98,7 +98,7 @@ parity_leaves c two new row p i home parity u h sized sound fades gone w =
     stripe_leaves (length u) c new row p i u sized (parity_row c two new row p i home parity u h sized fades gone w) sound
     (λ x never. fades_trans (held c x) (held two x) (held new x) (fades x) (w.beside x (λ e. never (inr e))))
 
--- a unit of which the drive is lost, had from all others
+-- a unit whose drive is lost: rebuilt from all others, or not there
 pub rebuilt : (n : ℕ) (c one two : Cells) (row : List Place) (p i : ℕ) (home : Place) (u v : List ℕ) (ok : Bool) → i < length row → slice_get row i ≡ Some home → DidRead c one home u false
     → MatchBool ok (Added n one two row i i (replicate n 0) v) (Missed one two row i i)
     → unit_at n two (InStripe row p i) ≡ if_ok ok v

@@ -42,7 +42,7 @@ bare_same n r s i p k e = elim (same_or_not k p) [
   ]
 ]
 
--- a member that is passed over adds nothing
+-- a member that is skipped adds nothing
 pub passed_first : (c : Cells) (row : List Place) (i p k : ℕ) (s : List ℕ) → k ≡ i → AddedOne (length s) c c row i p k s s
 passed_first c row i p k s e = record {
   same = λ x. refl;
@@ -90,7 +90,7 @@ missed_after c now new row i p same missed = record {
   missing = missed.missing;
 }
 
--- a sum of all others is that of the rest
+-- where a unit and a rest have a sum, the rest exists and the sum is that of both
 sum_of : (u s : List ℕ) (rest : Option (List ℕ)) → add (Some u) rest ≡ Some s → (x : List ℕ) × (rest ≡ Some x) × (s ≡ plus u x)
 sum_of u s None e = absurd (none-some s e)
 sum_of u s (Some x) e = (x, refl, sym (same_Some _ _ e))
@@ -98,14 +98,14 @@ sum_of u s (Some x) e = (x, refl, sym (same_Some _ _ e))
 pub sum_is : (n m : ℕ) (r : Row) (i p : ℕ) (u s : List ℕ) → add (Some u) (total n m (bare n r i p)) ≡ Some s → (x : List ℕ) × (total n m (bare n r i p) ≡ Some x) × (s ≡ plus u x)
 sum_is n m r i p u s e = sum_of u s (total n m (bare n r i p)) e
 
--- one member passed over
+-- one member skipped
 pub others_bare : (n m : ℕ) (r : Row) (i : ℕ) → total n m (bare n r i i) ≡ others n m r i
 others_bare n m r i = total_same n m (bare n r i i) (put r i (Some (replicate n 0))) (λ k low. elim (same_or_not k i) [
   | inl e ↦ ap (bare n r i i) e ∙ bare_first n r i i ∙ sym (put_same r i _) ∙ ap (put r i (Some (replicate n 0))) (sym e)
   | inr ne ↦ bare_other n r i i k ne ne ∙ sym (put_other r i k _ ne)
 ])
 
--- zeros and all others
+-- the sum of zeros and all others is that of all others
 pub sum_of_others : (n m : ℕ) (r : Row) (i : ℕ) (s : List ℕ) → add (Some (replicate n 0)) (total n m (bare n r i i)) ≡ Some s → others n m r i ≡ Some s
 sum_of_others n m r i s e =
     sym (others_bare n m r i) ∙ sym (add-zeros n (total n m (bare n r i i)) (length-total n m (bare n r i i))) ∙ e

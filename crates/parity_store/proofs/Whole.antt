@@ -1,4 +1,4 @@
--- Sums of as many first bytes as units have are sums of units; and a count of bytes by another name.
+-- Sums of prefixes as long as the units are sums of units; and a length of prefixes replaced by an equal one.
 use Rattle.std.proofs.Common.{◌≡◌, ℕ, inl, inr, Bool, true, false, Some, List, length, sym, ◌∙◌, ap, subst}
 use Rattle.std.specs.Bool.{MatchBool}
 use Rattle.extent_groups.specs.declared.place.Place.{Place}
@@ -10,12 +10,12 @@ use Rattle.extent_groups.proofs.Totals.{total_same}
 use Rattle.parity_store.specs.Ways.{bare, Added, AddedOne, Missed}
 use Rattle.parity_store.proofs.Sums.{row_same, bare_same}
 
--- a read of as many bytes
+-- a read of prefixes, by an equal length
 pub as_far : {D : Type 0} (units : D → List (List ℕ)) (lost : D → Bool) (old new : List D) (m n : ℕ) (p : Place) (u : List ℕ) (ok : Bool) → m ≡ n
     → DidRead (cells (front_units m units) lost old) (cells (front_units m units) lost new) p u ok → DidRead (cells (front_units n units) lost old) (cells (front_units n units) lost new) p u ok
 as_far units lost old new m n p u ok same read = subst (λ k. DidRead (cells (front_units k units) lost old) (cells (front_units k units) lost new) p u ok) same read
 
--- a sum of as many
+-- a sum of prefixes, by an equal length
 pub one_as_far : {D : Type 0} (units : D → List (List ℕ)) (lost : D → Bool) (old new : List D) (m n : ℕ) (row : List Place) (i p k : ℕ) (s t : List ℕ) → m ≡ n
     → AddedOne m (cells (front_units m units) lost old) (cells (front_units m units) lost new) row i p k s t
     → AddedOne n (cells (front_units n units) lost old) (cells (front_units n units) lost new) row i p k s t

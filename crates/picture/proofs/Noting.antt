@@ -10,7 +10,7 @@ use Rattle.map_join.proofs.Listing.{key_told}
 use Rattle.extent_groups.proofs.Places.{get-set_same, get-set_other, same_or_not}
 use Rattle.picture.specs.Blocks.{block_in, AreBlocksOf, IsNoted}
 
--- a table of none
+-- a table without blocks has none at any slot
 blank : (n slot : ℕ) → block_in (replicate n None) slot ≡ None
 blank zero slot = refl
 blank (suc n) zero = refl

@@ -12,7 +12,7 @@ use Rattle.extent_groups.specs.Groups.{Groups, Agree, IsMove, members_of}
 use Rattle.extent_groups.proofs.Places.{get-set_other}
 use Rattle.rebalancer.specs.Balancing.{sum_of_squares}
 
--- two sums of squares that differ by one load each, the greater less one and the lesser and one more
+-- two sums of squares that differ in one load each: the greater load less one, and the lesser load plus one
 falls_by_two : (all between after more less one other : ℕ) → one + 1 ≡ more → other ≡ less + 1 → less + 2 ≤ more
     → between + more * more ≡ all + one * one → after + less * less ≡ between + other * other → after + 2 ≤ all
 falls_by_two all between after more less one other giver taker uneven first second =
@@ -72,7 +72,7 @@ shifted o d e x y g giver taker apart inside owned within free uneven =
 owned_at : (row : List (Option ℕ)) (e g : ℕ) → e < length row → unwrap_or (slice_get row e) None ≡ Some g → is_some (get_or row e None) ≡ true
 owned_at row e g within owned = ap is_some (sym (ap (λ o. unwrap_or o None) (slice_get-get_or row e None within)) ∙ owned)
 
--- what is no owner
+-- an optional owner that is none isn't some
 is_free : (o : Option ℕ) → is_none o ≡ true → is_some o ≡ false
 is_free None h = refl
 is_free (Some g) h = absurd (false≢true h)
@@ -83,7 +83,7 @@ member_at members drive k m at is =
     let first = position-Some (λ (m : Member). m.drive == drive) members k m at in
     eqb-true m.drive drive (ap (λ (n : Member). n.drive == drive) (sym (get_or_from_slice_get members k m m is)) ∙ first.1)
 
--- a shift evens the loads out
+-- a shift lowers the sum of the squares of the loads by at least two
 pub evens : (o after : Owners) (groups : Groups) (from k g : ℕ) (to : Member) → Agree groups o
     → position (λ m. m.drive == from) (members_of groups g) ≡ Some k → lowest_free_of o to.drive ≡ Some to.extent
     → to.drive < length o.rows → load_of o to.drive + 2 ≤ load_of o from

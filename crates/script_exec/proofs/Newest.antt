@@ -49,7 +49,7 @@ none_more M b records none listed = record {
     below r l e (inl low) = listed.each r low e
     below r l e (inr high) = absurd (other r.block r (omega (arith, l, high)) e)
 
--- a block with one, which is pushed
+-- a block with a record, which is pushed
 pub one_more : (M : ℕ → ℕ) (b : ℕ) (records : List Record) (r : Record) → record_at b (M b) ≡ Some r → AreListed M b records → AreListed M (b + 1) (records ++ r ∷ [])
 one_more M b records r is listed = record {
   blocks = subst (ListsBelow (HasRecord M) (b + 1)) (sym pushed) (below_more (HasRecord M) b (blocks_of records) (r, is) listed.blocks);
@@ -77,7 +77,7 @@ one_more M b records r is listed = record {
         let same : r ≡ q = same_Some r q (sym is ∙ subst (λ n. record_at n (M n) ≡ Some q) (sym at) e) in
         subst (Contains (records ++ r ∷ [])) same (Contains-push records r)
 
--- no block from the bound on has one
+-- no block from the bound on has a record
 pub all_listed : (M : ℕ → ℕ) (bound : ℕ) (records : List Record) → ((b : ℕ) → bound ≤ b → record_at b (M b) ≡ None) → AreListed M bound records → IsListOf M records
 all_listed M bound records none listed = record {
   rising = listed.blocks.rising;

@@ -59,7 +59,7 @@ one_order a b verbs values behinds =
 
 -- ---- the parts of a spelled command
 
--- as many numbers of the same digits are the same
+-- two lists of numbers with the same length and the same digits are equal
 one_numbers : (ns ms : List ℕ) (back rest : List (List ℕ)) → AllByRecursion IsWritable ns → AllByRecursion IsWritable ms
     → length ns ≡ length ms → map decimal ns ++ back ≡ map decimal ms ++ rest → ns ≡ ms
 one_numbers [] [] back rest short too same e = refl

@@ -28,7 +28,7 @@ of_write _ ws is = tt
 pub spelled_written : (order : Order) (line : List ℕ) → Spells order line → IsWritten order
 spelled_written order line s = of_write (behind_of order) s.follows.rest s.follows.behind
 
--- a line that spells none of them says none
+-- a line that can't be read as a command says none
 pub unsaid : (P : Position) (size : ℕ) (line out : List ℕ) → P.tiers.flat.groups.payload ≡ size
     → ((order : Order) → IsRead size line order → ⊥) → IsUnsaid (Some P) line out out
 unsaid P size line out e none = record {
@@ -36,21 +36,21 @@ unsaid P size line out e none = record {
   out = refl;
 }
 
--- after the first command no array is said
+-- after the first command a line that spells `array` says no command
 pub again : (P : Position) (line out : List ℕ) (order : Order) → Spells order line → verb_of order ≡ verb.Array → IsUnsaid (Some P) line out out
 again P line out order spells asked = record {
   none = λ other said. said.due.0 (line_verb line other order said.spells spells ∙ asked);
   out = refl;
 }
 
--- before the first command only an array is
+-- before the first command a line that spells a command other than `array` says none
 pub no_first : (line out : List ℕ) (order : Order) → Spells order line → (verb_of order ≡ verb.Array → ⊥) → IsUnsaid None line out out
 no_first line out order spells other = record {
   none = λ first said. other (line_verb line order first spells said.spells ∙ said.due);
   out = refl;
 }
 
--- an array has no payload
+-- where nothing follows the numbers there is no payload of a wrong length
 nothing_sized : (size : ℕ) (behind : Behind) → kind_behind behind ≡ tail.Nothing → IsLong size behind
 nothing_sized size (Content payload) is = cc is
 nothing_sized size _ is = tt
@@ -70,7 +70,7 @@ pub buffer_size : (P : Position) (size : ℕ) (buffer : List ℕ) → P.tiers.fl
     → P.tiers.flat.groups.payload ≡ length (take size buffer)
 buffer_size P size buffer e room = omega (arith, length-take size buffer)
 
--- an order that isn't the array's has no rule of its own
+-- every command other than `array` is fit
 fit_later : (order : Order) → (verb_of order ≡ verb.Array → ⊥) → IsFit order
 fit_later (o.Array drives extents segments payload blocks) other = absurd (other refl)
 fit_later _ other = tt

@@ -87,7 +87,7 @@ pub on_fault : {E : Type 0} (r : Result (Unit {0}) E) (before : Bench) (after : 
 on_fault (Ok u) before after found old new other tells out = scan_fault before after found old new other tells out
 on_fault (Err e) before after found old new other tells out = tt
 
--- and in place of a restart
+-- a fault that was reported in place of a restart
 pub restart_fault : (before : Bench) (after : WorldView) (found : ScanFault) (old new : List ℕ) → found ≢ fault.Memory
     → IsToldOf before.tiers.world after found → new ≡ old ++ fault_text found
     → Carries before (with_world before after) o.Restart old new

@@ -21,7 +21,7 @@ rest_read (Err e) old mid new chunk rest along taken = tt
 abbrev pub room : ℕ → ℕ
 room n = (most_lines + 1 - n) * (most_bytes + 1)
 
--- the open line was answered: one more is, with its end
+-- once the open line was answered with its end, at least one byte less may come
 pub open_answered : (old : Script) (line middle left now : List ℕ) (next : ℕ) → IsScript old → line ≡ old.line.items
     → length middle ≡ 0 → length left ≡ 0 → length now ≡ 0
     → room next - length left + (length line + 1) ≤ room old.number - length middle → room next - length now + 1 ≤ most_left old

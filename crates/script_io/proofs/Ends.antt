@@ -119,7 +119,7 @@ join_parts xs ys zs old state mid new held wrote now a b = record {
   leads = leads_more old.number state a.whole a.bytes mid.number a.next b.whole b.bytes new.number b.next a.leads b.leads;
 }
 
--- a part that is written after bytes that are
+-- bytes that were written, and then a part of others, are a part of both together
 part_behind : (held wrote now : Option (List ℕ)) (first second : List ℕ) → Appends held wrote first → IsPartWritten wrote now second
     → IsPartWritten held now (first ++ second)
 part_behind held wrote now first second appended part = record {

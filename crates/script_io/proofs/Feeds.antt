@@ -15,11 +15,11 @@ use Rattle.script_io.specs.declared.stop.Stop.TheVariants as stop
 use Rattle.script_exec.specs.declared.why.Why.{Why}
 use Rattle.script_io.proofs.Opens.{count_more, open_front, cut_line, last_line, lines_more, text_join, text_more}
 
--- no line leads nowhere
+-- no lines lead to no answer and the same state
 pub leads_none : (n : ℕ) (state : State) → Leads n state [] [] n state
 leads_none n state = λ more told last rest. rest
 
--- lines after lines
+-- lines after lines lead where the second ones lead, with the answers of both
 pub leads_more : (n : ℕ) (state : State) (first out : List ℕ) (m : ℕ) (mid : State) (second told : List ℕ) (k : ℕ) (next : State)
     → Leads n state first out m mid → Leads m mid second told k next → Leads n state (first ++ second) (out ++ told) k next
 leads_more n state first out m mid second told k next one two = λ more later last rest.
@@ -32,7 +32,7 @@ pub leads_left : (n : ℕ) (state : State) (text whole out : List ℕ) (m : ℕ)
 leads_left n state text whole out m next rest told last leads is left =
     let P : List ℕ → Type 0 = λ t. Tells n state (lines_of t) (out ++ told) last in subst P (sym is) (leads rest told last left)
 
--- more after a text of which the prefix is answered
+-- an answered prefix of a text is also one of the text with more after it
 pub cut_more : (n : ℕ) (state : State) (text out more : List ℕ) → IsCut n state text out → IsCut n state (text ++ more) out
 cut_more n state text out more cut = record {
   whole = cut.whole;
@@ -109,7 +109,7 @@ along_stopped old state mid new chunk part rest a b = record {
       (b.told (rest ++ more));
 }
 
--- no memory in the next part
+-- out of memory in the next part
 along_short : (old : Script) (state : State) (mid new : Script) (chunk part rest : List ℕ)
     (a : IsAlong old state mid chunk (part ++ rest)) → IsUnfinished mid a.next new part → IsUnfinished old state new chunk
 along_short old state mid new chunk part rest a b = record {
@@ -122,7 +122,7 @@ along_short old state mid new chunk part rest a b = record {
       a.lines a.leads (a.text_is ∙ ap (λ xs. a.whole ++ xs) (sym (append_assoc mid.line.items part rest))) more;
 }
 
--- no memory, and nothing more was appended
+-- out of memory, and nothing more was appended
 pub short_none : (old : Script) (state : State) (new : Script) (chunk : List ℕ) → new.out.items ≡ old.out.items
     → IsUnfinished old state new chunk
 short_none old state new chunk out = record {
@@ -169,7 +169,7 @@ fed_answered (Ok u) old state line new part is none answered = along_answered ol
 fed_answered (Err stop.Memory) old state line new part is none answered = short_none old state new (part ++ 10 ∷ []) answered
 fed_answered (Err stop.Fault) old state line new part is none answered = stopped_answered old state line new part is none answered
 
--- an open front that is a fault however its line goes on
+-- an open prefix that is a fault with any continuation of its line
 pub stopped_front : (r : Result (Unit {0}) Stop) (old : Script) (state : State) (new : Script) (part : List ℕ) (reason : Why)
     → IsOpen (old.line.items ++ part) → 0 < length part
     → ((more : List ℕ) → Means old.number state ((old.line.items ++ part) ++ more) (Wrong reason))
@@ -219,7 +219,7 @@ turn_done old state mid new chunk rest part back cut along fed =
     let a : IsAlong old state mid chunk ((part ++ 10 ∷ []) ++ back) = rw (cut ∙ sym (append_assoc part (10 ∷ []) back)) at along in
     along_more old state mid new chunk (part ++ 10 ∷ []) back a (fed a.next a.stands)
 
--- one turn: it isn't
+-- one turn: the line that ends in the chunk isn't answered
 pub turn_stopped : (reason : Stop) (old : Script) (state : State) (mid new : Script) (chunk rest part back : List ℕ)
     → rest ≡ part ++ 10 ∷ back → IsAlong old state mid chunk rest
     → ((s : State) → Stands mid.bench s → Feeds (Err reason) mid s new (part ++ 10 ∷ [])) → Feeds (Err reason) old state new chunk
@@ -251,7 +251,7 @@ end_answered r old state mid new part stands taken none answered =
     last_part r old state mid new (part ++ 10 ∷ []) (10 ∷ []) a (λ s stands.
     fed_answered r mid s mid.line.items new [] (append-nil mid.line.items) none (answered s stands))
 
--- or didn't take them in
+-- or it refused its last bytes
 pub end_refused : (reason : Stop) (old : Script) (state : State) (new : Script) (part : List ℕ) → Stands old.bench state
     → Feeds (Err reason) old state new part → Feeds (Err reason) old state new (part ++ 10 ∷ [])
 unfolding along_start
@@ -262,7 +262,7 @@ end_refused reason old state new part stands fed =
 pub too_long : (line part more : List ℕ) → 131200 < length line + length part → most_bytes < length ((line ++ part) ++ more)
 too_long line part more long = omega (arith, length-append (line ++ part) more, length-append line part)
 
--- no line ends in two texts, one after the other
+-- no line ends in two texts together if none ends in either
 pub open_more : (line part : List ℕ) → IsOpen line → IsOpen part → IsOpen (line ++ part)
 open_more line part first second = All-append (λ byte. (byte == 10) ≡ false) line part first second
 

@@ -65,7 +65,7 @@ told_five (Ok u) old one two three four five a b c d e first second third fourth
     fifth ∙ simp (fourth, third, second, first, append_assoc)
 told_five (Err f) old one two three four five a b c d e first second third fourth fifth = tt
 
--- what is cut back to as much as stood there is what stood there
+-- a text that grew and is truncated to its old length is the old text
 pub cut_back : (old mid new : List ℕ) (whole : ℕ) → whole ≡ length old → IsPrefix old mid → new ≡ take whole mid → new ≡ old
 cut_back old mid new whole size kept cut =
     cut ∙ ap (λ n. take n mid) size ∙ ap (take (length old)) kept.out ∙ take-append_seam old kept.more

@@ -13,7 +13,7 @@ Goes_on byte = (byte == 10) ≡ false
 first_byte : (byte : ℕ) (rest : List ℕ) → Goes_on byte → lines_of (byte ∷ rest) ≡ onto_line byte (lines_of rest)
 first_byte byte rest on = rw on refl
 
--- the front of a text is the front of its first line
+-- the first line begins with this prefix
 pub record IsFront (front : List ℕ) (lines : List (List ℕ)) : Type 0 where
   pub more : List ℕ
   pub others : List (List ℕ)
@@ -33,13 +33,13 @@ front_of byte (next ∷ front) rest on none =
       is = first_byte byte (next ∷ (front ++ rest)) on ∙ ap (onto_line byte) later.is;
     }
 
--- an open front that isn't empty
+-- an open prefix that isn't empty begins the text's first line
 pub open_front : (front rest : List ℕ) → IsOpen front → 0 < length front → IsFront front (lines_of (front ++ rest))
 open_front [] rest none some = absurd (omega arith)
 open_front (byte ∷ front) rest none some =
     let each = recursion_from_All Goes_on (byte ∷ front) none in front_of byte front rest each.0 each.1
 
--- an open front and a line's end are the first line
+-- an open prefix before a line's end is the first line
 cut_rest : (front rest : List ℕ) → AllByRecursion Goes_on front → lines_of (front ++ 10 ∷ rest) ≡ front ∷ lines_of rest
 cut_rest [] rest none = refl
 cut_rest (byte ∷ front) rest none =
@@ -66,7 +66,7 @@ lines_more first second one (inl none) = rw (none, append-nil first) one
 lines_more first second one (inr ended) =
     inr (first ++ ended.0, ap (λ xs. first ++ xs) ended.1 ∙ sym (append_assoc first ended.0 (10 ∷ [])))
 
--- more after a text of which the prefix is answered
+-- a text that is appended to the chunk is appended to its rest
 pub text_more : (line chunk whole opened rest more : List ℕ) → line ++ chunk ≡ whole ++ (opened ++ rest)
     → line ++ (chunk ++ more) ≡ whole ++ (opened ++ (rest ++ more))
 text_more line chunk whole opened rest more is =
@@ -104,7 +104,7 @@ ended_apart (byte ∷ front) second =
     ap (before_lines (byte == 10) byte) (ended_apart front second)
     ∙ before_apart (byte == 10) byte (lines_of (front ++ 10 ∷ [])) (lines_of second) (ended_some front)
 
--- after whole lines there are as many lines more as in what follows
+-- the lines of whole lines and of a text after them add up to those of both together
 pub count_more : (first second : List ℕ) → AreLines first
     → length (lines_of (first ++ second)) ≡ length (lines_of first) + length (lines_of second)
 count_more first second (inl none) = rw none (omega arith)

@@ -1,4 +1,4 @@
--- Bytes that were written, one front after the other.
+-- Bytes that were written, one prefix after the other.
 use Rattle.std.proofs.Common.{◌≡◌, ℕ, ◌-◌, ◌<◌, List, [], ◌++◌, length, take, drop, Option, Some, None, Result, Ok, Err, refl, sym, ap, ◌∙◌, inl, inr, arith, append_assoc, append-nil, take-append-drop, length-drop}
 use Rattle.std.specs.Io.KnownBytes.{Appends, Keeps}
 use Rattle.std.proofs.KnownBytes.{Appends-trans}
@@ -57,7 +57,7 @@ wrote_bytes held now wrote out old bytes appended told grown empty =
     let same : wrote ≡ bytes = told ∙ grown ∙ ap (λ xs. xs ++ bytes) empty in
     rw same at appended
 
--- the same of bytes that are these
+-- a part written of some bytes is a part written of equal bytes
 part_of : (held now : Option (List ℕ)) (wrote bytes : List ℕ) → IsPartWritten held now wrote → wrote ≡ bytes → IsPartWritten held now bytes
 part_of held now wrote bytes part same = record {
   written = part.written;

@@ -74,7 +74,7 @@ not_present : (lost : ℕ → Bool) (members : List Member) (d : ℕ) → IsFirs
 not_present lost members d first present =
     not_both (lost d) (ap lost (sym first.is) ∙ present first.number first.member first.there) first.lost_is
 
--- a drive that got lost by itself is not steady
+-- where all drives are steady, a drive that was lost or got lost in a step was already lost, and the state is the same
 was_lost : (F G : Flat) (d : ℕ) → AreSteady F → WasOrGotLost F d G → (F.lost d ≡ true) × (G ≡ F)
 was_lost F G d steady (inl was) = was
 was_lost F G d steady (inr got) = let same = quiet F G steady got.2 in

@@ -30,11 +30,11 @@ put_fits : (z : Groups) (w s b : ℕ) (what : Put) → s < 65536 → b < z.block
 put_fits z w s b (Fresh x) low below sized = (low, sized)
 put_fits z w s b Again low below sized = (low, below)
 
--- the slot is given back
+-- the slot is released
 abbrev back : ℕ → ℕ → Outcome → Flat → Places
 back w s o M = Then (Case M (step.Release w s)) (λ a N. Ends o N)
 
--- and the old place, if there was one
+-- and so is the old place, if there was one
 abbrev old_back : ℕ → Option Record → Outcome → Flat → Places
 old_back w None o M = Ends o M
 old_back w (Some old) o M = back w old.place o M
@@ -59,13 +59,13 @@ claimed_tree F w s b what _ M = Ends NoRoom M
 abbrev place_tree : Flat → ℕ → ℕ → ℕ → Put → Places
 place_tree F w s b what = Then (Case F (step.Claim w s)) (claimed_tree F w s b what)
 
--- what is put isn't refused
+-- after a fill or copy that isn't refused comes the commit
 goes_on : (F M : Flat) (w s b : ℕ) (what : Put) (o : Outcome) (G : Flat) → Then (Case M (step.Commit w s b)) (committed_tree F w s b) o G
     → put_tree F w s b (put_answer what s) M o G
 goes_on F M w s b (Fresh x) o G rest = rest
 goes_on F M w s b Again o G rest = rest
 
--- the run that gives the old place back
+-- a run that releases the old place satisfies `old_back`
 old_run : (M G : Flat) (w : ℕ) (old : Option Record) (o : Outcome) → Runs M (back_steps w old) (back_answers old) G → old_back w old o M o G
 old_run M G w None o run = (refl, run)
 old_run M G w (Some old) o run = (Released old.place, run.0, run.1, (refl, run.2))

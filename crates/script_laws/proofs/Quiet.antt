@@ -16,7 +16,7 @@ loss_none : (b : Bool) → loss b b ≡ 0
 loss_none true = refl
 loss_none false = refl
 
--- a steady drive fails no more often
+-- a drive that doesn't get lost has the same count of failures
 same_count : (was is : Bool) (f g : Failures) → Fares was is f g → is ≡ was → g.count ≡ f.count
 same_count was is f g fares same =
     let rose = fares.count in
@@ -50,7 +50,7 @@ gone_was x G s = was (λ F. IsGoneIn F s) x G
 pub gone_is : (x G : Flat) (s : ℕ) → AreSteady x → Leaves x G → IsGoneIn x s → IsGoneIn G s
 gone_is x G s = still (λ F. IsGoneIn F s) x G
 
--- a state with the same drives and sizes is as steady
+-- a state with the same failures and sizes as a steady one is steady
 pub changed : {z : Groups} {F x : Flat} → IsSteady z F → x.failures ≡ F.failures → x.groups.blocks ≡ F.groups.blocks → x.groups.payload ≡ F.groups.payload → IsSteady z x
 changed calm failures blocks payload = record {
   steady = λ d. ap (λ (f : ℕ → Failures). (f d).steady) failures ∙ calm.steady d;
@@ -66,7 +66,7 @@ Steps = FlatAnswer → Flat → Type 0
 pub not_both : (b : Bool) → b ≡ false → b ≡ true → ⊥
 not_both b f t = let both : true ≡ false = sym t ∙ f in absurd cc
 
--- of two numbers one is less, or they are one
+-- of two numbers one is less, or they are equal
 pub order_of : (a b : ℕ) → (a < b) ⊎ ((a ≡ b) ⊎ (b < a))
 order_of a b = grind arith
 

@@ -48,7 +48,7 @@ pub lost_once : (lost : ℕ → Bool) (xs ys : List Bool) → length xs ≡ 16 �
 lost_once lost xs ys many too at there = ext_get_or true xs ys (many ∙ sym too)
     (λ d low. let within : d < 16 = omega arith in at d within ∙ sym (there d within))
 
--- ---- the shift that evens out
+-- ---- the shift that rebalances
 
 -- of two pairs of drives one comes before the other, or they are one
 before_or : (o : Owners) (f t g u : ℕ) → PairBefore o f t g u ⊎ (PairBefore o g u f t ⊎ ((f ≡ g) × (t ≡ u)))

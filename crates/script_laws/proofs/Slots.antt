@@ -52,7 +52,7 @@ module _ (z : Groups) (F : Flat) (calm : IsSteady z F) (all : AreRecords F) wher
       to (Taken t) G c = inr ((λ free. not_both (F.held s c.1.0) (free c.1.0) c.1.1), (ap Taken c.0, quiet F G steady c.2))
       to _ G c = absurd c
 
-  -- somebody holds the slot
+  -- this holder holds the slot
   abbrev Holds : ℕ → Holder → Type 0
   Holds s k = F.held s k ≡ true
 

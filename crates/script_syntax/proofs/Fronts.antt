@@ -1,4 +1,4 @@
--- The number at the front of a text, before the first separator.
+-- The number at the start of a text, before the first separator.
 use Rattle.std.proofs.Common.{◌≡◌, ℕ, zero, suc, ◌+◌, ◌-◌, ◌*◌, ◌<◌, ◌≤◌, ◌^◌, List, [], ◌∷◌, ◌++◌, length, get_or, take, drop, min, refl, sym, ap, ◌∙◌, arith, decimal, length-take, inl, inr}
 use Rattle.std.specs.Int.{IsInRange}
 use Rattle.std.specs.List.{All, onto_first, join_with_byte}
@@ -12,7 +12,7 @@ use Rattle.script_syntax.proofs.Digits.{read_on, grown, digit_of, length_of, lea
 use Rattle.script_syntax.proofs.Numbers.{some_part}
 use Rattle.script_syntax.proofs.Splits.{Differs, IsThere, cut_at, uncut, not_true, one_part, there}
 
--- the digits in front of a place, and the number that they spell
+-- the digits before a place, and the number that they spell
 pub record IsFront (separator : ℕ) (text : List ℕ) (at number : ℕ) : Type 0 where
   pub few : at ≤ 11
   pub digits : (k : ℕ) → k < at → IsInRange 48 57 (get_or text k 0)
@@ -121,7 +121,7 @@ begins separator x text word rest differs e = go (parts separator text) refl
         let told = sym e ∙ onto in
         (part, ps, are, cc)
 
--- and has what is before a separator
+-- and has the text's bytes up to a place that no separator is before or at
 first_has : (separator at : ℕ) (text word : List ℕ) (rest : List (List ℕ)) → at < length text
     → ((k : ℕ) → k ≤ at → Differs separator (get_or text k 0)) → parts separator text ≡ word ∷ rest
     → (at < length word) × ((k : ℕ) → k ≤ at → get_or word k 0 ≡ get_or text k 0)
@@ -145,7 +145,7 @@ first_has separator (suc at) (x ∷ text) word rest inside differs e =
     same word_is more zero low = rw word_is refl
     same word_is more (suc k) low = rw word_is (more k (omega arith))
 
--- where a number is, a digit is next that it may have
+-- where the first part is a number, a next byte that isn't the separator is a digit
 pub next_digit : (separator : ℕ) (text : List ℕ) (at number : ℕ) → at < length text → (get_or text at 0 ≡ separator → ⊥)
     → IsFront separator text at number → (n : ℕ) (rest : List (List ℕ)) → IsWritable n → parts separator text ≡ decimal n ∷ rest
     → IsInRange 48 57 (get_or text at 0)
@@ -155,7 +155,7 @@ next_digit separator text at number inside other front n rest short spelled =
     let same = has.1 at (omega arith) in
     rw same at (digit_of (decimal n) n short refl at has.0)
 
--- the digits of a number are as many as it may have, and lead with no zero
+-- the digits of a writable number, at the start of a text, are a numeral
 numeral_of : (text : List ℕ) (at n : ℕ) → at ≤ length text → IsWritable n → take at text ≡ decimal n → IsNumeral text at
 numeral_of text at n inside short e =
     let long : length (take at text) ≡ at = omega (arith, length-take at text) in
@@ -169,7 +169,7 @@ numeral_of text at n inside short e =
           omega (arith, alone, long, more);
     }
 
--- before a separator there is no number but by a numeral
+-- where the bytes before the separator are no numeral, the first part isn't a number
 pub not_cut : (separator : ℕ) (text : List ℕ) (at number : ℕ) → at < length text → get_or text at 0 ≡ separator
     → IsFront separator text at number → (IsNumeral text at → ⊥)
     → (n : ℕ) (rest : List (List ℕ)) → IsWritable n → parts separator text ≡ decimal n ∷ rest → ⊥
@@ -179,7 +179,7 @@ not_cut separator text at number inside is front none n rest short spelled =
     let word : take at text ≡ decimal n = cc in
     none (numeral_of text at n (omega arith) short word)
 
--- nor at the text's end
+-- nor is it where the whole text is no numeral
 not_whole : (separator : ℕ) (text : List ℕ) (at number : ℕ) → length text ≤ at → IsFront separator text at number
     → (IsNumeral text (length text) → ⊥)
     → (n : ℕ) (rest : List (List ℕ)) → IsWritable n → parts separator text ≡ decimal n ∷ rest → ⊥
@@ -189,7 +189,7 @@ not_whole separator text at number end front none n rest short spelled =
     let word : text ≡ decimal n = cc in
     none (numeral_of text (length text) n (omega arith) short (take_all (length text) text (omega arith) ∙ word))
 
--- nor after eleven digits
+-- nor where the text begins with eleven digits
 too_long : (separator : ℕ) (text : List ℕ) (at number : ℕ) → 11 ≤ at → 11 ≤ length text → IsFront separator text at number
     → (n : ℕ) (rest : List (List ℕ)) → IsWritable n → parts separator text ≡ decimal n ∷ rest → ⊥
 too_long separator text at number most inside front n rest short spelled =
@@ -222,7 +222,7 @@ one_number word n short e = rw e (one_part 32 (decimal n) (no_space n short))
 pub word_alone : (word part : List ℕ) → parts 32 word ≡ part ∷ [] → word ≡ part
 word_alone word part e = sym (join_with_byte-slice_split 32 word) ∙ ap (join_with_byte 32) e
 
--- a number with words after it is no word
+-- a word that is a number has no words after it
 pub not_alone : (word : List ℕ) (n m : ℕ) (rest : List ℕ) → IsWritable n → word ≡ decimal n → parts 32 word ≡ decimal m ∷ parts 32 rest → ⊥
 not_alone word n m rest short e found =
     let both = sym (one_number word n short e) ∙ found in

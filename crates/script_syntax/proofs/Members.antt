@@ -37,7 +37,7 @@ no_dot word front are member short e =
     let told : front ∷ [] ≡ decimal member.drive ∷ decimal member.extent ∷ [] = sym are ∙ ap (parts 46) e ∙ member_parts member short in
     cc told
 
--- what is before the dot of a member's word, and after it
+-- before the dot of a member's word is the drive, and after it the extent
 pub around_dot : (word front back : List ℕ) → parts 46 word ≡ front ∷ parts 46 back
     → (member : Named) → IsWritableMember member → word ≡ member_word member
     → (front ≡ decimal member.drive) × (back ≡ decimal member.extent)
@@ -61,7 +61,7 @@ pub words_more : (members : List Named) (member : Named) (rest : List (List ℕ)
 words_more [] member rest = refl
 words_more (m ∷ members) member rest = ap (λ ws. member_word m ∷ ws) (words_more members member rest)
 
--- each word of members is one's
+-- each of the words that members spell is a member's
 pub word_within : (all before : List Named) (word : List ℕ) (rest : List (List ℕ)) → AllByRecursion IsWritableMember all
     → map member_word all ≡ map member_word before ++ word ∷ rest
     → (member : Named) × IsWritableMember member × (word ≡ member_word member)

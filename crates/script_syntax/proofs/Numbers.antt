@@ -17,7 +17,7 @@ some_part separator text e =
     let none : length (parts separator text) ≡ 0 = ap length e in
     omega arith
 
--- nothing is left exactly where no words are
+-- no text is left if and only if no words are left
 pub nothing_left : (text : Option (Bor (List ℕ))) (b : Bool) → is_some text ≡ not b
     → (IsTrue b → words_left (text_of text) ≡ []) × (words_left (text_of text) ≡ [] → IsTrue b)
 nothing_left None true h = (λ _. refl, λ _. refl)
@@ -61,7 +61,7 @@ number_short all before ws rest back less one two none =
     let second = simp (length-map, length-append) at (ap length two) in
     let nothing = ap length none in omega arith
 
--- the words after equally many numbers
+-- after equally many numbers the same words follow
 pub rest_again : (ns ms : List ℕ) (back rest : List (List ℕ)) → length ns ≡ length ms → map decimal ns ++ back ≡ map decimal ms ++ rest
     → back ≡ rest
 rest_again [] [] back rest same e = e

@@ -20,7 +20,7 @@ no_record word result e P value refused r named =
     let ok = told.0 in
     cc (sym ok ∙ refused)
 
--- a word that names no record is none alone
+-- a single word that names no record isn't that of a record
 pub not_alone : (ws : List (List ℕ)) (word : List ℕ) → ws ≡ word ∷ [] → ((r : Record) → IsRecordWord r word → ⊥)
     → (r : Record) → RecordAlone r ws → ⊥
 not_alone ws word spelled none r alone =

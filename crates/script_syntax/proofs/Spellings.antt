@@ -35,12 +35,12 @@ words_again word [] first rest = one_part 32 word first
 words_again word (next ∷ ws) first rest =
     first_part 32 word (line_of (next ∷ ws)) first ∙ ap (λ later. word ∷ later) (words_again next ws rest.0 rest.1)
 
--- nor has a number
+-- numbers have no spaces
 number_words : (ns : List ℕ) → AllByRecursion IsWritable ns → AllByRecursion IsWord (map decimal ns)
 number_words [] short = tt
 number_words (n ∷ ns) short = (digits_differ 32 n (omega arith) short.0, number_words ns short.1)
 
--- nor a member
+-- nor has a member
 member_is_word : (member : Named) → IsWritableMember member → IsWord (member_word member)
 member_is_word member short =
     All-append (Differs 32) (decimal member.drive) (46 ∷ decimal member.extent)
@@ -55,7 +55,7 @@ class_word : (class : Class) (word : List ℕ) → IsClassWord class word → Is
 class_word class.Mirrored word named = rw named (All-from_recursion (Differs 32) (codes "m") (search rules))
 class_word class.Parity word named = rw named (All-from_recursion (Differs 32) (codes "p") (search rules))
 
--- nor hex digits
+-- a hex digit is no space
 no_space_digit : (c : ℕ) → is_hex_digit c ≡ true → Differs 32 c
 no_space_digit c digit = not_true (c == 32) (λ same.
     let e : c ≡ 32 = eqb-true c 32 same in
@@ -67,7 +67,7 @@ hex_word digits bytes decoded =
     let pass = (decode_of-ok digits bytes decoded).1 in
     All-from_get_or (Differs 32) digits 0 (λ k below. no_space_digit (get_or digits k 0) (pass k 0 below))
 
--- nor any word after a verb
+-- the words after a command's numbers have no spaces
 behind_words : (behind : Behind) (ws : List (List ℕ)) → IsBehind behind ws → AllByRecursion IsWord ws
 behind_words Nothing ws is = rw is tt
 behind_words (Told r) ws is = rw is.spelled (hex_word is.word is.named.bytes is.named.decoded, tt)
@@ -98,7 +98,7 @@ found_spells asked size line word ws order cut named found = record {
       ∙ ap (λ w. line_of (w ∷ ws)) (named ∙ ap word_of (sym found.asked));
 }
 
--- and what the line spells would have been found
+-- and a command that the line spells is found
 pub spelled_found : (asked : Verb) (size : ℕ) (line word : List ℕ) (ws : List (List ℕ)) (order : Order)
     → words line ≡ word ∷ ws → word ≡ word_of asked → IsSized size order → Spells order line → IsFound asked size ws order
 spelled_found asked size line word ws order cut named sized s =

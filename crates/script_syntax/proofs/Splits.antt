@@ -29,7 +29,7 @@ pub first_part : (separator : ℕ) (front back : List ℕ) → All (Differs sepa
 first_part separator front back none =
     slice_split_at (λ byte. byte == separator) front separator back none (search rules)
 
--- nowhere a separator: each byte differs
+-- in a text without the separator each byte differs from it
 pub all_differ : (separator : ℕ) (text : List ℕ) → ((k : ℕ) → 0 ≤ k → k < length text → IsThere separator text k → ⊥)
     → All (Differs separator) text
 all_differ separator text none =
@@ -40,7 +40,7 @@ pub uncut : (separator : ℕ) (text : List ℕ) → ((k : ℕ) → 0 ≤ k → k
     → parts separator text ≡ text ∷ []
 uncut separator text none = one_part separator text (all_differ separator text none)
 
--- before the first separator there is none
+-- the bytes before the first separator all differ from it
 pub front_differs : (separator : ℕ) (text : List ℕ) (at : ℕ) → at < length text
     → ((k : ℕ) → 0 ≤ k → k < at → IsThere separator text k → ⊥) → All (Differs separator) (take at text)
 front_differs separator text at inside none =
@@ -48,7 +48,7 @@ front_differs separator text at inside none =
     let front : k < at = omega (arith, length-take at text) in
     rw (get_or-take at text k 0 front) (not_true _ (none k (omega arith) front)))
 
--- what is before the first separator and after it
+-- the first separator ends the first part, and the parts of what follows it are the others
 pub cut_at : (separator : ℕ) (text : List ℕ) (at : ℕ) → at < length text
     → ((k : ℕ) → 0 ≤ k → k < at → IsThere separator text k → ⊥) → IsThere separator text at
     → parts separator text ≡ take at text ∷ parts separator (take (length text - (at + 1)) (drop (at + 1) text))

@@ -71,7 +71,7 @@ values_again asked (a ∷ b ∷ c ∷ d ∷ []) r payload level members five = c
 values_again asked (a ∷ b ∷ c ∷ d ∷ e ∷ []) r payload level members five = values_five asked a b c d e r payload level members
 values_again asked (a ∷ b ∷ c ∷ d ∷ e ∷ f ∷ ns) r payload level members five = absurd (omega arith)
 
--- a command has as many numbers as its verb's row, and after them what the row says
+-- what follows a command's numbers is of the kind in its verb's row, and the row has the same count of numbers
 pub tail_again : (order : Order) → kind_behind (behind_of order) ≡ tail_of (verb_of order)
 tail_again (o.Array a b c d e) = refl
 tail_again _ = refl

@@ -38,11 +38,11 @@ use Rattle.single_writes.specs.Lists.{IsUnitList, IsStepList}
 use Rattle.single_writes.proofs.Gone.{gone_behind}
 use Rattle.single_writes.proofs.Steps.{still_shown, micro_of}
 
--- the front of two pieces is the first, where that is as long
+-- the first 32 bytes of two pieces are the first piece, where that has 32 bytes
 take_front : (xs ys : List ℕ) → length xs ≡ 32 → take 32 (xs ++ ys) ≡ xs
 take_front xs ys long = subst (λ n. take n (xs ++ ys) ≡ xs) long (take-append_seam xs ys)
 
--- the reasons that aren't given against a commit
+-- where no reason is given against a commit
 no_reason : {X : Type 0} (o p : Option X) → or_else o p ≡ None → (o ≡ None) × (p ≡ None)
 no_reason None p e = (refl, e)
 no_reason (Some x) p e = absurd (cc)

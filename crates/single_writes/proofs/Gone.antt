@@ -30,6 +30,6 @@ pub not_before : (a m : ArrayView) (F : Flat) (slot : ℕ) (bytes : List ℕ) �
 not_before a m F slot bytes whole loses read shows gone =
     not_gone m slot bytes whole read (lost_more a.parts m.parts slot loses.1.fares loses.1.rest (gone_before F a.parts slot shows.tables.groups shows.tables.lost gone))
 
--- a slot found gone behind a read was found gone
+-- a slot that was found gone after a read was found gone by both together
 pub gone_behind : (a m b : PartsView) (slot : ℕ) (refusal : Refusal) → Loses a m → FoundGone m b slot refusal → FoundGone a b slot refusal
 gone_behind a m b slot refusal loses gone = record { loses = loses_more a m b loses gone.loses; told = gone.told; gone = gone.gone }

@@ -56,7 +56,7 @@ few_writes groups c slot unit ws parity plan =
     let most = few_places (site_of groups slot) in
     omega (arith, many, same, low, most)
 
--- a list that was begun with other entries, and has those of the writes so far
+-- the length of a list of other entries, followed by those of the writes so far
 pub one_more : (list first : List Micro) (done rest all : List (ℕ × ℕ × Vec ℕ Global)) → list ≡ first ++ puts_of done → done ++ rest ≡ all → length list + length rest ≡ length first + length all
 one_more list first done rest all is whole =
     let a : length list ≡ length first + length (puts_of done) = ap length is ∙ length-append first (puts_of done) in

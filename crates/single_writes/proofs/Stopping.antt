@@ -1,4 +1,4 @@
--- The parts behind a stop, and the restarted array.
+-- The parts after a stop, and the restarted array.
 use Rattle.std.proofs.Common.{◌≡◌, ℕ, Bool, None, List, take, sym, subst}
 use Rattle.extents.specs.Failures.{Failures}
 use Rattle.extent_groups.specs.declared.place.Place.{Place}
@@ -67,7 +67,7 @@ cut_short units lost failures b made p q list n F w intent l seen none fit stop 
       shows = r.5;
     }
 
--- what the planned step left that stopped
+-- what a planned step left that was stopped
 pub was_stopped : {D : Type 0} (units : D → List (List ℕ)) (lost : D → Bool) (failures : D → Failures) (a b : ArrayView) (p q : Parts D) (list : List Micro) (n : ℕ) (F : Flat) (w : ℕ) (intent : Intent) → OnlyLoses a b
     → IsStepList units lost failures b F (slot_of intent) (step_of w intent) (IsTaken intent) list → view_of units lost failures p ≡ b.parts → p.note ≡ None → q.note ≡ note_after p.note (take n list)
     → ((x : Place) → FadesAt (after (cells_in units lost p) (writes_in (take n list))) (cells_in units lost q) x) → KeepsDrives units lost failures (IsWritten (take n list)) p.drives.items q.drives.items → KeepsGroups p q

@@ -34,7 +34,7 @@ or_none : {X : Type 0} (o p : Option X) → or_else o p ≡ None → (o ≡ None
 or_none None p e = (refl, e)
 or_none (Some x) p e = absurd (cc)
 
--- what it says that a reason isn't given
+-- what follows where a reason is not given
 room_left : (a : ArrayView) → full_reason a ≡ None → length a.log < longest_log
 room_left a none = go (nat_le longest_log (length a.log)) refl none
   where
@@ -316,7 +316,7 @@ commit_gone a p F w s b q whole none found shows mine =
     go Unmade is e = absurd (cc)
     go (Newest c) is e = absurd (cc)
 
--- where nothing speaks against it, memory may be wanted
+-- where nothing speaks against it, the commit may run out of memory
 pub commit_wants : (a : ArrayView) (F : Flat) (w s b : ℕ) → IsWhole a → commit_reason a s b (record_at b (key_at a b)) ≡ None → ShowsArray a F
     → (F.tickets s ≢ None → F.held s (Ticket w) ≡ true) → IsWanted F (Commit w s b)
 commit_wants a F w s b whole none shows mine = go (kept_at a s) refl none

@@ -68,7 +68,7 @@ waiting_newest k b w e = let bad : true ≡ false = sym w ∙ ap is_waiting e in
 pub waiting_made : (k : Kept) → is_waiting k ≡ true → k ≡ Unmade → ⊥
 waiting_made k w e = let bad : true ≡ false = sym w ∙ ap is_waiting e in cc
 
--- of which nothing is kept, the array doesn't hold
+-- a slot of which nothing is kept is not held by the array
 pub unkept : (a : ArrayView) (F : Flat) (s : ℕ) → kept_at a s ≡ Nothing → ShowsArray a F → IsKept F s → ⊥
 unkept a F s free shows kept = let t = (kept_iff a F s shows).1 kept in let bad : false ≡ true = sym (ap is_kept free) ∙ t in absurd (cc)
 

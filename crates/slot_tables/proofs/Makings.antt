@@ -26,11 +26,11 @@ use Rattle.slot_tables.specs.Represents.{ArraySlot, InTables, ShowsArray, IsTick
 use Rattle.slot_tables.proofs.Fares.{fared, itself, leaves, lost_shows, lost_leaves}
 use Rattle.slot_tables.proofs.Slots.{shows_after}
 
--- the groups with another one, of what may be other tables
+-- the groups with one more, of tables that may differ
 abbrev more : Groups → ℕ → Class → List Member → Groups
 more groups g class members = with_group groups g (Some (record { class = class; members = members }))
 
--- what goes out is a claim of a dissolved group, and nothing else
+-- opening changes what is kept only where that is a claim of a dissolved group
 opened_same : (k : Kept) → (k ≡ Unmade → ⊥) → opened_of k ≡ k
 opened_same Nothing made = refl
 opened_same (Pending k) made = refl

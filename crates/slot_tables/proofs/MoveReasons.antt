@@ -29,7 +29,7 @@ owner_there : (o : Option ℕ) → is_some o ≡ true → (h : ℕ) × (o ≡ So
 owner_there None e = let bad : false ≡ true = e in absurd (cc)
 owner_there (Some h) e = (h, refl)
 
--- what may be refused of an extent that is there is refused for what the tests find
+-- the reason against a move onto an extent that is there is the one that the tests find
 pub swap_reason : (a : ArrayView) (g k : ℕ) (to : Member) → IsWhole a → slice_get (members_of a.parts.groups g) k ≢ None → IsExtent a.parts.owners to.drive to.extent
     → IsMoveReason a.parts.groups (length a.parts.drives) g k to (told_of (swap_check_of a.parts.owners (members_of a.parts.groups g) to))
 swap_reason a g k to whole some inside = go (is_on to.drive (members_of a.parts.groups g)) (is_owned a.parts.owners to) refl refl

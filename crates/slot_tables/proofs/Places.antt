@@ -36,7 +36,7 @@ kepts_set places s p h =
     ∙ ap (λ (ks : List Kept). ks ++ replicate (65536 - length places) Nothing) (map-set kept_of places s p)
     ∙ sym (set-append_left (map kept_of places) (replicate (65536 - length places) Nothing) s (kept_of p) (omega (arith, long, h)))
 
--- there are as many as slots
+-- there is one for each of the 65536 slots
 pub kepts_many : {C : Type 0} (places : List (SlotState C)) → length places ≤ 65536 → length (kepts_of places) ≡ 65536
 unfolding kepts_of
 kepts_many places most =

@@ -1,4 +1,4 @@
--- An array with a drive more, or with a member on another extent, is whole, and represents the state with the same.
+-- An array with one more drive, or with a member on another extent, is whole, and represents the state with the same.
 use Rattle.std.proofs.Common.{◌≡◌, ◌≢◌, ℕ, ◌+◌, ◌/◌, ◌<◌, ◌≤◌, Bool, false, [], ◌∷◌, length, refl, sym, ap, ◌∙◌, subst, arith, inr, Option, Some, None}
 use Rattle.std.specs.Prelude.{slice_get}
 use Rattle.std.proofs.lemmas.List.{length-append}
@@ -46,7 +46,7 @@ added_whole a v lost failures whole e drives = record {
   drives = drives;
 }
 
--- the array with a drive more represents the state with one
+-- the array with one more drive represents the state with one more
 pub added_shows : (a : ArrayView) (v : PartsView) (F : Flat) (lost : Bool) (failures : Failures) → ShowsArray a F → WasAdded a.parts lost failures v → length a.parts.drives < 16
     → ShowsArray (with_parts a v) (with_new_drive F lost failures)
 added_shows a v F lost failures shows e room = record {

@@ -88,7 +88,7 @@ seat_taken : (was : Option ℕ) (b : ℕ) (kept : Kept) → IsSeat was (Some b) 
 seat_taken was b kept (waits e k) = (sym e, k)
 seat_taken was b kept (has e k) = absurd (cc)
 
--- a claim that a place wants
+-- a claim whose slot is the wanted place of a block: it is seated there
 pub seated_more : {C : Type 0} (names : C → ℕ) (all : List C) (wanted : List (Option ℕ)) (left : List C) (claim : C) (now : List (Option ℕ)) (kept : List Kept) (others : List C) (b : ℕ)
     → names claim < 65536 → wanted_at now (names claim) ≡ Some b
     → AreSeated names all wanted (left ++ claim ∷ []) now kept others
@@ -152,7 +152,7 @@ seated_more {C} names all wanted left claim now kept others b inside wants befor
         let same : claims_in (get_or (set kept here (Newest b)) slot Nothing) ≡ claims_in (get_or kept slot Nothing) = ap claims_in (kept_else slot ne) in
         omega (arith, h, more, none, same)
 
--- a claim that no place wants
+-- a claim whose slot is no wanted place is one of the others
 pub left_over : {C : Type 0} (names : C → ℕ) (all : List C) (wanted : List (Option ℕ)) (left : List C) (claim : C) (now : List (Option ℕ)) (kept : List Kept) (others : List C)
     → wanted_at now (names claim) ≡ None
     → AreSeated names all wanted (left ++ claim ∷ []) now kept others

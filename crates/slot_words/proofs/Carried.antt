@@ -30,7 +30,7 @@ rearranged T n ws vs us rule from single won timed shared = record {
   shared = shared;
 }
 
--- each pair of the new views stood at that place before
+-- each pair of the new views was at that place before
 thinned : (n : ℕ) (ws : List ℕ) (vs us : List View) → ClaimRule n ws vs
     → ((s k : ℕ) (p : Held) → Stands us s k p → Stands vs s k p) → IsWon n ws us → IsTimed ws us → IsShared us → ClaimRule n ws us
 thinned n ws vs us rule from = rearranged (λ s k a b. (s ≡ a) × (k ≡ b)) n ws vs us rule

@@ -62,7 +62,7 @@ sees kind n ws vs id place v rule here live stays = noted n ws vs id v w rule he
     w : View
     w = after kind vs v place (get_or ws place 0) (get_or ws place 0) v.pairs v.won
 
--- a look
+-- a seat looks at a word
 pub looks : {S : Type 0} (n slots id place : ℕ) (me : Me S View) → me.1 ≡ [] → 0 < length me.0.shares
     → Allows (λ (s : State S View). ClaimRule n s.words s.views) slots id me place (λ m. m) (Looked {S = S} (step slots place 0 0 none) me)
 looks {S} n slots id place me away live s rule homes here fits = (

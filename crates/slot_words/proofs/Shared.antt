@@ -41,22 +41,22 @@ halved n (k ∷ ks) live =
     let same : 2 ^ (suc n - (k + 1)) ≡ 2 ^ (n - k) = ap (λ (m : ℕ). 2 ^ m) half in
     let rest = weight_up n ks in omega arith
 
--- who has no share made no step
+-- a seat that has no share made no step
 abbrev pub IsSpent : View → Type 0
 IsSpent v = v.shares ≡ [] → v.steps ≡ []
 
--- some share is no empty list of them
+-- a list of at least one share isn't empty
 live_not : (ks : List ℕ) → 0 < length ks → ks ≡ [] → ⊥
 live_not ks live none = let e : length ks ≡ 0 = ap (λ (l : List ℕ). length l) none in omega arith
 
--- all seats are so after one changed
+-- one view changes: each seat that has no share made no step
 spent_set : (vs : List View) (id : ℕ) (w : View) → IsShared vs → IsSpent w → (s : ℕ) (x : View) → get_elem? (set vs id w) s ≡ some x → IsSpent x
 spent_set vs id w so is s x at = ⊎_elim
     (λ (h : (s ≡ id) × (w ≡ x)). subst (λ (y : View). IsSpent y) h.1 is)
     (λ (h : (s ≢ id) × (get_elem? vs s ≡ some x)). so.spent s x h.1)
     (at_set vs id s w x at)
 
--- and after one came
+-- one view comes: each seat that has no share made no step
 spent_snoc : (vs : List View) (w : View) → ((s : ℕ) (x : View) → get_elem? vs s ≡ some x → IsSpent x) → IsSpent w
     → (s : ℕ) (x : View) → get_elem? (vs ++ w ∷ []) s ≡ some x → IsSpent x
 spent_snoc vs w so is s x at = ⊎_elim

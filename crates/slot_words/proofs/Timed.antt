@@ -84,7 +84,7 @@ timed_step ws us vs xs e so more now finds_it moved written unmoved to made from
         (λ (new : e ≡ s). subst (λ (g : Sight). g.time ≤ steps xs) new (omega arith))
         (from s by)
 
-    -- what was left before some time up to now is so still
+    -- what was left before a time up to now is left before it still
     lasting : (place time word : ℕ) → time ≤ steps vs + 1 → IsLeft (MadeBy vs) place time word → IsLeft (MadeBy xs) place time word
     lasting place time word past is = record {
       told = λ above. let t = is.told above in (t.0, still t.0 t.1, t.2);

@@ -68,7 +68,7 @@ with_hands : (P : Flat → Type 0) (a : ArrayView) (h k : List Hand) → h ≡ k
     → (G : Flat) × (P G) × (Represents (record { array = a; hands = k }) G)
 with_hands P a h k is x = (x.0, x.1, subst (λ (l : List Hand). Represents (record { array = a; hands = l }) x.0) is x.2)
 
--- a claim that goes back, after which the hands are others that are equal
+-- a claim that is released, after which the hands are others that are equal
 goes_back : (F : Flat) (w s : ℕ) (a : ArrayView) (h k : List Hand) → length h ≡ 65536 → s < 65536 → is_claim (hand_at h s) w ≡ true → set h s Empty ≡ k
     → Represents (record { array = a; hands = h }) F
     → (G : Flat) × (ReleaseCase F w s (Released s) G) × (Represents (record { array = a; hands = k }) G)
@@ -183,7 +183,7 @@ waited : (v : WorldView) (w s : ℕ) (h : Hand) → hand_at v.hands s ≡ Empty 
 waited v w s h empty =
     set_twice (waiting_hands v w s) s h Empty ∙ set_twice (claimed_hands v w s) s (Waits w) Empty ∙ hand_back v.hands s (Holds w) empty
 
--- a commit that was carried out: the old place goes back, if the block had one
+-- a commit that was carried out: the old place is released, if the block had one
 pub places : (v : WorldView) (F : Flat) (a e : ArrayView) (what : Put) (w s b : ℕ) (r : Record) → IsOpen v what s b → b < a.parts.groups.blocks → Represents v F → Puts v.array a what s b
     → ((H : Flat) (u : ℕ) → ShowsArray a H → H.held s (Ticket u) ≡ true → (G : Flat) × (CommitCase H u s b (Committed r) G) × (ShowsArray e G))
     → (G : Flat) × ((is : IsPlaced F w s b what r G) × (is.old ≡ record_at b (key_at a b))) × (Represents (record { array = e; hands = v.hands }) G)
@@ -250,7 +250,7 @@ places v F a e what w s b r ready block rep puts commits = (
     g : (G : Flat) × (Runs c.0 (back_steps w found) (back_answers found) G) × (Represents (record { array = e; hands = v.hands }) G)
     g = back found refl c.2
 
--- a fill or a copy that was refused: the claim goes back
+-- a fill or a copy that was refused: the claim is released
 pub refused_first : (v : WorldView) (F : Flat) (a : ArrayView) (what : Put) (w s b : ℕ) (r : Refusal) → IsOpen v what s b → Represents v F → Denies v.array a what s b r → r ≢ Memory
     → (G : Flat) × (Places F w s b what (Err (denied.Refused r)) G) × (Represents (record { array = a; hands = v.hands }) G)
 refused_first v F a what w s b r ready rep denies some = go r (denies c.state w c.stands.array c.held) some
@@ -275,7 +275,7 @@ refused_first v F a what w s b r ready rep denies some = go r (denies c.state w 
         let y = back d.0 d.2 in
         (y.0, inl (c.state, c.claim, (d.0, d.1, (y.0, y.1, refl))), y.2)
 
--- a commit that was refused: the ticket ends, and its claim goes back
+-- a commit that was refused: the ticket is discarded, and its claim is released
 pub refused_last : (v : WorldView) (F : Flat) (a e k : ArrayView) (what : Put) (w s b : ℕ) (r : Refusal) (W : Flat → ℕ → Type 0) → IsOpen v what s b → b < a.parts.groups.blocks → Represents v F
     → Puts v.array a what s b
     → ((H : Flat) (u : ℕ) → ShowsArray a H → H.held s (Ticket u) ≡ true → MayRefuse r (W H u) ((G : Flat) × (CommitCase H u s b (Refused r) G) × (ShowsArray e G)))
@@ -318,7 +318,7 @@ refused_last v F a e k what w s b r W ready block rep puts denies same ends = go
         let y = back d.0 d.2 in
         (y.2.0, inr (x.before.state, x.before.claim, (x.state, x.put, (d.0, d.1, (y.0, y.1, (y.2.0, y.2.1, refl))))), y.2.2)
 
--- less is said where it is out of memory
+-- the same, with nothing said of a call that ran out of memory
 may_less : (r : Refusal) (W P : Type 0) → MayRefuse r W P → MayRefuse r (Unit {0}) P
 may_less Memory W P y = tt
 may_less r W P y = y
@@ -376,7 +376,7 @@ opened u v x s b is small long free block fits =
       block = inside;
     }
 
--- what was placed, as the call tells it
+-- what was placed, as the call reports it
 pub places_as : {C : Type 0} (names : C → ℕ) (F : Flat) (v : WorldView) (what : Put) (w s b : ℕ) (r n : Record) (claim : Option C) (found : Option Record) (left : Option ℕ) → n ≡ r
     → ((old : Option Record) → IsPlaceOf names claim old → left ≡ place_of old) → IsPlaceOf names claim found
     → (G : Flat) × ((is : IsPlaced F w s b what r G) × (is.old ≡ found)) × (Represents v G)

@@ -38,7 +38,7 @@ use Rattle.slot_tables.proofs.Places.{set_twice}
 use Rattle.disk_array.specs.Losing.{WasLost}
 use Rattle.step_core.specs.Passed.{given_old}
 
--- a ticket that goes in at its slot, and the one that comes out of it put back; and a claim in a ticket's stead
+-- a ticket that goes in at its slot, and the one that comes out of it put back; and a claim in place of a ticket
 pub hands_kept : (old hands now : List Hand) (t s w : ℕ) → old ≡ hands → t ≡ s → now ≡ set old t (Waits w) → now ≡ set hands s (Waits w)
 hands_kept old hands now t s w same slot is = is ∙ ap (λ n. set old n (Waits w)) slot ∙ ap (λ (h : List Hand). set h s (Waits w)) same
 
@@ -210,7 +210,7 @@ and_true : (b : Bool) → (b && true) ≡ b
 and_true true = refl
 and_true false = refl
 
--- a world whose array has a group more represents the state with it
+-- a world whose array has one more group represents the state with it
 pub make_world : (v : WorldView) (F : Flat) (class : Class) (members : List Member) (g : ℕ) (a : ArrayView) → Represents v F
     → (G : Flat) × (MakeCase F class members (MadeGroup g) G) × (ShowsArray a G)
     → (G : Flat) × (MakeCase F class members (MadeGroup g) G) × (Represents (record { array = a; hands = v.hands }) G)
@@ -304,7 +304,7 @@ pub refused_world : (v : WorldView) (F : Flat) (step : FlatStep) (r : Refusal) (
     → (G : Flat) × (Case F step (Refused r) G) × (Represents (record { array = a; hands = v.hands }) G)
 refused_world v F step r a fits rep y = stays_world v F step (Refused r) a fits rep y (refused_leaves F y.0 step r y.1)
 
--- a drive of which no failure lies ahead fares as it did
+-- a drive that has no failure ahead fares as it did
 settles : (lost : Bool) (f g : Failures) (b : Bool) → (b ≡ true → g ≡ f) → Fares lost lost f (if b then settled g else f)
 settles lost f g true same = subst (λ (h : Failures). Fares lost lost f (settled h)) (sym (same refl))
     (record { stays = λ e. e; count = counts_same lost f; steady = λ e. (refl, refl) })

@@ -1,4 +1,4 @@
-// What is learned of a record whose place was written over, and what a drive that is lost elsewhere changes: nothing.
+// What is learned of a record whose place was overwritten. A drive that is lost elsewhere changes nothing.
 use crate::rig::{Rig, record};
 use map_join::Record;
 use std::alloc::Global;

@@ -1,4 +1,4 @@
-// Both stores: one drive lost at any call, with a second one lost before or not, changes no answer.
+// Both stores, with one drive lost at any call and a second one lost before or not.
 use crate::rig::{Rig, SIZE, is_slot};
 use crate::slow::{holds, peek};
 use extent_groups::{Class, GroupTable, Member, SLOTS, StoreRefusal};
@@ -62,7 +62,8 @@ struct Case {
     lost: Option<usize>,
 }
 
-/// Writes and reads a slot and its header over a loss; the groups and drives then, and whether the write was answered, and both reads.
+/// Writes a slot, and reads it and its header, while a drive is lost. Returns the groups and drives after it, whether the write
+/// succeeded, and whether both reads did.
 fn run(rt: &impl Abort, alloc: Global, case: &Case) -> (Rig, bool, bool) {
     let mut rig = rig_of(rt, alloc, case.class, case.drives, case.segments);
     fill(rt, &mut rig);
@@ -93,7 +94,8 @@ fn run(rt: &impl Abort, alloc: Global, case: &Case) -> (Rig, bool, bool) {
     (rig, wrote.is_ok(), read.is_ok() && front.is_ok())
 }
 
-/// Each slot has the unit that it was last given, or is lost with a second drive; whether the written one has one.
+/// Asserts that each slot but the written one has its first unit, or is lost with a second drive. Returns whether the written
+/// one has its new unit.
 fn stand(
     rt: &impl Abort,
     case: &Case,
@@ -131,7 +133,7 @@ fn stands(rt: &impl Abort, case: &Case, rig: Rig) -> bool {
     stand(rt, case, &groups, &mut drives, &mut unit, &mut part)
 }
 
-/// No answer is changed by the loss.
+/// Asserts that a write or a read is refused only where another drive was lost before, and the slot's unit is lost.
 fn swept(rt: &impl Abort, alloc: Global, case: &Case) {
     let (rig, wrote, read) = run(rt, alloc, case);
     let there = stands(rt, case, rig);

@@ -141,7 +141,7 @@ impl Walk {
         }
     }
 
-    // The running map, that of the headers and that of the log are one.
+    // The running map, that of the headers and that of the log are equal.
     fn maps_agree(&mut self, rt: &impl Abort) -> bool {
         let running = running(rt, self.alloc, &self.world);
         let scanned = world_scanned(rt, self.alloc, &mut self.world);
@@ -169,7 +169,7 @@ impl Walk {
         true
     }
 
-    // Takes a step, and sees that all is as it should be.
+    // Takes a step, and asserts that the maps agree and that every block reads as it was last written.
     fn take(&mut self, rt: &impl Abort, step: &Step) -> Answer {
         let answer = answer(rt, self.alloc, &mut self.world, step);
         self.follow_log(rt);

@@ -20,7 +20,7 @@ either : (a b : Bool) (u : List ℕ) (x y : Option (List ℕ)) → x ≡ if_ok a
 either true b u x y ex ey = ap (λ z. or_else z y) ex
 either false b u x y ex ey = ap (λ z. or_else z y) ex ∙ ey
 
--- of two copies of which one was written one was there
+-- where one of two copies was written, one of them was there
 there : (a b : Bool) (x y : Option (List ℕ)) → (a ≡ true → x ≡ None → ⊥) → (b ≡ true → y ≡ None → ⊥) → (a || b) ≡ true → ((x ≡ None) × (y ≡ None)) → ⊥
 there true b x y one two ok none = one refl none.0
 there false b x y one two ok none = two ok none.1

@@ -4,7 +4,7 @@ use Rattle.std.proofs.lemmas.List.Sums.{count_by_more_yes, sum_by-take-le}
 use Rattle.slot_tables.specs.Views.{kept_at, is_kept}
 use Rattle.array_book.proofs.plan.wants_demotion.Goals as goal
 
--- one more is held than may be, among those up to this one and so among all
+-- the mirrored slots up to this one already hold one more than allowed, and so do all of them
 pub returns-then-spare-eq0 : goal.returns-then-spare-eq0
 returns-then-spare-eq0 g c =
     let p : ℕ → Bool = λ s. is_kept (kept_at c.args.kept.now.array s) in

@@ -4,7 +4,7 @@ use Rattle.array_book.specs.Outcomes.{IsTried, HadNoRoom}
 use Rattle.array_book.proofs.Planning.{next_tried, next_none}
 use Rattle.array_book.proofs.worker.claim_planned.Goals as goal
 
--- what holds is so where there is none too
+-- what holds, holds also where there is none
 if_none : {X : Type 0} (r : Option X) (P : Type 0) → P → IfNone r P
 if_none None P holds = holds
 if_none (Some x) P holds = tt

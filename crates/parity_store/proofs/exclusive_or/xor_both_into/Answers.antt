@@ -7,7 +7,7 @@ use Rattle.extent_groups.proofs.ExclusiveOr.{plus-assoc}
 use Rattle.parity_store.proofs.Mixed.{mixed_more, mixed_block, mixed_all, chunk_plus}
 use Rattle.parity_store.proofs.exclusive_or.xor_both_into.Goals as goal
 
--- the exclusive or of the two others is as long
+-- the exclusive or of two lists of one length has that length
 long : (into one other : List ℕ) → length into ≡ length one → length into ≡ length other → length into ≡ length (plus one other)
 long into one other first second = first ∙ sym (length-zip2 bit_xor one other (sym first ∙ second))
 

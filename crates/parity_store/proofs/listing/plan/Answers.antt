@@ -36,7 +36,7 @@ returns-clause-sound g c = λ s. (read_keeps _ _ _ c.of_slot-target.ensures.grou
 pub returns-clause-drives : goal.returns-clause-drives
 returns-clause-drives g c = drives_kept _ c.find_way-way.ensures.touched c.requires.drives
 
--- a vector that was filled by a slice as long
+-- the first n elements after a slice of length n was copied over them
 refilled : (n : ℕ) (ws xs : List ℕ) → n ≡ length ws → take n (ws ++ drop (length ws) xs) ≡ ws
 refilled n ws xs e = ap (λ k. take k (ws ++ drop (length ws) xs)) e ∙ take-append_seam ws (drop (length ws) xs)
 

@@ -8,7 +8,7 @@ use Rattle.single_writes.proofs.stop.stop_after.Goals as goal
 pub run_micro-requires-clause-writes : goal.run_micro-requires-clause-writes
 run_micro-requires-clause-writes g c = c.in-Ok.ensures.run c.in-Ok-into_parts.taken.0 c.in-Ok-into_parts.ensures.parts c.in-Ok-into_parts.ensures.fit
 
--- the parts couldn't be taken: memory, where the step's checks pass
+-- the parts couldn't be taken: out of memory, where the step's checks pass
 pub returns-in-Err-into_parts-clause-why : goal.returns-in-Err-into_parts-clause-why
 returns-in-Err-into_parts-clause-why g c F w shows may = (c.in-Ok.ensures.flat F w shows may).wanted
 
