@@ -14,7 +14,7 @@ pub(crate) enum Trouble {
     Line(usize),
     /// The number of images isn't the table's number of drives.
     Count,
-    /// The table's groups don't fit the drives.
+    /// The table's groups don't fit one another.
     Misfit,
     /// The file's length isn't that of an image.
     Length(usize),

@@ -28,8 +28,11 @@ impl<'m, 'w> Files<'m, 'w> {
         }
     }
 
-    /// Whether all files have different names, and no image's is the word for a lost drive.
+    /// Whether all files have different names, and none is the word for a lost drive.
     pub(crate) fn can_be_written(&self) -> bool {
+        if self.table == LOST {
+            return false;
+        }
         for (number, image) in self.images.iter().enumerate() {
             let is_taken = self.images[..number].iter().any(|other| *other == *image);
             if is_taken || *image == self.table || *image == LOST {

@@ -5,7 +5,7 @@ use Rattle.array_parts.specs.declared.micro.Micro.TheVariants.{NoteSet, Write, N
 use Rattle.array_parts.specs.declared.parts.Parts.{Parts}
 use Rattle.array_parts.specs.Micros.{AreWrites}
 
--- where each entry by itself writes a unit to a place, the list does
+-- where each entry alone writes only whole units to existing places, so does the list
 pub each_write : {D : Type 0} (units : D → List (List ℕ)) (parts : Parts D) (list : List Micro)
     → ((k : ℕ) (m : Micro) → slice_get list k ≡ Some m → AreWrites units parts (m ∷ [])) → AreWrites units parts list
 each_write units parts [] each w (k, low, is) = absurd (omega (arith, low))

@@ -6,6 +6,12 @@ mod adoptions;
 #[cfg(test)]
 mod counts;
 #[cfg(test)]
+mod cuts;
+#[cfg(test)]
+mod ends;
+#[cfg(test)]
+mod extent_units;
+#[cfg(test)]
 mod learned;
 #[cfg(test)]
 mod lists;

@@ -184,6 +184,16 @@ impl Stop {
         self.peek(rt, drive, at) == Some(unit)
     }
 
+    /// Writes the unit at an address of a drive.
+    pub(crate) fn put(&mut self, rt: &impl Abort, drive: usize, at: u32, unit: &[u8; UNIT]) {
+        let Some(drive) = self.parts.drives.get_mut(drive) else {
+            panic!(rt; "no drive")
+        };
+        assert!(rt; drive.unit_bytes() == UNIT);
+        assert!(rt; at < drive.units());
+        assert!(rt; drive.write_unit(at, unit).is_ok());
+    }
+
     /// All units of the drives that are present, one after the other.
     pub(crate) fn all_units(&mut self, rt: &impl Abort) -> Vec<u8> {
         let mut units = Vec::new(self.alloc);
@@ -249,13 +259,18 @@ impl Stop {
 
     /// The array that a restart makes of this, with the claims of all slots.
     pub(crate) fn restarted(self, rt: &impl Abort) -> Rig {
-        assert!(rt; self.is_ready());
-        let Stop { parts, alloc } = self;
         let mut slots = [0; 14];
         for (at, slot) in slots.iter_mut().enumerate() {
             *slot = if at < 6 { at as u16 } else { at as u16 + 122 };
         }
-        let Ok((array, _others)) = restart(alloc, parts, claims_of(rt, alloc, &slots)) else {
+        self.restarted_with(rt, &slots)
+    }
+
+    /// The array that a restart makes of this, with the claims of these slots.
+    pub(crate) fn restarted_with(self, rt: &impl Abort, slots: &[u16]) -> Rig {
+        assert!(rt; self.is_ready());
+        let Stop { parts, alloc } = self;
+        let Ok((array, _others)) = restart(alloc, parts, claims_of(rt, alloc, slots)) else {
             panic!(rt; "not restarted")
         };
         Rig { array, alloc }
