@@ -1,4 +1,4 @@
--- A fresh payload that waits at a slot gets a record without a hop.
+-- A fresh payload or trim that waits at a slot gets a record without a hop.
 use Rattle.std.proofs.Common.{◌≡◌, true, refl}
 use Rattle.slot_tables.specs.Views.{Kept, Nothing, Pending, Moving, Newest, Unmade}
 use Rattle.slot_tables.specs.Changes.{hop_given}

@@ -104,7 +104,7 @@ pub(crate) fn end_fresh_in<D: Drive, N: Naming + Sizes>(
     }
 }
 
-/// Commits a copy, and notes where the write log goes on. If the commit is refused, the ticket is given up.
+/// Commits a copy, and notes where the write log goes on, if the plan appends. If the commit is refused, the ticket is given up.
 pub(crate) fn end_moved_in<D: Drive, N: Naming + Sizes>(
     kept: &mut Kept<D, N>,
     alloc: Global,

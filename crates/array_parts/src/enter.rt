@@ -40,7 +40,7 @@ impl<D: Drive> Parts<D> {
     }
 
     /// Makes a group under a free number, of members that pass every check, and wipes their extents first. Takes a buffer of
-    /// a unit's length. Refused with the first member's drive that is lost.
+    /// a unit's length. Refused with the drive of the first member whose drive is lost.
     pub fn enter(
         &mut self,
         group: u16,

@@ -1,4 +1,4 @@
--- Which slots a step or a placing frees: a release frees its slot, and nothing else frees any.
+-- Which slots a step or a placing frees: a release frees its slot, a make may free slots of its group, and nothing else frees any.
 use Rattle.std.proofs.Common.{◌≡◌, ◌≢◌, ◌⊎◌, inl, inr, ℕ, Bool, true, false, ◌||◌, ◌&&◌, not, ◌/◌, List, [], ◌∷◌, refl, sym, ap, ◌∙◌, subst, Option, Some, None}
 use Rattle.std.proofs.lemmas.Bool.{cases_eq}
 use Rattle.map_join.specs.declared.records.Record.{Record}

@@ -123,7 +123,7 @@ impl Planner {
         if block as usize >= self.ages.len() {
             return;
         }
-        // A write is noted before the mark: then the order's oldest mark is sought at most once.
+        // A write is noted before the mark: then the mark makes no turn be passed again.
         if committed.hop == 0 {
             self.ages.wrote(block);
         }

@@ -24,7 +24,8 @@ pub fn clean_plan<L: Live>(
     clean_plan_counted(groups, live, &counts_of(groups, live), write, append)
 }
 
-/// The plan of `clean_plan`. `counts` has each group's number of live slots, so only the slots of the chosen groups are read.
+/// The plan of `clean_plan`. `counts` has each parity group's number of live slots, so only the slots of the chosen groups are
+/// read.
 pub fn clean_plan_counted<L: Live>(
     groups: &GroupTable,
     live: &L,
@@ -41,8 +42,8 @@ pub fn clean_plan_counted<L: Live>(
     }
 }
 
-/// The plan of `clean_plan`, for a caller that has found that nothing can be plugged. `counts` has each group's number of live
-/// slots.
+/// The plan of `clean_plan`, for a caller that has found that nothing can be plugged. `counts` has each parity group's number
+/// of live slots.
 pub fn clean_plan_unplugged<L: Live>(
     groups: &GroupTable,
     live: &L,

@@ -18,7 +18,8 @@ pub fn plug_plan<L: Live>(groups: &GroupTable, live: &L, write: Option<u16>) -> 
     plug_plan_counted(groups, live, &counts_of(groups, live), write)
 }
 
-/// The plan of `plug_plan`. `counts` has each group's number of live slots, so only the slots of the two chosen groups are read.
+/// The plan of `plug_plan`. `counts` has each parity group's number of live slots, so only the slots of the two chosen groups
+/// are read.
 pub fn plug_plan_counted<L: Live>(
     groups: &GroupTable,
     live: &L,

@@ -32,7 +32,7 @@ pub struct Array<D: Drive, C: Hold> {
     pub(crate) log: Vec<Record>,
     /// The key of each block, 0 where it was never written.
     pub(crate) keys: Vec<u64>,
-    /// What is kept of each slot, for group numbers up to the greatest that was made. Of slots past its end nothing is kept.
+    /// What is kept of each slot, at least for the numbers of all made groups. Of slots past its end nothing is kept.
     pub(crate) places: Vec<SlotState<C>>,
     /// Of each group, how many of its slots are newest places.
     pub(crate) live: [u16; GROUPS],

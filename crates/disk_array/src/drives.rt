@@ -1,5 +1,5 @@
-// The array's calls of its drives for a slot, and for making a group. Only its parts change, and what it keeps of the slots
-// of a group's number that is made.
+// The array's calls of its drives for a slot or a group's slots, and for making a group. Only its parts change, and what it
+// keeps of the slots of a group's number that is made.
 ghost use Rattle.std.specs.Prelude.{◌≡◌, ◌⊎◌, ◌+◌, ◌*◌, ◌<◌, ◌≤◌, length, vec_len, vec_capacity, OnOk, OnErr, IfOk, IfErr, Some, None};
 ghost use Rattle.extents.specs.declared.shape.TheConstants.{HEADER_BYTES};
 ghost use Rattle.extent_groups.specs.Faults.{put_fault};

@@ -22,9 +22,9 @@ use std::alloc::Global;
 impl<D: Drive, C: Hold> Array<D, C> {
     /// Copies the units of a group's member onto another extent, or rebuilds them from the other members if the member's
     /// drive is lost, also during the move. Then that extent is the member, and the old one is free. Refused where there is
-    /// no such member, or the other extent isn't there, is on a drive of one of the members, is owned, or is on a lost drive;
-    /// and as gone, with the lowest slot of the group that is gone, where a unit can't be rebuilt. A refused move leaves
-    /// tables and slots as they were, but for drives that were lost; the other extent may have been written.
+    /// no such member, or the other extent isn't there, is on a drive of one of the members, is owned, or is on a drive that
+    /// is lost by then; and as gone, with the lowest slot of the group that is gone, where a unit can't be rebuilt. A refused
+    /// move leaves tables and slots as they were, but for drives that were lost; the other extent may have been written.
     pub fn move_extent(
         &mut self,
         _alloc: Global,

@@ -138,7 +138,7 @@ slot_whole units lost ds t slot n a are same e =
 pub have_fronts : {D : Type 0} (units : D → List (List ℕ)) (n m : ℕ) (ds : List D) → n ≤ m → AreSized units m ds → HaveFronts units n ds
 have_fronts units n m ds h sized d x there at u is = omega (arith, h, sized d x there at u is)
 
--- reads leave the prefixes
+-- after reads, units still have prefixes of this length
 pub keeps_fronts : {D : Type 0} {units : D → List (List ℕ)} {lost : D → Bool} {failures : D → Failures} {a b : List D} {n : ℕ}
     → KeepsDrives units lost failures NoPlace a b → HaveFronts units n a → HaveFronts units n b
 keeps_fronts {D = D} {a = a} keeps have d y there at u is =

@@ -113,8 +113,8 @@ pub record KeepsAt (bytes : ℕ) (c new : Cells) (t : Site) : Type 0 where
   pub unit : (v : List ℕ) → unit_at bytes new t ≡ Some v → unit_at bytes c t ≡ Some v
   pub sound : IsSoundAt bytes new t
 
--- what a write of a sound site leaves: it is sound, and every other sound site, of its row or apart from it, is sound and keeps
--- its effective unit, if it has one
+-- what a write of a sound site leaves: it is sound, and every other sound site, of its row or apart from it, is sound, and its
+-- effective unit, if it has one afterwards, is what it was
 pub record LeavesSites (bytes : ℕ) (c new : Cells) (site : Site) : Type 0 where
   pub sound : IsSoundAt bytes new site
   pub others : (t : Site) → IsWhole t → IsApart site t ⊎ AreBeside site t → IsSoundAt bytes c t → KeepsAt bytes c new t

@@ -4,7 +4,7 @@ use crate::trouble::Trouble;
 use script_io::{End, run_script};
 use std::alloc::Global;
 
-/// How many runs ended by a failed read, and how many by a failed write.
+/// How many runs ended by a failed read, and how many by a write that failed or accepted no byte.
 #[derive(Drop)]
 pub(crate) struct Edges {
     pub(crate) readers: u64,

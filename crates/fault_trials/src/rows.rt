@@ -27,8 +27,8 @@ pub(crate) struct Restarts {
 
 /// Carries out each row. It has, with commas between: a number; units to write, as slot, header and the payload's number;
 /// drives to lose; `fault` and its numbers, or each block's record and content; steps with their answers; and slots with
-/// the bytes of their units at the end. A field separates its items by semicolons, and `-` is none. The first line names
-/// the fields.
+/// the bytes of their units at the end. Semicolons separate the items of a field, spaces the drives, and `-` is none.
+/// The first line names the fields.
 pub(crate) fn restart_all(alloc: Global, text: &str) -> Result<Restarts, Trouble> {
     let mut counts = Restarts {
         rows: 0,
@@ -49,7 +49,7 @@ pub(crate) fn restart_all(alloc: Global, text: &str) -> Result<Restarts, Trouble
     Ok(counts)
 }
 
-// The items of a field, separated by semicolons; none if it is `-`.
+// The items of a field, in one text; empty if it is `-`.
 fn items(field: &str) -> &str {
     if field == "-" { "" } else { field }
 }

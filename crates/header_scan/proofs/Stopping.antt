@@ -42,7 +42,7 @@ front_writes (Write drive at unit ∷ puts) zero only = refl
 front_writes (Write drive at unit ∷ puts) (suc k) only = ap (λ ws. record { place = record { drive = drive; address = at }; unit = unit.items } ∷ ws) (front_writes puts k only)
 front_writes (NoteClear ∷ puts) k only = absurd only
 
--- and the note is there, or it was cleared after all of them
+-- and the note is still there, or it was cleared
 front_note : (note : Note) (puts : List Micro) (k : ℕ) → ArePuts puts
     → (note_after (Some note) (take k (puts ++ NoteClear ∷ [])) ≡ Some note) ⊎ (note_after (Some note) (take k (puts ++ NoteClear ∷ [])) ≡ None)
 front_note note [] zero only = inl refl
@@ -97,11 +97,11 @@ over_again None b u (inl same) = inr same
 over_again (Some v) b u (inl same) = inl (same ∙ ap (λ o. over o u) (sym same))
 over_again a b u (inr gone) = inr gone
 
--- a unit put at a slot that had one leaves which slots have a unit
 some_is : {X : Type 0} (o : Option X) → o ≢ None → is_some o ≡ true
 some_is None some = absurd (some refl)
 some_is (Some x) some = refl
 
+-- a unit put at a slot that had one leaves which slots have a unit
 there_put : (f : ℕ → Option Stored) (slot : ℕ) (u : Stored) (has : ℕ → Bool) → ((s : ℕ) → is_some (f s) ≡ has s) → has slot ≡ true
     → (s : ℕ) → is_some (put f slot (Some u) s) ≡ has s
 there_put f slot u has there here s = elim (same_or_not s slot) [

@@ -35,7 +35,7 @@ Replies (Err (failure.Wrong why.Range)) state bench line old new = IsBeyond stat
 Replies (Err (failure.Wrong why.Form)) state bench line old new = IsUnsaid state line old new
 Replies (Err (failure.Wrong _)) state bench line old new = ⊥
 
--- what is replied to the line that makes the array, by the outcome
+-- what is replied to a line before there is an array, by the outcome: the bench that it made, or why it made none
 abbrev pub Starts : Result Bench Failure → List ℕ → List ℕ → List ℕ → Type 0
 Starts (Ok bench) line old new = IsReplied None (Some bench) line old new
 Starts (Err f) line old new = Replies (Err f) None None line old new

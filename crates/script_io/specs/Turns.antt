@@ -111,7 +111,7 @@ abbrev pub AllSaid : Halt → Option (List ℕ) → Script → State → Option 
 AllSaid last None old state held now = Unit {0}
 AllSaid last (Some input) old state held now = Concludes last old state input held now
 
--- what was done in a turn, by what halted the script, if anything did
+-- what was done in some turns, by what halted the script, if anything did
 abbrev pub TurnsTo : Option Halt → Option (List ℕ) → Option (List ℕ) → Script → State → Script → Option (List ℕ) → Option (List ℕ) → Type 0
 TurnsTo None before after old state new held now = PartSaid before after old state new held now
 TurnsTo (Some (halt.ReadBroke broke)) before after old state new held now = PartSaid before after old state new held now

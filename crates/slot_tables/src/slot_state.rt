@@ -98,9 +98,9 @@ pub fn take_waiting<C: Hold>(places: &mut Vec<SlotState<C>>, slot: u16) -> C
     }
 }
 
-// Makes places for the slots of all groups up to this one. If an allocation fails, the existing places stay. When the vector
-// grows, its capacity is at least twice its length, up to one place for each slot number. So growing group by group copies
-// each place a constant number of times on average.
+// Makes places for the slots of all groups up to this one. If an allocation fails, the existing places stay. An allocation is
+// for at least twice as many places as there were, up to one place for each slot number. So growing group by group copies each
+// place a constant number of times on average.
 pub fn grow_to<C: Hold>(places: &mut Vec<SlotState<C>>, group: u16) -> Result<(), AllocError>
     requires group { group < 512 }
     requires most { vec_len places.old ≤ 65536 }

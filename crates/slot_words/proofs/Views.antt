@@ -10,7 +10,8 @@ use Rattle.slot_words.specs.declared.view.View.{View}
 use Rattle.slot_words.specs.ClaimRule.{StandsIn}
 use Rattle.slot_words.proofs.Lists.{at_inside, at_append, at_behind, nowhere, alone}
 
--- where a pair of a joined seat was before: in that seat, or `long` places less far in the other
+-- where a pair was before a join: one of a seat that isn't joined where it is; one of the joined seat where it is, or, from
+-- place `long` on, `long` places lower in the other seat
 abbrev pub Glued : ℕ → ℕ → ℕ → ℕ → ℕ → ℕ → ℕ → Type 0
 Glued id other long s k a b = ((s ≢ id) × (s ≢ other) × (s ≡ a) × (k ≡ b)) ⊎ (((s ≡ id) × (k < long) × (a ≡ id) × (k ≡ b)) ⊎ ((s ≡ id) × (a ≡ other) × (k ≡ long + b)))
 

@@ -1,4 +1,4 @@
-//! Claims of slots without a lock: one word for each slot, and no two claims that exist at once are of the same slot.
+//! Claims of slots without a lock: one word for each slot, and no two claims of a table that exist at once are of the same slot.
 #![tactic(auto)]
 
 mod claim;

@@ -6,7 +6,8 @@ use crate::rule::Sitting;
 use std::marker::{Model, PhantomData};
 
 /// Lets its holder make steps on the words of the table N. It has no bytes. A contract sees its last look and its last step,
-/// all the steps that it made, the claims that it won, and its shares of the right to step.
+/// all the steps that it made, a list of won claims, and its shares of the right to step. A claim takes that list along, and
+/// adds it to the list of the Pass that releases it.
 #[derive(Drop)]
 pub struct Pass<N: Naming> {
     pub(crate) seat: Sitting,

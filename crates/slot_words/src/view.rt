@@ -27,7 +27,7 @@ pub struct Sight {
     pub time: u64,
 }
 
-/// The seat's last look, its last step of any kind, all that it made, the pairs that it has, and those that it ever won;
+/// The seat's last look, its last step of any kind, all that it made, the pairs that it has, and a list of won pairs;
 /// and its shares of the right to step, each given as how often the whole right was halved.
 pub struct View {
     pub look: Sight,
