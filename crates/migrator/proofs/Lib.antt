@@ -1,5 +1,8 @@
 pub mod Keeping
 pub mod Turned
+pub mod Packed
+pub mod Written
+pub mod Hashed
 pub mod Oldest
 pub mod Law
 pub mod Passed

@@ -2,6 +2,7 @@
 #![tactic(auto)]
 
 mod append;
+mod block_hash;
 mod first;
 mod laws;
 mod log_end;
@@ -9,6 +10,7 @@ mod marked_ages;
 mod recency;
 mod rows;
 mod slots;
+mod turn_map;
 mod turns;
 
 pub use append::append_slots;

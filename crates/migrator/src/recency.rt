@@ -1,7 +1,7 @@
 // The order of last writes.
 ghost use Rattle.std.specs.Prelude.{◌≡◌, ◌↔◌, ◌<◌, ◌≤◌, length, IfOk, IsTrue, Some};
 ghost use Rattle.migrator.specs.Ages.{by_number, written, IsOldest};
-ghost use Rattle.migrator.specs.Inside.{blocks_in};
+ghost use Rattle.migrator.specs.Inside.{in_order};
 ghost use Rattle.extent_groups.specs.declared.class.Class.TheVariants.{Mirrored};
 ghost use Rattle.migrator.specs.Slots.{class_at, IsMirrored};
 
@@ -57,22 +57,18 @@ impl Recency {
     pub fn next_to_demote<N: Newest>(&self, groups: &GroupTable, newest: &N) -> Option<u32>
         ensures { IsOldest self.now (IsMirrored groups.now (N.keys newest.now)) result }
     {
-        first_mirrored(self.turns.as_slice(), self.turns.blocks(), groups, newest)
+        first_mirrored(&self.turns, groups, newest)
     }
 }
 
-// The first block of these whose newest place is in a mirrored group.
-fn first_mirrored<N: Newest>(
-    kept: &[u32],
-    blocks: u32,
-    groups: &GroupTable,
-    newest: &N,
-) -> Option<u32>
-    ensures { IsOldest (blocks_in blocks kept.now) (IsMirrored groups.now (N.keys newest.now)) result }
+// The first block in the order whose newest place is in a mirrored group.
+fn first_mirrored<N: Newest>(turns: &Turns, groups: &GroupTable, newest: &N) -> Option<u32>
+    ensures { IsOldest (in_order turns.now) (IsMirrored groups.now (N.keys newest.now)) result }
 {
-    for number in kept {
-        if *number < blocks && is_mirrored(groups, newest.newest(*number)) {
-            return Some(*number);
+    for turn in 0..turns.len() {
+        let number = turns.at(turn);
+        if number < turns.blocks() && is_mirrored(groups, newest.newest(number)) {
+            return Some(number);
         }
     }
     None

@@ -1,32 +1,32 @@
-// The order of last writes in two tables: which block is at each turn, and at which turn each block is.
-ghost use Rattle.std.specs.Prelude.{◌≡◌, ℕ, ◌*◌, ◌<◌, ◌≤◌, false, length, IfOk, slice_index};
+// The order of last writes: which block is at each turn, and at which turn each block is.
+ghost use Rattle.std.specs.Prelude.{◌≡◌, ℕ, ◌+◌, ◌-◌, ◌*◌, ◌<◌, ◌≤◌, length, IfOk, slice_index, slice_set, vec_capacity};
 ghost use Rattle.migrator.specs.Ages.{by_number, written};
-ghost use Rattle.migrator.specs.Inside.{in_order, KeepsFront};
+ghost use Rattle.migrator.specs.Inside.{in_order, IsFirstByNumber, KeepsFront};
 
+use crate::turn_map::TurnMap;
 use std::alloc::{AllocError, Global};
 use std::marker::Model;
 
-/// All blocks in the order of their last writes, with gaps between them.
+// The least number of gaps at which they are removed.
+const FEW: usize = 64;
+
+/// All blocks in the order of their last writes, with gaps between them. The first turns, one a block, are those before any write.
 #[derive(Drop)]
 pub(crate) struct Turns {
-    blocks: u32,
-    // At each turn a block, or a gap: a number that is no block's.
-    numbers: Vec<u32>,
-    // The turn of each block.
-    turns: Vec<u32>,
-    // How many turns are used. The numbers after them have no meaning.
-    len: usize,
+    turns: TurnMap,
+    // At each turn after the first ones a block, or a gap: a number that is no block's. There is room for two turns a block.
+    later: Vec<u32>,
 }
 
 impl Model for Turns {
-    ghost use Rattle.std.specs.Prelude.{take};
-    ghost use Rattle.migrator.specs.Inside.{Order, AreTurns};
+    ghost use Rattle.std.specs.Prelude.{vec_capacity};
+    ghost use Rattle.migrator.specs.Inside.{Order, AreTurns, order_of};
 
     ghost Value = { Order };
 
-    ghost view = { λ t. record { blocks = t.blocks; kept = take t.len t.numbers.items } };
+    ghost view = { λ t. order_of t.turns t.later.items };
 
-    ghost invariant = { λ t. AreTurns t.blocks t.numbers.items t.turns.items t.len };
+    ghost invariant = { λ t. AreTurns t.turns t.later.items (vec_capacity t.later) };
 }
 
 impl Turns {
@@ -36,10 +36,8 @@ impl Turns {
         ensures { IfOk result (λ turns. in_order turns ≡ by_number blocks) }
     {
         Ok(Turns {
-            blocks,
-            numbers: counted(alloc, 2 * blocks)?,
-            turns: counted(alloc, blocks)?,
-            len: blocks as usize,
+            turns: TurnMap::new(alloc, blocks)?,
+            later: Vec::with_capacity(alloc, 2 * blocks as usize)?,
         })
     }
 
@@ -48,14 +46,33 @@ impl Turns {
         ensures blocks { result ≡ self.now.blocks }
         ensures all { result ≡ length (in_order self.now) }
     {
-        self.blocks
+        self.turns.blocks()
     }
 
-    /// The number at each turn.
-    pub(crate) fn as_slice(&self) -> &[u32]
-        ensures { result.now ≡ self.now.kept }
+    /// How many turns there are. The first ones, one a block, have the block of that number or a gap.
+    pub(crate) fn len(&self) -> usize
+        ensures len { result ≡ length self.now.kept }
+        ensures all { self.now.blocks ≡ length (in_order self.now) }
+        ensures first { IsFirstByNumber self.now }
     {
-        &self.numbers[..self.len]
+        self.turns.blocks() as usize + self.later.len()
+    }
+
+    /// The block at a turn, or a number that is no block's if there is a gap.
+    #[inline(always)]
+    pub(crate) fn at(&self, turn: usize) -> u32
+        requires { turn < length self.now.kept }
+        ensures { result ≡ slice_index self.now.kept turn }
+    {
+        let blocks = self.turns.blocks();
+        if turn >= blocks as usize {
+            return self.later[turn - blocks as usize];
+        }
+        if self.turns.turn_of(turn as u32) as usize == turn {
+            turn as u32
+        } else {
+            blocks
+        }
     }
 
     /// The turn of a block.
@@ -64,74 +81,82 @@ impl Turns {
         ensures within { result < length self.now.kept }
         ensures only { (k : ℕ) → k < length self.now.kept → slice_index self.now.kept k ≡ block → k ≡ result }
     {
-        self.turns[block as usize] as usize
+        self.turns.turn_of(block) as usize
     }
 
-    /// Notes a write of a block, which becomes the last in the order. Returns whether all gaps were removed for it. Allocates
-    /// nothing, and takes constant time on average.
-    pub(crate) fn wrote(&mut self, block: u32) -> bool
+    /// Notes a write of a block, which becomes the last in the order. Returns how many of the first turns are as they were, but
+    /// for gaps. Allocates nothing, and takes constant time on average.
+    pub(crate) fn wrote(&mut self, block: u32) -> usize
         requires { block < length (in_order self.old) }
         ensures order { in_order self.new ≡ written (in_order self.old) block }
         ensures length { length (in_order self.new) ≡ length (in_order self.old) }
-        ensures front { result ≡ false → KeepsFront self.old self.new }
+        ensures front { KeepsFront result self.old self.new }
     {
-        let packed = self.make_room();
+        let front = self.make_room();
         self.move_last(block);
-        packed
+        front
     }
 
-    // Removes all gaps if there is no room for one more, and returns whether it did.
-    fn make_room(&mut self) -> bool
+    // Removes all gaps if there are too many. Returns how many of the first turns are as they were.
+    fn make_room(&mut self) -> usize
         requires { 0 < length (in_order self.old) }
         ensures order { in_order self.new ≡ in_order self.old }
-        ensures room { length self.new.kept < 2 * length (in_order self.old) }
-        ensures same { result ≡ false → self.new ≡ self.old }
+        ensures room { length self.new.kept < 3 * length (in_order self.old) }
+        ensures front { KeepsFront result self.old self.new }
     {
-        let full = self.len >= 2 * self.blocks as usize;
-        if full {
-            self.pack();
+        let blocks = self.turns.blocks() as usize;
+        let most = (2 * blocks).min(2 * self.turns.written() + FEW);
+        if self.later.len() < most {
+            return self.len();
         }
-        full
+        self.pack();
+        blocks
     }
 
     // Puts a block last, and a gap into its place.
     fn move_last(&mut self, block: u32)
         requires block { block < length (in_order self.old) }
-        requires room { length self.old.kept < 2 * length (in_order self.old) }
+        requires room { length self.old.kept < 3 * length (in_order self.old) }
         ensures order { in_order self.new ≡ written (in_order self.old) block }
         ensures length { length (in_order self.new) ≡ length (in_order self.old) }
-        ensures front { KeepsFront self.old self.new }
+        ensures front { KeepsFront (length self.old.kept) self.old self.new }
     {
-        let turn = self.turns[block as usize];
-        let last = self.len;
-        // A gap: blocks are numbered from 0, so no block has this number.
-        self.numbers[turn as usize] = self.blocks;
-        self.numbers[last] = block;
-        self.turns[block as usize] = last as u32;
-        self.len += 1;
+        let blocks = self.turns.blocks();
+        let last = blocks + self.later.len() as u32;
+        let turn = self.turns.replace(block, last);
+        leave_gap(&mut self.later, blocks, turn);
+        self.later.push_reserved(block);
     }
 
-    // Removes all gaps.
+    // Removes all gaps after the first turns.
     fn pack(&mut self)
         ensures order { in_order self.new ≡ in_order self.old }
-        ensures length { length self.new.kept ≡ length (in_order self.old) }
+        ensures room { length self.new.kept ≤ 2 * length (in_order self.old) }
+        ensures front { KeepsFront (length (in_order self.old)) self.old self.new }
     {
+        let blocks = self.turns.blocks();
         let mut packed = 0;
-        for at in 0..self.len {
-            let number = self.numbers[at];
-            if number < self.blocks {
-                self.numbers[packed] = number;
-                self.turns[number as usize] = packed as u32;
+        for at in 0..self.later.len() {
+            let number = self.later[at];
+            if number < blocks {
+                self.later[packed] = number;
+                self.turns.replace(number, blocks + packed as u32);
                 packed += 1;
             }
         }
-        self.len = packed;
+        self.later.truncate(packed);
     }
 }
 
-// The numbers from 0 up.
-fn counted(alloc: Global, count: u32) -> Result<Vec<u32>, AllocError>
-    ensures { IfOk result (λ numbers. numbers.items ≡ by_number count) }
+// Puts a gap at a turn, if it isn't one of the first: there a gap is known by the turn of the block.
+fn leave_gap(later: &mut Vec<u32>, blocks: u32, turn: u32)
+    requires { turn < blocks + length later.old.items }
+    ensures first { turn < blocks → later.new.items ≡ later.old.items }
+    ensures gap { blocks ≤ turn → later.new.items ≡ slice_set later.old.items (turn - blocks) blocks }
+    ensures room { vec_capacity later.new ≡ vec_capacity later.old }
 {
-    (0..count).collect(alloc)
+    if turn >= blocks {
+        // Blocks are numbered from 0, so no block has this number.
+        later[(turn - blocks) as usize] = blocks;
+    }
 }

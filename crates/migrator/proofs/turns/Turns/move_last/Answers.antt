@@ -1,51 +1,96 @@
-use Rattle.std.proofs.Common.{arith}
-use Rattle.migrator.proofs.Turned.{count_order, free, leaves_used, after_turns, after_order, after_length, after_front}
+use Rattle.std.proofs.Common.{◌≡◌, ◌∙◌, ◌+◌, ◌-◌, ◌<◌, ◌≤◌, ap, get_or, length, set, subst, sym, arith}
+use Rattle.std.specs.Vec.{vec_capacity}
+use Rattle.migrator.specs.Inside.{in_order, KeepsFront}
+use Rattle.migrator.proofs.Turned.{after_front, after_in, after_length, after_order, after_same, as_long_behind, count_order, free, length_kept}
 use Rattle.migrator.proofs.turns.Turns.move_last.Goals as goal
 
-pub index-turn-requires : goal.index-turn-requires
-index-turn-requires c =
+pub replace-turn-requires : goal.replace-turn-requires
+replace-turn-requires c =
     let i = c.self.inside in
-    omega (arith, count_order i.blocks i.numbers.items i.turns.items i.len c.args.self.now c.self.invariant c.self.view_is, c.requires.block, c.self.invariant.all)
+    omega (arith, count_order i.turns i.later.items (vec_capacity i.later) c.args.self.now c.self.invariant c.self.view_is, c.requires.block)
 
-pub index_mut-requires : goal.index_mut-requires
-index_mut-requires c =
+pub leave_gap-requires : goal.leave_gap-requires
+leave_gap-requires c =
     let i = c.self.inside in
-    let used = leaves_used i.blocks c.args.block i.len i.numbers.items i.turns.items c.self.invariant c.args.self.now c.self.view_is c.requires.block c.requires.room
-    c.index-turn.result.now c.index-turn.ensures in
-    omega (arith, used, c.self.invariant.within, c.self.invariant.room)
+    let block : c.args.block < length i.turns = omega (arith, count_order i.turns i.later.items (vec_capacity i.later) c.args.self.now c.self.invariant c.self.view_is, c.requires.block) in
+    let used = c.self.invariant.at.used c.args.block block in
+    omega (arith, used, length_kept i.turns i.later.items, c.replace-turn.ensures.turn, c.blocks-blocks.ensures.blocks)
 
-pub index_mut-requires-2 : goal.index_mut-requires-2
-index_mut-requires-2 c =
+pub push_reserved-requires : goal.push_reserved-requires
+push_reserved-requires c =
     let i = c.self.inside in
-    let room = free i.blocks c.args.block i.len i.numbers.items i.turns.items c.self.invariant c.args.self.now c.self.view_is c.requires.block c.requires.room
-    c.index-turn.result.now c.index-turn.ensures in
-    omega (arith, room, c.self.invariant.within, c.self.invariant.room)
-
-pub index_mut-requires-3 : goal.index_mut-requires-3
-index_mut-requires-3 c =
-    let i = c.self.inside in
-    omega (arith, count_order i.blocks i.numbers.items i.turns.items i.len c.args.self.now c.self.invariant c.self.view_is, c.requires.block, c.self.invariant.all)
+    let left = get_or i.turns c.args.block 0 in
+    let behind = c.leave_gap.new.later.items in
+    let n = c.blocks-blocks.ensures.blocks in
+    let turn = c.replace-turn.ensures.turn in
+    let first : left < length i.turns → behind ≡ i.later.items = λ l. c.leave_gap.ensures.first (omega (arith, l, n, turn)) in
+    let high : length i.turns ≤ left → behind ≡ set i.later.items (left - length i.turns) (length i.turns) =
+    λ h. c.leave_gap.ensures.gap (omega (arith, h, n, turn)) ∙ (λ j. set i.later.items (turn j - n j) (n j)) in
+    let long = as_long_behind c.args.block (vec_capacity i.later) i.turns i.later.items behind c.self.invariant c.args.self.now c.self.view_is c.requires.block c.requires.room
+    (c.blocks-blocks.result + c.len.result) (omega (arith, n, c.len.ensures)) first high in
+    let room = free c.args.block (vec_capacity i.later) i.turns i.later.items behind c.self.invariant c.args.self.now c.self.view_is c.requires.block c.requires.room
+    (c.blocks-blocks.result + c.len.result) (omega (arith, n, c.len.ensures)) first high in
+    omega (arith, long, room, c.leave_gap.ensures.room, c.self.invariant.room)
 
 pub invariant_of-self : goal.invariant_of-self
 invariant_of-self c =
     let i = c.self.inside in
-    after_turns i.blocks c.args.block i.len i.numbers.items i.turns.items c.self.invariant c.args.self.now c.self.view_is c.requires.block c.requires.room
-    c.index-turn.result.now c.index-turn.ensures
+    let left = get_or i.turns c.args.block 0 in
+    let behind = c.leave_gap.new.later.items in
+    let n = c.blocks-blocks.ensures.blocks in
+    let turn = c.replace-turn.ensures.turn in
+    let first : left < length i.turns → behind ≡ i.later.items = λ l. c.leave_gap.ensures.first (omega (arith, l, n, turn)) in
+    let high : length i.turns ≤ left → behind ≡ set i.later.items (left - length i.turns) (length i.turns) =
+    λ h. c.leave_gap.ensures.gap (omega (arith, h, n, turn)) ∙ (λ j. set i.later.items (turn j - n j) (n j)) in
+    after_in c.args.block (vec_capacity i.later) i.turns i.later.items behind c.self.invariant c.args.self.now c.self.view_is c.requires.block c.requires.room
+    (c.blocks-blocks.result + c.len.result) (omega (arith, n, c.len.ensures)) first high
+    c.replace-turn.new.self c.push_reserved.new.self.items (vec_capacity c.push_reserved.new.self) c.replace-turn.ensures.turns c.push_reserved.ensures.items
+    (c.push_reserved.ensures.capacity ∙ c.leave_gap.ensures.room)
 
 pub returns-clause-order : goal.returns-clause-order
 returns-clause-order c =
     let i = c.self.inside in
-    after_order i.blocks c.args.block i.len i.numbers.items i.turns.items c.self.invariant c.args.self.now c.self.view_is c.requires.block c.requires.room
-    c.index-turn.result.now c.index-turn.ensures
+    let left = get_or i.turns c.args.block 0 in
+    let behind = c.leave_gap.new.later.items in
+    let n = c.blocks-blocks.ensures.blocks in
+    let turn = c.replace-turn.ensures.turn in
+    let first : left < length i.turns → behind ≡ i.later.items = λ l. c.leave_gap.ensures.first (omega (arith, l, n, turn)) in
+    let high : length i.turns ≤ left → behind ≡ set i.later.items (left - length i.turns) (length i.turns) =
+    λ h. c.leave_gap.ensures.gap (omega (arith, h, n, turn)) ∙ (λ j. set i.later.items (turn j - n j) (n j)) in
+    ap in_order (after_same c.args.block (vec_capacity i.later) i.turns i.later.items behind c.self.invariant c.args.self.now c.self.view_is c.requires.block c.requires.room
+    (c.blocks-blocks.result + c.len.result) (omega (arith, n, c.len.ensures)) first high
+    c.replace-turn.new.self c.push_reserved.new.self.items c.replace-turn.ensures.turns c.push_reserved.ensures.items)
+    ∙ after_order c.args.block (vec_capacity i.later) i.turns i.later.items behind c.self.invariant c.args.self.now c.self.view_is c.requires.block c.requires.room
+    (c.blocks-blocks.result + c.len.result) (omega (arith, n, c.len.ensures)) first high
 
 pub returns-clause-length : goal.returns-clause-length
 returns-clause-length c =
     let i = c.self.inside in
-    after_length i.blocks c.args.block i.len i.numbers.items i.turns.items c.self.invariant c.args.self.now c.self.view_is c.requires.block c.requires.room
-    c.index-turn.result.now c.index-turn.ensures
+    let left = get_or i.turns c.args.block 0 in
+    let behind = c.leave_gap.new.later.items in
+    let n = c.blocks-blocks.ensures.blocks in
+    let turn = c.replace-turn.ensures.turn in
+    let first : left < length i.turns → behind ≡ i.later.items = λ l. c.leave_gap.ensures.first (omega (arith, l, n, turn)) in
+    let high : length i.turns ≤ left → behind ≡ set i.later.items (left - length i.turns) (length i.turns) =
+    λ h. c.leave_gap.ensures.gap (omega (arith, h, n, turn)) ∙ (λ j. set i.later.items (turn j - n j) (n j)) in
+    ap (λ o. length (in_order o)) (after_same c.args.block (vec_capacity i.later) i.turns i.later.items behind c.self.invariant c.args.self.now c.self.view_is c.requires.block c.requires.room
+    (c.blocks-blocks.result + c.len.result) (omega (arith, n, c.len.ensures)) first high
+    c.replace-turn.new.self c.push_reserved.new.self.items c.replace-turn.ensures.turns c.push_reserved.ensures.items)
+    ∙ after_length c.args.block (vec_capacity i.later) i.turns i.later.items behind c.self.invariant c.args.self.now c.self.view_is c.requires.block c.requires.room
+    (c.blocks-blocks.result + c.len.result) (omega (arith, n, c.len.ensures)) first high
 
 pub returns-clause-front : goal.returns-clause-front
 returns-clause-front c =
     let i = c.self.inside in
-    after_front i.blocks c.args.block i.len i.numbers.items i.turns.items c.self.invariant c.args.self.now c.self.view_is c.requires.block c.requires.room
-    c.index-turn.result.now c.index-turn.ensures
+    let left = get_or i.turns c.args.block 0 in
+    let behind = c.leave_gap.new.later.items in
+    let n = c.blocks-blocks.ensures.blocks in
+    let turn = c.replace-turn.ensures.turn in
+    let first : left < length i.turns → behind ≡ i.later.items = λ l. c.leave_gap.ensures.first (omega (arith, l, n, turn)) in
+    let high : length i.turns ≤ left → behind ≡ set i.later.items (left - length i.turns) (length i.turns) =
+    λ h. c.leave_gap.ensures.gap (omega (arith, h, n, turn)) ∙ (λ j. set i.later.items (turn j - n j) (n j)) in
+    subst (KeepsFront (length c.args.self.now.kept) c.args.self.now) (sym (after_same c.args.block (vec_capacity i.later) i.turns i.later.items behind c.self.invariant c.args.self.now c.self.view_is c.requires.block c.requires.room
+    (c.blocks-blocks.result + c.len.result) (omega (arith, n, c.len.ensures)) first high
+    c.replace-turn.new.self c.push_reserved.new.self.items c.replace-turn.ensures.turns c.push_reserved.ensures.items))
+    (after_front c.args.block (vec_capacity i.later) i.turns i.later.items behind c.self.invariant c.args.self.now c.self.view_is c.requires.block c.requires.room
+    (c.blocks-blocks.result + c.len.result) (omega (arith, n, c.len.ensures)) first high)

@@ -1,9 +1,10 @@
-use Rattle.std.proofs.Common.{◌≡◌}
-use Rattle.migrator.proofs.Turned.{ArePacked}
+use Rattle.std.proofs.Common.{◌≡◌, length}
+use Rattle.std.specs.Vec.{vec_capacity}
+use Rattle.migrator.proofs.Packed.{ArePacked}
 use Rattle.migrator.proofs.turns.Turns.pack.Given as goal
 
 abbrev pub invariant-loop-at : goal.invariant-loop-at
 invariant-loop-at l = record {
-  same : l.self-inside.blocks ≡ l.initial.self-inside.blocks;
-  packed : ArePacked l.initial.self-inside.blocks l.initial.self-inside.numbers.items l.initial.self-inside.turns.items l.self-inside.numbers.items l.self-inside.turns.items l.packed l.at;
+  room : vec_capacity l.self-inside.later ≡ vec_capacity l.initial.self-inside.later;
+  packed : ArePacked (length l.initial.self-inside.turns) l.initial.self-inside.later.items l.initial.self-inside.turns l.self-inside.later.items l.self-inside.turns l.packed l.at;
 }

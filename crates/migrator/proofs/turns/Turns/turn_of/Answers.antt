@@ -1,25 +1,18 @@
-use Rattle.std.proofs.Common.{◌≡◌, ◌∙◌, get_or, sym, arith}
-use Rattle.std.proofs.lemmas.List.{get_or_default}
-use Rattle.migrator.proofs.Turned.{count_order, count_kept, only_turn}
+use Rattle.std.proofs.Common.{◌++◌, ◌∙◌, length, sym, arith}
+use Rattle.std.specs.Vec.{vec_capacity}
+use Rattle.migrator.specs.Inside.{first_turns}
+use Rattle.migrator.proofs.Turned.{count_order, only_turn}
 use Rattle.migrator.proofs.turns.Turns.turn_of.Goals as goal
 
-pub index-requires : goal.index-requires
-index-requires c =
+pub turn_of-requires : goal.turn_of-requires
+turn_of-requires c =
     let i = c.self.inside in
-    omega (arith, count_order i.blocks i.numbers.items i.turns.items i.len c.args.self.now c.self.invariant c.self.view_is, c.requires, c.self.invariant.all)
-
-pub returns-clause-within : goal.returns-clause-within
-returns-clause-within c =
-    let i = c.self.inside in
-    let counted = count_order i.blocks i.numbers.items i.turns.items i.len c.args.self.now c.self.invariant c.self.view_is in
-    let read : c.index.result.now ≡ get_or i.turns.items c.args.block 0 = c.index.ensures ∙ get_or_default i.turns.items c.args.block _ 0 (omega (arith, counted, c.requires, c.self.invariant.all)) in
-    let used = c.self.invariant.used c.args.block (omega (arith, counted, c.requires)) in
-    omega (arith, count_kept i.blocks i.numbers.items i.turns.items i.len c.args.self.now c.self.invariant c.self.view_is, used, read)
+    omega (arith, count_order i.turns i.later.items (vec_capacity i.later) c.args.self.now c.self.invariant c.self.view_is, c.requires)
 
 pub returns-clause-only : goal.returns-clause-only
 returns-clause-only c =
     let i = c.self.inside in
-    let counted = count_order i.blocks i.numbers.items i.turns.items i.len c.args.self.now c.self.invariant c.self.view_is in
-    let read : c.index.result.now ≡ get_or i.turns.items c.args.block 0 = c.index.ensures ∙ get_or_default i.turns.items c.args.block _ 0 (omega (arith, counted, c.requires, c.self.invariant.all)) in
+    let counted = count_order i.turns i.later.items (vec_capacity i.later) c.args.self.now c.self.invariant c.self.view_is in
     rw (← c.self.view_is) (λ k l e.
-    only_turn i.blocks i.numbers.items i.turns.items i.len c.self.invariant c.args.block (omega (arith, counted, c.requires)) k l e ∙ sym read)
+    only_turn (length i.turns) (first_turns i.turns ++ i.later.items) i.turns c.self.invariant.at c.args.block (omega (arith, counted, c.requires)) k l e
+    ∙ sym c.turn_of.ensures)
