@@ -96,7 +96,7 @@ numbers_at n = record {
   once = λ k l low. let here : k < n = omega (arith, l, length_numbers n) in ap (λ b. get_or (by_number n) b 0) (read_number n k here) ∙ read_number n k here;
 }
 
-pub turns_by_number : (n capacity : ℕ) (ts later : List ℕ) → n ≤ 65536 → 2 * n ≤ capacity → ts ≡ by_number n → later ≡ [] → AreTurns ts later capacity
+pub turns_by_number : (n capacity : ℕ) (ts later : List ℕ) → n ≤ 65536 → 4 * n ≤ capacity → ts ≡ by_number n → later ≡ [] → AreTurns ts later capacity
 turns_by_number n capacity ts later few room es none =
     subst (λ ts. AreTurns ts later capacity) (sym es) (subst (λ l. AreTurns (by_number n) l capacity) (sym none) (record {
       few = omega (arith, few, length_numbers n);
@@ -304,12 +304,12 @@ module _ (b : ℕ) (ts later : List ℕ) (t : AreAt (length ts) (first_turns ts 
 
 -- the same of an order
 module _ (b capacity : ℕ) (ts later behind : List ℕ) (t : AreTurns ts later capacity) (order : Order) (view : order_of ts later ≡ order)
-    (listed : b < length (in_order order)) (room : length order.kept < 3 * length (in_order order)) (last : ℕ) (is : last ≡ length ts + length later)
+    (listed : b < length (in_order order)) (room : length order.kept < 5 * length (in_order order)) (last : ℕ) (is : last ≡ length ts + length later)
     (first : get_or ts b 0 < length ts → behind ≡ later) (high : length ts ≤ get_or ts b 0 → behind ≡ set later (get_or ts b 0 - length ts) (length ts)) where
   pub is_block : b < length ts
   is_block = omega (arith, count_order ts later capacity order t view, listed)
 
-  pub free : length later < 2 * length ts
+  pub free : length later < 4 * length ts
   free = omega (arith, count_order ts later capacity order t view, count_kept ts later order view, room)
 
   at_last : set ts b last ≡ set ts b (length (first_turns ts ++ later))

@@ -1,5 +1,6 @@
 // The turn of each block, kept for the blocks that were written.
-ghost use Rattle.std.specs.Prelude.{◌≡◌, ◌<◌, ◌≤◌, length, IfOk, slice_index, slice_set};
+ghost use Rattle.std.specs.Prelude.{◌≡◌, ◌+◌, ◌<◌, ◌≤◌, length, nat_eq, IfOk, None, Some, slice_index, slice_set};
+ghost use Rattle.indexmap.specs.IndexMap.{get, index_map_len, spare, IsUnique, Updates};
 ghost use Rattle.migrator.specs.Ages.{by_number};
 
 use crate::block_hash::ByNumber;
@@ -75,7 +76,20 @@ impl TurnMap {
             *kept = turn;
             return was;
         }
-        self.written.insert(block, turn).unwrap();
+        write_first(&mut self.written, block, turn);
         block
     }
+}
+
+// Writes the first turn of a block. It is a function of its own so that a later turn is written with few instructions.
+#[inline(never)]
+fn write_first(written: &mut IndexMap<u32, u32, ByNumber>, block: u32, turn: u32)
+    requires absent { get nat_eq written.old block ≡ None }
+    requires room { 0 < spare written.old }
+    ensures updates { Updates nat_eq written.old written.new block (Some turn) }
+    ensures len { index_map_len written.new ≡ index_map_len written.old + 1 }
+    ensures room { spare written.old ≤ spare written.new + 1 }
+    ensures unique { IsUnique nat_eq written.new }
+{
+    written.insert(block, turn).unwrap();
 }

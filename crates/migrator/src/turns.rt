@@ -14,7 +14,7 @@ const FEW: usize = 64;
 #[derive(Drop)]
 pub(crate) struct Turns {
     turns: TurnMap,
-    // At each turn after the first ones a block, or a gap: a number that is no block's. There is room for two turns a block.
+    // At each turn after the first ones a block, or a gap: a number that is no block's. There is room for four turns a block.
     later: Vec<u32>,
 }
 
@@ -37,7 +37,7 @@ impl Turns {
     {
         Ok(Turns {
             turns: TurnMap::new(alloc, blocks)?,
-            later: Vec::with_capacity(alloc, 2 * blocks as usize)?,
+            later: Vec::with_capacity(alloc, 4 * blocks as usize)?,
         })
     }
 
@@ -101,11 +101,11 @@ impl Turns {
     fn make_room(&mut self) -> usize
         requires { 0 < length (in_order self.old) }
         ensures order { in_order self.new ≡ in_order self.old }
-        ensures room { length self.new.kept < 3 * length (in_order self.old) }
+        ensures room { length self.new.kept < 5 * length (in_order self.old) }
         ensures front { KeepsFront result self.old self.new }
     {
         let blocks = self.turns.blocks() as usize;
-        let most = (2 * blocks).min(2 * self.turns.written() + FEW);
+        let most = (4 * blocks).min(4 * self.turns.written() + FEW);
         if self.later.len() < most {
             return self.len();
         }
@@ -116,7 +116,7 @@ impl Turns {
     // Puts a block last, and a gap into its place.
     fn move_last(&mut self, block: u32)
         requires block { block < length (in_order self.old) }
-        requires room { length self.old.kept < 3 * length (in_order self.old) }
+        requires room { length self.old.kept < 5 * length (in_order self.old) }
         ensures order { in_order self.new ≡ written (in_order self.old) block }
         ensures length { length (in_order self.new) ≡ length (in_order self.old) }
         ensures front { KeepsFront (length self.old.kept) self.old self.new }
