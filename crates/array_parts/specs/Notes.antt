@@ -78,6 +78,14 @@ pub record WasFinished {D : Type 0} (units : D → List (List ℕ)) (lost : D �
   pub extents : new.extents ≡ old.extents
   pub finished : AreFinished units lost failures old.note old new
 
+-- what may be a note was written to the places of its slot, and is still there
+pub record IsNoteWritten {D : Type 0} (units : D → List (List ℕ)) (lost : D → Bool) (failures : D → Failures) (old new : Parts D) : Type 0 where
+  pub note : new.note ≡ old.note
+  pub shape : new.shape ≡ old.shape
+  pub groups : new.groups ≡ old.groups
+  pub extents : new.extents ≡ old.extents
+  pub finished : AreFinished units lost failures old.note old new
+
 -- the plan of a slot's unit, and the parity that its note needs: what each of the slot's places gets is the note's for that place
 pub record IsSlotPlan (groups : Groups) (c : Cells) (slot : ℕ) (unit : List ℕ) (writes : List Wanted) (parity : Option (List ℕ)) : Type 0 where
   pub wanted : Place → List ℕ

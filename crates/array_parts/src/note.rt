@@ -9,7 +9,7 @@ ghost use Rattle.extent_groups.specs.Planned.{IsFinished};
 ghost use Rattle.extent_groups.specs.Stores.{unit_bytes, AreDrives, IsOwnOf, IsSlotOf};
 ghost use Rattle.extent_groups.specs.Units.{Pair, site_of};
 ghost use Rattle.array_parts.specs.Fit.{IsFit};
-ghost use Rattle.array_parts.specs.Notes.{note_view, noted_unit, unit_noted, IsGoodNote, IsParityFor, IsBadNote, IsFineNote, WasFinished};
+ghost use Rattle.array_parts.specs.Notes.{note_view, noted_unit, unit_noted, IsGoodNote, IsParityFor, IsBadNote, IsFineNote, IsNoteWritten, WasFinished};
 ghost use Rattle.array_parts.specs.Slots.{IsSlot, missing_in};
 
 use crate::Parts;
@@ -165,10 +165,21 @@ impl<D: Drive> Parts<D> {
         ensures finished { WasFinished D.units D.lost D.failures self.old self.new }
         ensures fit { IsFit D.units self.new }
     {
-        let Some(note) = self.note.take() else {
-            return;
-        };
-        let drives: &mut [D] = &mut self.drives;
-        finish(&self.groups, drives, &note);
+        self.write_noted();
+        // Last: a stop before this finds the note, and finishing starts over.
+        self.note = None;
+    }
+
+    // Writes the units of the note, if there is one, and keeps the note.
+    fn write_noted(&mut self)
+        requires fit { IsFit D.units self.old }
+        requires good { IsFineNote self.old.groups (missing_in D.lost self.old) self.old.note }
+        ensures written { IsNoteWritten D.units D.lost D.failures self.old self.new }
+        ensures fit { IsFit D.units self.new }
+    {
+        if let Some(note) = &self.note {
+            let drives: &mut [D] = &mut self.drives;
+            finish(&self.groups, drives, note);
+        }
     }
 }
