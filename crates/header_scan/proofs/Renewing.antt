@@ -38,7 +38,7 @@ module _ {D : Type 0} (units : D → List (List ℕ)) (lost : D → Bool) (failu
   w = view_of units lost failures q
 
   -- what the headers hold, over the parts as plain data
-  tells_in : (M : ℕ → ℕ) (units_of : ℕ → Option Stored) → Shows v units_of → ((s : ℕ) → is_some (units_of s) ≡ is_some (class_at p.groups s)) → TellAll units lost p M
+  pub tells_in : (M : ℕ → ℕ) (units_of : ℕ → Option Stored) → Shows v units_of → ((s : ℕ) → is_some (units_of s) ≡ is_some (class_at p.groups s)) → TellAll units lost p M
       → TellMap p.groups units_of M
   tells_in M units_of shows there tells =
       scan_tells v fit.groups (view_drives units lost failures p fit.drives) units_of shows there

@@ -1,26 +1,20 @@
 -- A scan of an array or a world that represents a flat state: the map of its log where no slot is gone, else the first that
 -- is.
-use Rattle.std.proofs.Common.{◌≡◌, ℕ, ◌^◌, ◌<◌, ◌≤◌, ◌⊎◌, inl, inr, Some, None, List, take, refl, sym, ◌∙◌, ap, subst, arith}
+use Rattle.std.proofs.Common.{◌≡◌, ℕ, ◌^◌, ◌<◌, None, sym, ◌∙◌, ap, subst, arith}
 use Rattle.std.specs.Prelude.{is_some, Result, Ok, Err, IfOk, IfErr, OnOk}
 use Rattle.std.proofs.lemmas.Option.{none-some}
-use Rattle.map_join.specs.declared.records.Record.{Record}
-use Rattle.map_join.specs.Record.{key_of, record_of, stamp_of, stamp_in}
 use Rattle.map_join.specs.Maps.{Entries, at, IsMapOf}
-use Rattle.extents.specs.declared.header.Header.{Header}
-use Rattle.extents.specs.Header.{Spells, record_in}
 use Rattle.extent_groups.specs.Groups.{Groups}
 use Rattle.extent_groups.specs.Stores.{unit_of, AreSound}
 use Rattle.extent_groups.proofs.Missing.{gone_law}
 use Rattle.array_parts.specs.Slots.{IsSlot}
 use Rattle.array_parts.specs.Views.{IsLost, cells_of, drive_units, drive_lost}
 use Rattle.array_parts.proofs.Reading.{slot_there}
-use Rattle.array_parts.proofs.Shows.{shown_header}
 use Rattle.flat_machine.specs.Flat.{Flat}
 use Rattle.flat_machine.specs.Groups.{class_at}
 use Rattle.flat_machine.specs.Cases.{IsGoneIn}
-use Rattle.flat_machine.specs.History.{IsHeaderOf}
 use Rattle.flat_machine.specs.Restarted.{TellMap}
-use Rattle.flat_machine.specs.Scanned.{HasHeader, IsScanned}
+use Rattle.flat_machine.specs.Scanned.{IsScanned}
 use Rattle.flat_machine.specs.Scans.{Told, FindsGone, ScanCase}
 use Rattle.flat_machine.proofs.Restarts.{history_tells, tells_one}
 use Rattle.slot_tables.specs.Views.{ArrayView, WorldView, IsWhole, hand_at, key_at}
@@ -33,8 +27,9 @@ use Rattle.header_scan.specs.declared.fault.ScanFault.{ScanFault}
 use Rattle.header_scan.specs.declared.fault.ScanFault.TheVariants.{Memory, BadHeader, WrongSlot, Twice, Gone, NoClaim, BadNote}
 use Rattle.header_scan.specs.Faults.{AreFine, IsFirstFault}
 use Rattle.header_scan.specs.Worlds.{IsToldOf}
-use Rattle.header_scan.proofs.Scanning.{slot_at, has_unit, within, ranged, told_header}
-use Rattle.header_scan.proofs.Telling.{all_units, AllFine, NoneTwice, slot_low, record_told, scan_tells}
+use Rattle.header_scan.proofs.Known.{first_fault, IsLeftOf}
+use Rattle.header_scan.proofs.Scanning.{slot_at}
+use Rattle.header_scan.proofs.Telling.{all_units, AllFine, NoneTwice, slot_low, scan_tells}
 
 module _ (a : ArrayView) (F : Flat) (whole : IsWhole a) (shows : ShowsArray a F) where
   -- a slot has a unit exactly where it is of a group
@@ -66,63 +61,10 @@ module _ (a : ArrayView) (F : Flat) (whole : IsWhole a) (shows : ShowsArray a F)
       let lost = gone_before F a.parts s shows.tables.groups shows.tables.lost gone in
       fine_stays (2 ^ 16) s fine (slot_low a.parts.groups s whole.groups.table (slot_at a.parts.groups s lost.0 lost.1)) gone
 
-  -- a record in the header of a slot is of that slot and of one of the blocks, and the newest or of a lower stamp
-  header_stands : (s : ℕ) (r : Record) → HasHeader (bytes_of a.parts) s r → IsHeaderOf (key_at a) s r × (r.block < a.parts.groups.blocks)
-  header_stands s r h =
-      let u = shows.units.shown s h.0 h.1 in
-      let header = ap record_in (shown_header h.0 u.0 h.2.0 u.2 h.2.1) ∙ h.2.2 in
-      (own_map.header s u.0 r u.1 header, own_map.blocks s u.0 r u.1 header)
-
-  -- no header is of a block past the last
-  bad_stands : (s : ℕ) (bytes : List ℕ) → bytes_of a.parts s ≡ Some bytes
-      → ((h : Header) → Spells (take 32 bytes) h → (r : Record) × (record_in h ≡ Some r) × (a.parts.groups.blocks ≤ r.block)) → ⊥
-  bad_stands s bytes e bad =
-      let u = shows.units.shown s bytes e in
-      let r = bad u.0.header u.2.0 in
-      let inside = own_map.blocks s u.0 r.0 u.1 r.1 in
-      let past = r.2 in
-      omega (arith, inside, past)
-
-  -- the newest record of a block is in a header, where all are fine
-  newest_there : AllFine a.parts → (b : ℕ) → 0 < key_at a b → HasHeader (all_units a.parts) (record_of b (key_at a b)).place (record_of b (key_at a b))
-  newest_there fine b some =
-      let r = record_of b (key_at a b) in
-      let is = (own_map.found b some).1 in
-      let tells = record_told a.parts whole.groups.table whole.drives F.units shows.units there fine r.place is.stored r is.there is.header in
-      let h = told_header a.parts.groups.blocks (bytes_of a.parts) r.place r tells in
-      ranged 0 (2 ^ 16) (bytes_of a.parts) r.place r (omega arith)
-      (slot_low a.parts.groups r.place whole.groups.table (has_unit a.parts.groups (cells_of a.parts) r.place h.0 h.1)) h
-
-  -- a header that no other of its block is newer than is the newest record
-  top_newest : AllFine a.parts → (b slot : ℕ) (r : Record) → HasHeader (all_units a.parts) slot r → r.block ≡ b
-      → ((s : ℕ) (x : Record) → HasHeader (all_units a.parts) s x → x.block ≡ b → stamp_of x ≤ stamp_of r)
-      → (key_of r ≡ key_at a b) × (r.place ≡ slot)
-  top_newest fine b slot r h block most = (by stands.newest, stands.place)
-    where
-      stands : IsHeaderOf (key_at a) slot r
-      stands = (header_stands slot r (within 0 (2 ^ 16) (bytes_of a.parts) slot r h).2).0
-
-      by : (key_of r ≡ key_at a r.block) ⊎ (stamp_of r < stamp_in (key_at a r.block)) → key_of r ≡ key_at a b
-      by (inl e) = e ∙ ap (key_at a) block
-      by (inr less) =
-          let key : key_at a r.block ≡ key_at a b = ap (key_at a) block in
-          let top = most (record_of b (key_at a b)).place (record_of b (key_at a b)) (newest_there fine b (omega (arith, less, key))) refl in
-          absurd (omega (arith, top, less, key))
-
-  -- no block occurs twice
-  never_twice : AllFine a.parts → NoneTwice a.parts
-  never_twice fine b p q is =
-      let one = top_newest fine b p is.one is.here.0 is.here.1 is.most in
-      let other = top_newest fine b q is.other is.there.0 is.there.1
-      (λ s x h block. let most = is.most s x h block in let same = is.same in omega (arith, most, same))
-      in
-      let key = one.0 in
-      let also = other.0 in
-      let place = one.1 in
-      let place_too = other.1 in
-      let same = is.same in
-      let order = is.order in
-      omega (arith, key, also, place, place_too, same, order)
+  -- the first fault, by what another array's parts hold
+  known : (b : ArrayView) (fault : ScanFault) → IsFirstFault a.parts.groups 0 (2 ^ 16) (bytes_of a.parts) (unit_of a.parts.groups (cells_of b.parts)) fault
+      → IsLeftOf a.parts whole.groups.table whole.drives F.units shows.units (key_at a) own_map (unit_of a.parts.groups (cells_of b.parts)) fault
+  known b fault is = first_fault a.parts whole.groups.table whole.drives F.units shows.units (key_at a) own_map (unit_of a.parts.groups (cells_of b.parts)) fault is
 
   -- the first fault is out of memory, or a slot that is gone
   abbrev IsFaultOf : ScanFault → Flat → Type 0
@@ -152,11 +94,9 @@ module _ (a : ArrayView) (F : Flat) (whole : IsWhole a) (shows : ShowsArray a F)
           let slot : IsSlot b.parts.groups s = subst (λ n. IsSlot b.parts.groups n) (sym is.4.0) (subst (λ (g : Groups). IsSlot g is.0) (sym loses.1.rest.groups) is.1) in
           let site = slot_there b.parts.groups s slot in
           (gone_law drive_units drive_lost b.parts.groups b.parts.drives s site.0 left.groups.table left.drives site.1).0 none
-  scan_fault b (BadHeader s) left loses is = bad_stands is.0 is.4.1.0 is.4.1.1 is.4.1.2
-  scan_fault b (WrongSlot s told) left loses is =
-      let place = (header_stands is.0 is.4.2.0 is.4.2.1).0.place in
-      is.4.1 (sym is.4.2.3 ∙ place)
-  scan_fault b (Twice block first second) left loses is = never_twice is.0 block first second is.1
+  scan_fault b (BadHeader s) left loses is = known b (BadHeader s) is
+  scan_fault b (WrongSlot s told) left loses is = known b (WrongSlot s told) is
+  scan_fault b (Twice block first second) left loses is = known b (Twice block first second) is
   scan_fault b (NoClaim s) left loses is = is
   scan_fault b (BadNote s) left loses is = is
 

@@ -1,11 +1,13 @@
 -- A step of an array as single writes with a note, a stop after any number of them, and the state that a restart then finds.
-use Rattle.std.specs.Prelude.{◌≡◌, ℕ, zero, suc, Bool, Some, None, List, [], ◌∷◌, ◌++◌, length, take, option_map}
+use Rattle.std.specs.Prelude.{◌≡◌, ℕ, zero, suc, Bool, Option, Some, None, List, [], ◌∷◌, ◌++◌, length, take, option_map}
 use Rattle.extent_groups.specs.declared.place.Place.{Place}
 use Rattle.extent_groups.specs.Cells.{held}
 use Rattle.extent_groups.specs.Calls.{FadesAt}
 use Rattle.extent_groups.specs.Planned.{Wanted, after, wanted_parity, IsPlan}
 use Rattle.extent_groups.specs.Stores.{unit_bytes, IsOwnOf}
 use Rattle.extent_groups.specs.Units.{site_of}
+use Rattle.extent_groups.specs.Groups.{Groups}
+use Rattle.extent_groups.specs.Missing.{IsGone}
 use Rattle.flat_machine.specs.Flat.{Flat, Stored, put}
 use Rattle.array_parts.specs.declared.micro.Micro.{Micro}
 use Rattle.array_parts.specs.declared.micro.Micro.TheVariants.{NoteSet, Write, NoteClear}
@@ -15,13 +17,16 @@ use Rattle.array_parts.specs.Fit.{IsFit}
 use Rattle.array_parts.specs.Micros.{writes_in, note_after, KeepsGroups}
 use Rattle.array_parts.specs.Notes.{note_view, noted_unit}
 use Rattle.array_parts.specs.Shows.{IsUnit}
-use Rattle.array_parts.specs.Slots.{IsSlot, cells_in}
+use Rattle.array_parts.specs.Slots.{IsSlot, cells_in, missing_in}
 use Rattle.array_parts.specs.Views.{view_of}
 use Rattle.slot_tables.specs.Adopted.{HasParts}
 use Rattle.slot_tables.specs.Represents.{ShowsArray}
 use Rattle.slot_tables.specs.Views.{ArrayView}
-use Rattle.flat_machine.specs.Restarted.{IsRestarted}
+use Rattle.flat_machine.specs.Restarted.{IsRestarted, TellMap}
 use Rattle.extents.specs.Failures.{Failures}
+use Rattle.slot_tables.specs.Claims.{IsUnclaimed}
+use Rattle.header_scan.specs.declared.fault.ScanFault.{ScanFault}
+use Rattle.header_scan.specs.declared.fault.ScanFault.TheVariants.{Memory, Gone, NoClaim}
 use Rattle.header_scan.specs.Restarts.{HasUnits}
 
 -- each entry writes a unit
@@ -63,6 +68,20 @@ pub record IsStopped {D : Type 0} (units : D → List (List ℕ)) (lost : D → 
   pub many : length q.drives.items ≡ length p.drives.items
   pub cells : (x : Place) → FadesAt (after (cells_in units lost p) (writes_in (take n list))) (cells_in units lost q) x
 
+-- a place of the slot of what may be a note
+abbrev pub IsNotedPlace : Groups → Option Note → Place → Type 0
+IsNotedPlace groups None x = ⊥
+IsNotedPlace groups (Some note) x = IsOwnOf groups note.slot x
+
+-- what a stop left of the parts p after the first n entries, however it came: any drives may have been lost since, what was lost
+-- stays lost, and while a note is set the places of its slot may hold any bytes, since a write may be torn, or made before another
+pub record IsLeft {D : Type 0} (units : D → List (List ℕ)) (lost : D → Bool) (p q : Parts D) (list : List Micro) (n : ℕ) : Type 0 where
+  pub note : q.note ≡ note_after p.note (take n list)
+  pub groups : KeepsGroups p q
+  pub many : length q.drives.items ≡ length p.drives.items
+  pub none : (x : Place) → held (cells_in units lost p) x ≡ None → held (cells_in units lost q) x ≡ None
+  pub cells : (x : Place) → (IsNotedPlace p.groups q.note x → ⊥) → FadesAt (after (cells_in units lost p) (writes_in (take n list))) (cells_in units lost q) x
+
 -- the state that holds after a stop: that of before the step where nothing was carried out, and that of after it as soon as the
 -- note was set
 abbrev pub standing : ℕ → Flat → Flat → Flat
@@ -77,5 +96,30 @@ pub record IsButLost (Y X : Flat) : Type 0 where
 -- entries, it represents the restarted state of before the step or of after it
 abbrev pub IsResumed : {D : Type 0} → (D → List (List ℕ)) → (D → Bool) → (D → Failures) → Parts D → ArrayView → Type 0
 IsResumed {D} units lost failures q a = (p : Parts D) (F G : Flat) (list : List Micro) (n : ℕ) → IsFit units p → HasParts (view_of units lost failures p) F → HasUnits F
-    → IsMicro units lost p F G list → IsStopped units lost p q list n
+    → IsMicro units lost p F G list → IsLeft units lost p q list n
     → (X : Flat) × (keys : ℕ → ℕ) × (K : Flat) × IsButLost (standing n F G) X × IsRestarted X keys K × ShowsArray a K
+
+-- how many entries of a list count as carried out once its note was finished: none, or all
+abbrev pub settled : ℕ → List Micro → ℕ
+settled zero list = zero
+settled (suc n) list = length list
+
+-- the parts that came back where no array was made of what a stop left: for every such step they are what a stop leaves where
+-- nothing was carried out, or the whole list
+abbrev pub IsLeftAgain : {D : Type 0} → (D → List (List ℕ)) → (D → Bool) → Parts D → Parts D → Type 0
+IsLeftAgain {D} units lost q left = (p : Parts D) (F G : Flat) (list : List Micro) (n : ℕ) → IsFit units p → IsMicro units lost p F G list → IsLeft units lost p q list n
+    → IsLeft units lost p left list (settled n list)
+
+-- why none was, where the units of the state that stands have this map: out of memory; a slot of which geometry and the drives that
+-- are lost leave no unit; or the lowest newest place of which there is no claim
+abbrev pub IsLeftFault : {D C : Type 0} → (D → Bool) → Parts D → (C → ℕ) → List C → (ℕ → ℕ) → ScanFault → Type 0
+IsLeftFault lost left names claims keys Memory = Unit {0}
+IsLeftFault lost left names claims keys (Gone s) = IsGone left.groups (missing_in lost left) s
+IsLeftFault lost left names claims keys (NoClaim s) = IsUnclaimed names claims keys s
+IsLeftFault lost left names claims keys _ = ⊥
+
+-- for every such step
+abbrev pub IsWhyLeft : {D C : Type 0} → (D → List (List ℕ)) → (D → Bool) → (D → Failures) → Parts D → Parts D → (C → ℕ) → List C → ScanFault → Type 0
+IsWhyLeft {D} units lost failures q left names claims fault = (p : Parts D) (F G : Flat) (list : List Micro) (n : ℕ) (keys : ℕ → ℕ) → IsFit units p
+    → HasParts (view_of units lost failures p) F → HasUnits F → IsMicro units lost p F G list → IsLeft units lost p q list n
+    → TellMap (standing n F G).groups (standing n F G).units keys → IsLeftFault lost left names claims keys fault

@@ -3,7 +3,7 @@ ghost use Rattle.std.specs.Prelude.{◌≡◌, None, IfOk, IfErr};
 ghost use Rattle.array_parts.specs.Fit.{IsFit};
 ghost use Rattle.array_parts.specs.Losses.{LosesOnly};
 ghost use Rattle.step_core.specs.Claims.{AreShared};
-ghost use Rattle.header_scan.specs.Stops.{IsResumed};
+ghost use Rattle.header_scan.specs.Stops.{IsLeftAgain, IsResumed, IsWhyLeft};
 ghost use Rattle.header_scan.specs.Restarts.{AreAllSound, IsRestartFault, IsResumeFault, FromFinished, StandsForOne, WasMade, fault_of};
 
 use crate::{ScanFault, scan};
@@ -18,7 +18,10 @@ use step_core::{Array, Hold, NotAdopted};
 /// A note is finished first and cleared: its slot then has the note's unit, however much of the write was made before the stop.
 /// A bad note is fault 7, before any other, and all is as it was. On another fault the parts come back as the scan left them,
 /// the note finished, and the claims unchanged. The fault is the scan's, or the lowest newest place of which there is no claim;
-/// out of memory may come before. Calling again with these parts gives the same as a first call.
+/// out of memory may come before. Another call with these parts makes the array that the first would have made.
+///
+/// After a stop among the single writes of a step, the fault is out of memory, a slot of which the drives that are lost leave no
+/// unit, or a missing claim.
 pub fn restart<D: Drive, C: Hold>(
     alloc: Global,
     parts: Parts<D>,
@@ -37,6 +40,8 @@ pub fn restart<D: Drive, C: Hold>(
     ensures finished { IfOk result (λ r. FromFinished D.units D.lost D.failures parts (λ mid. WasMade D.units D.lost D.failures mid r.0
         × (AreAllSound D.units D.lost mid → StandsForOne D.units D.lost D.failures mid r.0))) }
     ensures stopped { IfOk result (λ r. IsResumed D.units D.lost D.failures parts r.0) }
+    ensures again { IfErr result (λ e. IsLeftAgain D.units D.lost parts e.1) }
+    ensures fails { IfErr result (λ e. IsWhyLeft D.units D.lost D.failures parts e.1 C.names claims.items e.0) }
     ensures refused { IfErr result (λ e. IsResumeFault D.units D.lost D.failures parts e.1 C.names claims.items e.0) }
     ensures claims { IfOk result (λ r. AreShared C.names claims.items r.0 r.1.items) }
     ensures fit { IfErr result (λ e. IsFit D.units e.1) }
