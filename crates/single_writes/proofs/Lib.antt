@@ -3,4 +3,5 @@ mod Listing
 mod Steps
 mod Copying
 mod Committing
+mod Claimed
 mod Stopping

@@ -1,10 +1,12 @@
 -- The parts after a stop, and the restarted array.
-use Rattle.std.proofs.Common.{◌≡◌, ℕ, Bool, None, List, take, sym, subst}
+use Rattle.std.proofs.Common.{◌≡◌, ℕ, zero, suc, inl, Bool, None, List, take, ap, sym, ◌∙◌, subst}
 use Rattle.extents.specs.Failures.{Failures}
 use Rattle.extent_groups.specs.declared.place.Place.{Place}
 use Rattle.extent_groups.specs.Calls.{FadesAt, KeepsDrives}
 use Rattle.extent_groups.specs.Planned.{after}
+use Rattle.extent_groups.specs.Groups.{AreGroups}
 use Rattle.flat_machine.specs.Flat.{Flat}
+use Rattle.flat_machine.proofs.Restarts.{history_tells}
 use Rattle.array_parts.specs.declared.micro.Micro.{Micro}
 use Rattle.array_parts.specs.declared.parts.Parts.{Parts}
 use Rattle.array_parts.specs.Fit.{IsFit}
@@ -14,14 +16,19 @@ use Rattle.array_parts.specs.Views.{PartsView, view_of}
 use Rattle.disk_array.specs.Refused.{OnlyLoses}
 use Rattle.slot_tables.specs.Adopted.{HasParts}
 use Rattle.slot_tables.specs.Represents.{ShowsArray}
-use Rattle.slot_tables.specs.Views.{ArrayView}
+use Rattle.slot_tables.specs.Claims.{AreClaimsOf, IsUnclaimed}
+use Rattle.slot_tables.specs.Views.{ArrayView, key_at}
 use Rattle.header_scan.specs.Restarts.{HasUnits}
-use Rattle.header_scan.specs.Stops.{IsButLost, IsResumed, IsStopped, standing}
+use Rattle.header_scan.specs.declared.fault.ScanFault.{ScanFault}
+use Rattle.header_scan.specs.declared.fault.ScanFault.TheVariants.{Memory, BadHeader, WrongSlot, Twice, Gone, NoClaim, BadNote}
+use Rattle.header_scan.specs.Stops.{IsButLost, IsLeftAgain, IsLeftFault, IsResumed, IsStopped, IsWhyLeft, standing}
 use Rattle.flat_machine.specs.Restarted.{IsRestarted}
+use Rattle.header_scan.proofs.Settling.{left_stopped}
 use Rattle.single_writes.specs.declared.intent.Intent.{Intent}
-use Rattle.single_writes.specs.Intents.{IsTaken, slot_of, step_of}
+use Rattle.single_writes.specs.Intents.{IsAsked, IsTaken, slot_of, step_of}
 use Rattle.single_writes.specs.Lists.{IsStepList}
-use Rattle.single_writes.specs.Stops.{IsCutShort, WasStopped}
+use Rattle.single_writes.specs.Stops.{IsCutShort, IsFailure, IsResumable, WasStopped}
+use Rattle.single_writes.proofs.Claimed.{came_from, history_after, none_missing}
 
 -- the parts of an array are those of a state that it shows, each of whose slots has a unit
 has_parts : (a : ArrayView) (F : Flat) → ShowsArray a F → HasParts a.parts F
@@ -46,7 +53,7 @@ stopped units lost failures p q list n note cells touched groups = record { note
 pub cut_short : {D : Type 0} (units : D → List (List ℕ)) (lost : D → Bool) (failures : D → Failures) (b made : ArrayView) (p q : Parts D) (list : List Micro) (n : ℕ) (F : Flat) (w : ℕ) (intent : Intent)
     → IsStepList units lost failures b F (slot_of intent) (step_of w intent) (IsTaken intent) list → view_of units lost failures p ≡ b.parts → p.note ≡ None → IsFit units p → IsStopped units lost p q list n → IsResumed units lost failures q made
     → IsCutShort F w intent n made
-cut_short units lost failures b made p q list n F w intent l seen none fit stop resumed = go (resumed p l.before l.after list n fit has (has_units b l.before l.shows) (l.micro p seen none) stop)
+cut_short units lost failures b made p q list n F w intent l seen none fit stop resumed = go (resumed p l.before l.after list n fit has (has_units b l.before l.shows) (l.micro p seen none) (left_stopped units lost p q list n stop))
   where
     has : HasParts (view_of units lost failures p) l.before
     has = subst (λ (v : PartsView). HasParts v l.before) (sym seen) (has_parts b l.before l.shows)
@@ -83,3 +90,55 @@ was_stopped units lost failures a b p q list n F w intent loses steps seen none 
   stopped = stopped units lost failures p q list n note cells touched groups;
   touched = touched;
 }
+
+-- parts that came back from a restart after it
+pub resumable : {D : Type 0} (units : D → List (List ℕ)) (lost : D → Bool) (failures : D → Failures) (a b : ArrayView) (p q left : Parts D) (list : List Micro) (n : ℕ) (F : Flat) (w : ℕ) (intent : Intent) → OnlyLoses a b
+    → IsStepList units lost failures b F (slot_of intent) (step_of w intent) (IsTaken intent) list → view_of units lost failures p ≡ b.parts → p.note ≡ None → IsFit units p → IsStopped units lost p q list n
+    → IsLeftAgain units lost q left → IsResumable units lost failures a F w intent n left
+resumable units lost failures a b p q left list n F w intent loses steps seen none fit stop again = record {
+  planned = b;
+  list = list;
+  begun = p;
+  loses = loses;
+  steps = steps;
+  parts_are = seen;
+  no_note = none;
+  fit = fit;
+  left = again p steps.before steps.after list n fit (steps.micro p seen none) (left_stopped units lost p q list n stop);
+}
+
+-- and its fault: no claim is missing
+not_missing : {D C : Type 0} (lost : D → Bool) (left : Parts D) (names : C → ℕ) (claims : List C) (keys : ℕ → ℕ) (fault : ScanFault) → ((s : ℕ) → IsUnclaimed names claims keys s → ⊥)
+    → IsLeftFault lost left names claims keys fault → IsFailure lost left fault
+not_missing lost left names claims keys Memory never is = tt
+not_missing lost left names claims keys (Gone s) never is = is
+not_missing lost left names claims keys (NoClaim s) never is = absurd (never s is)
+not_missing lost left names claims keys (BadHeader s) never is = is
+not_missing lost left names claims keys (WrongSlot s told) never is = is
+not_missing lost left names claims keys (Twice block first second) never is = is
+not_missing lost left names claims keys (BadNote s) never is = is
+
+pub failed : {D C : Type 0} (units : D → List (List ℕ)) (lost : D → Bool) (failures : D → Failures) (a b : ArrayView) (p q left : Parts D) (list : List Micro) (n : ℕ) (F : Flat) (w : ℕ) (intent : Intent)
+    (names : C → ℕ) (claims : List C) (fault : ScanFault) → ShowsArray a F
+    → IsStepList units lost failures b F (slot_of intent) (step_of w intent) (IsTaken intent) list → view_of units lost failures p ≡ b.parts → p.note ≡ None → IsFit units p → IsStopped units lost p q list n
+    → AreClaimsOf names a claims → AreClaimsOf names b claims → IsAsked a.parts.groups intent → IsWhyLeft units lost failures q left names claims fault → IsFailure lost left fault
+failed units lost failures a b p q left list n F w intent names claims fault shows steps seen none fit stop are also asked why = by n stop
+  where
+    has : HasParts (view_of units lost failures p) steps.before
+    has = subst (λ (v : PartsView). HasParts v steps.before) (sym seen) (has_parts b steps.before steps.shows)
+
+    same : F.groups ≡ p.groups
+    same = sym (ap (λ (x : Flat). x.groups) steps.leaves.same) ∙ steps.shows.tables.groups ∙ sym (ap (λ (v : PartsView). v.groups) seen)
+
+    by : (n : ℕ) → IsStopped units lost p q list n → IsFailure lost left fault
+    by zero stop =
+        not_missing lost left names claims (key_at b) fault
+        (λ s. none_missing names claims b steps.before steps.before (key_at b) s steps.shows (λ t c e. inl e) steps.shows.history also)
+        (why p steps.before steps.after list zero (key_at b) fit has (has_units b steps.before steps.shows) (steps.micro p seen none) (left_stopped units lost p q list zero stop)
+        (history_tells steps.before (key_at b) steps.shows.history))
+    by (suc k) stop =
+        let after = history_after F steps.after w intent steps.answer (key_at a) (subst AreGroups (sym same) fit.groups) (subst (λ t. IsAsked t intent) (sym shows.tables.groups) asked) shows.history steps.took steps.case in
+        not_missing lost left names claims after.0 fault
+        (λ s. none_missing names claims a F steps.after after.0 s shows (came_from F steps.after w intent steps.answer steps.took steps.case) after.1 are)
+        (why p steps.before steps.after list (suc k) after.0 fit has (has_units b steps.before steps.shows) (steps.micro p seen none) (left_stopped units lost p q list (suc k) stop)
+        (history_tells steps.after after.0 after.1))

@@ -2,10 +2,12 @@
 use Rattle.std.specs.Prelude.{◌≡◌, ℕ, Bool, None, List, take}
 use Rattle.extents.specs.Failures.{Failures}
 use Rattle.extent_groups.specs.Calls.{KeepsDrives}
+use Rattle.extent_groups.specs.Missing.{IsGone}
 use Rattle.array_parts.specs.declared.micro.Micro.{Micro}
 use Rattle.array_parts.specs.declared.parts.Parts.{Parts}
 use Rattle.array_parts.specs.Fit.{IsFit}
 use Rattle.array_parts.specs.Micros.{IsWritten}
+use Rattle.array_parts.specs.Slots.{missing_in}
 use Rattle.array_parts.specs.Views.{view_of}
 use Rattle.disk_array.specs.Refused.{OnlyLoses}
 use Rattle.slot_tables.specs.Changes.{MayRefuse}
@@ -16,7 +18,9 @@ use Rattle.flat_machine.specs.Flat.{Flat}
 use Rattle.flat_machine.specs.Restarted.{IsRestarted}
 use Rattle.flat_machine.specs.Steps.{FlatAnswer, Refused}
 use Rattle.header_scan.specs.Restarts.{FromFinished, IsResumeFault, WasMade}
-use Rattle.header_scan.specs.Stops.{IsButLost, IsStopped, standing}
+use Rattle.header_scan.specs.declared.fault.ScanFault.{ScanFault}
+use Rattle.header_scan.specs.declared.fault.ScanFault.TheVariants.{Memory, Gone}
+use Rattle.header_scan.specs.Stops.{IsButLost, IsLeft, IsStopped, settled, standing}
 use Rattle.slot_tables.specs.Claims.{AreClaimsOf}
 use Rattle.step_core.specs.Claims.{AreShared}
 use Rattle.single_writes.specs.declared.intent.Intent.{Intent}
@@ -75,3 +79,31 @@ IsWhyNone units lost failures names a F w intent n (NotBegun refusal b) =
     MayRefuse refusal (IsWanted F (step_of w intent)) ((G : Flat) × Case F (step_of w intent) (Refused refusal) G × ShowsArray b G)
 IsWhyNone {D} units lost failures names a F w intent n (NotRestarted fault parts claims) =
     (q : Parts D) × WasStopped units lost failures a F w intent n q × IsResumeFault units lost failures q parts names claims.items fault
+
+-- parts from which the step can be resumed once more: they are what a stop leaves of the step's list where nothing of it was carried
+-- out, or all
+pub record IsResumable {D : Type 0} (units : D → List (List ℕ)) (lost : D → Bool) (failures : D → Failures) (a : ArrayView) (F : Flat) (w : ℕ) (intent : Intent) (n : ℕ) (parts : Parts D) : Type 0 where
+  pub planned : ArrayView
+  pub list : List Micro
+  pub begun : Parts D
+  pub loses : OnlyLoses a planned
+  pub steps : IsStepList units lost failures planned F (slot_of intent) (step_of w intent) (IsTaken intent) list
+  pub parts_are : view_of units lost failures begun ≡ planned.parts
+  pub no_note : begun.note ≡ None
+  pub fit : IsFit units begun
+  pub left : IsLeft units lost begun parts list (settled n list)
+
+-- what came back where no array was restarted after a stop can be resumed
+abbrev pub IsLeftOver : {D C : Type 0} → (D → List (List ℕ)) → (D → Bool) → (D → Failures) → ArrayView → Flat → ℕ → Intent → ℕ → Unfinished D C → Type 0
+IsLeftOver units lost failures a F w intent n (NotBegun refusal b) = Unit {0}
+IsLeftOver units lost failures a F w intent n (NotRestarted fault parts claims) = IsResumable units lost failures a F w intent n parts
+
+-- why none was restarted after a stop: out of memory, or a slot of which geometry and the drives that are lost leave no unit
+abbrev pub IsFailure : {D : Type 0} → (D → Bool) → Parts D → ScanFault → Type 0
+IsFailure lost parts Memory = Unit {0}
+IsFailure lost parts (Gone slot) = IsGone parts.groups (missing_in lost parts) slot
+IsFailure lost parts _ = ⊥
+
+abbrev pub MayFail : {D C : Type 0} → (D → Bool) → Unfinished D C → Type 0
+MayFail lost (NotBegun refusal b) = Unit {0}
+MayFail lost (NotRestarted fault parts claims) = IsFailure lost parts fault

@@ -3,7 +3,7 @@ ghost use Rattle.std.specs.Prelude.{ℕ, IfOk, IfErr};
 ghost use Rattle.flat_machine.specs.Flat.{Flat};
 ghost use Rattle.slot_tables.specs.Represents.{ShowsArray};
 ghost use Rattle.single_writes.specs.Intents.{IsAsked, MayTake};
-ghost use Rattle.single_writes.specs.Stops.{AreClaimsLeft, IsCutShort, IsReturned, IsWhyNone, WasResumed};
+ghost use Rattle.single_writes.specs.Stops.{AreClaimsLeft, IsCutShort, IsLeftOver, IsReturned, IsWhyNone, MayFail, WasResumed};
 
 use crate::intent::Intent;
 use crate::plan::plan_micro;
@@ -38,6 +38,9 @@ pub fn stop_after<D: Drive, C: Hold>(
         → WasResumed D.units D.lost D.failures array F w intent.now n r.0) }
     ensures claims { IfOk result (λ r. AreClaimsLeft C.names array r.0 r.1.items) }
     ensures returned { IfErr result (IsReturned D.units C.names array) }
+    ensures again { IfErr result (λ e. (F : Flat) (w : ℕ) → ShowsArray array F → MayTake F w intent.now
+        → IsLeftOver D.units D.lost D.failures array F w intent.now n e) }
+    ensures fails { IfErr result (λ e. (F : Flat) (w : ℕ) → ShowsArray array F → MayTake F w intent.now → MayFail D.lost e) }
     ensures why { IfErr result (λ e. (F : Flat) (w : ℕ) → ShowsArray array F → MayTake F w intent.now
         → IsWhyNone D.units D.lost D.failures C.names array F w intent.now n e) }
 {

@@ -2,7 +2,7 @@ use Rattle.std.proofs.Common.{sym, ◌∙◌, ap, subst}
 use Rattle.slot_tables.specs.Views.{ArrayView, kept_at}
 use Rattle.header_scan.specs.Restarts.{IsResumeFault}
 use Rattle.slot_tables.specs.Claims.{claims_in, how_many}
-use Rattle.single_writes.proofs.Stopping.{stopped, cut_short, was_stopped}
+use Rattle.single_writes.proofs.Stopping.{stopped, cut_short, failed, resumable, was_stopped}
 use Rattle.single_writes.proofs.stop.stop_after.Goals as goal
 
 pub run_micro-requires-clause-writes : goal.run_micro-requires-clause-writes
@@ -54,3 +54,24 @@ returns-in-Err-restart-clause-why g c F w shows may =
           c.in-Ok-into_parts.ensures.parts c.in-Ok-into_parts.ensures.note c.run_micro.ensures.note c.run_micro.ensures.cells c.run_micro.ensures.touched c.run_micro.ensures.groups,
       subst (λ claims. IsResumeFault d.units d.lost d.failures q c.in-Err-restart.parts g.C.Hold.names claims c.in-Err-restart.fault) (sym (ap (λ v. v.items) c.in-Err-restart.ensures.kept)) c.in-Err-restart.ensures.refused,
     )
+
+pub returns-in-Err-restart-clause-again : goal.returns-in-Err-restart-clause-again
+returns-in-Err-restart-clause-again g c F w shows may =
+    let d = g.D.Drive in
+    let p = c.in-Ok-into_parts.taken.0 in
+    let q = c.run_micro.new.parts in
+    resumable d.units d.lost d.failures c.args.array c.plan_micro.new.array p q c.in-Err-restart.parts c.in-Ok.list.items c.args.n F w c.args.intent.now c.plan_micro.ensures.loses
+    (c.in-Ok.ensures.flat F w shows may) c.in-Ok-into_parts.ensures.parts c.in-Ok-into_parts.ensures.note c.in-Ok-into_parts.ensures.fit
+    (stopped d.units d.lost d.failures p q c.in-Ok.list.items c.args.n c.run_micro.ensures.note c.run_micro.ensures.cells c.run_micro.ensures.touched c.run_micro.ensures.groups)
+    c.in-Err-restart.ensures.again
+
+pub returns-in-Err-restart-clause-fails : goal.returns-in-Err-restart-clause-fails
+returns-in-Err-restart-clause-fails g c F w shows may =
+    let d = g.D.Drive in
+    let p = c.in-Ok-into_parts.taken.0 in
+    let q = c.run_micro.new.parts in
+    failed d.units d.lost d.failures c.args.array c.plan_micro.new.array p q c.in-Err-restart.parts c.in-Ok.list.items c.args.n F w c.args.intent.now g.C.Hold.names c.in-Ok-into_parts.taken.1.items
+    c.in-Err-restart.fault shows (c.in-Ok.ensures.flat F w shows may) c.in-Ok-into_parts.ensures.parts c.in-Ok-into_parts.ensures.note c.in-Ok-into_parts.ensures.fit
+    (stopped d.units d.lost d.failures p q c.in-Ok.list.items c.args.n c.run_micro.ensures.note c.run_micro.ensures.cells c.run_micro.ensures.touched c.run_micro.ensures.groups)
+    (λ slot. c.in-Ok-into_parts.ensures.claims slot ∙ ap (λ (v : ArrayView). claims_in (kept_at v slot)) c.plan_micro.ensures.loses.0) c.in-Ok-into_parts.ensures.claims
+    c.requires c.in-Err-restart.ensures.fails
