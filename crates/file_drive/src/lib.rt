@@ -12,4 +12,6 @@ pub use refusal::OpenRefusal;
 #[cfg(test)]
 mod faulty;
 #[cfg(test)]
+mod on_file;
+#[cfg(test)]
 mod tests;

@@ -20,7 +20,12 @@ fn zeros(rt: &impl Abort, alloc: Global, count: usize) -> InMemory {
 }
 
 // Whether a unit of these bytes is written.
-fn writes<B: Backing>(rt: &impl Abort, drive: &mut FileDrive<B>, at: u32, byte: u8) -> bool {
+pub(crate) fn writes<B: Backing>(
+    rt: &impl Abort,
+    drive: &mut FileDrive<B>,
+    at: u32,
+    byte: u8,
+) -> bool {
     let units = drive.units();
     assert!(rt; at < units);
     let size = drive.unit_bytes();
@@ -29,7 +34,12 @@ fn writes<B: Backing>(rt: &impl Abort, drive: &mut FileDrive<B>, at: u32, byte: 
 }
 
 // Whether a unit is read, and has these bytes.
-fn reads<B: Backing>(rt: &impl Abort, drive: &mut FileDrive<B>, at: u32, byte: u8) -> bool {
+pub(crate) fn reads<B: Backing>(
+    rt: &impl Abort,
+    drive: &mut FileDrive<B>,
+    at: u32,
+    byte: u8,
+) -> bool {
     let units = drive.units();
     assert!(rt; at < units);
     let size = drive.unit_bytes();
