@@ -14,7 +14,7 @@ help:
 	@echo "make mutants the must-fail edits that the gate leaves out: over an hour after make test, estimated"
 	@echo "make bench   times against plain Rust programs: a quarter of an hour after make test"
 	@echo
-	@echo "A script of your own, without proof, in a minute:"
+	@echo "A script of your own, without proof, in 1 to 2 minutes:"
 	@echo "    cd crates/raid_bench && rt try -- script < FILE"
 	@echo "and proved, after make build:"
 	@echo "    crates/raid_bench/out/raid_bench script < FILE"
