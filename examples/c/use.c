@@ -1,6 +1,8 @@
-/* Joins the records of two controllers, decodes headers, places slots and runs a script. */
+/* Joins the records of two controllers, decodes headers, places slots and runs a script; passes null beside a length of 0, and
+   has little stack. */
 #include "behkuna.h"
 
+#include <pthread.h>
 #include <stdbool.h>
 #include <stdio.h>
 #include <string.h>
@@ -125,7 +127,32 @@ static void run_script(const char *script) {
     fwrite(answers, 1, count, stdout);
 }
 
-int main(void) {
+/* A pointer beside a length of 0 may be null. */
+static void pass_null(void) {
+    struct behkuna_record newest;
+    uint8_t record[RECORD] = {0, 0, 0, 3, 0, 0, 0, 1}, none[1];
+    size_t count = 1;
+    uint32_t block = 0;
+
+    printf("null: record %s\n", behkuna_status_text(behkuna_record_decode(NULL, 0, &newest)));
+    uint32_t status = behkuna_join(NULL, 0, NULL, 0, &count);
+    printf("null: join %s, %zu bytes\n", behkuna_status_text(status), count);
+    status = behkuna_join(record, RECORD, NULL, 0, &count);
+    printf("null: join of a record %s, %zu bytes\n", behkuna_status_text(status), count);
+    status = behkuna_agree(NULL, 0, record, RECORD, &block);
+    printf("null: agree %s at block %u\n", behkuna_status_text(status), block);
+    printf("null: agree %s\n", behkuna_status_text(behkuna_agree(NULL, 0, NULL, 0, &block)));
+    printf("null: newest %s\n", behkuna_status_text(behkuna_newest(NULL, 0, 3, &newest)));
+    printf("null: exclusive or %s\n", behkuna_status_text(behkuna_xor_into(NULL, 0, NULL, 0)));
+    printf("null: exclusive or of a byte %s\n", behkuna_status_text(behkuna_xor_into(NULL, 0, none, 1)));
+    status = behkuna_run_script(NULL, 0, NULL, 0, &count);
+    printf("null: script %s, %zu bytes\n", behkuna_status_text(status), count);
+    status = behkuna_run_script((const uint8_t *)"#\nx\n", 4, NULL, 0, &count);
+    printf("null: script with a fault %s, %zu bytes\n", behkuna_status_text(status), count);
+}
+
+/* The calls, on a thread of 64 KB of stack. */
+static void *use_all(void *nothing) {
     join_two_controllers();
     decode_headers();
     place_slots();
@@ -137,5 +164,17 @@ int main(void) {
                "commit 0 0 3\n"
                "read 3\n");
     run_script("array 4 8 2 8 16\nread 16\n");
-    return 0;
+    pass_null();
+    return nothing;
+}
+
+int main(void) {
+    pthread_attr_t little;
+    pthread_t thread;
+
+    printf("the header's version %d\n", behkuna_api_version() == BEHKUNA_API_VERSION);
+    fflush(stdout);
+    bool ended = pthread_attr_init(&little) == 0 && pthread_attr_setstacksize(&little, 65536) == 0 &&
+                 pthread_create(&thread, &little, use_all, NULL) == 0 && pthread_join(thread, NULL) == 0;
+    return ended ? 0 : 1;
 }

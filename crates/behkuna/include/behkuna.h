@@ -1,16 +1,18 @@
 /* Records, headers, joins, geometry, exclusive or and scripts of a two-level array of disks, mirrored and RAID 5.
    The calls are proved in Rattle, crate behkuna. Nothing checks what a caller passes:
 
-   - No pointer is null, not even beside a length of 0. A pointer to a struct is aligned for it.
-   - A slice is a pointer to bytes and the number of them.
+   - A pointer to bytes may be null if its length is 0: nothing is read or written through it then. No other pointer is null.
+   - A pointer to a number or a struct is aligned as its type is in C: size_t to 8 bytes, uint32_t to 4, uint16_t to 2,
+     struct behkuna_record and struct behkuna_header to 4, struct behkuna_copies and struct behkuna_stripe to 2. Bytes may
+     begin anywhere.
+   - A slice is a pointer to bytes and the number of them, below 2^63.
    - What a call writes (the pointers without const) overlaps nothing else that the call is given.
    - A call is made neither from a signal handler nor in the child of a fork of a process with threads.
+   - The calling thread has 64 KB of stack left. A call that lacks it ends the process.
+   - The processor has the instructions of x86-64-v2 (up to SSE4.2). The archive doesn't test that.
 
    Given that, a call returns for every value of its arguments, and its status is one of those beside it below. What a call
    doesn't write stays as it was. Calls share no state, so threads may call at once, each with buffers of its own.
-
-   The calls that can return BEHKUNA_MEMORY allocate and free by rattle_alloc, rattle_realloc and rattle_dealloc, which the
-   program supplies: examples/c/heap.c has them over malloc. Nothing stays allocated after a call.
 
    Numbers in byte formats have their highest byte first. A slot's number is 128 times its group's, and its index there. */
 #ifndef BEHKUNA_H
@@ -22,6 +24,12 @@
 #ifdef __cplusplus
 extern "C" {
 #endif
+
+/* Goes up by one whenever a declaration below is added or changes. */
+#define BEHKUNA_API_VERSION 1u
+
+/* The version of the archive that is linked: BEHKUNA_API_VERSION, unless it was built from other sources. */
+uint32_t behkuna_api_version(void);
 
 /* What a call comes to. */
 enum behkuna_status {
@@ -36,6 +44,42 @@ enum behkuna_status {
     BEHKUNA_RANGE = 8,     /* a number is out of its range */
     BEHKUNA_ABSENT = 9     /* no record of the list has the block */
 };
+
+/* A status in words, for messages. */
+static inline const char *behkuna_status_text(uint32_t status) {
+    switch (status) {
+    case BEHKUNA_DONE: return "done";
+    case BEHKUNA_LENGTH: return "wrong length";
+    case BEHKUNA_FAULT: return "a fault of the script";
+    case BEHKUNA_ROOM: return "the buffer is too short";
+    case BEHKUNA_MEMORY: return "out of memory";
+    case BEHKUNA_VERSION: return "a record has version 0";
+    case BEHKUNA_NO_HEADER: return "the bytes are no header";
+    case BEHKUNA_DIFFERS: return "the maps differ";
+    case BEHKUNA_RANGE: return "a number is out of its range";
+    case BEHKUNA_ABSENT: return "no record of the block";
+    default: return "no status";
+    }
+}
+
+/* ---- Memory ----------------------------------------------------------------------------------------------------------- */
+
+/* The calls that can return BEHKUNA_MEMORY allocate, by these three functions, which the program supplies. Nothing stays
+   allocated after a call. examples/c/heap.c has them over malloc; they come from one allocator. */
+struct rattle_block {
+    uint64_t ok; /* 1, or 0 if out of memory */
+    void *block; /* never null, also with ok 0 */
+};
+
+/* A block of size bytes, aligned to align bytes (1 to 16, a power of two). size may be 0. */
+struct rattle_block rattle_alloc(size_t size, size_t align);
+
+/* Resizes a block of these functions, with the align that it was allocated with. Its first kept bytes stay, at most those of
+   either size. With ok 0 the block stays as it was. */
+struct rattle_block rattle_realloc(void *block, size_t kept, size_t size, size_t align);
+
+/* Frees a block of these functions. */
+void rattle_dealloc(void *block);
 
 /* ---- Records ---------------------------------------------------------------------------------------------------------- */
 

@@ -10,6 +10,7 @@ mod newest;
 mod record;
 mod script;
 mod status;
+mod version;
 mod xor;
 
 pub use geometry::{
@@ -24,4 +25,5 @@ pub use record::{
 };
 pub use script::behkuna_run_script;
 pub use status::Status;
+pub use version::{API_VERSION, behkuna_api_version};
 pub use xor::behkuna_xor_into;

@@ -1,21 +1,28 @@
-//! A tour of the library: a drive and a claim of one's own, an array over them, a lost drive, a restart, and block maps.
+//! A tour of the library: a disk, a drive and a claim of one's own, an array over them, a lost drive, a restart, and block maps.
 #![tactic(auto)]
 
 mod counted;
 mod desk;
+mod disk;
+mod kept;
 mod maps;
 mod restarts;
 mod volume;
 mod watched;
 
 use anyhow::Result;
+use counted::Counted;
 use desk::Desk;
+use kept::keep;
 use map_join::Record;
 use maps::{backwards, map_of, merge};
 use std::alloc::Global;
 use std::process::ExitCode;
-use step_core::Class;
+use step_core::{Class, MemDrive};
 use volume::{Volume, new_drives};
+
+// The drives that the tour counts the calls of.
+type Tested = Counted<MemDrive>;
 
 fn main(rt: HostRuntime) -> ExitCode {
     match tour(&rt, rt.alloc()) {
@@ -29,6 +36,8 @@ fn main(rt: HostRuntime) -> ExitCode {
 
 fn tour(rt: &impl Print, alloc: Global) -> Result<()> {
     let (shape, drives) = new_drives(alloc)?;
+    let (durable, other) = keep(alloc, shape)?;
+    println!(rt; "after a crash: {durable:?}, without a sync: {other:?}")?;
     println!(rt; "drives: {} of {} units", drives.len(), shape.drive_units())?;
     let mut volume = Volume::new(alloc, shape, drives, Desk::new())?;
     let records = use_all(rt, &mut volume)?;
@@ -43,7 +52,7 @@ fn tour(rt: &impl Print, alloc: Global) -> Result<()> {
 }
 
 // Two blocks are written, one is copied into the parity group, the other is trimmed: their records.
-fn use_all(rt: &impl Print, volume: &mut Volume) -> Result<Vec<Record>> {
+fn use_all(rt: &impl Print, volume: &mut Volume<Tested>) -> Result<Vec<Record>> {
     let mirrored = volume.make(Class::Mirrored, [0, 1, 2], 0)?;
     let parity = volume.make(Class::Parity, [1, 2, 3], 1)?;
     println!(rt; "groups: {mirrored} is mirrored, {parity} has parity")?;
@@ -66,7 +75,7 @@ fn tell(rt: &impl Print, what: &str, record: Record) -> Result<()> {
 }
 
 // Reads block 3, loses the drive that has its unit, and reads it again.
-fn lose_one(rt: &impl Print, mut volume: Volume) -> Result<Volume> {
+fn lose_one(rt: &impl Print, mut volume: Volume<Tested>) -> Result<Volume<Tested>> {
     let before = volume.read(3)?;
     let mut volume = volume.restart_without(1)?;
     let after = volume.read(3)?;
@@ -78,7 +87,12 @@ fn lose_one(rt: &impl Print, mut volume: Volume) -> Result<Volume> {
 }
 
 // The map of the headers is the array's, and that of the records in any order.
-fn compare(rt: &impl Print, alloc: Global, volume: Volume, records: &[Record]) -> Result<Volume> {
+fn compare(
+    rt: &impl Print,
+    alloc: Global,
+    volume: Volume<Tested>,
+    records: &[Record],
+) -> Result<Volume<Tested>> {
     let (volume, scanned, headers) = volume.scan()?;
     let running = volume.array.map(alloc)?;
     let same = scanned.agrees(&running);

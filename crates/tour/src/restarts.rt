@@ -1,33 +1,48 @@
 // An array taken apart, and restarted from its drives.
 ghost use Rattle.std.specs.Prelude.{◌≡◌, IsTrue};
 ghost use Rattle.array_parts.specs.Fit.{IsFit};
-ghost use Rattle.tour.specs.Counted.{counted_units};
 
 use crate::counted::Counted;
-use crate::desk::Desk;
+use crate::desk::{Desk, Seat};
 use crate::volume::Volume;
 use crate::watched::Watched;
 use anyhow::{Result, bail, ensure};
 use array_parts::Parts;
 use header_scan::{restart, scan};
 use map_join::BlockMap;
-use step_core::{MemDrive, TakeBack};
+use std::alloc::Global;
+use step_core::{Drive, MemDrive, TakeBack};
 
 // Whether the parts fit one another.
-fn are_fit(parts: &Parts<Counted<MemDrive>>) -> bool
-    ensures { IsTrue result → IsFit counted_units parts.now }
+fn are_fit<D: Drive>(parts: &Parts<D>) -> bool
+    ensures { IsTrue result → IsFit D.units parts.now }
 {
     parts.is_fit()
 }
 
-impl Volume {
+/// An array over the parts. The claims that it doesn't need go to the desk.
+pub(crate) fn restarted<D: Drive + Drop>(
+    alloc: Global,
+    parts: Parts<D>,
+    seats: Vec<Seat>,
+    mut desk: Desk,
+) -> Result<Volume<D>> {
+    ensure!(are_fit(&parts), "the parts don't fit");
+    match restart(alloc, parts, seats) {
+        Ok((array, free)) => {
+            for seat in free {
+                desk.take_back(seat);
+            }
+            Ok(Volume { alloc, array, desk })
+        }
+        Err((fault, _parts, _seats)) => Err(fault.into()),
+    }
+}
+
+impl Volume<Counted<MemDrive>> {
     /// Takes the array apart, loses a drive, and restarts an array over the others.
-    pub(crate) fn restart_without(self, drive: usize) -> Result<Volume> {
-        let Volume {
-            alloc,
-            array,
-            mut desk,
-        } = self;
+    pub(crate) fn restart_without(self, drive: usize) -> Result<Volume<Counted<MemDrive>>> {
+        let Volume { alloc, array, desk } = self;
         let Ok((mut parts, seats)) = array.into_parts(alloc) else {
             bail!("no memory");
         };
@@ -35,20 +50,11 @@ impl Volume {
             Some(drive) => drive.lose(),
             None => bail!("no such drive"),
         }
-        ensure!(are_fit(&parts), "the parts don't fit");
-        match restart(alloc, parts, seats) {
-            Ok((array, free)) => {
-                for seat in free {
-                    desk.take_back(seat);
-                }
-                Ok(Volume { alloc, array, desk })
-            }
-            Err((fault, _parts, _seats)) => Err(fault.into()),
-        }
+        restarted(alloc, parts, seats, desk)
     }
 
     /// The map of the headers, and how many headers were read for it.
-    pub(crate) fn scan(self) -> Result<(Volume, BlockMap, u32)> {
+    pub(crate) fn scan(self) -> Result<(Volume<Counted<MemDrive>>, BlockMap, u32)> {
         let Volume { alloc, array, desk } = self;
         let mut watched = Watched::new(array);
         let map = scan(alloc, &mut watched)?;

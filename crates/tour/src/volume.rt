@@ -1,8 +1,7 @@
-// An array over four counted drives, with claims from a desk.
+// An array over drives of any type, with claims from a desk.
 ghost use Rattle.std.specs.Prelude.{◌≡◌, IsTrue};
 ghost use Rattle.extent_groups.specs.Calls.{AreSized};
 ghost use Rattle.array_parts.specs.Fit.{HaveUnits};
-ghost use Rattle.tour.specs.Counted.{counted_units};
 
 use crate::counted::Counted;
 use crate::desk::{Desk, Seat};
@@ -13,9 +12,9 @@ use step_core::{Array, Class, Drive, MemDrive, Member, Refusal, Shape, TakeBack,
 
 /// An array, and the desk that its claims come from.
 #[derive(Drop)]
-pub(crate) struct Volume {
+pub(crate) struct Volume<D: Drive> {
     pub(crate) alloc: Global,
-    pub(crate) array: Array<Counted<MemDrive>, Seat>,
+    pub(crate) array: Array<D, Seat>,
     pub(crate) desk: Desk,
 }
 
@@ -32,27 +31,27 @@ pub(crate) fn new_drives(alloc: Global) -> Result<(Shape, Vec<Counted<MemDrive>>
 }
 
 /// Whether each unit of the drives has `bytes` bytes.
-pub(crate) fn are_sized(drives: &[Counted<MemDrive>], bytes: usize) -> bool
-    ensures { IsTrue result → AreSized counted_units bytes drives.now }
+pub(crate) fn are_sized<D: Drive>(drives: &[D], bytes: usize) -> bool
+    ensures { IsTrue result → AreSized D.units bytes drives.now }
 {
     drives.iter().all(|drive| drive.unit_bytes() == bytes)
 }
 
 // Whether each drive has `units` units.
-fn have_units(drives: &[Counted<MemDrive>], units: u32) -> bool
-    ensures { IsTrue result → HaveUnits counted_units drives.now units }
+fn have_units<D: Drive>(drives: &[D], units: u32) -> bool
+    ensures { IsTrue result → HaveUnits D.units drives.now units }
 {
     drives.iter().all(|drive| drive.units() == units)
 }
 
-impl Volume {
+impl<D: Drive + Drop> Volume<D> {
     /// An array over these drives, with no group.
     pub(crate) fn new(
         alloc: Global,
         shape: Shape,
-        drives: Vec<Counted<MemDrive>>,
+        drives: Vec<D>,
         desk: Desk,
-    ) -> Result<Volume> {
+    ) -> Result<Volume<D>> {
         ensure!(3 <= drives.len() && drives.len() <= 16, "3 to 16 drives");
         ensure!(
             are_sized(&drives, shape.unit_bytes()),
@@ -132,14 +131,18 @@ impl Volume {
         }
     }
 
-    /// The payload of a block.
-    pub(crate) fn read(&mut self, block: u32) -> Result<[u8; 8]> {
+    /// The payload of a block, none where it is absent.
+    pub(crate) fn find(&mut self, block: u32) -> Result<Option<[u8; 8]>> {
         let shape = self.array.shape();
         ensure!(block < shape.blocks && shape.payload == 8, "no such block");
         let mut payload = [0; 8];
         let version = self.array.read_into(block, &mut payload)?;
-        version.context("the block is absent")?;
-        Ok(payload)
+        Ok(version.map(|_| payload))
+    }
+
+    /// The payload of a block that isn't absent.
+    pub(crate) fn read(&mut self, block: u32) -> Result<[u8; 8]> {
+        self.find(block)?.context("the block is absent")
     }
 
     /// Whether the claim of a slot is at the desk.

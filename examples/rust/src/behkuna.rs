@@ -50,7 +50,11 @@ pub const ROOM: u32 = 3;
 pub const DIFFERS: u32 = 7;
 pub const ABSENT: u32 = 9;
 
+/// The version of the calls that this file declares.
+pub const API_VERSION: u32 = 1;
+
 extern "C" {
+    fn behkuna_api_version() -> u32;
     fn behkuna_record_encode(record: &Record, bytes: &mut [u8; 12]) -> u32;
     fn behkuna_record_decode(bytes: *const u8, bytes_len: usize, record: &mut Record) -> u32;
     fn behkuna_record_key(record: &Record) -> u64;
@@ -65,6 +69,11 @@ extern "C" {
     fn behkuna_one_stripe(members: u32, segments: u32, index: u32, stripe: &mut Stripe) -> u32;
     fn behkuna_xor_into(into: *mut u8, into_len: usize, from: *const u8, from_len: usize) -> u32;
     fn behkuna_run_script(script: *const u8, script_len: usize, answers: *mut u8, answers_len: usize, count: &mut usize) -> u32;
+}
+
+/// Whether the archive has the calls as they are declared here.
+pub fn has_this_version() -> bool {
+    unsafe { behkuna_api_version() == API_VERSION }
 }
 
 fn if_done<T>(status: u32, value: T) -> Result<T, Status> {

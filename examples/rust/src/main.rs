@@ -3,7 +3,7 @@
 mod behkuna;
 mod heap;
 
-use behkuna::{difference, join, newest, one_stripe, run_script, slot_count, two_copies, xor_into, Header, Record, Status};
+use behkuna::{difference, has_this_version, join, newest, one_stripe, run_script, slot_count, two_copies, xor_into, Header, Record, Status};
 use std::collections::BTreeMap;
 
 const RECORD: usize = 12;
@@ -104,6 +104,7 @@ fn join_many() -> Result<(), Status> {
 }
 
 fn main() -> Result<(), Status> {
+    println!("the archive has this version {}", has_this_version());
     join_two_controllers()?;
     decode_headers()?;
     place_slots()?;
