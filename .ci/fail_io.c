@@ -61,6 +61,11 @@ ssize_t pwrite64(int file, const void *from, size_t bytes, off64_t at) {
     return fails() ? -1 : next(file, from, bytes, at);
 }
 
+int fsync(int file) {
+    NEXT(fsync);
+    return fails() ? -1 : next(file);
+}
+
 int fdatasync(int file) {
     NEXT(fdatasync);
     return fails() ? -1 : next(file);

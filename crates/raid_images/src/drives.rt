@@ -1,35 +1,34 @@
-//! Drives from images, and images from drives.
+//! Drives from images.
 ghost use Rattle.std.specs.Prelude.{◌≡◌, None, IfOk};
 
+use crate::choice::{Choice, choose, owner_of};
+use crate::digest::{Sum, sum_of};
+use crate::store::{bytes_at, bytes_of};
 use crate::table::Table;
-use crate::trouble::Trouble;
+use crate::trouble::{Name, Trouble};
 use crate::words::{Files, LOST};
 use array_parts::Parts;
-use extents::{Drive, MemDrive, Shape};
-use file_drive::{Backing, OnFile};
-use images::{ImageRefusal, image_of, load};
-use std::alloc::{AllocError, Global};
-use std::fs::{self, File, OpenOptions};
-use std::io;
+use extents::{Drive, HotSwap, MemDrive, Shape};
+use images::{ImageRefusal, load};
+use std::alloc::Global;
 
-/// The trouble of a file that can't be read.
-fn unread(error: &io::Error, file: usize) -> Trouble {
-    match error.kind() {
-        io::ErrorKind::OutOfMemory => Trouble::Memory,
-        _ => Trouble::Read(file),
-    }
+/// An image that isn't the one that the table names.
+#[derive(Clone, Copy, Debug, PartialEq, Eq)]
+pub(crate) struct Wrong {
+    /// The drive that it is given for.
+    pub(crate) drive: usize,
+    /// The drive of the same save whose image it is, if it is one's. Else it is another save's, or damaged.
+    pub(crate) owner: Option<usize>,
 }
 
-/// The bytes of a file, which is given by its number among the files.
-pub(crate) fn bytes_of(
-    rt: &HostRuntime,
-    files: Files<'_, '_>,
-    file: usize,
-) -> Result<Vec<u8>, Trouble> {
-    match fs::read(rt, files.name(file)) {
-        Ok(bytes) => Ok(bytes),
-        Err(error) => Err(unread(&error, file)),
-    }
+/// What the files of an array hold.
+#[derive(Drop)]
+pub(crate) struct Loaded {
+    pub(crate) parts: Parts<MemDrive>,
+    /// The images that aren't those that the table names.
+    pub(crate) wrong: Vec<Wrong>,
+    /// Whether the table has digests.
+    pub(crate) is_compared: bool,
 }
 
 // A drive that is lost.
@@ -39,140 +38,107 @@ fn lost(alloc: Global, shape: &Shape) -> Result<MemDrive, Trouble> {
     Ok(drive)
 }
 
-// The drive of an image.
-fn drive_of(
+// The drive of an image's bytes.
+fn drive_of(alloc: Global, shape: &Shape, image: &[u8], file: usize) -> Result<MemDrive, Trouble> {
+    match load(alloc, shape, image) {
+        Ok(drive) => Ok(drive),
+        Err(ImageRefusal::Memory) => Err(Trouble::Memory),
+        Err(ImageRefusal::Length) => {
+            let wants = (shape.drive_units() as usize).saturating_mul(shape.unit_bytes());
+            Err(Trouble::Length(file, image.len(), wants))
+        }
+    }
+}
+
+// The digest of bytes, if there are any.
+fn sum_of_some(bytes: &Option<Vec<u8>>) -> Option<Sum> {
+    match bytes {
+        Some(bytes) => Some(sum_of(bytes)),
+        None => None,
+    }
+}
+
+// The image that the table names, from the file of its name or the one with `.new`; or what the first has, and what is wrong with it.
+fn compared(
+    rt: &HostRuntime,
+    files: Files<'_, '_>,
+    file: usize,
+    sums: &[Option<Sum>],
+    wanted: &Sum,
+) -> Result<(Vec<u8>, Option<Wrong>), Trouble> {
+    let kept = bytes_at(rt, files, Name::Kept(file))?;
+    let kept_sum = sum_of_some(&kept);
+    let fresh = if kept_sum == Some(*wanted) {
+        None
+    } else {
+        bytes_at(rt, files, Name::Fresh(file))?
+    };
+    let choice = choose(wanted, &kept_sum, &sum_of_some(&fresh));
+    match (choice, kept, fresh) {
+        (Choice::Kept, Some(bytes), _) => Ok((bytes, None)),
+        (Choice::Fresh, _, Some(bytes)) => Ok((bytes, None)),
+        (_, Some(bytes), _) => {
+            let owner = kept_sum.and_then(|sum| owner_of(sums, &sum));
+            let drive = file.saturating_sub(1);
+            Ok((bytes, Some(Wrong { drive, owner })))
+        }
+        // Nothing is there: the error is that of a read.
+        (_, None, _) => Ok((bytes_of(rt, files, Name::Kept(file))?, None)),
+    }
+}
+
+// The drive of a file, and what is wrong with its image.
+fn read_drive(
     rt: &HostRuntime,
     files: Files<'_, '_>,
     file: usize,
     shape: &Shape,
-) -> Result<MemDrive, Trouble> {
+    sums: &[Option<Sum>],
+) -> Result<(MemDrive, Option<Wrong>), Trouble> {
     if files.name(file) == LOST {
-        return lost(rt.alloc(), shape);
+        return Ok((lost(rt.alloc(), shape)?, None));
     }
-    let image = bytes_of(rt, files, file)?;
-    match load(rt.alloc(), shape, &image) {
-        Ok(drive) => Ok(drive),
-        Err(ImageRefusal::Memory) => Err(Trouble::Memory),
-        Err(ImageRefusal::Length) => Err(Trouble::Length(file)),
-    }
+    let (image, wrong) = match sums.get(file.saturating_sub(1)) {
+        Some(Some(wanted)) => compared(rt, files, file, sums, wanted)?,
+        Some(None) => return Err(Trouble::WasLost(file)),
+        None => (bytes_of(rt, files, Name::Kept(file))?, None),
+    };
+    Ok((drive_of(rt.alloc(), shape, &image, file)?, wrong))
 }
 
 /// The parts of the array of a table, its drives those of the images.
-pub(crate) fn parts_of(rt: &HostRuntime, files: Files<'_, '_>) -> Result<Parts<MemDrive>, Trouble>
-    ensures { IfOk result (λ parts. parts.note ≡ None) }
+pub(crate) fn load_files(rt: &HostRuntime, files: Files<'_, '_>) -> Result<Loaded, Trouble>
+    ensures { IfOk result (λ loaded. loaded.parts.note ≡ None) }
 {
-    let text = bytes_of(rt, files, 0)?;
+    let text = bytes_of(rt, files, Name::Kept(0))?;
     let Table {
         shape,
         groups,
         extents,
         drives: count,
+        sums,
     } = Table::parse(rt.alloc(), &text)?;
     if files.images.len() != usize::from(count) {
-        return Err(Trouble::Count);
+        return Err(Trouble::Count(usize::from(count), files.images.len()));
     }
     let mut drives = Vec::new(rt.alloc());
+    let mut wrong = Vec::new(rt.alloc());
     for number in 0..files.images.len() {
-        drives.push(drive_of(rt, files, number.saturating_add(1), &shape)?)?;
+        let (drive, bad) = read_drive(rt, files, number.saturating_add(1), &shape, &sums)?;
+        drives.push(drive)?;
+        if let Some(bad) = bad {
+            wrong.push(bad)?;
+        }
     }
-    Ok(Parts {
-        shape,
-        groups,
-        extents,
-        drives,
-        note: None,
+    Ok(Loaded {
+        parts: Parts {
+            shape,
+            groups,
+            extents,
+            drives,
+            note: None,
+        },
+        wrong,
+        is_compared: !sums.is_empty(),
     })
-}
-
-// The name of a file until all files are written.
-fn fresh_name(alloc: Global, name: &str) -> Result<String, AllocError> {
-    let mut fresh = String::new(alloc);
-    fresh.push_str(name)?;
-    fresh.push_str(".new")?;
-    Ok(fresh)
-}
-
-// Makes the file empty, and opens it for writing.
-fn emptied(rt: &HostRuntime, name: &str) -> io::Result<File> {
-    OpenOptions::new()
-        .write(true)
-        .create(true)
-        .truncate(true)
-        .open(rt, name)
-}
-
-// Writes a file by one write, and syncs it.
-fn put_file(rt: &HostRuntime, name: &str, bytes: &[u8]) -> io::Result<()> {
-    let mut backing = OnFile {
-        file: emptied(rt, name)?,
-    };
-    let count = backing.write_at(0, bytes)?;
-    if count != bytes.len() {
-        return Err(io::Error::from(io::ErrorKind::WriteZero));
-    }
-    backing.sync()
-}
-
-// The trouble of a file that can't be written.
-fn unwritten(error: &io::Error, file: usize) -> Trouble {
-    match error.kind() {
-        io::ErrorKind::OutOfMemory => Trouble::Memory,
-        _ => Trouble::Write(file),
-    }
-}
-
-/// Writes and syncs a file under its name with `.new` appended. An older file with the name itself is left as it is.
-pub(crate) fn write_file(
-    rt: &HostRuntime,
-    files: Files<'_, '_>,
-    file: usize,
-    bytes: &[u8],
-) -> Result<(), Trouble> {
-    let fresh = fresh_name(rt.alloc(), files.name(file))?;
-    match put_file(rt, &fresh, bytes) {
-        Ok(()) => Ok(()),
-        Err(error) => Err(unwritten(&error, file)),
-    }
-}
-
-// Renames a file that was written to its own name.
-fn rename_file(rt: &HostRuntime, files: Files<'_, '_>, file: usize) -> Result<(), Trouble> {
-    let name = files.name(file);
-    let fresh = fresh_name(rt.alloc(), name)?;
-    match fs::rename(rt, &fresh, name) {
-        Ok(()) => Ok(()),
-        Err(error) => Err(unwritten(&error, file)),
-    }
-}
-
-/// Removes the older table, and then renames all files that were written to their own names, the table last. So a stop at
-/// any point leaves no table next to images of two arrays.
-pub(crate) fn rename_all(rt: &HostRuntime, files: Files<'_, '_>) -> Result<(), Trouble> {
-    if let Err(error) = fs::remove_file(rt, files.table) {
-        if error.kind() != io::ErrorKind::NotFound {
-            return Err(unwritten(&error, 0));
-        }
-    }
-    for number in 0..files.images.len() {
-        rename_file(rt, files, number.saturating_add(1))?;
-    }
-    rename_file(rt, files, 0)
-}
-
-/// Writes the image of each drive, by `write_file`. A lost drive's file is empty, so that no older image is taken for it.
-pub(crate) fn write_images(
-    rt: &HostRuntime,
-    files: Files<'_, '_>,
-    parts: &mut Parts<MemDrive>,
-) -> Result<(), Trouble> {
-    let mut file = 0usize;
-    for drive in parts.drives.iter_mut() {
-        let size = drive.unit_bytes();
-        file = file.saturating_add(1);
-        match image_of(rt.alloc(), drive, size)? {
-            Some(image) => write_file(rt, files, file, &image)?,
-            None => write_file(rt, files, file, &[])?,
-        }
-    }
-    Ok(())
 }

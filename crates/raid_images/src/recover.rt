@@ -9,8 +9,7 @@ ghost use Rattle.raid_images.specs.Recovered.{IsRecovered};
 use array_parts::Parts;
 use extent_groups::{GROUPS, GroupTable, SLOTS};
 use extents::MemDrive;
-use header_scan::{ScanFault, restart, scan_groups};
-use map_join::BlockMap;
+use header_scan::{ScanFault, restart};
 use soundness::find_unsound;
 use std::alloc::{AllocError, Global};
 use step_core::{Array, Plain};
@@ -75,27 +74,4 @@ pub(crate) fn recover(
         Ok((array, _rest)) => Ok(array),
         Err((fault, _parts, _claims)) => Err(Lacking::Fault(fault)),
     }
-}
-
-/// The map of the groups that can be scanned, and the number and fault of each that can't.
-pub(crate) fn salvage(
-    alloc: Global,
-    parts: &mut Parts<MemDrive>,
-    map: &mut BlockMap,
-) -> Result<Vec<(u16, ScanFault)>, Lacking> {
-    let mut faults = Vec::new(alloc);
-    for group in 0..GROUPS as u16 {
-        if !parts.is_fit() {
-            return Err(Lacking::Misfit);
-        }
-        let merged = match scan_groups(alloc, parts, group, group + 1) {
-            Ok(part) => map.merge(alloc, &part).is_ok(),
-            Err(ScanFault::Memory) => false,
-            Err(fault) => faults.push((group, fault)).is_ok(),
-        };
-        if !merged {
-            return Err(Lacking::Fault(ScanFault::Memory));
-        }
-    }
-    Ok(faults)
 }

@@ -1,47 +1,156 @@
 //! A script whose array is kept.
-use crate::drives::{rename_all, write_file, write_images};
-use crate::table::put_table;
+use crate::digest::{Sum, sum_of};
+use crate::names::Spot;
+use crate::plan::{Step, plan};
+use crate::store::{
+    finish, forget, look, rename_file, reserve, sync_folder, sync_folders, write_fresh,
+};
+use crate::table::table_text;
 use crate::trouble::Trouble;
 use crate::words::Files;
 use array_parts::Parts;
-use background::Tiers;
-use extents::MemDrive;
+use extents::{Drive, MemDrive};
+use images::image_of;
 use script_io::{Bench, run_and_leave};
 use std::alloc::Global;
+
+// What a script leaves: its status, and the array, if it made one that is to be kept.
+#[derive(Drop)]
+struct Left {
+    status: u8,
+    bench: Option<Bench>,
+}
 
 // The parts of the array that a script leaves.
 fn parts_of(alloc: Global, bench: Bench) -> Result<Parts<MemDrive>, Trouble> {
     let Bench { tiers, .. } = bench;
-    let Tiers { world, .. } = tiers;
+    let world = tiers.into_world();
     match world.into_array().into_parts(alloc) {
         Ok((parts, _claims)) => Ok(parts),
         Err(_) => Err(Trouble::Memory),
     }
 }
 
-/// Answers the script on standard input, and leaves the table and the images of its array; the status is the script's. Nothing
-/// is written where the script made no array, or has another number of drives than there are files, or ended out of memory or by
-/// a failed read or write. All files are written under other names before the first older one is replaced.
-pub(crate) fn save(rt: &HostRuntime, files: Files<'_, '_>) -> Result<u8, Trouble> {
-    if !files.can_be_written() {
-        return Err(Trouble::Names);
-    }
+// Answers the script on standard input. Its array is kept unless it ended out of memory or by a failed read or write.
+fn answer(rt: &HostRuntime) -> Left {
     let (end, bench) = run_and_leave(rt.alloc(), &mut rt.stdin(), &mut rt.stdout());
     let status = end.status();
-    let Some(bench) = bench else {
-        return Ok(status);
+    Left {
+        status,
+        bench: if status > 2 { None } else { bench },
+    }
+}
+
+// An array that is being saved: its parts, the digests of the images that are written, and whether its table is in place.
+#[derive(Drop)]
+struct Saving {
+    parts: Parts<MemDrive>,
+    sums: Vec<Option<Sum>>,
+    is_placed: bool,
+}
+
+impl Saving {
+    // Writes the image of a drive under a name with `.new`. A lost drive's file stays empty.
+    fn write_image(
+        &mut self,
+        rt: &HostRuntime,
+        files: Files<'_, '_>,
+        number: usize,
+    ) -> Result<(), Trouble> {
+        if number >= self.parts.drives.len() {
+            return Ok(());
+        }
+        let drive = &mut self.parts.drives[number];
+        let size = drive.unit_bytes();
+        let sum = match image_of(rt.alloc(), drive, size)? {
+            Some(image) => {
+                write_fresh(rt, files, number.saturating_add(1), &image)?;
+                Some(sum_of(&image))
+            }
+            None => None,
+        };
+        self.sums.push(sum)?;
+        Ok(())
+    }
+
+    // Writes the table, makes all files with `.new` durable, and puts the table in place of the older one, by one rename.
+    fn commit(
+        &mut self,
+        rt: &HostRuntime,
+        files: Files<'_, '_>,
+        spots: &[Spot],
+    ) -> Result<(), Trouble> {
+        let text = table_text(rt.alloc(), &self.parts.groups, &self.sums)?;
+        write_fresh(rt, files, 0, &text)?;
+        sync_folders(rt, files, spots)?;
+        rename_file(rt, files, 0)?;
+        self.is_placed = true;
+        // The table has to be durable before an image of the older save is replaced.
+        sync_folder(rt, files, 0)
+    }
+
+    // Carries out the steps of a save, in the order of the plan.
+    fn run(
+        &mut self,
+        rt: &HostRuntime,
+        files: Files<'_, '_>,
+        spots: &[Spot],
+    ) -> Result<(), Trouble> {
+        let steps = plan(rt.alloc(), files.images.len())?;
+        for step in &steps {
+            match *step {
+                Step::Write(drive) => self.write_image(rt, files, drive)?,
+                Step::Commit => self.commit(rt, files, spots)?,
+                Step::Rename(drive) => rename_file(rt, files, drive.saturating_add(1))?,
+            }
+        }
+        sync_folders(rt, files, spots)
+    }
+}
+
+// Keeps an array in the files, whose names are reserved.
+fn keep(
+    rt: &HostRuntime,
+    files: Files<'_, '_>,
+    spots: &[Spot],
+    bench: Bench,
+) -> Result<(), Trouble> {
+    let parts = match parts_of(rt.alloc(), bench) {
+        Ok(parts) => parts,
+        Err(trouble) => {
+            forget(rt, files);
+            return Err(trouble);
+        }
     };
-    if status > 2 {
-        return Ok(status);
-    }
-    let mut parts = parts_of(rt.alloc(), bench)?;
     if parts.drives.len() != files.images.len() {
-        return Err(Trouble::Count);
+        forget(rt, files);
+        return Err(Trouble::Count(parts.drives.len(), files.images.len()));
     }
-    let mut table = Vec::new(rt.alloc());
-    put_table(&mut table, &parts)?;
-    write_images(rt, files, &mut parts)?;
-    write_file(rt, files, 0, &table)?;
-    rename_all(rt, files)?;
+    let mut saving = Saving {
+        parts,
+        sums: Vec::new(rt.alloc()),
+        is_placed: false,
+    };
+    let done = saving.run(rt, files, spots);
+    if done.is_err() && !saving.is_placed {
+        forget(rt, files);
+    }
+    done
+}
+
+/// Answers the script on standard input, and keeps its array in the files; the status is the script's. The files stay as they are
+/// where the script made no array, or one with another number of drives, or ended out of memory or by a failed read or write.
+pub(crate) fn save(rt: &HostRuntime, files: Files<'_, '_>) -> Result<u8, Trouble> {
+    let spots = look(rt, files)?;
+    finish(rt, files, &spots)?;
+    if let Err(trouble) = reserve(rt, files) {
+        forget(rt, files);
+        return Err(trouble);
+    }
+    let Left { status, bench } = answer(rt);
+    match bench {
+        Some(bench) => keep(rt, files, &spots, bench)?,
+        None => forget(rt, files),
+    }
     Ok(status)
 }

@@ -1,14 +1,25 @@
-//! The group table as a text: the line `array N E S P B` of a script, and a line `G make m|p D.E D.E D.E ..` for each group,
-//! with its number G.
+//! The table as a text: the line `array N E S P B` of a script, a line `image D DIGEST` for each drive, a line
+//! `G make m|p D.E D.E D.E ..` for each group, with its number G, and last `sum DIGEST`, the digest of all lines before it.
+//! A table of the older form has no `image` and no `sum`.
+ghost use Rattle.std.specs.Prelude.{IfOk};
+ghost use Rattle.extent_groups.specs.Groups.{Agree};
+
+use crate::digest::{Sum, put_sum, sum_in, sum_of};
 use crate::trouble::Trouble;
-use array_parts::Parts;
+use crate::words::LOST;
 use extent_groups::{Class, GROUPS, GroupRefusal, GroupTable, Member, are_there};
-use extents::{Drive, ExtentTable, Shape};
+use extents::{ExtentTable, Shape};
 use script_exec::{put, put_number};
 use script_syntax::{Command, Named, Verb, number_of, read_command};
 use std::alloc::{AllocError, Global};
 
-/// An array's sizes, its groups, and the owners of extents, without the drives.
+/// The first word of the last line.
+const SUM: &[u8] = b"sum ";
+
+/// The first word of a drive's line.
+const IMAGE: &[u8] = b"image ";
+
+/// An array's sizes, its groups, the owners of extents, and the digests of the images, without the drives.
 #[derive(Drop)]
 pub(crate) struct Table {
     pub(crate) shape: Shape,
@@ -16,6 +27,36 @@ pub(crate) struct Table {
     pub(crate) extents: ExtentTable,
     /// Drives, 3 to 16.
     pub(crate) drives: u8,
+    /// The digest of each drive's image, none where the drive was lost. Empty in a table of the older form.
+    pub(crate) sums: Vec<Option<Sum>>,
+}
+
+// The text without its last line, and that line without its end, where the text ends with one.
+fn cut_last(text: &[u8]) -> Option<(&[u8], &[u8])> {
+    let Some((end, rest)) = text.split_last() else {
+        return None;
+    };
+    if *end != b'\n' {
+        return None;
+    }
+    match rest.iter().rposition(|byte| *byte == b'\n') {
+        Some(at) => Some((&text[..at + 1], &rest[at + 1..])),
+        None => None,
+    }
+}
+
+// The lines of a table before its digest, and whether it has one; none where that is the digest of other lines.
+fn cut_sum(text: &[u8]) -> Option<(&[u8], bool)> {
+    let Some((lines, last)) = cut_last(text) else {
+        return Some((text, false));
+    };
+    let Some(word) = last.strip_prefix(SUM) else {
+        return Some((text, false));
+    };
+    match sum_in(word) {
+        Some(sum) if sum == sum_of(lines) => Some((lines, true)),
+        _ => None,
+    }
 }
 
 // A number below 65,537, as sizes are; none where it is greater.
@@ -62,7 +103,9 @@ fn members_of(alloc: Global, named: &[Named]) -> Result<Option<Vec<Member>>, All
 
 impl Table {
     // The table of the first line, with no group.
-    fn of_line(alloc: Global, line: &[u8]) -> Result<Table, Trouble> {
+    fn of_line(alloc: Global, line: &[u8]) -> Result<Table, Trouble>
+        ensures { IfOk result (λ t. Agree t.groups t.extents) }
+    {
         let mut command = Command::new(alloc);
         if !read_command(alloc, line, &mut [], &mut command)? || command.verb != Verb::Array {
             return Err(Trouble::Line(1));
@@ -75,7 +118,31 @@ impl Table {
             groups: GroupTable::new(alloc, &shape)?,
             extents: ExtentTable::new(alloc, drives, &shape)?,
             drives,
+            sums: Vec::new(alloc),
         })
+    }
+
+    // Takes the line of the next drive's image, after its first word; false where it isn't one.
+    fn take_image(&mut self, rest: &[u8]) -> Result<bool, AllocError>
+        requires { Agree self.old.groups self.old.extents }
+        ensures { Agree self.new.groups self.new.extents }
+    {
+        let Some(at) = rest.iter().position(|byte| *byte == b' ') else {
+            return Ok(false);
+        };
+        if number_of(&rest[..at]) != Some(self.sums.len() as u64) {
+            return Ok(false);
+        }
+        let word = &rest[at + 1..];
+        if word == LOST.as_bytes() {
+            self.sums.push(None)?;
+            return Ok(true);
+        }
+        let Some(sum) = sum_in(word) else {
+            return Ok(false);
+        };
+        self.sums.push(Some(sum))?;
+        Ok(true)
     }
 
     // Enters a group with free extents under a free number; false where it can't be.
@@ -85,14 +152,14 @@ impl Table {
         group: u16,
         class: Class,
         named: &[Named],
-    ) -> Result<bool, AllocError> {
+    ) -> Result<bool, AllocError>
+        requires { Agree self.old.groups self.old.extents }
+        ensures { Agree self.new.groups self.new.extents }
+    {
         let Some(members) = members_of(alloc, named)? else {
             return Ok(false);
         };
         if !are_there(&self.extents, &members) || !self.groups.is_free(group) {
-            return Ok(false);
-        }
-        if !self.groups.agrees(&self.extents) {
             return Ok(false);
         }
         let entered = self
@@ -105,8 +172,22 @@ impl Table {
         }
     }
 
+    // Takes a line after the first; false where it isn't one, or where its group can't be entered.
+    fn take(&mut self, alloc: Global, line: &[u8]) -> Result<bool, AllocError>
+        requires { Agree self.old.groups self.old.extents }
+        ensures { Agree self.new.groups self.new.extents }
+    {
+        match line.strip_prefix(IMAGE) {
+            Some(rest) => self.take_image(rest),
+            None => self.take_group(alloc, line),
+        }
+    }
+
     // Takes the line of a group; false where it isn't one, or where the group can't be entered.
-    fn take(&mut self, alloc: Global, line: &[u8]) -> Result<bool, AllocError> {
+    fn take_group(&mut self, alloc: Global, line: &[u8]) -> Result<bool, AllocError>
+        requires { Agree self.old.groups self.old.extents }
+        ensures { Agree self.new.groups self.new.extents }
+    {
         let Some(at) = line.iter().position(|byte| *byte == b' ') else {
             return Ok(false);
         };
@@ -123,9 +204,8 @@ impl Table {
         self.enter(alloc, group as u16, command.class, &command.members)
     }
 
-    /// The table that a text spells. Empty lines after the first are skipped. `Trouble::Line` names the first line that
-    /// can't be taken.
-    pub(crate) fn parse(alloc: Global, text: &[u8]) -> Result<Table, Trouble> {
+    // The table that lines spell, without a digest at their end. `Trouble::Line` names the first line that can't be taken.
+    fn of_lines(alloc: Global, text: &[u8]) -> Result<Table, Trouble> {
         let mut lines = text.split(|byte| *byte == b'\n');
         let Some(first) = lines.next() else {
             return Err(Trouble::Line(1));
@@ -140,6 +220,24 @@ impl Table {
         }
         Ok(table)
     }
+
+    /// The table that a text spells. It has a digest for each drive, and at its end the digest of its lines, or neither. Empty
+    /// lines after the first are skipped.
+    pub(crate) fn parse(alloc: Global, text: &[u8]) -> Result<Table, Trouble> {
+        let Some((lines, has_sum)) = cut_sum(text) else {
+            return Err(Trouble::Sum);
+        };
+        let table = Table::of_lines(alloc, lines)?;
+        let wanted = if has_sum {
+            usize::from(table.drives)
+        } else {
+            0
+        };
+        if table.sums.len() != wanted {
+            return Err(Trouble::Sum);
+        }
+        Ok(table)
+    }
 }
 
 fn put_member(out: &mut Vec<u8>, member: &Member) -> Result<(), AllocError> {
@@ -149,34 +247,70 @@ fn put_member(out: &mut Vec<u8>, member: &Member) -> Result<(), AllocError> {
     put_number(out, u64::from(member.extent))
 }
 
-/// Appends the text of the parts' table.
-pub(crate) fn put_table<D: Drive>(out: &mut Vec<u8>, parts: &Parts<D>) -> Result<(), AllocError> {
+// Appends the line of the sizes.
+fn put_sizes(out: &mut Vec<u8>, shape: &Shape, drives: usize) -> Result<(), AllocError> {
     let Shape {
         extents,
         segments,
         payload,
         blocks,
         ..
-    } = parts.groups.shape();
+    } = shape;
     put(out, b"array ")?;
-    put_number(out, parts.drives.len() as u64)?;
+    put_number(out, drives as u64)?;
     for number in [extents, segments, payload, blocks] {
         put(out, b" ")?;
-        put_number(out, u64::from(number))?;
+        put_number(out, u64::from(*number))?;
     }
-    put(out, b"\n")?;
+    put(out, b"\n")
+}
+
+// Appends a line for each drive.
+fn put_images(out: &mut Vec<u8>, sums: &[Option<Sum>]) -> Result<(), AllocError> {
+    for (drive, sum) in sums.iter().enumerate() {
+        put(out, IMAGE)?;
+        put_number(out, drive as u64)?;
+        put(out, b" ")?;
+        match sum {
+            Some(sum) => put_sum(out, sum)?,
+            None => put(out, LOST.as_bytes())?,
+        }
+        put(out, b"\n")?;
+    }
+    Ok(())
+}
+
+// Appends a line for each group.
+fn put_groups(out: &mut Vec<u8>, groups: &GroupTable) -> Result<(), AllocError> {
     for group in 0..GROUPS as u16 {
-        let name: &[u8] = match parts.groups.class_of(group) {
+        let name: &[u8] = match groups.class_of(group) {
             Some(Class::Mirrored) => b" make m",
             Some(Class::Parity) => b" make p",
             None => continue,
         };
         put_number(out, u64::from(group))?;
         put(out, name)?;
-        for member in parts.groups.members(group) {
+        for member in groups.members(group) {
             put_member(out, member)?;
         }
         put(out, b"\n")?;
     }
     Ok(())
+}
+
+/// The text of the table of these groups, with the digests of the images of all drives.
+pub(crate) fn table_text(
+    alloc: Global,
+    groups: &GroupTable,
+    sums: &[Option<Sum>],
+) -> Result<Vec<u8>, AllocError> {
+    let mut text = Vec::new(alloc);
+    put_sizes(&mut text, &groups.shape(), sums.len())?;
+    put_images(&mut text, sums)?;
+    put_groups(&mut text, groups)?;
+    let sum = sum_of(&text);
+    put(&mut text, SUM)?;
+    put_sum(&mut text, &sum)?;
+    put(&mut text, b"\n")?;
+    Ok(text)
 }

@@ -1,28 +1,30 @@
 //! What is answered of an array's files.
-use crate::drives::parts_of;
-use crate::recover::{Lacking, recover, salvage};
+use crate::drives::{Loaded, Wrong, load_files};
+use crate::recover::{Lacking, recover};
 use crate::trouble::Trouble;
+use crate::witness::{Witness, count_witnesses};
 use crate::words::Files;
-use extents::MemDrive;
+use array_parts::Parts;
+use extents::{Drive, MemDrive};
 use header_scan::ScanFault;
 use map_join::BlockMap;
 use picture::draw;
 use script_exec::{put, put_fault, put_listing, put_number};
 use std::alloc::{AllocError, Global};
-use std::io::Write;
+use std::io::{self, Write};
 use step_core::{Array, Plain, Refusal};
 
 /// The status where all is as it should be.
-const FINE: u8 = 0;
+pub(crate) const FINE: u8 = 0;
 
-/// The status where the array isn't sound, or its headers have a fault.
-const WRONG: u8 = 1;
+/// The status where an image isn't the saved one, the array isn't sound, or its headers have a fault.
+pub(crate) const WRONG: u8 = 1;
 
-// Writes a text to standard output.
-fn say(rt: &HostRuntime, text: &[u8]) -> Result<(), Trouble> {
+/// Writes a text to standard output.
+pub(crate) fn say(rt: &HostRuntime, text: &[u8]) -> Result<(), Trouble> {
     match rt.stdout().write_all(text) {
         Ok(()) => Ok(()),
-        Err(_) => Err(Trouble::Output),
+        Err(error) => Err(Trouble::Output(error)),
     }
 }
 
@@ -41,27 +43,121 @@ fn put_lacking(out: &mut Vec<u8>, lacking: &Lacking) -> Result<(), Trouble> {
     Ok(())
 }
 
-// Says why there is no array.
-fn say_lacking(rt: &HostRuntime, lacking: &Lacking) -> Result<u8, Trouble> {
+// Says on standard error why there is no array.
+fn say_lacking(rt: &HostRuntime, lacking: &Lacking) -> Result<(), Trouble> {
     let mut out = Vec::new(rt.alloc());
     put_lacking(&mut out, lacking)?;
-    say(rt, &out)?;
-    Ok(WRONG)
+    // Nothing is left to do where standard error can't be written.
+    let _ = rt.stderr().write_all(&out);
+    Ok(())
 }
 
-/// Says whether the array is sound: the copies of each slot are equal, each row adds up to its parity, and a map can be read.
-pub(crate) fn check(rt: &HostRuntime, files: Files<'_, '_>) -> Result<u8, Trouble> {
-    match recover(rt.alloc(), parts_of(rt, files)?) {
-        Ok(_array) => {
-            say(rt, b"sound\n")?;
-            Ok(FINE)
-        }
-        Err(lacking) => say_lacking(rt, &lacking),
+// Says on standard error what is wrong with an image.
+fn say_wrong(rt: &HostRuntime, files: Files<'_, '_>, wrong: Wrong) -> io::Result<()> {
+    let Wrong { drive, owner } = wrong;
+    let name = files.name(drive.saturating_add(1));
+    let table = files.table;
+    match owner {
+        Some(owner) => eprintln!(rt; "{name} isn't drive {drive} of {table}: it is drive {owner}"),
+        None => eprintln!(rt;
+            "{name} isn't drive {drive} of {table} as it was saved: another array's, older, newer or damaged"
+        ),
     }
 }
 
-// Appends a map as a line, in the form of a script's `map`.
-fn put_map(alloc: Global, out: &mut Vec<u8>, map: &BlockMap) -> Result<(), Trouble> {
+/// Says on standard error which images aren't those that the table names, or that it names none.
+pub(crate) fn say_compared(
+    rt: &HostRuntime,
+    files: Files<'_, '_>,
+    wrong: &[Wrong],
+    is_compared: bool,
+) {
+    // Nothing is left to do where standard error can't be written.
+    for one in wrong {
+        let _ = say_wrong(rt, files, *one);
+    }
+    if !is_compared {
+        let table = files.table;
+        let _ = eprintln!(rt; "{table} has no digests: the images weren't compared");
+    }
+}
+
+/// Which drives are lost.
+pub(crate) fn lost_drives(alloc: Global, parts: &Parts<MemDrive>) -> Result<Vec<bool>, AllocError> {
+    let mut lost = Vec::new(alloc);
+    for drive in &parts.drives {
+        lost.push(drive.is_lost())?;
+    }
+    Ok(lost)
+}
+
+// Appends how many pairs and rows nothing compares, if any.
+fn put_witness(out: &mut Vec<u8>, witness: &Witness) -> Result<(), AllocError> {
+    if witness.lone_pairs == 0 && witness.lone_rows == 0 {
+        return Ok(());
+    }
+    put(out, b"without a second witness: ")?;
+    put_number(out, u64::from(witness.lone_pairs))?;
+    put(out, b" of ")?;
+    put_number(out, u64::from(witness.pairs))?;
+    put(out, b" pairs, ")?;
+    put_number(out, u64::from(witness.lone_rows))?;
+    put(out, b" of ")?;
+    put_number(out, u64::from(witness.rows))?;
+    put(out, b" rows\n")
+}
+
+/// Says whether the array is sound: each image is the saved one, the copies of each slot are equal, each row adds up to its
+/// parity, and a map can be read. Then says how many pairs and rows miss a drive.
+pub(crate) fn check(rt: &HostRuntime, files: Files<'_, '_>) -> Result<u8, Trouble> {
+    let Loaded {
+        parts,
+        wrong,
+        is_compared,
+    } = load_files(rt, files)?;
+    say_compared(rt, files, &wrong, is_compared);
+    let mut out = Vec::new(rt.alloc());
+    put(&mut out, b"sound\n")?;
+    let lost = lost_drives(rt.alloc(), &parts)?;
+    put_witness(&mut out, &count_witnesses(&parts.groups, &lost))?;
+    match recover(rt.alloc(), parts) {
+        Ok(_array) if wrong.is_empty() => {
+            say(rt, &out)?;
+            Ok(FINE)
+        }
+        Ok(_array) => Ok(WRONG),
+        Err(lacking) => {
+            say_lacking(rt, &lacking)?;
+            Ok(WRONG)
+        }
+    }
+}
+
+// The array of the files; none where an image isn't the saved one or the array can't be had, which is said on standard error.
+fn array_of(
+    rt: &HostRuntime,
+    files: Files<'_, '_>,
+) -> Result<Option<Array<MemDrive, Plain>>, Trouble> {
+    let Loaded {
+        parts,
+        wrong,
+        is_compared,
+    } = load_files(rt, files)?;
+    say_compared(rt, files, &wrong, is_compared);
+    if !wrong.is_empty() {
+        return Ok(None);
+    }
+    match recover(rt.alloc(), parts) {
+        Ok(array) => Ok(Some(array)),
+        Err(lacking) => {
+            say_lacking(rt, &lacking)?;
+            Ok(None)
+        }
+    }
+}
+
+/// Appends a map as a line, in the form of a script's `map`.
+pub(crate) fn put_map(alloc: Global, out: &mut Vec<u8>, map: &BlockMap) -> Result<(), Trouble> {
     let Ok(list) = map.to_list(alloc) else {
         return Err(Trouble::Memory);
     };
@@ -72,9 +168,8 @@ fn put_map(alloc: Global, out: &mut Vec<u8>, map: &BlockMap) -> Result<(), Troub
 
 /// Prints the array's map.
 pub(crate) fn map(rt: &HostRuntime, files: Files<'_, '_>) -> Result<u8, Trouble> {
-    let array = match recover(rt.alloc(), parts_of(rt, files)?) {
-        Ok(array) => array,
-        Err(lacking) => return say_lacking(rt, &lacking),
+    let Some(array) = array_of(rt, files)? else {
+        return Ok(WRONG);
     };
     let Ok(map) = array.map(rt.alloc()) else {
         return Err(Trouble::Memory);
@@ -88,8 +183,9 @@ pub(crate) fn map(rt: &HostRuntime, files: Files<'_, '_>) -> Result<u8, Trouble>
 // Prints the payload of a block; nothing where it was never written, or was trimmed.
 fn say_block(rt: &HostRuntime, array: Array<MemDrive, Plain>, block: u32) -> Result<u8, Trouble> {
     let mut array = array;
-    if block >= array.shape().blocks {
-        return Err(Trouble::Block);
+    let blocks = array.shape().blocks;
+    if block >= blocks {
+        return Err(Trouble::Block(block, blocks));
     }
     match array.read(rt.alloc(), block) {
         Ok(Some((_version, payload))) => {
@@ -103,45 +199,21 @@ fn say_block(rt: &HostRuntime, array: Array<MemDrive, Plain>, block: u32) -> Res
 }
 
 /// Prints the payload of a block; nothing where it was never written, or was trimmed.
-pub(crate) fn block(rt: &HostRuntime, files: Files<'_, '_>, block: u32) -> Result<u8, Trouble> {
-    match recover(rt.alloc(), parts_of(rt, files)?) {
-        Ok(array) => say_block(rt, array, block),
-        Err(lacking) => say_lacking(rt, &lacking),
+pub(crate) fn block(
+    rt: &HostRuntime,
+    files: Files<'_, '_>,
+    block: Option<u32>,
+) -> Result<u8, Trouble> {
+    match (array_of(rt, files)?, block) {
+        (Some(array), Some(block)) => say_block(rt, array, block),
+        _ => Ok(WRONG),
     }
-}
-
-// Appends the number and the fault of a group.
-fn put_group(out: &mut Vec<u8>, group: u16, fault: &ScanFault) -> Result<(), AllocError> {
-    put(out, b"group ")?;
-    put_number(out, u64::from(group))?;
-    put(out, b": ")?;
-    put_fault(out, fault)?;
-    put(out, b"\n")
-}
-
-/// Prints the map of the groups that can be scanned, after the fault of each that can't. A block whose newest place is in such a
-/// group has an older record in the map, or none.
-pub(crate) fn salvage_map(rt: &HostRuntime, files: Files<'_, '_>) -> Result<u8, Trouble> {
-    let mut parts = parts_of(rt, files)?;
-    let mut map = BlockMap::new(rt.alloc());
-    let faults = match salvage(rt.alloc(), &mut parts, &mut map) {
-        Ok(faults) => faults,
-        Err(lacking) => return say_lacking(rt, &lacking),
-    };
-    let mut out = Vec::new(rt.alloc());
-    for (group, fault) in &faults {
-        put_group(&mut out, *group, fault)?;
-    }
-    put_map(rt.alloc(), &mut out, &map)?;
-    say(rt, &out)?;
-    Ok(if faults.is_empty() { FINE } else { WRONG })
 }
 
 /// Prints a picture of the array, in SVG.
 pub(crate) fn picture(rt: &HostRuntime, files: Files<'_, '_>) -> Result<u8, Trouble> {
-    let array = match recover(rt.alloc(), parts_of(rt, files)?) {
-        Ok(array) => array,
-        Err(lacking) => return say_lacking(rt, &lacking),
+    let Some(array) = array_of(rt, files)? else {
+        return Ok(WRONG);
     };
     let Ok(map) = array.map(rt.alloc()) else {
         return Err(Trouble::Memory);

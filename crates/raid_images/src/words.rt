@@ -1,11 +1,13 @@
 //! What the command line asks for.
-use crate::trouble::Trouble;
-use clap::error::ErrorKind;
-use clap::{Arg, ArgAction, ArgMatches, Command, Error};
+use crate::trouble::Name;
+use clap::{Arg, ArgAction, ArgMatches, Command, Error, value_parser};
 use std::alloc::{AllocError, Global};
 
 /// The word for a lost drive.
 pub(crate) const LOST: &str = "-";
+
+/// What a file's name has at its end until all files of a save are written.
+pub(crate) const FRESH: &str = ".new";
 
 /// The files that are asked about.
 #[derive(Clone, Copy)]
@@ -28,80 +30,101 @@ impl<'m, 'w> Files<'m, 'w> {
         }
     }
 
-    /// Whether all files have different names, and none is the word for a lost drive.
-    pub(crate) fn can_be_written(&self) -> bool {
-        if self.table == LOST {
-            return false;
+    /// A name in two parts: the word of the command line, and what is appended to it.
+    pub(crate) fn spelled(&self, name: Name) -> (&'w str, &'static str) {
+        match name {
+            Name::Kept(number) => (self.name(number), ""),
+            Name::Fresh(number) => (self.name(number), FRESH),
         }
-        for (number, image) in self.images.iter().enumerate() {
-            let is_taken = self.images[..number].iter().any(|other| *other == *image);
-            if is_taken || *image == self.table || *image == LOST {
-                return false;
-            }
-        }
-        true
+    }
+
+    /// A name as one text.
+    pub(crate) fn text_of(&self, alloc: Global, name: Name) -> Result<String, AllocError> {
+        let (word, end) = self.spelled(name);
+        let mut text = String::new(alloc);
+        text.push_str(word)?;
+        text.push_str(end)?;
+        Ok(text)
     }
 }
 
-// A command's words after its verb.
-fn command<'a>(alloc: Global, verb: &'a str, block: bool) -> Result<Command<'a>, AllocError> {
-    let mut command = Command::new(alloc, verb).disable_help_flag(true);
-    if block {
-        command = command.arg(Arg::new(alloc, "block").required(true))?;
-    }
-    command.arg(Arg::new(alloc, "table").required(true))?.arg(
-        Arg::new(alloc, "images")
-            .required(true)
-            .num_args(1..)
-            .action(ArgAction::Append),
-    )
+// A command over a table and images.
+fn over_files<'a>(alloc: Global, verb: &'a str, about: &'a str) -> Result<Command<'a>, AllocError> {
+    let table = Arg::new(alloc, "table")
+        .value_name("TABLE")
+        .required(true)
+        .help("the file with sizes and groups of the array, and the images' digests");
+    let images = Arg::new(alloc, "images")
+        .value_name("IMAGE")
+        .required(true)
+        .num_args(1..)
+        .action(ArgAction::Append)
+        .help("a file for each drive, in the drives' order; `-` for a lost one");
+    Command::new(alloc, verb)
+        .about(about)
+        .arg(table)?
+        .arg(images)
 }
 
-/// What the words ask for; `Trouble::Words` if that is no task of the program.
-pub(crate) fn matches_of<'a>(
-    alloc: Global,
-    words: &'a [String],
-) -> Result<ArgMatches<'a>, Trouble> {
-    match read(alloc, words) {
-        Ok(matches) => Ok(matches),
-        Err(error) => match error.kind() {
-            ErrorKind::OutOfMemory => Err(Trouble::Memory),
-            _ => Err(Trouble::Words),
-        },
-    }
+// The command that reads a block.
+fn over_block<'a>(alloc: Global) -> Result<Command<'a>, AllocError> {
+    let block = Arg::new(alloc, "block")
+        .value_name("BLOCK")
+        .required(true)
+        .value_parser(value_parser!(u32))
+        .help("the block's number, from 0 on");
+    let table = Arg::new(alloc, "table")
+        .value_name("TABLE")
+        .required(true)
+        .help("the file with sizes and groups of the array, and the images' digests");
+    let images = Arg::new(alloc, "images")
+        .value_name("IMAGE")
+        .required(true)
+        .num_args(1..)
+        .action(ArgAction::Append)
+        .help("a file for each drive, in the drives' order; `-` for a lost one");
+    Command::new(alloc, "block")
+        .about("prints the bytes of a block")
+        .arg(block)?
+        .arg(table)?
+        .arg(images)
 }
 
-fn read<'a>(alloc: Global, words: &'a [String]) -> Result<ArgMatches<'a>, Error> {
+/// What the words ask for, as clap reads them.
+pub(crate) fn matches_of<'a>(alloc: Global, words: &'a [String]) -> Result<ArgMatches<'a>, Error> {
     let program = Command::new(alloc, "raid_images")
+        .about("Keeps an array's drives as images in files, and recovers the array from them.")
         .no_binary_name(true)
-        .disable_help_flag(true)
         .disable_help_subcommand(true)
         .subcommand_required(true)
-        .subcommand(command(alloc, "save", false)?)?
-        .subcommand(command(alloc, "check", false)?)?
-        .subcommand(command(alloc, "map", false)?)?
-        .subcommand(command(alloc, "block", true)?)?
-        .subcommand(command(alloc, "salvage", false)?)?
-        .subcommand(command(alloc, "picture", false)?)?;
+        .subcommand(over_files(
+            alloc,
+            "save",
+            "runs the script on standard input, and writes the images of its array",
+        )?)?
+        .subcommand(over_files(
+            alloc,
+            "check",
+            "compares images, copies and rows, and reads all headers",
+        )?)?
+        .subcommand(over_files(alloc, "map", "prints the map of all blocks")?)?
+        .subcommand(over_block(alloc)?)?
+        .subcommand(over_files(
+            alloc,
+            "salvage",
+            "prints what can be read of an array that isn't sound",
+        )?)?
+        .subcommand(over_files(alloc, "picture", "draws the array, in SVG")?)?
+        .subcommand(Command::new(alloc, "explain").about(
+            "says what is wrong with the script on standard input",
+        ))?;
     program.try_get_matches_from(words)
 }
 
 /// The files that a command names.
-pub(crate) fn files_of<'m, 'w>(given: &'m ArgMatches<'w>) -> Result<Files<'m, 'w>, Trouble> {
+pub(crate) fn files_of<'m, 'w>(given: &'m ArgMatches<'w>) -> Option<Files<'m, 'w>> {
     match (given.get_str("table"), given.get_strs("images")) {
-        (Some(table), Some(images)) => Ok(Files { table, images }),
-        _ => Err(Trouble::Words),
-    }
-}
-
-/// The block that a command names, a number in decimal without a leading zero.
-pub(crate) fn block_of(given: &ArgMatches<'_>) -> Result<u32, Trouble> {
-    let Some(word) = given.get_str("block") else {
-        return Err(Trouble::Words);
-    };
-    match script_syntax::number_of(word.as_bytes()) {
-        Some(block) if block < 65_536 => Ok(block as u32),
-        Some(_) => Err(Trouble::Block),
-        None => Err(Trouble::Words),
+        (Some(table), Some(images)) => Some(Files { table, images }),
+        _ => None,
     }
 }
