@@ -13,10 +13,11 @@ use Rattle.slot_tables.specs.Represents.{ShowsArray}
 use Rattle.slot_tables.specs.Views.{ArrayView}
 use Rattle.slot_tables.proofs.OneMore.{shows_one_more, holds_one_more}
 use Rattle.step_core.specs.Claimed.{with_claim}
+use Rattle.step_core.specs.Placing.{Put, PutTells}
 use Rattle.step_core.specs.Told.{Lesson}
 use Rattle.array_book.specs.Kept.{KeptView, IsKept}
-use Rattle.array_book.specs.Outcomes.{State, WasFilled, WasCopied, WasCommitted, WasGivenUp, WasWritten, WasLearned, WasUnlearned}
-use Rattle.array_book.proofs.Shown.{FillTells, CopyTells, DiscardTells, LearnTells, ticket_of_some}
+use Rattle.array_book.specs.Outcomes.{State, WasFilled, WasPutIn, WasCommitted, WasGivenUp, WasWritten, WasLearned, WasUnlearned}
+use Rattle.array_book.proofs.Shown.{DiscardTells, LearnTells, ticket_of_some}
 
 -- a state of the lock's value, with the flat state of its invariant
 abbrev pub state_of : (blocks payload : ℕ) (k : KeptView) → IsKept blocks payload k → State blocks payload
@@ -36,19 +37,13 @@ pub may_refused : (q : Refusal) (W P : Type 0) → MayRefuse q W P → q ≢ Mem
 may_refused Memory W P may other = absurd (other refl)
 may_refused _ W P may other = may
 
-pub fill_answered : {C : Type 0} (blocks payload : ℕ) (r : Result ℕ (Refusal × C)) (k : KeptView) (b : ArrayView) (s : ℕ) (x : Content) → IsKept blocks payload k
-    → ((F : Flat) (w : ℕ) → ShowsArray k.array F → F.held s (Worker w) ≡ true → FillTells r F w x b s) → IfOk r (λ t. WasFilled blocks payload t x)
-fill_answered blocks payload (Err e) k b s x is tells = tt
-fill_answered blocks payload (Ok t) k b s x is tells =
+pub put_answered : {C : Type 0} (blocks payload : ℕ) (r : Result ℕ (Refusal × C)) (k : KeptView) (b : ArrayView) (s block : ℕ) (what : Put) → IsKept blocks payload k
+    → IfOk r (λ t. t ≡ s) → ((F : Flat) (w : ℕ) → ShowsArray k.array F → F.held s (Worker w) ≡ true → PutTells r F w what s block b) → IfOk r (λ t. WasPutIn blocks payload t block what)
+put_answered blocks payload (Err e) k b s block what is at tells = tt
+put_answered blocks payload (Ok t) k b s block what is at tells =
     let told = tells (with_claim is.flat s 0) 0 (shows_one_more k.array is.flat s 0 is.shows) (holds_one_more is.flat s 0) in
-    record { state = state_with blocks payload k s is; worker = 0; after = told.0; case = told.1 }
-
-pub copy_answered : {C : Type 0} (blocks payload : ℕ) (r : Result ℕ (Refusal × C)) (k : KeptView) (b : ArrayView) (s block : ℕ) → IsKept blocks payload k
-    → ((F : Flat) (w : ℕ) → ShowsArray k.array F → F.held s (Worker w) ≡ true → CopyTells r F w block b s) → IfOk r (λ t. WasCopied blocks payload t block)
-copy_answered blocks payload (Err e) k b s block is tells = tt
-copy_answered blocks payload (Ok t) k b s block is tells =
-    let told = tells (with_claim is.flat s 0) 0 (shows_one_more k.array is.flat s 0 is.shows) (holds_one_more is.flat s 0) in
-    record { state = state_with blocks payload k s is; worker = 0; after = told.0; case = told.1 }
+    let was : WasPutIn blocks payload s block what = record { state = state_with blocks payload k s is; worker = 0; after = told.0; case = told.1 } in
+    subst (λ n. WasPutIn blocks payload n block what) (sym at) was
 
 -- a discard is refused only where there is no ticket
 no_ticket : (q : Refusal) (F : Flat) (w s : ℕ) → DiscardCase F w s (say.Refused q) F → DiscardCase F w s (say.Refused NoTicket) F
@@ -85,3 +80,7 @@ pub refused_as : {D E : Type 0} (r : Result D E) (refusal_of : E → Refusal) (q
     → MatchResult r Y (λ e. refusal_of e ≢ Memory → P (refusal_of e)) → MatchResult r (λ d. ⊥) (λ e. refusal_of e ≡ q) → q ≢ Memory → P q
 refused_as (Ok d) refusal_of q Y P is told other = absurd told
 refused_as (Err e) refusal_of q Y P is told other = subst P told (is (λ m. other (sym told ∙ m)))
+
+-- what holds of the slot of a ticket that was given holds of the claim's slot
+pub put_at : {E : Type 0} (r : Result ℕ E) (t s : ℕ) (P : ℕ → Type 0) → IfOk r P → r ≡ Ok t → t ≡ s → P s
+put_at r t s P are is at = subst P at (subst (λ x. IfOk x P) is are)

@@ -5,3 +5,4 @@ pub mod Telling
 pub mod Planning
 pub mod Fresh
 pub mod Answering
+pub mod Named

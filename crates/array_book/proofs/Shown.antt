@@ -7,15 +7,13 @@ use Rattle.map_join.specs.declared.records.Record.{Record}
 use Rattle.map_join.specs.Record.{key_of}
 use Rattle.extent_groups.specs.Groups.{Groups}
 use Rattle.flat_machine.specs.declared.refusal.Refusal.{Refusal}
-use Rattle.flat_machine.specs.declared.refusal.Refusal.TheVariants.{Memory, InUse, Gone, DriveLost}
-use Rattle.flat_machine.specs.Flat.{Flat, Content, Stored, Ticket, Waiting, IsKept}
+use Rattle.flat_machine.specs.declared.refusal.Refusal.TheVariants.{Memory, InUse}
+use Rattle.flat_machine.specs.Flat.{Flat, Content, Ticket, Waiting, IsKept}
 use Rattle.flat_machine.specs.Steps.{Seen, Data, Stale}
 use Rattle.flat_machine.specs.Steps as say
 use Rattle.flat_machine.specs.Learning.{LearnedCase, UnlearnedCase}
-use Rattle.flat_machine.specs.Cases.{IsBehind, IsLearned, FillCase, FillPasses, CopyCase, CopyPasses, CommitCase, DiscardCase}
-use Rattle.extents.specs.declared.header.Kind.{Kind}
-use Rattle.array_parts.specs.Views.{WasPut, WasCopied}
-use Rattle.slot_tables.specs.Changes.{MayRefuse, fill_view, copy_view, discard_view}
+use Rattle.flat_machine.specs.Cases.{IsBehind, IsLearned, CommitCase, DiscardCase}
+use Rattle.slot_tables.specs.Changes.{MayRefuse, discard_view}
 use Rattle.slot_tables.specs.Represents.{ShowsArray}
 use Rattle.slot_tables.specs.Views.{ArrayView, IsWhole, key_at, with_parts}
 use Rattle.migrator.specs.Ages.{Marked}
@@ -29,6 +27,9 @@ use Rattle.step_core.specs.Headline.{bytes_of}
 use Rattle.step_core.proofs.Standing.{headers_tell, one_scan}
 use Rattle.step_core.specs.Refused.{IsRefused}
 use Rattle.step_core.specs.Told.{Lesson}
+use Rattle.step_core.specs.Placing.{IsStill, Put, Fresh, Again, PutTells, put_step}
+use Rattle.step_core.proofs.Placing.{refused_still}
+use Rattle.flat_machine.specs.Cases.{Case}
 use Rattle.array_book.specs.Kept as book
 use Rattle.array_book.specs.Kept.{KeptView}
 
@@ -37,17 +38,6 @@ pub refused_shown : (q : Refusal) (W : Type 0) (P : Flat → Type 0) (a b : Arra
     → MayRefuse q W ((G : Flat) × P G × ShowsArray b G) → (G : Flat) × ShowsArray b G
 refused_shown Memory W P a b F shows same may = (F, subst (λ (x : ArrayView). ShowsArray x F) (sym same) shows)
 refused_shown _ W P a b F shows same may = (may.0, may.2)
-
--- an array has the groups and the keys of another
-pub record IsStill (a b : ArrayView) : Type 0 where
-  pub groups : b.parts.groups ≡ a.parts.groups
-  pub keys : b.keys ≡ a.keys
-
--- so has one that refused
-pub refused_still : (a b : ArrayView) (q : Refusal) → IsRefused a b q → IsStill a b
-refused_still a b (Gone slot) is = record { groups = is.1.rest.groups; keys = ap (λ (x : ArrayView). x.keys) is.0 }
-refused_still a b (DriveLost drive) is = record { groups = is.1.rest.groups; keys = ap (λ (x : ArrayView). x.keys) is.0 }
-refused_still a b _ is = record { groups = ap (λ (x : ArrayView). x.parts.groups) is; keys = ap (λ (x : ArrayView). x.keys) is }
 
 -- and one that is another's equal
 pub still_of : (a b c : ArrayView) → b ≡ a → IsStill b c → IsStill a c
@@ -135,55 +125,23 @@ learned_written a F G asked told content shows case written = go case.2.0 case.2
     go (Data x) learned = subst (λ (r : Record). 0 < r.version) (sym learned.0) written
     go (Stale found) learned = (shows.history.records told learned.0.0).written
 
--- what a fill, a copy, a discard and a read return of a state, and what they leave shows
-abbrev pub FillTells : {C : Type 0} → Result ℕ (Refusal × C) → Flat → ℕ → Content → ArrayView → ℕ → Type 0
-FillTells r F w x b s = MatchResult r
-    (λ t. (G : Flat) × FillCase F w t x (say.Filled t) G × ShowsArray b G)
-    (λ e. MayRefuse e.0 (FillPasses F w s) ((G : Flat) × FillCase F w s x (say.Refused e.0) G × ShowsArray b G))
-
-pub fill_shown : {C : Type 0} (r : Result ℕ (Refusal × C)) (claim : C) (a b : ArrayView) (F : Flat) (w s : ℕ) (x : Content) → ShowsArray a F
-    → IfErr r (λ e. (e.1 ≡ claim) × IsRefused a b e.0) → FillTells r F w x b s → (G : Flat) × ShowsArray b G
-fill_shown (Ok t) claim a b F w s x shows err tells = (tells.0, tells.2)
-fill_shown (Err e) claim a b F w s x shows err tells = refused_shown e.0 (FillPasses F w s) (λ G. FillCase F w s x (say.Refused e.0) G) a b F shows err.1 tells
-
-pub fill_still : {C : Type 0} (k : Kind) (A : ℕ → Type 0) (u : Stored) (r : Result ℕ (Refusal × C)) (claim : C) (a b : ArrayView)
-    → IfOk r (λ t. A t × (b ≡ fill_view (with_parts a b.parts) t k) × WasPut a.parts b.parts t u) → IfErr r (λ e. (e.1 ≡ claim) × IsRefused a b e.0) → IsStill a b
-fill_still k A u (Ok t) claim a b ok err = record { groups = ok.2.rest.groups; keys = ap (λ (x : ArrayView). x.keys) ok.1 }
-fill_still k A u (Err e) claim a b ok err = refused_still a b e.0 err.1
+-- what a put that was carried out, or refused, leaves shows a state
+pub put_shown : {C : Type 0} (r : Result ℕ (Refusal × C)) (claim : C) (a b : ArrayView) (F : Flat) (w s : ℕ) (what : Put) (block : ℕ) → ShowsArray a F
+    → IfErr r (λ e. (e.1 ≡ claim) × IsRefused a b e.0) → PutTells r F w what s block b → (G : Flat) × ShowsArray b G
+put_shown (Ok t) claim a b F w s what block shows err tells = (tells.0, tells.2)
+put_shown (Err e) claim a b F w s what block shows err tells = refused_shown e.0 (Unit {0}) (λ G. Case F (put_step what w s block) (say.Refused e.0) G) a b F shows err.1 tells
 
 -- a slot of which the array keeps nothing isn't in use
-pub fill_not_used : {C : Type 0} (r : Result ℕ (Refusal × C)) (claim : C) (a b : ArrayView) (F : Flat) (w s : ℕ) (x : Content) → (IsKept F s → ⊥)
-    → IfErr r (λ e. (e.1 ≡ claim) × IsRefused a b e.0) → FillTells r F w x b s → IfErr r (λ e. (e.1 ≡ claim) × (e.0 ≢ InUse) × IsRefused a b e.0)
-fill_not_used (Ok t) claim a b F w s x none err tells = tt
-fill_not_used (Err e) claim a b F w s x none err tells = (
+in_use : (F : Flat) (w s : ℕ) (what : Put) (block : ℕ) (b : ArrayView) → (G : Flat) × Case F (put_step what w s block) (say.Refused InUse) G × ShowsArray b G → IsKept F s
+in_use F w s (Fresh x) block b y = y.1.2
+in_use F w s Again block b y = y.1.2
+
+pub put_not_used : {C : Type 0} (r : Result ℕ (Refusal × C)) (claim : C) (a b : ArrayView) (F : Flat) (w s : ℕ) (what : Put) (block : ℕ) → (IsKept F s → ⊥)
+    → IfErr r (λ e. (e.1 ≡ claim) × IsRefused a b e.0) → PutTells r F w what s block b → IfErr r (λ e. (e.1 ≡ claim) × (e.0 ≢ InUse) × IsRefused a b e.0)
+put_not_used (Ok t) claim a b F w s what block none err tells = tt
+put_not_used (Err e) claim a b F w s what block none err tells = (
   err.0,
-  λ is. none (subst (λ (q : Refusal). MayRefuse q (FillPasses F w s) ((G : Flat) × FillCase F w s x (say.Refused q) G × ShowsArray b G)) is tells).1.2,
-  err.1,
-)
-
-abbrev pub CopyTells : {C : Type 0} → Result ℕ (Refusal × C) → Flat → ℕ → ℕ → ArrayView → ℕ → Type 0
-CopyTells r F w block b s = MatchResult r
-    (λ t. (G : Flat) × CopyCase F w t block (say.Copied t) G × ShowsArray b G)
-    (λ e. MayRefuse e.0 ((q : Record) × CopyPasses F w s block q) ((G : Flat) × CopyCase F w s block (say.Refused e.0) G × ShowsArray b G))
-
-pub copy_shown : {C : Type 0} (r : Result ℕ (Refusal × C)) (claim : C) (a b : ArrayView) (F : Flat) (w s block : ℕ) → ShowsArray a F
-    → IfErr r (λ e. (e.1 ≡ claim) × IsRefused a b e.0) → CopyTells r F w block b s → (G : Flat) × ShowsArray b G
-copy_shown (Ok t) claim a b F w s block shows err tells = (tells.0, tells.2)
-copy_shown (Err e) claim a b F w s block shows err tells =
-    refused_shown e.0 ((q : Record) × CopyPasses F w s block q) (λ G. CopyCase F w s block (say.Refused e.0) G) a b F shows err.1 tells
-
-pub copy_still : {C : Type 0} (A : ℕ → Type 0) (B : Record → Type 0) (r : Result ℕ (Refusal × C)) (claim : C) (a b : ArrayView)
-    → IfOk r (λ t. A t × ((q : Record) × (k : Kind) × B q × (b ≡ copy_view (with_parts a b.parts) t q k) × WasCopied a.parts b.parts q.place t k))
-    → IfErr r (λ e. (e.1 ≡ claim) × IsRefused a b e.0) → IsStill a b
-copy_still A B (Ok t) claim a b ok err = record { groups = ok.1.4.rest.groups; keys = ap (λ (x : ArrayView). x.keys) ok.1.3 }
-copy_still A B (Err e) claim a b ok err = refused_still a b e.0 err.1
-
-pub copy_not_used : {C : Type 0} (r : Result ℕ (Refusal × C)) (claim : C) (a b : ArrayView) (F : Flat) (w s block : ℕ) → (IsKept F s → ⊥)
-    → IfErr r (λ e. (e.1 ≡ claim) × IsRefused a b e.0) → CopyTells r F w block b s → IfErr r (λ e. (e.1 ≡ claim) × (e.0 ≢ InUse) × IsRefused a b e.0)
-copy_not_used (Ok t) claim a b F w s block none err tells = tt
-copy_not_used (Err e) claim a b F w s block none err tells = (
-  err.0,
-  λ is. none (subst (λ (q : Refusal). MayRefuse q ((n : Record) × CopyPasses F w s block n) ((G : Flat) × CopyCase F w s block (say.Refused q) G × ShowsArray b G)) is tells).1.2,
+  λ is. none (in_use F w s what block b (subst (λ (q : Refusal). MayRefuse q (Unit {0}) ((G : Flat) × Case F (put_step what w s block) (say.Refused q) G × ShowsArray b G)) is tells)),
   err.1,
 )
 

@@ -7,4 +7,3 @@ pub mod Settling
 pub mod Passes
 pub mod Running
 pub mod Outcomes
-pub mod Given

@@ -11,6 +11,7 @@ use Rattle.flat_machine.specs.Steps.{FlatStep, FlatAnswer, Fill, Copy, Commit, D
 use Rattle.flat_machine.specs.Cases.{Case}
 use Rattle.flat_machine.specs.Learning.{LearnedCase, UnlearnedCase}
 use Rattle.slot_tables.specs.Represents.{ShowsArray}
+use Rattle.step_core.specs.Placing.{Put, put_step, put_answer}
 use Rattle.step_core.specs.Told.{Lesson}
 use Rattle.array_book.specs.declared.plan.Plan.{Plan}
 use Rattle.array_book.specs.declared.worker.Migration.{Migration}
@@ -32,6 +33,10 @@ pub record WasAnswered (blocks payload : ℕ) (step : ℕ → FlatStep) (answer 
   pub worker : ℕ
   pub after : Flat
   pub case : Case state.flat (step worker) answer after
+
+-- a content, or a copy of a block, was put into a slot
+abbrev pub WasPutIn : ℕ → ℕ → ℕ → ℕ → Put → Type 0
+WasPutIn blocks payload slot block what = WasAnswered blocks payload (λ w. put_step what w slot block) (put_answer what slot)
 
 -- a slot was filled with a content, or a block copied into it
 abbrev pub WasFilled : ℕ → ℕ → ℕ → Content → Type 0

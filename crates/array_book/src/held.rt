@@ -2,21 +2,18 @@
 ghost use Rattle.std.specs.Prelude.{◌≡◌, ◌≢◌, ◌<◌, IfOk, IfErr, OnOk, OnErr, MatchResult, Ok, true, false};
 ghost use Rattle.flat_machine.specs.declared.refusal.Refusal.TheVariants as refusal;
 ghost use Rattle.migrator.specs.Slots.{end_at};
-ghost use Rattle.array_book.specs.Given.{content_of, IsGivenFor};
+ghost use Rattle.step_core.specs.Placing.{IsGivenFor, IsWhatFor, block_for, content_of, put_for};
 ghost use Rattle.array_book.specs.Kept.{HasNoted};
-ghost use Rattle.array_book.specs.Outcomes.{WasFilled, WasCopied, WasCommitted, WasRefused, WasGivenUp, WasWritten};
+ghost use Rattle.array_book.specs.Outcomes.{WasPutIn, WasCopied, WasCommitted, WasRefused, WasGivenUp, WasWritten};
 
 use crate::claim::{Claim, Sizes};
-use crate::given::Given;
-use crate::kept::{
-    Kept, appended_in, commit_fresh_in, commit_in, copy_in, discard_in, fill_in, trim_in,
-};
+use crate::kept::{self, Kept, appended_in, commit_fresh_in, commit_in, discard_in};
 use crate::plan::Plan;
 use extents::Drive;
 use flat_machine::Refusal;
 use slot_words::{Naming, SlotWords};
 use std::alloc::Global;
-use step_core::{Done, Ticket};
+use step_core::{Done, Given, Ticket, What};
 
 /// Why a step was refused, and the claim that is to be released, if there is one.
 pub(crate) struct Refused<N: Naming> {
@@ -37,37 +34,18 @@ fn ticket_of<N: Naming>(placed: Result<Ticket, (Refusal, Claim<N>)>) -> Result<T
     }
 }
 
-/// Fills a claimed slot with what is given.
+/// Puts a payload, a trim or a copy into a claimed slot.
 pub(crate) fn place_in<D: Drive, N: Naming + Sizes>(
     kept: &mut Kept<D, N>,
     words: &SlotWords<N>,
-    alloc: Global,
     claim: Claim<N>,
-    given: Given,
+    what: What,
 ) -> Result<Ticket, Refused<N>>
-    requires { IsGivenFor N.payload given }
+    requires { IsWhatFor N.blocks N.payload what }
     ensures ticket { IfOk result (λ ticket. ticket ≡ claim.0.slot) }
-    ensures filled { IfOk result (λ ticket. WasFilled N.blocks N.payload ticket (content_of given.entry)) }
+    ensures put { IfOk result (λ ticket. WasPutIn N.blocks N.payload ticket (block_for what.entry) (put_for what.entry)) }
 {
-    match given {
-        Given::Payload(payload) => ticket_of(fill_in(kept, words, alloc, claim, payload)),
-        Given::Trim => ticket_of(trim_in(kept, words, alloc, claim)),
-    }
-}
-
-/// Copies what a block holds into a claimed slot.
-pub(crate) fn place_copy_in<D: Drive, N: Naming + Sizes>(
-    kept: &mut Kept<D, N>,
-    words: &SlotWords<N>,
-    alloc: Global,
-    claim: Claim<N>,
-    block: u32,
-) -> Result<Ticket, Refused<N>>
-    requires { block < N.blocks }
-    ensures ticket { IfOk result (λ ticket. ticket ≡ claim.0.slot) }
-    ensures copied { IfOk result (λ ticket. WasCopied N.blocks N.payload ticket block) }
-{
-    ticket_of(copy_in(kept, words, alloc, claim, block))
+    ticket_of(kept::put_in(kept, words, claim, what))
 }
 
 // Gives up the ticket of a refused commit.
@@ -138,7 +116,7 @@ pub(crate) fn put_in<D: Drive, N: Naming + Sizes>(
     ensures written { IfOk result (λ ended. IfOk ended (λ done. WasWritten N.blocks N.payload block (content_of given.entry) done.emitted)) }
     ensures given_up { IfOk result (λ ended. OnErr ended (WasGivenUp N.blocks N.payload claim.0.slot)) }
 {
-    match place_in(kept, words, alloc, claim, given) {
+    match place_in(kept, words, claim, What::Fresh(given)) {
         Ok(ticket) => Ok(end_fresh_in(kept, alloc, ticket, block)),
         Err(refused) => Err(refused),
     }
@@ -159,7 +137,7 @@ pub(crate) fn move_in<D: Drive, N: Naming + Sizes>(
         (λ e. e.refusal ≢ refusal.Memory → WasRefused N.blocks N.payload claim.0.slot plan.now.block e.refusal)) }
     ensures given_up { IfOk result (λ ended. OnErr ended (WasGivenUp N.blocks N.payload claim.0.slot)) }
 {
-    match place_copy_in(kept, words, alloc, claim, plan.block) {
+    match place_in(kept, words, claim, What::CopyOf(plan.block)) {
         Ok(ticket) => Ok(end_moved_in(kept, alloc, ticket, plan)),
         Err(refused) => Err(refused),
     }

@@ -13,7 +13,8 @@ ghost use Rattle.slot_tables.specs.Represents.{ShowsArray};
 ghost use Rattle.migrator.specs.Slots.{end_at};
 ghost use Rattle.step_core.specs.Refused.{IsRefused};
 ghost use Rattle.array_book.specs.Kept.{IsKept, Agrees, HasNoted, OnlyArray};
-ghost use Rattle.array_book.specs.Outcomes.{WasFilled, WasCopied, WasCommitted, WasRefused, WasGivenUp, WasLearned, WasUnlearned};
+ghost use Rattle.step_core.specs.Placing.{IsWhatFor, PutTells, block_for, put_for};
+ghost use Rattle.array_book.specs.Outcomes.{WasPutIn, WasFilled, WasCopied, WasCommitted, WasRefused, WasGivenUp, WasLearned, WasUnlearned};
 
 use crate::claim::{Claim, Sizes};
 use background::Planner;
@@ -23,7 +24,7 @@ use map_join::Record;
 use slot_words::{Naming, SlotWords};
 use std::alloc::{AllocError, Global};
 use std::marker::Model;
-use step_core::{Array, Done, Reading, Ticket};
+use step_core::{Array, Done, Given, Reading, Ticket, What, put};
 
 /// An array, and what its plans go by.
 pub struct Kept<D: Drive, N: Naming + Sizes> {
@@ -61,11 +62,31 @@ impl<D: Drive, N: Naming + Sizes> Kept<D, N> {
     }
 }
 
+/// Puts a payload, a trim or a copy into a slot, as `step_core::put` does, but is never refused as `InUse`.
+pub fn put_in<D: Drive, N: Naming + Sizes>(
+    kept: &mut Kept<D, N>,
+    words: &SlotWords<N>,
+    claim: Claim<N>,
+    what: What,
+) -> Result<Ticket, (Refusal, Claim<N>)>
+    requires { IsWhatFor N.blocks N.payload what }
+    ensures ticket { IfOk result (λ ticket. ticket ≡ claim.0.slot) }
+    ensures err { IfErr result (λ e. (e.1 ≡ claim) × (e.0 ≢ refusal.InUse) × IsRefused kept.old.array kept.new.array e.0) }
+    ensures memory { IfErr result (λ e. e.0 ≢ refusal.Memory) }
+    ensures rest { OnlyArray kept.old kept.new }
+    ensures put { IfOk result (λ ticket. WasPutIn N.blocks N.payload ticket (block_for what.entry) (put_for what.entry)) }
+    ensures flat { (F : Flat) (w : ℕ) → ShowsArray kept.old.array F → F.held claim.0.slot (Worker w) ≡ true
+        → PutTells result F w (put_for what.entry) claim.0.slot (block_for what.entry) kept.new.array }
+{
+    let mut claim = claim;
+    kept.array.apart_from(words, &mut claim);
+    put(&mut kept.array, claim, what)
+}
+
 /// Fills a mirrored slot with a fresh payload, as the array does, but is never refused as `InUse`.
 pub fn fill_in<D: Drive, N: Naming + Sizes>(
     kept: &mut Kept<D, N>,
     words: &SlotWords<N>,
-    alloc: Global,
     claim: Claim<N>,
     payload: &[u8],
 ) -> Result<Ticket, (Refusal, Claim<N>)>
@@ -82,16 +103,13 @@ pub fn fill_in<D: Drive, N: Naming + Sizes>(
         (FillPasses F w claim.0.slot)
         ((G : Flat) × FillCase F w claim.0.slot (Payload payload.now) (say.Refused e.0) G × ShowsArray kept.new.array G)) }
 {
-    let mut claim = claim;
-    kept.array.apart_from(words, &mut claim);
-    kept.array.fill(alloc, claim, payload)
+    put_in(kept, words, claim, What::Fresh(Given::Payload(payload)))
 }
 
 /// Fills a mirrored slot with a trim, as the array does, but is never refused as `InUse`.
 pub fn trim_in<D: Drive, N: Naming + Sizes>(
     kept: &mut Kept<D, N>,
     words: &SlotWords<N>,
-    alloc: Global,
     claim: Claim<N>,
 ) -> Result<Ticket, (Refusal, Claim<N>)>
     ensures ticket { IfOk result (λ ticket. ticket ≡ claim.0.slot) }
@@ -106,16 +124,13 @@ pub fn trim_in<D: Drive, N: Naming + Sizes>(
         (FillPasses F w claim.0.slot)
         ((G : Flat) × FillCase F w claim.0.slot Trim (say.Refused e.0) G × ShowsArray kept.new.array G)) }
 {
-    let mut claim = claim;
-    kept.array.apart_from(words, &mut claim);
-    kept.array.trim(alloc, claim)
+    put_in(kept, words, claim, What::Fresh(Given::Trim))
 }
 
 /// Copies what a block holds into a slot, as the array does, but is never refused as `InUse`.
 pub fn copy_in<D: Drive, N: Naming + Sizes>(
     kept: &mut Kept<D, N>,
     words: &SlotWords<N>,
-    alloc: Global,
     claim: Claim<N>,
     block: u32,
 ) -> Result<Ticket, (Refusal, Claim<N>)>
@@ -132,9 +147,7 @@ pub fn copy_in<D: Drive, N: Naming + Sizes>(
         ((r : Record) × CopyPasses F w claim.0.slot block r)
         ((G : Flat) × CopyCase F w claim.0.slot block (say.Refused e.0) G × ShowsArray kept.new.array G)) }
 {
-    let mut target = claim;
-    kept.array.apart_from(words, &mut target);
-    kept.array.copy(alloc, target, block)
+    put_in(kept, words, claim, What::CopyOf(block))
 }
 
 /// Commits a ticket, as the array does, and notes the write where the record has no hop.

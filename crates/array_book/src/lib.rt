@@ -8,7 +8,6 @@ mod controller;
 mod ended;
 mod fault;
 mod gate;
-mod given;
 mod held;
 mod kept;
 mod plan;
@@ -24,7 +23,9 @@ pub use controller::Controller;
 pub use ended::Ended;
 pub use fault::WorkFault;
 pub use gate::{Gate, NoGate, Point};
-pub use kept::{Kept, appended_in, commit_in, copy_in, discard_in, fill_in, read_in, trim_in};
+pub use kept::{
+    Kept, appended_in, commit_in, copy_in, discard_in, fill_in, put_in, read_in, trim_in,
+};
 pub use run::{Job, RunFault, run_workers};
 pub use settle_fault::SettleFault;
 pub use settled::{Settled, settle};

@@ -8,7 +8,7 @@ ghost use Rattle.flat_machine.specs.Flat.{Payload, Trim};
 ghost use Rattle.flat_machine.specs.declared.refusal.Refusal.{Refusal};
 ghost use Rattle.flat_machine.specs.declared.refusal.Refusal.TheVariants as refusal;
 ghost use Rattle.slot_words.specs.Places.{slots_of};
-ghost use Rattle.array_book.specs.Given.{content_of, IsGivenFor};
+ghost use Rattle.step_core.specs.Placing.{content_of, IsGivenFor};
 ghost use Rattle.array_book.specs.Takes.{controller_of, taker_of, other_of, AreSame, HasAsked, HasMigrated, Took, Learnt, IsTold};
 ghost use Rattle.array_book.specs.Outcomes.{WasCopied, WasCommitted, WasRefused, WasGivenUp, WasWritten};
 ghost use Rattle.array_book.specs.Outcomes.{WasPlanned, IsTried, HadNoRoom, WentSo, HasRead, WasUnlearned};
@@ -20,8 +20,7 @@ use crate::controller::Controller;
 use crate::ended::Ended;
 use crate::fault::WorkFault;
 use crate::gate::{Gate, Point};
-use crate::given::Given;
-use crate::held::{Refused, end_fresh_in, end_moved_in, move_in, place_copy_in, place_in, put_in};
+use crate::held::{Refused, end_fresh_in, end_moved_in, move_in, place_in, put_in};
 use crate::kept::{Kept, read_in};
 use crate::plan::{Plan, plan_in, slot_after};
 use extents::Drive;
@@ -31,7 +30,7 @@ use map_words::Taker;
 use slot_words::{Pass, SlotWords};
 use std::alloc::Global;
 use std::sync::{Mutex, Wait};
-use step_core::{Done, Emitted, Reading};
+use step_core::{Done, Emitted, Given, Reading, What};
 
 /// One thread's hands on a Book: a Pass, and a Taker of each controller.
 #[derive(Drop)]
@@ -235,7 +234,12 @@ impl<
             gate.reach(Point::Put, rt);
             return Ok(ended);
         }
-        let placed = place_in(&mut *book.kept.lock(rt), &book.words, alloc, claim, given);
+        let placed = place_in(
+            &mut *book.kept.lock(rt),
+            &book.words,
+            claim,
+            What::Fresh(given),
+        );
         let ticket = self.or_released(placed)?;
         gate.reach(Point::Put, rt);
         let ended = end_fresh_in(&mut *book.kept.lock(rt), alloc, ticket, block);
@@ -380,12 +384,11 @@ impl<
             gate.reach(Point::Put, rt);
             return Ok(ended);
         }
-        let copied = place_copy_in(
+        let copied = place_in(
             &mut *book.kept.lock(rt),
             &book.words,
-            alloc,
             claim,
-            plan.block,
+            What::CopyOf(plan.block),
         );
         let ticket = self.or_released(copied)?;
         gate.reach(Point::Put, rt);

@@ -1,6 +1,6 @@
 -- What may happen to drives whose units are read and written: some may be lost.
-use Rattle.std.specs.Prelude.{◌≡◌, ℕ, Bool, Option, Some, None, List, length, slice_get}
-use Rattle.extents.specs.Failures.{Failures, no_failures}
+use Rattle.std.specs.Prelude.{◌≡◌, ℕ, Bool, true, Option, Some, None, List, length, slice_get, slice_set}
+use Rattle.extents.specs.Failures.{Failures, no_failures, settled}
 use Rattle.extent_groups.specs.Calls.{NoPlace, KeepsDrives}
 use Rattle.extent_groups.specs.Missing.{missing_of}
 use Rattle.flat_machine.specs.Cases.{Fares}
@@ -32,3 +32,8 @@ pub record KeepsTables {D : Type 0} (old new : Parts D) : Type 0 where
 pub record LosesOnly {D : Type 0} (units : D → List (List ℕ)) (lost : D → Bool) (failures : D → Failures) (old new : Parts D) : Type 0 where
   pub tables : KeepsTables old new
   pub drives : KeepsDrives units lost failures NoPlace old.drives.items new.drives.items
+
+-- one drive was lost from outside: its units stay, no failure of its own is counted, and none lies ahead; the other drives stay
+abbrev pub LosesDrive : {D : Type 0} → (D → List (List ℕ)) → (D → Bool) → (D → Failures) → List D → List D → ℕ → Type 0
+LosesDrive {D = D} units lost failures old new drive = (m : D) → slice_get old drive ≡ Some m
+    → (k : D) × (new ≡ slice_set old drive k) × (units k ≡ units m) × (lost k ≡ true) × (failures k ≡ settled (failures m))

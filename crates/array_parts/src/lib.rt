@@ -9,6 +9,7 @@ mod make;
 mod memory;
 mod micro;
 mod note;
+mod outside;
 mod parts;
 mod planning;
 mod relocate;

@@ -1,7 +1,7 @@
-// Drives in memory that are lost from outside.
+// Drives in memory that are given a fuse.
 ghost use Rattle.std.specs.Prelude.{◌≡◌, ◌<◌, ◌≤◌, ℕ, true, length};
-ghost use Rattle.extents.specs.Condition.{after_loss, after_fuse};
-ghost use Rattle.extents.specs.Failures.{settled, fused};
+ghost use Rattle.extents.specs.Condition.{after_fuse};
+ghost use Rattle.extents.specs.Failures.{fused};
 ghost use Rattle.extent_groups.specs.Stores.{AreSound, KeepsUnits};
 ghost use Rattle.flat_machine.specs.Flat.{put};
 ghost use Rattle.array_parts.specs.Fit.{IsFit};
@@ -13,23 +13,6 @@ use crate::Parts;
 use extents::MemDrive;
 
 impl Parts<MemDrive> {
-    /// Loses a drive from outside.
-    pub fn lose(&mut self, drive: u8)
-        requires fit { IsFit held_units self.old }
-        requires drive { drive < length self.old.drives.items }
-        ensures lost { IsSetTo after_loss self.old.drives.items self.new.drives.items drive }
-        ensures missing { (d : ℕ) → missing_in held_lost self.new d ≡ put (missing_in held_lost self.old) drive true d }
-        ensures failures { (d : ℕ) → failures_of held_failures self.new.drives.items d
-            ≡ put (failures_of held_failures self.old.drives.items) drive (settled (failures_of held_failures self.old.drives.items drive)) d }
-        ensures units { AreSound self.old.groups (cells_in held_units held_lost self.old)
-            → KeepsUnits self.old.groups (cells_in held_units held_lost self.old) (cells_in held_units held_lost self.new) }
-        ensures sound { AreSound self.old.groups (cells_in held_units held_lost self.old) → AreSound self.new.groups (cells_in held_units held_lost self.new) }
-        ensures tables { KeepsTables self.old self.new }
-        ensures fit { IsFit held_units self.new }
-    {
-        self.drives[drive as usize].lose();
-    }
-
     /// Makes a drive fail at its `calls`-th read or write from now (1 = the next) and at all later ones.
     pub fn fuse(&mut self, drive: u8, calls: u64)
         requires fit { IsFit held_units self.old }

@@ -125,7 +125,8 @@ emits_between F H I G b r before is behind = record {
 
 -- a placing that was refused, or ran out of memory, half-way
 pub stops_alike : (F G : Flat) (w s b : ℕ) (what : Put) → PlaceStops F w s b what G → IsAlike F G
-stops_alike F G w s b what run =
+stops_alike F G w s b what stops =
+    let run = stops.run in
     let claimed = alike_claimed F run.0 w s s run.1 in
     let put = alike_put run.0 run.2.0 what w s b run.2.1 in
     let discarded = alike_discarded run.2.0 run.2.2.0 w s s run.2.2.1 in

@@ -123,7 +123,8 @@ again_free F H G w s before was run n free = go (given_frees H G w s run n free)
     go (inr same) = subst (IsFree F) (sym same) was
 
 pub stops_free : (F G : Flat) (w s b : ℕ) (what : Put) → PlaceStops F w s b what G → FreesNone F G
-stops_free F G w s b what run =
+stops_free F G w s b what stops =
+    let run = stops.run in
     again_free F run.2.2.0 G w s
     (λ n free. claim_frees F run.0 w s s run.1 n (put_frees run.0 run.2.0 what w s b run.2.1 n (discard_frees run.2.0 run.2.2.0 w s s run.2.2.1 n free)))
     run.1.1 run.2.2.2

@@ -9,3 +9,9 @@ pub mod Counts
 pub mod Standing
 pub mod Stopping
 pub mod Moving
+pub mod Rooms
+pub mod Leaving
+pub mod Full
+pub mod Counting
+pub mod Calm
+pub mod Scanned

@@ -28,7 +28,7 @@ use Rattle.step_core.proofs.Worlds.{refused_leaves}
 use Rattle.background.specs.Marking.{AreMarked}
 use Rattle.background.specs.Stands.{StandsFor}
 use Rattle.background.specs.Tiered.{Tiered}
-use Rattle.background.specs.declared.tiers.Tiers.{Tiers}
+use Rattle.background.specs.Views.{TiersView}
 use Rattle.background.proofs.Standing.{stands_left}
 
 -- no group changes its class or its number of slots
@@ -73,7 +73,7 @@ marked_moved F G M N marks g k to some groups keys marked = subst (λ z. AreMark
     )))
 
 -- after a move
-stands_moved : (t : Tiers) (v : WorldView) (T : Tiered) (G : Flat) (g k : ℕ) (to : Member) → StandsFor t T → Represents v G → slice_get (members_of T.flat.groups g) k ≢ None
+stands_moved : (t : TiersView) (v : WorldView) (T : Tiered) (G : Flat) (g k : ℕ) (to : Member) → StandsFor t T → Represents v G → slice_get (members_of T.flat.groups g) k ≢ None
     → Leaves (moved_to T.flat g k to) G → StandsFor (record t { world = v }) (record T { flat = G })
 stands_moved t v T G g k to stands rep some leaves =
     let groups : G.groups ≡ with_group T.flat.groups g (swapped_in (group_at T.flat.groups g) k to) = ap (λ (x : Flat). x.groups) leaves.same in
@@ -93,7 +93,7 @@ stands_moved t v T G g k to stands rep some leaves =
     }
 
 -- after a move, or one that was refused
-pub stands_shifted : (t : Tiers) (v : WorldView) (T : Tiered) (G : Flat) (g k : ℕ) (to : Member) (answer : FlatAnswer) → StandsFor t T → Represents v G
+pub stands_shifted : (t : TiersView) (v : WorldView) (T : Tiered) (G : Flat) (g k : ℕ) (to : Member) (answer : FlatAnswer) → StandsFor t T → Represents v G
     → MoveCase T.flat g k to answer G → StandsFor (record t { world = v }) (record T { flat = G })
 stands_shifted t v T G g k to step.MovedExtent stands rep case = stands_moved t v T G g k to stands rep case.0.0.0 case.3
 stands_shifted t v T G g k to (step.Refused r) stands rep case = stands_left t v T G stands rep (refused_leaves T.flat G (step.MoveExtent g k to) r case)

@@ -56,14 +56,14 @@ use Rattle.background.proofs.Freeing.{unmade_frees, Frees, FreesNone, IsPlaceIn,
 use Rattle.background.specs.Hints.{IsHinted}
 use Rattle.background.proofs.Marks.{marked_alike, marked_emitted, marked_made, marked_unmade}
 use Rattle.step_core.proofs.Worlds.{refused_leaves}
-use Rattle.background.specs.declared.tiers.Tiers.{Tiers}
+use Rattle.background.specs.Views.{TiersView}
 
 -- the groups of the state are the world's
-groups_of : (t : Tiers) (T : Tiered) → StandsFor t T → T.flat.groups ≡ t.world.array.parts.groups
+pub groups_of : (t : TiersView) (T : Tiered) → StandsFor t T → T.flat.groups ≡ t.world.array.parts.groups
 groups_of t T stands = stands.world.array.tables.groups
 
 -- the keys are the map of what the state emitted
-pub map_of : (t : Tiers) (T : Tiered) → StandsFor t T → IsMapOf T.flat.emitted (key_at t.world.array)
+pub map_of : (t : TiersView) (T : Tiered) → StandsFor t T → IsMapOf T.flat.emitted (key_at t.world.array)
 map_of t T stands = stands.world.array.history.map
 
 -- what a placing does for each state that the world represents
@@ -71,7 +71,7 @@ abbrev pub PlacesTo : WorldView → WorldView → ℕ → ℕ → ℕ → Put �
 PlacesTo u v w s b what result = (F : Flat) → Represents u F → (G : Flat) × Places F w s b what result G × Represents v G
 
 -- the order has a place for the block
-block_there : (t : Tiers) (T : Tiered) (b : ℕ) → StandsFor t T → b < t.world.array.parts.groups.blocks → b < length t.planner.ages.order
+block_there : (t : TiersView) (T : Tiered) (b : ℕ) → StandsFor t T → b < t.world.array.parts.groups.blocks → b < length t.planner.ages.order
 block_there t T b stands inside =
     subst (λ n. b < n) (sym (ap length stands.order ∙ stands.long ∙ ap (λ (z : Groups). z.blocks) (groups_of t T stands))) inside
 
@@ -101,7 +101,7 @@ abbrev pub Notes : Groups → Planner → Planner → Record → Type 0
 Notes groups before after r = r.block < length before.ages.order → IsNoted groups before.ages after.ages r
 
 -- what is kept next to the world after a commit that was noted
-stands_noted : (t u : Tiers) (T : Tiered) (G : Flat) (b : ℕ) (r : Record) (order : List ℕ) → Notes u.world.array.parts.groups t.planner u.planner r
+stands_noted : (t u : TiersView) (T : Tiered) (G : Flat) (b : ℕ) (r : Record) (order : List ℕ) → Notes u.world.array.parts.groups t.planner u.planner r
     → length u.planner.ages.order ≡ length t.planner.ages.order → u.planner.end ≡ t.planner.end → b < t.world.array.parts.groups.blocks
     → StandsFor t T → Represents u.world G → HasEmitted T.flat G b r → order_noted T.order r ≡ order → ((s : ℕ) → IsFreeMirror G s → IsHinted u.hints s)
     → StandsFor u (record T { flat = G; order = order })
@@ -134,7 +134,7 @@ stands_noted t u T G b r order notes long end inside stands rep emits as_said hi
         ∙ ap (λ n. slice_set t.planner.ages.marks n (is_mirrors (class_at G.groups (Some r)))) emits.newest.1
 
 -- another world next to what is kept, for a state with the same groups and records, and no more free slots
-pub stands_alike : (t : Tiers) (v : WorldView) (T : Tiered) (G : Flat) → StandsFor t T → Represents v G → IsAlike T.flat G → FreesNone T.flat G
+pub stands_alike : (t : TiersView) (v : WorldView) (T : Tiered) (G : Flat) → StandsFor t T → Represents v G → IsAlike T.flat G → FreesNone T.flat G
     → StandsFor (record t { world = v }) (record T { flat = G })
 stands_alike t v T G stands rep alike frees =
     let blocks : G.groups.blocks ≡ T.flat.groups.blocks = ap (λ (z : Groups). z.blocks) alike.groups in record {
@@ -149,7 +149,7 @@ stands_alike t v T G stands rep alike frees =
 
 -- after a step that leaves the state but for drives that failed, and after one that emits no record, changes no group and frees
 -- no slot
-pub stands_left : (t : Tiers) (v : WorldView) (T : Tiered) (G : Flat) → StandsFor t T → Represents v G → Leaves T.flat G → StandsFor (record t { world = v }) (record T { flat = G })
+pub stands_left : (t : TiersView) (v : WorldView) (T : Tiered) (G : Flat) → StandsFor t T → Represents v G → Leaves T.flat G → StandsFor (record t { world = v }) (record T { flat = G })
 stands_left t v T G stands rep leaves = stands_alike t v T G stands rep (alike_left T.flat G leaves) (left_frees T.flat G leaves)
 
 -- what is noted of a commit by its record is what is noted by what waited
@@ -181,11 +181,11 @@ order_stays order b (Fresh x) outcome.NoRoom other = refl
 order_stays order b (Fresh x) outcome.Nothing other = refl
 
 -- what a placing does for each state that is represented
-abbrev pub PutsTo : Tiers → Tiers → ℕ → ℕ → ℕ → Put → Outcome → Type 0
+abbrev pub PutsTo : TiersView → TiersView → ℕ → ℕ → ℕ → Put → Outcome → Type 0
 PutsTo t u w s b what o = (T : Tiered) → StandsFor t T → (U : Tiered) × PutsAt T w b what s o U × StandsFor u U
 
 -- what a placing says of a world is true with what is noted of it
-pub puts : (t u : Tiers) (w s b : ℕ) (what : Put) (placed : Placed) → PlacesTo t.world u.world w s b what (Ok placed)
+pub puts : (t u : TiersView) (w s b : ℕ) (what : Put) (placed : Placed) → PlacesTo t.world u.world w s b what (Ok placed)
     → Notes u.world.array.parts.groups t.planner u.planner placed.newest
     → length u.planner.ages.order ≡ length t.planner.ages.order → u.planner.end ≡ t.planner.end → b < t.world.array.parts.groups.blocks
     → MatchOption placed.left (Unit {0}) (λ n. IsHinted u.hints n) → ((n : ℕ) → IsHinted t.hints n → IsHinted u.hints n)
@@ -206,7 +206,7 @@ puts t u w s b what placed places notes long end inside hinted others T stands =
     )
 
 -- nothing is placed
-puts_none : (t : Tiers) (v : WorldView) (w s b : ℕ) (what : Put) (o : Outcome) → ((r : Record) → o ≢ outcome.Placed r)
+puts_none : (t : TiersView) (v : WorldView) (w s b : ℕ) (what : Put) (o : Outcome) → ((r : Record) → o ≢ outcome.Placed r)
     → ((F : Flat) → Represents t.world F → (G : Flat) × PlaceCase F w s b what o G × Represents v G) → PutsTo t (record t { world = v }) w s b what o
 puts_none t v w s b what o other places T stands =
     let p = places T.flat stands.world in (
@@ -215,12 +215,12 @@ puts_none t v w s b what o other places T stands =
       stands_alike t v T p.0 stands p.2 (place_alike T.flat p.0 w s b what o other p.1) (place_keeps T.flat p.0 w s b what o other p.1),
     )
 
-pub puts_nowhere : (t : Tiers) (v : WorldView) (w s b : ℕ) (what : Put) → PlacesTo t.world v w s b what (Err denied.Taken)
+pub puts_nowhere : (t : TiersView) (v : WorldView) (w s b : ℕ) (what : Put) → PlacesTo t.world v w s b what (Err denied.Taken)
     → PutsTo t (record t { world = v }) w s b what NoRoom
 puts_nowhere t v w s b what places = puts_none t v w s b what NoRoom (λ r is. absurd (cc)) places
 
 -- a placing that was refused, and one that ran out of memory
-puts_refused : (t : Tiers) (v : WorldView) (w s b : ℕ) (what : Put) (k : Refusal) (o : Outcome) → o ≡ outcome.Refused k → k ≢ Memory
+puts_refused : (t : TiersView) (v : WorldView) (w s b : ℕ) (what : Put) (k : Refusal) (o : Outcome) → o ≡ outcome.Refused k → k ≢ Memory
     → PlacesTo t.world v w s b what (Err (denied.Refused k)) → PutsTo t (record t { world = v }) w s b what o
 puts_refused t v w s b what k o is some places =
     puts_none t v w s b what o (λ r placed. let both : outcome.Refused k ≡ outcome.Placed r = sym is ∙ placed in absurd (cc)) (λ F rep.
@@ -231,7 +231,7 @@ puts_refused t v w s b what k o is some places =
     told F G Memory ne case = absurd (ne refl)
     told F G j ne case = case
 
-puts_stop : (t : Tiers) (v : WorldView) (w s b : ℕ) (what : Put) (k : Refusal) → k ≡ Memory → PlacesTo t.world v w s b what (Err (denied.Refused k))
+puts_stop : (t : TiersView) (v : WorldView) (w s b : ℕ) (what : Put) (k : Refusal) → k ≡ Memory → PlacesTo t.world v w s b what (Err (denied.Refused k))
     → (T : Tiered) → StandsFor t T → (U : Tiered) × PutStops T w what b s U × StandsFor (record t { world = v }) U
 puts_stop t v w s b what k is places T stands =
     let p = places T.flat stands.world in
@@ -242,20 +242,20 @@ puts_stop t v w s b what k is places T stands =
     )
 
 -- the same of what the call returns then
-pub refused_puts : (t : Tiers) (v : WorldView) (w s b : ℕ) (what : Put) (k : Refusal) (result : Result Outcome AllocError)
+pub refused_puts : (t : TiersView) (v : WorldView) (w s b : ℕ) (what : Put) (k : Refusal) (result : Result Outcome AllocError)
     → IfOk result (λ o. (o ≡ outcome.Refused k) × (k ≢ Memory)) → PlacesTo t.world v w s b what (Err (denied.Refused k))
     → IfOk result (λ o. PutsTo t (record t { world = v }) w s b what o)
 refused_puts t v w s b what k (Ok o) is places = puts_refused t v w s b what k o is.0 is.1 places
 refused_puts t v w s b what k (Err e) is places = tt
 
-pub refused_stops : (t : Tiers) (v : WorldView) (w s b : ℕ) (what : Put) (k : Refusal) (result : Result Outcome AllocError)
+pub refused_stops : (t : TiersView) (v : WorldView) (w s b : ℕ) (what : Put) (k : Refusal) (result : Result Outcome AllocError)
     → OnErr result (k ≡ Memory) → PlacesTo t.world v w s b what (Err (denied.Refused k))
     → OnErr result ((T : Tiered) → StandsFor t T → (U : Tiered) × PutStops T w what b s U × StandsFor (record t { world = v }) U)
 refused_stops t v w s b what k (Ok o) is places = tt
 refused_stops t v w s b what k (Err e) is places = puts_stop t v w s b what k is places
 
 -- after a placing the log goes on elsewhere
-pub appends : (t m : Tiers) (p : Planner) (w s b : ℕ) (o : Outcome) → PutsTo t m w s b Again o
+pub appends : (t m : TiersView) (p : Planner) (w s b : ℕ) (o : Outcome) → PutsTo t m w s b Again o
     → p.ages ≡ m.planner.ages → p.end ≡ end_after m.planner.end s o
     → (T : Tiered) → StandsFor t T → (U : Tiered) × AppendsAt T w b s o U × StandsFor (record m { planner = p }) U
 appends t m p w s b o puts same noted T stands =
@@ -285,7 +285,7 @@ end_stays end s outcome.Nothing other = refl
 lowest_as : (P Q : ℕ → Type 0) (n : ℕ) → ((m : ℕ) → P m ↔ Q m) → IsLowest P n → IsLowest Q n
 lowest_as P Q n same h = record { holds = (same n).0 h.holds; least = λ m q. h.least m ((same m).1 q) }
 
-first_as : (P Q : ℕ → Type 0) (found : Option ℕ) → ((m : ℕ) → P m ↔ Q m) → IsFirst P found → IsFirst Q found
+pub first_as : (P Q : ℕ → Type 0) (found : Option ℕ) → ((m : ℕ) → P m ↔ Q m) → IsFirst P found → IsFirst Q found
 first_as P Q None same h = λ n q. h n ((same n).1 q)
 first_as P Q (Some n) same h = lowest_as P Q n same h
 
@@ -301,10 +301,10 @@ append_as end groups keys P Q (Some n) same (inr h) =
     )
 
 -- which block is the oldest, for each state that is represented
-abbrev pub OldestIs : Tiers → Option ℕ → Type 0
+abbrev pub OldestIs : TiersView → Option ℕ → Type 0
 OldestIs t chosen = (T : Tiered) → StandsFor t T → IsOldest T.order (IsMirrored T.flat.groups (key_at t.world.array)) chosen
 
-pub oldest_is : (t : Tiers) (a : ArrayView) (chosen : Option ℕ) → a ≡ t.world.array
+pub oldest_is : (t : TiersView) (a : ArrayView) (chosen : Option ℕ) → a ≡ t.world.array
     → (AreMarked t.planner.ages.marks a.parts.groups (key_at a) → IsOldestMirrored a t.planner chosen) → OldestIs t chosen
 oldest_is t a chosen same oldest T stands =
     let groups = groups_of t T stands in
@@ -315,10 +315,10 @@ oldest_is t a chosen same oldest T stands =
     subst (λ order. IsOldest order (IsMirrored T.flat.groups keys) chosen) stands.order (subst (λ z. IsOldest t.planner.ages.order (IsMirrored z keys) chosen) (sym groups) is)
 
 -- what holds of the world's groups and the planner's end holds of the state's
-pub as_state : (P : Groups → End → Type 0) (t : Tiers) (T : Tiered) → StandsFor t T → P t.world.array.parts.groups t.planner.end → P T.flat.groups T.end
+pub as_state : (P : Groups → End → Type 0) (t : TiersView) (T : Tiered) → StandsFor t T → P t.world.array.parts.groups t.planner.end → P T.flat.groups T.end
 as_state P t T stands h = subst (P T.flat.groups) stands.end (subst (λ z. P z t.planner.end) (sym (groups_of t T stands)) h)
 
-pub append_is : (t : Tiers) (p : Planner) (a : ArrayView) (T : Tiered) (slot : Option ℕ) → a ≡ t.world.array → p ≡ t.planner → StandsFor t T
+pub append_is : (t : TiersView) (p : Planner) (a : ArrayView) (T : Tiered) (slot : Option ℕ) → a ≡ t.world.array → p ≡ t.planner → StandsFor t T
     → IsNextAppend a p (IsFreeHere t.world) slot → IsFirstAppend T.end T.flat.groups (key_at t.world.array) (IsFree T.flat) slot
 append_is t p a T slot array planner stands h =
     let here = subst (λ (x : ArrayView). IsNextAppend x t.planner (IsFreeHere t.world) slot) array
@@ -327,7 +327,7 @@ append_is t p a T slot array planner stands h =
     (as_state (λ groups end. IsFirstAppend end groups (key_at t.world.array) (IsFreeHere t.world) slot) t T stands here)
 
 -- a placing by a plan is the case of its step
-pub demotes : {E : Type 0} (t u : Tiers) (p : Planner) (a : ArrayView) (w b s : ℕ) (r : Result Outcome E) → a ≡ t.world.array → p ≡ t.planner → OldestIs t (Some b)
+pub demotes : {E : Type 0} (t u : TiersView) (p : Planner) (a : ArrayView) (w b s : ℕ) (r : Result Outcome E) → a ≡ t.world.array → p ≡ t.planner → OldestIs t (Some b)
     → IsNextAppend a p (IsFreeHere t.world) (Some s)
     → IfOk r (λ o. (T : Tiered) → StandsFor (record t { planner = p }) T → (U : Tiered) × AppendsAt T w b s o U × StandsFor u U)
     → IfOk r (λ o. (T : Tiered) → StandsFor t T → (U : Tiered) × DemoteCase T w o U × StandsFor u U)
@@ -345,7 +345,7 @@ demotes t u p a w b s (Ok o) array planner oldest next done = λ T stands.
       d.2,
     )
 
-pub demotes_nowhere : (t : Tiers) (p : Planner) (a : ArrayView) (w b : ℕ) → a ≡ t.world.array → p ≡ t.planner → OldestIs t (Some b)
+pub demotes_nowhere : (t : TiersView) (p : Planner) (a : ArrayView) (w b : ℕ) → a ≡ t.world.array → p ≡ t.planner → OldestIs t (Some b)
     → IsNextAppend a p (IsFreeHere t.world) None
     → (T : Tiered) → StandsFor t T → (U : Tiered) × DemoteCase T w NoRoom U × StandsFor (record t { planner = p }) U
 demotes_nowhere t p a w b array planner oldest next T stands = (
@@ -360,7 +360,7 @@ demotes_nowhere t p a w b array planner oldest next T stands = (
   subst (λ (q : Planner). StandsFor (record t { planner = q }) T) (sym planner) stands,
 )
 
-pub demotes_nothing : (t : Tiers) (p : Planner) (w : ℕ) → p ≡ t.planner → OldestIs t None
+pub demotes_nothing : (t : TiersView) (p : Planner) (w : ℕ) → p ≡ t.planner → OldestIs t None
     → (T : Tiered) → StandsFor t T → (U : Tiered) × DemoteCase T w Nothing U × StandsFor (record t { planner = p }) U
 demotes_nothing t p w planner oldest T stands = (
   T,
@@ -374,12 +374,12 @@ demotes_nothing t p w planner oldest T stands = (
   subst (λ (q : Planner). StandsFor (record t { planner = q }) T) (sym planner) stands,
 )
 
-pub plug_is : (t : Tiers) (a : ArrayView) (T : Tiered) (plan : Option Move) → a ≡ t.world.array → StandsFor t T → IsPlugOf a t.planner plan
+pub plug_is : (t : TiersView) (a : ArrayView) (T : Tiered) (plan : Option Move) → a ≡ t.world.array → StandsFor t T → IsPlugOf a t.planner plan
     → IsPlugPlan T.flat.groups (key_at t.world.array) T.end.group plan
 plug_is t a T plan array stands h =
     as_state (λ groups end. IsPlugPlan groups (key_at t.world.array) end.group plan) t T stands (subst (λ (x : ArrayView). IsPlugOf x t.planner plan) array h)
 
-pub plugs : {E : Type 0} (t u : Tiers) (a : ArrayView) (w : ℕ) (plan : Move) (r : Result Outcome E) → a ≡ t.world.array → IsPlugOf a t.planner (Some plan)
+pub plugs : {E : Type 0} (t u : TiersView) (a : ArrayView) (w : ℕ) (plan : Move) (r : Result Outcome E) → a ≡ t.world.array → IsPlugOf a t.planner (Some plan)
     → IfOk r (λ o. (T : Tiered) → StandsFor t T → (U : Tiered) × MovesTo T w plan.block plan.to o U × StandsFor u U)
     → IfOk r (λ o. (T : Tiered) → StandsFor t T → (U : Tiered) × PlugCase T w o U × StandsFor u U)
 plugs t u a w plan (Err e) array planned done = tt
@@ -396,7 +396,7 @@ plugs t u a w plan (Ok o) array planned done = λ T stands.
       d.2,
     )
 
-pub plugs_nothing : (t : Tiers) (a : ArrayView) (w : ℕ) → a ≡ t.world.array → IsPlugOf a t.planner None
+pub plugs_nothing : (t : TiersView) (a : ArrayView) (w : ℕ) → a ≡ t.world.array → IsPlugOf a t.planner None
     → (T : Tiered) → StandsFor t T → (U : Tiered) × PlugCase T w Nothing U × StandsFor t U
 plugs_nothing t a w array planned T stands = (
   T,
@@ -411,7 +411,7 @@ plugs_nothing t a w array planned T stands = (
 )
 
 -- what a clean is planned by
-clean_case : (t : Tiers) (a : ArrayView) (w : ℕ) (T U : Tiered) (plan : Option Move) (o : Outcome) → a ≡ t.world.array → StandsFor t T → IsCleanOf a t.planner plan
+clean_case : (t : TiersView) (a : ArrayView) (w : ℕ) (T U : Tiered) (plan : Option Move) (o : Outcome) → a ≡ t.world.array → StandsFor t T → IsCleanOf a t.planner plan
     → Cleans T w plan o U → CleanCase T w o U
 clean_case t a w T U plan o array stands planned done =
     let here = subst (λ (x : ArrayView). IsCleanOf x t.planner plan) array planned in record {
@@ -424,23 +424,23 @@ clean_case t a w T U plan o array stands planned done =
       done = done;
     }
 
-pub cleans : {E : Type 0} (t u : Tiers) (a : ArrayView) (w : ℕ) (plan : Move) (r : Result Outcome E) → a ≡ t.world.array → IsCleanOf a t.planner (Some plan)
+pub cleans : {E : Type 0} (t u : TiersView) (a : ArrayView) (w : ℕ) (plan : Move) (r : Result Outcome E) → a ≡ t.world.array → IsCleanOf a t.planner (Some plan)
     → IfOk r (λ o. (T : Tiered) → StandsFor t T → (U : Tiered) × AppendsAt T w plan.block plan.to o U × StandsFor u U)
     → IfOk r (λ o. (T : Tiered) → StandsFor t T → (U : Tiered) × CleanCase T w o U × StandsFor u U)
 cleans t u a w plan (Err e) array planned done = tt
 cleans t u a w plan (Ok o) array planned done = λ T stands.
     let d = done T stands in (d.0, clean_case t a w T d.0 (Some plan) o array stands planned d.1, d.2)
 
-pub cleans_nothing : (t : Tiers) (a : ArrayView) (w : ℕ) → a ≡ t.world.array → IsCleanOf a t.planner None
+pub cleans_nothing : (t : TiersView) (a : ArrayView) (w : ℕ) → a ≡ t.world.array → IsCleanOf a t.planner None
     → (T : Tiered) → StandsFor t T → (U : Tiered) × CleanCase T w Nothing U × StandsFor t U
 cleans_nothing t a w array planned T stands = (T, clean_case t a w T T None Nothing array stands planned (record { told = refl; same = refl }), stands)
 
 -- which slot is the first free one of mirrored groups, for each state that is represented; what is kept represents that state too
-abbrev pub FirstFree : Tiers → Tiers → Option ℕ → Type 0
+abbrev pub FirstFree : TiersView → TiersView → Option ℕ → Type 0
 FirstFree t m slot = (T : Tiered) → StandsFor t T → IsFirst (IsFreeMirror T.flat) slot × StandsFor m T
 
 -- and so are the ways of a write
-pub writes_here : {E : Type 0} (t m u : Tiers) (w b s : ℕ) (x : Content) (r : Result Outcome E) → FirstFree t m (Some s)
+pub writes_here : {E : Type 0} (t m u : TiersView) (w b s : ℕ) (x : Content) (r : Result Outcome E) → FirstFree t m (Some s)
     → IfOk r (λ o. (T : Tiered) → StandsFor m T → (U : Tiered) × WritesAt T w b x s o U × StandsFor u U)
     → IfOk r (λ o. (T : Tiered) → StandsFor t T → (U : Tiered) × WriteCase T w b x o U × StandsFor u U)
 writes_here t m u w b s x (Err e) first done = tt
@@ -449,19 +449,19 @@ writes_here t m u w b s x (Ok o) first done = λ T stands.
     let d = done T f.1 in (d.0, record { slot = Some s; first = f.0; done = d.1 }, d.2)
 
 -- a slot that is looked for once more
-abbrev pub FindsAgain : Tiers → Tiers → ℕ → ℕ → Content → Outcome → Type 0
+abbrev pub FindsAgain : TiersView → TiersView → ℕ → ℕ → Content → Outcome → Type 0
 FindsAgain t u w b x o = (T : Tiered) → StandsFor t T → (slot : Option ℕ) × IsFirst (IsFreeMirror T.flat) slot × ((U : Tiered) × WritesIn T w b x slot o U × StandsFor u U)
 
-pub finds_again : {E : Type 0} (t m u : Tiers) (w b s : ℕ) (x : Content) (r : Result Outcome E) → FirstFree t m (Some s)
+pub finds_again : {E : Type 0} (t m u : TiersView) (w b s : ℕ) (x : Content) (r : Result Outcome E) → FirstFree t m (Some s)
     → IfOk r (λ o. (T : Tiered) → StandsFor m T → (U : Tiered) × WritesAt T w b x s o U × StandsFor u U)
     → IfOk r (FindsAgain t u w b x)
 finds_again t m u w b s x (Err e) first done = tt
 finds_again t m u w b s x (Ok o) first done = λ T stands. let f = first T stands in (Some s, f.0, done T f.1)
 
-pub finds_none : (t m : Tiers) (w b : ℕ) (x : Content) → FirstFree t m None → FindsAgain t m w b x NoRoom
+pub finds_none : (t m : TiersView) (w b : ℕ) (x : Content) → FirstFree t m None → FindsAgain t m w b x NoRoom
 finds_none t m w b x first T stands = let f = first T stands in (None, f.0, (T, record { told = refl; same = refl }, f.1))
 
-pub writes_behind : {E : Type 0} (t m v u : Tiers) (w b : ℕ) (x : Content) (demoted : Outcome) (r : Result Outcome E) → FirstFree t m None
+pub writes_behind : {E : Type 0} (t m v u : TiersView) (w b : ℕ) (x : Content) (demoted : Outcome) (r : Result Outcome E) → FirstFree t m None
     → ((T : Tiered) → StandsFor m T → (V : Tiered) × DemoteCase T w demoted V × StandsFor v V)
     → IfOk r (FindsAgain v u w b x)
     → IfOk r (λ o. (T : Tiered) → StandsFor t T → (U : Tiered) × WriteCase T w b x o U × StandsFor u U)
@@ -498,7 +498,7 @@ begins v F p hints is long marked start all_hinted rep =
     }
 
 -- what a commit says of a world is true with what is noted of its record
-pub commits : (t : Tiers) (v : WorldView) (p : Planner) (w s b : ℕ) (r : Record) → b < t.world.array.parts.groups.blocks
+pub commits : (t : TiersView) (v : WorldView) (p : Planner) (w s b : ℕ) (r : Record) → b < t.world.array.parts.groups.blocks
     → ((F : Flat) → Represents t.world F → (G : Flat) × Case F (step.Commit w s b) (step.Committed r) G × Represents v G)
     → Notes v.array.parts.groups t.planner p r → length p.ages.order ≡ length t.planner.ages.order → p.end ≡ t.planner.end
     → (T : Tiered) → StandsFor t T → (U : Tiered) × CommitNoted T w s b (step.Committed r) U × StandsFor (record t { world = v; planner = p }) U
@@ -512,7 +512,7 @@ commits t v p w s b r inside cases notes long end T stands =
     )
 
 -- and where it is refused nothing is noted
-pub commits_none : (t : Tiers) (v : WorldView) (w s b : ℕ) (a : Answer) → ((r : Record) → a ≢ answer.Committed r)
+pub commits_none : (t : TiersView) (v : WorldView) (w s b : ℕ) (a : Answer) → ((r : Record) → a ≢ answer.Committed r)
     → ((F : Flat) → Represents t.world F → (G : Flat) × Case F (step.Commit w s b) (flat_answer a) G × Represents v G)
     → (T : Tiered) → StandsFor t T → (U : Tiered) × CommitNoted T w s b (flat_answer a) U × StandsFor (record t { world = v }) U
 commits_none t v w s b a other cases T stands =
@@ -528,7 +528,7 @@ commits_none t v w s b a other cases T stands =
     go _ G other case is rep = absurd is
 
 -- after a group that is made
-stands_made : (t : Tiers) (v : WorldView) (hints : List ℕ) (T : Tiered) (G : Flat) (class : Class) (members : List Member) (g : ℕ) → StandsFor t T → Represents v G
+stands_made : (t : TiersView) (v : WorldView) (hints : List ℕ) (T : Tiered) (G : Flat) (class : Class) (members : List Member) (g : ℕ) → StandsFor t T → Represents v G
     → group_at T.flat.groups g ≡ None → ((s : ℕ) → s / 128 ≡ g → IsHinted hints s) → ((s : ℕ) → IsHinted t.hints s → IsHinted hints s)
     → Leaves (made T.flat class members g) G → StandsFor (record t { world = v; hints = hints }) (record T { flat = G })
 stands_made t v hints T G class members g stands rep free new others leaves = record {
@@ -565,7 +565,7 @@ stands_made t v hints T G class members g stands rep free new others leaves = re
         others s (stands.hints s (same_slot s other is.0, made_frees T.flat G (key_at t.world.array) class members g stands.world.array.history leaves s other is.1))
 
 -- with more hints
-more_hints : (t : Tiers) (v : WorldView) (hints : List ℕ) (T : Tiered) (G : Flat) → ((s : ℕ) → IsHinted t.hints s → IsHinted hints s)
+more_hints : (t : TiersView) (v : WorldView) (hints : List ℕ) (T : Tiered) (G : Flat) → ((s : ℕ) → IsHinted t.hints s → IsHinted hints s)
     → StandsFor (record t { world = v }) (record T { flat = G }) → StandsFor (record t { world = v; hints = hints }) (record T { flat = G })
 more_hints t v hints T G others st = record {
   world = st.world;
@@ -577,7 +577,7 @@ more_hints t v hints T G others st = record {
   hints = λ s free. others s (st.hints s free);
 }
 
-pub makes : (t : Tiers) (v : WorldView) (hints : List ℕ) (class : Class) (members : List Member) (a : Answer)
+pub makes : (t : TiersView) (v : WorldView) (hints : List ℕ) (class : Class) (members : List Member) (a : Answer)
     → ((F : Flat) → Represents t.world F → (G : Flat) × Case F (step.Make class members) (flat_answer a) G × Represents v G)
     → ((g s : ℕ) → a ≡ answer.Made g → g < 512 → s / 128 ≡ g → IsHinted hints s) → ((s : ℕ) → IsHinted t.hints s → IsHinted hints s)
     → (T : Tiered) → StandsFor t T → (U : Tiered) × StepNoted T (step.Make class members) (flat_answer a) U × StandsFor (record t { world = v; hints = hints }) U
@@ -594,7 +594,7 @@ makes t v hints class members a takes new others T stands =
     go _ G rep case new = absurd case
 
 -- with a group fewer, whose slots the worker had
-stands_unmade : (t : Tiers) (v : WorldView) (T : Tiered) (G : Flat) (w g : ℕ) → StandsFor t T → Represents v G → group_at T.flat.groups g ≢ None
+stands_unmade : (t : TiersView) (v : WorldView) (T : Tiered) (G : Flat) (w g : ℕ) → StandsFor t T → Represents v G → group_at T.flat.groups g ≢ None
     → ((s : ℕ) → IsIn T.flat g s → HasClaim T.flat w s) → Leaves (unmade T.flat w g) G → StandsFor (record t { world = v }) (record T { flat = G })
 stands_unmade t v T G w g stands rep made claimed leaves = record {
   world = rep;
@@ -630,7 +630,7 @@ stands_unmade t v T G w g stands rep made claimed leaves = record {
         } in
         stands.hints s (was, unmade_frees T.flat G (key_at t.world.array) w g stands.world.array.history made claimed leaves s other is.1)
 
-unmakes : (t : Tiers) (v : WorldView) (w g : ℕ) (a : Answer)
+unmakes : (t : TiersView) (v : WorldView) (w g : ℕ) (a : Answer)
     → ((F : Flat) → Represents t.world F → (G : Flat) × Case F (step.Unmake w g) (flat_answer a) G × Represents v G)
     → (T : Tiered) → StandsFor t T → (U : Tiered) × StepNoted T (step.Unmake w g) (flat_answer a) U × StandsFor (record t { world = v }) U
 unmakes t v w g a takes T stands =
@@ -642,19 +642,19 @@ unmakes t v w g a takes T stands =
     go (answer.Refused k) G rep case = stands_left t v T G stands rep (refused_leaves T.flat G (step.Unmake w g) k case)
     go _ G rep case = absurd case
 
-pub unmade_if : {E : Type 0} (t : Tiers) (v : WorldView) (w g : ℕ) (r : Result Answer E)
+pub unmade_if : {E : Type 0} (t : TiersView) (v : WorldView) (w g : ℕ) (r : Result Answer E)
     → IfOk r (λ a. (F : Flat) → Represents t.world F → (G : Flat) × Case F (step.Unmake w g) (flat_answer a) G × Represents v G)
     → IfOk r (λ a. (T : Tiered) → StandsFor t T → (U : Tiered) × StepNoted T (step.Unmake w g) (flat_answer a) U × StandsFor (record t { world = v }) U)
 unmade_if t v w g (Ok a) takes = unmakes t v w g a takes
 unmade_if t v w g (Err e) takes = tt
 
-pub stands_with : (t : Tiers) (v : WorldView) (T : Tiered) (G : Flat) (taken : FlatStep) (answer : FlatAnswer) → IsCalm taken → StandsFor t T → Represents v G
+pub stands_with : (t : TiersView) (v : WorldView) (T : Tiered) (G : Flat) (taken : FlatStep) (answer : FlatAnswer) → IsCalm taken → StandsFor t T → Represents v G
     → Case T.flat taken answer G → StandsFor (record t { world = v }) (record T { flat = G })
 stands_with t v T G taken answer calm stands rep case =
     stands_alike t v T G stands rep (calm_alike T.flat G taken answer calm case) (step_frees T.flat G taken answer calm case)
 
 -- after a release
-pub releases : (t : Tiers) (v : WorldView) (hints : List ℕ) (w slot : ℕ) (a : Answer)
+pub releases : (t : TiersView) (v : WorldView) (hints : List ℕ) (w slot : ℕ) (a : Answer)
     → ((F : Flat) → Represents t.world F → (G : Flat) × Case F (step.Release w slot) (flat_answer a) G × Represents v G)
     → IsHinted hints slot → ((s : ℕ) → IsHinted t.hints s → IsHinted hints s)
     → (T : Tiered) → StandsFor t T → (U : Tiered) × StepNoted T (step.Release w slot) (flat_answer a) U × StandsFor (record t { world = v; hints = hints }) U
@@ -680,7 +680,7 @@ releases t v hints w slot a takes new others T stands =
     go _ G rep case = absurd case
 
 -- the lowest free slot of mirrored groups is the lowest of those that are hinted
-hinted_free : (t : Tiers) (T : Tiered) (s : ℕ) → StandsFor t T
+hinted_free : (t : TiersView) (T : Tiered) (s : ℕ) → StandsFor t T
     → (IsHinted t.hints s × (IsSlotOf Mirrored t.world.array.parts.groups s × IsFreeHere t.world s)) ↔ IsFreeMirror T.flat s
 hinted_free t T s stands = (to, from)
   where
@@ -693,7 +693,7 @@ hinted_free t T s stands = (to, from)
     from : IsFreeMirror T.flat s → IsHinted t.hints s × (IsSlotOf Mirrored t.world.array.parts.groups s × IsFreeHere t.world s)
     from h = (stands.hints s h, (subst (λ z. IsSlotOf Mirrored z s) groups h.0, (free_iff t.world T.flat s stands.world).1 h.1))
 
-pub finds_free : (t : Tiers) (hints : List ℕ) (slot : Option ℕ)
+pub finds_free : (t : TiersView) (hints : List ℕ) (slot : Option ℕ)
     → IsFirst (λ s. IsHinted t.hints s × (IsSlotOf Mirrored t.world.array.parts.groups s × IsFreeHere t.world s)) slot
     → ((s : ℕ) → IsHinted t.hints s → IsSlotOf Mirrored t.world.array.parts.groups s × IsFreeHere t.world s → IsHinted hints s)
     → (T : Tiered) → StandsFor t T → IsFirst (IsFreeMirror T.flat) slot × StandsFor (record t { hints = hints }) T

@@ -14,11 +14,11 @@ use Rattle.background.specs.Inside.{IsFreeHere}
 use Rattle.background.specs.Planning.{IsNextAppend, IsPlugOf, IsCleanOf}
 use Rattle.background.specs.declared.planner.Planner.{Planner}
 use Rattle.background.specs.declared.outcome.Outcome.{Outcome}
-use Rattle.background.specs.declared.tiers.Tiers.{Tiers}
+use Rattle.background.specs.Views.{TiersView}
 use Rattle.background.proofs.Standing.{map_of, OldestIs, append_is, plug_is, as_state, FirstFree}
 
 -- a demotion, a plug and a clean stop in the put of their own block and slot
-pub stops_demote : {E : Type 0} (t u : Tiers) (p : Planner) (a : ArrayView) (w b s : ℕ) (r : Result Outcome E) → a ≡ t.world.array → p ≡ t.planner → OldestIs t (Some b)
+pub stops_demote : {E : Type 0} (t u : TiersView) (p : Planner) (a : ArrayView) (w b s : ℕ) (r : Result Outcome E) → a ≡ t.world.array → p ≡ t.planner → OldestIs t (Some b)
     → IsNextAppend a p (IsFreeHere t.world) (Some s)
     → OnErr r ((T : Tiered) → StandsFor (record t { planner = p }) T → (U : Tiered) × PutStops T w Again b s U × StandsFor u U)
     → OnErr r ((T : Tiered) → StandsFor t T → (U : Tiered) × DemoteStops T w U × StandsFor u U)
@@ -38,7 +38,7 @@ stops_demote t u p a w b s (Err e) array planner oldest next stopped = λ T stan
       d.2,
     )
 
-pub stops_plug : {E : Type 0} (t u : Tiers) (a : ArrayView) (w : ℕ) (plan : Move) (r : Result Outcome E) → a ≡ t.world.array → IsPlugOf a t.planner (Some plan)
+pub stops_plug : {E : Type 0} (t u : TiersView) (a : ArrayView) (w : ℕ) (plan : Move) (r : Result Outcome E) → a ≡ t.world.array → IsPlugOf a t.planner (Some plan)
     → OnErr r ((T : Tiered) → StandsFor t T → (U : Tiered) × PutStops T w Again plan.block plan.to U × StandsFor u U)
     → OnErr r ((T : Tiered) → StandsFor t T → (U : Tiered) × PlugStops T w U × StandsFor u U)
 stops_plug t u a w plan (Ok o) array planned stopped = tt
@@ -55,7 +55,7 @@ stops_plug t u a w plan (Err e) array planned stopped = λ T stands.
       d.2,
     )
 
-pub stops_clean : {E : Type 0} (t u : Tiers) (a : ArrayView) (w : ℕ) (plan : Move) (r : Result Outcome E) → a ≡ t.world.array → IsCleanOf a t.planner (Some plan)
+pub stops_clean : {E : Type 0} (t u : TiersView) (a : ArrayView) (w : ℕ) (plan : Move) (r : Result Outcome E) → a ≡ t.world.array → IsCleanOf a t.planner (Some plan)
     → OnErr r ((T : Tiered) → StandsFor t T → (U : Tiered) × PutStops T w Again plan.block plan.to U × StandsFor u U)
     → OnErr r ((T : Tiered) → StandsFor t T → (U : Tiered) × CleanStops T w U × StandsFor u U)
 stops_clean t u a w plan (Ok o) array planned stopped = tt
@@ -76,18 +76,18 @@ stops_clean t u a w plan (Err e) array planned stopped = λ T stands.
     )
 
 -- a slot that is looked for once more, and a put into it that runs out of memory
-abbrev pub StopsAgain : Tiers → Tiers → ℕ → ℕ → Content → Type 0
+abbrev pub StopsAgain : TiersView → TiersView → ℕ → ℕ → Content → Type 0
 StopsAgain t u w b x = (T : Tiered) → StandsFor t T
     → (slot : ℕ) × IsFirst (IsFreeMirror T.flat) (Some slot) × ((U : Tiered) × PutStops T w (Fresh x) b slot U × StandsFor u U)
 
-pub stops_again : {E : Type 0} (t m u : Tiers) (w b s : ℕ) (x : Content) (r : Result Outcome E) → FirstFree t m (Some s)
+pub stops_again : {E : Type 0} (t m u : TiersView) (w b s : ℕ) (x : Content) (r : Result Outcome E) → FirstFree t m (Some s)
     → OnErr r ((T : Tiered) → StandsFor m T → (U : Tiered) × PutStops T w (Fresh x) b s U × StandsFor u U)
     → OnErr r (StopsAgain t u w b x)
 stops_again t m u w b s x (Ok o) first stopped = tt
 stops_again t m u w b s x (Err e) first stopped = λ T stands. let f = first T stands in (s, f.0, stopped T f.1)
 
 -- and the ways of a write that runs out of memory
-pub stops_here : {E : Type 0} (t m u : Tiers) (w b s : ℕ) (x : Content) (r : Result Outcome E) → FirstFree t m (Some s)
+pub stops_here : {E : Type 0} (t m u : TiersView) (w b s : ℕ) (x : Content) (r : Result Outcome E) → FirstFree t m (Some s)
     → OnErr r ((T : Tiered) → StandsFor m T → (U : Tiered) × PutStops T w (Fresh x) b s U × StandsFor u U)
     → OnErr r ((T : Tiered) → StandsFor t T → (U : Tiered) × WriteStops T w b x U × StandsFor u U)
 stops_here t m u w b s x (Ok o) first stopped = tt
@@ -95,14 +95,14 @@ stops_here t m u w b s x (Err e) first stopped = λ T stands.
     let f = first T stands in
     let d = stopped T f.1 in (d.0, record { slot = Some s; first = f.0; stops = d.1 }, d.2)
 
-pub stops_down : (t m u : Tiers) (w b : ℕ) (x : Content) → FirstFree t m None
+pub stops_down : (t m u : TiersView) (w b : ℕ) (x : Content) → FirstFree t m None
     → ((T : Tiered) → StandsFor m T → (U : Tiered) × DemoteStops T w U × StandsFor u U)
     → (T : Tiered) → StandsFor t T → (U : Tiered) × WriteStops T w b x U × StandsFor u U
 stops_down t m u w b x none stopped T stands =
     let f = none T stands in
     let d = stopped T f.1 in (d.0, record { slot = None; first = f.0; stops = inl d.1 }, d.2)
 
-pub stops_behind : {E : Type 0} (t m v u : Tiers) (w b : ℕ) (x : Content) (demoted : Outcome) (r : Result Outcome E) → FirstFree t m None
+pub stops_behind : {E : Type 0} (t m v u : TiersView) (w b : ℕ) (x : Content) (demoted : Outcome) (r : Result Outcome E) → FirstFree t m None
     → ((T : Tiered) → StandsFor m T → (V : Tiered) × DemoteCase T w demoted V × StandsFor v V)
     → OnErr r (StopsAgain v u w b x)
     → OnErr r ((T : Tiered) → StandsFor t T → (U : Tiered) × WriteStops T w b x U × StandsFor u U)

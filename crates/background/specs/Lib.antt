@@ -6,5 +6,8 @@ pub mod Marking
 pub mod Planning
 pub mod Bits
 pub mod Hints
+pub mod Views
 pub mod Stands
+pub mod Scanning
 pub mod Inside
+pub mod Room

@@ -6,11 +6,11 @@ use Rattle.background.specs.Hints.{IsHinted}
 use Rattle.background.specs.Marking.{AreMarked}
 use Rattle.background.specs.Steps.{IsFreeMirror}
 use Rattle.background.specs.Tiered.{Tiered}
-use Rattle.background.specs.declared.tiers.Tiers.{Tiers}
+use Rattle.background.specs.Views.{TiersView}
 
 -- the world represents the flat state; the order has a place for each block, and marks on exactly those in mirrored groups; and
 -- each free slot of a mirrored group is hinted
-pub record StandsFor (tiers : Tiers) (T : Tiered) : Type 0 where
+pub record StandsFor (tiers : TiersView) (T : Tiered) : Type 0 where
   pub world : Represents tiers.world T.flat
   pub order : tiers.planner.ages.order ≡ T.order
   pub long : length T.order ≡ T.flat.groups.blocks

@@ -67,11 +67,11 @@ fn is_live<D: Drive, C: Hold>(array: &Array<D, C>, slot: u16) -> bool
 
 // The slots that nobody holds in a world.
 #[derive(Drop)]
-pub(crate) struct Unheld<'a> {
-    pub(crate) world: &'a World,
+pub(crate) struct Unheld<'a, D: Drive> {
+    pub(crate) world: &'a World<D>,
 }
 
-impl<'a> Free for Unheld<'a> {
+impl<'a, D: Drive> Free for Unheld<'a, D> {
     ghost free = { λ u slot. IsFreeHere u.world.now slot };
 
     fn is_free(&self, slot: u16) -> bool {
@@ -81,11 +81,11 @@ impl<'a> Free for Unheld<'a> {
 
 // The free slots of mirrored groups.
 #[derive(Drop)]
-pub(crate) struct Mirrors<'a> {
-    pub(crate) world: &'a World,
+pub(crate) struct Mirrors<'a, D: Drive> {
+    pub(crate) world: &'a World<D>,
 }
 
-impl<'a> Free for Mirrors<'a> {
+impl<'a, D: Drive> Free for Mirrors<'a, D> {
     ghost free = { λ m slot. IsSlotOf Mirrored m.world.now.array.parts.groups slot × IsFreeHere m.world.now slot };
 
     fn is_free(&self, slot: u16) -> bool {

@@ -11,6 +11,9 @@ mod plans;
 mod put;
 mod regroup;
 mod regrouped;
+mod room;
+mod scan;
+mod steps;
 mod tiers;
 mod write;
 
@@ -20,4 +23,5 @@ pub use outcome::Outcome;
 pub use planner::Planner;
 pub use regroup::{balance, rebuild};
 pub use regrouped::Regrouped;
+pub use room::room_law;
 pub use tiers::Tiers;

@@ -1,5 +1,5 @@
 // Putting a block into a slot, and updating what is kept next to the world.
-ghost use Rattle.std.specs.Prelude.{◌≡◌, ◌≢◌, ◌<◌, IfOk, OnErr};
+ghost use Rattle.std.specs.Prelude.{◌≡◌, ◌≢◌, ◌<◌, IfOk, OnErr, ℕ};
 ghost use Rattle.slot_tables.specs.Views.{SameSizes};
 ghost use Rattle.background.specs.Marking.{PutsAt};
 ghost use Rattle.background.specs.Placing.{IsSizedFor, put_of};
@@ -10,25 +10,24 @@ ghost use Rattle.background.specs.Tiered.{Tiered};
 use crate::hints::hint_left;
 use crate::{Outcome, Tiers};
 use std::alloc::{AllocError, Global};
-use step_core::{Given, NotPlaced, Refusal};
+use step_core::{Drive, Given, NotPlaced, Refusal};
 
-impl Tiers {
+impl<D: Drive> Tiers<D> {
     // Puts the block into the slot: what is given, else a copy of the block's last write. Its commit is noted, and its old place
     // hinted.
     pub(crate) fn put(
         &mut self,
         alloc: Global,
-        worker: u8,
         slot: u16,
         block: u32,
         given: Option<Given>,
     ) -> Result<Outcome, AllocError>
         requires block { block < self.old.world.array.parts.groups.blocks }
         requires given { IsSizedFor self.old.world.array.parts.groups.payload given }
-        ensures ok { IfOk result (λ outcome. (T : Tiered) → StandsFor self.old T
-            → (U : Tiered) × PutsAt T worker block (put_of given.entry) slot outcome U × StandsFor self.new U) }
-        ensures err { OnErr result ((T : Tiered) → StandsFor self.old T
-            → (U : Tiered) × PutStops T worker (put_of given.entry) block slot U × StandsFor self.new U) }
+        ensures ok { (w : ℕ) → IfOk result (λ outcome. (T : Tiered) → StandsFor self.old T
+            → (U : Tiered) × PutsAt T w block (put_of given.entry) slot outcome U × StandsFor self.new U) }
+        ensures err { (w : ℕ) → OnErr result ((T : Tiered) → StandsFor self.old T
+            → (U : Tiered) × PutStops T w (put_of given.entry) block slot U × StandsFor self.new U) }
         ensures room { SameSizes self.old.world.array self.new.world.array }
     {
         match self.world.place(alloc, slot, block, given) {

@@ -11,12 +11,12 @@ ghost use Rattle.background.specs.Regrouping.{AreLostOf, BalanceCase, IsBalanceO
 
 use crate::Regrouped;
 use rebalancer::{Shift, balance_plan, rebuild_plan};
-use std::alloc::{AllocError, Global};
-use step_core::{Refusal, World};
+use std::alloc::AllocError;
+use step_core::{Drive, Refusal, World};
 
 /// Moves one extent from a drive of greatest load to one of least, of those pairs whose loads (extents in groups) are two
 /// apart or more; `Nothing` where there is no such pair, or none that may be moved.
-pub fn balance(alloc: Global, world: &mut World) -> Result<Regrouped, AllocError>
+pub fn balance<D: Drive>(world: &mut World<D>) -> Result<Regrouped, AllocError>
     ensures ok { IfOk result (λ outcome. (F : Flat) → Represents world.old F → (G : Flat) × BalanceCase F outcome G × Represents world.new G) }
     ensures evens { IfOk result (λ outcome. IfMoved outcome (sum_of_squares world.new.array.parts.owners + 2 ≤ sum_of_squares world.old.array.parts.owners)) }
     ensures err { OnErr result (world.new ≡ world.old) }
@@ -24,7 +24,7 @@ pub fn balance(alloc: Global, world: &mut World) -> Result<Regrouped, AllocError
     ensures room { SameSizes world.old.array world.new.array }
 {
     match plan_balance(world) {
-        Some(shift) => carry_out(alloc, world, shift),
+        Some(shift) => carry_out(world, shift),
         None => Ok(Regrouped::Nothing),
     }
 }
@@ -32,7 +32,7 @@ pub fn balance(alloc: Global, world: &mut World) -> Result<Regrouped, AllocError
 /// Rebuilds one extent of a lost drive on a present one: that of the lowest group that has one there, on the drive of least
 /// load that has room and no member of the group. `Nothing` where the drive isn't lost, no group is on it, or that group has
 /// no such drive; refused as a bad member where there is no drive of that number.
-pub fn rebuild(alloc: Global, world: &mut World, drive: u8) -> Result<Regrouped, AllocError>
+pub fn rebuild<D: Drive>(world: &mut World<D>, drive: u8) -> Result<Regrouped, AllocError>
     ensures ok { IfOk result (λ outcome. (F : Flat) → Represents world.old F → (G : Flat) × RebuildCase F drive outcome G × Represents world.new G) }
     ensures err { OnErr result (world.new ≡ world.old) }
     ensures wants { OnErr result ((F : Flat) → Represents world.old F → (s : Shift) × IsRebuildOf F drive (Some s)
@@ -43,12 +43,12 @@ pub fn rebuild(alloc: Global, world: &mut World, drive: u8) -> Result<Regrouped,
         return Ok(Regrouped::Refused(Refusal::BadMember));
     }
     match plan_rebuild(world, drive) {
-        Some(shift) => carry_out(alloc, world, shift),
+        Some(shift) => carry_out(world, shift),
         None => Ok(Regrouped::Nothing),
     }
 }
 
-fn plan_balance(world: &World) -> Option<Shift>
+fn plan_balance<D: Drive>(world: &World<D>) -> Option<Shift>
     ensures plan { (lost : List Bool) × AreLostOf world.now.array.parts lost × IsBalance world.now.array.parts.owners world.now.array.parts.groups lost result }
     ensures evens { IfSome result (Evens world.now.array.parts.groups world.now.array.parts.owners) }
     ensures whole { IsWhole world.now.array }
@@ -58,7 +58,7 @@ fn plan_balance(world: &World) -> Option<Shift>
     balance_plan(array.extents(), array.groups(), &array.lost())
 }
 
-fn plan_rebuild(world: &World, drive: u8) -> Option<Shift>
+fn plan_rebuild<D: Drive>(world: &World<D>, drive: u8) -> Option<Shift>
     requires { drive < 16 }
     ensures plan { (lost : List Bool) × AreLostOf world.now.array.parts lost
         × IsRebuild world.now.array.parts.owners world.now.array.parts.groups lost drive result }
@@ -70,7 +70,7 @@ fn plan_rebuild(world: &World, drive: u8) -> Option<Shift>
 }
 
 // Moves the member that a plan names.
-fn carry_out(alloc: Global, world: &mut World, shift: Shift) -> Result<Regrouped, AllocError>
+fn carry_out<D: Drive>(world: &mut World<D>, shift: Shift) -> Result<Regrouped, AllocError>
     ensures ok { IfOk result (λ outcome. (F : Flat) → Represents world.old F → (G : Flat) × ShiftCase F shift outcome G × Represents world.new G) }
     ensures evens { Evens world.old.array.parts.groups world.old.array.parts.owners shift
         → IfOk result (λ outcome. IfMoved outcome (sum_of_squares world.new.array.parts.owners + 2 ≤ sum_of_squares world.old.array.parts.owners)) }
@@ -78,7 +78,7 @@ fn carry_out(alloc: Global, world: &mut World, shift: Shift) -> Result<Regrouped
     ensures wants { OnErr result ((F : Flat) → Represents world.old F → IsWanted F (MoveExtent shift.group shift.member shift.to)) }
     ensures room { SameSizes world.old.array world.new.array }
 {
-    match world.move_extent(alloc, shift.group, shift.member, shift.to) {
+    match world.move_extent(shift.group, shift.member, shift.to) {
         Ok(()) => Ok(Regrouped::Moved(shift)),
         Err(refusal) => refused(refusal),
     }

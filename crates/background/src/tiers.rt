@@ -12,22 +12,30 @@ ghost use Rattle.background.specs.Tiered.{Tiered, begun};
 use crate::hints::hint_made;
 use crate::{FreeHints, Planner};
 use std::alloc::{AllocError, Global};
-use step_core::{Answer, Class, Member, World};
+use std::marker::Model;
+use step_core::{Answer, Class, Drive, MemDrive, Member, World};
 
-/// A world, what its plans depend on, and which slots may be free. Commits, releases, and making or dissolving a group must
-/// use the calls here: if the world itself is called for one of them, the planner and the free slots are out of date. Other
-/// steps may call the world.
+/// A world, what its plans depend on, and which slots may be free. All steps of the world are calls here, so that the planner
+/// and the free slots are never out of date.
 #[derive(Drop)]
-pub struct Tiers {
-    pub world: World,
-    pub planner: Planner,
-    pub hints: FreeHints,
+pub struct Tiers<D: Drive = MemDrive> {
+    pub(crate) world: World<D>,
+    pub(crate) planner: Planner,
+    pub(crate) hints: FreeHints,
 }
 
-impl Tiers {
+impl<D: Drive> Model for Tiers<D> {
+    ghost use Rattle.background.specs.Views.{TiersView};
+
+    ghost Value = { TiersView };
+
+    ghost view = { λ t. record { world = t.world; planner = t.planner; hints = t.hints } };
+}
+
+impl<D: Drive + Drop> Tiers<D> {
     /// The world with no write noted and nothing appended. It allocates memory by the number of blocks; later steps allocate
     /// only what the world's steps do.
-    pub fn new(alloc: Global, world: World) -> Result<Tiers, AllocError>
+    pub fn new(alloc: Global, world: World<D>) -> Result<Tiers<D>, AllocError>
         ensures same { IfOk result (λ tiers. tiers.world ≡ world) }
         ensures ok { IfOk result (λ tiers. (F : Flat) → Represents world F → StandsFor tiers (begun F)) }
     {
@@ -38,6 +46,22 @@ impl Tiers {
             planner,
             hints,
         })
+    }
+}
+
+impl<D: Drive> Tiers<D> {
+    /// The world, for the calls that only read it.
+    pub fn world(&self) -> &World<D>
+        ensures { result.now ≡ self.now.world }
+    {
+        &self.world
+    }
+
+    /// The world, without what is kept next to it.
+    pub fn into_world(self) -> World<D>
+        ensures { result ≡ self.world }
+    {
+        self.world
     }
 
     /// Commits a slot that waits for the worker, and notes the write where what waited was a fresh payload or trim.

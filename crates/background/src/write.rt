@@ -11,60 +11,53 @@ ghost use Rattle.background.specs.Tiered.{Tiered};
 use crate::asks::Mirrors;
 use crate::{Outcome, Tiers};
 use std::alloc::{AllocError, Global};
-use step_core::Given;
+use step_core::{Drive, Given};
 
-impl Tiers {
+impl<D: Drive> Tiers<D> {
     /// Writes what is given, a payload or a trim, as the block's next version into the lowest free slot of mirrored groups, and
     /// notes the write. After a trim the block holds nothing. Where no slot is free there, one block is demoted first; `NoRoom`
     /// where that frees none.
-    pub fn write(
-        &mut self,
-        alloc: Global,
-        worker: u8,
-        block: u32,
-        given: Given,
-    ) -> Result<Outcome, AllocError>
+    pub fn write(&mut self, alloc: Global, block: u32, given: Given) -> Result<Outcome, AllocError>
         requires block { block < self.old.world.array.parts.groups.blocks }
         requires given { IsGivenFor self.old.world.array.parts.groups.payload given }
-        ensures ok { IfOk result (λ outcome. (T : Tiered) → StandsFor self.old T
-            → (U : Tiered) × TierCase T (t.Write worker block (content_of given.entry)) outcome U × StandsFor self.new U) }
-        ensures err { OnErr result ((T : Tiered) → StandsFor self.old T
-            → (U : Tiered) × TierStops T (t.Write worker block (content_of given.entry)) U × StandsFor self.new U) }
+        ensures ok { (w : ℕ) → IfOk result (λ outcome. (T : Tiered) → StandsFor self.old T
+            → (U : Tiered) × TierCase T (t.Write w block (content_of given.entry)) outcome U × StandsFor self.new U) }
+        ensures err { (w : ℕ) → OnErr result ((T : Tiered) → StandsFor self.old T
+            → (U : Tiered) × TierStops T (t.Write w block (content_of given.entry)) U × StandsFor self.new U) }
         ensures room { SameSizes self.old.world.array self.new.world.array }
     {
         if let Some(slot) = self.free_mirror() {
-            return self.put(alloc, worker, slot, block, Some(given));
+            return self.put(alloc, slot, block, Some(given));
         }
-        match self.demote(alloc, worker) {
-            Ok(_) => self.write_behind(alloc, worker, block, given),
+        match self.demote(alloc) {
+            Ok(_) => self.write_behind(alloc, block, given),
             Err(_) => Err(AllocError),
         }
     }
 
     // Looks for a slot once more.
-    fn write_behind(
+    pub(crate) fn write_behind(
         &mut self,
         alloc: Global,
-        worker: u8,
         block: u32,
         given: Given,
     ) -> Result<Outcome, AllocError>
         requires block { block < self.old.world.array.parts.groups.blocks }
         requires given { IsGivenFor self.old.world.array.parts.groups.payload given }
-        ensures ok { IfOk result (λ outcome. (T : Tiered) → StandsFor self.old T → (slot : Option ℕ) × IsFirst (IsFreeMirror T.flat) slot
-            × ((U : Tiered) × WritesIn T worker block (content_of given.entry) slot outcome U × StandsFor self.new U)) }
-        ensures err { OnErr result ((T : Tiered) → StandsFor self.old T → (slot : ℕ) × IsFirst (IsFreeMirror T.flat) (Some slot)
-            × ((U : Tiered) × PutStops T worker (Fresh (content_of given.entry)) block slot U × StandsFor self.new U)) }
+        ensures ok { (w : ℕ) → IfOk result (λ outcome. (T : Tiered) → StandsFor self.old T → (slot : Option ℕ) × IsFirst (IsFreeMirror T.flat) slot
+            × ((U : Tiered) × WritesIn T w block (content_of given.entry) slot outcome U × StandsFor self.new U)) }
+        ensures err { (w : ℕ) → OnErr result ((T : Tiered) → StandsFor self.old T → (slot : ℕ) × IsFirst (IsFreeMirror T.flat) (Some slot)
+            × ((U : Tiered) × PutStops T w (Fresh (content_of given.entry)) block slot U × StandsFor self.new U)) }
         ensures room { SameSizes self.old.world.array self.new.world.array }
     {
         match self.free_mirror() {
-            Some(slot) => self.put(alloc, worker, slot, block, Some(given)),
+            Some(slot) => self.put(alloc, slot, block, Some(given)),
             None => Ok(Outcome::NoRoom),
         }
     }
 
     // The lowest free slot of mirrored groups.
-    fn free_mirror(&mut self) -> Option<u16>
+    pub(crate) fn free_mirror(&mut self) -> Option<u16>
         ensures first { (T : Tiered) → StandsFor self.old T → IsFirst (IsFreeMirror T.flat) result × StandsFor self.new T }
         ensures same { self.new.world ≡ self.old.world }
     {

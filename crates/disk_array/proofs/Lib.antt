@@ -8,6 +8,7 @@ pub mod News
 pub mod BlockReads
 pub mod Learnings
 pub mod Losings
+pub mod Pulled
 pub mod Beginnings
 pub mod Closing
 pub mod Regrouping

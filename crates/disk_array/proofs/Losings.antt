@@ -1,20 +1,19 @@
--- Drives in memory: new ones, and what a loss or a fuse leaves of an array's.
-use Rattle.std.proofs.Common.{◌≡◌, ℕ, ◌<◌, Bool, true, List, [], length, map, refl, sym, ap, ◌∙◌, subst, Some}
+-- Drives in memory: new ones, and what a fuse leaves of an array's.
+use Rattle.std.proofs.Common.{◌≡◌, ℕ, ◌<◌, Bool, List, [], length, map, refl, sym, ap, ◌∙◌, subst, Some}
 use Rattle.std.specs.Prelude.{slice_get, slice_set}
 use Rattle.std.specs.Option.{option_map}
 use Rattle.std.proofs.lemmas.List.{map-set, length-set}
 use Rattle.std.proofs.lemmas.Option.{slice_get-get_or, slice_get-map, same_Some}
-use Rattle.extents.specs.Condition.{Held, after_loss, after_fuse}
+use Rattle.extents.specs.Condition.{Held, after_fuse}
 use Rattle.extents.specs.declared.mem_drive.Condition.{Condition}
 use Rattle.extents.specs.declared.mem_drive.Condition.TheVariants.{Present, Fused, Lost, Burnt}
-use Rattle.extents.specs.Failures.{Failures, settled, fused}
+use Rattle.extents.specs.Failures.{Failures, fused}
 use Rattle.extents.specs.Units.{zero_units}
 use Rattle.extent_groups.specs.Stores.{AreSound, KeepsUnits}
 use Rattle.flat_machine.specs.Flat.{Flat, put}
 use Rattle.flat_machine.specs.Moves.{with_fuse}
 use Rattle.flat_machine.proofs.Keeps.{fared}
 use Rattle.array_parts.specs.declared.parts.Parts.{Parts}
-use Rattle.array_parts.specs.Fit.{IsFit}
 use Rattle.array_parts.specs.Losses as drives
 use Rattle.array_parts.specs.Losses.{KeepsTables}
 use Rattle.array_parts.specs.Memory.{held_units, held_lost, held_failures, IsSetTo}
@@ -23,12 +22,9 @@ use Rattle.array_parts.specs.Views.{DriveView, PartsView, drive_view, view_of, l
 use Rattle.array_parts.proofs.Calls.{kept_shows, same_tables}
 use Rattle.array_parts.proofs.Views.{view_lost, view_failures, view_length}
 use Rattle.slot_tables.specs.Represents.{InTables, ShowsArray}
-use Rattle.slot_tables.specs.Views.{ArrayView, IsWhole, key_at, with_parts}
-use Rattle.disk_array.specs.declared.array.Array.TheInside.{Inside}
-use Rattle.disk_array.specs.Inside.{seen, IsReady}
-use Rattle.slot_tables.specs.Kept.{AreOf}
-use Rattle.disk_array.specs.Losing.{WasLost, WasFused}
-use Rattle.disk_array.proofs.Ready.{Keeps, parts_ready, still_whole}
+use Rattle.slot_tables.specs.Views.{ArrayView, key_at, with_parts}
+use Rattle.disk_array.specs.Losing.{WasFused}
+use Rattle.disk_array.proofs.Pulled.{drive_below}
 
 -- a drive in memory, and parts with such drives, as plain data
 abbrev pub held_view : Held → DriveView
@@ -36,17 +32,6 @@ held_view = drive_view held_units held_lost held_failures
 
 abbrev pub held_parts : Parts Held → PartsView
 held_parts = view_of held_units held_lost held_failures
-
--- one that is lost from outside
-abbrev pub lost_view : DriveView → DriveView
-lost_view x = record x { lost = true; failures = settled x.failures }
-
-loss_view : (units : List (List ℕ)) (c : Condition)
-    → held_view (record { units = units; condition = after_loss c }) ≡ lost_view (held_view (record { units = units; condition = c }))
-loss_view units Present = refl
-loss_view units (Fused calls) = refl
-loss_view units Lost = refl
-loss_view units Burnt = refl
 
 -- one with a fuse
 abbrev pub fused_view : DriveView → DriveView
@@ -62,51 +47,6 @@ fuse_view units Burnt calls = refl
 -- the drive of a number
 drive_at : (ds : List Held) (d : ℕ) → d < length ds → (m : Held) × (slice_get ds d ≡ Some m)
 drive_at ds d inside = (_, slice_get-get_or ds d (record { units = []; condition = Lost }) inside)
-
--- a number below the count of drives that is seen
-drive_below : (a : Parts Held) (v : PartsView) (drive : ℕ) → held_parts a ≡ v → drive < length v.drives → drive < length a.drives.items
-drive_below a v drive seen inside =
-    subst (λ n. drive < n) (view_length held_units held_lost held_failures a) (subst (λ (p : PartsView). drive < length p.drives) (sym seen) inside)
-
--- a loss from outside
-lost_drives : (a b : List Held) (d : ℕ) (x : DriveView) → d < length a → IsSetTo after_loss a b d → slice_get (map held_view a) d ≡ Some x
-    → map held_view b ≡ slice_set (map held_view a) d (lost_view x)
-lost_drives a b d x inside set at =
-    let m = drive_at a d inside in
-    let same : held_view m.0 ≡ x = same_Some (held_view m.0) x (sym (slice_get-map held_view a d ∙ ap (option_map held_view) m.1) ∙ at) in
-    ap (map held_view) (set m.0 m.1) ∙ map-set held_view a d (record (m.0) { condition = after_loss m.0.condition })
-    ∙ ap (slice_set (map held_view a) d) (loss_view m.0.units m.0.condition ∙ ap lost_view same)
-
-pub was_lost : (a b : Parts Held) (v : PartsView) (drive : ℕ) → held_parts a ≡ v → drive < length v.drives → IsSetTo after_loss a.drives.items b.drives.items drive
-    → ((d : ℕ) → missing_in held_lost b d ≡ put (missing_in held_lost a) drive true d)
-    → ((d : ℕ) → drives.failures_of held_failures b.drives.items d ≡ put (drives.failures_of held_failures a.drives.items) drive (settled (drives.failures_of held_failures a.drives.items drive)) d)
-    → (AreSound a.groups (cells_in held_units held_lost a) → KeepsUnits a.groups (cells_in held_units held_lost a) (cells_in held_units held_lost b))
-    → (AreSound a.groups (cells_in held_units held_lost a) → AreSound b.groups (cells_in held_units held_lost b))
-    → KeepsTables a b → WasLost (held_parts a) (held_parts b) drive
-was_lost a b v drive seen below set missing failures keeps sound tables = record {
-  drives = λ x at. drives_are x at;
-  lost = λ d. ap (λ f. f d) (view_lost held_units held_lost held_failures b) ∙ missing d
-      ∙ ap (λ f. put f drive true d) (sym (view_lost held_units held_lost held_failures a));
-  failures = λ d. ap (λ f. f d) (view_failures held_units held_lost held_failures b) ∙ failures d
-      ∙ ap (λ f. put f drive (settled (f drive)) d) (sym (view_failures held_units held_lost held_failures a));
-  shows = kept_shows held_units held_lost held_failures a b tables keeps
-      (λ s. subst (λ t. AreSound t (cells_in held_units held_lost b)) tables.groups (sound s));
-  many = many;
-  rest = same_tables held_units held_lost held_failures a b tables;
-}
-  where
-    inside : drive < length a.drives.items
-    inside = drive_below a v drive seen below
-
-    drives_are : (x : DriveView) → slice_get (held_parts a).drives drive ≡ Some x → (held_parts b).drives ≡ slice_set (held_parts a).drives drive (lost_view x)
-    drives_are x at = lost_drives a.drives.items b.drives.items drive x inside set at
-
-    many : length (held_parts b).drives ≡ length (held_parts a).drives
-    many =
-        let m = drive_at a.drives.items drive inside in
-        let y : Held = record (m.0) { condition = after_loss m.0.condition } in
-        view_length held_units held_lost held_failures b ∙ ap length (set m.0 m.1) ∙ length-set a.drives.items drive y
-        ∙ sym (view_length held_units held_lost held_failures a)
 
 -- a fuse
 fused_drives : (a b : List Held) (d calls : ℕ) (x : DriveView) → d < length a → IsSetTo (λ c. after_fuse c calls) a b d → slice_get (map held_view a) d ≡ Some x
@@ -139,7 +79,7 @@ was_fused a b v drive calls seen below set missing failures keeps sound tables =
 }
   where
     inside : drive < length a.drives.items
-    inside = drive_below a v drive seen below
+    inside = drive_below held_units held_lost held_failures a v drive seen below
 
     many : length (held_parts b).drives ≡ length (held_parts a).drives
     many =
@@ -155,16 +95,6 @@ new_drive bytes count = record { units = zero_units bytes count; condition = Pre
 -- each of these drives is new
 abbrev pub AreNewDrives : ℕ → ℕ → List Held → Type 0
 AreNewDrives bytes count ds = (d : ℕ) (m : Held) → slice_get ds d ≡ Some m → m ≡ new_drive bytes count
-
--- an array whose drives were lost or fused is whole and ready as it was
-pub still_stands : {C : Type 0} (names : C → ℕ) (a : Inside Held C) (p : Parts Held) → Keeps (held_parts a.parts) (held_parts p) → IsFit held_units p
-    → IsWhole (seen held_units held_lost held_failures a) × AreOf names a.places.items × IsReady held_units a
-    → IsWhole (seen held_units held_lost held_failures (record a { parts = p })) × AreOf names a.places.items × IsReady held_units (record a { parts = p })
-still_stands names a p same fit stands = (
-  still_whole held_units held_lost held_failures a p same fit stands.0,
-  stands.1,
-  parts_ready held_units a p same.tables.groups fit stands.2,
-)
 
 -- an array one of whose drives was given a fuse
 pub fuse_array : (a : ArrayView) (F : Flat) (drive : ℕ) (p : PartsView) → ShowsArray a F → WasFused a.parts p drive → ShowsArray (with_parts a p) (with_fuse F drive)

@@ -18,7 +18,6 @@ use extents::Drive;
 use flat_machine::Refusal;
 use map_join::Record;
 use slot_tables::{Hold, SlotState, put_in};
-use std::alloc::Global;
 
 /// The greatest hop of a version.
 const LAST_HOP: u16 = 65_535;
@@ -27,7 +26,7 @@ impl<D: Drive, C: Hold> Array<D, C> {
     /// Copies what a block holds, a payload or a trim, into a slot of either class, under a blank header: it waits for
     /// its commit, and until then the block stays where it is. Refused as gone with the slot that can't
     /// be read or written, the newest place first; then all slots are as they were.
-    pub fn copy(&mut self, _alloc: Global, claim: C, block: u32) -> Result<Ticket, (Refusal, C)>
+    pub fn copy(&mut self, claim: C, block: u32) -> Result<Ticket, (Refusal, C)>
         requires { block < self.old.parts.groups.blocks }
         ensures ticket { IfOk result (λ ticket. (ticket ≡ C.names claim)
             × ((r : Record) × (k : KindOf) × (record_at block (key_at self.old block) ≡ Some r)

@@ -15,12 +15,11 @@ use crate::ticket::Ticket;
 use extents::{Drive, Kind};
 use flat_machine::{Class, Refusal};
 use slot_tables::{Hold, SlotState, put_in};
-use std::alloc::Global;
 
 impl<D: Drive, C: Hold> Array<D, C> {
     /// Fills a mirrored slot with a fresh payload, under a blank header: it waits for its commit. Refused as
     /// gone where neither copy can be written, and then other slots are as they were.
-    pub fn fill(&mut self, _alloc: Global, claim: C, payload: &[u8]) -> Result<Ticket, (Refusal, C)>
+    pub fn fill(&mut self, claim: C, payload: &[u8]) -> Result<Ticket, (Refusal, C)>
         requires { length payload.now ≡ self.old.parts.groups.payload }
         ensures ticket { IfOk result (λ ticket. (ticket ≡ C.names claim) × (self.new ≡ fill_view (with_parts self.old self.new.parts) ticket kind.Data)
             × WasPut self.old.parts self.new.parts ticket (waiting_unit self.old.parts.groups.payload (Payload payload.now))) }

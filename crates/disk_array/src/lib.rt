@@ -17,6 +17,7 @@ mod hands;
 mod live;
 mod make;
 mod memory;
+mod outside;
 mod plan;
 mod read;
 mod reading;

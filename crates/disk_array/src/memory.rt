@@ -14,7 +14,7 @@ ghost use Rattle.array_parts.specs.Fit.{HaveUnits};
 ghost use Rattle.array_parts.specs.Memory.{held_units};
 ghost use Rattle.slot_tables.specs.Represents.{ShowsArray};
 ghost use Rattle.slot_tables.specs.Views.{with_parts};
-ghost use Rattle.disk_array.specs.Losing.{WasLost, WasFused};
+ghost use Rattle.disk_array.specs.Losing.{WasFused};
 
 use crate::array::Array;
 use extents::{MemDrive, Shape};
@@ -53,15 +53,6 @@ impl<C: Hold> Array<MemDrive, C> {
             Ok(array) => Ok(array),
             Err((refusal, _drives)) => Err(refusal),
         }
-    }
-
-    /// Loses a drive from outside.
-    pub fn lose(&mut self, drive: u8)
-        requires { drive < length self.old.parts.drives }
-        ensures lost { WasLost self.old.parts self.new.parts drive }
-        ensures rest { self.new ≡ with_parts self.old self.new.parts }
-    {
-        self.parts.lose(drive);
     }
 
     /// Makes a drive fail at its `calls`-th read or write from now (1 = the next) and at all later ones.

@@ -17,7 +17,6 @@ use extent_groups::swap_check;
 use extents::Drive;
 use flat_machine::{Member, Refusal};
 use slot_tables::Hold;
-use std::alloc::Global;
 
 impl<D: Drive, C: Hold> Array<D, C> {
     /// Copies the units of a group's member onto another extent, or rebuilds them from the other members if the member's
@@ -25,13 +24,7 @@ impl<D: Drive, C: Hold> Array<D, C> {
     /// no such member, or the other extent isn't there, is on a drive of one of the members, is owned, or is on a drive that
     /// is lost by then; and as gone, with the lowest slot of the group that is gone, where a unit can't be rebuilt. A refused
     /// move leaves tables and slots as they were, but for drives that were lost; the other extent may have been written.
-    pub fn move_extent(
-        &mut self,
-        _alloc: Global,
-        group: u16,
-        member: u8,
-        to: Member,
-    ) -> Result<(), Refusal>
+    pub fn move_extent(&mut self, group: u16, member: u8, to: Member) -> Result<(), Refusal>
         ensures ok { OnOk result (Shifted self.old.parts group member to self.new.parts) }
         ensures err { IfErr result (IsRefused self.old self.new) }
         ensures memory { IfErr result (λ refusal. refusal ≢ Refusal.Memory) }

@@ -15,12 +15,11 @@ use crate::ticket::Ticket;
 use extents::{Drive, Kind};
 use flat_machine::Refusal;
 use slot_tables::{Hold, SlotState, put_in};
-use std::alloc::Global;
 
 impl<D: Drive, C: Hold> Array<D, C> {
     /// Fills a mirrored slot with a trim, zeros under a blank header: it waits for its commit, and the block to which it is
     /// committed holds nothing then. Refused as `fill` is.
-    pub fn trim(&mut self, _alloc: Global, claim: C) -> Result<Ticket, (Refusal, C)>
+    pub fn trim(&mut self, claim: C) -> Result<Ticket, (Refusal, C)>
         ensures ticket { IfOk result (λ ticket. (ticket ≡ C.names claim) × (self.new ≡ fill_view (with_parts self.old self.new.parts) ticket kind.Trim)
             × WasPut self.old.parts self.new.parts ticket (waiting_unit self.old.parts.groups.payload Trim)) }
         ensures err { IfErr result (λ e. (e.1 ≡ claim) × IsRefused self.old self.new e.0) }

@@ -3,6 +3,7 @@
 
 mod drive;
 mod header;
+mod hot_swap;
 mod mem_drive;
 mod shape;
 mod table;
@@ -10,6 +11,7 @@ mod thin;
 
 pub use drive::{Drive, DriveLost};
 pub use header::{Header, HeaderFault, Kind};
+pub use hot_swap::HotSwap;
 pub use mem_drive::MemDrive;
 pub use shape::{HEADER_BYTES, Shape, ShapeRefusal};
 pub use table::{DRIVES, ExtentTable};

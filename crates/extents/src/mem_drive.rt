@@ -13,7 +13,7 @@ use std::marker::Model;
 
 /// What a drive in memory does with its next call.
 #[derive(Clone, Copy, Debug, PartialEq, Eq)]
-enum Condition {
+pub(crate) enum Condition {
     /// It answers.
     Present,
     /// It answers all calls before the one of this number (1 = the next), at which it is lost.
@@ -28,7 +28,7 @@ enum Condition {
 #[derive(Drop)]
 pub struct MemDrive {
     units: ThinUnits,
-    condition: Condition,
+    pub(crate) condition: Condition,
 }
 
 impl Model for MemDrive {
@@ -42,7 +42,7 @@ impl Model for MemDrive {
 impl MemDrive {
     ghost use Rattle.extents.specs.declared.mem_drive.Condition.TheVariants.{Present};
     ghost use Rattle.extents.specs.Sizes.{extent_units};
-    ghost use Rattle.extents.specs.Condition.{after_loss, after_fuse};
+    ghost use Rattle.extents.specs.Condition.{after_fuse};
 
     /// A drive of this shape, all its units zero; refused if out of memory.
     pub fn new(alloc: Global, shape: &Shape) -> Result<MemDrive, AllocError>
@@ -54,17 +54,6 @@ impl MemDrive {
             units,
             condition: Condition::Present,
         })
-    }
-
-    /// Loses the drive from outside: it answers no later call. A drive that its fuse has lost stays as it is.
-    pub fn lose(&mut self)
-        ensures units { self.new.units ≡ self.old.units }
-        ensures condition { self.new.condition ≡ after_loss self.old.condition }
-    {
-        if let Condition::Burnt = self.condition {
-            return;
-        }
-        self.condition = Condition::Lost;
     }
 
     /// Makes the drive fail at its `calls`-th read or write after this call (1 = the next), and at all later ones. A lost drive

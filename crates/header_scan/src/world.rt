@@ -11,12 +11,12 @@ ghost use Rattle.header_scan.specs.Worlds.{IsToldOf};
 use crate::{ScanFault, scan};
 use map_join::BlockMap;
 use std::alloc::Global;
-use step_core::World;
+use step_core::{Drive, World};
 
 /// Scans the headers of a world's drives. Where the world represents a flat state the map is that of the records which the
 /// state emitted, and no slot was gone; else the fault is out of memory, or a slot that is gone, below which none was gone
 /// before. No other fault is reported of such a world. Drives may be found lost, and all else stays.
-pub fn scan_world(alloc: Global, world: &mut World) -> Result<BlockMap, ScanFault>
+pub fn scan_world<D: Drive>(alloc: Global, world: &mut World<D>) -> Result<BlockMap, ScanFault>
     ensures ok { IfOk result (λ m. (F : Flat) → Represents world.old F
         → (G : Flat) × ScanCase F (Told (at m)) G × Represents world.new G) }
     ensures inside { IfOk result (λ m. HasPlaces world.new.array.parts.groups (at m)) }

@@ -1,5 +1,5 @@
 use crate::{ImageRefusal, image_of, load};
-use extents::{Drive, Shape};
+use extents::{Drive, HotSwap, Shape};
 use std::alloc::Alloc;
 use std::process::Abort;
 

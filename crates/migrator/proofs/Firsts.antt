@@ -5,7 +5,7 @@ use Rattle.extent_groups.specs.declared.class.Class.TheVariants.{Parity}
 use Rattle.extent_groups.specs.Groups.{Groups}
 use Rattle.migrator.specs.Slots.{End, IsBehind, IsFresh}
 use Rattle.migrator.specs.Counts.{AreZeroIfIdle, IsOtherZero}
-use Rattle.migrator.specs.First.{Behind, IsLowest, IsFirst, IsFreeBehind, IsFreeFresh, IsFirstAppend, IsFreePick}
+use Rattle.migrator.specs.First.{Behind, IsLowest, IsFirst, IsFreeBehind, IsFreeFresh, IsFirstAppend, IsFreePick, IsFreeParity, IsFirstRoom}
 
 -- a number is its group's first and its index
 pub slot_is : (group slot : ℕ) → slot / 128 ≡ group → 128 * group + slot % 128 ≡ slot
@@ -56,3 +56,13 @@ module _ (end : End) (groups : Groups) (keys : ℕ → ℕ) (free : ℕ → Type
       (λ s b. none s (from_behind s b)),
       record { holds = to_fresh slot other.holds; least = λ m p. other.least m (from_fresh m p) },
     )
+
+-- there is room where the log goes on, else at the lowest free slot, or nowhere
+module _ (end : End) (groups : Groups) (keys : ℕ → ℕ) (free : ℕ → Type 0) where
+  pub room_on : (slot : ℕ) → IsFirstAppend end groups keys free (Some slot) → IsFirstRoom end groups keys free (Some slot)
+  room_on slot h = inl h
+
+  pub room_aside : (result : Option ℕ) → IsFirstAppend end groups keys free None → IsFirst (IsFreeParity groups free) result
+      → IsFirstRoom end groups keys free result
+  room_aside None none h = h
+  room_aside (Some slot) none h = inr (none, h)

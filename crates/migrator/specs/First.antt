@@ -3,6 +3,7 @@ use Rattle.std.specs.Prelude.{◌≡◌, ◌⊎◌, ℕ, ◌≤◌, Option, Some
 use Rattle.extent_groups.specs.declared.class.Class.{Class}
 use Rattle.extent_groups.specs.declared.class.Class.TheVariants.{Parity}
 use Rattle.extent_groups.specs.Groups.{Groups}
+use Rattle.extent_groups.specs.Stores.{IsSlotOf}
 use Rattle.migrator.specs.Slots.{End, IsBehind, IsFresh}
 use Rattle.migrator.specs.Picking.{IsPicked, IsFreeFrom}
 
@@ -38,3 +39,15 @@ pub record IsFreePick (class : Class) (groups : Groups) (group_is slot_is free :
 -- a picked and free slot of the write group, from the next index on
 abbrev pub Behind : End → Groups → (ℕ → ℕ) → (ℕ → Type 0) → ℕ → Type 0
 Behind end groups keys free = IsFreePick Parity groups (λ group. end.group ≡ Some group) (IsFreeFrom end.next keys) free
+
+-- a free slot of a parity group
+abbrev pub IsFreeParity : Groups → (ℕ → Type 0) → ℕ → Type 0
+IsFreeParity groups free slot = IsSlotOf Parity groups slot × free slot
+
+-- where there is room for a block that leaves the mirrored level: the first free slot where the log goes on, or the lowest free slot of
+-- all parity groups where the log goes on nowhere; none only where no parity slot is free
+abbrev pub IsFirstRoom : End → Groups → (ℕ → ℕ) → (ℕ → Type 0) → Option ℕ → Type 0
+IsFirstRoom end groups keys free None = (slot : ℕ) → IsFreeParity groups free slot → ⊥
+IsFirstRoom end groups keys free (Some slot) =
+    IsFirstAppend end groups keys free (Some slot)
+    ⊎ (IsFirstAppend end groups keys free None × IsLowest (IsFreeParity groups free) slot)

@@ -3,7 +3,7 @@ ghost use Rattle.std.specs.Prelude.{◌≡◌, ◌↔◌, ℕ, ◌/◌, ◌%◌,
 ghost use Rattle.extent_groups.specs.declared.class.Class.TheVariants.{Mirrored, Parity};
 ghost use Rattle.extent_groups.specs.Stores.{IsSlotOf};
 ghost use Rattle.migrator.specs.Counts.{AreZeroIfIdle, IsOtherZero};
-ghost use Rattle.migrator.specs.First.{Behind, IsFirst, IsFirstAppend, IsFreePick};
+ghost use Rattle.migrator.specs.First.{Behind, IsFirst, IsFirstAppend, IsFirstRoom, IsFreeParity, IsFreePick};
 
 use crate::LogEnd;
 use crate::append::GoingOn;
@@ -121,6 +121,39 @@ pub fn first_mirror<F: Free>(groups: &GroupTable, free: &F) -> Option<u16>
         }
     }
     None
+}
+
+/// The lowest free slot of parity groups: a hole of any of them. It allocates nothing.
+pub fn first_parity<F: Free>(groups: &GroupTable, free: &F) -> Option<u16>
+    ensures { IsFirst (IsFreeParity groups.now (F.free free.now)) result }
+{
+    let _members = groups.members(0);
+    for row in 0..ROWS {
+        match first_in_row(groups, Class::Parity, row, &Every, free) {
+            Some(slot) => return Some(slot),
+            None => {}
+        }
+    }
+    None
+}
+
+/// The first free slot for a block that has to leave the mirrored level: where the log goes on, else the lowest free slot of all
+/// parity groups. None only where no parity slot is free. It allocates nothing.
+pub fn first_room<L: Live, F: Free>(
+    end: &LogEnd,
+    groups: &GroupTable,
+    live: &L,
+    counts: &[u16; GROUPS],
+    free: &F,
+) -> Option<u16>
+    requires { AreZeroIfIdle groups.now (L.keys live.now) counts.now }
+    ensures { IsFirstRoom end.now groups.now (L.keys live.now) (F.free free.now) result }
+{
+    match first_append(end, groups, live, counts, free) {
+        Some(slot) => return Some(slot),
+        None => {}
+    }
+    first_parity(groups, free)
 }
 
 // The lowest of these in a row of groups.

@@ -14,7 +14,7 @@ mod turn_map;
 mod turns;
 
 pub use append::append_slots;
-pub use first::{Free, first_append, first_mirror};
+pub use first::{Free, first_append, first_mirror, first_parity, first_room};
 pub use laws::{age_law, mark_law};
 pub use log_end::{LogEnd, wants_demotion};
 pub use marked_ages::MarkedAges;

@@ -4,58 +4,24 @@ use Rattle.std.specs.Prelude.{OnOk}
 use Rattle.map_join.specs.declared.records.Record.{Record}
 use Rattle.map_join.specs.Record.{record_at}
 use Rattle.map_join.specs.Maps.{Entries, at}
-use Rattle.flat_machine.specs.Flat.{Flat, put}
+use Rattle.flat_machine.specs.Flat.{put}
 use Rattle.flat_machine.specs.Steps.{FlatStep, FlatAnswer}
-use Rattle.flat_machine.specs.Cases.{Case}
-use Rattle.step_core.specs.Views.{WorldView, SameSizes}
 use Rattle.background.specs.Tiered.{Tiered}
 use Rattle.background.specs.Steps.{TierStep, TierCase, CommitNoted, StepNoted}
 use Rattle.background.specs.Stands.{StandsFor}
 use Rattle.background.specs.declared.outcome.Outcome.{Outcome}
-use Rattle.background.specs.declared.tiers.Tiers.{Tiers}
-use Rattle.background.proofs.Emitting.{IsCalm}
-use Rattle.background.proofs.Standing.{stands_with}
-use Rattle.step_core.specs.Represents.{Represents}
+use Rattle.background.specs.Views.{TiersView}
 use Rattle.script_syntax.specs.Order.{Order}
 use Rattle.script_syntax.specs.Order as o
 use Rattle.script_exec.specs.State.{Position, State}
 use Rattle.script_exec.specs.Answers.{Answers, Steps, TierSteps, with_flat, with_taken}
 use Rattle.script_exec.specs.Text.{answer_text, asked_version, outcome_text, record_text}
-use Rattle.script_exec.specs.Carrying.{AreMapsOf, Carries, IsCarried, IsMap, StandsAt}
+use Rattle.script_exec.specs.Carrying.{AreMapsOf, Carries, IsCarried, IsMap}
 use Rattle.script_exec.specs.declared.bench.Bench.{Bench}
 use Rattle.script_exec.proofs.Benches.{put_here}
 
--- the world took the step with this answer
-abbrev pub Took : Flat → FlatStep → FlatAnswer → WorldView → Type 0
-Took F step answer after = (G : Flat) × (Case F step answer G) × (Represents after G)
-
--- the bench with another world
-abbrev pub with_world : Bench → WorldView → Bench
-with_world bench v = record bench { tiers = record bench.tiers { world = v } }
-
 -- a step whose answer is appended carries its command out
-pub told_step : {E : Type 0} (r : Result (Unit {0}) E) (before : Bench) (v : WorldView) (order : Order) (step : FlatStep) (answer : FlatAnswer)
-    (old new : List ℕ) → IsCalm step → OnOk r (new ≡ old ++ answer_text (asked_version step) answer)
-    → ((P : Position) → StandsAt before P → Took P.tiers.flat step answer v)
-    → SameSizes before.tiers.world.array v.array
-    → ((P : Position) (text : List ℕ) (t : State) → Steps P step text t → Answers (Some P) order text t)
-    → OnOk r (Carries before (with_world before v) order old new)
-told_step (Ok u) before v order step answer old new other ok takes same answers = λ P stands.
-    let took = takes P stands in record {
-      text = answer_text (asked_version step) answer;
-      next = Some (with_flat P took.0);
-      answers = answers P (answer_text (asked_version step) answer) (Some (with_flat P took.0))
-          (record { answer = answer; next = took.0; case = took.1; text_is = refl; state_is = refl });
-      stands = record {
-        tiers = stands_with before.tiers v P.tiers took.0 step answer other stands.tiers took.2 took.1;
-        maps = stands.maps;
-      };
-      out = ok;
-    }
-told_step (Err e) before v order step answer old new other ok takes same answers = tt
-
--- a step whose answer is appended, by a call that notes what it leaves
-pub told_noted : {E : Type 0} (r : Result (Unit {0}) E) (before : Bench) (u : Tiers) (order : Order) (step : FlatStep) (answer : FlatAnswer)
+pub told_noted : {E : Type 0} (r : Result (Unit {0}) E) (before : Bench) (u : TiersView) (order : Order) (step : FlatStep) (answer : FlatAnswer)
     (old new : List ℕ) → OnOk r (new ≡ old ++ answer_text (asked_version step) answer)
     → ((T : Tiered) → StandsFor before.tiers T → (U : Tiered) × StepNoted T step answer U × StandsFor u U)
     → ((P : Position) (text : List ℕ) (t : State) → Steps P step text t → Answers (Some P) order text t)
@@ -72,7 +38,7 @@ told_noted (Ok x) before u order step answer old new ok steps answers = λ P sta
 told_noted (Err e) before u order step answer old new ok steps answers = tt
 
 -- a commit whose answer is appended
-pub told_commit : {E : Type 0} (r : Result (Unit {0}) E) (before : Bench) (u : Tiers) (worker slot block : ℕ) (answer : FlatAnswer) (old new : List ℕ)
+pub told_commit : {E : Type 0} (r : Result (Unit {0}) E) (before : Bench) (u : TiersView) (worker slot block : ℕ) (answer : FlatAnswer) (old new : List ℕ)
     → OnOk r (new ≡ old ++ answer_text 0 answer)
     → ((T : Tiered) → StandsFor before.tiers T → (U : Tiered) × CommitNoted T worker slot block answer U × StandsFor u U)
     → OnOk r (Carries before (record before { tiers = u }) (o.Commit worker slot block) old new)
@@ -87,7 +53,7 @@ told_commit (Ok x) before u worker slot block answer old new ok commits = λ P s
 told_commit (Err e) before u worker slot block answer old new ok commits = tt
 
 -- a step by a plan whose answer is appended
-pub told_tier : {E : Type 0} (r : Result (Unit {0}) E) (before : Bench) (u : Tiers) (order : Order) (step : TierStep) (outcome : Outcome) (old new : List ℕ)
+pub told_tier : {E : Type 0} (r : Result (Unit {0}) E) (before : Bench) (u : TiersView) (order : Order) (step : TierStep) (outcome : Outcome) (old new : List ℕ)
     → OnOk r (new ≡ old ++ outcome_text outcome)
     → ((T : Tiered) → StandsFor before.tiers T → (U : Tiered) × TierCase T step outcome U × StandsFor u U)
     → ((P : Position) (text : List ℕ) (t : State) → TierSteps P step text t → Answers (Some P) order text t)
@@ -104,7 +70,7 @@ told_tier (Ok x) before u order step outcome old new ok steps answers = λ P sta
 told_tier (Err e) before u order step outcome old new ok steps answers = tt
 
 -- a record that a map took, and whose answer is appended
-pub took_record : (P : Position) (tiers : Tiers) (maps : List Entries) (map : ℕ) (r newest : Record) (old new : List ℕ)
+pub took_record : (P : Position) (tiers : TiersView) (maps : List Entries) (map : ℕ) (r newest : Record) (old new : List ℕ)
     → IsMap map → StandsFor tiers P.tiers
     → AreMapsOf maps (put P.taken map (P.taken map ++ r ∷ [])) → record_at r.block (at (slice_index_or maps map []) r.block) ≡ Some newest
     → new ≡ old ++ (codes "took " ++ record_text newest)

@@ -79,13 +79,13 @@ pub fn carry_out(
         Verb::Unmake => unmake(alloc, bench, first as u8, second as u16, out),
         Verb::Claim => claim(bench, first as u8, second as u16, out),
         Verb::Release => release(bench, first as u8, second as u16, out),
-        Verb::Fill => fill(alloc, bench, first as u8, second as u16, payload, out),
-        Verb::Copy => copy(alloc, bench, first as u8, second as u16, third as u32, out),
+        Verb::Fill => fill(bench, first as u8, second as u16, payload, out),
+        Verb::Copy => copy(bench, first as u8, second as u16, third as u32, out),
         Verb::Commit => commit(alloc, bench, first as u8, second as u16, third as u32, out),
         Verb::Discard => discard(bench, first as u8, second as u16, out),
         Verb::Add => add(alloc, bench, out),
-        Verb::Balance => balance(alloc, bench, out),
-        Verb::Rebuild => rebuild(alloc, bench, first as u8, out),
+        Verb::Balance => balance(bench, out),
+        Verb::Rebuild => rebuild(bench, first as u8, out),
         Verb::Lose => lose(bench, first as u8, out),
         Verb::Read => read(bench, first as u32, payload, out),
         Verb::At => read_at(alloc, bench, command.record, out),
@@ -96,11 +96,11 @@ pub fn carry_out(
         Verb::Map => map(alloc, bench, out),
         Verb::Log => log(alloc, bench, out),
         Verb::Scan => scan(alloc, bench, out),
-        Verb::Write => write(alloc, bench, first as u8, second as u32, payload, out),
-        Verb::Trim => trim(alloc, bench, first as u8, second as u32, out),
-        Verb::Demote => demote(alloc, bench, first as u8, out),
-        Verb::Plug => plug(alloc, bench, first as u8, out),
-        Verb::Clean => clean(alloc, bench, first as u8, out),
+        Verb::Write => write(alloc, bench, second as u32, payload, out),
+        Verb::Trim => trim(alloc, bench, second as u32, out),
+        Verb::Demote => demote(alloc, bench, out),
+        Verb::Plug => plug(alloc, bench, out),
+        Verb::Clean => clean(alloc, bench, out),
     }
 }
 
@@ -108,7 +108,7 @@ fn claim(bench: &mut Bench, worker: u8, slot: u16, out: &mut Vec<u8>) -> Result<
     ensures carried { OnOk result (Carries bench.old bench.new (o.Claim worker slot) out.old.items out.new.items) }
     ensures kept { IsPrefix out.old.items out.new.items }
 {
-    let answer = bench.tiers.world.claim(worker, slot);
+    let answer = bench.tiers.claim(worker, slot);
     put_answer(out, &answer, 0)
 }
 
@@ -121,7 +121,6 @@ fn release(bench: &mut Bench, worker: u8, slot: u16, out: &mut Vec<u8>) -> Resul
 }
 
 fn fill(
-    alloc: Global,
     bench: &mut Bench,
     worker: u8,
     slot: u16,
@@ -132,12 +131,11 @@ fn fill(
     ensures carried { OnOk result (Carries bench.old bench.new (o.Fill worker slot payload.now) out.old.items out.new.items) }
     ensures kept { IsPrefix out.old.items out.new.items }
 {
-    let answer = bench.tiers.world.fill(alloc, worker, slot, payload)?;
+    let answer = bench.tiers.fill(worker, slot, payload)?;
     put_answer(out, &answer, 0)
 }
 
 fn copy(
-    alloc: Global,
     bench: &mut Bench,
     worker: u8,
     slot: u16,
@@ -148,7 +146,7 @@ fn copy(
     ensures carried { OnOk result (Carries bench.old bench.new (o.Copy worker slot block) out.old.items out.new.items) }
     ensures kept { IsPrefix out.old.items out.new.items }
 {
-    let answer = bench.tiers.world.copy(alloc, worker, slot, block)?;
+    let answer = bench.tiers.copy(worker, slot, block)?;
     put_answer(out, &answer, 0)
 }
 
@@ -172,7 +170,7 @@ fn discard(bench: &mut Bench, worker: u8, slot: u16, out: &mut Vec<u8>) -> Resul
     ensures carried { OnOk result (Carries bench.old bench.new (o.Discard worker slot) out.old.items out.new.items) }
     ensures kept { IsPrefix out.old.items out.new.items }
 {
-    let answer = bench.tiers.world.discard(worker, slot);
+    let answer = bench.tiers.discard(worker, slot);
     put_answer(out, &answer, 0)
 }
 
@@ -180,7 +178,7 @@ fn lose(bench: &mut Bench, drive: u8, out: &mut Vec<u8>) -> Result<(), AllocErro
     ensures carried { OnOk result (Carries bench.old bench.new (o.Lose drive) out.old.items out.new.items) }
     ensures kept { IsPrefix out.old.items out.new.items }
 {
-    let answer = bench.tiers.world.lose(drive);
+    let answer = bench.tiers.lose(drive);
     put_answer(out, &answer, 0)
 }
 
@@ -194,7 +192,7 @@ fn read_at(
     ensures carried { OnOk result (Carries bench.old bench.new (o.At «record») out.old.items out.new.items) }
     ensures kept { IsPrefix out.old.items out.new.items }
 {
-    let answer = bench.tiers.world.read_at(alloc, record)?;
+    let answer = bench.tiers.read_at(alloc, record)?;
     put_answer(out, &answer, record.version)
 }
 
@@ -209,7 +207,7 @@ fn read(
     ensures carried { OnOk result (Carries bench.old bench.new (o.Read block) out.old.items out.new.items) }
     ensures kept { IsPrefix out.old.items out.new.items }
 {
-    let found = bench.tiers.world.read_into(block, payload);
+    let found = bench.tiers.read_into(block, payload);
     put_found(out, found, payload)
 }
 
@@ -247,7 +245,7 @@ fn map(alloc: Global, bench: &mut Bench, out: &mut Vec<u8>) -> Result<(), AllocE
     ensures carried { OnOk result (Carries bench.old bench.new o.Map out.old.items out.new.items) }
     ensures kept { IsPrefix out.old.items out.new.items }
 {
-    let records = newest_records(alloc, bench.tiers.world.array())?;
+    let records = newest_records(alloc, bench.tiers.world().array())?;
     put_listing(out, b"map ", &records)
 }
 
@@ -282,7 +280,7 @@ fn log(alloc: Global, bench: &mut Bench, out: &mut Vec<u8>) -> Result<(), AllocE
     ensures carried { OnOk result (Carries bench.old bench.new o.Log out.old.items out.new.items) }
     ensures kept { IsPrefix out.old.items out.new.items }
 {
-    let Ok(records) = bench.tiers.world.array().records_from(alloc, 0) else {
+    let Ok(records) = bench.tiers.world().array().records_from(alloc, 0) else {
         return Err(AllocError)
     };
     put_listing(out, b"log ", &records)
@@ -291,58 +289,56 @@ fn log(alloc: Global, bench: &mut Bench, out: &mut Vec<u8>) -> Result<(), AllocE
 fn write(
     alloc: Global,
     bench: &mut Bench,
-    worker: u8,
     block: u32,
     payload: &[u8],
     out: &mut Vec<u8>,
 ) -> Result<(), AllocError>
     requires block { block < bench.old.tiers.world.array.parts.groups.blocks }
     requires payload { length payload.now ≡ bench.old.tiers.world.array.parts.groups.payload }
-    ensures carried { OnOk result (Carries bench.old bench.new (o.Write worker block payload.now) out.old.items out.new.items) }
+    ensures carried { (w : ℕ) → OnOk result (Carries bench.old bench.new (o.Write w block payload.now) out.old.items out.new.items) }
     ensures kept { IsPrefix out.old.items out.new.items }
 {
     let outcome = bench
         .tiers
-        .write(alloc, worker, block, Given::Payload(payload))?;
+        .write(alloc, block, Given::Payload(payload))?;
     put_outcome(out, outcome)
 }
 
 fn trim(
     alloc: Global,
     bench: &mut Bench,
-    worker: u8,
     block: u32,
     out: &mut Vec<u8>,
 ) -> Result<(), AllocError>
     requires { block < bench.old.tiers.world.array.parts.groups.blocks }
-    ensures carried { OnOk result (Carries bench.old bench.new (o.Trim worker block) out.old.items out.new.items) }
+    ensures carried { (w : ℕ) → OnOk result (Carries bench.old bench.new (o.Trim w block) out.old.items out.new.items) }
     ensures kept { IsPrefix out.old.items out.new.items }
 {
-    let outcome = bench.tiers.write(alloc, worker, block, Given::Trim)?;
+    let outcome = bench.tiers.write(alloc, block, Given::Trim)?;
     put_outcome(out, outcome)
 }
 
-fn demote(alloc: Global, bench: &mut Bench, worker: u8, out: &mut Vec<u8>) -> Result<(), AllocError>
-    ensures carried { OnOk result (Carries bench.old bench.new (o.Demote worker) out.old.items out.new.items) }
+fn demote(alloc: Global, bench: &mut Bench, out: &mut Vec<u8>) -> Result<(), AllocError>
+    ensures carried { (w : ℕ) → OnOk result (Carries bench.old bench.new (o.Demote w) out.old.items out.new.items) }
     ensures kept { IsPrefix out.old.items out.new.items }
 {
-    let outcome = bench.tiers.demote(alloc, worker)?;
+    let outcome = bench.tiers.demote(alloc)?;
     put_outcome(out, outcome)
 }
 
-fn plug(alloc: Global, bench: &mut Bench, worker: u8, out: &mut Vec<u8>) -> Result<(), AllocError>
-    ensures carried { OnOk result (Carries bench.old bench.new (o.Plug worker) out.old.items out.new.items) }
+fn plug(alloc: Global, bench: &mut Bench, out: &mut Vec<u8>) -> Result<(), AllocError>
+    ensures carried { (w : ℕ) → OnOk result (Carries bench.old bench.new (o.Plug w) out.old.items out.new.items) }
     ensures kept { IsPrefix out.old.items out.new.items }
 {
-    let outcome = bench.tiers.plug(alloc, worker)?;
+    let outcome = bench.tiers.plug(alloc)?;
     put_outcome(out, outcome)
 }
 
-fn clean(alloc: Global, bench: &mut Bench, worker: u8, out: &mut Vec<u8>) -> Result<(), AllocError>
-    ensures carried { OnOk result (Carries bench.old bench.new (o.Clean worker) out.old.items out.new.items) }
+fn clean(alloc: Global, bench: &mut Bench, out: &mut Vec<u8>) -> Result<(), AllocError>
+    ensures carried { (w : ℕ) → OnOk result (Carries bench.old bench.new (o.Clean w) out.old.items out.new.items) }
     ensures kept { IsPrefix out.old.items out.new.items }
 {
-    let outcome = bench.tiers.clean(alloc, worker)?;
+    let outcome = bench.tiers.clean(alloc)?;
     put_outcome(out, outcome)
 }
 
@@ -350,22 +346,22 @@ fn add(alloc: Global, bench: &mut Bench, out: &mut Vec<u8>) -> Result<(), AllocE
     ensures carried { OnOk result (Carries bench.old bench.new o.Add out.old.items out.new.items) }
     ensures kept { IsPrefix out.old.items out.new.items }
 {
-    let answer = bench.tiers.world.add_drive(alloc)?;
+    let answer = bench.tiers.add_drive(alloc)?;
     put_answer(out, &answer, 0)
 }
 
-fn balance(alloc: Global, bench: &mut Bench, out: &mut Vec<u8>) -> Result<(), AllocError>
+fn balance(bench: &mut Bench, out: &mut Vec<u8>) -> Result<(), AllocError>
     ensures carried { OnOk result (Carries bench.old bench.new o.Balance out.old.items out.new.items) }
     ensures kept { IsPrefix out.old.items out.new.items }
 {
-    let outcome = background::balance(alloc, &mut bench.tiers.world)?;
+    let outcome = bench.tiers.balance()?;
     put_regrouped(out, outcome)
 }
 
-fn rebuild(alloc: Global, bench: &mut Bench, drive: u8, out: &mut Vec<u8>) -> Result<(), AllocError>
+fn rebuild(bench: &mut Bench, drive: u8, out: &mut Vec<u8>) -> Result<(), AllocError>
     ensures carried { OnOk result (Carries bench.old bench.new (o.Rebuild drive) out.old.items out.new.items) }
     ensures kept { IsPrefix out.old.items out.new.items }
 {
-    let outcome = background::rebuild(alloc, &mut bench.tiers.world, drive)?;
+    let outcome = bench.tiers.rebuild(drive)?;
     put_regrouped(out, outcome)
 }

@@ -89,11 +89,11 @@ fn begin(
     let Some((drives, shape)) = array_in_range(drives, extents, segments, payload, blocks) else {
         return Err(Failure::Wrong(Why::Range));
     };
+    put(out, b"array")?;
     let Ok(world) = World::new(alloc, shape, drives) else {
         return Err(Failure::Memory)
     };
     let tiers = Tiers::new(alloc, world)?;
-    put(out, b"array")?;
     Ok(Bench::new(alloc, tiers))
 }
 
@@ -113,7 +113,7 @@ fn later(
     let Some(standing) = bench else {
         return Err(Failure::Wrong(Why::Form))
     };
-    let shape = standing.tiers.world.array().shape();
+    let shape = standing.tiers.world().array().shape();
     let payload = &mut payload[..shape.payload as usize];
     let mut command = Command::new(alloc);
     if !read_command(alloc, line, payload, &mut command)? {

@@ -8,7 +8,6 @@ ghost use Rattle.script_syntax.specs.Order as o;
 use crate::bench::Bench;
 use crate::texts::{put_fault, put_listing, put_numbered};
 use background::Tiers;
-use header_scan::scan_world;
 use std::alloc::{AllocError, Global};
 
 /// Lists the map that the headers hold, or reports the first fault.
@@ -16,7 +15,7 @@ pub fn scan(alloc: Global, bench: &mut Bench, out: &mut Vec<u8>) -> Result<(), A
     ensures carried { OnOk result (Carries bench.old bench.new o.Scan out.old.items out.new.items) }
     ensures kept { IsPrefix out.old.items out.new.items }
 {
-    let map = match scan_world(alloc, &mut bench.tiers.world) {
+    let map = match bench.tiers.scan(alloc) {
         Ok(map) => map,
         Err(fault) => return put_fault(out, &fault),
     };
@@ -52,15 +51,14 @@ fn made_anew(alloc: Global, bench: Bench, out: &mut Vec<u8>) -> Result<Bench, Al
     ensures kept { IsPrefix out.old.items out.new.items }
 {
     let Bench { mut tiers, maps } = bench;
-    let map = match scan_world(alloc, &mut tiers.world) {
+    let map = match tiers.scan(alloc) {
         Ok(map) => map,
         Err(fault) => {
             put_fault(out, &fault)?;
             return Ok(Bench { tiers, maps });
         }
     };
-    let Tiers { world, .. } = tiers;
-    let Ok(world) = world.restarted(alloc, map) else {
+    let Ok(world) = tiers.into_world().restarted(alloc, map) else {
         return Err(AllocError)
     };
     let count = world.array().record_count();

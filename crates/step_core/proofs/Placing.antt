@@ -7,21 +7,23 @@ use Rattle.map_join.specs.declared.records.Record.{Record}
 use Rattle.map_join.specs.Record.{record_at}
 use Rattle.extent_groups.specs.Groups.{Groups}
 use Rattle.flat_machine.specs.declared.refusal.Refusal.{Refusal}
-use Rattle.flat_machine.specs.declared.refusal.Refusal.TheVariants.{Memory}
-use Rattle.flat_machine.specs.Flat.{Flat, Content, Holder, Worker, Ticket, Block, IsNewest}
+use Rattle.flat_machine.specs.declared.refusal.Refusal.TheVariants.{Memory, Gone, DriveLost}
+use Rattle.flat_machine.specs.Flat.{Flat, Content, Stored, Holder, Worker, Ticket, Block, IsNewest}
 use Rattle.flat_machine.specs.Steps.{Claimed, Released, Committed, Discarded, Refused, Claim, Commit}
 use Rattle.flat_machine.specs.Steps as step
-use Rattle.flat_machine.specs.Cases.{Case, Runs, ClaimCase, FillCase, CopyCase, CommitCase, DiscardCase, ReleaseCase}
+use Rattle.flat_machine.specs.Cases.{Case, Runs, IsWanted, ClaimCase, FillCase, CopyCase, CommitCase, DiscardCase, ReleaseCase}
 use Rattle.flat_machine.specs.History.{IsStep}
 use Rattle.flat_machine.proofs.Newest.{place_small}
 use Rattle.flat_machine.proofs.Holding.{once_any}
 use Rattle.flat_machine.proofs.Pairs.{Any, IsOnce, equal}
 use Rattle.flat_machine.proofs.Passing.{Passes, passed}
 use Rattle.slot_tables.specs.declared.hand.Hand.{Hand}
-use Rattle.slot_tables.specs.declared.hold.Plain.{Plain}
 use Rattle.slot_tables.specs.declared.hand.Hand.TheVariants.{Empty, Holds, Waits}
-use Rattle.slot_tables.specs.Changes.{IsPlaceOf, MayRefuse, passed_hands}
-use Rattle.slot_tables.specs.Views.{Kept, ArrayView, WorldView, kept_at, hand_at, key_at, has_no_holder}
+use Rattle.slot_tables.specs.Changes.{IsPlaceOf, MayRefuse, passed_hands, fill_view, copy_view}
+use Rattle.disk_array.specs.Refused.{IsRefused}
+use Rattle.extents.specs.declared.header.Kind.{Kind}
+use Rattle.array_parts.specs.Views.{WasPut, WasCopied}
+use Rattle.slot_tables.specs.Views.{Kept, ArrayView, WorldView, kept_at, hand_at, key_at, has_no_holder, with_parts}
 use Rattle.slot_tables.specs.Represents.{HandSlot, ShowsArray, Represents, is_claim, is_ticket}
 use Rattle.slot_tables.proofs.Hands.{claim_case, release_case, with_hand}
 use Rattle.slot_tables.proofs.Newest.{newest_told}
@@ -29,7 +31,9 @@ use Rattle.slot_tables.proofs.Places.{set_twice}
 use Rattle.step_core.specs.declared.place.NotPlaced.TheVariants as denied
 use Rattle.step_core.specs.declared.place.Given.{Given}
 use Rattle.step_core.specs.declared.place.Given.TheVariants as given
-use Rattle.step_core.specs.Placing.{Put, Fresh, Again, IsPlaced, IsSizedFor, Places, place_of, put_of, put_step, put_answer, back_steps, back_answers}
+use Rattle.step_core.specs.declared.claimed.What.{What}
+use Rattle.step_core.specs.declared.claimed.What.TheVariants as what
+use Rattle.step_core.specs.Placing.{Put, Fresh, Again, IsPlaced, IsSizedFor, IsStill, IsWhatFor, Places, PutTells, block_for, place_of, put_for, put_of, what_of, put_step, put_answer, back_steps, back_answers}
 use Rattle.step_core.proofs.Worlds.{fill_world, copy_world, commit_world, discard_world, refused_world}
 
 -- a slot that nobody holds is in nobody's hand
@@ -276,13 +280,13 @@ refused_first v F a what w s b r ready rep denies some = go r (denies c.state w 
         (y.0, inl (c.state, c.claim, (d.0, d.1, (y.0, y.1, refl))), y.2)
 
 -- a commit that was refused: the ticket is discarded, and its claim is released
-pub refused_last : (v : WorldView) (F : Flat) (a e k : ArrayView) (what : Put) (w s b : ℕ) (r : Refusal) (W : Flat → ℕ → Type 0) → IsOpen v what s b → b < a.parts.groups.blocks → Represents v F
+pub refused_last : (v : WorldView) (F : Flat) (a e k : ArrayView) (what : Put) (w s b : ℕ) (r : Refusal) → IsOpen v what s b → b < a.parts.groups.blocks → Represents v F
     → Puts v.array a what s b
-    → ((H : Flat) (u : ℕ) → ShowsArray a H → H.held s (Ticket u) ≡ true → MayRefuse r (W H u) ((G : Flat) × (CommitCase H u s b (Refused r) G) × (ShowsArray e G)))
+    → ((H : Flat) (u : ℕ) → ShowsArray a H → H.held s (Ticket u) ≡ true → MayRefuse r (IsWanted H (Commit u s b)) ((G : Flat) × (CommitCase H u s b (Refused r) G) × (ShowsArray e G)))
     → (r ≡ Memory → e ≡ a)
     → ((H : Flat) (u : ℕ) → ShowsArray e H → H.held s (Ticket u) ≡ true → (G : Flat) × (DiscardCase H u s (Discarded s) G) × (ShowsArray k G))
     → (G : Flat) × (Places F w s b what (Err (denied.Refused r)) G) × (Represents (record { array = k; hands = v.hands }) G)
-refused_last v F a e k what w s b r W ready block rep puts denies same ends = go r (denies x.state w x.stands.array x.held) same
+refused_last v F a e k what w s b r ready block rep puts denies same ends = go r (denies x.state w x.stands.array x.held) same
   where
     x : IsWaiting v F a what w s b
     x = waiting v F a what w s b ready rep puts
@@ -308,11 +312,11 @@ refused_last v F a e k what w s b r W ready block rep puts denies same ends = go
               (waited v w s (Holds w) (empty_of v what s b ready)) d.2,
         )
 
-    go : (k_is : Refusal) → MayRefuse k_is (W x.state w) ((G : Flat) × (CommitCase x.state w s b (Refused k_is) G) × (ShowsArray e G)) → (k_is ≡ Memory → e ≡ a)
+    go : (k_is : Refusal) → MayRefuse k_is (IsWanted x.state (Commit w s b)) ((G : Flat) × (CommitCase x.state w s b (Refused k_is) G) × (ShowsArray e G)) → (k_is ≡ Memory → e ≡ a)
         → (G : Flat) × (Places F w s b what (Err (denied.Refused k_is)) G) × (Represents (record { array = k; hands = v.hands }) G)
     go Memory may was =
         let y = back x.state (subst (λ (z : ArrayView). Represents (record { array = z; hands = hands }) x.state) (sym (was refl)) x.stands) in
-        (y.2.0, (x.before.state, x.before.claim, (x.state, x.put, (y.0, y.1, (y.2.0, y.2.1, refl)))), y.2.2)
+        (y.2.0, record { run = (x.before.state, x.before.claim, (x.state, x.put, (y.0, y.1, (y.2.0, y.2.1, refl)))); wanted = may }, y.2.2)
     go k_is may was =
         let d = refused_world (record { array = a; hands = hands }) x.state (Commit w s b) k_is e there x.stands may in
         let y = back d.0 d.2 in
@@ -323,40 +327,49 @@ may_less : (r : Refusal) (W P : Type 0) → MayRefuse r W P → MayRefuse r (Uni
 may_less Memory W P y = tt
 may_less r W P y = y
 
--- what an array answered to a call that filled the slot, or copied into it
-pub record Answered (F : Flat) (w s b : ℕ) (what : Put) (a : ArrayView) (answer : Result ℕ (Refusal × Plain)) : Type 0 where
-  pub ticket : IfOk answer (λ t. (G : Flat) × (Case F (put_step what w s b) (put_answer what s) G) × (ShowsArray a G))
-  pub refusal : IfErr answer (λ e. MayRefuse e.0 (Unit {0}) ((G : Flat) × (Case F (put_step what w s b) (Refused e.0) G) × (ShowsArray a G)))
+-- what is put into the slot is what was given, else a copy
+pub given_put : {C : Type 0} (x : Option Given) (b : ℕ) (v : What) → v ≡ what_of x b → (r : Result ℕ (Refusal × C)) (F : Flat) (w s : ℕ) (a : ArrayView)
+    → PutTells r F w (put_for v) s (block_for v) a → PutTells r F w (put_of x) s b a
+given_put (Some g) b v is r F w s a y = subst (λ (p : What). PutTells r F w (put_for p) s (block_for p) a) is y
+given_put None b v is r F w s a y = subst (λ (p : What). PutTells r F w (put_for p) s (block_for p) a) is y
 
-pub fills : (F : Flat) (w s b : ℕ) (what : Put) (x : Content) (a : ArrayView) (answer : Result ℕ (Refusal × Plain)) (W : Type 0) → what ≡ Fresh x → IfOk answer (λ t. t ≡ s)
-    → MatchResult answer (λ t. (G : Flat) × (FillCase F w t x (step.Filled t) G) × (ShowsArray a G))
+-- it has numbers in range
+pub given_fits : (z : Groups) (x : Option Given) (b : ℕ) (v : What) → v ≡ what_of x b → b < z.blocks → IsSizedFor z.payload x → IsWhatFor z.blocks z.payload v
+given_fits z (Some g) b v is block fits = subst (IsWhatFor z.blocks z.payload) (sym is) fits
+given_fits z None b v is block fits = subst (IsWhatFor z.blocks z.payload) (sym is) block
+
+-- what an array answers to a fill or a copy, as a put
+pub puts_fill : {C : Type 0} (F : Flat) (w s b : ℕ) (x : Content) (a : ArrayView) (r : Result ℕ (Refusal × C)) (W : Type 0) → IfOk r (λ t. t ≡ s)
+    → MatchResult r (λ t. (G : Flat) × (FillCase F w t x (step.Filled t) G) × (ShowsArray a G))
     (λ e. MayRefuse e.0 W ((G : Flat) × (FillCase F w s x (Refused e.0) G) × (ShowsArray a G)))
-    → Answered F w s b what a answer
-fills F w s b what x a answer W put is case = subst (λ p. Answered F w s b p a answer) (sym put) (go answer is case)
-  where
-    go : (r : Result ℕ (Refusal × Plain)) → IfOk r (λ t. t ≡ s)
-        → MatchResult r (λ t. (G : Flat) × (FillCase F w t x (step.Filled t) G) × (ShowsArray a G)) (λ e. MayRefuse e.0 W ((G : Flat) × (FillCase F w s x (Refused e.0) G) × (ShowsArray a G)))
-        → Answered F w s b (Fresh x) a r
-    go (Ok t) is y = record { ticket = subst (λ n. (G : Flat) × (FillCase F w n x (step.Filled n) G) × (ShowsArray a G)) is y; refusal = tt }
-    go (Err e) is y = record { ticket = tt; refusal = may_less e.0 W ((G : Flat) × (FillCase F w s x (Refused e.0) G) × (ShowsArray a G)) y }
+    → PutTells r F w (Fresh x) s b a
+puts_fill F w s b x a (Ok t) W is y = subst (λ n. (G : Flat) × (FillCase F w n x (step.Filled n) G) × (ShowsArray a G)) is y
+puts_fill F w s b x a (Err e) W is y = may_less e.0 W ((G : Flat) × (FillCase F w s x (Refused e.0) G) × (ShowsArray a G)) y
 
-pub copies : (F : Flat) (w s b : ℕ) (what : Put) (a : ArrayView) (answer : Result ℕ (Refusal × Plain)) (W : Type 0) → what ≡ Again → IfOk answer (λ t. t ≡ s)
-    → MatchResult answer (λ t. (G : Flat) × (CopyCase F w t b (step.Copied t) G) × (ShowsArray a G))
+pub puts_copy : {C : Type 0} (F : Flat) (w s b : ℕ) (a : ArrayView) (r : Result ℕ (Refusal × C)) (W : Type 0) → IfOk r (λ t. t ≡ s)
+    → MatchResult r (λ t. (G : Flat) × (CopyCase F w t b (step.Copied t) G) × (ShowsArray a G))
     (λ e. MayRefuse e.0 W ((G : Flat) × (CopyCase F w s b (Refused e.0) G) × (ShowsArray a G)))
-    → Answered F w s b what a answer
-copies F w s b what a answer W put is case = subst (λ p. Answered F w s b p a answer) (sym put) (go answer is case)
-  where
-    go : (r : Result ℕ (Refusal × Plain)) → IfOk r (λ t. t ≡ s)
-        → MatchResult r (λ t. (G : Flat) × (CopyCase F w t b (step.Copied t) G) × (ShowsArray a G)) (λ e. MayRefuse e.0 W ((G : Flat) × (CopyCase F w s b (Refused e.0) G) × (ShowsArray a G)))
-        → Answered F w s b Again a r
-    go (Ok t) is y = record { ticket = subst (λ n. (G : Flat) × (CopyCase F w n b (step.Copied n) G) × (ShowsArray a G)) is y; refusal = tt }
-    go (Err e) is y = record { ticket = tt; refusal = may_less e.0 W ((G : Flat) × (CopyCase F w s b (Refused e.0) G) × (ShowsArray a G)) y }
+    → PutTells r F w Again s b a
+puts_copy F w s b a (Ok t) W is y = subst (λ n. (G : Flat) × (CopyCase F w n b (step.Copied n) G) × (ShowsArray a G)) is y
+puts_copy F w s b a (Err e) W is y = may_less e.0 W ((G : Flat) × (CopyCase F w s b (Refused e.0) G) × (ShowsArray a G)) y
 
--- equal arrays and answers say the same
-pub answered_as : (F : Flat) (w s b : ℕ) (what : Put) (a e : ArrayView) (answer other : Result ℕ (Refusal × Plain)) → a ≡ e → answer ≡ other
-    → Answered F w s b what e other → Answered F w s b what a answer
-answered_as F w s b what a e answer other is same x =
-    subst (λ (y : ArrayView). Answered F w s b what y answer) (sym is) (subst (λ r. Answered F w s b what e r) (sym same) x)
+-- an array that refused has the groups and the keys that it had
+pub refused_still : (a b : ArrayView) (q : Refusal) → IsRefused a b q → IsStill a b
+refused_still a b (Gone slot) is = record { groups = is.1.rest.groups; keys = ap (λ (x : ArrayView). x.keys) is.0 }
+refused_still a b (DriveLost drive) is = record { groups = is.1.rest.groups; keys = ap (λ (x : ArrayView). x.keys) is.0 }
+refused_still a b _ is = record { groups = ap (λ (x : ArrayView). x.parts.groups) is; keys = ap (λ (x : ArrayView). x.keys) is }
+
+-- so has one in which a slot was filled or copied into
+pub fill_still : {C : Type 0} (k : Kind) (A : ℕ → Type 0) (u : Stored) (r : Result ℕ (Refusal × C)) (claim : C) (a b : ArrayView)
+    → IfOk r (λ t. A t × (b ≡ fill_view (with_parts a b.parts) t k) × WasPut a.parts b.parts t u) → IfErr r (λ e. (e.1 ≡ claim) × IsRefused a b e.0) → IsStill a b
+fill_still k A u (Ok t) claim a b ok err = record { groups = ok.2.rest.groups; keys = ap (λ (x : ArrayView). x.keys) ok.1 }
+fill_still k A u (Err e) claim a b ok err = refused_still a b e.0 err.1
+
+pub copy_still : {C : Type 0} (A : ℕ → Type 0) (B : Record → Type 0) (r : Result ℕ (Refusal × C)) (claim : C) (a b : ArrayView)
+    → IfOk r (λ t. A t × ((q : Record) × (k : Kind) × B q × (b ≡ copy_view (with_parts a b.parts) t q k) × WasCopied a.parts b.parts q.place t k))
+    → IfErr r (λ e. (e.1 ≡ claim) × IsRefused a b e.0) → IsStill a b
+copy_still A B (Ok t) claim a b ok err = record { groups = ok.1.4.rest.groups; keys = ap (λ (x : ArrayView). x.keys) ok.1.3 }
+copy_still A B (Err e) claim a b ok err = refused_still a b e.0 err.1
 
 -- what is given has numbers in range
 sized : (z : Groups) (x : Option Given) (s b : ℕ) → s < 65536 → b < z.blocks → IsSizedFor z.payload x → (w : ℕ) → IsStep z (put_step (put_of x) w s b)

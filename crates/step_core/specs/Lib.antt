@@ -2,6 +2,7 @@ pub mod Told
 pub mod Passed
 pub mod Placing
 pub mod Headline
+pub mod Running
 pub use Rattle.slot_tables.specs.Claims
 pub use Rattle.slot_tables.specs.declared.ready.NotAdopted
 pub use Rattle.disk_array.specs.Refused

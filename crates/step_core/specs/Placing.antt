@@ -1,15 +1,20 @@
 -- A block goes into a slot that nobody holds: the slot is claimed, filled or copied into, and committed; then the block's old place is
 -- released. Where the array refuses, the slot is released.
-use Rattle.std.specs.Prelude.{◌≡◌, ◌⊎◌, ℕ, List, [], ◌∷◌, length, Option, Some, None, Result, Ok, Err}
+use Rattle.std.specs.Prelude.{◌≡◌, ◌≢◌, ◌<◌, ◌⊎◌, ℕ, true, List, [], ◌∷◌, length, Option, Some, None, Result, Ok, Err, MatchResult}
 use Rattle.map_join.specs.declared.records.Record.{Record}
 use Rattle.flat_machine.specs.declared.refusal.Refusal.{Refusal}
-use Rattle.flat_machine.specs.Flat.{Flat, Content, Payload, Trim, IsNewest}
+use Rattle.flat_machine.specs.declared.refusal.Refusal.TheVariants.{Memory}
+use Rattle.flat_machine.specs.Flat.{Flat, Content, Payload, Trim, IsNewest, Ticket}
 use Rattle.flat_machine.specs.Steps.{FlatStep, FlatAnswer, Claimed, Taken, Released, Filled, Copied, Committed, Discarded}
 use Rattle.flat_machine.specs.Steps as step
-use Rattle.flat_machine.specs.Cases.{Runs}
+use Rattle.flat_machine.specs.Cases.{Case, CommitCase, DiscardCase, IsWanted, Runs}
 use Rattle.slot_tables.specs.Changes.{MayRefuse}
+use Rattle.slot_tables.specs.Represents.{ShowsArray}
+use Rattle.slot_tables.specs.Views.{ArrayView}
 use Rattle.step_core.specs.declared.place.Given.{Given}
 use Rattle.step_core.specs.declared.place.Given.TheVariants as given
+use Rattle.step_core.specs.declared.claimed.What.{What}
+use Rattle.step_core.specs.declared.claimed.What.TheVariants as what
 use Rattle.step_core.specs.declared.place.Placed.{Placed}
 use Rattle.step_core.specs.declared.place.NotPlaced.{NotPlaced}
 use Rattle.step_core.specs.declared.place.NotPlaced.TheVariants as denied
@@ -38,6 +43,25 @@ abbrev pub IsSizedFor : ℕ → Option Given → Type 0
 IsSizedFor size None = Unit {0}
 IsSizedFor size (Some x) = IsGivenFor size x
 
+-- what goes into a claimed slot; of which block it is a copy, of no meaning where it is none
+abbrev pub put_for : What → Put
+put_for (what.Fresh x) = Fresh (content_of x)
+put_for (what.CopyOf b) = Again
+
+abbrev pub block_for : What → ℕ
+block_for (what.Fresh x) = 0
+block_for (what.CopyOf b) = b
+
+-- it fits the units, or the block is one of the array's
+abbrev pub IsWhatFor : ℕ → ℕ → What → Type 0
+IsWhatFor blocks payload (what.Fresh x) = IsGivenFor payload x
+IsWhatFor blocks payload (what.CopyOf b) = b < blocks
+
+-- what is given, else a copy of the block
+abbrev pub what_of : Option Given → ℕ → What
+what_of (Some x) b = what.Fresh x
+what_of None b = what.CopyOf b
+
 -- the step that puts it there, and its answer where it isn't refused
 abbrev pub put_step : Put → ℕ → ℕ → ℕ → FlatStep
 put_step (Fresh x) w s b = step.Fill w s x
@@ -46,6 +70,41 @@ put_step Again w s b = step.Copy w s b
 abbrev pub put_answer : Put → ℕ → FlatAnswer
 put_answer (Fresh x) s = Filled s
 put_answer Again s = Copied s
+
+-- an array has the groups and the keys of another
+pub record IsStill (a b : ArrayView) : Type 0 where
+  pub groups : b.parts.groups ≡ a.parts.groups
+  pub keys : b.keys ≡ a.keys
+
+-- what a put into a claimed slot answers of a state; it is never out of memory
+abbrev pub PutTells : {C : Type 0} → Result ℕ (Refusal × C) → Flat → ℕ → Put → ℕ → ℕ → ArrayView → Type 0
+PutTells r F w what s b a = MatchResult r
+    (λ t. (G : Flat) × Case F (put_step what w s b) (put_answer what s) G × ShowsArray a G)
+    (λ e. MayRefuse e.0 (Unit {0}) ((G : Flat) × Case F (put_step what w s b) (step.Refused e.0) G × ShowsArray a G))
+
+-- a worker has the ticket of the slot, if there is one
+abbrev pub HasTicket : Flat → ℕ → ℕ → Type 0
+HasTicket F w s = F.tickets s ≢ None → F.held s (Ticket w) ≡ true
+
+-- what waits at the slot is committed for the block, as this record
+abbrev pub Commits : ArrayView → ArrayView → ℕ → ℕ → Record → Type 0
+Commits a e s b r = (F : Flat) (w : ℕ) → ShowsArray a F → HasTicket F w s → (G : Flat) × CommitCase F w s b (Committed r) G × ShowsArray e G
+
+-- its commit is refused
+abbrev pub Refuses : ArrayView → ArrayView → ℕ → ℕ → Refusal → Type 0
+Refuses a e s b q = (F : Flat) (w : ℕ) → ShowsArray a F → HasTicket F w s
+    → MayRefuse q (IsWanted F (step.Commit w s b)) ((G : Flat) × CommitCase F w s b (step.Refused q) G × ShowsArray e G)
+
+-- its ticket ends
+abbrev pub Discards : ArrayView → ArrayView → ℕ → Type 0
+Discards a e s = (F : Flat) (w : ℕ) → ShowsArray a F → F.held s (Ticket w) ≡ true → (G : Flat) × DiscardCase F w s (Discarded s) G × ShowsArray e G
+
+-- its commit is refused, and then its ticket ends
+pub record GivesUp (a e : ArrayView) (s b : ℕ) (q : Refusal) : Type 0 where
+  pub between : ArrayView
+  pub refused : Refuses a between s b q
+  pub same : q ≡ Memory → between ≡ a
+  pub ended : Discards between e s
 
 -- the steps that release the old place, if there was one, and their answers
 abbrev pub back_steps : ℕ → Option Record → List FlatStep
@@ -74,11 +133,12 @@ IsRefusedLate F w s b what k G =
     Runs F (step.Claim w s ∷ put_step what w s b ∷ step.Commit w s b ∷ step.Discard w s ∷ step.Release w s ∷ [])
     (Claimed s ∷ put_answer what s ∷ step.Refused k ∷ Discarded s ∷ Released s ∷ []) G
 
--- an allocation of the commit failed: the slot has what was put into it, and is released. No fill and no copy is out of memory
-abbrev pub PlaceStops : Flat → ℕ → ℕ → ℕ → Put → Flat → Type 0
-PlaceStops F w s b what G =
-    Runs F (step.Claim w s ∷ put_step what w s b ∷ step.Discard w s ∷ step.Release w s ∷ [])
-    (Claimed s ∷ put_answer what s ∷ Discarded s ∷ Released s ∷ []) G
+-- an allocation of the commit failed, after all that is tested before it had passed: the slot has what was put into it, and is
+-- released. No fill and no copy is out of memory
+pub record PlaceStops (F : Flat) (w s b : ℕ) (what : Put) (G : Flat) : Type 0 where
+  pub run : Runs F (step.Claim w s ∷ put_step what w s b ∷ step.Discard w s ∷ step.Release w s ∷ [])
+      (Claimed s ∷ put_answer what s ∷ Discarded s ∷ Released s ∷ []) G
+  pub wanted : IsWanted run.2.0 (step.Commit w s b)
 
 -- the slot of a record, if there is one
 abbrev pub place_of : Option Record → Option ℕ

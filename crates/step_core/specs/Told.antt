@@ -67,3 +67,9 @@ FitsStep z (step.Unmake w g) = w < 8
 FitsStep z (step.MoveExtent g k to) = (Unit {0})
 FitsStep z step.AddDrive = (Unit {0})
 FitsStep z (step.Lose d) = (Unit {0})
+
+-- a step that neither adds nor loses a drive
+abbrev pub SwapsNoDrive : Step → Type 0
+SwapsNoDrive step.AddDrive = ⊥
+SwapsNoDrive (step.Lose d) = ⊥
+SwapsNoDrive _ = Unit {0}

@@ -10,11 +10,11 @@ ghost use Rattle.step_core.specs.Told.{flat_answer};
 use crate::step::Answer;
 use crate::world::{World, refused};
 use disk_array::DRIVES;
-use extents::MemDrive;
+use extents::HotSwap;
 use flat_machine::Refusal;
 use std::alloc::{AllocError, Global};
 
-impl World {
+impl<D: HotSwap + Drop> World<D> {
     /// Adds a new drive, all of whose units are zero.
     pub fn add_drive(&mut self, alloc: Global) -> Result<Answer, AllocError>
         ensures ok { IfOk result (λ answer. (F : Flat) → Represents self.old F
@@ -26,7 +26,7 @@ impl World {
         if self.array.drive_count() >= DRIVES {
             return Ok(Answer::Refused(Refusal::Full));
         }
-        let Ok(drive) = MemDrive::new(alloc, &self.array.shape()) else {
+        let Ok(drive) = D::fresh(alloc, &self.array.shape()) else {
             return Err(AllocError);
         };
         match self.array.add_drive(alloc, drive) {

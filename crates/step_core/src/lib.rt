@@ -1,6 +1,7 @@
 //! The array and its world: slots that are claimed, filled, committed and read, step by step of a flat machine.
 #![tactic(auto)]
 
+mod claimed;
 mod grow;
 mod place;
 mod relocate;
@@ -12,14 +13,15 @@ mod unmake;
 mod world;
 
 pub use array_parts::Units;
+pub use claimed::{Denied, What, finish, put};
 pub use disk_array::{
     Apart, Array, At, Done, Emitted, Hold, NotAdopted, Plain, Reading, TakeBack, Ticket,
     claims_are_free,
 };
 pub use extent_groups::GroupTable;
-pub use extents::{Drive, DriveLost, ExtentTable, MemDrive, Shape, ShapeRefusal};
+pub use extents::{Drive, DriveLost, ExtentTable, HotSwap, MemDrive, Shape, ShapeRefusal};
 pub use flat_machine::{Class, Member, Refusal};
 pub use place::{Given, NotPlaced, Placed};
-pub use run::{Run, Stopped, represented_stands, run_steps};
+pub use run::{Run, Stopped, represented_stands, run_fixed, run_steps};
 pub use step::{Answer, Step};
 pub use world::World;

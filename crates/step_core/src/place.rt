@@ -1,17 +1,17 @@
 // A block goes into a slot that nobody holds.
-ghost use Rattle.std.specs.Prelude.{◌≡◌, ◌≢◌, ℕ, ◌<◌, IfOk, IfErr, MatchResult, Option, true};
+ghost use Rattle.std.specs.Prelude.{◌≡◌, ℕ, ◌<◌, Option};
 ghost use Rattle.map_join.specs.declared.records.Record.{Record};
-ghost use Rattle.flat_machine.specs.Cases.{Case, DiscardCase};
-ghost use Rattle.flat_machine.specs.Flat.{Flat, Ticket as ticket_of, Worker};
-ghost use Rattle.flat_machine.specs.Steps as say;
-ghost use Rattle.slot_tables.specs.Changes.{IsPlaceOf, MayRefuse};
-ghost use Rattle.slot_tables.specs.Represents.{Represents, ShowsArray};
+ghost use Rattle.flat_machine.specs.Flat.{Flat};
+ghost use Rattle.slot_tables.specs.Changes.{IsPlaceOf};
+ghost use Rattle.slot_tables.specs.Represents.{Represents};
 ghost use Rattle.slot_tables.specs.Views.{SameSizes};
-ghost use Rattle.step_core.specs.Placing.{IsSizedFor, Places, place_of, put_answer, put_of, put_step};
+ghost use Rattle.step_core.specs.Placing as what;
+ghost use Rattle.step_core.specs.Placing.{IsSizedFor, Places, place_of, put_of};
 
+use crate::claimed::{What, finish, put};
 use crate::world::World;
-use disk_array::{Array, Done, Ticket};
-use extents::MemDrive;
+use disk_array::Done;
+use extents::Drive;
 use flat_machine::Refusal;
 use map_join::Record;
 use slot_tables::Plain;
@@ -42,7 +42,7 @@ pub enum NotPlaced {
     Refused(Refusal),
 }
 
-impl World {
+impl<D: Drive> World<D> {
     /// Puts a block into a slot that nobody holds: what is given, else a copy of the block's last write. All steps are done in one
     /// call, so no worker has the slot in hand; they are those of any worker that claims the slot, fills it or copies into it,
     /// commits it, and releases the block's old place.
@@ -62,49 +62,25 @@ impl World {
         if !self.is_free(slot) {
             return Err(NotPlaced::Taken);
         }
-        let ticket = match put_in(&mut self.array, alloc, slot, block, given) {
+        let ticket = match put(&mut self.array, Plain { slot }, what_of(block, given)) {
             Ok(ticket) => ticket,
-            Err(refusal) => return Err(NotPlaced::Refused(refusal)),
+            Err((refusal, _claim)) => return Err(NotPlaced::Refused(refusal)),
         };
-        match self.array.commit(alloc, ticket, block) {
-            Ok(done) => Ok(placed_by(done)),
-            Err((refusal, ticket)) => {
-                give_up(&mut self.array, ticket);
-                Err(NotPlaced::Refused(refusal))
-            }
-        }
+        let done = match finish(&mut self.array, alloc, ticket, block) {
+            Ok(done) => done,
+            Err(denied) => return Err(NotPlaced::Refused(denied.refusal)),
+        };
+        Ok(placed_by(done))
     }
 }
 
-// Fills the slot with what is given, else copies the block's last write into it.
-fn put_in(
-    array: &mut Array<MemDrive, Plain>,
-    alloc: Global,
-    slot: u16,
-    block: u32,
-    given: Option<Given>,
-) -> Result<Ticket, Refusal>
-    requires block { block < array.old.parts.groups.blocks }
-    requires given { IsSizedFor array.old.parts.groups.payload given }
-    ensures ticket { IfOk result (λ ticket. ticket ≡ slot) }
-    ensures memory { IfErr result (λ refusal. refusal ≢ Refusal.Memory) }
-    ensures flat { (F : Flat) (w : ℕ) → ShowsArray array.old F → F.held slot (Worker w) ≡ true
-        → MatchResult result
-        (λ ticket. (G : Flat) × Case F (put_step (put_of given.entry) w slot block) (put_answer (put_of given.entry) slot) G × ShowsArray array.new G)
-        (λ refusal. MayRefuse refusal (Unit {0})
-        ((G : Flat) × Case F (put_step (put_of given.entry) w slot block) (say.Refused refusal) G × ShowsArray array.new G)) }
-    ensures room { SameSizes array.old array.new }
+// What is given, else a copy of the block's last write.
+fn what_of<'a>(block: u32, given: Option<Given<'a>>) -> What<'a>
+    ensures { result ≡ what.what_of given.entry block }
 {
-    let filled = match given {
-        Some(given) => match given {
-            Given::Payload(payload) => array.fill(alloc, Plain { slot }, payload),
-            Given::Trim => array.trim(alloc, Plain { slot }),
-        },
-        None => array.copy(alloc, Plain { slot }, block),
-    };
-    match filled {
-        Ok(ticket) => Ok(ticket),
-        Err((refusal, _claim)) => Err(refusal),
+    match given {
+        Some(given) => What::Fresh(given),
+        None => What::CopyOf(block),
     }
 }
 
@@ -119,13 +95,4 @@ fn placed_by(done: Done<Plain>) -> Placed
         None => None,
     };
     Placed { newest, left }
-}
-
-// Ends a ticket, and its claim with it.
-fn give_up(array: &mut Array<MemDrive, Plain>, ticket: Ticket)
-    ensures flat { (F : Flat) (w : ℕ) → ShowsArray array.old F → F.held ticket (ticket_of w) ≡ true
-        → (G : Flat) × DiscardCase F w ticket (say.Discarded ticket) G × ShowsArray array.new G }
-    ensures room { SameSizes array.old array.new }
-{
-    let _ended = array.discard(ticket);
 }

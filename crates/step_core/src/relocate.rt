@@ -9,18 +9,12 @@ ghost use Rattle.slot_tables.specs.Represents.{Represents};
 ghost use Rattle.slot_tables.specs.Views.{SameSizes};
 
 use crate::world::World;
+use extents::Drive;
 use flat_machine::{Member, Refusal};
-use std::alloc::Global;
 
-impl World {
+impl<D: Drive> World<D> {
     /// Moves a member of a group onto another extent, as `Array::move_extent` does.
-    pub fn move_extent(
-        &mut self,
-        alloc: Global,
-        group: u16,
-        member: u8,
-        to: Member,
-    ) -> Result<(), Refusal>
+    pub fn move_extent(&mut self, group: u16, member: u8, to: Member) -> Result<(), Refusal>
         ensures flat { (F : Flat) → Represents self.old F → MatchResult result
             (λ done. (G : Flat) × Case F (say.MoveExtent group member to) say.MovedExtent G × Represents self.new G)
             (λ refusal. MayRefuse refusal
@@ -30,6 +24,6 @@ impl World {
         ensures shifted { IfOk result (λ done. Shifted self.old.array.parts group member to self.new.array.parts) }
         ensures room { SameSizes self.old.array self.new.array }
     {
-        self.array.move_extent(alloc, group, member, to)
+        self.array.move_extent(group, member, to)
     }
 }

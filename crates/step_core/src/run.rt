@@ -2,7 +2,8 @@
 ghost use Rattle.std.specs.Prelude.{◌≡◌, ◌⊎◌, ◌<◌, length, take, map, slice_get, All, MatchResult, IsTrue, ◌↔◌, IfOk, IfErr, OnErr, Some};
 ghost use Rattle.flat_machine.specs.Flat.{Flat, HeldOnce};
 ghost use Rattle.flat_machine.specs.Cases.{Case, IsWanted};
-ghost use Rattle.step_core.specs.Told.{flat_answer, flat_step, FitsStep};
+ghost use Rattle.step_core.specs.Told.{flat_answer, flat_step, FitsStep, SwapsNoDrive};
+ghost use Rattle.step_core.specs.Running.{IsRunOf};
 ghost use Rattle.step_core.specs.declared.step.Step.{Step};
 ghost use Rattle.slot_tables.specs.Views.{WorldView, SameSizes, IsWhole};
 ghost use Rattle.slot_tables.specs.Represents.{Represents};
@@ -10,6 +11,7 @@ ghost use Rattle.step_core.specs.Headline.{Stands, TellingRun, StepsTo, OfEach, 
 
 use crate::step::{Answer, Step};
 use crate::world::{World, refused};
+use extents::{Drive, HotSwap, MemDrive};
 use std::alloc::{AllocError, Global};
 
 /// How many workers a world has.
@@ -17,15 +19,15 @@ const WORKERS: u8 = 8;
 
 /// A run to its end: the world then, and one answer for each step.
 #[derive(Drop)]
-pub struct Run {
-    pub world: World,
+pub struct Run<D: Drive = MemDrive> {
+    pub world: World<D>,
     pub answers: Vec<Answer>,
 }
 
 /// A run that stopped because it was out of memory: the step `at` changed nothing, and the answers are those of the steps before it.
 #[derive(Drop)]
-pub struct Stopped {
-    pub world: World,
+pub struct Stopped<D: Drive = MemDrive> {
+    pub world: World<D>,
     pub answers: Vec<Answer>,
     pub at: usize,
 }
@@ -39,7 +41,7 @@ pub fn represented_stands()
     // The law is the contract: there is nothing to do.
 }
 
-impl World {
+impl<D: Drive> World<D> {
     /// Whether the step's worker, block and payload are of this world: a worker below 8, a block that
     /// the array has, and a payload of its length.
     pub fn fits(&self, step: &Step) -> bool
@@ -82,10 +84,14 @@ impl World {
             Step::Lose { drive: _ } => true,
         }
     }
+}
 
-    /// Carries out a step that fits. It fails only if out of memory, and then nothing has changed.
-    pub fn step(&mut self, alloc: Global, step: &Step) -> Result<Answer, AllocError>
-        requires { FitsStep self.old.array.parts.groups step.now }
+impl<D: Drive> World<D> {
+    /// Carries out a step that fits and neither adds nor loses a drive. It fails only if out of memory, and then nothing has
+    /// changed.
+    pub fn step_fixed(&mut self, alloc: Global, step: &Step) -> Result<Answer, AllocError>
+        requires fits { FitsStep self.old.array.parts.groups step.now }
+        requires fixed { SwapsNoDrive step.now }
         ensures ok { IfOk result (λ answer. (F : Flat) → Represents self.old F
             → (G : Flat) × Case F (flat_step step.now) (flat_answer answer) G × Represents self.new G) }
         ensures err { OnErr result (self.new ≡ self.old) }
@@ -99,13 +105,13 @@ impl World {
                 worker,
                 slot,
                 payload,
-            } => self.fill(alloc, *worker, *slot, payload),
-            Step::Trim { worker, slot } => self.trim(alloc, *worker, *slot),
+            } => self.fill(*worker, *slot, payload),
+            Step::Trim { worker, slot } => self.trim(*worker, *slot),
             Step::Copy {
                 worker,
                 slot,
                 block,
-            } => self.copy(alloc, *worker, *slot, *block),
+            } => self.copy(*worker, *slot, *block),
             Step::Commit {
                 worker,
                 slot,
@@ -116,20 +122,40 @@ impl World {
             Step::ReadAt { record } => self.read_at(alloc, *record),
             Step::Make { class, members } => self.make(alloc, *class, members),
             Step::Unmake { worker, group } => self.unmake(alloc, *worker, *group),
-            Step::MoveExtent { group, member, to } => match self.move_extent(
-                alloc, *group, *member, *to,
-            ) {
+            Step::MoveExtent { group, member, to } => match self.move_extent(*group, *member, *to) {
                 Ok(()) => Ok(Answer::Shifted),
                 Err(refusal) => refused(refusal),
             },
+            Step::AddDrive => unreachable!(),
+            Step::Lose { drive: _ } => unreachable!(),
+        }
+    }
+}
+
+impl<D: HotSwap + Drop> World<D> {
+    /// Carries out a step that fits. It fails only if out of memory, and then nothing has changed.
+    pub fn step(&mut self, alloc: Global, step: &Step) -> Result<Answer, AllocError>
+        requires { FitsStep self.old.array.parts.groups step.now }
+        ensures ok { IfOk result (λ answer. (F : Flat) → Represents self.old F
+            → (G : Flat) × Case F (flat_step step.now) (flat_answer answer) G × Represents self.new G) }
+        ensures err { OnErr result (self.new ≡ self.old) }
+        ensures wants { OnErr result ((F : Flat) → Represents self.old F → IsWanted F (flat_step step.now)) }
+        ensures room { SameSizes self.old.array self.new.array }
+    {
+        match step {
             Step::AddDrive => self.add_drive(alloc),
             Step::Lose { drive } => Ok(self.lose(*drive)),
+            _ => self.step_fixed(alloc, step),
         }
     }
 }
 
 /// Runs a world over steps that fit it.
-pub fn run_steps(alloc: Global, mut world: World, steps: &[Step]) -> Result<Run, Stopped>
+pub fn run_steps<D: HotSwap + Drop>(
+    alloc: Global,
+    world: World<D>,
+    steps: &[Step],
+) -> Result<Run<D>, Stopped<D>>
     requires { All (FitsStep world.array.parts.groups) steps.now }
     ensures run { (F : Flat) → Represents world F → MatchResult result
         (λ run. (G : Flat) × TellingRun F (map flat_step steps.now) (map flat_answer run.answers.items) G × Represents run.world G × Stands run.world G)
@@ -155,6 +181,69 @@ pub fn run_steps(alloc: Global, mut world: World, steps: &[Step]) -> Result<Run,
     // Why it stopped.
     ensures stopped { IfErr result (λ stop. (stop.at ≡ 0 → stop.world ≡ world) × OfEach stop.world (IsStop steps.now stop.at)) }
 {
+    run_by::<D, AllSteps>(alloc, world, steps)
+}
+
+/// Runs a world over steps that fit it and neither add nor lose a drive. Its drives may be of any kind, also of one that fails
+/// spontaneously: a drive is then lost without a step that says so, and a unit that no drive can show any more is an answer Gone.
+pub fn run_fixed<D: Drive + Drop>(
+    alloc: Global,
+    world: World<D>,
+    steps: &[Step],
+) -> Result<Run<D>, Stopped<D>>
+    requires fits { All (FitsStep world.array.parts.groups) steps.now }
+    requires fixed { All SwapsNoDrive steps.now }
+    ensures { IsRunOf world steps.now result }
+{
+    run_by::<D, FixedDrives>(alloc, world, steps)
+}
+
+// How a run carries out a step, and which steps it takes.
+trait Carry<D: Drive> {
+    ghost takes: { Step → Type 0 };
+
+    fn carry(world: &mut World<D>, alloc: Global, step: &Step) -> Result<Answer, AllocError>
+        requires fits { FitsStep world.old.array.parts.groups step.now }
+        requires takes { Self.takes step.now }
+        ensures ok { IfOk result (λ answer. (F : Flat) → Represents world.old F
+            → (G : Flat) × Case F (flat_step step.now) (flat_answer answer) G × Represents world.new G) }
+        ensures err { OnErr result (world.new ≡ world.old) }
+        ensures wants { OnErr result ((F : Flat) → Represents world.old F → IsWanted F (flat_step step.now)) }
+        ensures room { SameSizes world.old.array world.new.array };
+}
+
+// A run of all steps.
+struct AllSteps;
+
+impl<D: HotSwap + Drop> Carry<D> for AllSteps {
+    ghost takes = { λ _. Unit {0} };
+
+    fn carry(world: &mut World<D>, alloc: Global, step: &Step) -> Result<Answer, AllocError> {
+        world.step(alloc, step)
+    }
+}
+
+// A run that neither adds nor loses a drive.
+struct FixedDrives;
+
+impl<D: Drive> Carry<D> for FixedDrives {
+    ghost takes = { SwapsNoDrive };
+
+    fn carry(world: &mut World<D>, alloc: Global, step: &Step) -> Result<Answer, AllocError> {
+        world.step_fixed(alloc, step)
+    }
+}
+
+// Runs a world over steps, one after the other.
+fn run_by<D: Drive + Drop, S: Carry<D>>(
+    alloc: Global,
+    mut world: World<D>,
+    steps: &[Step],
+) -> Result<Run<D>, Stopped<D>>
+    requires fits { All (FitsStep world.array.parts.groups) steps.now }
+    requires takes { All S.takes steps.now }
+    ensures { IsRunOf world steps.now result }
+{
     world.whole();
     let mut answers = match Vec::with_capacity(alloc, steps.len()) {
         Ok(answers) => answers,
@@ -168,7 +257,7 @@ pub fn run_steps(alloc: Global, mut world: World, steps: &[Step]) -> Result<Run,
     };
     for (at, step) in steps.iter().enumerate() {
         world.whole();
-        match world.step(alloc, step) {
+        match S::carry(&mut world, alloc, step) {
             Ok(answer) => answers.push_reserved(answer),
             Err(_) => return Err(Stopped { world, answers, at }),
         }

@@ -1,4 +1,7 @@
 // Steps of a world, and their answers.
+ghost use Rattle.std.specs.Prelude.{◌↔◌, IsTrue};
+ghost use Rattle.step_core.specs.Told.{SwapsNoDrive};
+
 use disk_array::At;
 use flat_machine::{Class, Member, Refusal};
 use map_join::Record;
@@ -65,6 +68,15 @@ pub enum Step {
     Lose {
         drive: u8,
     },
+}
+
+impl Step {
+    /// Whether the step neither adds nor loses a drive.
+    pub fn swaps_no_drive(&self) -> bool
+        ensures { IsTrue result ↔ SwapsNoDrive self.now }
+    {
+        !matches!(self, Step::AddDrive | Step::Lose { drive: _ })
+    }
 }
 
 /// What a step answers.

@@ -6,10 +6,10 @@ ghost use Rattle.disk_array.specs.Laws.{world_itself, world_more};
 use crate::world::World;
 use array_parts::Units;
 use extent_groups::GroupTable;
-use extents::HEADER_BYTES;
+use extents::{Drive, HEADER_BYTES};
 use flat_machine::Refusal;
 
-impl Units for World {
+impl<D: Drive> Units for World<D> {
     ghost groups = { λ w. w.array.parts.groups };
 
     ghost cells = { λ w. cells_of w.array.parts };

@@ -13,11 +13,12 @@ use crate::step::Answer;
 use crate::world::{World, refused};
 use disk_array::Hands;
 use extent_groups::SLOTS;
+use extents::Drive;
 use flat_machine::Refusal;
 use slot_tables::Plain;
 use std::alloc::{AllocError, Global};
 
-impl World {
+impl<D: Drive> World<D> {
     /// Dissolves a group of which the worker holds all slots. Allocates a list of its claims.
     pub fn unmake(&mut self, alloc: Global, worker: u8, group: u16) -> Result<Answer, AllocError>
         ensures ok { IfOk result (λ answer. (F : Flat) → Represents self.old F

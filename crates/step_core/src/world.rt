@@ -16,7 +16,7 @@ ghost use Rattle.step_core.specs.Told.{flat_answer, read_answer};
 
 use crate::step::Answer;
 use disk_array::{Array, Hands};
-use extents::{MemDrive, Shape};
+use extents::{Drive, HotSwap, MemDrive, Shape};
 use flat_machine::{Class, Member, Refusal};
 use map_join::Record;
 use slot_tables::{Hand, Plain};
@@ -25,12 +25,12 @@ use std::marker::Model;
 
 /// An array of drives in memory, and of each slot what a worker has in hand.
 #[derive(Drop)]
-pub struct World {
-    pub(crate) array: Array<MemDrive, Plain>,
+pub struct World<D: Drive = MemDrive> {
+    pub(crate) array: Array<D, Plain>,
     pub(crate) hands: Hands,
 }
 
-impl Model for World {
+impl<D: Drive> Model for World<D> {
     ghost use Rattle.std.specs.Prelude.{◌≡◌, length};
     ghost use Rattle.slot_tables.specs.Views.{WorldView};
 
@@ -57,9 +57,11 @@ impl World {
             Err(_) => Err(Refusal::Memory),
         }
     }
+}
 
+impl<D: Drive> World<D> {
     /// The array, for the calls that only read it.
-    pub fn array(&self) -> &Array<MemDrive, Plain>
+    pub fn array(&self) -> &Array<D, Plain>
         ensures { result.now ≡ self.now.array }
     {
         &self.array
@@ -123,13 +125,7 @@ impl World {
     }
 
     /// Fills a slot that the worker holds. It allocates nothing, and never runs out of memory.
-    pub fn fill(
-        &mut self,
-        alloc: Global,
-        worker: u8,
-        slot: u16,
-        payload: &[u8],
-    ) -> Result<Answer, AllocError>
+    pub fn fill(&mut self, worker: u8, slot: u16, payload: &[u8]) -> Result<Answer, AllocError>
         requires { length payload.now ≡ self.old.array.parts.groups.payload }
         ensures ok { IfOk result (λ answer. (F : Flat) → Represents self.old F
             → (G : Flat) × Case F (say.Fill worker slot (Payload payload.now)) (flat_answer answer) G × Represents self.new G) }
@@ -141,7 +137,7 @@ impl World {
         if !self.holds(worker, slot) {
             return Ok(Answer::NotHeld(slot));
         }
-        match self.array.fill(alloc, Plain { slot }, payload) {
+        match self.array.fill(Plain { slot }, payload) {
             Ok(ticket) => {
                 self.hands.keep(worker, ticket);
                 Ok(Answer::Filled(slot))
@@ -151,7 +147,7 @@ impl World {
     }
 
     /// Fills a slot that the worker holds with a trim. It allocates nothing, and never runs out of memory.
-    pub fn trim(&mut self, alloc: Global, worker: u8, slot: u16) -> Result<Answer, AllocError>
+    pub fn trim(&mut self, worker: u8, slot: u16) -> Result<Answer, AllocError>
         ensures ok { IfOk result (λ answer. (F : Flat) → Represents self.old F
             → (G : Flat) × Case F (say.Fill worker slot Trim) (flat_answer answer) G × Represents self.new G) }
         ensures succeeds { IsOk result }
@@ -162,7 +158,7 @@ impl World {
         if !self.holds(worker, slot) {
             return Ok(Answer::NotHeld(slot));
         }
-        match self.array.trim(alloc, Plain { slot }) {
+        match self.array.trim(Plain { slot }) {
             Ok(ticket) => {
                 self.hands.keep(worker, ticket);
                 Ok(Answer::Filled(slot))
@@ -172,13 +168,7 @@ impl World {
     }
 
     /// Copies what a block holds into a slot that the worker holds. It allocates nothing, and never runs out of memory.
-    pub fn copy(
-        &mut self,
-        alloc: Global,
-        worker: u8,
-        slot: u16,
-        block: u32,
-    ) -> Result<Answer, AllocError>
+    pub fn copy(&mut self, worker: u8, slot: u16, block: u32) -> Result<Answer, AllocError>
         requires { block < self.old.array.parts.groups.blocks }
         ensures ok { IfOk result (λ answer. (F : Flat) → Represents self.old F
             → (G : Flat) × Case F (say.Copy worker slot block) (flat_answer answer) G × Represents self.new G) }
@@ -190,7 +180,7 @@ impl World {
         if !self.holds(worker, slot) {
             return Ok(Answer::NotHeld(slot));
         }
-        match self.array.copy(alloc, Plain { slot }, block) {
+        match self.array.copy(Plain { slot }, block) {
             Ok(ticket) => {
                 self.hands.keep(worker, ticket);
                 Ok(Answer::Copied(slot))
@@ -310,7 +300,9 @@ impl World {
             Err(refusal) => refused(refusal),
         }
     }
+}
 
+impl<D: HotSwap> World<D> {
     /// Loses a drive from outside; refused where there is none of that number.
     pub fn lose(&mut self, drive: u8) -> Answer
         ensures flat { (F : Flat) → Represents self.old F
@@ -323,7 +315,9 @@ impl World {
         self.array.lose(drive);
         Answer::Lost(drive)
     }
+}
 
+impl World {
     /// Makes a drive fail at its `calls`-th read or write from now (1 = the next) and at all later ones.
     /// Until then the drive isn't steady and answers as before.
     pub fn fuse(&mut self, drive: u8, calls: u64)

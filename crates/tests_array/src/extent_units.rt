@@ -86,7 +86,7 @@ fn a_member_that_moves_takes_the_units_of_no_slot_along(rt: HostRuntime) {
         drive: 3,
         extent: 1,
     };
-    assert!(rt; rig.array.move_extent(rig.alloc, 0, 2, to).is_ok());
+    assert!(rt; rig.array.move_extent(0, 2, to).is_ok());
     let mut stop = Stop::of(&rt, rig);
     assert!(rt; stop.holds(&rt, 3, FIRST, [0; UNIT]) && stop.holds(&rt, 3, SECOND, unit));
 }

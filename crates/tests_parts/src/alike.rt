@@ -7,7 +7,7 @@ use crate::plain::PlainDrive;
 use crate::rig::{SIZE, byte_at, fill_from, is_of, is_slot, members_on, zeros};
 use array_parts::{Parts, Units};
 use extent_groups::{Class, GroupTable, are_there, put_check};
-use extents::{Drive, ExtentTable, HEADER_BYTES, MemDrive, Shape};
+use extents::{Drive, ExtentTable, HEADER_BYTES, HotSwap, MemDrive, Shape};
 use flat_machine::Refusal;
 use std::alloc::Global;
 use std::process::Abort;

@@ -88,7 +88,7 @@ fn fill(rt: &impl Abort, alloc: Global, array: &mut Memory, claim: Plain) -> Tic
     assert!(rt; array.shape().payload == 24);
     let mut payload = [0; 24];
     fill_from(&mut payload, 0x11);
-    let Ok(ticket) = array.fill(alloc, claim, &payload) else {
+    let Ok(ticket) = array.fill(claim, &payload) else {
         panic!(rt; "not filled")
     };
     ticket
@@ -108,7 +108,7 @@ fn commit(
 /// The refusal of a copy of block 3 to a slot, and the claim that it returns.
 fn copy(rt: &impl Abort, alloc: Global, array: &mut Memory, slot: u16) -> (Refusal, Plain) {
     assert!(rt; array.shape().blocks == 16);
-    let Err(refused) = array.copy(alloc, Plain { slot }, 3) else {
+    let Err(refused) = array.copy(Plain { slot }, 3) else {
         panic!(rt; "copied")
     };
     refused

@@ -1,7 +1,8 @@
 // Tests of what no clause says, and each public call once.
 use crate::tables::shape_of;
 use extents::{
-    Drive, DriveLost, ExtentTable, Header, HeaderFault, Kind, MemDrive, Shape, ShapeRefusal,
+    Drive, DriveLost, ExtentTable, Header, HeaderFault, HotSwap, Kind, MemDrive, Shape,
+    ShapeRefusal,
 };
 use map_join::Record;
 use std::process::Abort;

@@ -10,7 +10,7 @@ ghost use Rattle.tests_stores.specs.declared.recorded.Recorder.{Recorder};
 use crate::rig::{SIZE, across, is_slot, make};
 use crate::tables::shape_of;
 use extent_groups::{Class, GroupTable, Planned};
-use extents::{Drive, DriveLost, ExtentTable, MemDrive, Shape};
+use extents::{Drive, DriveLost, ExtentTable, HotSwap, MemDrive, Shape};
 use std::alloc::{AllocError, Global};
 use std::process::Abort;
 use std::sync::atomic::AtomicU64;

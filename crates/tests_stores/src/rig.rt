@@ -10,7 +10,7 @@ ghost use Rattle.extent_groups.specs.Stores.{IsSlotOf, AreDrives};
 
 use crate::tables::shape_of;
 use extent_groups::{Class, GroupTable, Member, SLOTS, StoreRefusal, are_there, wipe_extent};
-use extents::{Drive, ExtentTable, HEADER_BYTES, MemDrive, Shape};
+use extents::{Drive, ExtentTable, HEADER_BYTES, HotSwap, MemDrive, Shape};
 use std::alloc::{AllocError, Global};
 use std::process::Abort;
 

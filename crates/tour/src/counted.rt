@@ -3,7 +3,7 @@ ghost use Rattle.std.specs.Prelude.{◌≡◌, true};
 ghost use Rattle.extents.specs.Condition.{is_gone};
 ghost use Rattle.extents.specs.Units.{IsSized};
 
-use extents::{Drive, DriveLost, MemDrive};
+use extents::{Drive, DriveLost, HotSwap, MemDrive};
 
 /// A drive, and how many reads and writes it was asked for.
 #[derive(Drop)]

@@ -78,7 +78,7 @@ impl<D: Drive + Drop> Volume<D> {
     pub(crate) fn write(&mut self, slot: u16, block: u32, payload: &[u8; 8]) -> Result<Record> {
         ensure!(self.array.shape().payload == 8, "another length");
         let seat = self.desk.take(slot).context("the claim is out")?;
-        let filled = self.array.fill(self.alloc, seat, payload);
+        let filled = self.array.fill(seat, payload);
         self.commit(filled, block)
     }
 
@@ -86,14 +86,14 @@ impl<D: Drive + Drop> Volume<D> {
     pub(crate) fn copy(&mut self, slot: u16, block: u32) -> Result<Record> {
         ensure!(block < self.array.shape().blocks, "no such block");
         let seat = self.desk.take(slot).context("the claim is out")?;
-        let copied = self.array.copy(self.alloc, seat, block);
+        let copied = self.array.copy(seat, block);
         self.commit(copied, block)
     }
 
     /// Trims a block, with its record at a slot.
     pub(crate) fn trim(&mut self, slot: u16, block: u32) -> Result<Record> {
         let seat = self.desk.take(slot).context("the claim is out")?;
-        let trimmed = self.array.trim(self.alloc, seat);
+        let trimmed = self.array.trim(seat);
         self.commit(trimmed, block)
     }
 

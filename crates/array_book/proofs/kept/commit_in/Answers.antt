@@ -8,7 +8,8 @@ use Rattle.slot_tables.specs.Views.{ArrayView}
 use Rattle.background.specs.Marking.{IsNoted}
 use Rattle.array_book.specs.Kept.{KeptView}
 use Rattle.array_book.proofs.Answering.{state_of, may_refused}
-use Rattle.array_book.proofs.Shown.{kept_with, kept_committed, noted_of, ticket_of_some, refused_shown, refused_still, emitted_written}
+use Rattle.step_core.proofs.Placing.{refused_still}
+use Rattle.array_book.proofs.Shown.{kept_with, kept_committed, noted_of, ticket_of_some, refused_shown, emitted_written}
 use Rattle.array_book.proofs.kept.commit_in.Goals as goal
 
 pub invariant_of-kept : goal.invariant_of-kept

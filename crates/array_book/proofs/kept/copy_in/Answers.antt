@@ -1,47 +1,6 @@
-use Rattle.std.proofs.Common.{◌≡◌, ℕ, refl, sym, ap, ◌∙◌, subst}
-use Rattle.flat_machine.specs.Flat.{Worker, IsKept}
-use Rattle.slot_tables.specs.Represents.{ShowsArray}
-use Rattle.slot_tables.specs.Views.{ArrayView}
-use Rattle.slot_tables.proofs.OneMore.{shows_one_more, holds_one_more}
-use Rattle.step_core.specs.Claimed.{with_claim}
-use Rattle.array_book.specs.Kept.{KeptView}
-use Rattle.array_book.specs.Kept as book
-use Rattle.array_book.proofs.Answering.{copy_answered}
-use Rattle.array_book.proofs.Shown.{kept_with, still_of, CopyTells, copy_shown, copy_still, copy_not_used, err_as}
+use Rattle.array_book.proofs.Named.{copy_told}
 use Rattle.array_book.proofs.kept.copy_in.Goals as goal
-
-pub invariant_of-kept : goal.invariant_of-kept
-invariant_of-kept g c =
-    let k = c.kept.invariant in
-    let a = c.apart_from.new.self in
-    let s = c.apart_from.new.claim.0.slot in
-    let F = with_claim k.flat s 0 in
-    let shows : ShowsArray a F = subst (λ (v : ArrayView). ShowsArray v F) (sym c.apart_from.ensures.same.0) (shows_one_more c.kept.inside.array k.flat s 0 k.shows) in
-    kept_with _ _ _ _ k (still_of c.kept.inside.array a c.copy.new.self c.apart_from.ensures.same.0
-    (copy_still _ _ c.copy.result c.apart_from.new.claim a c.copy.new.self c.copy.ensures.ticket c.copy.ensures.err)) refl
-    (copy_shown c.copy.result c.apart_from.new.claim a c.copy.new.self F 0 s c.args.block shows c.copy.ensures.err (c.copy.ensures.flat F 0 shows (holds_one_more k.flat s 0)))
 
 pub returns-clause-flat : goal.returns-clause-flat
 returns-clause-flat g c F w shows held =
-    let slot : c.apart_from.new.claim.0.slot ≡ c.args.claim.0.slot = ap (λ x. x.0.slot) c.apart_from.ensures.same.1 in
-    let array : c.args.kept.now.array ≡ c.apart_from.new.self = ap (λ (k : KeptView). k.array) (sym c.kept.view_is) ∙ sym c.apart_from.ensures.same.0 in
-    subst (λ (s : ℕ). CopyTells c.copy.result F w c.args.block c.copy.new.self s) slot
-    (c.copy.ensures.flat F w (subst (λ (a : ArrayView). ShowsArray a F) array shows) (ap (λ n. F.held n (Worker w)) slot ∙ held))
-
-pub returns-clause-err : goal.returns-clause-err
-returns-clause-err g c =
-    let k = c.kept.invariant in
-    let a = c.apart_from.new.self in
-    let s = c.apart_from.new.claim.0.slot in
-    let F = with_claim k.flat s 0 in
-    let before = shows_one_more c.kept.inside.array k.flat s 0 k.shows in
-    let shows : ShowsArray a F = subst (λ (v : ArrayView). ShowsArray v F) (sym c.apart_from.ensures.same.0) before in
-    let slot : c.args.claim.0.slot ≡ s = ap (λ x. x.0.slot) (sym c.apart_from.ensures.same.1) in
-    let told = copy_not_used c.copy.result c.apart_from.new.claim a c.copy.new.self F 0 s c.args.block (subst (λ (n : ℕ). IsKept F n → ⊥) slot (c.apart_from.ensures.flat F before))
-    c.copy.ensures.err (c.copy.ensures.flat F 0 shows (holds_one_more k.flat s 0)) in
-    err_as c.copy.result _ _ a c.args.kept.now.array c.copy.new.self c.apart_from.ensures.same.1 (c.apart_from.ensures.same.0 ∙ ap (λ (k : KeptView). k.array) c.kept.view_is) told
-
-pub returns-clause-copied : goal.returns-clause-copied
-returns-clause-copied g c =
-    let is = subst (book.IsKept g.N.Sizes.blocks g.N.Sizes.payload) c.kept.view_is c.kept.invariant in
-    copy_answered _ _ c.copy.result c.args.kept.now c.copy.new.self c.args.claim.0.slot c.args.block is (returns-clause-flat g c)
+    copy_told c.put_in.result F w c.args.claim.0.slot c.args.block c.put_in.new.kept.array c.put_in.ensures.memory c.put_in.ensures.ticket (c.put_in.ensures.flat F w shows held)

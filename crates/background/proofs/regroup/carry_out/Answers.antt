@@ -2,10 +2,10 @@ use Rattle.background.proofs.Regrouping.{not_moved, shift_done, shift_refused}
 use Rattle.background.proofs.regroup.carry_out.Goals as goal
 
 pub returns-in-Ok-clause-ok : goal.returns-in-Ok-clause-ok
-returns-in-Ok-clause-ok c = (shift_done c.args.world.now c.move_extent.new.self c.args.shift c.in-Ok.ensures.flat).ok
+returns-in-Ok-clause-ok g c = (shift_done c.args.world.now c.move_extent.new.self c.args.shift c.in-Ok.ensures.flat).ok
 
 pub returns-in-Err : goal.returns-in-Err
-returns-in-Err c =
+returns-in-Err g c =
     let told = shift_refused c.args.world.now c.move_extent.new.self c.args.shift c.in-Err.refusal c.refused.result c.refused.ensures.ok c.refused.ensures.err
     c.in-Err.ensures.err c.in-Err.ensures.flat
     in

@@ -6,7 +6,7 @@ use Rattle.background.proofs.Regrouping.{rebuild_of, all_rebuilt, all_wanted}
 use Rattle.background.proofs.regroup.rebuild.Goals as goal
 
 pub returns-in-Some-clause-ok : goal.returns-in-Some-clause-ok
-returns-in-Some-clause-ok c =
+returns-in-Some-clause-ok g c =
     let v = c.args.world.now in
     let drive = c.args.drive in
     let plan = subst (λ (o : Option Shift). (lost : List Bool) × AreLostOf v.array.parts lost × IsRebuild v.array.parts.owners v.array.parts.groups lost drive o) c.in-Some.is c.plan_rebuild.ensures.plan in
@@ -16,7 +16,7 @@ returns-in-Some-clause-ok c =
     (λ F rep. rebuild_of v F c.plan_rebuild.ensures.whole rep plan.0 drive (Some c.in-Some.shift) plan.1 plan.2) c.carry_out.ensures.ok
 
 pub returns-in-Some-clause-wants : goal.returns-in-Some-clause-wants
-returns-in-Some-clause-wants c =
+returns-in-Some-clause-wants g c =
     let v = c.args.world.now in
     let drive = c.args.drive in
     let plan = subst (λ (o : Option Shift). (lost : List Bool) × AreLostOf v.array.parts lost × IsRebuild v.array.parts.owners v.array.parts.groups lost drive o) c.in-Some.is c.plan_rebuild.ensures.plan in

@@ -1,10 +1,10 @@
 use Rattle.flat_machine.specs.Steps as s
 use Rattle.script_syntax.specs.Order as o
-use Rattle.script_exec.proofs.Carried.{told_step}
+use Rattle.script_exec.proofs.Carried.{told_noted}
 use Rattle.script_exec.proofs.carry.claim.Goals as goal
 
 pub returns-clause-carried : goal.returns-clause-carried
 returns-clause-carried c =
-    told_step c.put_answer.result c.args.bench.now _ (o.Claim c.args.worker c.args.slot)
-    (s.Claim c.args.worker c.args.slot) _ _ _ tt c.put_answer.ensures.told
-    (λ P stands. c.claim-answer.ensures.flat P.tiers.flat stands.tiers.world) c.claim-answer.ensures.room (λ P text t steps. steps)
+    told_noted c.put_answer.result c.args.bench.now _ (o.Claim c.args.worker c.args.slot)
+    (s.Claim c.args.worker c.args.slot) _ _ _ c.put_answer.ensures.told
+    c.claim-answer.ensures.flat (λ P text t steps. steps)

@@ -4,6 +4,6 @@ use Rattle.script_exec.proofs.Carried.{told_tier}
 use Rattle.script_exec.proofs.carry.demote.Goals as goal
 
 pub returns-clause-carried : goal.returns-clause-carried
-returns-clause-carried c =
-    told_tier c.put_outcome.result c.args.bench.now c.demote.new.self (o.Demote c.args.worker) (tier.Demote c.args.worker) c.in_ok-outcome.outcome _ _ c.put_outcome.ensures.told
-    c.in_ok-outcome.ensures.ok (λ P text t steps. steps)
+returns-clause-carried c w =
+    told_tier c.put_outcome.result c.args.bench.now c.demote.new.self (o.Demote w) (tier.Demote w) c.in_ok-outcome.outcome _ _ c.put_outcome.ensures.told
+    (c.in_ok-outcome.ensures.ok w) (λ P text t steps. steps)

@@ -4,6 +4,6 @@ use Rattle.script_exec.proofs.Carried.{told_tier}
 use Rattle.script_exec.proofs.carry.plug.Goals as goal
 
 pub returns-clause-carried : goal.returns-clause-carried
-returns-clause-carried c =
-    told_tier c.put_outcome.result c.args.bench.now c.plug.new.self (o.Plug c.args.worker) (tier.Plug c.args.worker) c.in_ok-outcome.outcome _ _ c.put_outcome.ensures.told
-    c.in_ok-outcome.ensures.ok (λ P text t steps. steps)
+returns-clause-carried c w =
+    told_tier c.put_outcome.result c.args.bench.now c.plug.new.self (o.Plug w) (tier.Plug w) c.in_ok-outcome.outcome _ _ c.put_outcome.ensures.told
+    (c.in_ok-outcome.ensures.ok w) (λ P text t steps. steps)

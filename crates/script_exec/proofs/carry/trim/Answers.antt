@@ -5,6 +5,6 @@ use Rattle.script_exec.proofs.Carried.{told_tier}
 use Rattle.script_exec.proofs.carry.trim.Goals as goal
 
 pub returns-clause-carried : goal.returns-clause-carried
-returns-clause-carried c =
-    told_tier c.put_outcome.result c.args.bench.now c.write.new.self (o.Trim c.args.worker c.args.block) (tier.Write c.args.worker c.args.block Trim) c.in_ok-outcome.outcome _ _ c.put_outcome.ensures.told
-    c.in_ok-outcome.ensures.ok (λ P text t steps. steps)
+returns-clause-carried c w =
+    told_tier c.put_outcome.result c.args.bench.now c.write.new.self (o.Trim w c.args.block) (tier.Write w c.args.block Trim) c.in_ok-outcome.outcome _ _ c.put_outcome.ensures.told
+    (c.in_ok-outcome.ensures.ok w) (λ P text t steps. steps)

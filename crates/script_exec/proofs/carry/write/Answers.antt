@@ -5,6 +5,6 @@ use Rattle.script_exec.proofs.Carried.{told_tier}
 use Rattle.script_exec.proofs.carry.write.Goals as goal
 
 pub returns-clause-carried : goal.returns-clause-carried
-returns-clause-carried c =
-    told_tier c.put_outcome.result c.args.bench.now c.write.new.self (o.Write c.args.worker c.args.block c.args.payload.now) (tier.Write c.args.worker c.args.block (Payload c.args.payload.now)) c.in_ok-outcome.outcome _ _ c.put_outcome.ensures.told
-    c.in_ok-outcome.ensures.ok (λ P text t steps. steps)
+returns-clause-carried c w =
+    told_tier c.put_outcome.result c.args.bench.now c.write.new.self (o.Write w c.args.block c.args.payload.now) (tier.Write w c.args.block (Payload c.args.payload.now)) c.in_ok-outcome.outcome _ _ c.put_outcome.ensures.told
+    (c.in_ok-outcome.ensures.ok w) (λ P text t steps. steps)

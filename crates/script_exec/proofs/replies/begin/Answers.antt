@@ -4,7 +4,7 @@ use Rattle.extent_groups.specs.Groups.{Groups}
 use Rattle.flat_machine.specs.Flat.{new_flat}
 use Rattle.background.specs.Tiered.{begun}
 use Rattle.background.specs.Stands.{StandsFor}
-use Rattle.background.specs.declared.tiers.Tiers.{Tiers}
+use Rattle.background.specs.Views.{TiersView}
 use Rattle.script_exec.specs.State.{State, nothing_taken}
 use Rattle.script_exec.proofs.replies.begin.Goals as goal
 
@@ -36,7 +36,7 @@ returns-clause-replied c =
           state_is = ap (begun_state groups) some.0;
         };
         stands = record {
-          tiers = subst (λ (t : Tiers). StandsFor t (begun (new_flat groups c.in-Some.drives (nat_le c.in-Some.drives) (λ _. no_failures)))) (sym c.new-3.ensures.tiers)
+          tiers = subst (λ (t : TiersView). StandsFor t (begun (new_flat groups c.in-Some.drives (nat_le c.in-Some.drives) (λ _. no_failures)))) (sym c.new-3.ensures.tiers)
               (c.in_ok-tiers.ensures.ok _ c.in-Ok.ensures.ok);
           maps = c.new-3.ensures.maps;
         };

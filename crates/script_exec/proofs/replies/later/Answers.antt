@@ -1,6 +1,6 @@
 use Rattle.std.proofs.Common.{◌≤◌, length, arith, ap, sym, ◌∙◌, refl, rules, Some}
 use Rattle.extent_groups.specs.Groups.{Groups}
-use Rattle.step_core.specs.Views.{ArrayView}
+use Rattle.step_core.specs.Views.{ArrayView, WorldView}
 use Rattle.script_syntax.specs.Order.{order_of}
 use Rattle.script_exec.proofs.Said.{buffer_size, unsaid, replied}
 use Rattle.script_exec.proofs.replies.later.Goals as goal
@@ -8,7 +8,7 @@ use Rattle.script_exec.proofs.replies.later.Goals as goal
 pub returns-then-not-branch-clause-replied : goal.returns-then-not-branch-clause-replied
 returns-then-not-branch-clause-replied c P stands =
     let stand = rw c.in-Some.is at stands in
-    let groups = stand.tiers.world.array.tables.groups ∙ ap (λ (a : ArrayView). a.parts.groups) (sym c.array.ensures) in
+    let groups = stand.tiers.world.array.tables.groups ∙ ap (λ (w : WorldView). w.array.parts.groups) (sym c.world.ensures) ∙ ap (λ (a : ArrayView). a.parts.groups) (sym c.array.ensures) in
     let size = ap (λ (z : Groups). z.payload) groups ∙ sym c.shape-shape.ensures.of_payload in
     let room : c.shape-shape.result.payload ≤ length c.args.payload.now = omega arith in
     unsaid P _ c.args.line.now c.args.out.now.items
@@ -18,7 +18,7 @@ returns-then-not-branch-clause-replied c P stands =
 pub returns-clause-replied : goal.returns-clause-replied
 returns-clause-replied c P stands =
     let stand = rw c.in-Some.is at stands in
-    let groups = stand.tiers.world.array.tables.groups ∙ ap (λ (a : ArrayView). a.parts.groups) (sym c.array.ensures) in
+    let groups = stand.tiers.world.array.tables.groups ∙ ap (λ (w : WorldView). w.array.parts.groups) (sym c.world.ensures) ∙ ap (λ (a : ArrayView). a.parts.groups) (sym c.array.ensures) in
     let size = ap (λ (z : Groups). z.payload) groups ∙ sym c.shape-shape.ensures.of_payload in
     let room : c.shape-shape.result.payload ≤ length c.args.payload.now = omega arith in
     let bytes = c.read_command.new.payload in

@@ -1,14 +1,20 @@
+use Rattle.std.proofs.Common.{sym}
+use Rattle.background.specs.Views.{TiersView}
 use Rattle.background.proofs.Standing.{cleans, cleans_nothing}
 use Rattle.background.proofs.Stopping.{stops_clean}
 use Rattle.background.proofs.tiers.Tiers.clean.Goals as goal
 
 pub returns-in-Some-clause-ok : goal.returns-in-Some-clause-ok
-returns-in-Some-clause-ok c =
-    cleans c.args.self.now c.append.new.self c.array.result.now c.args.worker c.in-Some.plan c.append.result c.array.ensures c.in-Some.ensures.plan c.append.ensures.ok
+returns-in-Some-clause-ok g c w =
+    let t : TiersView = record { world = c.self.inside.world; planner = c.self.inside.planner; hints = c.self.inside.hints } in
+    rw (sym c.self.view_is) (cleans t c.append.new.self c.array.result.now w c.in-Some.plan c.append.result c.array.ensures c.in-Some.ensures.plan (rw (sym c.self.view_is) at (c.append.ensures.ok w)))
 
 pub returns-in-Some-clause-err : goal.returns-in-Some-clause-err
-returns-in-Some-clause-err c =
-    stops_clean c.args.self.now c.append.new.self c.array.result.now c.args.worker c.in-Some.plan c.append.result c.array.ensures c.in-Some.ensures.plan c.append.ensures.err
+returns-in-Some-clause-err g c w =
+    let t : TiersView = record { world = c.self.inside.world; planner = c.self.inside.planner; hints = c.self.inside.hints } in
+    rw (sym c.self.view_is) (stops_clean t c.append.new.self c.array.result.now w c.in-Some.plan c.append.result c.array.ensures c.in-Some.ensures.plan (rw (sym c.self.view_is) at (c.append.ensures.err w)))
 
 pub returns-in-None-clause-ok : goal.returns-in-None-clause-ok
-returns-in-None-clause-ok c = cleans_nothing c.args.self.now c.array.result.now c.args.worker c.array.ensures c.in-None.ensures.plan
+returns-in-None-clause-ok g c w =
+    let t : TiersView = record { world = c.self.inside.world; planner = c.self.inside.planner; hints = c.self.inside.hints } in
+    rw (sym c.self.view_is) (cleans_nothing t c.array.result.now w c.array.ensures c.in-None.ensures.plan)

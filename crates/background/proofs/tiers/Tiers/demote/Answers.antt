@@ -1,33 +1,34 @@
-use Rattle.std.proofs.Common.{Some, None}
+use Rattle.std.proofs.Common.{sym, Some, None}
+use Rattle.background.specs.Views.{TiersView}
 use Rattle.background.proofs.Standing.{demotes, demotes_nothing, demotes_nowhere, oldest_is}
 use Rattle.background.proofs.Stopping.{stops_demote}
 use Rattle.background.proofs.tiers.Tiers.demote.Goals as goal
 
 pub returns-in_default-clause-ok : goal.returns-in_default-clause-ok
-returns-in_default-clause-ok c =
-    let t = c.args.self.now in
+returns-in_default-clause-ok g c w =
+    let t : TiersView = record { world = c.self.inside.world; planner = c.self.inside.planner; hints = c.self.inside.hints } in
     let array = c.array-array in
-    demotes_nothing t c.oldest_mirrored.new.self c.args.worker c.oldest_mirrored.ensures.same (oldest_is t array.result.now None array.ensures c.in_default.ensures.oldest)
+    rw (sym c.self.view_is) (demotes_nothing t c.oldest_mirrored.new.self w c.oldest_mirrored.ensures.same (oldest_is t array.result.now None array.ensures c.in_default.ensures.oldest))
 
 pub returns-in_default-next_append-clause-ok : goal.returns-in_default-next_append-clause-ok
-returns-in_default-next_append-clause-ok c =
-    let t = c.args.self.now in
+returns-in_default-next_append-clause-ok g c w =
+    let t : TiersView = record { world = c.self.inside.world; planner = c.self.inside.planner; hints = c.self.inside.hints } in
     let array = c.array-array in
-    demotes_nowhere t c.oldest_mirrored.new.self array.result.now c.args.worker c.in-Some.block array.ensures c.oldest_mirrored.ensures.same
-    (oldest_is t array.result.now (Some c.in-Some.block) array.ensures c.in-Some.ensures.oldest) c.in_default-next_append.ensures
+    rw (sym c.self.view_is) (demotes_nowhere t c.oldest_mirrored.new.self array.result.now w c.in-Some.block array.ensures c.oldest_mirrored.ensures.same
+    (oldest_is t array.result.now (Some c.in-Some.block) array.ensures c.in-Some.ensures.oldest) c.in_default-next_append.ensures)
 
 pub returns-clause-ok : goal.returns-clause-ok
-returns-clause-ok c =
-    let t = c.args.self.now in
+returns-clause-ok g c w =
+    let t : TiersView = record { world = c.self.inside.world; planner = c.self.inside.planner; hints = c.self.inside.hints } in
     let array = c.array-array in
-    demotes t c.append.new.self c.oldest_mirrored.new.self array.result.now c.args.worker c.in-Some.block c.in-Some-next_append.slot c.append.result
+    rw (sym c.self.view_is) (demotes t c.append.new.self c.oldest_mirrored.new.self array.result.now w c.in-Some.block c.in-Some-next_append.slot c.append.result
     array.ensures c.oldest_mirrored.ensures.same (oldest_is t array.result.now (Some c.in-Some.block) array.ensures c.in-Some.ensures.oldest)
-    c.in-Some-next_append.ensures c.append.ensures.ok
+    c.in-Some-next_append.ensures (c.append.ensures.ok w))
 
 pub returns-clause-err : goal.returns-clause-err
-returns-clause-err c =
-    let t = c.args.self.now in
+returns-clause-err g c w =
+    let t : TiersView = record { world = c.self.inside.world; planner = c.self.inside.planner; hints = c.self.inside.hints } in
     let array = c.array-array in
-    stops_demote t c.append.new.self c.oldest_mirrored.new.self array.result.now c.args.worker c.in-Some.block c.in-Some-next_append.slot c.append.result
+    rw (sym c.self.view_is) (stops_demote t c.append.new.self c.oldest_mirrored.new.self array.result.now w c.in-Some.block c.in-Some-next_append.slot c.append.result
     array.ensures c.oldest_mirrored.ensures.same (oldest_is t array.result.now (Some c.in-Some.block) array.ensures c.in-Some.ensures.oldest)
-    c.in-Some-next_append.ensures c.append.ensures.err
+    c.in-Some-next_append.ensures (c.append.ensures.err w))

@@ -6,7 +6,7 @@ use Rattle.background.proofs.Standing.{begins}
 use Rattle.background.proofs.tiers.Tiers.new.Goals as goal
 
 pub returns-clause-ok : goal.returns-clause-ok
-returns-clause-ok c F rep =
+returns-clause-ok g c F rep =
     let array = ap (λ (a : ArrayView). a.parts.groups.blocks) c.array.ensures in
     let new = c.in_ok-planner.ensures in
     let p = c.in_ok-planner.planner in

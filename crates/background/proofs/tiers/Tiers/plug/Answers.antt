@@ -1,14 +1,20 @@
+use Rattle.std.proofs.Common.{sym}
+use Rattle.background.specs.Views.{TiersView}
 use Rattle.background.proofs.Standing.{plugs, plugs_nothing}
 use Rattle.background.proofs.Stopping.{stops_plug}
 use Rattle.background.proofs.tiers.Tiers.plug.Goals as goal
 
 pub returns-in-Some-clause-ok : goal.returns-in-Some-clause-ok
-returns-in-Some-clause-ok c =
-    plugs c.args.self.now c.put.new.self c.array.result.now c.args.worker c.in-Some.plan c.put.result c.array.ensures c.in-Some.ensures.plan c.put.ensures.ok
+returns-in-Some-clause-ok g c w =
+    let t : TiersView = record { world = c.self.inside.world; planner = c.self.inside.planner; hints = c.self.inside.hints } in
+    rw (sym c.self.view_is) (plugs t c.put.new.self c.array.result.now w c.in-Some.plan c.put.result c.array.ensures c.in-Some.ensures.plan (rw (sym c.self.view_is) at (c.put.ensures.ok w)))
 
 pub returns-in-Some-clause-err : goal.returns-in-Some-clause-err
-returns-in-Some-clause-err c =
-    stops_plug c.args.self.now c.put.new.self c.array.result.now c.args.worker c.in-Some.plan c.put.result c.array.ensures c.in-Some.ensures.plan c.put.ensures.err
+returns-in-Some-clause-err g c w =
+    let t : TiersView = record { world = c.self.inside.world; planner = c.self.inside.planner; hints = c.self.inside.hints } in
+    rw (sym c.self.view_is) (stops_plug t c.put.new.self c.array.result.now w c.in-Some.plan c.put.result c.array.ensures c.in-Some.ensures.plan (rw (sym c.self.view_is) at (c.put.ensures.err w)))
 
 pub returns-in-None-clause-ok : goal.returns-in-None-clause-ok
-returns-in-None-clause-ok c = plugs_nothing c.args.self.now c.array.result.now c.args.worker c.array.ensures c.in-None.ensures.plan
+returns-in-None-clause-ok g c w =
+    let t : TiersView = record { world = c.self.inside.world; planner = c.self.inside.planner; hints = c.self.inside.hints } in
+    rw (sym c.self.view_is) (plugs_nothing t c.array.result.now w c.array.ensures c.in-None.ensures.plan)

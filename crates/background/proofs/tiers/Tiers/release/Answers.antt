@@ -1,7 +1,10 @@
+use Rattle.std.proofs.Common.{sym}
+use Rattle.background.specs.Views.{TiersView}
 use Rattle.background.proofs.Standing.{releases}
 use Rattle.background.proofs.tiers.Tiers.release.Goals as goal
 
 pub returns-clause-flat : goal.returns-clause-flat
-returns-clause-flat c =
+returns-clause-flat g c =
     let a = c.args in
-    releases a.self.now c.release-answer.new.self c.add.new.self a.worker a.slot c.release-answer.result c.release-answer.ensures.flat c.add.ensures.here c.add.ensures.others
+    let t : TiersView = record { world = c.self.inside.world; planner = c.self.inside.planner; hints = c.self.inside.hints } in
+    rw (sym c.self.view_is) (releases t c.release-answer.new.self c.add.new.self a.worker a.slot c.release-answer.result c.release-answer.ensures.flat c.add.ensures.here c.add.ensures.others)

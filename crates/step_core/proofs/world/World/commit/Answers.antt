@@ -15,7 +15,7 @@ use Rattle.step_core.proofs.Refusals.{was_refused, refused_same, refused_sizes}
 use Rattle.step_core.proofs.world.World.commit.Goals as goal
 
 pub returns-in-Ok-clause-ok : goal.returns-in-Ok-clause-ok
-returns-in-Ok-clause-ok c F rep =
+returns-in-Ok-clause-ok g c F rep =
     let w = c.args.worker in
     let s = c.args.slot in
     let b = c.args.block in
@@ -35,7 +35,7 @@ returns-in-Ok-clause-ok c F rep =
     (λ _. ap (λ n. F.held n (Ticket w)) c.in-Some.ensures.1 ∙ mine))))
 
 pub returns-in-Err : goal.returns-in-Err
-returns-in-Err c =
+returns-in-Err g c =
     let w = c.args.worker in
     let s = c.args.slot in
     let b = c.args.block in

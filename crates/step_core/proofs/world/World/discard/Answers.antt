@@ -12,7 +12,7 @@ use Rattle.step_core.proofs.Worlds.{hands_held, discard_world}
 use Rattle.step_core.proofs.world.World.discard.Goals as goal
 
 pub returns-in-Ok-clause-flat : goal.returns-in-Ok-clause-flat
-returns-in-Ok-clause-flat c F rep =
+returns-in-Ok-clause-flat g c F rep =
     let w = c.args.worker in
     let s = c.args.slot in
     let v = c.args.self.now in

@@ -14,7 +14,7 @@ use Rattle.step_core.proofs.world.World.fill.Goals as goal
 use Rattle.extent_groups.specs.Groups.{Groups}
 
 pub returns-in-Ok-clause-ok : goal.returns-in-Ok-clause-ok
-returns-in-Ok-clause-ok c F rep =
+returns-in-Ok-clause-ok g c F rep =
     let w = c.args.worker in
     let s = c.args.slot in
     let x = Payload c.args.payload.now in
@@ -26,7 +26,7 @@ returns-in-Ok-clause-ok c F rep =
     ((rep.hands s).claims w ∙ held)))
 
 pub returns-in-Err : goal.returns-in-Err
-returns-in-Err c =
+returns-in-Err g c =
     let w = c.args.worker in
     let s = c.args.slot in
     let a = c.fill.new.self in

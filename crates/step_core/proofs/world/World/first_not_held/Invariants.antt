@@ -5,4 +5,4 @@ use Rattle.slot_tables.proofs.Shutting.{is_first}
 use Rattle.step_core.proofs.world.World.first_not_held.Given as goal
 
 abbrev pub invariant-loop-index : goal.invariant-loop-index
-invariant-loop-index l = (slot : ℕ) → is_first l.fn.group l.index slot ≡ true → is_claim (hand_at l.self.hands slot) l.fn.worker ≡ true
+invariant-loop-index g l = (slot : ℕ) → is_first l.fn.group l.index slot ≡ true → is_claim (hand_at l.self.hands slot) l.fn.worker ≡ true

@@ -8,7 +8,7 @@ use Rattle.step_core.proofs.Worlds.{lose_world}
 use Rattle.step_core.proofs.world.World.lose.Goals as goal
 
 pub returns-clause-flat : goal.returns-clause-flat
-returns-clause-flat c F rep =
+returns-clause-flat g c F rep =
     let d = c.args.drive in
     let v = c.args.self.now in
     let p = c.lose.new.self.parts in

@@ -7,7 +7,7 @@ use Rattle.step_core.proofs.world.World.make.Goals as goal
 use Rattle.step_core.proofs.world.World.make.Goals.{in-Ok, in-Err}
 
 pub returns : goal.returns
-returns c =
+returns g c =
     let v = c.args.self.now in
     let a = c.make_group.new.self in
     let class = c.args.class in

@@ -8,7 +8,7 @@ use Rattle.step_core.proofs.world.World.read_at.Goals as goal
 use Rattle.step_core.proofs.world.World.read_at.Goals.{in-Ok, in-Err}
 
 pub returns : goal.returns
-returns c =
+returns g c =
     let v = c.args.self.now in
     let a = c.read_at.new.self in
     let asked = c.args.asked in

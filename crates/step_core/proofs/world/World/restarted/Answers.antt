@@ -6,13 +6,13 @@ use Rattle.step_core.proofs.Restarting.{has_parts, never_refused, tells_map, wor
 use Rattle.step_core.proofs.world.World.restarted.Goals as goal
 
 pub returns-in-Ok-clause-ok : goal.returns-in-Ok-clause-ok
-returns-in-Ok-clause-ok c F stands map =
+returns-in-Ok-clause-ok g c F stands map =
     let shows : ShowsArray c.self.inside.array F = subst (λ (w : WorldView). ShowsArray w.array F) (sym c.self.view_is) stands.array in
     world_restarted c.args.self F (at c.args.map) c.in-Ok.array c.at_rest.result c.at_rest.ensures.array c.in-Ok.ensures.ok.log
     (c.in-Ok.ensures.flat F (has_parts c.self.inside.array F shows) (tells_map c.self.inside.array F (at c.args.map) shows map))
     (λ G showing idle. c.at_rest.ensures.flat G showing idle)
 
 pub returns-in-Err-clause-err : goal.returns-in-Err-clause-err
-returns-in-Err-clause-err c F stands map =
+returns-in-Err-clause-err g c F stands map =
     let shows : ShowsArray c.self.inside.array F = subst (λ (w : WorldView). ShowsArray w.array F) (sym c.self.view_is) stands.array in
     never_refused _ c.self.inside.array F (at c.args.map) c.in-Err.why shows map c.in-Err.ensures.err

@@ -13,7 +13,7 @@ use Rattle.step_core.proofs.Refusals.{answered, array_refused, refused_same, ref
 use Rattle.step_core.proofs.world.World.trim.Goals as goal
 
 pub returns-in-Ok-clause-ok : goal.returns-in-Ok-clause-ok
-returns-in-Ok-clause-ok c F rep =
+returns-in-Ok-clause-ok g c F rep =
     let w = c.args.worker in
     let s = c.args.slot in
     let x = Trim in
@@ -25,7 +25,7 @@ returns-in-Ok-clause-ok c F rep =
     ((rep.hands s).claims w ∙ held)))
 
 pub returns-in-Err : goal.returns-in-Err
-returns-in-Err c =
+returns-in-Err g c =
     let w = c.args.worker in
     let s = c.args.slot in
     let a = c.trim.new.self in

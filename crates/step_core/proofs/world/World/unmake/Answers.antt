@@ -10,13 +10,13 @@ use Rattle.disk_array.proofs.Closing.{on_err, unmake_wants, first_stray, workers
 use Rattle.step_core.proofs.world.World.unmake.Goals as goal
 
 pub returns-in-Some-first_not_held-clause-ok : goal.returns-in-Some-first_not_held-clause-ok
-returns-in-Some-first_not_held-clause-ok c F rep =
+returns-in-Some-first_not_held-clause-ok g c F rep =
     let v = c.args.self.now in
     let first : IsFirstNotHeld v.hands c.args.worker c.args.group (count_in v.array c.args.group) c.in-Some-first_not_held.slot = search rules in
     (F, (first_stray v F c.args.worker c.args.group rep c.in-Some-first_not_held.slot first, itself F), rep)
 
 pub returns-in_err-claims-clause-wants : goal.returns-in_err-claims-clause-wants
-returns-in_err-claims-clause-wants c = on_err c.from_residual.result (λ F rep.
+returns-in_err-claims-clause-wants g c = on_err c.from_residual.result (λ F rep.
     let v = c.args.self.now in
     let g = c.args.group in
     let w = c.args.worker in
@@ -25,7 +25,7 @@ returns-in_err-claims-clause-wants c = on_err c.from_residual.result (λ F rep.
     unmake_wants v F w g rep made (subst (λ n. (slot : ℕ) → 0 < one_of g n slot → is_claim (hand_at v.hands slot) w ≡ true) count c.in_default-first_not_held.ensures))
 
 pub returns-in-Ok-clause-ok : goal.returns-in-Ok-clause-ok
-returns-in-Ok-clause-ok c F rep =
+returns-in-Ok-clause-ok g c F rep =
     let v = c.args.self.now in
     let g = c.args.group in
     let w = c.args.worker in

@@ -5,10 +5,10 @@ use Rattle.step_core.specs.Headline.{StepsTo}
 use Rattle.step_core.specs.Told.{flat_answer, flat_step}
 use Rattle.slot_tables.specs.Represents.{Represents}
 use Rattle.slot_tables.specs.Views.{SameSizes}
-use Rattle.step_core.proofs.run.run_steps.Given as goal
+use Rattle.step_core.proofs.run.run_by.Given as goal
 
 abbrev pub invariant-loop-at : goal.invariant-loop-at
-invariant-loop-at l = record {
+invariant-loop-at g l = record {
   runs : (F : Flat) → Represents l.fn.world F
       → (G : Flat) × (StandingRun F (map flat_step (take l.at l.steps)) (map flat_answer l.answers.items) G) × (Represents l.world G);
   worlds : StepsTo l.fn.world (take l.at l.steps) l.answers.items l.world;

@@ -1,0 +1,74 @@
+-- Steps after which what is kept next to the world is as it was.
+use Rattle.std.proofs.Common.{◌≡◌, ℕ, refl, sym, subst, Result, Ok, Err, inl, inr}
+use Rattle.std.specs.Prelude.{IfOk}
+use Rattle.flat_machine.specs.Flat.{Flat}
+use Rattle.flat_machine.specs.Steps.{FlatStep, FlatAnswer, MovedExtent}
+use Rattle.flat_machine.specs.Steps as step
+use Rattle.flat_machine.specs.Cases.{Case, Leaves}
+use Rattle.slot_tables.specs.Views.{WorldView}
+use Rattle.slot_tables.specs.Represents.{Represents}
+use Rattle.slot_tables.proofs.Fares.{itself}
+use Rattle.step_core.specs.declared.step.Answer.{Answer}
+use Rattle.step_core.specs.Told.{flat_answer}
+use Rattle.rebalancer.specs.declared.shift.Shift.{Shift}
+use Rattle.background.specs.Regrouping.{ShiftCase, BalanceCase, RebuildCase}
+use Rattle.background.specs.Stands.{StandsFor}
+use Rattle.background.specs.Steps.{StepNoted}
+use Rattle.background.specs.Tiered.{Tiered}
+use Rattle.background.specs.Views.{TiersView}
+use Rattle.background.specs.declared.regrouped.Regrouped.{Regrouped}
+use Rattle.background.specs.declared.regrouped.Regrouped.TheVariants.{Moved, Refused, Nothing}
+use Rattle.background.proofs.Emitting.{IsCalm}
+use Rattle.background.proofs.Moving.{stands_shifted}
+use Rattle.background.proofs.Standing.{stands_with, stands_left}
+
+-- a step of the world is one of the whole
+pub steps_with : (t : TiersView) (v : WorldView) (taken : FlatStep) (answer : FlatAnswer) → IsCalm taken
+    → ((F : Flat) → Represents t.world F → (G : Flat) × Case F taken answer G × Represents v G)
+    → (T : Tiered) → StandsFor t T → (U : Tiered) × StepNoted T taken answer U × StandsFor (record t { world = v }) U
+steps_with t v taken answer calm takes T stands =
+    let done = takes T.flat stands.world in
+    (record T { flat = done.0 }, (done.0, done.1, refl), stands_with t v T done.0 taken answer calm stands done.2 done.1)
+
+-- so is one of a call that may fail
+pub steps_if : {E : Type 0} (t : TiersView) (v : WorldView) (taken : FlatStep) (r : Result Answer E) → IsCalm taken
+    → IfOk r (λ a. (F : Flat) → Represents t.world F → (G : Flat) × Case F taken (flat_answer a) G × Represents v G)
+    → IfOk r (λ a. (T : Tiered) → StandsFor t T → (U : Tiered) × StepNoted T taken (flat_answer a) U × StandsFor (record t { world = v }) U)
+steps_if t v taken (Ok a) calm takes = steps_with t v taken (flat_answer a) calm takes
+steps_if t v taken (Err e) calm takes = tt
+
+module _ (t : TiersView) (v : WorldView) (T : Tiered) (G : Flat) (stands : StandsFor t T) (rep : Represents v G) where
+  same : G ≡ T.flat → StandsFor (record t { world = v }) (record T { flat = G })
+  same is = stands_left t v T G stands rep (subst (Leaves T.flat) (sym is) (itself T.flat))
+
+  shifted : (s : Shift) (outcome : Regrouped) → ShiftCase T.flat s outcome G → StandsFor (record t { world = v }) (record T { flat = G })
+  shifted s (Moved m) case = stands_shifted t v T G s.group s.member s.to MovedExtent stands rep case.1
+  shifted s (Refused r) case = stands_shifted t v T G s.group s.member s.to (step.Refused r) stands rep case
+  shifted s Nothing case = absurd case
+
+  -- what is kept next to the world represents the state after either plan
+  balanced : (outcome : Regrouped) → BalanceCase T.flat outcome G → StandsFor (record t { world = v }) (record T { flat = G })
+  balanced Nothing case = same case.1
+  balanced (Moved m) case = shifted case.0 (Moved m) case.2
+  balanced (Refused r) case = shifted case.0 (Refused r) case.2
+
+  rebuilt : (drive : ℕ) (outcome : Regrouped) → RebuildCase T.flat drive outcome G → StandsFor (record t { world = v }) (record T { flat = G })
+  rebuilt drive Nothing case = same case.2
+  rebuilt drive (Moved m) case = shifted case.1.0 (Moved m) case.1.2
+  rebuilt drive (Refused r) (inl none) = same none.2
+  rebuilt drive (Refused r) (inr there) = shifted there.1.0 (Refused r) there.1.2
+
+-- a plan that was carried out on the world was carried out on the whole
+pub balances : {E : Type 0} (t : TiersView) (v : WorldView) (r : Result Regrouped E)
+    → IfOk r (λ outcome. (F : Flat) → Represents t.world F → (G : Flat) × BalanceCase F outcome G × Represents v G)
+    → IfOk r (λ outcome. (T : Tiered) → StandsFor t T → (G : Flat) × BalanceCase T.flat outcome G × StandsFor (record t { world = v }) (record T { flat = G }))
+balances t v (Ok outcome) takes = λ T stands.
+    let done = takes T.flat stands.world in (done.0, done.1, balanced t v T done.0 stands done.2 outcome done.1)
+balances t v (Err e) takes = tt
+
+pub rebuilds : {E : Type 0} (t : TiersView) (v : WorldView) (drive : ℕ) (r : Result Regrouped E)
+    → IfOk r (λ outcome. (F : Flat) → Represents t.world F → (G : Flat) × RebuildCase F drive outcome G × Represents v G)
+    → IfOk r (λ outcome. (T : Tiered) → StandsFor t T → (G : Flat) × RebuildCase T.flat drive outcome G × StandsFor (record t { world = v }) (record T { flat = G }))
+rebuilds t v drive (Ok outcome) takes = λ T stands.
+    let done = takes T.flat stands.world in (done.0, done.1, rebuilt t v T done.0 stands done.2 drive outcome done.1)
+rebuilds t v drive (Err e) takes = tt

@@ -1,0 +1,206 @@
+-- Making room and writing while there is room, as their cases.
+use Rattle.std.proofs.Common.{◌≡◌, ℕ, inl, inr, refl, sym, ◌∙◌, ap, subst, Option, Some, None, Result, Ok, Err}
+use Rattle.std.specs.Prelude.{IfOk, OnErr}
+use Rattle.extent_groups.specs.Groups.{Groups}
+use Rattle.flat_machine.specs.Flat.{Content}
+use Rattle.slot_tables.specs.Views.{ArrayView, key_at}
+use Rattle.slot_tables.proofs.Hands.{free_iff}
+use Rattle.migrator.specs.First.{IsFirst, IsFreeParity}
+use Rattle.background.specs.Tiered.{Tiered}
+use Rattle.background.specs.Placing.{Fresh, Again}
+use Rattle.background.specs.Steps.{AppendsAt, MovesTo, WritesAt, PutStops}
+use Rattle.background.specs.Room.{IsHole, RoomCase, RoomStops, AlwaysCase, AlwaysStops, IsWayOut, AfterRoom}
+use Rattle.background.specs.Stands.{StandsFor}
+use Rattle.background.specs.Inside.{IsFreeHere}
+use Rattle.background.specs.Planning.{IsNextAppend}
+use Rattle.background.specs.declared.planner.Planner.{Planner}
+use Rattle.background.specs.declared.outcome.Outcome.{Outcome}
+use Rattle.background.specs.declared.outcome.Outcome.TheVariants.{NoRoom, Nothing}
+use Rattle.background.specs.Views.{TiersView}
+use Rattle.background.proofs.Standing.{map_of, groups_of, OldestIs, append_is, first_as, FirstFree, FindsAgain}
+use Rattle.background.proofs.Stopping.{StopsAgain}
+
+-- the lowest hole that the tables show is that of the state
+pub hole_is : (t : TiersView) (z : Groups) (T : Tiered) (hole : Option ℕ) → z ≡ t.world.array.parts.groups → StandsFor t T
+    → IsFirst (IsFreeParity z (IsFreeHere t.world)) hole → IsFirst (IsHole T) hole
+hole_is t z T hole groups stands h =
+    let same : z ≡ T.flat.groups = groups ∙ sym (groups_of t T stands) in
+    let here = subst (λ g. IsFirst (IsFreeParity g (IsFreeHere t.world)) hole) same h in
+    first_as (IsFreeParity T.flat.groups (IsFreeHere t.world)) (IsHole T) hole
+    (λ s. ((λ x. (x.0, (free_iff t.world T.flat s stands.world).0 x.1)), (λ x. (x.0, (free_iff t.world T.flat s stands.world).1 x.1)))) here
+
+module _ (t : TiersView) (p : Planner) (a : ArrayView) (w b : ℕ) (array : a ≡ t.world.array) (planner : p ≡ t.planner) (oldest : OldestIs t (Some b)) where
+  stands_so : (T : Tiered) → StandsFor t T → StandsFor (record t { planner = p }) T
+  stands_so T stands = subst (λ (q : Planner). StandsFor (record t { planner = q }) T) (sym planner) stands
+
+  -- where the log goes on
+  pub rooms_on : {E : Type 0} (u : TiersView) (s : ℕ) (r : Result Outcome E) → IsNextAppend a p (IsFreeHere t.world) (Some s)
+      → IfOk r (λ o. (T : Tiered) → StandsFor (record t { planner = p }) T → (U : Tiered) × AppendsAt T w b s o U × StandsFor u U)
+      → IfOk r (λ o. (T : Tiered) → StandsFor t T → (U : Tiered) × RoomCase T w o U × StandsFor u U)
+  rooms_on u s (Err e) next done = tt
+  rooms_on u s (Ok o) next done = λ T stands.
+      let d = done T (stands_so T stands) in (
+        d.0,
+        record {
+          keys = key_at t.world.array;
+          map_of = map_of t T stands;
+          chosen = Some b;
+          oldest = oldest T stands;
+          done = inl (record { slot = s; first = append_is t p a T (Some s) array planner stands next; done = d.1 });
+        },
+        d.2,
+      )
+
+  -- into a hole, or nowhere
+  pub rooms_aside : {E : Type 0} (u : TiersView) (z : Groups) (s : ℕ) (r : Result Outcome E) → z ≡ a.parts.groups → IsNextAppend a p (IsFreeHere t.world) None
+      → IsFirst (IsFreeParity z (IsFreeHere t.world)) (Some s)
+      → IfOk r (λ o. (T : Tiered) → StandsFor (record t { planner = p }) T → (U : Tiered) × MovesTo T w b s o U × StandsFor u U)
+      → IfOk r (λ o. (T : Tiered) → StandsFor t T → (U : Tiered) × RoomCase T w o U × StandsFor u U)
+  rooms_aside u z s (Err e) groups next hole done = tt
+  rooms_aside u z s (Ok o) groups next hole done = λ T stands.
+      let d = done T (stands_so T stands) in (
+        d.0,
+        record {
+          keys = key_at t.world.array;
+          map_of = map_of t T stands;
+          chosen = Some b;
+          oldest = oldest T stands;
+          done = inr (record {
+            nowhere = append_is t p a T None array planner stands next;
+            hole = Some s;
+            first = hole_is t z T (Some s) (groups ∙ ap (λ (x : ArrayView). x.parts.groups) array) stands hole;
+            done = d.1;
+          });
+        },
+        d.2,
+      )
+
+  pub rooms_nowhere : (z : Groups) → z ≡ a.parts.groups → IsNextAppend a p (IsFreeHere t.world) None → IsFirst (IsFreeParity z (IsFreeHere t.world)) None
+      → (T : Tiered) → StandsFor t T → (U : Tiered) × RoomCase T w NoRoom U × StandsFor (record t { planner = p }) U
+  rooms_nowhere z groups next hole T stands = (
+    T,
+    record {
+      keys = key_at t.world.array;
+      map_of = map_of t T stands;
+      chosen = Some b;
+      oldest = oldest T stands;
+      done = inr (record {
+        nowhere = append_is t p a T None array planner stands next;
+        hole = None;
+        first = hole_is t z T None (groups ∙ ap (λ (x : ArrayView). x.parts.groups) array) stands hole;
+        done = record { told = refl; same = refl };
+      });
+    },
+    stands_so T stands,
+  )
+
+  -- out of memory in the put
+  room_stops : {E : Type 0} (u : TiersView) (s : ℕ) (r : Result Outcome E) → ((T : Tiered) → StandsFor t T → IsWayOut T (key_at t.world.array) s)
+      → OnErr r ((T : Tiered) → StandsFor (record t { planner = p }) T → (U : Tiered) × PutStops T w Again b s U × StandsFor u U)
+      → OnErr r ((T : Tiered) → StandsFor t T → (U : Tiered) × RoomStops T w U × StandsFor u U)
+  room_stops u s (Ok o) way stopped = tt
+  room_stops u s (Err e) way stopped = λ T stands.
+      let d = stopped T (stands_so T stands) in (
+        d.0,
+        record {
+          keys = key_at t.world.array;
+          map_of = map_of t T stands;
+          block = b;
+          oldest = oldest T stands;
+          slot = s;
+          way = way T stands;
+          stops = d.1;
+        },
+        d.2,
+      )
+
+  pub stops_on : {E : Type 0} (u : TiersView) (s : ℕ) (r : Result Outcome E) → IsNextAppend a p (IsFreeHere t.world) (Some s)
+      → OnErr r ((T : Tiered) → StandsFor (record t { planner = p }) T → (U : Tiered) × PutStops T w Again b s U × StandsFor u U)
+      → OnErr r ((T : Tiered) → StandsFor t T → (U : Tiered) × RoomStops T w U × StandsFor u U)
+  stops_on u s r next stopped = room_stops u s r (λ T stands. inl (append_is t p a T (Some s) array planner stands next)) stopped
+
+  pub stops_aside : {E : Type 0} (u : TiersView) (z : Groups) (s : ℕ) (r : Result Outcome E) → z ≡ a.parts.groups → IsNextAppend a p (IsFreeHere t.world) None
+      → IsFirst (IsFreeParity z (IsFreeHere t.world)) (Some s)
+      → OnErr r ((T : Tiered) → StandsFor (record t { planner = p }) T → (U : Tiered) × PutStops T w Again b s U × StandsFor u U)
+      → OnErr r ((T : Tiered) → StandsFor t T → (U : Tiered) × RoomStops T w U × StandsFor u U)
+  stops_aside u z s r groups next hole stopped =
+      room_stops u s r
+      (λ T stands. inr (
+        append_is t p a T None array planner stands next,
+        hole_is t z T (Some s) (groups ∙ ap (λ (x : ArrayView). x.parts.groups) array) stands hole,
+      )) stopped
+
+pub rooms_nothing : (t : TiersView) (p : Planner) (w : ℕ) → p ≡ t.planner → OldestIs t None
+    → (T : Tiered) → StandsFor t T → (U : Tiered) × RoomCase T w Nothing U × StandsFor (record t { planner = p }) U
+rooms_nothing t p w planner oldest T stands = (
+  T,
+  record {
+    keys = key_at t.world.array;
+    map_of = map_of t T stands;
+    chosen = None;
+    oldest = oldest T stands;
+    done = record { told = refl; same = refl };
+  },
+  subst (λ (q : Planner). StandsFor (record t { planner = q }) T) (sym planner) stands,
+)
+
+-- the ways of a write
+pub always_here : {E : Type 0} (t m u : TiersView) (w b s : ℕ) (x : Content) (r : Result Outcome E) → FirstFree t m (Some s)
+    → IfOk r (λ o. (T : Tiered) → StandsFor m T → (U : Tiered) × WritesAt T w b x s o U × StandsFor u U)
+    → IfOk r (λ o. (T : Tiered) → StandsFor t T → (U : Tiered) × AlwaysCase T w b x o U × StandsFor u U)
+always_here t m u w b s x (Err e) first done = tt
+always_here t m u w b s x (Ok o) first done = λ T stands.
+    let f = first T stands in
+    let d = done T f.1 in (d.0, record { slot = Some s; first = f.0; done = d.1 }, d.2)
+
+module _ (t m v : TiersView) (w b : ℕ) (x : Content) (none : FirstFree t m None) where
+  -- what making room leaves, from what was kept after the search
+  abbrev pub Made : Outcome → Type 0
+  Made o = (T : Tiered) → StandsFor m T → (V : Tiered) × RoomCase T w o V × StandsFor v V
+
+  always_after : (u : TiersView) (moved o : Outcome) → Made moved
+      → ((V : Tiered) → StandsFor v V → (U : Tiered) × AfterRoom V w b x moved o U × StandsFor u U)
+      → (T : Tiered) → StandsFor t T → (U : Tiered) × AlwaysCase T w b x o U × StandsFor u U
+  always_after u moved o out after T stands =
+      let f = none T stands in
+      let d = out T f.1 in
+      let a = after d.0 d.2 in
+      (a.0, record { slot = None; first = f.0; done = record { moved = moved; between = d.0; out = d.1; done = a.1 } }, a.2)
+
+  pub always_behind : {E : Type 0} (u : TiersView) (moved : Outcome) (r : Result Outcome E) → ((o : Outcome) → FindsAgain v u w b x o
+      → (V : Tiered) → StandsFor v V → (U : Tiered) × AfterRoom V w b x moved o U × StandsFor u U)
+      → Made moved → IfOk r (FindsAgain v u w b x)
+      → IfOk r (λ o. (T : Tiered) → StandsFor t T → (U : Tiered) × AlwaysCase T w b x o U × StandsFor u U)
+  always_behind u moved (Err e) told out again = tt
+  always_behind u moved (Ok o) told out again = always_after u moved o out (told o again)
+
+  pub always_none : (moved o : Outcome) → ((V : Tiered) → AfterRoom V w b x moved o V) → Made moved
+      → (T : Tiered) → StandsFor t T → (U : Tiered) × AlwaysCase T w b x o U × StandsFor v U
+  always_none moved o stays out = always_after v moved o out (λ V stands. (V, stays V, stands))
+
+  pub always_stops_behind : {E : Type 0} (u : TiersView) (moved : Outcome) (r : Result Outcome E) → Made moved → OnErr r (StopsAgain v u w b x)
+      → OnErr r ((T : Tiered) → StandsFor t T → (U : Tiered) × AlwaysStops T w b x U × StandsFor u U)
+  always_stops_behind u moved (Ok o) out again = tt
+  always_stops_behind u moved (Err e) out again = λ T stands.
+      let f = none T stands in
+      let d = out T f.1 in
+      let a = again d.0 d.2 in (
+        a.2.0,
+        record { slot = None; first = f.0; stops = inr (record { moved = moved; between = d.0; out = d.1; slot = a.0; first = a.1; stops = a.2.1 }) },
+        a.2.2,
+      )
+
+pub always_stops_here : {E : Type 0} (t m u : TiersView) (w b s : ℕ) (x : Content) (r : Result Outcome E) → FirstFree t m (Some s)
+    → OnErr r ((T : Tiered) → StandsFor m T → (U : Tiered) × PutStops T w (Fresh x) b s U × StandsFor u U)
+    → OnErr r ((T : Tiered) → StandsFor t T → (U : Tiered) × AlwaysStops T w b x U × StandsFor u U)
+always_stops_here t m u w b s x (Ok o) first stopped = tt
+always_stops_here t m u w b s x (Err e) first stopped = λ T stands.
+    let f = first T stands in
+    let d = stopped T f.1 in (d.0, record { slot = Some s; first = f.0; stops = d.1 }, d.2)
+
+pub always_stops_out : (t m u : TiersView) (w b : ℕ) (x : Content) → FirstFree t m None
+    → ((T : Tiered) → StandsFor m T → (U : Tiered) × RoomStops T w U × StandsFor u U)
+    → (T : Tiered) → StandsFor t T → (U : Tiered) × AlwaysStops T w b x U × StandsFor u U
+always_stops_out t m u w b x none stopped T stands =
+    let f = none T stands in
+    let d = stopped T f.1 in (d.0, record { slot = None; first = f.0; stops = inl d.1 }, d.2)

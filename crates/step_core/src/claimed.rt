@@ -1,0 +1,92 @@
+// A block goes into a claimed slot of any array, in two calls, between which others may call the array: `put` and `finish`.
+ghost use Rattle.std.specs.Prelude.{◌≡◌, ◌≢◌, ℕ, ◌<◌, IfOk, IfErr, IfSome, MatchResult, true};
+ghost use Rattle.map_join.specs.Record.{record_at};
+ghost use Rattle.flat_machine.specs.Flat.{Flat, Worker};
+ghost use Rattle.slot_tables.specs.Changes.{IsPlaceOf};
+ghost use Rattle.slot_tables.specs.Represents.{ShowsArray};
+ghost use Rattle.slot_tables.specs.Views.{SameSizes, key_at};
+ghost use Rattle.disk_array.specs.Refused.{IsRefused};
+ghost use Rattle.step_core.specs.Placing.{Commits, Discards, GivesUp, IsStill, IsWhatFor, PutTells, block_for, put_for};
+
+use crate::place::Given;
+use disk_array::{Array, Done, Ticket};
+use extents::Drive;
+use flat_machine::Refusal;
+use slot_tables::Hold;
+use std::alloc::Global;
+
+/// What goes into a claimed slot.
+#[derive(Clone, Copy)]
+pub enum What<'a> {
+    /// A payload or a trim, which will be a block's next version.
+    Fresh(Given<'a>),
+    /// A copy of this block's last write, under its version.
+    CopyOf(u32),
+}
+
+/// Why a block wasn't put into a claimed slot, and the claim, if it came back.
+#[derive(Drop)]
+pub struct Denied<C: Hold> {
+    pub refusal: Refusal,
+    pub claim: Option<C>,
+}
+
+/// Puts a payload, a trim or a copy into a claimed slot, where it waits for its commit. It allocates nothing, and is refused as
+/// `Array::{fill, trim, copy}` are.
+pub fn put<D: Drive, C: Hold>(
+    array: &mut Array<D, C>,
+    claim: C,
+    what: What,
+) -> Result<Ticket, (Refusal, C)>
+    requires { IsWhatFor array.old.parts.groups.blocks array.old.parts.groups.payload what }
+    ensures ticket { IfOk result (λ ticket. ticket ≡ C.names claim) }
+    ensures err { IfErr result (λ e. (e.1 ≡ claim) × IsRefused array.old array.new e.0) }
+    ensures memory { IfErr result (λ e. e.0 ≢ Refusal.Memory) }
+    ensures flat { (F : Flat) (w : ℕ) → ShowsArray array.old F → F.held (C.names claim) (Worker w) ≡ true
+        → PutTells result F w (put_for what.entry) (C.names claim) (block_for what.entry) array.new }
+    ensures still { IsStill array.old array.new }
+    ensures room { SameSizes array.old array.new }
+{
+    match what {
+        What::Fresh(given) => match given {
+            Given::Payload(payload) => array.fill(claim, payload),
+            Given::Trim => array.trim(claim),
+        },
+        What::CopyOf(block) => array.copy(claim, block),
+    }
+}
+
+/// Commits what waits in a slot. If that is refused, the ticket is given up.
+pub fn finish<D: Drive, C: Hold>(
+    array: &mut Array<D, C>,
+    alloc: Global,
+    ticket: Ticket,
+    block: u32,
+) -> Result<Done<C>, Denied<C>>
+    requires { block < array.old.parts.groups.blocks }
+    ensures place { IfOk result (λ done. IsPlaceOf C.names done.old (record_at block (key_at array.old block))) }
+    ensures claim { IfErr result (λ e. IfSome e.claim (λ claim. C.names claim ≡ ticket)) }
+    ensures flat { MatchResult result (λ done. Commits array.old array.new ticket block done.emitted)
+        (λ e. GivesUp array.old array.new ticket block e.refusal) }
+    ensures room { SameSizes array.old array.new }
+{
+    match array.commit(alloc, ticket, block) {
+        Ok(done) => Ok(done),
+        Err((refusal, ticket)) => {
+            let claim = take_back(array, ticket);
+            Err(Denied { refusal, claim })
+        }
+    }
+}
+
+// Ends a ticket: the claim of its slot comes back.
+fn take_back<D: Drive, C: Hold>(array: &mut Array<D, C>, ticket: Ticket) -> Option<C>
+    ensures claim { IfSome result (λ claim. C.names claim ≡ ticket) }
+    ensures flat { Discards array.old array.new ticket }
+    ensures room { SameSizes array.old array.new }
+{
+    match array.discard(ticket) {
+        Ok(claim) => Some(claim),
+        Err(_) => None,
+    }
+}

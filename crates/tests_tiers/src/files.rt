@@ -1,0 +1,112 @@
+// Two levels over drives in files, which are closed and opened again.
+ghost use Rattle.std.specs.Prelude.{IsTrue};
+ghost use Rattle.array_parts.specs.Fit.{IsFit};
+
+use crate::rig::{demote, grouped, is_record, reads, shape_of, world_of, write};
+use array_parts::Parts;
+use background::Tiers;
+use extents::{Drive, Shape};
+use file_drive::{FileDrive, OnFile};
+use header_scan::restart;
+use std::alloc::{Alloc, Global};
+use std::fs::{File, Files, OpenOptions};
+use std::process::Abort;
+use step_core::{Array, Plain, World};
+
+type Filed = FileDrive<OnFile>;
+
+// The names of the drives' files.
+const NAMES: [&str; 4] = ["zero", "one", "two", "three"];
+
+// Makes a file of a drive's length, all zero.
+fn make_file(rt: &(impl Abort + Files<File = File>), name: &str, shape: &Shape) {
+    let bytes = shape.unit_bytes() as u64 * u64::from(shape.drive_units());
+    let opened = OpenOptions::new().write(true).create(true).truncate(true).open(rt, name);
+    let Ok(file) = opened else {
+        panic!(rt; "no file")
+    };
+    let sized = file.set_len(bytes).is_ok();
+    assert!(rt; sized);
+}
+
+// The drive that a file holds.
+fn open(rt: &(impl Abort + Files<File = File>), alloc: Global, name: &str, shape: &Shape) -> Filed {
+    let Ok(file) = OpenOptions::new().read(true).write(true).open(rt, name) else {
+        panic!(rt; "no file")
+    };
+    let Ok(drive) = FileDrive::open(alloc, shape, OnFile { file }) else {
+        panic!(rt; "no drive")
+    };
+    drive
+}
+
+fn open_all(rt: &(impl Abort + Files<File = File>), alloc: Global, shape: &Shape) -> Vec<Filed> {
+    let mut drives = Vec::new(alloc);
+    for name in NAMES {
+        let pushed = drives.push(open(rt, alloc, name, shape)).is_ok();
+        assert!(rt; pushed);
+    }
+    drives
+}
+
+// Writes blocks 3 and 5, demotes 3, writes 5 again, and trims nothing.
+fn use_all(rt: &(impl Abort + Files<File = File>), alloc: Global, tiers: &mut Tiers<Filed>) {
+    assert!(rt; is_record(write(rt, alloc, tiers, 3, [3, 1, 2, 3, 4, 5, 6, 7]), 3, 1, 0, 0));
+    assert!(rt; is_record(write(rt, alloc, tiers, 5, [5, 9, 8, 7, 6, 5, 4, 3]), 5, 1, 0, 1));
+    assert!(rt; is_record(demote(rt, alloc, tiers), 3, 1, 1, 128));
+    assert!(rt; is_record(write(rt, alloc, tiers, 5, [6, 6, 7, 7, 8, 8, 9, 9]), 5, 2, 0, 0));
+}
+
+fn holds_all(rt: &(impl Abort + Files<File = File>), tiers: &mut Tiers<Filed>) -> bool {
+    reads(rt, tiers, 3, 1, [3, 1, 2, 3, 4, 5, 6, 7]) && reads(rt, tiers, 5, 2, [6, 6, 7, 7, 8, 8, 9, 9])
+}
+
+// The array's parts over the same files, opened again, and the claims of the places.
+fn reopened(rt: &(impl Abort + Files<File = File>), alloc: Global, tiers: Tiers<Filed>) -> (Parts<Filed>, Vec<Plain>) {
+    let Ok((parts, claims)) = tiers.into_world().into_array().into_parts(alloc) else {
+        panic!(rt; "no memory")
+    };
+    let Parts { shape, groups, extents, drives, note } = parts;
+    for drive in drives {
+        assert!(rt; drive.close().is_ok());
+    }
+    let drives = open_all(rt, alloc, &shape);
+    (Parts { shape, groups, extents, drives, note }, claims)
+}
+
+fn are_fit<D: Drive>(parts: &Parts<D>) -> bool
+    ensures { IsTrue result → IsFit D.units parts.now }
+{
+    parts.is_fit()
+}
+
+fn restarted(rt: &(impl Abort + Files<File = File>), alloc: Global, parts: Parts<Filed>, claims: Vec<Plain>) -> Tiers<Filed> {
+    assert!(rt; are_fit(&parts));
+    let (array, _free): (Array<Filed, Plain>, Vec<Plain>) = match restart(alloc, parts, claims) {
+        Ok(made) => made,
+        Err(_) => panic!(rt; "no restart"),
+    };
+    let Ok(world) = World::of(alloc, array) else {
+        panic!(rt; "no world")
+    };
+    let Ok(tiers) = Tiers::new(alloc, world) else {
+        panic!(rt; "no tiers")
+    };
+    tiers
+}
+
+#[test]
+fn blocks_of_two_levels_are_read_from_files_that_were_closed(rt: HostRuntime) {
+    let alloc = rt.alloc();
+    let shape = shape_of(&rt);
+    for name in NAMES {
+        make_file(&rt, name, &shape);
+    }
+    let world = world_of(&rt, alloc, open_all(&rt, alloc, &shape));
+    let mut tiers = grouped(&rt, alloc, world);
+    use_all(&rt, alloc, &mut tiers);
+    assert!(rt; holds_all(&rt, &mut tiers));
+    let (parts, claims) = reopened(&rt, alloc, tiers);
+    let mut tiers = restarted(&rt, alloc, parts, claims);
+    assert!(rt; holds_all(&rt, &mut tiers));
+}

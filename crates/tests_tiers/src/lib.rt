@@ -1,0 +1,11 @@
+//! Two levels over drives of one's own: in files, and drives that count their calls.
+#![tactic(auto)]
+
+#[cfg(test)]
+mod counted;
+#[cfg(test)]
+mod files;
+#[cfg(test)]
+mod rig;
+#[cfg(test)]
+mod room;

@@ -1,0 +1,54 @@
+// Writes that find room up to the last slot but one.
+use crate::rig::{grouped, reads, world_of, shape_of};
+use background::{Outcome, Tiers};
+use extents::{HotSwap, MemDrive};
+use std::alloc::{Alloc, Global};
+use std::process::Abort;
+use step_core::Given;
+
+fn tiers_of(rt: &impl Abort, alloc: Global) -> Tiers {
+    let shape = shape_of(rt);
+    let mut drives = Vec::new(alloc);
+    for _made in 0..4 {
+        let Ok(drive) = MemDrive::fresh(alloc, &shape) else {
+            panic!(rt; "no drive")
+        };
+        let pushed = drives.push(drive).is_ok();
+        assert!(rt; pushed);
+    }
+    let world = world_of(rt, alloc, drives);
+    grouped(rt, alloc, world)
+}
+
+// What a write of a block answers that never gives up while there is room.
+fn write(rt: &impl Abort, alloc: Global, tiers: &mut Tiers, block: u32, payload: [u8; 8]) -> Outcome {
+    let shape = tiers.world().array().shape();
+    assert!(rt; block < shape.blocks);
+    assert!(rt; shape.payload == 8);
+    let Ok(outcome) = tiers.write_always(alloc, block, Given::Payload(&payload)) else {
+        panic!(rt; "no memory")
+    };
+    outcome
+}
+
+// Fourteen slots hold thirteen blocks, each written ten times over in an order that changes; the fourteenth block still finds a
+// slot, and the write after it doesn't.
+#[test]
+fn all_slots_but_one_can_be_written_over(rt: HostRuntime) {
+    let alloc = rt.alloc();
+    let mut tiers = tiers_of(&rt, alloc);
+    for round in 0..10u8 {
+        for turn in 0..13u8 {
+            let block = turn * (round % 5 + 1) % 13;
+            let outcome = write(&rt, alloc, &mut tiers, u32::from(block), [block, round, 1, 2, 3, 4, 5, 6]);
+            assert!(rt; matches!(outcome, Outcome::Placed(_)));
+        }
+    }
+    for block in 0..13u8 {
+        assert!(rt; reads(&rt, &mut tiers, u32::from(block), 10, [block, 9, 1, 2, 3, 4, 5, 6]));
+    }
+    let last = write(&rt, alloc, &mut tiers, 13, [13, 0, 1, 2, 3, 4, 5, 6]);
+    assert!(rt; matches!(last, Outcome::Placed(_)));
+    let full = write(&rt, alloc, &mut tiers, 0, [0, 10, 1, 2, 3, 4, 5, 6]);
+    assert!(rt; matches!(full, Outcome::NoRoom));
+}
