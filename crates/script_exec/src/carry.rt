@@ -298,18 +298,11 @@ fn write(
     ensures carried { (w : ℕ) → OnOk result (Carries bench.old bench.new (o.Write w block payload.now) out.old.items out.new.items) }
     ensures kept { IsPrefix out.old.items out.new.items }
 {
-    let outcome = bench
-        .tiers
-        .write(alloc, block, Given::Payload(payload))?;
+    let outcome = bench.tiers.write(alloc, block, Given::Payload(payload))?;
     put_outcome(out, outcome)
 }
 
-fn trim(
-    alloc: Global,
-    bench: &mut Bench,
-    block: u32,
-    out: &mut Vec<u8>,
-) -> Result<(), AllocError>
+fn trim(alloc: Global, bench: &mut Bench, block: u32, out: &mut Vec<u8>) -> Result<(), AllocError>
     requires { block < bench.old.tiers.world.array.parts.groups.blocks }
     ensures carried { (w : ℕ) → OnOk result (Carries bench.old bench.new (o.Trim w block) out.old.items out.new.items) }
     ensures kept { IsPrefix out.old.items out.new.items }

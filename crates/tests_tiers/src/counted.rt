@@ -104,8 +104,24 @@ fn opening(rt: &impl Abort, alloc: Global) -> Vec<Step> {
     push(rt, &mut steps, Step::Make { class, members });
     push(rt, &mut steps, Step::Claim { worker: 2, slot: 4 });
     let payload = payload(rt, alloc, 9);
-    push(rt, &mut steps, Step::Fill { worker: 2, slot: 4, payload });
-    push(rt, &mut steps, Step::Commit { worker: 2, slot: 4, block: 3 });
+    push(
+        rt,
+        &mut steps,
+        Step::Fill {
+            worker: 2,
+            slot: 4,
+            payload,
+        },
+    );
+    push(
+        rt,
+        &mut steps,
+        Step::Commit {
+            worker: 2,
+            slot: 4,
+            block: 3,
+        },
+    );
     push(rt, &mut steps, Step::Read { block: 3 });
     steps
 }

@@ -21,7 +21,11 @@ const NAMES: [&str; 4] = ["zero", "one", "two", "three"];
 // Makes a file of a drive's length, all zero.
 fn make_file(rt: &(impl Abort + Files<File = File>), name: &str, shape: &Shape) {
     let bytes = shape.unit_bytes() as u64 * u64::from(shape.drive_units());
-    let opened = OpenOptions::new().write(true).create(true).truncate(true).open(rt, name);
+    let opened = OpenOptions::new()
+        .write(true)
+        .create(true)
+        .truncate(true)
+        .open(rt, name);
     let Ok(file) = opened else {
         panic!(rt; "no file")
     };
@@ -51,27 +55,71 @@ fn open_all(rt: &(impl Abort + Files<File = File>), alloc: Global, shape: &Shape
 
 // Writes blocks 3 and 5, demotes 3, writes 5 again, and trims nothing.
 fn use_all(rt: &(impl Abort + Files<File = File>), alloc: Global, tiers: &mut Tiers<Filed>) {
-    assert!(rt; is_record(write(rt, alloc, tiers, 3, [3, 1, 2, 3, 4, 5, 6, 7]), 3, 1, 0, 0));
-    assert!(rt; is_record(write(rt, alloc, tiers, 5, [5, 9, 8, 7, 6, 5, 4, 3]), 5, 1, 0, 1));
+    assert!(rt;
+        is_record(
+            write(rt, alloc, tiers, 3, [3, 1, 2, 3, 4, 5, 6, 7]),
+            3,
+            1,
+            0,
+            0
+        )
+    );
+    assert!(rt;
+        is_record(
+            write(rt, alloc, tiers, 5, [5, 9, 8, 7, 6, 5, 4, 3]),
+            5,
+            1,
+            0,
+            1
+        )
+    );
     assert!(rt; is_record(demote(rt, alloc, tiers), 3, 1, 1, 128));
-    assert!(rt; is_record(write(rt, alloc, tiers, 5, [6, 6, 7, 7, 8, 8, 9, 9]), 5, 2, 0, 0));
+    assert!(rt;
+        is_record(
+            write(rt, alloc, tiers, 5, [6, 6, 7, 7, 8, 8, 9, 9]),
+            5,
+            2,
+            0,
+            0
+        )
+    );
 }
 
 fn holds_all(rt: &(impl Abort + Files<File = File>), tiers: &mut Tiers<Filed>) -> bool {
-    reads(rt, tiers, 3, 1, [3, 1, 2, 3, 4, 5, 6, 7]) && reads(rt, tiers, 5, 2, [6, 6, 7, 7, 8, 8, 9, 9])
+    reads(rt, tiers, 3, 1, [3, 1, 2, 3, 4, 5, 6, 7])
+        && reads(rt, tiers, 5, 2, [6, 6, 7, 7, 8, 8, 9, 9])
 }
 
 // The array's parts over the same files, opened again, and the claims of the places.
-fn reopened(rt: &(impl Abort + Files<File = File>), alloc: Global, tiers: Tiers<Filed>) -> (Parts<Filed>, Vec<Plain>) {
+fn reopened(
+    rt: &(impl Abort + Files<File = File>),
+    alloc: Global,
+    tiers: Tiers<Filed>,
+) -> (Parts<Filed>, Vec<Plain>) {
     let Ok((parts, claims)) = tiers.into_world().into_array().into_parts(alloc) else {
         panic!(rt; "no memory")
     };
-    let Parts { shape, groups, extents, drives, note } = parts;
+    let Parts {
+        shape,
+        groups,
+        extents,
+        drives,
+        note,
+    } = parts;
     for drive in drives {
         assert!(rt; drive.close().is_ok());
     }
     let drives = open_all(rt, alloc, &shape);
-    (Parts { shape, groups, extents, drives, note }, claims)
+    (
+        Parts {
+            shape,
+            groups,
+            extents,
+            drives,
+            note,
+        },
+        claims,
+    )
 }
 
 fn are_fit<D: Drive>(parts: &Parts<D>) -> bool
@@ -80,7 +128,12 @@ fn are_fit<D: Drive>(parts: &Parts<D>) -> bool
     parts.is_fit()
 }
 
-fn restarted(rt: &(impl Abort + Files<File = File>), alloc: Global, parts: Parts<Filed>, claims: Vec<Plain>) -> Tiers<Filed> {
+fn restarted(
+    rt: &(impl Abort + Files<File = File>),
+    alloc: Global,
+    parts: Parts<Filed>,
+    claims: Vec<Plain>,
+) -> Tiers<Filed> {
     assert!(rt; are_fit(&parts));
     let (array, _free): (Array<Filed, Plain>, Vec<Plain>) = match restart(alloc, parts, claims) {
         Ok(made) => made,

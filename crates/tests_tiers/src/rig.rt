@@ -49,12 +49,28 @@ pub(crate) fn world_of<D: Drive + Drop>(
 }
 
 /// A mirrored group 0 of drives 0, 1, 2, and a parity group 1 of drives 1, 2, 3: six slots, and eight.
-pub(crate) fn grouped<D: Drive + Drop>(rt: &impl Abort, alloc: Global, world: World<D>) -> Tiers<D> {
+pub(crate) fn grouped<D: Drive + Drop>(
+    rt: &impl Abort,
+    alloc: Global,
+    world: World<D>,
+) -> Tiers<D> {
     let Ok(mut tiers) = Tiers::new(alloc, world) else {
         panic!(rt; "no tiers")
     };
-    make(rt, alloc, &mut tiers, Class::Mirrored, [(0, 0), (1, 0), (2, 0)]);
-    make(rt, alloc, &mut tiers, Class::Parity, [(1, 1), (2, 1), (3, 1)]);
+    make(
+        rt,
+        alloc,
+        &mut tiers,
+        Class::Mirrored,
+        [(0, 0), (1, 0), (2, 0)],
+    );
+    make(
+        rt,
+        alloc,
+        &mut tiers,
+        Class::Parity,
+        [(1, 1), (2, 1), (3, 1)],
+    );
     tiers
 }
 

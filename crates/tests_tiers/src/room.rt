@@ -1,5 +1,5 @@
 // Writes that find room up to the last slot but one.
-use crate::rig::{grouped, reads, world_of, shape_of};
+use crate::rig::{grouped, reads, shape_of, world_of};
 use background::{Outcome, Tiers};
 use extents::{HotSwap, MemDrive};
 use std::alloc::{Alloc, Global};
@@ -21,7 +21,13 @@ fn tiers_of(rt: &impl Abort, alloc: Global) -> Tiers {
 }
 
 // What a write of a block answers that never gives up while there is room.
-fn write(rt: &impl Abort, alloc: Global, tiers: &mut Tiers, block: u32, payload: [u8; 8]) -> Outcome {
+fn write(
+    rt: &impl Abort,
+    alloc: Global,
+    tiers: &mut Tiers,
+    block: u32,
+    payload: [u8; 8],
+) -> Outcome {
     let shape = tiers.world().array().shape();
     assert!(rt; block < shape.blocks);
     assert!(rt; shape.payload == 8);
@@ -40,12 +46,26 @@ fn all_slots_but_one_can_be_written_over(rt: HostRuntime) {
     for round in 0..10u8 {
         for turn in 0..13u8 {
             let block = turn * (round % 5 + 1) % 13;
-            let outcome = write(&rt, alloc, &mut tiers, u32::from(block), [block, round, 1, 2, 3, 4, 5, 6]);
+            let outcome = write(
+                &rt,
+                alloc,
+                &mut tiers,
+                u32::from(block),
+                [block, round, 1, 2, 3, 4, 5, 6],
+            );
             assert!(rt; matches!(outcome, Outcome::Placed(_)));
         }
     }
     for block in 0..13u8 {
-        assert!(rt; reads(&rt, &mut tiers, u32::from(block), 10, [block, 9, 1, 2, 3, 4, 5, 6]));
+        assert!(rt;
+            reads(
+                &rt,
+                &mut tiers,
+                u32::from(block),
+                10,
+                [block, 9, 1, 2, 3, 4, 5, 6]
+            )
+        );
     }
     let last = write(&rt, alloc, &mut tiers, 13, [13, 0, 1, 2, 3, 4, 5, 6]);
     assert!(rt; matches!(last, Outcome::Placed(_)));
