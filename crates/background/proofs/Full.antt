@@ -1,5 +1,5 @@
 -- A write finds no room only where there is none.
-use Rattle.std.proofs.Common.{◌≡◌, ◌⊎◌, inl, inr, ℕ, true, false, sym, ◌∙◌, subst, Option, Some, None, Result, Ok, Err}
+use Rattle.std.proofs.Common.{◌≡◌, ◌⊎◌, inl, inr, ℕ, List, true, false, sym, ◌∙◌, subst, Option, Some, None, Result, Ok, Err}
 use Rattle.std.specs.Prelude.{IfOk}
 use Rattle.map_join.specs.declared.records.Record.{Record}
 use Rattle.slot_tables.specs.Views.{key_at}
@@ -12,10 +12,11 @@ use Rattle.background.specs.Placing.{Put, Fresh, Again, PlaceCase}
 use Rattle.background.specs.Steps.{IsFreeMirror, WritesIn}
 use Rattle.background.specs.Tiered.{Tiered}
 use Rattle.background.specs.Stands.{StandsFor}
-use Rattle.background.specs.Room.{IsNext, IsHole, IsFull, IsNowhere, RoomCase, GoesAside, GoesOut, GoesOn, Squeezes, AfterRoom, AlwaysCase, WritesAlways}
+use Rattle.background.specs.Room.{IsNext, IsHole, IsFull, IsNowhere, HasRoom, RoomCase, GoesAside, GoesOut, GoesOn, Squeezes, AfterRoom, AlwaysCase, WritesAlways}
 use Rattle.background.specs.declared.outcome.Outcome.{Outcome}
 use Rattle.background.specs.declared.outcome.Outcome.TheVariants.{Placed, Refused, NoRoom, Nothing}
 use Rattle.background.specs.Views.{TiersView}
+use Rattle.background.proofs.Counting.{never_full}
 use Rattle.background.proofs.Leaving.{leaves_free}
 
 -- a free slot isn't taken
@@ -109,3 +110,9 @@ full_if t u w b x (Err e) done = tt
 full_if t u w b x (Ok o) done = λ T stands is.
     let d = done T stands in
     no_room t T stands w b x d.0 (subst (λ z. AlwaysCase T w b x z d.0) is d.1)
+
+-- and no state with more slots than blocks is full
+pub finds_if : {E : Type 0} (t : TiersView) (r : Result Outcome E) → IfOk r (λ o. (T : Tiered) → StandsFor t T → o ≡ NoRoom → IsFull T)
+    → IfOk r (λ o. (T : Tiered) (slots : List ℕ) → StandsFor t T → HasRoom T slots → o ≡ NoRoom → ⊥)
+finds_if t (Err e) full = tt
+finds_if t (Ok o) full = λ T slots stands has is. never_full t.world T slots stands.world stands.each has (full T stands is)

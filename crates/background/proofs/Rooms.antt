@@ -1,11 +1,9 @@
 -- Making room and writing while there is room, as their cases.
 use Rattle.std.proofs.Common.{◌≡◌, ℕ, inl, inr, refl, sym, ◌∙◌, ap, subst, Option, Some, None, Result, Ok, Err}
 use Rattle.std.specs.Prelude.{IfOk, OnErr}
-use Rattle.extent_groups.specs.Groups.{Groups}
 use Rattle.flat_machine.specs.Flat.{Content}
 use Rattle.slot_tables.specs.Views.{ArrayView, key_at}
-use Rattle.slot_tables.proofs.Hands.{free_iff}
-use Rattle.migrator.specs.First.{IsFirst, IsFreeParity}
+use Rattle.migrator.specs.First.{IsFirst}
 use Rattle.background.specs.Tiered.{Tiered}
 use Rattle.background.specs.Placing.{Fresh, Again}
 use Rattle.background.specs.Steps.{AppendsAt, MovesTo, WritesAt, PutStops}
@@ -17,17 +15,12 @@ use Rattle.background.specs.declared.planner.Planner.{Planner}
 use Rattle.background.specs.declared.outcome.Outcome.{Outcome}
 use Rattle.background.specs.declared.outcome.Outcome.TheVariants.{NoRoom, Nothing}
 use Rattle.background.specs.Views.{TiersView}
-use Rattle.background.proofs.Standing.{map_of, groups_of, OldestIs, append_is, first_as, FirstFree, FindsAgain}
+use Rattle.background.proofs.Standing.{map_of, OldestIs, append_is, FirstFree, FindsAgain}
 use Rattle.background.proofs.Stopping.{StopsAgain}
 
--- the lowest hole that the tables show is that of the state
-pub hole_is : (t : TiersView) (z : Groups) (T : Tiered) (hole : Option ℕ) → z ≡ t.world.array.parts.groups → StandsFor t T
-    → IsFirst (IsFreeParity z (IsFreeHere t.world)) hole → IsFirst (IsHole T) hole
-hole_is t z T hole groups stands h =
-    let same : z ≡ T.flat.groups = groups ∙ sym (groups_of t T stands) in
-    let here = subst (λ g. IsFirst (IsFreeParity g (IsFreeHere t.world)) hole) same h in
-    first_as (IsFreeParity T.flat.groups (IsFreeHere t.world)) (IsHole T) hole
-    (λ s. ((λ x. (x.0, (free_iff t.world T.flat s stands.world).0 x.1)), (λ x. (x.0, (free_iff t.world T.flat s stands.world).1 x.1)))) here
+-- which slot is the lowest hole, for each state that is represented; what is kept represents that state too
+abbrev pub FirstHole : TiersView → TiersView → Option ℕ → Type 0
+FirstHole t m slot = (T : Tiered) → StandsFor t T → IsFirst (IsHole T) slot × StandsFor m T
 
 module _ (t : TiersView) (p : Planner) (a : ArrayView) (w b : ℕ) (array : a ≡ t.world.array) (planner : p ≡ t.planner) (oldest : OldestIs t (Some b)) where
   stands_so : (T : Tiered) → StandsFor t T → StandsFor (record t { planner = p }) T
@@ -52,14 +45,30 @@ module _ (t : TiersView) (p : Planner) (a : ArrayView) (w b : ℕ) (array : a �
       )
 
   -- into a hole, or nowhere
-  pub rooms_aside : {E : Type 0} (u : TiersView) (z : Groups) (s : ℕ) (r : Result Outcome E) → z ≡ a.parts.groups → IsNextAppend a p (IsFreeHere t.world) None
-      → IsFirst (IsFreeParity z (IsFreeHere t.world)) (Some s)
-      → IfOk r (λ o. (T : Tiered) → StandsFor (record t { planner = p }) T → (U : Tiered) × MovesTo T w b s o U × StandsFor u U)
+  pub rooms_aside : {E : Type 0} (m u : TiersView) (s : ℕ) (r : Result Outcome E) → IsNextAppend a p (IsFreeHere t.world) None
+      → FirstHole (record t { planner = p }) m (Some s)
+      → IfOk r (λ o. (T : Tiered) → StandsFor m T → (U : Tiered) × MovesTo T w b s o U × StandsFor u U)
       → IfOk r (λ o. (T : Tiered) → StandsFor t T → (U : Tiered) × RoomCase T w o U × StandsFor u U)
-  rooms_aside u z s (Err e) groups next hole done = tt
-  rooms_aside u z s (Ok o) groups next hole done = λ T stands.
-      let d = done T (stands_so T stands) in (
+  rooms_aside m u s (Err e) next hole done = tt
+  rooms_aside m u s (Ok o) next hole done = λ T stands.
+      let h = hole T (stands_so T stands) in
+      let d = done T h.1 in (
         d.0,
+        record {
+          keys = key_at t.world.array;
+          map_of = map_of t T stands;
+          chosen = Some b;
+          oldest = oldest T stands;
+          done = inr (record { nowhere = append_is t p a T None array planner stands next; hole = Some s; first = h.0; done = d.1 });
+        },
+        d.2,
+      )
+
+  pub rooms_nowhere : (m : TiersView) → IsNextAppend a p (IsFreeHere t.world) None → FirstHole (record t { planner = p }) m None
+      → (T : Tiered) → StandsFor t T → (U : Tiered) × RoomCase T w NoRoom U × StandsFor m U
+  rooms_nowhere m next hole T stands =
+      let h = hole T (stands_so T stands) in (
+        T,
         record {
           keys = key_at t.world.array;
           map_of = map_of t T stands;
@@ -67,40 +76,22 @@ module _ (t : TiersView) (p : Planner) (a : ArrayView) (w b : ℕ) (array : a �
           oldest = oldest T stands;
           done = inr (record {
             nowhere = append_is t p a T None array planner stands next;
-            hole = Some s;
-            first = hole_is t z T (Some s) (groups ∙ ap (λ (x : ArrayView). x.parts.groups) array) stands hole;
-            done = d.1;
+            hole = None;
+            first = h.0;
+            done = record { told = refl; same = refl };
           });
         },
-        d.2,
+        h.1,
       )
 
-  pub rooms_nowhere : (z : Groups) → z ≡ a.parts.groups → IsNextAppend a p (IsFreeHere t.world) None → IsFirst (IsFreeParity z (IsFreeHere t.world)) None
-      → (T : Tiered) → StandsFor t T → (U : Tiered) × RoomCase T w NoRoom U × StandsFor (record t { planner = p }) U
-  rooms_nowhere z groups next hole T stands = (
-    T,
-    record {
-      keys = key_at t.world.array;
-      map_of = map_of t T stands;
-      chosen = Some b;
-      oldest = oldest T stands;
-      done = inr (record {
-        nowhere = append_is t p a T None array planner stands next;
-        hole = None;
-        first = hole_is t z T None (groups ∙ ap (λ (x : ArrayView). x.parts.groups) array) stands hole;
-        done = record { told = refl; same = refl };
-      });
-    },
-    stands_so T stands,
-  )
-
   -- out of memory in the put
-  room_stops : {E : Type 0} (u : TiersView) (s : ℕ) (r : Result Outcome E) → ((T : Tiered) → StandsFor t T → IsWayOut T (key_at t.world.array) s)
-      → OnErr r ((T : Tiered) → StandsFor (record t { planner = p }) T → (U : Tiered) × PutStops T w Again b s U × StandsFor u U)
+  room_stops : {E : Type 0} (m u : TiersView) (s : ℕ) (r : Result Outcome E) → ((T : Tiered) → StandsFor t T → IsWayOut T (key_at t.world.array) s × StandsFor m T)
+      → OnErr r ((T : Tiered) → StandsFor m T → (U : Tiered) × PutStops T w Again b s U × StandsFor u U)
       → OnErr r ((T : Tiered) → StandsFor t T → (U : Tiered) × RoomStops T w U × StandsFor u U)
-  room_stops u s (Ok o) way stopped = tt
-  room_stops u s (Err e) way stopped = λ T stands.
-      let d = stopped T (stands_so T stands) in (
+  room_stops m u s (Ok o) way stopped = tt
+  room_stops m u s (Err e) way stopped = λ T stands.
+      let out = way T stands in
+      let d = stopped T out.1 in (
         d.0,
         record {
           keys = key_at t.world.array;
@@ -108,7 +99,7 @@ module _ (t : TiersView) (p : Planner) (a : ArrayView) (w b : ℕ) (array : a �
           block = b;
           oldest = oldest T stands;
           slot = s;
-          way = way T stands;
+          way = out.0;
           stops = d.1;
         },
         d.2,
@@ -117,18 +108,16 @@ module _ (t : TiersView) (p : Planner) (a : ArrayView) (w b : ℕ) (array : a �
   pub stops_on : {E : Type 0} (u : TiersView) (s : ℕ) (r : Result Outcome E) → IsNextAppend a p (IsFreeHere t.world) (Some s)
       → OnErr r ((T : Tiered) → StandsFor (record t { planner = p }) T → (U : Tiered) × PutStops T w Again b s U × StandsFor u U)
       → OnErr r ((T : Tiered) → StandsFor t T → (U : Tiered) × RoomStops T w U × StandsFor u U)
-  stops_on u s r next stopped = room_stops u s r (λ T stands. inl (append_is t p a T (Some s) array planner stands next)) stopped
+  stops_on u s r next stopped =
+      room_stops (record t { planner = p }) u s r (λ T stands. (inl (append_is t p a T (Some s) array planner stands next), stands_so T stands)) stopped
 
-  pub stops_aside : {E : Type 0} (u : TiersView) (z : Groups) (s : ℕ) (r : Result Outcome E) → z ≡ a.parts.groups → IsNextAppend a p (IsFreeHere t.world) None
-      → IsFirst (IsFreeParity z (IsFreeHere t.world)) (Some s)
-      → OnErr r ((T : Tiered) → StandsFor (record t { planner = p }) T → (U : Tiered) × PutStops T w Again b s U × StandsFor u U)
+  pub stops_aside : {E : Type 0} (m u : TiersView) (s : ℕ) (r : Result Outcome E) → IsNextAppend a p (IsFreeHere t.world) None
+      → FirstHole (record t { planner = p }) m (Some s)
+      → OnErr r ((T : Tiered) → StandsFor m T → (U : Tiered) × PutStops T w Again b s U × StandsFor u U)
       → OnErr r ((T : Tiered) → StandsFor t T → (U : Tiered) × RoomStops T w U × StandsFor u U)
-  stops_aside u z s r groups next hole stopped =
-      room_stops u s r
-      (λ T stands. inr (
-        append_is t p a T None array planner stands next,
-        hole_is t z T (Some s) (groups ∙ ap (λ (x : ArrayView). x.parts.groups) array) stands hole,
-      )) stopped
+  stops_aside m u s r next hole stopped =
+      room_stops m u s r
+      (λ T stands. let h = hole T (stands_so T stands) in (inr (append_is t p a T None array planner stands next, h.0), h.1)) stopped
 
 pub rooms_nothing : (t : TiersView) (p : Planner) (w : ℕ) → p ≡ t.planner → OldestIs t None
     → (T : Tiered) → StandsFor t T → (U : Tiered) × RoomCase T w Nothing U × StandsFor (record t { planner = p }) U

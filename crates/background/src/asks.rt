@@ -2,7 +2,7 @@
 ghost use Rattle.std.specs.Prelude.{true};
 ghost use Rattle.std.specs.Prelude.{◌↔◌, ◌<◌, ◌≤◌, IsTrue};
 ghost use Rattle.slot_tables.specs.Views.{key_at};
-ghost use Rattle.extent_groups.specs.declared.class.Class.TheVariants.{Mirrored};
+ghost use Rattle.extent_groups.specs.declared.class.Class.TheVariants.{Mirrored, Parity};
 ghost use Rattle.extent_groups.specs.Stores.{IsSlotOf};
 ghost use Rattle.map_join.specs.Live.{IsLive, IsLiveCount};
 ghost use Rattle.background.specs.Inside.{IsFreeHere};
@@ -99,6 +99,29 @@ fn is_mirror(groups: &GroupTable, slot: u16) -> bool
 {
     let _members = groups.members(slot / SLOTS);
     groups.class_of(slot / SLOTS) == Some(Class::Mirrored)
+        && slot % SLOTS < groups.slots_of(slot / SLOTS)
+}
+
+// The free slots of parity groups.
+#[derive(Drop)]
+pub(crate) struct Holes<'a, D: Drive> {
+    pub(crate) world: &'a World<D>,
+}
+
+impl<'a, D: Drive> Free for Holes<'a, D> {
+    ghost free = { λ h slot. IsSlotOf Parity h.world.now.array.parts.groups slot × IsFreeHere h.world.now slot };
+
+    fn is_free(&self, slot: u16) -> bool {
+        is_parity(self.world.array().groups(), slot) && self.world.is_free(slot)
+    }
+}
+
+// Whether the slot is one of a parity group.
+fn is_parity(groups: &GroupTable, slot: u16) -> bool
+    ensures { IsTrue result ↔ IsSlotOf Parity groups.now slot }
+{
+    let _members = groups.members(slot / SLOTS);
+    groups.class_of(slot / SLOTS) == Some(Class::Parity)
         && slot % SLOTS < groups.slots_of(slot / SLOTS)
 }
 

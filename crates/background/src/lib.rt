@@ -23,5 +23,4 @@ pub use outcome::Outcome;
 pub use planner::Planner;
 pub use regroup::{balance, rebuild};
 pub use regrouped::Regrouped;
-pub use room::room_law;
 pub use tiers::Tiers;

@@ -1,17 +1,16 @@
 //! Writing while there is room at all: a block that has to leave the mirrored level goes into a hole where the log goes on nowhere.
 ghost use Rattle.std.specs.Prelude.{◌≡◌, ℕ, ◌<◌, IfOk, OnErr, List};
-ghost use Rattle.slot_tables.specs.Views.{SameSizes, WorldView};
-ghost use Rattle.slot_tables.specs.Represents.{Represents};
+ghost use Rattle.slot_tables.specs.Views.{SameSizes};
 ghost use Rattle.background.specs.Placing.{IsGivenFor, content_of};
 ghost use Rattle.background.specs.Stands.{StandsFor};
-ghost use Rattle.background.specs.Room.{RoomCase, RoomStops, AlwaysCase, AlwaysStops, HasRoom, IsFull};
+ghost use Rattle.migrator.specs.First.{IsFirst};
+ghost use Rattle.background.specs.Room.{IsHole, RoomCase, RoomStops, AlwaysCase, AlwaysStops, HasRoom, IsFull};
 ghost use Rattle.background.specs.Tiered.{Tiered};
 ghost use Rattle.background.specs.declared.outcome.Outcome.TheVariants.{NoRoom};
 
-use crate::asks::Unheld;
+use crate::asks::{Holes, Unheld};
 use crate::{Outcome, Tiers};
 use extents::Drive;
-use migrator::first_parity;
 use std::alloc::{AllocError, Global};
 use step_core::Given;
 
@@ -33,7 +32,7 @@ impl<D: Drive> Tiers<D> {
         if let Some(slot) = self.planner.next_append(array, &free) {
             return self.append(alloc, block, slot);
         }
-        let Some(slot) = first_parity(array.groups(), &free) else {
+        let Some(slot) = self.free_hole() else {
             return Ok(Outcome::NoRoom)
         };
         self.put(alloc, slot, block, None)
@@ -41,7 +40,8 @@ impl<D: Drive> Tiers<D> {
 
     /// Writes what is given, a payload or a trim, as the block's next version into the lowest free slot of mirrored groups, and
     /// notes the write. Where no slot is free there, one block makes room first; where that is refused, this is the outcome.
-    /// `NoRoom` only where no mirrored slot is free, and either no block is in a mirrored group or no parity slot is free.
+    /// `NoRoom` only where no mirrored slot is free, and either no block is in a mirrored group or no parity slot is free: never
+    /// while more slots are made than the array has blocks, one of them mirrored, and only blocks hold them.
     pub fn write_always(
         &mut self,
         alloc: Global,
@@ -55,6 +55,7 @@ impl<D: Drive> Tiers<D> {
         ensures err { (w : ℕ) → OnErr result ((T : Tiered) → StandsFor self.old T
             → (U : Tiered) × AlwaysStops T w block (content_of given.entry) U × StandsFor self.new U) }
         ensures full { IfOk result (λ outcome. (T : Tiered) → StandsFor self.old T → outcome ≡ NoRoom → IsFull T) }
+        ensures finds { IfOk result (λ outcome. (T : Tiered) (slots : List ℕ) → StandsFor self.old T → HasRoom T slots → outcome ≡ NoRoom → ⊥) }
         ensures room { SameSizes self.old.world.array self.new.world.array }
     {
         if let Some(slot) = self.free_mirror() {
@@ -68,12 +69,13 @@ impl<D: Drive> Tiers<D> {
             Err(_) => Err(AllocError),
         }
     }
-}
 
-/// A state with more slots than blocks, of which only blocks hold any and one is mirrored, is never full: there `write_always`
-/// finds room.
-pub fn room_law()
-    ensures { (world : WorldView) (T : Tiered) (slots : List ℕ) → Represents world T.flat → HasRoom T slots → IsFull T → ⊥ }
-{
-    // The law is the contract: there is nothing to do.
+    // The lowest free slot of parity groups.
+    fn free_hole(&mut self) -> Option<u16>
+        ensures first { (T : Tiered) → StandsFor self.old T → IsFirst (IsHole T) result × StandsFor self.new T }
+        ensures same { self.new.world ≡ self.old.world }
+    {
+        let holes = Holes { world: &self.world };
+        self.holes.first(&holes)
+    }
 }

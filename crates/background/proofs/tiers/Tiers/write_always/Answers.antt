@@ -3,7 +3,7 @@ use Rattle.std.proofs.Common.{refl, subst, Ok}
 use Rattle.background.specs.declared.outcome.Outcome.TheVariants as outcome
 use Rattle.background.proofs.Rooms.{always_here, always_behind, always_none, always_stops_here, always_stops_behind, always_stops_out, Made}
 use Rattle.background.specs.Placing.{content_of}
-use Rattle.background.proofs.Full.{full_if}
+use Rattle.background.proofs.Full.{full_if, finds_if}
 use Rattle.background.proofs.tiers.Tiers.write_always.Goals as goal
 
 pub returns-in-Some-clause-ok : goal.returns-in-Some-clause-ok
@@ -77,3 +77,18 @@ returns-in-Ok-Nothing-clause-full g c =
 
 pub returns-in-Ok-Refused-clause-full : goal.returns-in-Ok-Refused-clause-full
 returns-in-Ok-Refused-clause-full g c = λ T stands is. absurd (cc)
+
+pub returns-in-Some-clause-finds : goal.returns-in-Some-clause-finds
+returns-in-Some-clause-finds g c = finds_if c.args.self.now c.put.result (returns-in-Some-clause-full g c)
+
+pub returns-in-Ok-Placed-clause-finds : goal.returns-in-Ok-Placed-clause-finds
+returns-in-Ok-Placed-clause-finds g c = finds_if c.args.self.now c.write_behind.result (returns-in-Ok-Placed-clause-full g c)
+
+pub returns-in-Ok-NoRoom-clause-finds : goal.returns-in-Ok-NoRoom-clause-finds
+returns-in-Ok-NoRoom-clause-finds g c = finds_if {E = AllocError} c.args.self.now (Ok outcome.NoRoom) (returns-in-Ok-NoRoom-clause-full g c)
+
+pub returns-in-Ok-Nothing-clause-finds : goal.returns-in-Ok-Nothing-clause-finds
+returns-in-Ok-Nothing-clause-finds g c = finds_if {E = AllocError} c.args.self.now (Ok outcome.NoRoom) (returns-in-Ok-Nothing-clause-full g c)
+
+pub returns-in-Ok-Refused-clause-finds : goal.returns-in-Ok-Refused-clause-finds
+returns-in-Ok-Refused-clause-finds g c = λ T slots stands has is. absurd (cc)
