@@ -10,7 +10,9 @@ pub mod Ordered
 pub mod Standing
 pub mod Stopping
 pub mod Moving
+pub mod Due
 pub mod Rooms
+pub mod Unreadable
 pub mod Leaving
 pub mod Counting
 pub mod Full

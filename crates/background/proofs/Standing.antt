@@ -332,13 +332,16 @@ oldest_is t a chosen same oldest T stands =
 pub as_state : (P : Groups → End → Type 0) (t : TiersView) (T : Tiered) → StandsFor t T → P t.world.array.parts.groups t.planner.end → P T.flat.groups T.end
 as_state P t T stands h = subst (P T.flat.groups) stands.end (subst (λ z. P z t.planner.end) (sym (groups_of t T stands)) h)
 
+pub append_by : (P Q : ℕ → Type 0) (t : TiersView) (p : Planner) (a : ArrayView) (T : Tiered) (slot : Option ℕ) → ((s : ℕ) → P s ↔ Q s) → a ≡ t.world.array → p ≡ t.planner
+    → StandsFor t T → IsNextAppend a p P slot → IsFirstAppend T.end T.flat.groups (key_at t.world.array) Q slot
+append_by P Q t p a T slot same array planner stands h =
+    let here = subst (λ (x : ArrayView). IsNextAppend x t.planner P slot) array (subst (λ (q : Planner). IsNextAppend a q P slot) planner h) in
+    append_as T.end T.flat.groups (key_at t.world.array) P Q slot same (as_state (λ groups end. IsFirstAppend end groups (key_at t.world.array) P slot) t T stands here)
+
 pub append_is : (t : TiersView) (p : Planner) (a : ArrayView) (T : Tiered) (slot : Option ℕ) → a ≡ t.world.array → p ≡ t.planner → StandsFor t T
     → IsNextAppend a p (IsFreeHere t.world) slot → IsFirstAppend T.end T.flat.groups (key_at t.world.array) (IsFree T.flat) slot
 append_is t p a T slot array planner stands h =
-    let here = subst (λ (x : ArrayView). IsNextAppend x t.planner (IsFreeHere t.world) slot) array
-    (subst (λ (q : Planner). IsNextAppend a q (IsFreeHere t.world) slot) planner h) in
-    append_as T.end T.flat.groups (key_at t.world.array) (IsFreeHere t.world) (IsFree T.flat) slot (λ s. free_iff t.world T.flat s stands.world)
-    (as_state (λ groups end. IsFirstAppend end groups (key_at t.world.array) (IsFreeHere t.world) slot) t T stands here)
+    append_by (IsFreeHere t.world) (IsFree T.flat) t p a T slot (λ s. free_iff t.world T.flat s stands.world) array planner stands h
 
 -- a placing by a plan is the case of its step
 pub demotes : {E : Type 0} (t u : TiersView) (p : Planner) (a : ArrayView) (w b s : ℕ) (r : Result Outcome E) → a ≡ t.world.array → p ≡ t.planner → OldestIs t (Some b)

@@ -4,6 +4,7 @@
 
 mod asks;
 mod bits;
+mod gone;
 mod hints;
 mod outcome;
 mod planner;
