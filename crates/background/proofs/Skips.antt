@@ -1,5 +1,5 @@
 -- Where no slot is gone, none is skipped.
-use Rattle.std.proofs.Common.{◌≡◌, ◌↔◌, inl, inr, ℕ, Option, Some, None}
+use Rattle.std.proofs.Common.{◌↔◌, inl, inr, ℕ, Option, Some, None}
 use Rattle.map_join.specs.Record.{record_at}
 use Rattle.flat_machine.specs.Flat.{IsFree}
 use Rattle.migrator.specs.Ages.{IsOldest}
