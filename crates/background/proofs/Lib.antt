@@ -11,6 +11,7 @@ pub mod Standing
 pub mod Stopping
 pub mod Moving
 pub mod Due
+pub mod Skips
 pub mod Rooms
 pub mod Unreadable
 pub mod Leaving

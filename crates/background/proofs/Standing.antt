@@ -303,7 +303,7 @@ pub first_as : (P Q : ℕ → Type 0) (found : Option ℕ) → ((m : ℕ) → P 
 first_as P Q None same h = λ n q. h n ((same n).1 q)
 first_as P Q (Some n) same h = lowest_as P Q n same h
 
-append_as : (end : End) (groups : Groups) (keys : ℕ → ℕ) (P Q : ℕ → Type 0) (found : Option ℕ) → ((m : ℕ) → P m ↔ Q m)
+pub append_as : (end : End) (groups : Groups) (keys : ℕ → ℕ) (P Q : ℕ → Type 0) (found : Option ℕ) → ((m : ℕ) → P m ↔ Q m)
     → IsFirstAppend end groups keys P found → IsFirstAppend end groups keys Q found
 append_as end groups keys P Q None same h = λ slot is q. h slot is ((same slot).1 q)
 append_as end groups keys P Q (Some n) same (inl h) =

@@ -1,6 +1,5 @@
 -- A slot that is gone stays so, and a placing that is refused as gone found its slot or its block's place gone.
-use Rattle.std.proofs.Common.{◌≡◌, ◌⊎◌, inl, inr, ℕ, ◌∷◌, [], refl, sym, ap, ◌∙◌, subst, Option, Some, None}
-use Rattle.std.proofs.lemmas.Option.{same_Some}
+use Rattle.std.proofs.Common.{◌≡◌, ◌⊎◌, inl, inr, ℕ, ◌∷◌, [], sym, ap, subst, Option, Some, None}
 use Rattle.map_join.specs.declared.records.Record.{Record}
 use Rattle.extent_groups.specs.Missing.{IsGone}
 use Rattle.array_parts.proofs.Calls.{gone_more}

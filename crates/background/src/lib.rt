@@ -24,4 +24,5 @@ pub use outcome::Outcome;
 pub use planner::Planner;
 pub use regroup::{balance, rebuild};
 pub use regrouped::Regrouped;
+pub use room::skip_law;
 pub use tiers::Tiers;

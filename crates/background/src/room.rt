@@ -1,13 +1,16 @@
 //! Writing while there is room at all: a block that has to leave the mirrored level goes into a hole where the log goes on nowhere.
-ghost use Rattle.std.specs.Prelude.{◌≡◌, ℕ, ◌<◌, IfOk, OnErr, List, Some};
+ghost use Rattle.std.specs.Prelude.{◌≡◌, ℕ, ◌<◌, IfOk, OnErr, List, Option, Some};
 ghost use Rattle.slot_tables.specs.Views.{SameSizes};
 ghost use Rattle.flat_machine.specs.declared.refusal.Refusal.TheVariants.{Gone};
-ghost use Rattle.migrator.specs.First.{IsFirst};
+ghost use Rattle.flat_machine.specs.Flat.{IsFree};
+ghost use Rattle.migrator.specs.Ages.{IsOldest};
+ghost use Rattle.migrator.specs.First.{IsFirst, IsFirstAppend};
+ghost use Rattle.migrator.specs.Slots.{IsMirrored};
 ghost use Rattle.background.specs.Placing.{Fresh, IsGivenFor, content_of};
 ghost use Rattle.background.specs.Stands.{StandsFor};
 ghost use Rattle.background.specs.Steps.{IsFreeMirror, PutStops};
 ghost use Rattle.background.specs.Room.{RoomCase, RoomStops, SpareCase, SpareStops, AlwaysCase, AlwaysStops, WritesAgain};
-ghost use Rattle.background.specs.Room.{IsFirstOf, IsHole, IsOpenHole, IsOpenMirror, HasRoom, IsFull, IsStuck, LosesNoSlot};
+ghost use Rattle.background.specs.Room.{HasNoneGone, IsDue, IsNext, IsFirstOf, IsHole, IsOpenHole, IsOpenMirror, HasRoom, IsFull, IsStuck, LosesNoSlot};
 ghost use Rattle.background.specs.Tiered.{Tiered};
 ghost use Rattle.background.specs.declared.outcome.Outcome.TheVariants.{NoRoom, Refused};
 
@@ -171,4 +174,16 @@ impl<D: Drive> Tiers<D> {
         let holes = Holes { world: &self.world };
         self.holes.first(&holes)
     }
+}
+
+/// Where no slot is gone, none is skipped: the block that makes room is the oldest in mirrored groups, it goes to the first free
+/// slot where the log goes on, or into the lowest hole, and a write goes into the lowest free slot of mirrored groups.
+pub fn skip_law()
+    ensures due { (T : Tiered) (keys : ℕ → ℕ) (block : Option ℕ) → HasNoneGone T → IsDue T keys block → IsOldest T.order (IsMirrored T.flat.groups keys) block }
+    ensures next { (T : Tiered) (keys : ℕ → ℕ) (slot : Option ℕ) → HasNoneGone T → IsNext T keys slot
+        → IsFirstAppend T.end T.flat.groups keys (IsFree T.flat) slot }
+    ensures hole { (T : Tiered) (slot : Option ℕ) → HasNoneGone T → IsFirstOf (IsHole T) (IsOpenHole T) slot → IsFirst (IsHole T) slot }
+    ensures mirror { (T : Tiered) (slot : Option ℕ) → HasNoneGone T → IsFirst (IsOpenMirror T) slot → IsFirst (IsFreeMirror T.flat) slot }
+{
+    // The law is the contract: there is nothing to do.
 }

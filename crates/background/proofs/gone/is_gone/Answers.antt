@@ -1,6 +1,6 @@
 use Rattle.std.proofs.Common.{◌≡◌, ◌⊎◌, inl, inr, false, true, subst, sym}
 use Rattle.std.proofs.lemmas.Bool.{iff_false}
-use Rattle.array_parts.specs.Views.{IsLost, lost_of}
+use Rattle.array_parts.specs.Views.{lost_of}
 use Rattle.extent_groups.specs.declared.class.Class.TheVariants.{Mirrored, Parity}
 use Rattle.extent_groups.specs.Groups.{Groups}
 use Rattle.extent_groups.specs.Stores.{IsSlotOf}

@@ -1,4 +1,4 @@
-use Rattle.std.proofs.Common.{◌≡◌, ◌↔◌, ◌∙◌, sym, subst, Some, IsTrue}
+use Rattle.std.proofs.Common.{◌↔◌, ◌∙◌, sym, subst, IsTrue}
 use Rattle.array_parts.specs.Views.{lost_of}
 use Rattle.extent_groups.specs.Groups.{Groups}
 use Rattle.extent_groups.specs.Missing.{IsGone}

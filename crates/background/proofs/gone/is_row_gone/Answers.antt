@@ -1,4 +1,4 @@
-use Rattle.std.proofs.Common.{◌≡◌, ◌↔◌, ◌∙◌, sym, subst, true, IsTrue}
+use Rattle.std.proofs.Common.{◌↔◌, ◌∙◌, sym, subst, IsTrue}
 use Rattle.array_parts.specs.Views.{lost_of}
 use Rattle.array_parts.proofs.GoneSlots.{row_gone}
 use Rattle.extent_groups.specs.Groups.{Groups}

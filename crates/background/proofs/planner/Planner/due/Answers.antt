@@ -1,4 +1,4 @@
-use Rattle.std.proofs.Common.{◌≡◌, ◌<◌, sym, subst, Option, Some, None}
+use Rattle.std.proofs.Common.{◌≡◌, ◌<◌, sym, subst, Some, None}
 use Rattle.std.specs.Prelude.{MatchOption}
 use Rattle.migrator.specs.Ages.{IsMarked, IsOldest}
 use Rattle.background.specs.Inside.{IsThereHere}
