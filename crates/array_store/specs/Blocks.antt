@@ -1,6 +1,6 @@
 -- The bytes of a disk, by the last writes of an array's blocks.
 use Rattle.std.specs.Prelude.{◌≡◌, ◌≢◌, ℕ, ◌+◌, ◌*◌, ◌/◌, ◌%◌, ◌<◌, List, length, replicate, slice_index, Option, Some, None}
-use Rattle.flat_machine.specs.Flat.{Flat, Write, Content, bytes_of, last_write}
+use Rattle.flat_machine.specs.Flat.{Write, bytes_of, last_write}
 use Rattle.background.specs.Stands.{StandsFor}
 use Rattle.background.specs.Tiered.{Tiered}
 use Rattle.background.specs.Views.{TiersView}
@@ -11,18 +11,18 @@ bytes_in size None = replicate size 0
 bytes_in size (Some w) = bytes_of size w.content
 
 -- the bytes of a block: those of its last write
-abbrev pub block_bytes : Flat → ℕ → List ℕ
-block_bytes F b = bytes_in F.groups.payload (last_write F.writes b)
+abbrev pub block_bytes : ℕ → List Write → ℕ → List ℕ
+block_bytes size writes b = bytes_in size (last_write writes b)
 
 -- the bytes lie in the blocks one after another, from the first block on
-pub record Shows (F : Flat) (bytes : List ℕ) : Type 0 where
-  pub each : (i : ℕ) → i < length bytes → slice_index bytes i ≡ slice_index (block_bytes F (i / F.groups.payload)) (i % F.groups.payload)
+pub record Shows (size : ℕ) (writes : List Write) (bytes : List ℕ) : Type 0 where
+  pub each : (i : ℕ) → i < length bytes → slice_index bytes i ≡ slice_index (block_bytes size writes (i / size)) (i % size)
 
 -- an array with what is kept next to it represents a flat state that shows these bytes
 pub record Holds (tiers : TiersView) (bytes : List ℕ) : Type 0 where
   pub state : Tiered
   pub stands : StandsFor tiers state
-  pub shows : Shows state.flat bytes
+  pub shows : Shows state.flat.groups.payload state.flat.writes bytes
 
 -- the bytes of a block, of `size` bytes, as far as it has any of the disk's
 pub record IsBlockOf (size : ℕ) (bytes : List ℕ) (b : ℕ) (out : List ℕ) : Type 0 where
@@ -33,3 +33,7 @@ pub record IsPut (size : ℕ) (old : List ℕ) (b : ℕ) (block new : List ℕ) 
   pub long : length new ≡ length old
   pub here : (i : ℕ) → i < length old → i / size ≡ b → slice_index new i ≡ slice_index block (i % size)
   pub others : (i : ℕ) → i < length old → i / size ≢ b → slice_index new i ≡ slice_index old i
+
+-- a piece of the disk's bytes, from an offset on
+pub record IsPiece (bytes : List ℕ) (offset : ℕ) (out : List ℕ) : Type 0 where
+  pub each : (k : ℕ) → k < length out → slice_index out k ≡ slice_index bytes (offset + k)

@@ -5,13 +5,13 @@ ghost use Rattle.byte_store.specs.Changes.{IsChanged, IsFlushed};
 ghost use Rattle.array_store.specs.Stores.{IsStoreOf};
 ghost use Rattle.background.specs.Views.{TiersView};
 
-use crate::block::{clear, patch, put, read_block};
-use crate::piece::piece_at;
+use crate::block::{read_piece, write_piece, zero_piece};
+use crate::piece::{Piece, piece_at};
 use background::Tiers;
 use byte_store::{ByteStore, StoreFault};
 use extents::Drive;
 use std::alloc::{AllocError, Global};
-use step_core::{Given, World};
+use step_core::World;
 
 /// The bytes of a disk, kept by an array. The last block may have bytes past the disk's end.
 #[derive(Drop)]
@@ -65,14 +65,10 @@ impl<D: Drive> ByteStore for ArrayStore<D> {
         let mut done = 0usize;
         while done < out.len() {
             let piece = piece_at(size, shape.blocks, offset + done as u64, out.len() - done);
-            let into = &mut out[done..done + piece.count];
-            if piece.count == size {
-                read_block(&mut self.tiers, piece.block, into)?;
-            } else {
-                read_block(&mut self.tiers, piece.block, &mut self.buffer)?;
-                into.copy_from_slice(&self.buffer[piece.from..piece.from + piece.count]);
-            }
-            done += piece.count;
+            let Piece { block, from, count } = piece;
+            let part = &mut out[done..done + count];
+            read_piece(&mut self.tiers, &mut self.buffer, block, from, part)?;
+            done += count;
         }
         Ok(())
     }
@@ -84,14 +80,10 @@ impl<D: Drive> ByteStore for ArrayStore<D> {
         let mut done = 0usize;
         while done < bytes.len() {
             let piece = piece_at(size, shape.blocks, offset + done as u64, bytes.len() - done);
-            let part = &bytes[done..done + piece.count];
-            let (tiers, buffer) = (&mut self.tiers, &mut self.buffer);
-            if piece.count == size {
-                put(alloc, tiers, piece.block, Given::Payload(part))?;
-            } else {
-                patch(alloc, tiers, piece.block, piece.from, part, buffer)?;
-            }
-            done += piece.count;
+            let Piece { block, from, count } = piece;
+            let part = &bytes[done..done + count];
+            write_piece(alloc, &mut self.tiers, &mut self.buffer, block, from, part)?;
+            done += count;
         }
         Ok(())
     }
@@ -104,13 +96,9 @@ impl<D: Drive> ByteStore for ArrayStore<D> {
         let mut done = 0usize;
         while done < length {
             let piece = piece_at(size, shape.blocks, offset + done as u64, length - done);
-            let (tiers, buffer) = (&mut self.tiers, &mut self.buffer);
-            if piece.count == size {
-                put(alloc, tiers, piece.block, Given::Trim)?;
-            } else {
-                clear(alloc, tiers, piece.block, piece.from, piece.count, buffer)?;
-            }
-            done += piece.count;
+            let Piece { block, from, count } = piece;
+            zero_piece(alloc, &mut self.tiers, &mut self.buffer, block, from, count)?;
+            done += count;
         }
         Ok(())
     }
