@@ -1,0 +1,13 @@
+use Rattle.std.proofs.Common.{◌-◌, ◌≤◌}
+use Rattle.nbd_serve.specs.Streams.{Skips}
+use Rattle.nbd_serve.proofs.calls.skip.Given as goal
+
+-- so many bytes were read
+abbrev pub invariant-loop-done : goal.invariant-loop-done
+invariant-loop-done g l = let remaining = g.R.Read.remaining in record {
+  inside : l.done ≤ l.count;
+  read : Skips (remaining l.fn.reader) (remaining l.reader) l.done;
+}
+
+abbrev pub decreases-loop-done : goal.decreases-loop-done
+decreases-loop-done g l = l.count - l.done

@@ -1,0 +1,12 @@
+//! Serves a store of bytes to one NBD client, over a reader and a writer.
+#![tactic(auto)]
+
+mod answer;
+mod calls;
+mod end;
+mod refusal;
+mod store_calls;
+mod transmission;
+
+pub use end::End;
+pub use transmission::transmit;
