@@ -1,2 +1,4 @@
 pub mod Streaming
 pub mod Replying
+pub mod Sessions
+pub mod Outcomes

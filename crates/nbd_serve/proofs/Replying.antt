@@ -1,9 +1,11 @@
 -- Replies in a buffer.
-use Rattle.std.proofs.Common.{◌≡◌, ℕ, ◌+◌, ◌-◌, ◌≤◌, List, [], ◌++◌, length, take, drop, Option, Some, None, refl, sym, ap, ◌∙◌, arith, append_assoc, length-append}
+use Rattle.std.proofs.Common.{◌≡◌, ℕ, ◌+◌, ◌-◌, ◌≤◌, List, [], ◌++◌, length, take, drop, Option, Some, None, Result, append-nil, refl, sym, ap, ◌∙◌, arith, append_assoc, length-append}
 use Rattle.std.proofs.lemmas.List.{take_at, drop_at, length-take-le}
 use borrow.Rule.Slice.PartMut.{put_mid, post_of}
 use Rattle.nbd_wire.specs.declared.reply.Errno.{Errno}
 use Rattle.nbd_wire.specs.Replies.{reply_bytes}
+use Rattle.byte_store.specs.declared.fault.StoreFault.{StoreFault}
+use Rattle.nbd_serve.specs.Refusals.{error_of}
 
 -- the head of a reply is 16 bytes
 pub reply_len : (error : Option Errno) (cookie : ℕ) → length (reply_bytes error cookie) ≡ 16
@@ -27,3 +29,9 @@ bytes_told error cookie k count out part new room size is =
     let long : length (reply_bytes error cookie ++ part) ≡ 16 + count =
     length-append (reply_bytes error cookie) part ∙ ap (λ n. n + length part) (reply_len error cookie) ∙ ap (λ n. 16 + n) size in
     ap (take (16 + count)) all ∙ take_at (reply_bytes error cookie ++ part) rest (16 + count) long
+
+-- a reply without bytes that were read
+pub no_bytes_told : (error : Option Errno) (cookie : ℕ) (outcome : Result (Unit {0}) StoreFault) (reply : List ℕ) → error ≡ error_of outcome
+    → reply ≡ reply_bytes error cookie → reply ≡ reply_bytes (error_of outcome) cookie ++ []
+no_bytes_told error cookie outcome reply same is =
+    is ∙ ap (λ e. reply_bytes e cookie) same ∙ sym (append-nil (reply_bytes (error_of outcome) cookie))

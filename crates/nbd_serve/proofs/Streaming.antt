@@ -1,8 +1,9 @@
 -- Bytes that are read and written in pieces.
-use Rattle.std.proofs.Common.{◌≡◌, ℕ, ◌+◌, ◌-◌, ◌<◌, ◌≤◌, List, [], ◌++◌, length, take, drop, Bool, false, ◌==◌, Option, Some, None, refl, sym, ap, ◌∙◌, arith, append_assoc, take-append-drop, length-append, length-drop, length-take}
+use Rattle.std.proofs.Common.{◌≡◌, ℕ, ◌+◌, ◌-◌, ◌<◌, ◌≤◌, List, [], ◌++◌, length, take, drop, Bool, false, ◌==◌, Option, Some, None, rules, refl, sym, ap, subst, ◌∙◌, arith, append_assoc, take-append-drop, length-append, length-drop, length-take}
 use Rattle.std.specs.Io.KnownBytes.{Appends, Consumes, Keeps}
 use Rattle.std.proofs.KnownBytes.{Appends-trans, Consumes-kept, Consumes-nil, Consumes-trans}
-use Rattle.std.proofs.lemmas.List.{take_all}
+use Rattle.std.proofs.lemmas.List.{take_all, take_at, take-append-le, length-take-le, places}
+use borrow.Rule.Slice.PartMut.{put_mid, post_of}
 use Rattle.nbd_serve.specs.Streams.{IsPartWritten, IsShort, Skips}
 use Rattle.nbd_serve.specs.declared.calls.Short.{Short}
 use Rattle.nbd_serve.specs.declared.calls.Short.TheVariants as short
@@ -85,3 +86,41 @@ short_failed before mid after bytes wanted first kept few = record {
   few = few;
   ended = tt;
 }
+
+-- the front of a list that begins with n elements
+take_past : (n k : ℕ) (front rest : List ℕ) → length front ≡ n → k ≤ length rest → take (n + k) (front ++ rest) ≡ front ++ take k rest
+take_past n k front rest size room =
+    let split : front ++ rest ≡ (front ++ take k rest) ++ drop k rest =
+    ap (λ xs. front ++ xs) (sym (take-append-drop k rest)) ∙ sym (append_assoc front (take k rest) (drop k rest)) in
+    let long : length (front ++ take k rest) ≡ n + k =
+    length-append front (take k rest) ∙ ap (λ m. m + length (take k rest)) size ∙ ap (λ m. n + m) (length-take-le k rest room) in
+    ap (take (n + k)) split ∙ take_at (front ++ take k rest) (drop k rest) (n + k) long
+
+-- a read put bytes behind those that were read before
+pub filled_more : (before mid after : Option (List ℕ)) (buffer part : List ℕ) (done count : ℕ) → done ≤ length buffer
+    → length part ≡ length buffer - done → count ≤ length part → Consumes before mid (take done buffer)
+    → Consumes mid after (take count part)
+    → Consumes before after (take (done + count) (put_mid done (length buffer - done) buffer part))
+filled_more before mid after buffer part done count room size few first second =
+    let rest = post_of done (length buffer - done) buffer in
+    let size_rest : count ≤ length (part ++ rest) = omega (arith, length-append part rest) in
+    let all : take (done + count) (put_mid done (length buffer - done) buffer part) ≡ take done buffer ++ take count part =
+    take_past done count (take done buffer) (part ++ rest) (length-take-le done buffer room) size_rest
+    ∙ ap (λ xs. take done buffer ++ xs) (take-append-le count part rest few) in
+    let P : List ℕ → Type 0 = λ xs. Consumes before after xs in
+    subst P (sym all) (Consumes-trans before mid after _ _ first second)
+
+-- it keeps its length
+pub length_kept : (buffer part : List ℕ) (done : ℕ) → done ≤ length buffer → length part ≡ length buffer - done
+    → length (put_mid done (length buffer - done) buffer part) ≡ length buffer
+length_kept buffer part done room size = search (rules, places)
+
+-- a buffer whose front was read again keeps its length
+pub refilled : (front buffer : List ℕ) (n : ℕ) → length front ≡ n → length buffer ≡ 4096 → n ≤ 4096
+    → length (front ++ drop n buffer) ≡ 4096
+refilled front buffer n size long fits = omega (arith, length-append front (drop n buffer), length-drop n buffer)
+
+-- a Vec whose elements were written as a slice
+pub written_back : (len : ℕ) (items new : List ℕ) → len ≡ length items → length new ≡ length items
+    → take len (new ++ drop (length new) items) ≡ new
+written_back len items new whole kept = take_at new (drop (length new) items) len (kept ∙ sym whole)

@@ -60,20 +60,26 @@ pub record IsSilent (F : Flat) (held now : Option (List ℕ)) (G : Flat) : Type 
   pub held_is : now ≡ held
   pub same : G ≡ F
 
+-- what a session stops at while it reads or answers a request, by how it ends
+abbrev pub Breaks : End → ℕ → Flat → Option (List ℕ) → Option (List ℕ) → Option (List ℕ) → Option (List ℕ) → Flat → Type 0
+Breaks end.Disconnected size F before after held now G = IsFarewell before after × IsSilent F held now G
+Breaks end.Garbage size F before after held now G = IsGarbage before after × IsSilent F held now G
+Breaks end.Cut size F before after held now G = IsCutOff short.Ended before after × IsSilent F held now G
+Breaks end.ReadFault size F before after held now G = IsCutOff short.Failed before after × IsSilent F held now G
+Breaks end.WriteFault size F before after held now G = IsToldInPart size F before after held now G
+Breaks end.Limit size F before after held now G = ⊥
+Breaks end.Aborted size F before after held now G = ⊥
+Breaks end.Memory size F before after held now G = ⊥
+
 -- after how many requests a session stops
 abbrev pub most_requests : ℕ
 most_requests = 2 ^ 64 - 1
 
--- what a session stops at after n exchanges, by how it ends
+-- what a session stops at after n exchanges, by how it ends: at the limit, without memory for its buffers, or at a request
 abbrev pub Stops : End → ℕ → ℕ → Flat → Option (List ℕ) → Option (List ℕ) → Option (List ℕ) → Option (List ℕ) → Flat → Type 0
-Stops end.Disconnected n size F before after held now G = IsFarewell before after × IsSilent F held now G
-Stops end.Garbage n size F before after held now G = IsGarbage before after × IsSilent F held now G
-Stops end.Cut n size F before after held now G = IsCutOff short.Ended before after × IsSilent F held now G
-Stops end.ReadFault n size F before after held now G = IsCutOff short.Failed before after × IsSilent F held now G
-Stops end.WriteFault n size F before after held now G = IsToldInPart size F before after held now G
 Stops end.Limit n size F before after held now G = (n ≡ most_requests) × (after ≡ before) × IsSilent F held now G
-Stops end.Aborted n size F before after held now G = ⊥
 Stops end.Memory n size F before after held now G = (n ≡ 0) × (after ≡ before) × IsSilent F held now G
+Stops last n size F before after held now G = Breaks last size F before after held now G
 
 -- from state F on: whole exchanges, and then what the session stops at. The store represents the state at the end
 pub record Serves (represents : Flat → Type 0) (size : ℕ) (F : Flat) (last : End) (before after held now : Option (List ℕ)) : Type 0 where

@@ -117,15 +117,21 @@ pub(crate) fn answer<R: Read, S: ByteStore>(
     if let Some(error) = refusal_of(request, store.size()) {
         return refuse(reader, request, error, out);
     }
-    let outcome = match request.command {
-        Command::Read => return Ok(answer_read(store, request, out)),
+    match request.command {
+        Command::Read => Ok(answer_read(store, request, out)),
         Command::Write => match take_write(alloc, reader, store, request, data) {
-            Ok(outcome) => outcome,
-            Err(short) => return Err(short),
+            Ok(outcome) => Ok(tell(out, error_of(outcome), request)),
+            Err(short) => Err(short),
         },
-        Command::Trim | Command::WriteZeroes => zero(alloc, store, request),
-        Command::Flush => store.flush(),
-        Command::Cache | Command::Disconnect | Command::Other => Ok(()),
-    };
-    Ok(tell(out, error_of(outcome), request))
+        Command::Trim | Command::WriteZeroes => {
+            let outcome = zero(alloc, store, request);
+            Ok(tell(out, error_of(outcome), request))
+        }
+        Command::Flush => {
+            let outcome = store.flush();
+            Ok(tell(out, error_of(outcome), request))
+        }
+        // The last two were refused.
+        Command::Cache | Command::Disconnect | Command::Other => Ok(tell(out, None, request)),
+    }
 }
