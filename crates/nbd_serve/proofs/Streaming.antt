@@ -124,3 +124,8 @@ refilled front buffer n size long fits = omega (arith, length-append front (drop
 pub written_back : (len : ℕ) (items new : List ℕ) → len ≡ length items → length new ≡ length items
     → take len (new ++ drop (length new) items) ≡ new
 written_back len items new whole kept = take_at new (drop (length new) items) len (kept ∙ sym whole)
+
+-- it has no fewer than it had
+pub kept_room : (len : ℕ) (items new : List ℕ) → len ≡ length items → length new ≡ length items → 16 ≤ length items
+    → 16 ≤ length (take len (new ++ drop (length new) items))
+kept_room len items new whole kept room = let same = ap length (written_back len items new whole kept) in omega (arith, same, kept, room)

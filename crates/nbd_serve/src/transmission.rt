@@ -93,7 +93,7 @@ pub fn transmit<R: Read, W: Write, S: ByteStore>(
         return End::Memory;
     };
     let mut data = Vec::new(alloc);
-    for _served in 0..u64::MAX {
+    for served in 0..u64::MAX {
         if let Some(end) = exchange(alloc, reader, writer, store, &mut out, &mut data) {
             return end;
         }

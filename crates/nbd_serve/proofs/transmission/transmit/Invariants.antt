@@ -11,7 +11,7 @@ invariant-loop-served g l =
     let represents = g.S.ByteStore.represents in
     let sizes = g.S.ByteStore.sizes in record {
       room : 16 ≤ length l.out.items;
-      sizes : sizes l.store ≡ sizes l.fn.store;
+      same : sizes l.store ≡ sizes l.fn.store;
       along : (F : Flat) → represents l.fn.store F → IsAlong (represents l.store) (sizes l.fn.store).bytes l.served F
           (remaining l.fn.reader) (remaining l.reader) (contents l.fn.writer) (contents l.writer);
     }
