@@ -6,3 +6,6 @@ pub mod Forcing
 pub mod Exchanges
 pub mod Serving
 pub mod Stepping
+pub mod Options
+pub mod Handshaking
+pub mod Sessions

@@ -4,9 +4,13 @@
 mod answer;
 mod calls;
 mod end;
+mod handshake;
+mod options;
 mod refusal;
+mod session;
 mod store_calls;
 mod transmission;
 
 pub use end::End;
+pub use session::serve;
 pub use transmission::transmit;

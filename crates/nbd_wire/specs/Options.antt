@@ -2,6 +2,8 @@
 use Rattle.std.specs.Prelude.{◌≡◌, ℕ, ◌+◌, ◌*◌, List, [], ◌++◌, drop, length, replicate, Bool, true, false, ◌&&◌, ◌==◌, nat_le, if◌then◌else◌, Option, Some, None}
 use Rattle.byteorder.specs.Endian.{big_bytes, big_number}
 use Rattle.nbd_wire.specs.declared.client.OptionHead.{OptionHead}
+use Rattle.nbd_wire.specs.declared.client.OptionKind.{OptionKind}
+use Rattle.nbd_wire.specs.declared.client.OptionKind.TheVariants as kind
 use Rattle.nbd_wire.specs.declared.options.Export.{Export}
 use Rattle.nbd_wire.specs.declared.options.OptionReply.{OptionReply}
 use Rattle.nbd_wire.specs.declared.options.OptionReply.TheVariants as reply
@@ -25,6 +27,15 @@ abbrev pub no_zeroes_in : List ℕ → Option Bool
 no_zeroes_in flags =
     if nat_le (big_number 4 flags) 1 then Some false else
     if nat_le (big_number 4 flags) 3 then Some true else None
+
+-- the option of a number
+abbrev pub option_at : ℕ → OptionKind
+option_at n =
+    if n == 1 then kind.ExportName else
+    if n == 2 then kind.Abort else
+    if n == 3 then kind.List else
+    if n == 6 then kind.Info else
+    if n == 7 then kind.Go else kind.Other
 
 -- 16 bytes spell an option
 pub record SpellsOption (bytes : List ℕ) (head : OptionHead) : Type 0 where

@@ -13,11 +13,41 @@ pub const OPTION_HEAD_LEN: usize = 16;
 
 const OPTION_MAGIC: u64 = 0x4948_4156_454f_5054;
 
+/// The options. A client may send others.
+#[derive(Clone, Copy, Debug, PartialEq, Eq)]
+pub enum OptionKind {
+    /// The client asks for an export by its name, and goes on to the transmission phase without a reply in the form of replies.
+    ExportName,
+    Abort,
+    List,
+    Info,
+    Go,
+    Other,
+}
+
 /// Which option, and how many bytes of data come after its 16.
 #[derive(Clone, Copy, Debug, PartialEq, Eq)]
 pub struct OptionHead {
     pub option: u32,
     pub length: u32,
+}
+
+impl OptionHead {
+    ghost use Rattle.nbd_wire.specs.Options.{option_at};
+
+    /// Which of the options it is.
+    pub fn kind(&self) -> OptionKind
+        ensures { result ≡ option_at self.now.option }
+    {
+        match self.option {
+            1 => OptionKind::ExportName,
+            2 => OptionKind::Abort,
+            3 => OptionKind::List,
+            6 => OptionKind::Info,
+            7 => OptionKind::Go,
+            _ => OptionKind::Other,
+        }
+    }
 }
 
 /// Whether a client with these flags takes no zeroes after an export's size; none if it sets an unknown flag.
