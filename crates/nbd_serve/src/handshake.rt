@@ -102,7 +102,7 @@ fn option<R: Read, W: Write>(
         Ok(next) => next,
         Err(end) => return Some(Err(end)),
     };
-    if write_out(writer, out).is_err() {
+    if let Err(_) = write_out(writer, out) {
         return Some(Err(End::WriteFault));
     }
     match next {
