@@ -10,7 +10,7 @@ ghost use Rattle.array_parts.specs.Views.{view_of, FoundGone, WasPut, WasCopied,
 use crate::Parts;
 use crate::unit::{clear, join, make_wait, put_header};
 use extent_groups::{Class, SLOTS};
-use extents::{Drive, Header, Kind};
+use extents::{Drive, HEADER_BYTES, Header, Kind};
 use flat_machine::Refusal;
 
 impl<D: Drive> Parts<D> {
@@ -121,6 +121,21 @@ impl<D: Drive> Parts<D> {
     {
         if let Err(refusal) = self.read(from, unit, scratch) {
             return Err(refusal);
+        }
+        if let Some(Class::Mirrored) = self.groups.class_of(to / SLOTS) {
+            let header = header.encode();
+            let (whole, _part) = scratch.split_at_mut(unit.len());
+            let drives: &mut [D] = &mut self.drives;
+            return mirrored_store::write_gathered(
+                &self.groups,
+                drives,
+                to,
+                &header,
+                &unit[HEADER_BYTES..],
+                whole,
+            )
+            .ok()
+            .ok_or(Refusal::Gone(to));
         }
         put_header(unit, header);
         self.write(to, unit, scratch)

@@ -13,7 +13,7 @@ ghost use Rattle.array_parts.specs.Slots.{IsSlot, cells_in, missing_in, HoldsUni
 
 use crate::note::Note;
 use crate::slots::{read_group_headers, read_slot, read_slot_header, write_slot};
-use extent_groups::GroupTable;
+use extent_groups::{GroupTable, sync_drives};
 use extents::{Drive, ExtentTable, HEADER_BYTES, Shape};
 use flat_machine::Refusal;
 
@@ -175,5 +175,18 @@ impl<D: Drive> Parts<D> {
         write_slot(&self.groups, drives, slot, unit, scratch)
             .ok()
             .ok_or(Refusal::Gone(slot))
+    }
+    /// Makes all writes that were Ok durable: syncs each drive that isn't lost, in ascending order. One whose sync fails is lost.
+    pub fn sync(&mut self)
+        requires fit { IsFit D.units self.old }
+        ensures units { AreSound self.old.groups (cells_in D.units D.lost self.old)
+            → KeepsUnits self.old.groups (cells_in D.units D.lost self.old) (cells_in D.units D.lost self.new) }
+        ensures sound { AreSound self.old.groups (cells_in D.units D.lost self.old) → AreSound self.new.groups (cells_in D.units D.lost self.new) }
+        ensures only { LosesOnly D.units D.lost D.failures self.old self.new }
+        ensures fares { AllFare D.lost D.failures self.old.drives.items self.new.drives.items }
+        ensures fit { IsFit D.units self.new }
+    {
+        let drives: &mut [D] = &mut self.drives;
+        sync_drives(drives);
     }
 }

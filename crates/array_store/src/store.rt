@@ -2,6 +2,7 @@
 ghost use Rattle.std.specs.Prelude.{◌≡◌, ◌+◌, ◌*◌, ◌<◌, ◌≤◌, length, IfOk};
 ghost use Rattle.byte_store.specs.Flat.{Flat, Sizes, written_over};
 ghost use Rattle.byte_store.specs.Changes.{IsChanged, IsFlushed};
+ghost use Rattle.array_store.specs.Blocks.{Holds};
 ghost use Rattle.array_store.specs.Stores.{IsStoreOf};
 ghost use Rattle.background.specs.Views.{TiersView};
 
@@ -30,7 +31,12 @@ pub struct ArrayStore<D: Drive> {
 impl<D: Drive + Drop> ArrayStore<D> {
     /// The first `size` bytes of an array, which has that many. It allocates memory for one block; later calls allocate only
     /// what the array's writes do.
-    pub fn new(alloc: Global, tiers: Tiers<D>, size: u64) -> Result<ArrayStore<D>, AllocError> {
+    pub fn new(alloc: Global, tiers: Tiers<D>, size: u64) -> Result<ArrayStore<D>, AllocError>
+        requires { size ≤ tiers.world.array.parts.groups.blocks * tiers.world.array.parts.groups.payload }
+        ensures ok { IfOk result (λ s. (F : Flat) → Holds tiers F.bytes → length F.bytes ≡ size → F.unsynced ≡ false
+            → IsStoreOf s.tiers s.size s.unsynced F) }
+        ensures size { IfOk result (λ s. s.size ≡ size) }
+    {
         let bytes = tiers.world().array().shape().payload as usize;
         Ok(ArrayStore {
             tiers,
@@ -41,7 +47,9 @@ impl<D: Drive + Drop> ArrayStore<D> {
     }
 
     /// The array's world, for the calls that only read it.
-    pub fn world(&self) -> &World<D> {
+    pub fn world(&self) -> &World<D>
+        ensures { result.now ≡ self.now.tiers.world }
+    {
         self.tiers.world()
     }
 }
@@ -103,8 +111,10 @@ impl<D: Drive> ByteStore for ArrayStore<D> {
         Ok(())
     }
 
+    // A drive whose sync fails is lost. As long as it is the only one, the others have all bytes.
     fn flush(&mut self) -> Result<(), StoreFault> {
-        if !sync(&mut self.tiers) {
+        self.tiers.sync();
+        if lost_count(self.tiers.world()) > 1 {
             return Err(StoreFault::Sync);
         }
         self.unsynced = false;
@@ -112,7 +122,13 @@ impl<D: Drive> ByteStore for ArrayStore<D> {
     }
 }
 
-// Makes all writes of the drives durable.
-fn sync<D: Drive>(_tiers: &mut Tiers<D>) -> bool {
-    true
+// How many drives are lost.
+fn lost_count<D: Drive>(world: &World<D>) -> u8 {
+    let mut count = 0u8;
+    for drive in 0..world.array().drive_count() {
+        if world.array().is_lost(drive) {
+            count = count.saturating_add(1);
+        }
+    }
+    count
 }

@@ -1,16 +1,18 @@
 -- Steps after which what is kept next to the world is as it was.
-use Rattle.std.proofs.Common.{◌≡◌, ℕ, refl, sym, subst, Result, Ok, Err, inl, inr}
-use Rattle.std.specs.Prelude.{IfOk}
+use Rattle.std.proofs.Common.{◌≡◌, ℕ, refl, sym, ap, subst, Result, Ok, Err, inl, inr}
+use Rattle.std.specs.Prelude.{IfOk, OnOk}
 use Rattle.flat_machine.specs.Flat.{Flat}
 use Rattle.flat_machine.specs.Steps.{FlatStep, FlatAnswer, MovedExtent}
 use Rattle.flat_machine.specs.Steps as step
 use Rattle.flat_machine.specs.Cases.{Case, Leaves}
-use Rattle.slot_tables.specs.Views.{WorldView}
+use Rattle.flat_machine.specs.Shortened.{IsShortened}
+use Rattle.slot_tables.specs.Views.{WorldView, key_at}
 use Rattle.slot_tables.specs.Represents.{Represents}
 use Rattle.slot_tables.proofs.Fares.{itself}
 use Rattle.step_core.specs.declared.step.Answer.{Answer}
 use Rattle.step_core.specs.Told.{flat_answer}
 use Rattle.rebalancer.specs.declared.shift.Shift.{Shift}
+use Rattle.background.specs.Marking.{AreMarked}
 use Rattle.background.specs.Regrouping.{ShiftCase, BalanceCase, RebuildCase}
 use Rattle.background.specs.Stands.{StandsFor}
 use Rattle.background.specs.Steps.{StepNoted}
@@ -36,6 +38,36 @@ pub steps_if : {E : Type 0} (t : TiersView) (v : WorldView) (taken : FlatStep) (
     → IfOk r (λ a. (T : Tiered) → StandsFor t T → (U : Tiered) × StepNoted T taken (flat_answer a) U × StandsFor (record t { world = v }) U)
 steps_if t v taken (Ok a) calm takes = steps_with t v taken (flat_answer a) calm takes
 steps_if t v taken (Err e) calm takes = tt
+
+-- so is a call that may only lose drives
+pub syncs : (t : TiersView) (v : WorldView) → ((F : Flat) → Represents t.world F → (G : Flat) × Leaves F G × Represents v G)
+    → (T : Tiered) → StandsFor t T → (G : Flat) × Leaves T.flat G × StandsFor (record t { world = v }) (record T { flat = G })
+syncs t v leaves T stands =
+    let done = leaves T.flat stands.world in
+    (done.0, done.1, stands_left t v T done.0 stands done.2 done.1)
+
+-- and one that shortens the log: the order, its marks and the hints stay
+pub shortens : {E : Type 0} (t : TiersView) (v : WorldView) (r : Result (Unit {0}) E)
+    → OnOk r ((F : Flat) → Represents t.world F → (G : Flat) × IsShortened F G × Represents v G)
+    → OnOk r (v ≡ record t.world { array = record t.world.array { log = v.array.log } })
+    → OnOk r ((T : Tiered) → StandsFor t T → (G : Flat) × IsShortened T.flat G × StandsFor (record t { world = v }) (record T { flat = G }))
+shortens t v (Err e) shows rest = tt
+shortens t v (Ok done) shows rest = λ T stands.
+    let new = shows T.flat stands.world in
+    let keys : key_at v.array ≡ key_at t.world.array = ap (λ (w : WorldView). key_at w.array) rest in (
+      new.0,
+      new.1,
+      subst (λ (G : Flat). Represents v G → StandsFor (record t { world = v }) (record T { flat = G })) (sym new.1.is)
+          (λ rep. record {
+            world = rep;
+            order = stands.order;
+            long = stands.long;
+            end = stands.end;
+            marked = stands.marked;
+            marks = subst (λ (k : ℕ → ℕ). AreMarked t.planner.ages.marks T.flat.groups k) (sym keys) stands.marks;
+            hints = stands.hints;
+          }) new.2,
+    )
 
 module _ (t : TiersView) (v : WorldView) (T : Tiered) (G : Flat) (stands : StandsFor t T) (rep : Represents v G) where
   same : G ≡ T.flat → StandsFor (record t { world = v }) (record T { flat = G })

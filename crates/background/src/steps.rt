@@ -1,6 +1,8 @@
 // The steps of a world after which its planner and its free slots are as they were.
-ghost use Rattle.std.specs.Prelude.{◌≡◌, ◌<◌, ℕ, length, IfOk, OnErr, IsOk};
+ghost use Rattle.std.specs.Prelude.{◌≡◌, ◌<◌, ℕ, length, IfOk, OnOk, OnErr, IsOk};
+ghost use Rattle.flat_machine.specs.Cases.{Leaves};
 ghost use Rattle.flat_machine.specs.Flat.{Flat, Payload};
+ghost use Rattle.flat_machine.specs.Shortened.{IsShortened};
 ghost use Rattle.flat_machine.specs.Steps as f;
 ghost use Rattle.slot_tables.specs.Views.{SameSizes};
 ghost use Rattle.step_core.specs.Told.{flat_answer, read_answer};
@@ -64,6 +66,26 @@ impl<D: Drive> Tiers<D> {
         ensures room { SameSizes self.old.world.array self.new.world.array }
     {
         self.world.read_into(block, payload)
+    }
+
+    /// Makes all writes durable: syncs each drive that isn't lost, in ascending order. One whose sync fails is lost.
+    pub fn sync(&mut self)
+        ensures flat { (T : Tiered) → StandsFor self.old T
+            → (G : Flat) × Leaves T.flat G × StandsFor self.new (record T { flat = G }) }
+        ensures room { SameSizes self.old.world.array self.new.world.array }
+    {
+        self.world.sync();
+    }
+
+    /// Shortens the log to the newest record of each block, in the order of blocks. What is kept next to it stays: the order of
+    /// last writes and the end of the appended slots. If an allocation fails, nothing changes.
+    pub fn shorten_log(&mut self, alloc: Global) -> Result<(), AllocError>
+        ensures flat { OnOk result ((T : Tiered) → StandsFor self.old T
+            → (G : Flat) × IsShortened T.flat G × StandsFor self.new (record T { flat = G })) }
+        ensures err { OnErr result (self.new ≡ self.old) }
+        ensures room { SameSizes self.old.world.array self.new.world.array }
+    {
+        self.world.shorten_log(alloc)
     }
 
     /// Reads what lies at a record's place.

@@ -1,5 +1,6 @@
 pub mod Adopters
 pub mod Resting
+pub mod Shortening
 pub mod Ready
 pub mod UnitReads
 pub mod Living

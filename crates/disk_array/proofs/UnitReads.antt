@@ -17,7 +17,7 @@ use Rattle.slot_tables.specs.Views.{ArrayView, IsWhole}
 use Rattle.disk_array.specs.declared.array.Array.TheInside.{Inside}
 use Rattle.disk_array.specs.Inside.{seen, IsReady}
 use Rattle.disk_array.specs.Refused.{OnlyLoses}
-use Rattle.disk_array.proofs.Ready.{loses_keeps, still_whole, scratch_ready}
+use Rattle.disk_array.proofs.Ready.{loses_keeps, still_whole, scratch_ready, parts_ready}
 use Rattle.std.specs.Vec.{with_items}
 
 -- a slot that was found gone
@@ -56,4 +56,13 @@ module _ {D C : Type 0} (units : D → List (List ℕ)) (lost : D → Bool) (fai
     still_whole units lost failures a q (loses_keeps (view_of units lost failures a.parts) (view_of units lost failures q) left) fit stands.0,
     stands.1,
     scratch_ready units lost failures a q scratch (loses_keeps (view_of units lost failures a.parts) (view_of units lost failures q) left) fit stands.2,
+  )
+
+  -- the same where no buffer was overwritten
+  pub sync_stands : {Claims : Type 0} → IsFit units q → IsWhole (seen units lost failures a) × Claims × IsReady units a
+      → IsWhole (seen units lost failures (record a { parts = q })) × Claims × IsReady units (record a { parts = q })
+  sync_stands fit stands = (
+    still_whole units lost failures a q (loses_keeps (view_of units lost failures a.parts) (view_of units lost failures q) left) fit stands.0,
+    stands.1,
+    parts_ready units a q only.tables.groups fit stands.2,
   )

@@ -5,7 +5,8 @@ ghost use Rattle.extents.specs.declared.shape.TheConstants.{HEADER_BYTES};
 ghost use Rattle.extent_groups.specs.Faults.{put_fault};
 ghost use Rattle.extent_groups.specs.Groups.{AreThere, group_at, slots_in};
 ghost use Rattle.extent_groups.specs.Stores.{unit_bytes, unit_of, header_of, AreHeaders, AreSound, KeepsUnits};
-ghost use Rattle.flat_machine.specs.Flat.{content_under};
+ghost use Rattle.flat_machine.specs.Flat.{Flat, content_under};
+ghost use Rattle.flat_machine.specs.Cases.{Leaves};
 ghost use Rattle.flat_machine.specs.Groups.{IsLowestFree};
 ghost use Rattle.array_parts.specs.Slots.{IsSlot};
 ghost use Rattle.disk_array.specs.Refused.{OnlyLoses};
@@ -13,6 +14,7 @@ ghost use Rattle.array_parts.specs.Views.{cells_of, FoundGone, WasRead, Entered,
 ghost use Rattle.slot_tables.specs.Views.{with_parts, IsWhole};
 ghost use Rattle.slot_tables.specs.Making.{IsMakeReason};
 ghost use Rattle.slot_tables.specs.Changes.{opened_view, IsOpened};
+ghost use Rattle.slot_tables.specs.Represents.{ShowsArray};
 ghost use Rattle.slot_tables.specs.Shut.{AreShutOf};
 
 use crate::array::Array;
@@ -118,5 +120,12 @@ impl<D: Drive, C: Hold> Array<D, C> {
     {
         let scratch: &mut [u8] = &mut self.scratch;
         self.parts.read_headers(group, headers, scratch)
+    }
+    /// Makes all writes of the array durable: syncs each drive that isn't lost, in ascending order. One whose sync fails is lost.
+    pub fn sync(&mut self)
+        ensures loses { OnlyLoses self.old self.new }
+        ensures flat { (F : Flat) → ShowsArray self.old F → (G : Flat) × Leaves F G × ShowsArray self.new G }
+    {
+        self.parts.sync();
     }
 }

@@ -22,6 +22,7 @@ mod plan;
 mod read;
 mod reading;
 mod relocate;
+mod shorten;
 mod ticket;
 mod trim;
 mod units;

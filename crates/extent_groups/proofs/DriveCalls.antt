@@ -147,17 +147,23 @@ keeps_same units lost failures touched x = record {
   steady = steady_same (lost x) (failures x);
 }
 
--- a read of a drive
-pub kept_read : {D : Type 0} (units : D → List (List ℕ)) (lost : D → Bool) (failures : D → Failures) (p : Place) (x y : D) (ok : Bool)
-    → Called lost failures x y ok → units y ≡ units x → KeepsDrive units lost failures (λ at. NoPlace (record { drive = p.drive; address = at })) x y
-kept_read units lost failures p x y ok call same = record {
+-- a call of a drive that changes no unit
+pub kept_same : {D : Type 0} {units : D → List (List ℕ)} {lost : D → Bool} {failures : D → Failures} {touched : ℕ → Type 0} (x y : D) → units y ≡ units x
+    → (lost x ≡ true → lost y ≡ true) → Counts (lost x) (lost y) (failures x) (failures y) → StaysSteady (lost x) (lost y) (failures x) (failures y)
+    → KeepsDrive units lost failures touched x y
+kept_same x y same stays count steady = record {
   room = ap length same;
   sizes = λ n h. subst (IsSized n) (sym same) h;
   elsewhere = λ at no. ap (λ us. slice_get us at) same;
-  stays = call.stays;
-  count = call.count;
-  steady = call.steady;
+  stays = stays;
+  count = count;
+  steady = steady;
 }
+
+-- a read of a drive
+pub kept_read : {D : Type 0} (units : D → List (List ℕ)) (lost : D → Bool) (failures : D → Failures) (p : Place) (x y : D) (ok : Bool)
+    → Called lost failures x y ok → units y ≡ units x → KeepsDrive units lost failures (λ at. NoPlace (record { drive = p.drive; address = at })) x y
+kept_read units lost failures p x y ok call same = kept_same x y same call.stays call.count call.steady
 
 -- the units with one written have the size of all
 sized-set : (n at : ℕ) (us : List (List ℕ)) (u : List ℕ) → length u ≡ n → IsSized n us → IsSized n (slice_set us at u)

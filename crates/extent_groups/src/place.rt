@@ -86,3 +86,12 @@ pub fn write_gathered<D: Drive>(
         .write_gathered(place.address, front, rest, scratch)
         .is_ok()
 }
+
+/// Syncs each drive that isn't lost, in ascending order. One whose sync fails is lost, and the others are synced all the same.
+pub fn sync_drives<D: Drive>(drives: &mut [D])
+    ensures { KeepsDrives D.units D.lost D.failures NoPlace drives.old drives.new }
+{
+    for number in 0..drives.len() {
+        let _ = drives[number].sync();
+    }
+}

@@ -98,6 +98,21 @@ pub trait Drive {
         join(scratch, front, rest);
         self.write_unit(at, scratch)
     }
+
+    /// Makes all writes that were Ok durable; refused where the drive is lost or fails now, and then it is lost. Counts as
+    /// neither a read nor a write. A drive that something outlives, as a file does, overrides it; else there is nothing to do.
+    fn sync(&mut self) -> Result<(), DriveLost>
+        ensures units { units self.new ≡ units self.old }
+        ensures lost { lost self.new ≡ is_err result }
+        ensures stays { lost self.old ≡ true → lost self.new ≡ true }
+        ensures count { Counts (lost self.old) (lost self.new) (failures self.old) (failures self.new) }
+        ensures steady { StaysSteady (lost self.old) (lost self.new) (failures self.old) (failures self.new) }
+    {
+        if self.is_lost() {
+            return Err(DriveLost);
+        }
+        Ok(())
+    }
 }
 
 // Puts two pieces into a buffer, one after the other.

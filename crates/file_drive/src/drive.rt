@@ -3,7 +3,7 @@
 ghost use Rattle.std.specs.Prelude.{◌≡◌, ◌+◌, ◌*◌, ◌<◌, true, false, length, slice_set, is_err, IfOk, IfErr, OnOk, IsTrue};
 ghost use Rattle.extents.specs.declared.mem_drive.Condition.TheVariants.{Present};
 ghost use Rattle.extents.specs.declared.shape.TheConstants.{HEADER_BYTES};
-ghost use Rattle.extents.specs.Failures.{unsteady};
+ghost use Rattle.extents.specs.Failures.{Counts, StaysSteady, unsteady};
 ghost use Rattle.extents.specs.Sizes.{extent_units};
 ghost use Rattle.extents.specs.Units.{IsSized, loss};
 ghost use Rattle.file_drive.specs.Files.{AreHeld, Holds, Puts};
@@ -62,23 +62,6 @@ impl<B: Backing + Drop> FileDrive<B> {
             return Err(DriveLost);
         }
         Ok(self.backing)
-    }
-}
-
-impl<B: Backing> FileDrive<B> {
-    /// Makes all writes that were Ok durable. No other call does. Refused where the drive is lost or the backing fails now, and
-    /// then the drive is lost.
-    pub fn sync(&mut self) -> Result<(), DriveLost>
-        ensures units { self.new.cache.units ≡ self.old.cache.units }
-        ensures lost { self.new.lost ≡ is_err result }
-        ensures stays { self.old.lost ≡ true → self.new.lost ≡ true }
-        ensures durable { OnOk result (AreHeld (B.durable self.new.backing) self.new.cache.units) }
-    {
-        if self.lost || self.backing.sync().is_err() {
-            self.lost = true;
-            return Err(DriveLost);
-        }
-        Ok(())
     }
 }
 
@@ -151,6 +134,21 @@ impl<B: Backing> Drive for FileDrive<B> {
             return Err(DriveLost);
         }
         keep(&mut self.cache, at, unit);
+        Ok(())
+    }
+    /// `sync` of the backing. No other call makes writes durable.
+    fn sync(&mut self) -> Result<(), DriveLost>
+        ensures units { self.new.cache.units ≡ self.old.cache.units }
+        ensures lost { self.new.lost ≡ is_err result }
+        ensures stays { self.old.lost ≡ true → self.new.lost ≡ true }
+        ensures count { Counts self.old.lost self.new.lost (unsteady (loss false self.old.lost)) (unsteady (loss false self.new.lost)) }
+        ensures steady { StaysSteady self.old.lost self.new.lost (unsteady (loss false self.old.lost)) (unsteady (loss false self.new.lost)) }
+        ensures durable { OnOk result (AreHeld (B.durable self.new.backing) self.new.cache.units) }
+    {
+        if self.lost || self.backing.sync().is_err() {
+            self.lost = true;
+            return Err(DriveLost);
+        }
         Ok(())
     }
 }

@@ -3,7 +3,7 @@ ghost use Rattle.std.specs.Prelude.{None};
 
 use crate::tests::{reads, writes};
 use crate::{Backing, FileDrive, OnFile};
-use extents::Shape;
+use extents::{Drive, Shape};
 use std::alloc::Global;
 use std::fs::{self, OpenOptions};
 use std::io;

@@ -14,3 +14,4 @@ pub mod Holding
 pub mod Gones
 pub mod Rises
 pub mod Restarts
+pub mod Shortening

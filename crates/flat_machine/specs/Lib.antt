@@ -7,5 +7,6 @@ pub mod Numbers
 pub mod History
 pub mod Scanned
 pub mod Restarted
+pub mod Shortened
 pub mod Scans
 pub mod Learning

@@ -3,7 +3,7 @@
 
 mod task;
 
-use script_io::{End, run_script};
+use script_io::{End, run_and_leave};
 use std::process::ExitCode;
 use std::{env, io};
 use storm::{end_storm, run_storm};
@@ -24,7 +24,8 @@ fn main(rt: HostRuntime) -> ExitCode {
     };
     ExitCode::from(match task_of(rt.alloc(), &words) {
         Ok(Some(Task::Script)) => {
-            run_script(rt.alloc(), &mut rt.stdin(), &mut rt.stdout()).status()
+            let (end, _bench) = run_and_leave(rt.alloc(), &mut rt.stdin(), &mut rt.stdout());
+            end.status()
         }
         Ok(Some(Task::Storm { workers, writes })) => {
             let ended = run_storm(&rt, rt.alloc(), workers, writes);

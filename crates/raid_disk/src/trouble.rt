@@ -1,6 +1,7 @@
 //! Why the program ends early.
 use crate::folder::{Folder, Name};
 use disk_shape::ShapeFault;
+use nbd_serve::End;
 use std::alloc::{AllocError, AllocFailed};
 use std::io;
 
@@ -34,7 +35,7 @@ pub(crate) enum Trouble {
     /// Standard output can't be written.
     Output(io::Error),
     /// The client's stream broke, or isn't the protocol.
-    Stream(u8),
+    Stream(End),
     /// Some drive couldn't be synced at the end.
     Sync,
 }
@@ -76,7 +77,7 @@ impl Trouble {
             Trouble::Busy => eprintln!(rt; "raid_disk: {at}: another process has the disk"),
             Trouble::Words(error) => eprintln!(rt; "raid_disk: the command line can't be read: {error}"),
             Trouble::Output(error) => eprintln!(rt; "raid_disk: standard output can't be written: {error}"),
-            Trouble::Stream(broken) => eprintln!(rt; "raid_disk: {at}: the client's stream ended: {broken:?}"),
+            Trouble::Stream(end) => eprintln!(rt; "raid_disk: {at}: the client's session ended: {end:?}"),
             Trouble::Sync => eprintln!(rt; "raid_disk: {at}: a drive's file can't be synced"),
             Trouble::Unsound => eprintln!(rt; "raid_disk: {at}: the drives' files don't fit one another"),
             Trouble::Gone(slot) => {

@@ -1,6 +1,6 @@
 //! A line that is read for its words, and the reply to it.
 ghost use Rattle.std.specs.Prelude.{◌≡◌, ◌≤◌, length, Some, None};
-ghost use Rattle.script_exec.specs.State.{Position, State};
+ghost use Rattle.script_exec.specs.State.{State};
 ghost use Rattle.script_exec.specs.Carrying.{Stands, MakesBench};
 ghost use Rattle.script_exec.specs.Replies.{Replies, Starts};
 ghost use Rattle.script_exec.specs.Prefix.{IsPrefix};
@@ -17,8 +17,8 @@ use script_syntax::{Command, Verb, read_command};
 use std::alloc::Global;
 use step_core::World;
 
-/// Appends the answer to a line's command. `payload` is a buffer for a payload that the line spells or that is read from a
-/// block.
+/// Appends the answer to a line's command: the first one makes the array, and every later one is for the array or the maps.
+/// `payload` is a buffer for a payload that the line spells or that is read from a block.
 pub fn reply(
     alloc: Global,
     bench: &mut Option<Bench>,
@@ -31,10 +31,25 @@ pub fn reply(
         Replies result state bench.new line.now out.old.items out.new.items }
     ensures kept { IsPrefix out.old.items out.new.items }
 {
-    if bench.is_some() {
-        return later(alloc, bench, payload, line, out);
+    let Some(standing) = bench else {
+        return start(alloc, bench, line, out);
+    };
+    let shape = standing.tiers.world().array().shape();
+    let payload = &mut payload[..shape.payload as usize];
+    let mut command = Command::new(alloc);
+    if !read_command(alloc, line, payload, &mut command)? {
+        return Err(Failure::Wrong(Why::Form));
     }
-    start(alloc, bench, line, out)
+    if let Verb::Array = command.verb {
+        return Err(Failure::Wrong(Why::Form));
+    }
+    if !is_in_range(&command, shape.blocks) {
+        return Err(Failure::Wrong(Why::Range));
+    }
+    if let Verb::Restart = command.verb {
+        return Ok(restart(alloc, bench, out)?);
+    }
+    Ok(carry_out(alloc, standing, payload, &command, out)?)
 }
 
 // The reply where there is no array yet. Kept out of line, since its frame has room for a bench.
@@ -95,38 +110,4 @@ fn begin(
     };
     let tiers = Tiers::new(alloc, world)?;
     Ok(Bench::new(alloc, tiers))
-}
-
-// Every later command is for the array or the maps.
-fn later(
-    alloc: Global,
-    bench: &mut Option<Bench>,
-    payload: &mut [u8],
-    line: &[u8],
-    out: &mut Vec<u8>,
-) -> Result<(), Failure>
-    requires { 65536 ≤ length payload.old }
-    ensures replied { (P : Position) → Stands bench.old (Some P) →
-        Replies result (Some P) bench.new line.now out.old.items out.new.items }
-    ensures kept { IsPrefix out.old.items out.new.items }
-{
-    let Some(standing) = bench else {
-        return Err(Failure::Wrong(Why::Form))
-    };
-    let shape = standing.tiers.world().array().shape();
-    let payload = &mut payload[..shape.payload as usize];
-    let mut command = Command::new(alloc);
-    if !read_command(alloc, line, payload, &mut command)? {
-        return Err(Failure::Wrong(Why::Form));
-    }
-    if let Verb::Array = command.verb {
-        return Err(Failure::Wrong(Why::Form));
-    }
-    if !is_in_range(&command, shape.blocks) {
-        return Err(Failure::Wrong(Why::Range));
-    }
-    if let Verb::Restart = command.verb {
-        return Ok(restart(alloc, bench, out)?);
-    }
-    Ok(carry_out(alloc, standing, payload, &command, out)?)
 }

@@ -27,16 +27,18 @@ use Rattle.slot_tables.specs.declared.hand.Hand.TheVariants.{Empty, Holds, Waits
 use Rattle.slot_tables.specs.Changes.{IsPlaceOf, passed_hands}
 use Rattle.slot_tables.specs.declared.hold.Plain.{Plain}
 use Rattle.array_parts.specs.Views.{PartsView}
-use Rattle.slot_tables.specs.Views.{ArrayView, WorldView, with_parts, hand_at, key_at}
+use Rattle.slot_tables.specs.Views.{ArrayView, WorldView, with_parts, hand_at, key_at, SameSizes}
 use Rattle.slot_tables.specs.Represents.{HandSlot, InTables, ShowsArray, Represents, is_claim, is_ticket}
 use Rattle.slot_tables.proofs.Newest.{newest_told}
 use Rattle.slot_tables.proofs.Hands.{one_hand}
 use Rattle.slot_tables.proofs.Slots.{worker_hand, ticket_hand, block_hand, one_slot, shows_after}
 use Rattle.flat_machine.proofs.Holding.{step_holds, once_any}
-use Rattle.flat_machine.specs.History.{IsStep}
+use Rattle.flat_machine.specs.History.{IsStep, AreHeld}
 use Rattle.slot_tables.proofs.Places.{set_twice}
 use Rattle.disk_array.specs.Losing.{WasLost}
 use Rattle.step_core.specs.Passed.{given_old}
+use Rattle.flat_machine.specs.Shortened.{IsShortened}
+use Rattle.std.specs.Prelude.{OnOk, OnErr, Result, Ok, Err}
 
 -- a ticket that goes in at its slot, and the one that comes out of it put back; and a claim in place of a ticket
 pub hands_kept : (old hands now : List Hand) (t s w : ℕ) → old ≡ hands → t ≡ s → now ≡ set old t (Waits w) → now ≡ set hands s (Waits w)
@@ -356,3 +358,34 @@ fuse_world v F drive a rep shows = record {
   held = record { once = rep.held.once; inside = rep.held.inside };
   hands = rep.hands;
 }
+
+-- a world whose hands stay, after a call that may only lose drives
+pub sync_world : (v : WorldView) (F : Flat) (a : ArrayView) → Represents v F → (y : (G : Flat) × Leaves F G × ShowsArray a G)
+    → (G : Flat) × Leaves F G × Represents (record { array = a; hands = v.hands }) G
+sync_world v F a rep y = (
+  y.0,
+  y.1,
+  record {
+    array = y.2;
+    held = subst AreHeld (sym y.1.same) (record { once = rep.held.once; inside = rep.held.inside });
+    hands = hands_as v.hands y.0 F y.1 rep.hands;
+  },
+)
+
+-- and one whose log was shortened
+pub shortened_world : (v : WorldView) (F : Flat) (a : ArrayView) → Represents v F → (y : (G : Flat) × IsShortened F G × ShowsArray a G)
+    → (G : Flat) × IsShortened F G × Represents (record { array = a; hands = v.hands }) G
+shortened_world v F a rep y = (
+  y.0,
+  y.1,
+  record {
+    array = y.2;
+    held = subst AreHeld (sym y.1.is) (record { once = rep.held.once; inside = rep.held.inside });
+    hands = λ t. subst (λ (H : Flat). HandSlot (hand_at v.hands t) (H.held t)) (sym y.1.is) (rep.hands t);
+  },
+)
+
+-- its sizes stay, also where an allocation failed
+pub shortened_sizes : {E : Type 0} (r : Result (Unit {0}) E) (a b : ArrayView) → OnOk r (b ≡ record a { log = b.log }) → OnErr r (b ≡ a) → SameSizes a b
+shortened_sizes (Ok done) a b is err = record { payload = ap (λ (x : ArrayView). x.parts.groups.payload) is; blocks = ap (λ (x : ArrayView). x.parts.groups.blocks) is }
+shortened_sizes (Err e) a b is err = record { payload = ap (λ (x : ArrayView). x.parts.groups.payload) err; blocks = ap (λ (x : ArrayView). x.parts.groups.blocks) err }

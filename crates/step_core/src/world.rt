@@ -1,13 +1,14 @@
 // An array with eight workers, who hold plain claims.
-ghost use Rattle.std.specs.Prelude.{◌≡◌, ◌≢◌, ◌<◌, ◌≤◌, length, nat_le, IsOk, IfOk, IfErr, OnErr, Some};
+ghost use Rattle.std.specs.Prelude.{◌≡◌, ◌≢◌, ◌<◌, ◌≤◌, length, nat_le, IsOk, IfOk, IfErr, OnOk, OnErr, Some};
 ghost use Rattle.map_join.specs.declared.records.Record.{Record};
 ghost use Rattle.extents.specs.Failures.{no_failures};
 ghost use Rattle.extents.specs.Shapes.{IsShapeOf};
 ghost use Rattle.flat_machine.specs.Groups.{IsEmpty};
 ghost use Rattle.flat_machine.specs.Steps as say;
 ghost use Rattle.flat_machine.specs.Flat.{Flat, Payload, Trim, new_flat};
-ghost use Rattle.flat_machine.specs.Cases.{Case, IsWanted};
+ghost use Rattle.flat_machine.specs.Cases.{Case, IsWanted, Leaves};
 ghost use Rattle.flat_machine.specs.Moves.{with_fuse};
+ghost use Rattle.flat_machine.specs.Shortened.{IsShortened};
 ghost use Rattle.slot_tables.specs.Views.{kept_at, hand_at, has_no_holder, IsWhole, SameSizes, with_parts};
 ghost use Rattle.disk_array.specs.Losing.{WasFused};
 ghost use Rattle.slot_tables.specs.Represents.{Represents, is_claim};
@@ -23,7 +24,7 @@ use slot_tables::{Hand, Plain};
 use std::alloc::{AllocError, Global};
 use std::marker::Model;
 
-/// An array of drives in memory, and of each slot what a worker has in hand.
+/// An array of drives, and of each slot what a worker has in hand.
 #[derive(Drop)]
 pub struct World<D: Drive = MemDrive> {
     pub(crate) array: Array<D, Plain>,
@@ -280,6 +281,24 @@ impl<D: Drive> World<D> {
         ensures room { SameSizes self.old.array self.new.array }
     {
         self.array.read_into(block, payload)
+    }
+
+    /// Makes all writes durable: syncs each drive that isn't lost, in ascending order. One whose sync fails is lost.
+    pub fn sync(&mut self)
+        ensures flat { (F : Flat) → Represents self.old F → (G : Flat) × Leaves F G × Represents self.new G }
+        ensures room { SameSizes self.old.array self.new.array }
+    {
+        self.array.sync();
+    }
+
+    /// Shortens the log to the newest record of each block, as `Array::shorten_log` does: maps joined from it are the same.
+    pub fn shorten_log(&mut self, alloc: Global) -> Result<(), AllocError>
+        ensures flat { OnOk result ((F : Flat) → Represents self.old F → (G : Flat) × IsShortened F G × Represents self.new G) }
+        ensures rest { OnOk result (self.new ≡ record self.old { array = record self.old.array { log = self.new.array.log } }) }
+        ensures err { OnErr result (self.new ≡ self.old) }
+        ensures room { SameSizes self.old.array self.new.array }
+    {
+        self.array.shorten_log(alloc)
     }
 
     /// Makes a group.

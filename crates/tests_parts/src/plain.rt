@@ -54,4 +54,8 @@ impl Drive for PlainDrive {
     fn write_unit(&mut self, at: u32, unit: &[u8]) -> Result<(), DriveLost> {
         self.drive.write_unit(at, unit)
     }
+
+    fn sync(&mut self) -> Result<(), DriveLost> {
+        self.drive.sync()
+    }
 }

@@ -109,6 +109,10 @@ impl<'a> Drive for Recorder<'a> {
         }
         result
     }
+
+    fn sync(&mut self) -> Result<(), DriveLost> {
+        self.drive.sync()
+    }
 }
 
 /// A recording drive of zeros.

@@ -9,3 +9,5 @@ mod files;
 mod rig;
 #[cfg(test)]
 mod room;
+#[cfg(test)]
+mod syncs;

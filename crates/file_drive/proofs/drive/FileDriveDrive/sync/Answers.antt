@@ -1,6 +1,6 @@
 use Rattle.std.proofs.Common.{sym}
 use Rattle.file_drive.proofs.Held.{synced}
-use Rattle.file_drive.proofs.drive.FileDrive.sync.Goals as goal
+use Rattle.file_drive.proofs.drive.FileDriveDrive.sync.Goals as goal
 
 pub returns-clause-durable : goal.returns-clause-durable
 returns-clause-durable g c =

@@ -3,7 +3,7 @@ use Rattle.extent_groups.specs.Groups.{Groups}
 use Rattle.step_core.specs.Views.{ArrayView, WorldView}
 use Rattle.script_syntax.specs.Order.{order_of}
 use Rattle.script_exec.proofs.Said.{buffer_size, unsaid, replied}
-use Rattle.script_exec.proofs.replies.later.Goals as goal
+use Rattle.script_exec.proofs.replies.reply.Goals as goal
 
 pub returns-then-not-branch-clause-replied : goal.returns-then-not-branch-clause-replied
 returns-then-not-branch-clause-replied c P stands =

@@ -1,0 +1,31 @@
+// Two levels over disks of one's own.
+use crate::kept::open_disks;
+use crate::volume::array_over;
+use anyhow::{Context, Result, bail, ensure};
+use background::{Outcome, Tiers};
+use map_join::Record;
+use std::alloc::Global;
+use step_core::{Class, Given, Member, Shape, World};
+
+// Members of a group: this extent of each of three drives.
+fn members(extent: u16) -> [Member; 3] {
+    [0, 1, 2].map(|drive| Member { drive, extent })
+}
+
+/// Writes two blocks in two copies, and demotes the older one into a parity group: its record there.
+pub(crate) fn demote_older(alloc: Global, shape: Shape) -> Result<Record> {
+    let array = array_over(alloc, shape, open_disks(alloc, &shape)?)?;
+    let world = World::of(alloc, array).ok().context("no memory")?;
+    let mut tiers = Tiers::new(alloc, world)?;
+    tiers.make(alloc, Class::Mirrored, &members(0))?;
+    tiers.make(alloc, Class::Parity, &members(1))?;
+    let shape = tiers.world().array().shape();
+    ensure!(shape.payload == 8 && shape.blocks > 5, "another shape");
+    tiers.write(alloc, 3, Given::Payload(&[7; 8]))?;
+    tiers.write(alloc, 5, Given::Payload(&[9; 8]))?;
+    let Outcome::Placed(record) = tiers.demote(alloc)? else {
+        bail!("not demoted")
+    };
+    tiers.sync();
+    Ok(record)
+}
