@@ -11,7 +11,7 @@ use array_store::ArrayStore;
 use background::Tiers;
 use disk_shape::{Plan, class_of, member_at};
 use extent_groups::{GROUPS, GroupRefusal, GroupTable, SLOTS};
-use extents::ExtentTable;
+use extents::{Drive, ExtentTable};
 use file_drive::{FileDrive, OnFile, OpenRefusal};
 use header_scan::{ScanFault, restart};
 use std::alloc::{AllocError, Global};
