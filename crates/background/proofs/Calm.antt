@@ -62,10 +62,12 @@ shortens t v (Ok done) shows rest = λ T stands.
             world = rep;
             order = stands.order;
             long = stands.long;
+            each = stands.each;
             end = stands.end;
             marked = stands.marked;
             marks = subst (λ (k : ℕ → ℕ). AreMarked t.planner.ages.marks T.flat.groups k) (sym keys) stands.marks;
             hints = stands.hints;
+            holes = stands.holes;
           }) new.2,
     )
 

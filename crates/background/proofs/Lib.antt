@@ -6,12 +6,16 @@ pub mod Marks
 pub mod Words
 pub mod Hinted
 pub mod Counts
+pub mod Ordered
 pub mod Standing
 pub mod Stopping
 pub mod Moving
+pub mod Due
+pub mod Skips
 pub mod Rooms
+pub mod Unreadable
 pub mod Leaving
-pub mod Full
 pub mod Counting
+pub mod Full
 pub mod Calm
 pub mod Scanned

@@ -123,7 +123,7 @@ mirrored_record groups None is = absurd (cc)
 mirrored_record groups (Some r) is = (r, refl)
 
 -- of two ways to say the same of blocks the oldest are the same
-oldest_by : (order : List ℕ) (P Q : ℕ → Type 0) (chosen : Option ℕ) → ((b : ℕ) → P b ↔ Q b) → IsOldest order P chosen → IsOldest order Q chosen
+pub oldest_by : (order : List ℕ) (P Q : ℕ → Type 0) (chosen : Option ℕ) → ((b : ℕ) → P b ↔ Q b) → IsOldest order P chosen → IsOldest order Q chosen
 oldest_by order P Q None same h = λ c has q. h c has ((same c).1 q)
 oldest_by order P Q (Some b) same h = record { passes = (same b).0 h.passes; among = h.among; oldest = λ c has q ne. h.oldest c has ((same c).1 q) ne }
 

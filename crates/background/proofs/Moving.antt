@@ -7,7 +7,8 @@ use Rattle.std.proofs.lemmas.List.{length-set}
 use Rattle.map_join.specs.declared.records.Record.{Record}
 use Rattle.map_join.specs.Record.{record_at}
 use Rattle.map_join.specs.Maps.{IsMapOf}
-use Rattle.extent_groups.specs.declared.class.Class.TheVariants.{Mirrored}
+use Rattle.extent_groups.specs.declared.class.Class.{Class}
+use Rattle.extent_groups.specs.declared.class.Class.TheVariants.{Mirrored, Parity}
 use Rattle.extent_groups.specs.declared.class.Member.{Member}
 use Rattle.extent_groups.specs.Geometry.{slot_count}
 use Rattle.extent_groups.specs.Groups.{Group, Groups, group_at, members_of, class_in, slots_in, with_group, with_member, swapped_in}
@@ -56,8 +57,8 @@ module _ (groups : Groups) (g k : ℕ) (to : Member) (some : slice_get (members_
   pub slots_still : (h : ℕ) → slots_in groups.segments (group_at now h) ≡ slots_in groups.segments (group_at groups h)
   slots_still h = still (slots_in groups.segments) (ap (λ n. slot_count found.0.class n groups.segments) (length-set found.0.members k to)) h
 
-  pub slot_was : (s : ℕ) → IsSlotOf Mirrored now s → IsSlotOf Mirrored groups s
-  slot_was s is = record { made = sym (class_still (s / 128)) ∙ is.made; below = subst (λ n. s % 128 < n) (slots_still (s / 128)) is.below }
+  pub slot_was : (class : Class) (s : ℕ) → IsSlotOf class now s → IsSlotOf class groups s
+  slot_was class s is = record { made = sym (class_still (s / 128)) ∙ is.made; below = subst (λ n. s % 128 < n) (slots_still (s / 128)) is.below }
 
   pub mirrored_still : (o : Option Record) → class_at now o ≡ class_at groups o
   mirrored_still None = refl
@@ -82,12 +83,17 @@ stands_moved t v T G g k to stands rep some leaves =
       world = rep;
       order = stands.order;
       long = stands.long ∙ sym blocks;
+      each = λ b low. stands.each b (subst (λ n. b < n) blocks low);
       end = stands.end;
       marked = stands.marked ∙ sym blocks;
       marks = marked_moved T.flat G (key_at t.world.array) (key_at v.array) t.planner.ages.marks g k to some groups
           (same_map T.flat.emitted (key_at t.world.array) (key_at v.array) stands.world.array.history.map (subst (λ rs. IsMapOf rs (key_at v.array)) emitted rep.array.history.map)) stands.marks;
       hints = λ s free. stands.hints s (
-        slot_was T.flat.groups g k to some s (subst (λ z. IsSlotOf Mirrored z s) groups free.0),
+        slot_was T.flat.groups g k to some Mirrored s (subst (λ z. IsSlotOf Mirrored z s) groups free.0),
+        λ h. sym (ap (λ (x : Flat). x.held s h) leaves.same) ∙ free.1 h,
+      );
+      holes = λ s free. stands.holes s (
+        slot_was T.flat.groups g k to some Parity s (subst (λ z. IsSlotOf Parity z s) groups free.0),
         λ h. sym (ap (λ (x : Flat). x.held s h) leaves.same) ∙ free.1 h,
       );
     }

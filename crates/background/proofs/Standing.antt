@@ -1,5 +1,5 @@
 -- What represents a flat state with what is kept next to it, after each part of a step.
-use Rattle.std.proofs.Common.{◌≡◌, ◌≢◌, ◌⊎◌, ℕ, ◌+◌, ◌/◌, ◌%◌, ◌<◌, if◌then◌else◌, arith, ◌↔◌, inl, inr, List, length, slice_set, refl, sym, ap, ◌∙◌, subst, Option, Some, None, Result, Ok, Err}
+use Rattle.std.proofs.Common.{◌≡◌, ◌≢◌, ◌⊎◌, ℕ, ◌+◌, ◌/◌, ◌%◌, ◌<◌, if◌then◌else◌, arith, ◌↔◌, inl, inr, List, length, slice_set, Contains, refl, sym, ap, ◌∙◌, subst, Option, Some, None, Result, Ok, Err}
 use Rattle.std.specs.declared.alloc.AllocError.{AllocError}
 use Rattle.std.specs.Prelude.{IfOk, OnErr, MatchOption}
 use Rattle.std.proofs.lemmas.List.{length-set}
@@ -12,7 +12,7 @@ use Rattle.extent_groups.proofs.Bounds.{made_low}
 use Rattle.std.proofs.lemmas.Bool.{cases_eq}
 use Rattle.extent_groups.specs.declared.class.Class.{Class}
 use Rattle.extent_groups.specs.declared.class.Member.{Member}
-use Rattle.extent_groups.specs.declared.class.Class.TheVariants.{Mirrored}
+use Rattle.extent_groups.specs.declared.class.Class.TheVariants.{Mirrored, Parity}
 use Rattle.extent_groups.specs.Stores.{IsSlotOf}
 use Rattle.flat_machine.specs.Flat.{Flat, Content, Waiting, IsFree}
 use Rattle.flat_machine.specs.Flat as waiting
@@ -41,7 +41,7 @@ use Rattle.step_core.specs.Placing.{Places}
 use Rattle.flat_machine.specs.declared.refusal.Refusal.{Refusal}
 use Rattle.flat_machine.specs.declared.refusal.Refusal.TheVariants.{Memory}
 use Rattle.background.specs.Placing.{Put, Fresh, Again, PlaceCase, place_of, put_step, put_answer}
-use Rattle.background.specs.Steps.{StepNoted, AppendsAt, MovesTo, WritesAt, WritesIn, PutStops, DemoteCase, PlugCase, Cleans, CleanCase, WriteCase, CommitNoted, IsFreeMirror, end_after, order_behind}
+use Rattle.background.specs.Steps.{StepNoted, AppendsAt, MovesTo, WritesAt, WritesIn, PutStops, DemoteCase, PlugCase, Cleans, CleanCase, WriteCase, CommitNoted, IsFreeMirror, IsFreeHole, end_after, order_behind}
 use Rattle.background.specs.Stands.{StandsFor}
 use Rattle.background.specs.Inside.{IsFreeHere}
 use Rattle.background.specs.Marking.{AreMarked, IsNoted, PutsAt, is_mirrors, order_noted, order_put}
@@ -54,6 +54,7 @@ use Rattle.background.proofs.Placings.{CommitIs, outcome_of, commit_is}
 use Rattle.background.proofs.Emitting.{IsAlike, HasEmitted, IsCalm, alike_left, alike_released, calm_alike, commit_emits, place_emits, place_alike, stops_alike}
 use Rattle.background.proofs.Freeing.{unmade_frees, Frees, FreesNone, IsPlaceIn, left_frees, release_frees, commit_frees, stops_free, place_frees, place_keeps, step_frees, made_frees}
 use Rattle.background.specs.Hints.{IsHinted}
+use Rattle.background.proofs.Ordered.{number_there, still_noted}
 use Rattle.background.proofs.Marks.{marked_alike, marked_emitted, marked_made, marked_unmade}
 use Rattle.step_core.proofs.Worlds.{refused_leaves}
 use Rattle.background.specs.Views.{TiersView}
@@ -75,19 +76,23 @@ block_there : (t : TiersView) (T : Tiered) (b : ℕ) → StandsFor t T → b < t
 block_there t T b stands inside =
     subst (λ n. b < n) (sym (ap length stands.order ∙ stands.long ∙ ap (λ (z : Groups). z.blocks) (groups_of t T stands))) inside
 
+-- each free slot of the groups of a class is hinted
+abbrev pub AreHinted : Class → Flat → List ℕ → Type 0
+AreHinted class F hints = (s : ℕ) → IsSlotOf class F.groups s × IsFree F s → IsHinted hints s
+
 -- hinted slots after a step that leaves the groups, where what becomes free is hinted
-hints_keep : (F G : Flat) (was is : List ℕ) (P : ℕ → Type 0) → G.groups ≡ F.groups → Frees F G P → ((s : ℕ) → P s → IsHinted is s)
-    → ((s : ℕ) → IsHinted was s → IsHinted is s) → ((s : ℕ) → IsFreeMirror F s → IsHinted was s) → (s : ℕ) → IsFreeMirror G s → IsHinted is s
-hints_keep F G was is P groups frees new others hinted s free = go (frees s free.1)
+hints_keep : (class : Class) (F G : Flat) (was is : List ℕ) (P : ℕ → Type 0) → G.groups ≡ F.groups → Frees F G P → ((s : ℕ) → P s → IsHinted is s)
+    → ((s : ℕ) → IsHinted was s → IsHinted is s) → AreHinted class F was → AreHinted class G is
+hints_keep class F G was is P groups frees new others hinted s free = go (frees s free.1)
   where
     go : IsFree F s ⊎ P s → IsHinted is s
-    go (inl there) = others s (hinted s (subst (λ z. IsSlotOf Mirrored z s) groups free.0, there))
+    go (inl there) = others s (hinted s (subst (λ z. IsSlotOf class z s) groups free.0, there))
     go (inr left) = new s left
 
 -- the same where nothing becomes free
-hints_still : (F G : Flat) (hints : List ℕ) → G.groups ≡ F.groups → FreesNone F G → ((s : ℕ) → IsFreeMirror F s → IsHinted hints s)
-    → (s : ℕ) → IsFreeMirror G s → IsHinted hints s
-hints_still F G hints groups frees hinted = hints_keep F G hints hints (λ s. ⊥) groups (λ s free. inl (frees s free)) (λ s no. absurd no) (λ s h. h) hinted
+hints_still : (class : Class) (F G : Flat) (hints : List ℕ) → G.groups ≡ F.groups → FreesNone F G → AreHinted class F hints → AreHinted class G hints
+hints_still class F G hints groups frees hinted =
+    hints_keep class F G hints hints (λ s. ⊥) groups (λ s free. inl (frees s free)) (λ s no. absurd no) (λ s h. h) hinted
 
 -- the place that a block had before it was placed
 left_in : (hints : List ℕ) (old : Option Record) (left : Option ℕ) → left ≡ place_of old → MatchOption left (Unit {0}) (λ n. IsHinted hints n)
@@ -103,18 +108,20 @@ Notes groups before after r = r.block < length before.ages.order → IsNoted gro
 -- what is kept next to the world after a commit that was noted
 stands_noted : (t u : TiersView) (T : Tiered) (G : Flat) (b : ℕ) (r : Record) (order : List ℕ) → Notes u.world.array.parts.groups t.planner u.planner r
     → length u.planner.ages.order ≡ length t.planner.ages.order → u.planner.end ≡ t.planner.end → b < t.world.array.parts.groups.blocks
-    → StandsFor t T → Represents u.world G → HasEmitted T.flat G b r → order_noted T.order r ≡ order → ((s : ℕ) → IsFreeMirror G s → IsHinted u.hints s)
-    → StandsFor u (record T { flat = G; order = order })
-stands_noted t u T G b r order notes long end inside stands rep emits as_said hints = record {
+    → StandsFor t T → Represents u.world G → HasEmitted T.flat G b r → order_noted T.order r ≡ order → AreHinted Mirrored G u.hints
+    → AreHinted Parity G u.holes → StandsFor u (record T { flat = G; order = order })
+stands_noted t u T G b r order notes long end inside stands rep emits as_said hints holes = record {
   world = rep;
   order = told;
   long = ap length (sym told) ∙ long ∙ ap length stands.order ∙ stands.long ∙ sym blocks;
+  each = λ c low. subst (λ l. Contains l c) as_said (still_noted T.order r c (stands.each c (subst (λ n. c < n) blocks low)));
   end = end ∙ stands.end;
   marked = ap length marks ∙ length-set t.planner.ages.marks b (is_mirrors (class_at G.groups (Some r))) ∙ stands.marked ∙ sym blocks;
   marks = subst (λ ms. AreMarked ms G.groups (key_at u.world.array)) (sym marks)
       (marked_emitted T.flat G (key_at t.world.array) (key_at u.world.array) t.planner.ages.marks b r rep.array.history.records within
       stands.world.array.history.map rep.array.history.map emits stands.marks);
   hints = hints;
+  holes = holes;
 }
   where
     noted : IsNoted u.world.array.parts.groups t.planner.ages u.planner.ages r
@@ -141,10 +148,12 @@ stands_alike t v T G stands rep alike frees =
       world = rep;
       order = stands.order;
       long = stands.long ∙ sym blocks;
+      each = λ b low. stands.each b (subst (λ n. b < n) blocks low);
       end = stands.end;
       marked = stands.marked ∙ sym blocks;
       marks = marked_alike T.flat G (key_at t.world.array) (key_at v.array) t.planner.ages.marks stands.world.array.history.map rep.array.history.map alike stands.marks;
-      hints = hints_still T.flat G t.hints alike.groups frees stands.hints;
+      hints = hints_still Mirrored T.flat G t.hints alike.groups frees stands.hints;
+      holes = hints_still Parity T.flat G t.holes alike.groups frees stands.holes;
     }
 
 -- after a step that leaves the state but for drives that failed, and after one that emits no record, changes no group and frees
@@ -189,8 +198,9 @@ pub puts : (t u : TiersView) (w s b : ℕ) (what : Put) (placed : Placed) → Pl
     → Notes u.world.array.parts.groups t.planner u.planner placed.newest
     → length u.planner.ages.order ≡ length t.planner.ages.order → u.planner.end ≡ t.planner.end → b < t.world.array.parts.groups.blocks
     → MatchOption placed.left (Unit {0}) (λ n. IsHinted u.hints n) → ((n : ℕ) → IsHinted t.hints n → IsHinted u.hints n)
+    → MatchOption placed.left (Unit {0}) (λ n. IsHinted u.holes n) → ((n : ℕ) → IsHinted t.holes n → IsHinted u.holes n)
     → PutsTo t u w s b what (outcome.Placed placed.newest)
-puts t u w s b what placed places notes long end inside hinted others T stands =
+puts t u w s b what placed places notes long end inside hinted others hole_hinted other_holes T stands =
     let p = places T.flat stands.world in
     let r = placed.newest in
     let is = p.1.0 in
@@ -201,8 +211,10 @@ puts t u w s b what placed places notes long end inside hinted others T stands =
       (p.0, is, refl),
       stands_noted t u T p.0 b r (order_put T.order b what (outcome.Placed r)) notes long end inside stands p.2 emits
           (order_is run.2.0 run.2.2.0 w s b T.order r run.2.2.1 ∙ order_waits run.0 run.2.0 what w s b T.order r run.2.1)
-          (hints_keep T.flat p.0 t.hints u.hints (IsPlaceIn is.old) emits.groups (place_frees T.flat p.0 w s b what r is)
-          (left_in u.hints is.old placed.left p.1.1 hinted) others stands.hints),
+          (hints_keep Mirrored T.flat p.0 t.hints u.hints (IsPlaceIn is.old) emits.groups (place_frees T.flat p.0 w s b what r is)
+          (left_in u.hints is.old placed.left p.1.1 hinted) others stands.hints)
+          (hints_keep Parity T.flat p.0 t.holes u.holes (IsPlaceIn is.old) emits.groups (place_frees T.flat p.0 w s b what r is)
+          (left_in u.holes is.old placed.left p.1.1 hole_hinted) other_holes stands.holes),
     )
 
 -- nothing is placed
@@ -267,10 +279,12 @@ appends t m p w s b o puts same noted T stands =
         world = st.world;
         order = ap (λ (g : Marked). g.order) same ∙ st.order;
         long = st.long;
+        each = st.each;
         end = noted ∙ ap (λ (e : End). end_after e s o) st.end;
         marked = ap (λ (g : Marked). length g.marks) same ∙ st.marked;
         marks = subst (λ (g : Marked). AreMarked g.marks d.1.0.groups (key_at m.world.array)) (sym same) st.marks;
         hints = st.hints;
+        holes = st.holes;
       },
     )
 
@@ -289,7 +303,7 @@ pub first_as : (P Q : ℕ → Type 0) (found : Option ℕ) → ((m : ℕ) → P 
 first_as P Q None same h = λ n q. h n ((same n).1 q)
 first_as P Q (Some n) same h = lowest_as P Q n same h
 
-append_as : (end : End) (groups : Groups) (keys : ℕ → ℕ) (P Q : ℕ → Type 0) (found : Option ℕ) → ((m : ℕ) → P m ↔ Q m)
+pub append_as : (end : End) (groups : Groups) (keys : ℕ → ℕ) (P Q : ℕ → Type 0) (found : Option ℕ) → ((m : ℕ) → P m ↔ Q m)
     → IsFirstAppend end groups keys P found → IsFirstAppend end groups keys Q found
 append_as end groups keys P Q None same h = λ slot is q. h slot is ((same slot).1 q)
 append_as end groups keys P Q (Some n) same (inl h) =
@@ -318,13 +332,16 @@ oldest_is t a chosen same oldest T stands =
 pub as_state : (P : Groups → End → Type 0) (t : TiersView) (T : Tiered) → StandsFor t T → P t.world.array.parts.groups t.planner.end → P T.flat.groups T.end
 as_state P t T stands h = subst (P T.flat.groups) stands.end (subst (λ z. P z t.planner.end) (sym (groups_of t T stands)) h)
 
+pub append_by : (P Q : ℕ → Type 0) (t : TiersView) (p : Planner) (a : ArrayView) (T : Tiered) (slot : Option ℕ) → ((s : ℕ) → P s ↔ Q s) → a ≡ t.world.array → p ≡ t.planner
+    → StandsFor t T → IsNextAppend a p P slot → IsFirstAppend T.end T.flat.groups (key_at t.world.array) Q slot
+append_by P Q t p a T slot same array planner stands h =
+    let here = subst (λ (x : ArrayView). IsNextAppend x t.planner P slot) array (subst (λ (q : Planner). IsNextAppend a q P slot) planner h) in
+    append_as T.end T.flat.groups (key_at t.world.array) P Q slot same (as_state (λ groups end. IsFirstAppend end groups (key_at t.world.array) P slot) t T stands here)
+
 pub append_is : (t : TiersView) (p : Planner) (a : ArrayView) (T : Tiered) (slot : Option ℕ) → a ≡ t.world.array → p ≡ t.planner → StandsFor t T
     → IsNextAppend a p (IsFreeHere t.world) slot → IsFirstAppend T.end T.flat.groups (key_at t.world.array) (IsFree T.flat) slot
 append_is t p a T slot array planner stands h =
-    let here = subst (λ (x : ArrayView). IsNextAppend x t.planner (IsFreeHere t.world) slot) array
-    (subst (λ (q : Planner). IsNextAppend a q (IsFreeHere t.world) slot) planner h) in
-    append_as T.end T.flat.groups (key_at t.world.array) (IsFreeHere t.world) (IsFree T.flat) slot (λ s. free_iff t.world T.flat s stands.world)
-    (as_state (λ groups end. IsFirstAppend end groups (key_at t.world.array) (IsFreeHere t.world) slot) t T stands here)
+    append_by (IsFreeHere t.world) (IsFree T.flat) t p a T slot (λ s. free_iff t.world T.flat s stands.world) array planner stands h
 
 -- a placing by a plan is the case of its step
 pub demotes : {E : Type 0} (t u : TiersView) (p : Planner) (a : ArrayView) (w b s : ℕ) (r : Result Outcome E) → a ≡ t.world.array → p ≡ t.planner → OldestIs t (Some b)
@@ -480,21 +497,26 @@ writes_behind t m v u w b x demoted (Ok o) none down again = λ T stands.
     )
 
 -- a new planner has a place for each block, and marks where there are any to be
-pub begins : (v : WorldView) (F : Flat) (p : Planner) (hints : List ℕ) → p.ages.order ≡ by_number v.array.parts.groups.blocks → length p.ages.marks ≡ v.array.parts.groups.blocks
+pub begins : (v : WorldView) (F : Flat) (p : Planner) (hints holes : List ℕ) → p.ages.order ≡ by_number v.array.parts.groups.blocks → length p.ages.marks ≡ v.array.parts.groups.blocks
     → AreMarked p.ages.marks v.array.parts.groups (key_at v.array) → p.end ≡ at_start
-    → ((s : ℕ) → s < 65536 → IsHinted hints s) → Represents v F → StandsFor (record { world = v; planner = p; hints = hints }) (begun F)
-begins v F p hints is long marked start all_hinted rep =
+    → ((s : ℕ) → s < 65536 → IsHinted hints s) → ((s : ℕ) → s < 65536 → IsHinted holes s) → Represents v F
+    → StandsFor (record { world = v; planner = p; hints = hints; holes = holes }) (begun F)
+begins v F p hints holes is long marked start all_hinted all_holes rep =
     let groups : v.array.parts.groups ≡ F.groups = sym rep.array.tables.groups in
     let all : v.array.parts.groups.blocks ≡ F.groups.blocks = ap (λ (z : Groups). z.blocks) groups in record {
       world = rep;
       order = is ∙ ap by_number all;
       long = length-range_with_len 0 F.groups.blocks;
+      each = number_there F.groups.blocks;
       end = start;
       marked = long ∙ all;
       marks = subst (λ z. AreMarked p.ages.marks z (key_at v.array)) groups marked;
       hints = λ s free.
           let low = made_low F.groups (s / 128) Mirrored rep.array.history.groups.table.numbers free.0.made in
           all_hinted s (omega arith);
+      holes = λ s free.
+          let low = made_low F.groups (s / 128) Parity rep.array.history.groups.table.numbers free.0.made in
+          all_holes s (omega arith);
     }
 
 -- what a commit says of a world is true with what is noted of its record
@@ -508,7 +530,8 @@ commits t v p w s b r inside cases notes long end T stands =
       record T { flat = c.0; order = order_behind T.order b (step.Committed r) (T.flat.tickets s) },
       record { case = c.1; noted = refl; same = refl },
       stands_noted t (record t { world = v; planner = p }) T c.0 b r (order_behind T.order b (step.Committed r) (T.flat.tickets s)) notes long end inside stands c.2 emits
-          (order_is T.flat c.0 w s b T.order r c.1) (hints_still T.flat c.0 t.hints emits.groups (commit_frees T.flat c.0 w s b r c.1) stands.hints),
+          (order_is T.flat c.0 w s b T.order r c.1) (hints_still Mirrored T.flat c.0 t.hints emits.groups (commit_frees T.flat c.0 w s b r c.1) stands.hints)
+          (hints_still Parity T.flat c.0 t.holes emits.groups (commit_frees T.flat c.0 w s b r c.1) stands.holes),
     )
 
 -- and where it is refused nothing is noted
@@ -528,18 +551,21 @@ commits_none t v w s b a other cases T stands =
     go _ G other case is rep = absurd is
 
 -- after a group that is made
-stands_made : (t : TiersView) (v : WorldView) (hints : List ℕ) (T : Tiered) (G : Flat) (class : Class) (members : List Member) (g : ℕ) → StandsFor t T → Represents v G
+stands_made : (t : TiersView) (v : WorldView) (hints holes : List ℕ) (T : Tiered) (G : Flat) (class : Class) (members : List Member) (g : ℕ) → StandsFor t T → Represents v G
     → group_at T.flat.groups g ≡ None → ((s : ℕ) → s / 128 ≡ g → IsHinted hints s) → ((s : ℕ) → IsHinted t.hints s → IsHinted hints s)
-    → Leaves (made T.flat class members g) G → StandsFor (record t { world = v; hints = hints }) (record T { flat = G })
-stands_made t v hints T G class members g stands rep free new others leaves = record {
+    → ((s : ℕ) → s / 128 ≡ g → IsHinted holes s) → ((s : ℕ) → IsHinted t.holes s → IsHinted holes s)
+    → Leaves (made T.flat class members g) G → StandsFor (record t { world = v; hints = hints; holes = holes }) (record T { flat = G })
+stands_made t v hints holes T G class members g stands rep free new others new_holes other_holes leaves = record {
   world = rep;
   order = stands.order;
   long = stands.long ∙ sym blocks;
+  each = λ b low. stands.each b (subst (λ n. b < n) blocks low);
   end = stands.end;
   marked = stands.marked ∙ sym blocks;
   marks = marked_made T.flat G (key_at t.world.array) (key_at v.array) t.planner.ages.marks g group
       stands.world.array.history rep.array.history.map (ap (λ (x : Flat). x.emitted) leaves.same) groups free stands.marks;
-  hints = λ s is. hinted s is (cases_eq (s / 128) g);
+  hints = λ s is. hinted Mirrored t.hints hints new others stands.hints s is (cases_eq (s / 128) g);
+  holes = λ s is. hinted Parity t.holes holes new_holes other_holes stands.holes s is (cases_eq (s / 128) g);
 }
   where
     group : Option Group
@@ -551,47 +577,55 @@ stands_made t v hints T G class members g stands rep free new others leaves = re
     blocks : G.groups.blocks ≡ T.flat.groups.blocks
     blocks = ap (λ (z : Groups). z.blocks) groups
 
-    same_slot : (s : ℕ) → (s / 128 ≡ g → ⊥) → IsSlotOf Mirrored G.groups s → IsSlotOf Mirrored T.flat.groups s
-    same_slot s other is =
-        let there : IsSlotOf Mirrored (with_group T.flat.groups g group) s = subst (λ z. IsSlotOf Mirrored z s) groups is in
+    same_slot : (kind : Class) (s : ℕ) → (s / 128 ≡ g → ⊥) → IsSlotOf kind G.groups s → IsSlotOf kind T.flat.groups s
+    same_slot kind s other is =
+        let there : IsSlotOf kind (with_group T.flat.groups g group) s = subst (λ z. IsSlotOf kind z s) groups is in
         let at = group_other T.flat.groups g (s / 128) group other in record {
           made = ap class_in (sym at) ∙ there.made;
           below = subst (λ o. s % 128 < slots_in T.flat.groups.segments o) at there.below;
         }
 
-    hinted : (s : ℕ) → IsFreeMirror G s → (s / 128 ≡ g) ⊎ (s / 128 ≡ g → ⊥) → IsHinted hints s
-    hinted s is (inl own) = new s own
-    hinted s is (inr other) =
-        others s (stands.hints s (same_slot s other is.0, made_frees T.flat G (key_at t.world.array) class members g stands.world.array.history leaves s other is.1))
+    hinted : (kind : Class) (was is : List ℕ) → ((s : ℕ) → s / 128 ≡ g → IsHinted is s) → ((s : ℕ) → IsHinted was s → IsHinted is s) → AreHinted kind T.flat was
+        → (s : ℕ) → IsSlotOf kind G.groups s × IsFree G s → (s / 128 ≡ g) ⊎ (s / 128 ≡ g → ⊥) → IsHinted is s
+    hinted kind was is own_slots before all s found (inl own) = own_slots s own
+    hinted kind was is own_slots before all s found (inr other) =
+        before s (all s (same_slot kind s other found.0, made_frees T.flat G (key_at t.world.array) class members g stands.world.array.history leaves s other found.1))
 
 -- with more hints
-more_hints : (t : TiersView) (v : WorldView) (hints : List ℕ) (T : Tiered) (G : Flat) → ((s : ℕ) → IsHinted t.hints s → IsHinted hints s)
-    → StandsFor (record t { world = v }) (record T { flat = G }) → StandsFor (record t { world = v; hints = hints }) (record T { flat = G })
-more_hints t v hints T G others st = record {
+more_hints : (t : TiersView) (v : WorldView) (hints holes : List ℕ) (T : Tiered) (G : Flat) → ((s : ℕ) → IsHinted t.hints s → IsHinted hints s)
+    → ((s : ℕ) → IsHinted t.holes s → IsHinted holes s)
+    → StandsFor (record t { world = v }) (record T { flat = G }) → StandsFor (record t { world = v; hints = hints; holes = holes }) (record T { flat = G })
+more_hints t v hints holes T G others other_holes st = record {
   world = st.world;
   order = st.order;
   long = st.long;
+  each = st.each;
   end = st.end;
   marked = st.marked;
   marks = st.marks;
   hints = λ s free. others s (st.hints s free);
+  holes = λ s free. other_holes s (st.holes s free);
 }
 
-pub makes : (t : TiersView) (v : WorldView) (hints : List ℕ) (class : Class) (members : List Member) (a : Answer)
+pub makes : (t : TiersView) (v : WorldView) (hints holes : List ℕ) (class : Class) (members : List Member) (a : Answer)
     → ((F : Flat) → Represents t.world F → (G : Flat) × Case F (step.Make class members) (flat_answer a) G × Represents v G)
     → ((g s : ℕ) → a ≡ answer.Made g → g < 512 → s / 128 ≡ g → IsHinted hints s) → ((s : ℕ) → IsHinted t.hints s → IsHinted hints s)
-    → (T : Tiered) → StandsFor t T → (U : Tiered) × StepNoted T (step.Make class members) (flat_answer a) U × StandsFor (record t { world = v; hints = hints }) U
-makes t v hints class members a takes new others T stands =
+    → ((g s : ℕ) → a ≡ answer.Made g → g < 512 → s / 128 ≡ g → IsHinted holes s) → ((s : ℕ) → IsHinted t.holes s → IsHinted holes s)
+    → (T : Tiered) → StandsFor t T
+    → (U : Tiered) × StepNoted T (step.Make class members) (flat_answer a) U × StandsFor (record t { world = v; hints = hints; holes = holes }) U
+makes t v hints holes class members a takes new others new_holes other_holes T stands =
     let done = takes T.flat stands.world in
-    (record T { flat = done.0 }, (done.0, done.1, refl), go a done.0 done.2 done.1 new)
+    (record T { flat = done.0 }, (done.0, done.1, refl), go a done.0 done.2 done.1 new new_holes)
   where
     go : (b : Answer) (G : Flat) → Represents v G → Case T.flat (step.Make class members) (flat_answer b) G
-        → ((g s : ℕ) → b ≡ answer.Made g → g < 512 → s / 128 ≡ g → IsHinted hints s) → StandsFor (record t { world = v; hints = hints }) (record T { flat = G })
-    go (answer.Made g) G rep case new =
-        stands_made t v hints T G class members g stands rep case.0.2.free (λ s own. new g s refl case.0.2.limit own) others case.2
-    go (answer.Refused k) G rep case new =
-        more_hints t v hints T G others (stands_left t v T G stands rep (refused_leaves T.flat G (step.Make class members) k case))
-    go _ G rep case new = absurd case
+        → ((g s : ℕ) → b ≡ answer.Made g → g < 512 → s / 128 ≡ g → IsHinted hints s) → ((g s : ℕ) → b ≡ answer.Made g → g < 512 → s / 128 ≡ g → IsHinted holes s)
+        → StandsFor (record t { world = v; hints = hints; holes = holes }) (record T { flat = G })
+    go (answer.Made g) G rep case new new_holes =
+        stands_made t v hints holes T G class members g stands rep case.0.2.free (λ s own. new g s refl case.0.2.limit own) others
+        (λ s own. new_holes g s refl case.0.2.limit own) other_holes case.2
+    go (answer.Refused k) G rep case new new_holes =
+        more_hints t v hints holes T G others other_holes (stands_left t v T G stands rep (refused_leaves T.flat G (step.Make class members) k case))
+    go _ G rep case new new_holes = absurd case
 
 -- with a group fewer, whose slots the worker had
 stands_unmade : (t : TiersView) (v : WorldView) (T : Tiered) (G : Flat) (w g : ℕ) → StandsFor t T → Represents v G → group_at T.flat.groups g ≢ None
@@ -600,11 +634,13 @@ stands_unmade t v T G w g stands rep made claimed leaves = record {
   world = rep;
   order = stands.order;
   long = stands.long ∙ sym blocks;
+  each = λ b low. stands.each b (subst (λ n. b < n) blocks low);
   end = stands.end;
   marked = stands.marked ∙ sym blocks;
   marks = marked_unmade T.flat G (key_at t.world.array) (key_at v.array) t.planner.ages.marks g stands.world.array.history.map rep.array.history
       (ap (λ (x : Flat). x.emitted) leaves.same) groups inside stands.marks;
-  hints = λ s is. hinted s is (cases_eq (s / 128) g);
+  hints = λ s is. hinted Mirrored t.hints stands.hints s is (cases_eq (s / 128) g);
+  holes = λ s is. hinted Parity t.holes stands.holes s is (cases_eq (s / 128) g);
 }
   where
     groups : G.groups ≡ with_group T.flat.groups g None
@@ -616,19 +652,19 @@ stands_unmade t v T G w g stands rep made claimed leaves = record {
     inside : g < length T.flat.groups.table
     inside = number_within T.flat.groups g made
 
-    hinted : (s : ℕ) → IsFreeMirror G s → (s / 128 ≡ g) ⊎ (s / 128 ≡ g → ⊥) → IsHinted t.hints s
-    hinted s is (inl own) =
-        let there : IsSlotOf Mirrored (with_group T.flat.groups g None) s = subst (λ z. IsSlotOf Mirrored z s) groups is.0 in
+    hinted : (kind : Class) (hints : List ℕ) → AreHinted kind T.flat hints → (s : ℕ) → IsSlotOf kind G.groups s × IsFree G s → (s / 128 ≡ g) ⊎ (s / 128 ≡ g → ⊥) → IsHinted hints s
+    hinted kind hints all s is (inl own) =
+        let there : IsSlotOf kind (with_group T.flat.groups g None) s = subst (λ z. IsSlotOf kind z s) groups is.0 in
         let none : class_in (group_at (with_group T.flat.groups g None) (s / 128)) ≡ None = ap class_in (ap (group_at (with_group T.flat.groups g None)) own ∙ group_same T.flat.groups g None inside) in
-        let bad : None ≡ Some Mirrored = sym none ∙ there.made in absurd (cc)
-    hinted s is (inr other) =
-        let there : IsSlotOf Mirrored (with_group T.flat.groups g None) s = subst (λ z. IsSlotOf Mirrored z s) groups is.0 in
+        let bad : None ≡ Some kind = sym none ∙ there.made in absurd (cc)
+    hinted kind hints all s is (inr other) =
+        let there : IsSlotOf kind (with_group T.flat.groups g None) s = subst (λ z. IsSlotOf kind z s) groups is.0 in
         let at = group_other T.flat.groups g (s / 128) None other in
-        let was : IsSlotOf Mirrored T.flat.groups s = record {
+        let was : IsSlotOf kind T.flat.groups s = record {
           made = ap class_in (sym at) ∙ there.made;
           below = subst (λ o. s % 128 < slots_in T.flat.groups.segments o) at there.below;
         } in
-        stands.hints s (was, unmade_frees T.flat G (key_at t.world.array) w g stands.world.array.history made claimed leaves s other is.1)
+        all s (was, unmade_frees T.flat G (key_at t.world.array) w g stands.world.array.history made claimed leaves s other is.1)
 
 unmakes : (t : TiersView) (v : WorldView) (w g : ℕ) (a : Answer)
     → ((F : Flat) → Represents t.world F → (G : Flat) × Case F (step.Unmake w g) (flat_answer a) G × Represents v G)
@@ -654,59 +690,92 @@ stands_with t v T G taken answer calm stands rep case =
     stands_alike t v T G stands rep (calm_alike T.flat G taken answer calm case) (step_frees T.flat G taken answer calm case)
 
 -- after a release
-pub releases : (t : TiersView) (v : WorldView) (hints : List ℕ) (w slot : ℕ) (a : Answer)
+pub releases : (t : TiersView) (v : WorldView) (hints holes : List ℕ) (w slot : ℕ) (a : Answer)
     → ((F : Flat) → Represents t.world F → (G : Flat) × Case F (step.Release w slot) (flat_answer a) G × Represents v G)
-    → IsHinted hints slot → ((s : ℕ) → IsHinted t.hints s → IsHinted hints s)
-    → (T : Tiered) → StandsFor t T → (U : Tiered) × StepNoted T (step.Release w slot) (flat_answer a) U × StandsFor (record t { world = v; hints = hints }) U
-releases t v hints w slot a takes new others T stands =
+    → IsHinted hints slot → ((s : ℕ) → IsHinted t.hints s → IsHinted hints s) → IsHinted holes slot → ((s : ℕ) → IsHinted t.holes s → IsHinted holes s)
+    → (T : Tiered) → StandsFor t T → (U : Tiered) × StepNoted T (step.Release w slot) (flat_answer a) U × StandsFor (record t { world = v; hints = hints; holes = holes }) U
+releases t v hints holes w slot a takes new others new_hole other_holes T stands =
     let done = takes T.flat stands.world in
     (record T { flat = done.0 }, (done.0, done.1, refl), go a done.0 done.2 done.1)
   where
     go : (b : Answer) (G : Flat) → Represents v G → Case T.flat (step.Release w slot) (flat_answer b) G
-        → StandsFor (record t { world = v; hints = hints }) (record T { flat = G })
+        → StandsFor (record t { world = v; hints = hints; holes = holes }) (record T { flat = G })
     go (answer.Released s) G rep case =
         let alike = alike_released T.flat G w slot s case in
         let blocks : G.groups.blocks ≡ T.flat.groups.blocks = ap (λ (z : Groups). z.blocks) alike.groups in record {
           world = rep;
           order = stands.order;
           long = stands.long ∙ sym blocks;
+          each = λ b low. stands.each b (subst (λ n. b < n) blocks low);
           end = stands.end;
           marked = stands.marked ∙ sym blocks;
           marks = marked_alike T.flat G (key_at t.world.array) (key_at v.array) t.planner.ages.marks stands.world.array.history.map rep.array.history.map alike stands.marks;
-          hints = hints_keep T.flat G t.hints hints (λ n. n ≡ slot) alike.groups (release_frees T.flat G w slot s case)
+          hints = hints_keep Mirrored T.flat G t.hints hints (λ n. n ≡ slot) alike.groups (release_frees T.flat G w slot s case)
               (λ n same. subst (IsHinted hints) (sym same) new) others stands.hints;
+          holes = hints_keep Parity T.flat G t.holes holes (λ n. n ≡ slot) alike.groups (release_frees T.flat G w slot s case)
+              (λ n same. subst (IsHinted holes) (sym same) new_hole) other_holes stands.holes;
         }
-    go (answer.NotHeld s) G rep case = more_hints t v hints T G others (stands_left t v T G stands rep case.2)
+    go (answer.NotHeld s) G rep case = more_hints t v hints holes T G others other_holes (stands_left t v T G stands rep case.2)
     go _ G rep case = absurd case
 
--- the lowest free slot of mirrored groups is the lowest of those that are hinted
-hinted_free : (t : TiersView) (T : Tiered) (s : ℕ) → StandsFor t T
-    → (IsHinted t.hints s × (IsSlotOf Mirrored t.world.array.parts.groups s × IsFreeHere t.world s)) ↔ IsFreeMirror T.flat s
-hinted_free t T s stands = (to, from)
-  where
-    groups : T.flat.groups ≡ t.world.array.parts.groups
-    groups = groups_of t T stands
+-- the lowest free slot of the groups of a class is the lowest of those that are hinted
+module _ (class : Class) (t : TiersView) (hints : List ℕ) (T : Tiered) (stands : StandsFor t T) (all : AreHinted class T.flat hints) where
+  -- as the tables show it
+  abbrev pub Found : ℕ → Type 0
+  Found s = IsSlotOf class t.world.array.parts.groups s × IsFreeHere t.world s
 
-    to : IsHinted t.hints s × (IsSlotOf Mirrored t.world.array.parts.groups s × IsFreeHere t.world s) → IsFreeMirror T.flat s
-    to h = (subst (λ z. IsSlotOf Mirrored z s) (sym groups) h.1.0, (free_iff t.world T.flat s stands.world).0 h.1.1)
+  hinted_free : (s : ℕ) → (IsHinted hints s × Found s) ↔ (IsSlotOf class T.flat.groups s × IsFree T.flat s)
+  hinted_free s = (to, from)
+    where
+      groups : T.flat.groups ≡ t.world.array.parts.groups
+      groups = groups_of t T stands
 
-    from : IsFreeMirror T.flat s → IsHinted t.hints s × (IsSlotOf Mirrored t.world.array.parts.groups s × IsFreeHere t.world s)
-    from h = (stands.hints s h, (subst (λ z. IsSlotOf Mirrored z s) groups h.0, (free_iff t.world T.flat s stands.world).1 h.1))
+      to : IsHinted hints s × Found s → IsSlotOf class T.flat.groups s × IsFree T.flat s
+      to h = (subst (λ z. IsSlotOf class z s) (sym groups) h.1.0, (free_iff t.world T.flat s stands.world).0 h.1.1)
+
+      from : IsSlotOf class T.flat.groups s × IsFree T.flat s → IsHinted hints s × Found s
+      from h = (all s h, (subst (λ z. IsSlotOf class z s) groups h.0, (free_iff t.world T.flat s stands.world).1 h.1))
+
+  pub first_hinted : (slot : Option ℕ) → IsFirst (λ s. IsHinted hints s × Found s) slot → IsFirst (λ s. IsSlotOf class T.flat.groups s × IsFree T.flat s) slot
+  first_hinted slot first = first_as (λ s. IsHinted hints s × Found s) (λ s. IsSlotOf class T.flat.groups s × IsFree T.flat s) slot hinted_free first
+
+  pub still_hinted : (is : List ℕ) → ((s : ℕ) → IsHinted hints s → Found s → IsHinted is s) → AreHinted class T.flat is
+  still_hinted is keeps s free = let h = (hinted_free s).1 free in keeps s h.0 h.1
 
 pub finds_free : (t : TiersView) (hints : List ℕ) (slot : Option ℕ)
     → IsFirst (λ s. IsHinted t.hints s × (IsSlotOf Mirrored t.world.array.parts.groups s × IsFreeHere t.world s)) slot
     → ((s : ℕ) → IsHinted t.hints s → IsSlotOf Mirrored t.world.array.parts.groups s × IsFreeHere t.world s → IsHinted hints s)
     → (T : Tiered) → StandsFor t T → IsFirst (IsFreeMirror T.flat) slot × StandsFor (record t { hints = hints }) T
 finds_free t hints slot first keeps T stands = (
-  first_as (λ s. IsHinted t.hints s × (IsSlotOf Mirrored t.world.array.parts.groups s × IsFreeHere t.world s)) (IsFreeMirror T.flat) slot
-      (λ s. hinted_free t T s stands) first,
+  first_hinted Mirrored t t.hints T stands stands.hints slot first,
   record {
     world = stands.world;
     order = stands.order;
     long = stands.long;
+    each = stands.each;
     end = stands.end;
     marked = stands.marked;
     marks = stands.marks;
-    hints = λ s free. let h = (hinted_free t T s stands).1 free in keeps s h.0 h.1;
+    hints = still_hinted Mirrored t t.hints T stands stands.hints hints keeps;
+    holes = stands.holes;
+  },
+)
+
+pub finds_hole : (t : TiersView) (holes : List ℕ) (slot : Option ℕ)
+    → IsFirst (λ s. IsHinted t.holes s × (IsSlotOf Parity t.world.array.parts.groups s × IsFreeHere t.world s)) slot
+    → ((s : ℕ) → IsHinted t.holes s → IsSlotOf Parity t.world.array.parts.groups s × IsFreeHere t.world s → IsHinted holes s)
+    → (T : Tiered) → StandsFor t T → IsFirst (IsFreeHole T.flat) slot × StandsFor (record t { holes = holes }) T
+finds_hole t holes slot first keeps T stands = (
+  first_hinted Parity t t.holes T stands stands.holes slot first,
+  record {
+    world = stands.world;
+    order = stands.order;
+    long = stands.long;
+    each = stands.each;
+    end = stands.end;
+    marked = stands.marked;
+    marks = stands.marks;
+    hints = stands.hints;
+    holes = still_hinted Parity t t.holes T stands stands.holes holes keeps;
   },
 )

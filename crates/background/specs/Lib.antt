@@ -9,5 +9,5 @@ pub mod Hints
 pub mod Views
 pub mod Stands
 pub mod Scanning
-pub mod Inside
 pub mod Room
+pub mod Inside

@@ -6,11 +6,17 @@ use Rattle.cleaner.specs.Plans.{IsPlugPlan, IsCleanPlan}
 use Rattle.migrator.specs.Ages.{IsOldest}
 use Rattle.migrator.specs.First.{IsFirstAppend}
 use Rattle.migrator.specs.Slots.{IsMirrored}
+use Rattle.array_parts.specs.Views.{lost_of}
+use Rattle.background.specs.Room.{IsDueOf}
 use Rattle.background.specs.declared.planner.Planner.{Planner}
 
 -- the block in a mirrored group that was written longest ago, or none where no block is in one
 abbrev pub IsOldestMirrored : ArrayView → Planner → Option ℕ → Type 0
 IsOldestMirrored a p block = IsOldest p.ages.order (IsMirrored a.parts.groups (key_at a)) block
+
+-- the same of those that can be read, where there are any
+abbrev pub IsDueHere : ArrayView → Planner → Option ℕ → Type 0
+IsDueHere a p block = IsDueOf p.ages.order a.parts.groups (lost_of a.parts) (key_at a) block
 
 -- the first of these slots where the log goes on
 abbrev pub IsNextAppend : ArrayView → Planner → (ℕ → Type 0) → Option ℕ → Type 0

@@ -1,7 +1,7 @@
 -- What a worker does by a plan: write a block, demote the oldest, plug a hole, clean a group.
 use Rattle.std.specs.Prelude.{◌≡◌, ◌⊎◌, ℕ, List, Option, Some, None}
 use Rattle.map_join.specs.Maps.{IsMapOf}
-use Rattle.extent_groups.specs.declared.class.Class.TheVariants.{Mirrored}
+use Rattle.extent_groups.specs.declared.class.Class.TheVariants.{Mirrored, Parity}
 use Rattle.extent_groups.specs.Stores.{IsSlotOf}
 use Rattle.flat_machine.specs.Flat.{Flat, Content, Waiting, IsFree}
 use Rattle.flat_machine.specs.Flat as f
@@ -38,6 +38,10 @@ end_after end s _ = end
 -- a free slot of a mirrored group
 abbrev pub IsFreeMirror : Flat → ℕ → Type 0
 IsFreeMirror F slot = IsSlotOf Mirrored F.groups slot × IsFree F slot
+
+-- a free slot of a parity group
+abbrev pub IsFreeHole : Flat → ℕ → Type 0
+IsFreeHole F slot = IsSlotOf Parity F.groups slot × IsFree F slot
 
 -- a fresh content goes into a slot, and the write is noted
 abbrev pub WritesAt : Tiered → ℕ → ℕ → Content → ℕ → Outcome → Tiered → Type 0

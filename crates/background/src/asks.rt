@@ -2,14 +2,16 @@
 ghost use Rattle.std.specs.Prelude.{true};
 ghost use Rattle.std.specs.Prelude.{◌↔◌, ◌<◌, ◌≤◌, IsTrue};
 ghost use Rattle.slot_tables.specs.Views.{key_at};
-ghost use Rattle.extent_groups.specs.declared.class.Class.TheVariants.{Mirrored};
+ghost use Rattle.extent_groups.specs.declared.class.Class.TheVariants.{Mirrored, Parity};
 ghost use Rattle.extent_groups.specs.Stores.{IsSlotOf};
 ghost use Rattle.map_join.specs.Live.{IsLive, IsLiveCount};
-ghost use Rattle.background.specs.Inside.{IsFreeHere};
+ghost use Rattle.background.specs.Inside.{IsFreeHere, IsThereHere};
+ghost use Rattle.array_parts.specs.Views.{IsLost};
 
+use crate::gone::is_gone;
 use extent_groups::{Class, GroupTable, SLOTS};
 use map_join::Live;
-use migrator::Free;
+use migrator::{Free, PicksBlocks};
 use step_core::{Array, Drive, Hold, World};
 
 // The tables of an array.
@@ -79,6 +81,40 @@ impl<'a, D: Drive> Free for Unheld<'a, D> {
     }
 }
 
+// The slots that nobody holds in a world and that aren't gone.
+#[derive(Drop)]
+pub(crate) struct Open<'a, D: Drive> {
+    pub(crate) world: &'a World<D>,
+}
+
+impl<'a, D: Drive> Free for Open<'a, D> {
+    ghost free = { λ o slot. IsFreeHere o.world.now slot × (IsLost o.world.now.array.parts slot → ⊥) };
+
+    fn is_free(&self, slot: u16) -> bool {
+        self.world.is_free(slot) && !is_gone(self.world.array(), slot)
+    }
+}
+
+// The blocks of an array whose newest place isn't gone.
+#[derive(Drop)]
+pub(crate) struct Readable<'a, D: Drive, C: Hold> {
+    pub(crate) array: &'a Array<D, C>,
+}
+
+impl<'a, D: Drive, C: Hold> PicksBlocks for Readable<'a, D, C> {
+    ghost picked = { λ r block. IsThereHere r.array.now block };
+
+    fn is_picked(&self, block: u32) -> bool {
+        if block >= self.array.shape().blocks {
+            return false;
+        }
+        match self.array.newest(block) {
+            Some(record) => !is_gone(self.array, record.place),
+            None => false,
+        }
+    }
+}
+
 // The free slots of mirrored groups.
 #[derive(Drop)]
 pub(crate) struct Mirrors<'a, D: Drive> {
@@ -94,11 +130,34 @@ impl<'a, D: Drive> Free for Mirrors<'a, D> {
 }
 
 // Whether the slot is one of a mirrored group.
-fn is_mirror(groups: &GroupTable, slot: u16) -> bool
+pub(crate) fn is_mirror(groups: &GroupTable, slot: u16) -> bool
     ensures { IsTrue result ↔ IsSlotOf Mirrored groups.now slot }
 {
     let _members = groups.members(slot / SLOTS);
     groups.class_of(slot / SLOTS) == Some(Class::Mirrored)
+        && slot % SLOTS < groups.slots_of(slot / SLOTS)
+}
+
+// The free slots of parity groups.
+#[derive(Drop)]
+pub(crate) struct Holes<'a, D: Drive> {
+    pub(crate) world: &'a World<D>,
+}
+
+impl<'a, D: Drive> Free for Holes<'a, D> {
+    ghost free = { λ h slot. IsSlotOf Parity h.world.now.array.parts.groups slot × IsFreeHere h.world.now slot };
+
+    fn is_free(&self, slot: u16) -> bool {
+        is_parity(self.world.array().groups(), slot) && self.world.is_free(slot)
+    }
+}
+
+// Whether the slot is one of a parity group.
+pub(crate) fn is_parity(groups: &GroupTable, slot: u16) -> bool
+    ensures { IsTrue result ↔ IsSlotOf Parity groups.now slot }
+{
+    let _members = groups.members(slot / SLOTS);
+    groups.class_of(slot / SLOTS) == Some(Class::Parity)
         && slot % SLOTS < groups.slots_of(slot / SLOTS)
 }
 

@@ -4,6 +4,7 @@
 
 mod asks;
 mod bits;
+mod gone;
 mod hints;
 mod outcome;
 mod planner;
@@ -23,5 +24,5 @@ pub use outcome::Outcome;
 pub use planner::Planner;
 pub use regroup::{balance, rebuild};
 pub use regrouped::Regrouped;
-pub use room::room_law;
+pub use room::skip_law;
 pub use tiers::Tiers;

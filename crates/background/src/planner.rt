@@ -5,9 +5,9 @@ ghost use Rattle.cleaner.specs.Counts.{AreLiveCounts};
 ghost use Rattle.migrator.specs.Ages.{by_number, IsMarked};
 ghost use Rattle.migrator.specs.Slots.{at_start, class_at, end_at};
 ghost use Rattle.background.specs.Marking.{AreMarked, IsNoted, is_mirrors};
-ghost use Rattle.background.specs.Planning.{IsCleanOf, IsNextAppend, IsOldestMirrored, IsPlugOf};
+ghost use Rattle.background.specs.Planning.{IsCleanOf, IsDueHere, IsNextAppend, IsOldestMirrored, IsPlugOf};
 
-use crate::asks::{Any, Running};
+use crate::asks::{Any, Readable, Running};
 use cleaner::{Move, clean_plan_counted, clean_plan_unplugged, plug_plan_counted};
 use disk_array::{Array, Hold};
 use extent_groups::{Class, GROUPS, GroupTable, SLOTS};
@@ -52,6 +52,23 @@ impl Planner {
         array.whole();
         let found = self.ages.oldest_marked();
         below(found, array.shape().blocks)
+    }
+
+    /// The block in a mirrored group that was written longest ago, of those that can be read where there are any; if each commit
+    /// was noted. None where no block is marked. It asks about each marked block before that one.
+    pub fn due<D: Drive, C: Hold>(&mut self, array: &Array<D, C>) -> Option<u32>
+        ensures due { AreMarked self.old.ages.marks array.now.parts.groups (key_at array.now) → IsDueHere array.now self.old result }
+        ensures block { MatchOption result (Unit {0}) (λ block. block < array.now.parts.groups.blocks) }
+        ensures same { self.new ≡ self.old }
+    {
+        array.whole();
+        // This passes the turns before the oldest for good.
+        let oldest = self.oldest_mirrored(array);
+        let readable = self.ages.oldest_picked(&Readable { array });
+        match below(readable, array.shape().blocks) {
+            Some(block) => Some(block),
+            None => oldest,
+        }
     }
 
     /// The first free slot where the write log goes on, if any.

@@ -33,6 +33,7 @@ impl<D: Drive> Tiers<D> {
         match self.world.place(alloc, slot, block, given) {
             Ok(placed) => {
                 hint_left(&mut self.hints, placed.left);
+                hint_left(&mut self.holes, placed.left);
                 self.planner.note(self.world.array(), placed.newest);
                 Ok(Outcome::Placed(placed.newest))
             }

@@ -21,7 +21,9 @@ use step_core::{Answer, Class, Drive, MemDrive, Member, World};
 pub struct Tiers<D: Drive = MemDrive> {
     pub(crate) world: World<D>,
     pub(crate) planner: Planner,
+    // The slots of mirrored groups that may be free, and those of parity groups.
     pub(crate) hints: FreeHints,
+    pub(crate) holes: FreeHints,
 }
 
 impl<D: Drive> Model for Tiers<D> {
@@ -29,7 +31,7 @@ impl<D: Drive> Model for Tiers<D> {
 
     ghost Value = { TiersView };
 
-    ghost view = { λ t. record { world = t.world; planner = t.planner; hints = t.hints } };
+    ghost view = { λ t. record { world = t.world; planner = t.planner; hints = t.hints; holes = t.holes } };
 }
 
 impl<D: Drive + Drop> Tiers<D> {
@@ -41,10 +43,12 @@ impl<D: Drive + Drop> Tiers<D> {
     {
         let planner = Planner::new(alloc, world.array())?;
         let hints = FreeHints::new(alloc)?;
+        let holes = FreeHints::new(alloc)?;
         Ok(Tiers {
             world,
             planner,
             hints,
+            holes,
         })
     }
 }
@@ -94,6 +98,7 @@ impl<D: Drive> Tiers<D> {
     {
         let answer = self.world.release(worker, slot);
         self.hints.add(slot);
+        self.holes.add(slot);
         answer
     }
 
@@ -111,6 +116,7 @@ impl<D: Drive> Tiers<D> {
     {
         let answer = self.world.make(alloc, class, members)?;
         hint_made(&mut self.hints, &answer);
+        hint_made(&mut self.holes, &answer);
         Ok(answer)
     }
 

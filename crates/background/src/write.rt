@@ -36,7 +36,7 @@ impl<D: Drive> Tiers<D> {
     }
 
     // Looks for a slot once more.
-    pub(crate) fn write_behind(
+    fn write_behind(
         &mut self,
         alloc: Global,
         block: u32,

@@ -1,5 +1,5 @@
 // Writes that find room up to the last slot but one.
-use crate::rig::{grouped, reads, shape_of, world_of};
+use crate::rig::{grouped, is_record, reads, shape_of, world_of};
 use background::{Outcome, Tiers};
 use extents::{HotSwap, MemDrive};
 use std::alloc::{Alloc, Global};
@@ -71,4 +71,82 @@ fn all_slots_but_one_can_be_written_over(rt: HostRuntime) {
     assert!(rt; matches!(last, Outcome::Placed(_)));
     let full = write(&rt, alloc, &mut tiers, 0, [0, 10, 1, 2, 3, 4, 5, 6]);
     assert!(rt; matches!(full, Outcome::NoRoom));
+}
+
+// Two drives are lost, and with them the two oldest mirrored blocks, in slots 0 and 1. The blocks after them make room, each in the
+// next hole, until no hole is left.
+#[test]
+fn blocks_and_slots_that_are_gone_are_skipped(rt: HostRuntime) {
+    let alloc = rt.alloc();
+    let mut tiers = tiers_of(&rt, alloc);
+    for block in 0..6u8 {
+        let outcome = write(
+            &rt,
+            alloc,
+            &mut tiers,
+            u32::from(block),
+            [block, 1, 2, 3, 4, 5, 6, 7],
+        );
+        assert!(rt; is_placed(outcome, u32::from(block), u16::from(block)));
+    }
+    tiers.lose(0);
+    tiers.lose(1);
+    for turn in 0..8u8 {
+        let block = 6 + turn;
+        let outcome = write(
+            &rt,
+            alloc,
+            &mut tiers,
+            u32::from(block),
+            [block, 1, 2, 3, 4, 5, 6, 7],
+        );
+        assert!(rt; is_placed(outcome, u32::from(block), 2 + u16::from(turn % 4)));
+        assert!(rt;
+            reads(
+                &rt,
+                &mut tiers,
+                2 + u32::from(turn),
+                1,
+                [2 + turn, 1, 2, 3, 4, 5, 6, 7]
+            )
+        );
+        assert!(rt;
+            tiers.world().array().block_at(128 + u16::from(turn)) == Some(2 + u32::from(turn))
+        );
+    }
+    let full = write(&rt, alloc, &mut tiers, 14, [14, 1, 2, 3, 4, 5, 6, 7]);
+    assert!(rt; matches!(full, Outcome::NoRoom));
+}
+
+// Whether a block was written for the first time, into this slot.
+fn is_placed(outcome: Outcome, block: u32, slot: u16) -> bool {
+    match outcome {
+        Outcome::Placed(record) => is_record(record, block, 1, 0, slot),
+        _ => false,
+    }
+}
+
+// With a slot kept free by calls between the writes, each write goes into it, and the next call demotes one block.
+#[test]
+fn a_spare_slot_is_made_between_writes(rt: HostRuntime) {
+    let alloc = rt.alloc();
+    let mut tiers = tiers_of(&rt, alloc);
+    for block in 0..6u8 {
+        assert!(rt; matches!(tiers.make_spare(alloc), Ok(Outcome::Nothing)));
+        let outcome = write(
+            &rt,
+            alloc,
+            &mut tiers,
+            u32::from(block),
+            [block, 1, 2, 3, 4, 5, 6, 7],
+        );
+        assert!(rt; is_placed(outcome, u32::from(block), u16::from(block)));
+    }
+    let Ok(Outcome::Placed(moved)) = tiers.make_spare(alloc) else {
+        panic!(rt; "no spare slot")
+    };
+    assert!(rt; is_record(moved, 0, 1, 1, 128));
+    assert!(rt; matches!(tiers.make_spare(alloc), Ok(Outcome::Nothing)));
+    let outcome = write(&rt, alloc, &mut tiers, 6, [6, 1, 2, 3, 4, 5, 6, 7]);
+    assert!(rt; is_placed(outcome, 6, 0));
 }

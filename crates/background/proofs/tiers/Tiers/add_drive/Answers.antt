@@ -7,5 +7,5 @@ use Rattle.background.proofs.tiers.Tiers.add_drive.Goals as goal
 pub returns-clause-ok : goal.returns-clause-ok
 returns-clause-ok g c =
     let a = c.args in
-    let t : TiersView = record { world = c.self.inside.world; planner = c.self.inside.planner; hints = c.self.inside.hints } in
+    let t : TiersView = record { world = c.self.inside.world; planner = c.self.inside.planner; hints = c.self.inside.hints; holes = c.self.inside.holes } in
     rw (sym c.self.view_is) (steps_if t c.add_drive.new.self f.AddDrive c.add_drive.result tt c.add_drive.ensures.ok)

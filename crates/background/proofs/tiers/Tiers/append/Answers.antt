@@ -8,7 +8,7 @@ use Rattle.background.proofs.tiers.Tiers.append.Goals as goal
 pub returns-in-Ok-Placed-clause-ok : goal.returns-in-Ok-Placed-clause-ok
 returns-in-Ok-Placed-clause-ok g c w =
     let a = c.args in
-    let m : TiersView = record { world = c.self.inside.world; planner = c.self.inside.planner; hints = c.self.inside.hints } in
+    let m : TiersView = record { world = c.self.inside.world; planner = c.self.inside.planner; hints = c.self.inside.hints; holes = c.self.inside.holes } in
     appends a.self.now m c.appended.new.self w a.slot a.block (Placed c.in-Ok-Placed.record)
     (subst (λ (u : TiersView). PutsTo a.self.now u w a.slot a.block Again (Placed c.in-Ok-Placed.record)) (sym c.self.view_is)
     (subst (PutsTo a.self.now c.put.new.self w a.slot a.block Again) c.in-Ok-Placed.field-0-is (c.in-Ok-Placed.ensures.ok w)))

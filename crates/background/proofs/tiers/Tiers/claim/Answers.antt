@@ -7,5 +7,5 @@ use Rattle.background.proofs.tiers.Tiers.claim.Goals as goal
 pub returns-clause-flat : goal.returns-clause-flat
 returns-clause-flat g c =
     let a = c.args in
-    let t : TiersView = record { world = c.self.inside.world; planner = c.self.inside.planner; hints = c.self.inside.hints } in
+    let t : TiersView = record { world = c.self.inside.world; planner = c.self.inside.planner; hints = c.self.inside.hints; holes = c.self.inside.holes } in
     rw (sym c.self.view_is) (steps_with t c.claim.new.self (f.Claim a.worker a.slot) _ tt c.claim.ensures.flat)

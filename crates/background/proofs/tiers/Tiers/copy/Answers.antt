@@ -7,5 +7,5 @@ use Rattle.background.proofs.tiers.Tiers.copy.Goals as goal
 pub returns-clause-ok : goal.returns-clause-ok
 returns-clause-ok g c =
     let a = c.args in
-    let t : TiersView = record { world = c.self.inside.world; planner = c.self.inside.planner; hints = c.self.inside.hints } in
+    let t : TiersView = record { world = c.self.inside.world; planner = c.self.inside.planner; hints = c.self.inside.hints; holes = c.self.inside.holes } in
     rw (sym c.self.view_is) (steps_if t c.copy.new.self (f.Copy a.worker a.slot a.block) c.copy.result tt c.copy.ensures.ok)

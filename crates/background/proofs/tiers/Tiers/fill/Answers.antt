@@ -8,5 +8,5 @@ use Rattle.background.proofs.tiers.Tiers.fill.Goals as goal
 pub returns-clause-ok : goal.returns-clause-ok
 returns-clause-ok g c =
     let a = c.args in
-    let t : TiersView = record { world = c.self.inside.world; planner = c.self.inside.planner; hints = c.self.inside.hints } in
+    let t : TiersView = record { world = c.self.inside.world; planner = c.self.inside.planner; hints = c.self.inside.hints; holes = c.self.inside.holes } in
     rw (sym c.self.view_is) (steps_if t c.fill.new.self (f.Fill a.worker a.slot (Payload a.payload.now)) c.fill.result tt c.fill.ensures.ok)

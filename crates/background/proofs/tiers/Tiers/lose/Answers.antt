@@ -7,5 +7,5 @@ use Rattle.background.proofs.tiers.Tiers.lose.Goals as goal
 pub returns-clause-flat : goal.returns-clause-flat
 returns-clause-flat g c =
     let a = c.args in
-    let t : TiersView = record { world = c.self.inside.world; planner = c.self.inside.planner; hints = c.self.inside.hints } in
+    let t : TiersView = record { world = c.self.inside.world; planner = c.self.inside.planner; hints = c.self.inside.hints; holes = c.self.inside.holes } in
     rw (sym c.self.view_is) (steps_with t c.lose.new.self (f.Lose a.drive) _ tt c.lose.ensures.flat)
