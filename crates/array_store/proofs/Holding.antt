@@ -14,7 +14,8 @@ use Rattle.background.specs.declared.outcome.Outcome.TheVariants as outcome
 use Rattle.array_store.specs.Blocks.{bytes_in, block_bytes, Shows, Holds, IsBlockOf, IsPut}
 use Rattle.array_store.proofs.Reading.{found_bytes, nothing_bytes, read_keeps}
 use Rattle.array_store.proofs.Showing.{adds_shows, keeps_shows, block_read}
-use Rattle.array_store.proofs.Writing.{Keeps, Adds, Wrote, always_wrote, always_stops_keep}
+use Rattle.flat_machine.specs.Cases.{Leaves}
+use Rattle.array_store.proofs.Writing.{Keeps, Adds, Wrote, keeps_left, always_wrote, always_stops_keep}
 
 -- the state's payloads are as long as the array's
 pub payload_is : (t : TiersView) (T : Tiered) → StandsFor t T → T.flat.groups.payload ≡ t.world.array.parts.groups.payload
@@ -98,3 +99,15 @@ nothing_block t u b payload out does zeros bytes holds =
     let is : out ≡ block_bytes T.flat.groups.payload T.flat.writes b =
         zeros ∙ (ap (λ n. replicate n 0) (sym size) ∙ nothing_bytes T.flat.groups.payload (last_write T.flat.writes b) done.1.1.0) in
     subst (λ m. IsBlockOf m bytes b out) size (block_read T.flat.groups.payload T.flat.writes b bytes out holds.shows is)
+
+-- a sync leaves the bytes
+pub synced_holds : (t u : TiersView) → ((T : Tiered) → StandsFor t T → (G : Flat) × Leaves T.flat G × StandsFor u (record T { flat = G }))
+    → (bytes : List ℕ) → Holds t bytes → Holds u bytes
+synced_holds t u does bytes holds =
+    let T = holds.state in
+    let done = does T holds.stands in
+    record {
+      state = record T { flat = done.0 };
+      stands = done.2;
+      shows = keeps_shows T.flat done.0 bytes (keeps_left T.flat done.0 done.1) holds.shows;
+    }

@@ -1,7 +1,10 @@
 -- Pieces of blocks, and where their bytes lie on the disk.
-use Rattle.std.proofs.Common.{◌≡◌, ◌≢◌, ◌⊎◌, inl, inr, ℕ, ◌+◌, ◌-◌, ◌*◌, ◌/◌, ◌%◌, ◌<◌, ◌≤◌, List, length, slice_index, refl, sym, ap, ◌∙◌, subst, arith}
+use Rattle.std.proofs.Common.{◌≡◌, ◌≢◌, ◌⊎◌, inl, inr, ℕ, ◌+◌, ◌-◌, ◌*◌, ◌/◌, ◌%◌, ◌<◌, ◌≤◌, List, length, replicate, slice_index, refl, sym, ap, ◌∙◌, subst, arith, Result, Ok, Err}
+use Rattle.std.specs.Prelude.{OnOk}
+use Rattle.std.proofs.lemmas.List.{length-replicate}
 use Rattle.std.proofs.Math.Nat.{div-lt_iff_lt-mul, mod-lt, mul-add-mod_self_left, mod-eq_of_lt}
 use Rattle.std.proofs.lemmas.Nat.{div-mul-add, div-add-mod'}
+use Rattle.std.proofs.lemmas.Bool.{cases_lt}
 use Rattle.byte_store.specs.Flat.{written_over}
 use Rattle.array_store.specs.Blocks.{IsBlockOf, IsPiece, IsPut}
 use Rattle.array_store.proofs.Over.{over_long, over_before, over_here, over_after}
@@ -52,18 +55,15 @@ pub patch_put : (size b from : ℕ) (bytes block part : List ℕ) → 0 < size �
 patch_put size b from bytes block part some is long fits within = record {
   long = over_long bytes (b * size + from) part within;
   here = λ i below e. here i below e (byte_is size b i some e);
-  others = λ i below ne. others i ne (before_or (b * size + from) i) (before_or (b * size + from + length part) i);
+  others = λ i below ne. others i ne (cases_lt i (b * size + from)) (cases_lt i (b * size + from + length part));
 }
   where
-    before_or : (n i : ℕ) → (i < n) ⊎ (n ≤ i)
-    before_or n i = omega arith
-
     inside : from + length part ≤ length block
     inside = omega arith
 
     here : (i : ℕ) → i < length bytes → i / size ≡ b → (i ≡ b * size + i % size) × (i % size < size)
         → slice_index (written_over bytes (b * size + from) part) i ≡ slice_index (written_over block from part) (i % size)
-    here i below e at = go (before_or from (i % size)) (before_or (from + length part) (i % size))
+    here i below e at = go (cases_lt (i % size) from) (cases_lt (i % size) (from + length part))
       where
         is_at : i ≡ b * size + i % size
         is_at = at.0
@@ -98,12 +98,9 @@ pub whole_put : (size b from : ℕ) (bytes part : List ℕ) → 0 < size → len
 whole_put size b from bytes part some long start within = record {
   long = over_long bytes (b * size + from) part within;
   here = λ i below e. here i (byte_is size b i some e);
-  others = λ i below ne. others i ne (before_or (b * size + from) i) (before_or (b * size + from + length part) i);
+  others = λ i below ne. others i ne (cases_lt i (b * size + from)) (cases_lt i (b * size + from + length part));
 }
   where
-    before_or : (n i : ℕ) → (i < n) ⊎ (n ≤ i)
-    before_or n i = omega arith
-
     here : (i : ℕ) → (i ≡ b * size + i % size) × (i % size < size)
         → slice_index (written_over bytes (b * size + from) part) i ≡ slice_index part (i % size)
     here i at =
@@ -122,3 +119,17 @@ whole_put size b from bytes part some long start within = record {
         let in_block : i < b * size + size = omega arith in
         absurd (ne (lies_in size b i from_block in_block))
     others i ne (inr _) (inr high) = over_after bytes (b * size + from) part i within high
+
+-- a whole block that is made zero
+pub zero_put : (size b from count : ℕ) (bytes : List ℕ) → 0 < size → count ≡ size → from ≡ 0 → b * size + from + count ≤ length bytes
+    → IsPut size bytes b (replicate size 0) (written_over bytes (b * size + from) (replicate count 0))
+zero_put size b from count bytes some same start within =
+    let long : length (replicate size 0) ≡ size = length-replicate size 0 in
+    let fits : b * size + from + length (replicate size 0) ≤ length bytes = omega (arith, long, same, within) in
+    subst (λ n. IsPut size bytes b (replicate size 0) (written_over bytes (b * size + from) (replicate n 0))) (sym same)
+    (whole_put size b from bytes (replicate size 0) some long start fits)
+
+-- what follows of an outcome that is Ok
+pub on_ok : {X E : Type 0} {P Q : Type 0} (r : Result X E) → (P → Q) → OnOk r P → OnOk r Q
+on_ok (Ok x) f p = f p
+on_ok (Err e) f p = tt

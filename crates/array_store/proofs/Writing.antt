@@ -10,7 +10,7 @@ use Rattle.flat_machine.specs.Cases.{Case, Leaves, Runs, CommitWith}
 use Rattle.flat_machine.proofs.Pairs.{put_here}
 use Rattle.step_core.proofs.Worlds.{refused_leaves}
 use Rattle.background.specs.Placing.{Put, Fresh, Again, PlaceCase, PlaceStops, put_step, put_answer, back_steps, back_answers}
-use Rattle.background.specs.Room.{RoomCase, RoomStops, AlwaysCase, AlwaysStops, AlwaysStop, GoesOut, GoesAside, AfterRoom, WritesAlways}
+use Rattle.background.specs.Room.{RoomCase, RoomStops, AlwaysCase, AlwaysStops, AlwaysStop, GoesOut, GoesAside, AfterRoom, WritesAgain, WritesAlways}
 use Rattle.background.specs.Steps.{MovesTo, AppendsAt, WritesAt, WritesIn, PutStops}
 use Rattle.background.specs.Tiered.{Tiered}
 use Rattle.background.specs.declared.outcome.Outcome.{Outcome}
@@ -191,11 +191,14 @@ in_wrote : (T U : Tiered) (w b : ℕ) (x : Content) (slot : Option ℕ) (o : Out
 in_wrote T U w b x None o stays = stays_wrote outcome.NoRoom o T U b x (λ r e. absurd (cc)) stays.told stays.same
 in_wrote T U w b x (Some s) o writes = writes_at T U w b x s o writes
 
+again_wrote : (V U : Tiered) (w b : ℕ) (x : Content) (o : Outcome) → WritesAgain V w b x o U → Wrote o V.flat U.flat b x
+again_wrote V U w b x o again = in_wrote V U w b x again.slot o again.done
+
 after_wrote : (V U : Tiered) (w b : ℕ) (x : Content) (moved o : Outcome) → AfterRoom V w b x moved o U → Wrote o V.flat U.flat b x
-after_wrote V U w b x (outcome.Placed r) o after = in_wrote V U w b x after.0 o after.2
 after_wrote V U w b x (outcome.Refused k) o stays = stays_wrote (outcome.Refused k) o V U b x (λ r e. absurd (cc)) stays.told stays.same
-after_wrote V U w b x outcome.NoRoom o stays = stays_wrote outcome.NoRoom o V U b x (λ r e. absurd (cc)) stays.told stays.same
-after_wrote V U w b x outcome.Nothing o stays = stays_wrote outcome.NoRoom o V U b x (λ r e. absurd (cc)) stays.told stays.same
+after_wrote V U w b x (outcome.Placed r) o again = again_wrote V U w b x o again
+after_wrote V U w b x outcome.NoRoom o again = again_wrote V U w b x o again
+after_wrote V U w b x outcome.Nothing o again = again_wrote V U w b x o again
 
 always_done : (T U : Tiered) (w b : ℕ) (x : Content) (slot : Option ℕ) (o : Outcome) → WritesAlways T w b x slot o U → Wrote o T.flat U.flat b x
 always_done T U w b x None o after =

@@ -1,5 +1,5 @@
 // The bytes of a disk.
-ghost use Rattle.std.specs.Prelude.{◌≡◌, ◌+◌, ◌*◌, ◌<◌, ◌≤◌, length, IfOk};
+ghost use Rattle.std.specs.Prelude.{◌≡◌, ◌+◌, ◌*◌, ◌<◌, ◌≤◌, length, false, IfOk};
 ghost use Rattle.byte_store.specs.Flat.{Flat, Sizes, written_over};
 ghost use Rattle.byte_store.specs.Changes.{IsChanged, IsFlushed};
 ghost use Rattle.array_store.specs.Blocks.{Holds};
