@@ -1,4 +1,5 @@
 pub mod Holding
+pub mod Loops
 pub mod Over
 pub mod Pieces
 pub mod Reading

@@ -21,7 +21,8 @@ returns-clause-put g c =
     let a = c.args in
     let block = c.read_block.new.out in
     let same : length block ≡ length a.buffer.now = c.read_block.auto.out in
-    let long : length (replicate a.count 0) ≡ a.count = length-replicate a.count 0 in
+    let zero : ℕ = 0 in
+    let long : length (replicate a.count zero) ≡ a.count = length-replicate a.count zero in
     let inside = c.requires.inside in
     let payload : length a.buffer.now ≡ c.read_block.new.tiers.world.array.parts.groups.payload = c.requires.size ∙ sym c.in_ok-read_block.ensures.room.payload in
     on_ok c.put-2.result (λ put bytes holds within.
