@@ -1,0 +1,224 @@
+-- What a placing makes of the last writes: a fresh content is one write more, and a copy is none.
+use Rattle.std.proofs.Common.{◌≡◌, ◌≢◌, ◌⊎◌, inl, inr, ℕ, List, [], ◌∷◌, ◌++◌, refl, sym, ap, ◌∙◌, subst, Option, Some, None}
+use Rattle.flat_machine.specs.declared.refusal.Refusal.{Refusal}
+use Rattle.map_join.specs.declared.records.Record.{Record}
+use Rattle.flat_machine.specs.Flat.{Flat, Write, Content, Waiting}
+use Rattle.flat_machine.specs.Flat as waiting
+use Rattle.flat_machine.specs.Steps.{FlatStep, Refused, Released}
+use Rattle.flat_machine.specs.Steps as step
+use Rattle.flat_machine.specs.Cases.{Case, Leaves, Runs, CommitWith}
+use Rattle.flat_machine.proofs.Pairs.{put_here}
+use Rattle.step_core.proofs.Worlds.{refused_leaves}
+use Rattle.background.specs.Placing.{Put, Fresh, Again, PlaceCase, PlaceStops, put_step, put_answer, back_steps, back_answers}
+use Rattle.background.specs.Room.{RoomCase, RoomStops, AlwaysCase, AlwaysStops, AlwaysStop, GoesOut, GoesAside, AfterRoom, WritesAgain, WritesAlways}
+use Rattle.background.specs.Steps.{MovesTo, AppendsAt, WritesAt, WritesIn, PutStops}
+use Rattle.background.specs.Tiered.{Tiered}
+use Rattle.background.specs.declared.outcome.Outcome.{Outcome}
+use Rattle.background.specs.declared.outcome.Outcome.TheVariants as outcome
+
+-- two states with the same groups and writes
+pub record Keeps (F G : Flat) : Type 0 where
+  pub groups : G.groups ≡ F.groups
+  pub writes : G.writes ≡ F.writes
+
+-- the second state has one write more
+pub record Adds (F G : Flat) (b : ℕ) (x : Content) : Type 0 where
+  pub groups : G.groups ≡ F.groups
+  pub version : ℕ
+  pub writes : G.writes ≡ F.writes ++ record { block = b; version = version; content = x } ∷ []
+
+keeps_more : (F M G : Flat) → Keeps F M → Keeps M G → Keeps F G
+keeps_more F M G a b = record { groups = b.groups ∙ a.groups; writes = b.writes ∙ a.writes }
+
+keeps_same : (F G : Flat) → G ≡ F → Keeps F G
+keeps_same F G same = record { groups = ap (λ (x : Flat). x.groups) same; writes = ap (λ (x : Flat). x.writes) same }
+
+pub keeps_left : (F G : Flat) → Leaves F G → Keeps F G
+keeps_left F G leaves = record { groups = ap (λ (x : Flat). x.groups) leaves.same; writes = ap (λ (x : Flat). x.writes) leaves.same }
+
+keeps_claimed : (F G : Flat) (w s t : ℕ) → Case F (step.Claim w s) (step.Claimed t) G → Keeps F G
+keeps_claimed F G w s t case = record { groups = ap (λ (x : Flat). x.groups) case.2.same; writes = ap (λ (x : Flat). x.writes) case.2.same }
+
+keeps_released : (F G : Flat) (w s t : ℕ) → Case F (step.Release w s) (Released t) G → Keeps F G
+keeps_released F G w s t case = record { groups = ap (λ (x : Flat). x.groups) case.2.same; writes = ap (λ (x : Flat). x.writes) case.2.same }
+
+keeps_discarded : (F G : Flat) (w s t : ℕ) → Case F (step.Discard w s) (step.Discarded t) G → Keeps F G
+keeps_discarded F G w s t case = record { groups = ap (λ (x : Flat). x.groups) case.2.same; writes = ap (λ (x : Flat). x.writes) case.2.same }
+
+keeps_put : (F G : Flat) (what : Put) (w s b : ℕ) → Case F (put_step what w s b) (put_answer what s) G → Keeps F G
+keeps_put F G (Fresh x) w s b case = record { groups = ap (λ (x : Flat). x.groups) case.3.same; writes = ap (λ (x : Flat). x.writes) case.3.same }
+keeps_put F G Again w s b case = record { groups = ap (λ (x : Flat). x.groups) case.1.6.same; writes = ap (λ (x : Flat). x.writes) case.1.6.same }
+
+keeps_refused : (F G : Flat) (taken : FlatStep) (k : Refusal) → Case F taken (Refused k) G → Keeps F G
+keeps_refused F G taken k case = keeps_left F G (refused_leaves F G taken k case)
+
+keeps_given : (F G : Flat) (w s : ℕ) → Runs F (step.Release w s ∷ []) (Released s ∷ []) G → Keeps F G
+keeps_given F G w s run = keeps_more F run.0 G (keeps_released F run.0 w s s run.1) (keeps_same run.0 G run.2)
+
+keeps_back : (F G : Flat) (w : ℕ) (old : Option Record) → Runs F (back_steps w old) (back_answers old) G → Keeps F G
+keeps_back F G w None run = keeps_same F G run
+keeps_back F G w (Some old) run = keeps_given F G w old.place run
+
+-- a commit of a fresh content is a write
+commit_adds : (F G : Flat) (w s b : ℕ) (r : Record) (x : Content) → F.tickets s ≡ Some (waiting.Fresh x) → Case F (step.Commit w s b) (step.Committed r) G → Adds F G b x
+commit_adds F G w s b r x at case =
+    let with = subst (λ c. CommitWith F w s b case.2.0 c (step.Committed r) G) at case.2.2 in
+    record { groups = ap (λ (x : Flat). x.groups) with.4.same; version = _; writes = ap (λ (x : Flat). x.writes) with.4.same }
+
+-- a commit of a copy is none
+commit_keeps : (F G : Flat) (w s b : ℕ) (r : Record) (c v h : ℕ) (x : Content) → F.tickets s ≡ Some (waiting.Moved c v h x) → Case F (step.Commit w s b) (step.Committed r) G
+    → Keeps F G
+commit_keeps F G w s b r c v h x at case =
+    let with = subst (λ o. CommitWith F w s b case.2.0 o (step.Committed r) G) at case.2.2 in
+    record { groups = ap (λ (x : Flat). x.groups) with.4.same; writes = ap (λ (x : Flat). x.writes) with.4.same }
+
+-- what waits at a slot after a fill, and after a copy
+fill_waits : (F G : Flat) (w s : ℕ) (x : Content) → Case F (step.Fill w s x) (step.Filled s) G → G.tickets s ≡ Some (waiting.Fresh x)
+fill_waits F G w s x case = ap (λ (z : Flat). z.tickets s) case.3.same ∙ put_here F.tickets s (Some (waiting.Fresh x))
+
+copy_waits : (F G : Flat) (w s b : ℕ) → (case : Case F (step.Copy w s b) (step.Copied s) G)
+    → G.tickets s ≡ Some (waiting.Moved b case.1.0.version case.1.0.hop case.1.1.content)
+copy_waits F G w s b case = ap (λ (z : Flat). z.tickets s) case.1.6.same ∙ put_here F.tickets s (Some (waiting.Moved b case.1.0.version case.1.0.hop case.1.1.content))
+
+-- a placing that was refused, or ran out of memory, half-way
+pub stops_keep : (F G : Flat) (w s b : ℕ) (what : Put) → PlaceStops F w s b what G → Keeps F G
+stops_keep F G w s b what stops =
+    let run = stops.run in
+    let claimed = keeps_claimed F run.0 w s s run.1 in
+    let put = keeps_put run.0 run.2.0 what w s b run.2.1 in
+    let discarded = keeps_discarded run.2.0 run.2.2.0 w s s run.2.2.1 in
+    let back = keeps_given run.2.2.0 G w s run.2.2.2 in
+    keeps_more F run.0 G claimed (keeps_more run.0 run.2.0 G put (keeps_more run.2.0 run.2.2.0 G discarded back))
+
+refused_keeps : (F G : Flat) (w s b : ℕ) (what : Put) (k : Refusal) → PlaceCase F w s b what (outcome.Refused k) G → Keeps F G
+refused_keeps F G w s b what k (inl run) =
+    let claimed = keeps_claimed F run.0 w s s run.1 in
+    let refused = keeps_refused run.0 run.2.0 (put_step what w s b) k run.2.1 in
+    let back = keeps_given run.2.0 G w s run.2.2 in
+    keeps_more F run.0 G claimed (keeps_more run.0 run.2.0 G refused back)
+refused_keeps F G w s b what k (inr run) =
+    let claimed = keeps_claimed F run.0 w s s run.1 in
+    let put = keeps_put run.0 run.2.0 what w s b run.2.1 in
+    let refused = keeps_refused run.2.0 run.2.2.0 (step.Commit w s b) k run.2.2.1 in
+    let discarded = keeps_discarded run.2.2.0 run.2.2.2.0 w s s run.2.2.2.1 in
+    let back = keeps_given run.2.2.2.0 G w s run.2.2.2.2 in
+    keeps_more F run.0 G claimed (keeps_more run.0 run.2.0 G put (keeps_more run.2.0 run.2.2.0 G refused (keeps_more run.2.2.0 run.2.2.2.0 G discarded back)))
+
+-- a write that lies between states that keep the writes
+adds_between : (F H I G : Flat) (b : ℕ) (x : Content) → Keeps F H → Adds H I b x → Keeps I G → Adds F G b x
+adds_between F H I G b x before is after = record {
+  groups = after.groups ∙ is.groups ∙ before.groups;
+  version = is.version;
+  writes = after.writes ∙ is.writes ∙ ap (λ ws. ws ++ record { block = b; version = is.version; content = x } ∷ []) before.writes;
+}
+
+-- a fresh content that is placed is a write
+pub fresh_adds : (F G : Flat) (w s b : ℕ) (x : Content) (r : Record) → PlaceCase F w s b (Fresh x) (outcome.Placed r) G → Adds F G b x
+fresh_adds F G w s b x r case =
+    let run = case.run in
+    let before = keeps_more F run.0 run.2.0 (keeps_claimed F run.0 w s s run.1) (keeps_put run.0 run.2.0 (Fresh x) w s b run.2.1) in
+    let is = commit_adds run.2.0 run.2.2.0 w s b r x (fill_waits run.0 run.2.0 w s x run.2.1) run.2.2.1 in
+    adds_between F run.2.0 run.2.2.0 G b x before is (keeps_back run.2.2.0 G w case.old run.2.2.2)
+
+-- a placing that isn't carried out is none
+unplaced_keeps : (F G : Flat) (w s b : ℕ) (what : Put) (o : Outcome) → ((r : Record) → o ≢ outcome.Placed r) → PlaceCase F w s b what o G → Keeps F G
+unplaced_keeps F G w s b what (outcome.Placed r) other case = absurd (other r refl)
+unplaced_keeps F G w s b what (outcome.Refused k) other case = refused_keeps F G w s b what k case
+unplaced_keeps F G w s b what outcome.NoRoom other case = keeps_more F case.0 G (keeps_left F case.0 case.1.2) (keeps_same case.0 G case.2)
+unplaced_keeps F G w s b what outcome.Nothing other case = absurd case
+
+-- a copy is none, whatever its outcome
+pub again_keeps : (F G : Flat) (w s b : ℕ) (o : Outcome) → PlaceCase F w s b Again o G → Keeps F G
+again_keeps F G w s b (outcome.Placed r) case =
+    let run = case.run in
+    let before = keeps_more F run.0 run.2.0 (keeps_claimed F run.0 w s s run.1) (keeps_put run.0 run.2.0 Again w s b run.2.1) in
+    let is = commit_keeps run.2.0 run.2.2.0 w s b r b _ _ _ (copy_waits run.0 run.2.0 w s b run.2.1) run.2.2.1 in
+    keeps_more F run.2.0 G before (keeps_more run.2.0 run.2.2.0 G is (keeps_back run.2.2.0 G w case.old run.2.2.2))
+again_keeps F G w s b (outcome.Refused k) case = refused_keeps F G w s b Again k case
+again_keeps F G w s b outcome.NoRoom case = unplaced_keeps F G w s b Again outcome.NoRoom (λ r e. absurd (cc)) case
+again_keeps F G w s b outcome.Nothing case = absurd case
+
+-- what a write makes of the writes, by its outcome
+abbrev pub Wrote : Outcome → Flat → Flat → ℕ → Content → Type 0
+Wrote (outcome.Placed r) F G b x = Adds F G b x
+Wrote _ F G b x = Keeps F G
+
+wrote_after : (o : Outcome) (F M G : Flat) (b : ℕ) (x : Content) → Keeps F M → Wrote o M G b x → Wrote o F G b x
+wrote_after (outcome.Placed r) F M G b x before is = adds_between F M G G b x before is (keeps_same G G refl)
+wrote_after (outcome.Refused k) F M G b x before is = keeps_more F M G before is
+wrote_after outcome.NoRoom F M G b x before is = keeps_more F M G before is
+wrote_after outcome.Nothing F M G b x before is = keeps_more F M G before is
+
+fresh_wrote : (F G : Flat) (w s b : ℕ) (x : Content) (o : Outcome) → PlaceCase F w s b (Fresh x) o G → Wrote o F G b x
+fresh_wrote F G w s b x (outcome.Placed r) case = fresh_adds F G w s b x r case
+fresh_wrote F G w s b x (outcome.Refused k) case = refused_keeps F G w s b (Fresh x) k case
+fresh_wrote F G w s b x outcome.NoRoom case = unplaced_keeps F G w s b (Fresh x) outcome.NoRoom (λ r e. absurd (cc)) case
+fresh_wrote F G w s b x outcome.Nothing case = absurd case
+
+flat_same : (T U : Tiered) → U ≡ T → Keeps T.flat U.flat
+flat_same T U same = keeps_same T.flat U.flat (ap (λ (z : Tiered). z.flat) same)
+
+moves_keep : (T U : Tiered) (w b s : ℕ) (o : Outcome) → MovesTo T w b s o U → Keeps T.flat U.flat
+moves_keep T U w b s o moves = keeps_more T.flat moves.0 U.flat (again_keeps T.flat moves.0 w s b o moves.1) (keeps_same moves.0 U.flat (ap (λ (z : Tiered). z.flat) moves.2))
+
+appends_keep : (T U : Tiered) (w b s : ℕ) (o : Outcome) → AppendsAt T w b s o U → Keeps T.flat U.flat
+appends_keep T U w b s o moves = keeps_more T.flat moves.0 U.flat (again_keeps T.flat moves.0 w s b o moves.1) (keeps_same moves.0 U.flat (ap (λ (z : Tiered). z.flat) moves.2))
+
+writes_at : (T U : Tiered) (w b : ℕ) (x : Content) (s : ℕ) (o : Outcome) → WritesAt T w b x s o U → Wrote o T.flat U.flat b x
+writes_at T U w b x s o writes =
+    subst (λ F. Wrote o T.flat F b x) (sym (ap (λ (z : Tiered). z.flat) writes.2)) (fresh_wrote T.flat writes.0 w s b x o writes.1)
+
+aside_keeps : (T U : Tiered) (w b : ℕ) (hole : Option ℕ) (o : Outcome) → GoesAside T w b hole o U → Keeps T.flat U.flat
+aside_keeps T U w b None o stays = flat_same T U stays.same
+aside_keeps T U w b (Some s) o moves = moves_keep T U w b s o moves
+
+out_keeps : (T U : Tiered) (keys : ℕ → ℕ) (w : ℕ) (chosen : Option ℕ) (o : Outcome) → GoesOut T keys w chosen o U → Keeps T.flat U.flat
+out_keeps T U keys w None o stays = flat_same T U stays.same
+out_keeps T U keys w (Some b) o (inl on) = appends_keep T U w b on.slot o on.done
+out_keeps T U keys w (Some b) o (inr aside) = aside_keeps T U w b aside.hole o aside.done
+
+-- a block that makes room changes no write
+room_keeps : (T U : Tiered) (w : ℕ) (o : Outcome) → RoomCase T w o U → Keeps T.flat U.flat
+room_keeps T U w o case = out_keeps T U case.keys w case.chosen o case.done
+
+stays_wrote : (is o : Outcome) (T U : Tiered) (b : ℕ) (x : Content) → ((r : Record) → is ≢ outcome.Placed r) → o ≡ is → U ≡ T → Wrote o T.flat U.flat b x
+stays_wrote is (outcome.Placed r) T U b x other told same = absurd (other r (sym told))
+stays_wrote is (outcome.Refused k) T U b x other told same = flat_same T U same
+stays_wrote is outcome.NoRoom T U b x other told same = flat_same T U same
+stays_wrote is outcome.Nothing T U b x other told same = flat_same T U same
+
+in_wrote : (T U : Tiered) (w b : ℕ) (x : Content) (slot : Option ℕ) (o : Outcome) → WritesIn T w b x slot o U → Wrote o T.flat U.flat b x
+in_wrote T U w b x None o stays = stays_wrote outcome.NoRoom o T U b x (λ r e. absurd (cc)) stays.told stays.same
+in_wrote T U w b x (Some s) o writes = writes_at T U w b x s o writes
+
+again_wrote : (V U : Tiered) (w b : ℕ) (x : Content) (o : Outcome) → WritesAgain V w b x o U → Wrote o V.flat U.flat b x
+again_wrote V U w b x o again = in_wrote V U w b x again.slot o again.done
+
+after_wrote : (V U : Tiered) (w b : ℕ) (x : Content) (moved o : Outcome) → AfterRoom V w b x moved o U → Wrote o V.flat U.flat b x
+after_wrote V U w b x (outcome.Refused k) o stays = stays_wrote (outcome.Refused k) o V U b x (λ r e. absurd (cc)) stays.told stays.same
+after_wrote V U w b x (outcome.Placed r) o again = again_wrote V U w b x o again
+after_wrote V U w b x outcome.NoRoom o again = again_wrote V U w b x o again
+after_wrote V U w b x outcome.Nothing o again = again_wrote V U w b x o again
+
+always_done : (T U : Tiered) (w b : ℕ) (x : Content) (slot : Option ℕ) (o : Outcome) → WritesAlways T w b x slot o U → Wrote o T.flat U.flat b x
+always_done T U w b x None o after =
+    wrote_after o T.flat after.between.flat U.flat b x (room_keeps T after.between w after.moved after.out) (after_wrote after.between U w b x after.moved o after.done)
+always_done T U w b x (Some s) o writes = writes_at T U w b x s o writes
+
+-- a write that is placed is one write more, and any other outcome leaves the writes
+pub always_wrote : (T U : Tiered) (w b : ℕ) (x : Content) (o : Outcome) → AlwaysCase T w b x o U → Wrote o T.flat U.flat b x
+always_wrote T U w b x o case = always_done T U w b x case.slot o case.done
+
+put_stops_keep : (T U : Tiered) (w : ℕ) (what : Put) (b s : ℕ) → PutStops T w what b s U → Keeps T.flat U.flat
+put_stops_keep T U w what b s stops =
+    keeps_more T.flat stops.left U.flat (stops_keep T.flat stops.left w s b what stops.stops) (keeps_same stops.left U.flat (ap (λ (z : Tiered). z.flat) stops.same))
+
+stop_keeps : (T U : Tiered) (w b : ℕ) (x : Content) (slot : Option ℕ) → AlwaysStop T w b x slot U → Keeps T.flat U.flat
+stop_keeps T U w b x None (inl out) = put_stops_keep T U w Again out.block out.slot out.stops
+stop_keeps T U w b x None (inr after) =
+    keeps_more T.flat after.between.flat U.flat (room_keeps T after.between w after.moved after.out) (put_stops_keep after.between U w (Fresh x) b after.slot after.stops)
+stop_keeps T U w b x (Some s) stops = put_stops_keep T U w (Fresh x) b s stops
+
+-- a write that ran out of memory leaves the writes
+pub always_stops_keep : (T U : Tiered) (w b : ℕ) (x : Content) → AlwaysStops T w b x U → Keeps T.flat U.flat
+always_stops_keep T U w b x stops = stop_keeps T U w b x stops.slot stops.stops

@@ -1,0 +1,11 @@
+-- When an array's store represents a flat store.
+use Rattle.std.specs.Prelude.{◌≡◌, ℕ, Bool, length}
+use Rattle.byte_store.specs.Flat.{Flat}
+use Rattle.background.specs.Views.{TiersView}
+use Rattle.array_store.specs.Blocks.{Holds}
+
+-- the array holds the flat store's bytes, which are all of the disk's; and the store notes whether some await a flush
+pub record IsStoreOf (tiers : TiersView) (size : ℕ) (unsynced : Bool) (F : Flat) : Type 0 where
+  pub holds : Holds tiers F.bytes
+  pub long : length F.bytes ≡ size
+  pub noted : F.unsynced ≡ unsynced

@@ -1,0 +1,8 @@
+//! The bytes of a disk, kept by an array: by offset, cut into the array's blocks.
+#![tactic(auto)]
+
+mod block;
+mod piece;
+mod store;
+
+pub use store::ArrayStore;

@@ -1,0 +1,134 @@
+// The bytes of a disk.
+ghost use Rattle.std.specs.Prelude.{◌≡◌, ◌+◌, ◌*◌, ◌<◌, ◌≤◌, length, false, IfOk};
+ghost use Rattle.byte_store.specs.Flat.{Flat, Sizes, written_over};
+ghost use Rattle.byte_store.specs.Changes.{IsChanged, IsFlushed};
+ghost use Rattle.array_store.specs.Blocks.{Holds};
+ghost use Rattle.array_store.specs.Stores.{IsStoreOf};
+ghost use Rattle.background.specs.Views.{TiersView};
+
+use crate::block::{read_piece, write_piece, zero_piece};
+use crate::piece::{Piece, piece_at};
+use background::Tiers;
+use byte_store::{ByteStore, StoreFault};
+use extents::Drive;
+use std::alloc::{AllocError, Global};
+use step_core::World;
+
+/// The bytes of a disk, kept by an array. The last block may have bytes past the disk's end.
+#[derive(Drop)]
+pub struct ArrayStore<D: Drive> {
+    tiers: Tiers<D>,
+    /// Bytes of the disk.
+    size: u64,
+    /// For a block of which a part is written.
+    buffer: Vec<u8>,
+    /// Whether something was written since the last flush.
+    unsynced: bool,
+    ghost within: { size ≤ tiers.world.array.parts.groups.blocks * tiers.world.array.parts.groups.payload },
+    ghost buffer_is: { length buffer.items ≡ tiers.world.array.parts.groups.payload },
+}
+
+impl<D: Drive + Drop> ArrayStore<D> {
+    /// The first `size` bytes of an array, which has that many. It allocates memory for one block; later calls allocate only
+    /// what the array's writes do.
+    pub fn new(alloc: Global, tiers: Tiers<D>, size: u64) -> Result<ArrayStore<D>, AllocError>
+        requires { size ≤ tiers.world.array.parts.groups.blocks * tiers.world.array.parts.groups.payload }
+        ensures ok { IfOk result (λ s. (F : Flat) → Holds tiers F.bytes → length F.bytes ≡ size → F.unsynced ≡ false
+            → IsStoreOf s.tiers s.size s.unsynced F) }
+        ensures size { IfOk result (λ s. s.size ≡ size) }
+    {
+        let bytes = tiers.world().array().shape().payload as usize;
+        Ok(ArrayStore {
+            tiers,
+            size,
+            buffer: vec![in alloc; 0u8; bytes]?,
+            unsynced: false,
+        })
+    }
+
+    /// The array's world, for the calls that only read it.
+    pub fn world(&self) -> &World<D>
+        ensures { result.now ≡ self.now.tiers.world }
+    {
+        self.tiers.world()
+    }
+}
+
+impl<D: Drive> ByteStore for ArrayStore<D> {
+    ghost represents = { λ s. IsStoreOf s.tiers s.size s.unsynced };
+
+    ghost sizes = { λ s. record { bytes = s.size; block = s.tiers.world.array.parts.groups.payload } };
+
+    fn size(&self) -> u64 {
+        self.size
+    }
+
+    fn block_bytes(&self) -> u32 {
+        self.tiers.world().array().shape().payload
+    }
+
+    fn read(&mut self, offset: u64, out: &mut [u8]) -> Result<(), StoreFault> {
+        let shape = self.tiers.world().array().shape();
+        let size = shape.payload as usize;
+        let mut done = 0usize;
+        while done < out.len() {
+            let piece = piece_at(size, shape.blocks, offset + done as u64, out.len() - done);
+            let Piece { block, from, count } = piece;
+            let part = &mut out[done..done + count];
+            read_piece(&mut self.tiers, &mut self.buffer, block, from, part)?;
+            done += count;
+        }
+        Ok(())
+    }
+
+    fn write(&mut self, alloc: Global, offset: u64, bytes: &[u8]) -> Result<(), StoreFault> {
+        let shape = self.tiers.world().array().shape();
+        let size = shape.payload as usize;
+        self.unsynced = true;
+        let mut done = 0usize;
+        while done < bytes.len() {
+            let piece = piece_at(size, shape.blocks, offset + done as u64, bytes.len() - done);
+            let Piece { block, from, count } = piece;
+            let part = &bytes[done..done + count];
+            write_piece(alloc, &mut self.tiers, &mut self.buffer, block, from, part)?;
+            done += count;
+        }
+        Ok(())
+    }
+
+    fn zero(&mut self, alloc: Global, offset: u64, length: u32) -> Result<(), StoreFault> {
+        let shape = self.tiers.world().array().shape();
+        let size = shape.payload as usize;
+        let length = length as usize;
+        self.unsynced = true;
+        let mut done = 0usize;
+        while done < length {
+            let piece = piece_at(size, shape.blocks, offset + done as u64, length - done);
+            let Piece { block, from, count } = piece;
+            zero_piece(alloc, &mut self.tiers, &mut self.buffer, block, from, count)?;
+            done += count;
+        }
+        Ok(())
+    }
+
+    // A drive whose sync fails is lost. As long as it is the only one, the others have all bytes.
+    fn flush(&mut self) -> Result<(), StoreFault> {
+        self.tiers.sync();
+        if lost_count(self.tiers.world()) > 1 {
+            return Err(StoreFault::Sync);
+        }
+        self.unsynced = false;
+        Ok(())
+    }
+}
+
+// How many drives are lost.
+fn lost_count<D: Drive>(world: &World<D>) -> u8 {
+    let mut count = 0u8;
+    for drive in 0..world.array().drive_count() {
+        if world.array().is_lost(drive) {
+            count = count.saturating_add(1);
+        }
+    }
+    count
+}

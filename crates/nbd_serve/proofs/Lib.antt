@@ -1,0 +1,5 @@
+pub mod Streaming
+pub mod Replying
+pub mod Sessions
+pub mod Outcomes
+pub mod Turns

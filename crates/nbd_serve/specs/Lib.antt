@@ -1,0 +1,11 @@
+pub mod Streams
+pub mod Refusals
+pub mod Answers
+pub mod Answering
+pub mod Forcing
+pub mod Exchanges
+pub mod Serving
+pub mod Stepping
+pub mod Options
+pub mod Handshaking
+pub mod Sessions

@@ -1,0 +1,28 @@
+-- A whole session with a client: a handshake, and then requests.
+use Rattle.std.specs.Prelude.{ℕ, ◌⊎◌, List, Option, Result, Ok, Err}
+use Rattle.byte_store.specs.Flat.{Flat, Sizes}
+use Rattle.nbd_wire.specs.declared.options.Export.{Export}
+use Rattle.nbd_serve.specs.Handshaking.{Handshakes}
+use Rattle.nbd_serve.specs.Serving.{Serves}
+use Rattle.nbd_serve.specs.declared.end.End.{End}
+
+-- the export that a store of these sizes is
+abbrev pub export_of : Sizes → Export
+export_of sizes = record { size = sizes.bytes; block = sizes.block }
+
+-- the session ended in the handshake, and the store is as it was
+pub record IsTurnedAway (represents : Flat → Type 0) (sizes : Sizes) (F : Flat) (last : End) (before after held now : Option (List ℕ)) : Type 0 where
+  pub handshakes : Handshakes (Err last) (export_of sizes) before after held now
+  pub stands : represents F
+
+-- the handshake was made, and requests were answered
+pub record IsServed (represents : Flat → Type 0) (sizes : Sizes) (F : Flat) (last : End) (before after held now : Option (List ℕ)) : Type 0 where
+  pub left : Option (List ℕ)
+  pub told : Option (List ℕ)
+  pub handshakes : Handshakes (Ok tt) (export_of sizes) before left held told
+  pub serves : Serves represents sizes.bytes F last left after told now
+
+-- what a session with a store in state F reads and writes, and what becomes of the store, by how it ends
+abbrev pub Session : (Flat → Type 0) → Sizes → Flat → End → Option (List ℕ) → Option (List ℕ) → Option (List ℕ) → Option (List ℕ) → Type 0
+Session represents sizes F last before after held now =
+    IsTurnedAway represents sizes F last before after held now ⊎ IsServed represents sizes F last before after held now

@@ -1,0 +1,38 @@
+-- What is read and written, as far as the bytes of a reader and a writer are known.
+use Rattle.std.specs.Prelude.{◌≡◌, ℕ, ◌<◌, List, ◌++◌, length, Option}
+use Rattle.std.specs.Io.KnownBytes.{Appends, Consumes, IsAtEnd}
+use Rattle.nbd_serve.specs.declared.calls.Short.{Short}
+use Rattle.nbd_serve.specs.declared.calls.Short.TheVariants as short
+use Rattle.nbd_serve.specs.declared.end.End.{End}
+use Rattle.nbd_serve.specs.declared.end.End.TheVariants as end
+
+-- how a session ends if too few bytes were read
+abbrev pub end_of : Short → End
+end_of short.Ended = end.Cut
+end_of short.Failed = end.ReadFault
+
+-- no byte is left, if the input ended
+abbrev pub LeavesNone : Short → Option (List ℕ) → Type 0
+LeavesNone short.Ended after = IsAtEnd after
+LeavesNone short.Failed after = Unit {0}
+
+-- fewer bytes were read than were wanted
+pub record IsShort (reason : Short) (before after : Option (List ℕ)) (wanted : ℕ) : Type 0 where
+  pub part : List ℕ
+  pub read : Consumes before after part
+  pub few : length part < wanted
+  pub ended : LeavesNone reason after
+
+-- so many bytes were read
+pub record Skips (before after : Option (List ℕ)) (count : ℕ) : Type 0 where
+  pub bytes : List ℕ
+  pub read : Consumes before after bytes
+  pub size : length bytes ≡ count
+
+-- a proper prefix of the bytes was written
+pub record IsPartWritten (held now : Option (List ℕ)) (bytes : List ℕ) : Type 0 where
+  pub written : List ℕ
+  pub unwritten : List ℕ
+  pub bytes_is : bytes ≡ written ++ unwritten
+  pub some : 0 < length unwritten
+  pub wrote : Appends held now written

@@ -1,0 +1,32 @@
+// A whole session.
+ghost use Rattle.byte_store.specs.Flat.{Flat};
+ghost use Rattle.nbd_serve.specs.Sessions.{Session};
+
+use crate::end::End;
+use crate::handshake::agree;
+use crate::transmission::transmit;
+use byte_store::ByteStore;
+use nbd_wire::Export;
+use std::alloc::Global;
+use std::io::{Read, Write};
+
+/// Serves a store to one client: the handshake, and then requests until the client goes or the session ends otherwise. Every name of
+/// an export is taken for the store.
+pub fn serve<R: Read, W: Write, S: ByteStore>(
+    alloc: Global,
+    reader: &mut R,
+    writer: &mut W,
+    store: &mut S,
+) -> End
+    ensures { (F : Flat) → S.represents store.old F → Session (S.represents store.new) (S.sizes store.old) F result
+        (R.remaining reader.old) (R.remaining reader.new) (W.contents writer.old) (W.contents writer.new) }
+{
+    let export = Export {
+        size: store.size(),
+        block: store.block_bytes(),
+    };
+    match agree(alloc, reader, writer, &export) {
+        Ok(()) => transmit(alloc, reader, writer, store),
+        Err(end) => end,
+    }
+}

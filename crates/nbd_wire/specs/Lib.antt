@@ -1,0 +1,4 @@
+pub mod Prefix
+pub mod Requests
+pub mod Replies
+pub mod Options

@@ -1,0 +1,41 @@
+//! The files of a disk.
+use std::alloc::{AllocError, Global};
+use std::fs::File;
+use std::io;
+
+/// A file of a disk's folder.
+#[derive(Clone, Copy, Debug, PartialEq, Eq)]
+pub(crate) enum Name {
+    /// The folder itself.
+    Folder,
+    /// The table.
+    Table,
+    /// The table until it is whole.
+    Fresh,
+    /// The file of a drive.
+    Drive(u8),
+}
+
+/// The folder of a disk.
+#[derive(Clone, Copy)]
+pub(crate) struct Folder<'a> {
+    pub(crate) name: &'a str,
+}
+
+impl<'a> Folder<'a> {
+    /// The path of a file.
+    pub(crate) fn path(&self, alloc: Global, name: Name) -> Result<String, AllocError> {
+        let folder = self.name;
+        match name {
+            Name::Folder => format!(in alloc; "{folder}"),
+            Name::Table => format!(in alloc; "{folder}/table"),
+            Name::Fresh => format!(in alloc; "{folder}/table.new"),
+            Name::Drive(drive) => format!(in alloc; "{folder}/drive{drive}"),
+        }
+    }
+
+    /// Makes the folder's entries durable.
+    pub(crate) fn sync(&self, rt: &HostRuntime) -> io::Result<()> {
+        File::open(rt, self.name)?.sync_all()
+    }
+}

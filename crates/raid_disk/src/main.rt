@@ -1,0 +1,97 @@
+//! A disk on files: made in a folder, served to an NBD client on standard input and output, and described.
+#![tactic(auto)]
+
+mod create;
+mod drive_file;
+mod folder;
+mod opened;
+mod serve;
+mod size;
+mod status;
+mod table;
+mod trouble;
+mod words;
+
+use clap::ArgMatches;
+use folder::Folder;
+use size::size_in;
+use std::process::ExitCode;
+use std::{env, io};
+use trouble::Trouble;
+use words::matches_of;
+
+/// The status of a wrong command line.
+const WRONG_WORDS: u8 = 2;
+
+fn main(rt: HostRuntime) -> ExitCode {
+    let words = match words_of(&rt) {
+        Ok(words) => words,
+        Err(error) => return ended(&rt, Err(Trouble::of_words(error)), Folder { name: "" }),
+    };
+    match matches_of(rt.alloc(), &words) {
+        Ok(matches) => run(&rt, &matches),
+        Err(error) => refused(&rt, &error),
+    }
+}
+
+// Prints what clap says of the words, and ends with its status.
+fn refused(rt: &HostRuntime, error: &clap::Error) -> ExitCode {
+    if error.kind() == clap::error::ErrorKind::OutOfMemory {
+        return ended(rt, Err(Trouble::Memory), Folder { name: "" });
+    }
+    // Nothing is left to do where the text can't be written.
+    let _ = error.print(rt);
+    ExitCode::from(if error.use_stderr() { WRONG_WORDS } else { 0 })
+}
+
+// Ends with a status, or says what is wrong and ends with its status.
+fn ended(rt: &HostRuntime, done: Result<u8, Trouble>, folder: Folder<'_>) -> ExitCode {
+    match done {
+        Ok(status) => ExitCode::from(status),
+        Err(trouble) => {
+            // Nothing is left to do where standard error can't be written.
+            let _ = trouble.report(rt, folder);
+            ExitCode::from(trouble.status())
+        }
+    }
+}
+
+// Does what the words ask for. clap lets no other words through.
+fn run<'w>(rt: &HostRuntime, matches: &ArgMatches<'w>) -> ExitCode {
+    let Some((verb, given)) = matches.subcommand() else {
+        return ExitCode::from(WRONG_WORDS);
+    };
+    let Some(name) = given.get_str("folder") else {
+        return ExitCode::from(WRONG_WORDS);
+    };
+    let folder = Folder { name };
+    let done = match verb {
+        "create" => create_from(rt, given, folder),
+        "serve" => serve::serve_disk(rt, folder),
+        _ => status::show(rt, folder),
+    };
+    ended(rt, done, folder)
+}
+
+// Makes the disk that the words describe.
+fn create_from<'w>(
+    rt: &HostRuntime,
+    given: &ArgMatches<'w>,
+    folder: Folder<'_>,
+) -> Result<u8, Trouble> {
+    let Some(size) = given.get_str("size").and_then(size_in) else {
+        return Err(Trouble::Size);
+    };
+    let block = given.get_one::<u32>("block").unwrap_or(4096);
+    let drives = given.get_one::<u8>("drives").unwrap_or(6);
+    create::create_disk(rt, folder, size, block, drives)
+}
+
+// The words of the command line after the program's name.
+fn words_of(rt: &HostRuntime) -> io::Result<Vec<String>> {
+    let mut words = Vec::new(rt.alloc());
+    for word in env::args(rt)?.skip(1) {
+        words.push(word)?;
+    }
+    Ok(words)
+}

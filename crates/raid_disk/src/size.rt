@@ -1,0 +1,27 @@
+//! Sizes as words.
+
+// The word without its unit, and the bytes of the unit.
+fn cut_unit(word: &str) -> (&str, u64) {
+    if let Some(number) = word.strip_suffix("K") {
+        return (number, 1024);
+    }
+    if let Some(number) = word.strip_suffix("M") {
+        return (number, 1024 * 1024);
+    }
+    match word.strip_suffix("G") {
+        Some(number) => (number, 1024 * 1024 * 1024),
+        None => (word, 1),
+    }
+}
+
+/// The bytes that a word names: digits, and K, M or G. None where it is no such word, or 2^64 bytes or more.
+pub(crate) fn size_in(word: &str) -> Option<u64> {
+    let (number, unit) = cut_unit(word);
+    if !number.bytes().all(|byte| byte.is_ascii_digit()) {
+        return None;
+    }
+    match number.parse::<u64>() {
+        Ok(count) => count.checked_mul(unit),
+        Err(_) => None,
+    }
+}

@@ -1,0 +1,95 @@
+//! What a disk has, and how full it is.
+use crate::folder::Folder;
+use crate::opened::{Disk, DiskDrive, Use, open_disk};
+use crate::trouble::Trouble;
+use extent_groups::{Class, GROUPS, SLOTS};
+use std::io;
+use step_core::{Array, Plain};
+
+/// Slots of a level, and those that hold a block.
+#[derive(Clone, Copy, Debug, PartialEq, Eq)]
+struct Level {
+    groups: u32,
+    slots: u32,
+    used: u32,
+}
+
+// How many slots of a group hold a block.
+fn used_in(array: &Array<DiskDrive, Plain>, group: u16) -> u32 {
+    let mut used = 0u32;
+    for index in 0..array.groups().slots_of(group) {
+        if array.is_held((SLOTS * (group % GROUPS as u16)).saturating_add(index)) {
+            used = used.saturating_add(1);
+        }
+    }
+    used
+}
+
+// The level of a class.
+fn level_of(array: &Array<DiskDrive, Plain>, class: Class) -> Level {
+    let mut level = Level {
+        groups: 0,
+        slots: 0,
+        used: 0,
+    };
+    for group in 0..GROUPS as u16 {
+        if array.groups().class_of(group) == Some(class) {
+            let slots = u32::from(array.groups().slots_of(group));
+            level.groups = level.groups.saturating_add(1);
+            level.slots = level.slots.saturating_add(slots);
+            level.used = level.used.saturating_add(used_in(array, group));
+        }
+    }
+    level
+}
+
+// How many drives are missing.
+fn missing_in(array: &Array<DiskDrive, Plain>) -> u8 {
+    let mut missing = 0u8;
+    for drive in 0..array.drive_count() {
+        if array.is_lost(drive) {
+            missing = missing.saturating_add(1);
+        }
+    }
+    missing
+}
+
+fn print(rt: &HostRuntime, disk: &Disk) -> io::Result<()> {
+    let array = disk.store.world().array();
+    let plan = &disk.plan;
+    let size = plan.size;
+    let block = plan.shape.payload;
+    let blocks = plan.shape.blocks;
+    println!(rt; "size {size} bytes: {blocks} blocks of {block}")?;
+    for drive in 0..array.drive_count() {
+        let state = if array.is_lost(drive) {
+            "missing"
+        } else {
+            "present"
+        };
+        println!(rt; "drive{drive} {state}")?;
+    }
+    for (name, class) in [("mirrored", Class::Mirrored), ("parity", Class::Parity)] {
+        let level = level_of(array, class);
+        let Level { groups, slots, used } = level;
+        println!(rt; "{name} groups {groups}: slots {slots}, used {used}")?;
+    }
+    let missing = missing_in(array);
+    match missing {
+        0 => println!(rt; "no drive is missing"),
+        1 => println!(rt; "one drive is missing: all can be read, and a second loss may not be survived"),
+        _ => println!(rt; "{missing} drives are missing"),
+    }
+}
+
+/// Prints a disk's sizes, drives and levels. The status is 1 where a drive is missing.
+pub(crate) fn show(rt: &HostRuntime, folder: Folder<'_>) -> Result<u8, Trouble> {
+    let disk = open_disk(rt, folder, Use::Looks)?;
+    match print(rt, &disk) {
+        Ok(()) => {
+            let missing = missing_in(disk.store.world().array());
+            Ok(if missing > 0 { 1 } else { 0 })
+        }
+        Err(error) => Err(Trouble::Output(error)),
+    }
+}

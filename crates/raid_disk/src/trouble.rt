@@ -1,0 +1,157 @@
+//! Why the program ends early.
+use crate::folder::{Folder, Name};
+use disk_shape::ShapeFault;
+use nbd_serve::End;
+use std::alloc::{AllocError, AllocFailed};
+use std::io;
+
+/// Why a command isn't carried out, or not to its end.
+#[derive(Debug, Drop)]
+pub(crate) enum Trouble {
+    Memory,
+    /// The word for the size is none.
+    Size,
+    /// There is no disk of these sizes.
+    Shape(ShapeFault),
+    /// A file that `create` would make is there.
+    Exists(Name),
+    /// The folder has no table.
+    NoDisk,
+    /// The table isn't one of this program.
+    NoTable,
+    /// Another process has the disk.
+    Busy,
+    /// The bytes of a drive's file, and those that it should have.
+    Length(u8, u64, u64),
+    /// No drive that is there has what lies in this slot.
+    Gone(u16),
+    /// The units' headers contradict one another, or the groups don't fit.
+    Unsound,
+    Words(io::Error),
+    Read(Name, io::Error),
+    Write(Name, io::Error),
+    /// A drive's file can't be read.
+    Unread(u8),
+    /// Standard output can't be written.
+    Output(io::Error),
+    /// The client's stream broke, or isn't the protocol.
+    Stream(End),
+    /// Some drive couldn't be synced at the end.
+    Sync,
+}
+
+impl Trouble {
+    /// The trouble of words that can't be read.
+    pub(crate) fn of_words(error: io::Error) -> Trouble {
+        match error.kind() {
+            io::ErrorKind::OutOfMemory => Trouble::Memory,
+            _ => Trouble::Words(error),
+        }
+    }
+
+    /// The exit status: 2 for the command line, 3 for a refusal, 4 for out of memory, 5 for input or output.
+    pub(crate) fn status(&self) -> u8 {
+        match self {
+            Trouble::Memory => 4,
+            Trouble::Size => 2,
+            Trouble::Words(_)
+            | Trouble::Read(_, _)
+            | Trouble::Write(_, _)
+            | Trouble::Unread(_)
+            | Trouble::Output(_)
+            | Trouble::Stream(_)
+            | Trouble::Sync => 5,
+            _ => 3,
+        }
+    }
+
+    /// Says on standard error what is wrong, in one line.
+    pub(crate) fn report(&self, rt: &HostRuntime, folder: Folder<'_>) -> io::Result<()> {
+        let at = folder.name;
+        match self {
+            Trouble::Memory => eprintln!(rt; "raid_disk: out of memory"),
+            Trouble::Size => eprintln!(rt; "raid_disk: SIZE is a number of bytes, or a number and K, M or G"),
+            Trouble::Shape(fault) => report_shape(rt, fault),
+            Trouble::NoDisk => eprintln!(rt; "raid_disk: {at} has no disk: there is no {at}/table"),
+            Trouble::NoTable => eprintln!(rt; "raid_disk: {at}/table isn't the table of a disk"),
+            Trouble::Busy => eprintln!(rt; "raid_disk: {at}: another process has the disk"),
+            Trouble::Words(error) => eprintln!(rt; "raid_disk: the command line can't be read: {error}"),
+            Trouble::Output(error) => eprintln!(rt; "raid_disk: standard output can't be written: {error}"),
+            Trouble::Stream(end) => eprintln!(rt; "raid_disk: {at}: the client's session ended: {end:?}"),
+            Trouble::Sync => eprintln!(rt; "raid_disk: {at}: a drive's file can't be synced"),
+            Trouble::Unsound => eprintln!(rt; "raid_disk: {at}: the drives' files don't fit one another"),
+            Trouble::Gone(slot) => {
+                let group = slot / 128;
+                let index = slot % 128;
+                eprintln!(rt; "raid_disk: {at}: too many drives are missing: slot {index} of group {group} can't be read")
+            }
+            _ => self.report_file(rt, folder),
+        }
+    }
+
+    // Says what is wrong with one file.
+    fn report_file(&self, rt: &HostRuntime, folder: Folder<'_>) -> io::Result<()> {
+        match self {
+            Trouble::Exists(name) => {
+                let path = folder.path(rt.alloc(), *name)?;
+                eprintln!(rt; "raid_disk: {path} is there already: nothing was made")
+            }
+            Trouble::Length(drive, has, wants) => {
+                let path = folder.path(rt.alloc(), Name::Drive(*drive))?;
+                eprintln!(rt; "raid_disk: {path} has {has} bytes, and a drive of this disk {wants}: without the file the drive is lost")
+            }
+            Trouble::Read(name, error) => {
+                let path = folder.path(rt.alloc(), *name)?;
+                eprintln!(rt; "raid_disk: {path} can't be read: {error}")
+            }
+            Trouble::Write(name, error) => {
+                let path = folder.path(rt.alloc(), *name)?;
+                eprintln!(rt; "raid_disk: {path} can't be written: {error}")
+            }
+            Trouble::Unread(drive) => {
+                let path = folder.path(rt.alloc(), Name::Drive(*drive))?;
+                eprintln!(rt; "raid_disk: {path} can't be read to its end: without the file the drive is lost")
+            }
+            _ => Ok(()),
+        }
+    }
+}
+
+fn report_shape(rt: &HostRuntime, fault: &ShapeFault) -> io::Result<()> {
+    match fault {
+        ShapeFault::Drives => eprintln!(rt; "raid_disk: a disk has 3 to 16 drives"),
+        ShapeFault::Block => eprintln!(rt; "raid_disk: a block has 8 to 65536 bytes, a multiple of 8"),
+        ShapeFault::Empty => eprintln!(rt; "raid_disk: a disk has at least one byte"),
+        ShapeFault::TooLarge(most) => {
+            eprintln!(rt; "raid_disk: the largest disk of these drives and blocks has {most} bytes")
+        }
+    }
+}
+
+/// The trouble of a file that can't be read.
+pub(crate) fn unread(error: io::Error, name: Name) -> Trouble {
+    match error.kind() {
+        io::ErrorKind::OutOfMemory => Trouble::Memory,
+        _ => Trouble::Read(name, error),
+    }
+}
+
+/// The trouble of a file that can't be written.
+pub(crate) fn unwritten(error: io::Error, name: Name) -> Trouble {
+    match error.kind() {
+        io::ErrorKind::OutOfMemory => Trouble::Memory,
+        _ => Trouble::Write(name, error),
+    }
+}
+
+impl From<AllocError> for Trouble {
+    fn from(_: AllocError) -> Trouble {
+        Trouble::Memory
+    }
+}
+
+impl<T: Drop> From<AllocFailed<T>> for Trouble {
+    fn from(_: AllocFailed<T>) -> Trouble {
+        Trouble::Memory
+    }
+}

@@ -1,0 +1,56 @@
+//! The command line.
+use clap::{Arg, ArgMatches, Command, Error, value_parser};
+use std::alloc::{AllocError, Global};
+
+// The folder that a command names.
+fn folder<'a>(alloc: Global) -> Arg<'a> {
+    Arg::new(alloc, "folder")
+        .value_name("FOLDER")
+        .required(true)
+        .help("the disk's folder, with its table and a file for each drive")
+}
+
+fn create<'a>(alloc: Global) -> Result<Command<'a>, AllocError> {
+    let size = Arg::new(alloc, "size")
+        .long("size")
+        .value_name("SIZE")
+        .required(true)
+        .help("bytes of the disk; with K, M or G in units of 1,024, 1,048,576 or 1,073,741,824");
+    let block = Arg::new(alloc, "block")
+        .long("block")
+        .value_name("BYTES")
+        .default_value("4096")
+        .value_parser(value_parser!(u32))
+        .help("bytes of a block: 8 to 65,536, a multiple of 8");
+    let drives = Arg::new(alloc, "drives")
+        .long("drives")
+        .value_name("N")
+        .default_value("6")
+        .value_parser(value_parser!(u8))
+        .help("drives, 3 to 16: any one of them may be lost");
+    Command::new(alloc, "create")
+        .about("makes a disk of zeros in a folder, which is made if it isn't there")
+        .arg(folder(alloc))?
+        .arg(size)?
+        .arg(block)?
+        .arg(drives)
+}
+
+/// What the words ask for, as clap reads them.
+pub(crate) fn matches_of<'a>(alloc: Global, words: &'a [String]) -> Result<ArgMatches<'a>, Error> {
+    let serve = Command::new(alloc, "serve")
+        .about("serves the disk to one NBD client, on standard input and output")
+        .arg(folder(alloc))?;
+    let status = Command::new(alloc, "status")
+        .about("prints drives, groups, and how full the two levels are")
+        .arg(folder(alloc))?;
+    let program = Command::new(alloc, "raid_disk")
+        .about("A disk on files, which reads as before when one of them is lost.")
+        .no_binary_name(true)
+        .disable_help_subcommand(true)
+        .subcommand_required(true)
+        .subcommand(create(alloc)?)?
+        .subcommand(serve)?
+        .subcommand(status)?;
+    program.try_get_matches_from(words)
+}
