@@ -1,10 +1,11 @@
 -- What a call of the array makes of the disk's bytes.
+use Rattle.std.specs.Prelude.{IfOk, OnOk, OnErr}
 use Rattle.std.proofs.Common.{rules, ◌≡◌, ◌≢◌, ℕ, List, replicate, length, Option, Some, None, Result, Ok, Err, refl, sym, ap, ◌∙◌, subst, arith}
 use Rattle.flat_machine.specs.declared.refusal.Refusal.{Refusal}
 use Rattle.flat_machine.specs.Flat.{Flat, Content, bytes_of, last_write}
 use Rattle.flat_machine.specs.Steps as step
 use Rattle.step_core.specs.Told.{read_answer}
-use Rattle.background.specs.Room.{AlwaysCase, AlwaysStops}
+use Rattle.background.specs.Room.{AlwaysCase, AlwaysStops, SpareCase, SpareStops}
 use Rattle.background.specs.Stands.{StandsFor}
 use Rattle.background.specs.Steps.{StepNoted}
 use Rattle.background.specs.Tiered.{Tiered}
@@ -15,7 +16,8 @@ use Rattle.array_store.specs.Blocks.{bytes_in, block_bytes, Shows, Holds, IsBloc
 use Rattle.array_store.proofs.Reading.{found_bytes, nothing_bytes, read_keeps}
 use Rattle.array_store.proofs.Showing.{adds_shows, keeps_shows, block_read}
 use Rattle.flat_machine.specs.Cases.{Leaves}
-use Rattle.array_store.proofs.Writing.{Keeps, Adds, Wrote, keeps_left, always_wrote, always_stops_keep}
+use Rattle.flat_machine.specs.Shortened.{IsShortened}
+use Rattle.array_store.proofs.Writing.{Keeps, Adds, Wrote, keeps_left, always_wrote, always_stops_keep, spare_keeps, spare_stops_keep}
 
 -- the state's payloads are as long as the array's
 pub payload_is : (t : TiersView) (T : Tiered) → StandsFor t T → T.flat.groups.payload ≡ t.world.array.parts.groups.payload
@@ -111,3 +113,30 @@ synced_holds t u does bytes holds =
       stands = done.2;
       shows = keeps_shows T.flat done.0 bytes (keeps_left T.flat done.0 done.1) holds.shows;
     }
+
+-- a state with the same writes shows the same bytes
+kept_holds : (t u : TiersView) (bytes : List ℕ) (holds : Holds t bytes) (U : Tiered) → Keeps holds.state.flat U.flat → StandsFor u U → Holds u bytes
+kept_holds t u bytes holds U keeps stands = record { state = U; stands = stands; shows = keeps_shows holds.state.flat U.flat bytes keeps holds.shows }
+
+-- a spare slot leaves the bytes
+pub spared_holds : {E : Type 0} (t u : TiersView) (r : Result Outcome E)
+    → ((w : ℕ) → IfOk r (λ o. (T : Tiered) → StandsFor t T → (U : Tiered) × SpareCase T w o U × StandsFor u U))
+    → ((w : ℕ) → OnErr r ((T : Tiered) → StandsFor t T → (U : Tiered) × SpareStops T w U × StandsFor u U))
+    → (bytes : List ℕ) → Holds t bytes → Holds u bytes
+spared_holds t u (Ok o) does stops bytes holds =
+    let done = does 0 holds.state holds.stands in
+    kept_holds t u bytes holds done.0 (spare_keeps holds.state done.0 0 o done.1) done.2
+spared_holds t u (Err e) does stops bytes holds =
+    let done = stops 0 holds.state holds.stands in
+    kept_holds t u bytes holds done.0 (spare_stops_keep holds.state done.0 0 done.1) done.2
+
+-- so does a shorter log
+pub shortened_holds : {E : Type 0} (t u : TiersView) (r : Result (Unit {0}) E)
+    → OnOk r ((T : Tiered) → StandsFor t T → (G : Flat) × IsShortened T.flat G × StandsFor u (record T { flat = G })) → OnErr r (u ≡ t)
+    → (bytes : List ℕ) → Holds t bytes → Holds u bytes
+shortened_holds t u (Ok done) does same bytes holds =
+    let T = holds.state in
+    let new = does T holds.stands in
+    let keeps : Keeps T.flat new.0 = record { groups = ap (λ (x : Flat). x.groups) new.1.is; writes = ap (λ (x : Flat). x.writes) new.1.is } in
+    kept_holds t u bytes holds (record T { flat = new.0 }) keeps new.2
+shortened_holds t u (Err e) does same bytes holds = subst (λ (v : TiersView). Holds v bytes) (sym same) holds

@@ -6,7 +6,7 @@ ghost use Rattle.array_store.specs.Blocks.{Holds};
 ghost use Rattle.array_store.specs.Stores.{IsStoreOf};
 ghost use Rattle.background.specs.Views.{TiersView};
 
-use crate::block::{read_piece, write_piece, zero_piece};
+use crate::block::{make_spare, read_piece, shorten_log, write_piece, zero_piece};
 use crate::piece::{Piece, piece_at};
 use background::Tiers;
 use byte_store::{ByteStore, StoreFault};
@@ -119,6 +119,12 @@ impl<D: Drive> ByteStore for ArrayStore<D> {
         }
         self.unsynced = false;
         Ok(())
+    }
+
+    // What can be done ahead of later requests: a mirrored slot is made free, and a log that has grown is shortened.
+    fn rest(&mut self, alloc: Global) {
+        make_spare(alloc, &mut self.tiers);
+        shorten_log(alloc, &mut self.tiers);
     }
 }
 

@@ -94,7 +94,7 @@ impl Trouble {
         match self {
             Trouble::Exists(name) => {
                 let path = folder.path(rt.alloc(), *name)?;
-                eprintln!(rt; "raid_disk: {path} is there already: nothing was made")
+                eprintln!(rt; "raid_disk: {path} is there already: nothing was made; remove what an earlier attempt has left, or name another folder")
             }
             Trouble::Length(drive, has, wants) => {
                 let path = folder.path(rt.alloc(), Name::Drive(*drive))?;
@@ -102,7 +102,7 @@ impl Trouble {
             }
             Trouble::Read(name, error) => {
                 let path = folder.path(rt.alloc(), *name)?;
-                eprintln!(rt; "raid_disk: {path} can't be read: {error}")
+                eprintln!(rt; "raid_disk: {path} can't be opened or read: {error}")
             }
             Trouble::Write(name, error) => {
                 let path = folder.path(rt.alloc(), *name)?;

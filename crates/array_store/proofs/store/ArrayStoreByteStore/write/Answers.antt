@@ -1,4 +1,4 @@
-use Rattle.std.proofs.Common.{rules, ◌≡◌, ◌+◌, ◌-◌, ◌*◌, ◌<◌, ◌≤◌, ℕ, List, length, take, drop, slice_index, true, refl, subst, sym, ap, ◌∙◌, arith}
+use Rattle.std.proofs.Common.{inr, rules, ◌≡◌, ◌+◌, ◌-◌, ◌*◌, ◌<◌, ◌≤◌, ℕ, List, length, take, drop, slice_index, true, refl, subst, sym, ap, ◌∙◌, arith}
 use Rattle.std.proofs.lemmas.List.{places, length-take-le, get_or-take, take_all, length-drop, get_or-drop}
 use Rattle.std.proofs.lemmas.Result.{err_from_is_err_and}
 use Rattle.byte_store.specs.Flat.{written_over}
@@ -55,7 +55,7 @@ returns-in_err-write_piece-clause-change g c = λ F is.
       record {
         size = long;
         each = torn F.bytes c.args.offset (take c.loop-done.done c.args.bytes.now) c.args.bytes.now fits less (λ j below. let low : j < c.loop-done.done = omega (arith, len_first, below) in get_or-take c.loop-done.done c.args.bytes.now j 0 low);
-        unsynced = λ _. refl;
+        unsynced = inr refl;
       },
     )
 

@@ -1,4 +1,4 @@
-use Rattle.std.proofs.Common.{rules, ◌≡◌, ◌+◌, ◌-◌, ◌*◌, ◌<◌, ◌≤◌, ℕ, List, length, replicate, slice_index, true, refl, subst, sym, ap, ◌∙◌, arith}
+use Rattle.std.proofs.Common.{inr, rules, ◌≡◌, ◌+◌, ◌-◌, ◌*◌, ◌<◌, ◌≤◌, ℕ, List, length, replicate, slice_index, true, refl, subst, sym, ap, ◌∙◌, arith}
 use Rattle.std.proofs.lemmas.List.{places, length-replicate, get_or-replicate}
 use Rattle.std.proofs.lemmas.Result.{err_from_is_err_and}
 use Rattle.byte_store.specs.Flat.{written_over}
@@ -55,7 +55,7 @@ returns-in_err-zero_piece-clause-change g c = λ F is.
       record {
         size = long;
         each = torn F.bytes c.args.offset (replicate {A = ℕ} c.loop-done.done 0) (replicate {A = ℕ} c.args.length 0) fits less (λ j below. search (rules, places));
-        unsynced = λ _. refl;
+        unsynced = inr refl;
       },
     )
 
