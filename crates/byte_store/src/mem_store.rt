@@ -32,6 +32,8 @@ impl MemStore {
 impl ByteStore for MemStore {
     ghost represents = { λ m F. (F.bytes ≡ m.bytes.items) × (F.unsynced ≡ m.unsynced) };
 
+    ghost may_refuse = { λ _. ⊥ };
+
     ghost sizes = { λ m. record { bytes = length m.bytes.items; block = m.block } };
 
     fn size(&self) -> u64 {

@@ -52,7 +52,7 @@ part_written held now bytes rest written some = record {
 
 -- what isn't found empty has bytes
 pub not_empty : (n : ℕ) (empty : Bool) → empty ≡ (n == 0) → empty ≡ false → 0 < n
-not_empty n empty told is = grind arith
+not_empty n empty written is = grind arith
 
 -- no byte was read yet
 pub skipped_none : (before : Option (List ℕ)) → Skips before before 0

@@ -41,16 +41,16 @@ asked_none e z before held = record {
 }
 
 -- one more
-pub asked_more : (e : Export) (z : Bool) (n : ℕ) (before mid after held told now : Option (List ℕ)) → IsAsked e z n before mid held told
-    → IsTurned e z next.More mid after told now → IsAsked e z (n + 1) before after held now
-asked_more e z n before mid after held told now asked turned =
+pub asked_more : (e : Export) (z : Bool) (n : ℕ) (before mid after held written now : Option (List ℕ)) → IsAsked e z n before mid held written
+    → IsTurned e z next.More mid after written now → IsAsked e z (n + 1) before after held now
+asked_more e z n before mid after held written now asked turned =
     let P : List ℕ → Type 0 = λ xs. Consumes before after xs in
     let Q : List ℕ → Type 0 = λ xs. Appends held now xs in record {
       turns = asked.turns ++ turned.turn ∷ [];
       count = length_push asked.turns turned.turn ∙ ap (λ k. k + 1) asked.count;
       each = All-push (IsTurn e z next.More) asked.turns turned.turn asked.each turned.is;
       read = subst P (sym (bytes_more option_bytes asked.turns turned.turn)) (Consumes-trans before mid after _ _ asked.read turned.read);
-      wrote = subst Q (sym (bytes_more reply_bytes_of asked.turns turned.turn)) (Appends-trans held told now _ _ asked.wrote turned.wrote);
+      wrote = subst Q (sym (bytes_more reply_bytes_of asked.turns turned.turn)) (Appends-trans held written now _ _ asked.wrote turned.wrote);
     }
 
 -- what a step ends with, options end with
@@ -66,45 +66,45 @@ ends_by (Err end.Aborted) n e z before after held now step = step
 ends_by (Err end.Limit) n e z before after held now step = absurd step
 ends_by (Err end.Disconnected) n e z before after held now step = absurd step
 
-pub negotiated : (done : Result (Unit {0}) End) (n : ℕ) (e : Export) (z : Bool) (before mid after held told now : Option (List ℕ))
-    → IsAsked e z n before mid held told → OptionSteps (Some done) e z mid after told now → Negotiates done e z before after held now
-negotiated done n e z before mid after held told now asked step = record {
+pub negotiated : (done : Result (Unit {0}) End) (n : ℕ) (e : Export) (z : Bool) (before mid after held written now : Option (List ℕ))
+    → IsAsked e z n before mid held written → OptionSteps (Some done) e z mid after written now → Negotiates done e z before after held now
+negotiated done n e z before mid after held written now asked step = record {
   turns = asked.turns;
   each = asked.each;
   left = mid;
   read = asked.read;
-  told = told;
+  written = written;
   wrote = asked.wrote;
-  ends = ends_by done (length asked.turns) e z mid after told now step;
+  ends = ends_by done (length asked.turns) e z mid after written now step;
 }
 
 -- a reply that is whole
 pub turn_done : (then : Next) (e : Export) (z : Bool) (head : List ℕ) (o : OptionHead) (before mid after held now : Option (List ℕ))
     (old new wrote : List ℕ) → length head ≡ 16 → SpellsOption head o → Consumes before mid head → IsTurnTaken then e z o mid after old new
     → old ≡ [] → wrote ≡ new → Appends held now wrote → IsTurned e z then before after held now
-turn_done then e z head o before mid after held now old new wrote whole spells read taken none same told =
+turn_done then e z head o before mid after held now old new wrote whole spells read taken none same written =
     let reply = reply_to o taken.carried e z in
-    let is : wrote ≡ reply = same ∙ taken.told ∙ ap (λ xs. xs ++ reply) none in
+    let is : wrote ≡ reply = same ∙ taken.written ∙ ap (λ xs. xs ++ reply) none in
     let P : List ℕ → Type 0 = λ xs. Appends held now xs in record {
       turn = record { head = head; option = o; carried = taken.carried; reply = reply; };
       is = record { whole = whole; spells = spells; carries = taken.carries; reply_is = refl; next_is = taken.next_is; };
       read = Consumes-trans before mid after head taken.carried read taken.read;
-      wrote = subst P is told;
+      wrote = subst P is written;
     }
 
 -- one that was written in part
 pub turn_broken : (then : Next) (e : Export) (z : Bool) (head : List ℕ) (o : OptionHead) (before mid after held now : Option (List ℕ))
     (old new wrote : List ℕ) → length head ≡ 16 → SpellsOption head o → Consumes before mid head → IsTurnTaken then e z o mid after old new
     → old ≡ [] → wrote ≡ new → IsPartWritten held now wrote → IsTurnedInPart e z before after held now
-turn_broken then e z head o before mid after held now old new wrote whole spells read taken none same told =
+turn_broken then e z head o before mid after held now old new wrote whole spells read taken none same written =
     let reply = reply_to o taken.carried e z in
-    let is : wrote ≡ reply = same ∙ taken.told ∙ ap (λ xs. xs ++ reply) none in
+    let is : wrote ≡ reply = same ∙ taken.written ∙ ap (λ xs. xs ++ reply) none in
     let P : List ℕ → Type 0 = λ xs. IsPartWritten held now xs in record {
       turn = record { head = head; option = o; carried = taken.carried; reply = reply; };
       then = then;
       is = record { whole = whole; spells = spells; carries = taken.carries; reply_is = refl; next_is = taken.next_is; };
       read = Consumes-trans before mid after head taken.carried read taken.read;
-      part = subst P is told;
+      part = subst P is written;
     }
 
 -- an option whose data is not all there

@@ -143,17 +143,17 @@ pub record Negotiates (result : Result (Unit {0}) End) (e : Export) (no_zeroes :
   pub each : All (IsTurn e no_zeroes next.More) turns
   pub left : Option (List ℕ)
   pub read : Consumes before left (flat_map option_bytes turns)
-  pub told : Option (List ℕ)
-  pub wrote : Appends held told (flat_map reply_bytes_of turns)
-  pub ends : EndsOptions result (length turns) e no_zeroes left after told now
+  pub written : Option (List ℕ)
+  pub wrote : Appends held written (flat_map reply_bytes_of turns)
+  pub ends : EndsOptions result (length turns) e no_zeroes left after written now
 
 -- the opening, and options
 pub record IsHandshake (result : Result (Unit {0}) End) (e : Export) (before after held now : Option (List ℕ)) : Type 0 where
   pub no_zeroes : Bool
   pub left : Option (List ℕ)
-  pub told : Option (List ℕ)
-  pub opened : IsOpened no_zeroes before left held told
-  pub negotiates : Negotiates result e no_zeroes left after told now
+  pub written : Option (List ℕ)
+  pub opened : IsOpened no_zeroes before left held written
+  pub negotiates : Negotiates result e no_zeroes left after written now
 
 -- a handshake that ends with the transmission phase, or with the session
 abbrev pub Handshakes : Result (Unit {0}) End → Export → Option (List ℕ) → Option (List ℕ) → Option (List ℕ) → Option (List ℕ) → Type 0
@@ -166,7 +166,7 @@ pub record IsTurnTaken (then : Next) (e : Export) (no_zeroes : Bool) (o : Option
   pub carried : List ℕ
   pub carries : length carried ≡ o.length
   pub read : Consumes before after carried
-  pub told : new ≡ old ++ reply_to o carried e no_zeroes
+  pub written : new ≡ old ++ reply_to o carried e no_zeroes
   pub next_is : then ≡ next_to o carried
 
 -- the data of an option was read, and there was no memory for the reply

@@ -38,7 +38,7 @@ fn answer_info(
     export: &Export,
     out: &mut Vec<u8>,
 ) -> Result<bool, AllocError>
-    ensures told { OnOk result (out.new.items ≡ out.old.items ++ info_reply number data.now export.now) }
+    ensures written { OnOk result (out.new.items ≡ out.old.items ++ info_reply number data.now export.now) }
     ensures given { IfOk result (λ given. given ≡ is_info data.now) }
 {
     if is_info_request(data) {
@@ -59,7 +59,7 @@ pub(crate) fn answer(
     no_zeroes: bool,
     out: &mut Vec<u8>,
 ) -> Result<Next, AllocError>
-    ensures told { OnOk result (out.new.items ≡
+    ensures written { OnOk result (out.new.items ≡
         out.old.items ++ answer_to (option_at option.now.option) option.now.option data.now export.now no_zeroes) }
     ensures next { IfOk result (λ next. next ≡ next_after (option_at option.now.option) data.now) }
 {
@@ -98,7 +98,7 @@ pub(crate) fn answer(
 /// Appends the reply to an option with too much data, which was skipped, and returns what comes after it. A request by an export's
 /// name has no reply that could refuse it.
 pub(crate) fn answer_long(option: &OptionHead, out: &mut Vec<u8>) -> Result<Next, AllocError>
-    ensures told { OnOk result (out.new.items ≡ out.old.items ++ long_reply (option_at option.now.option) option.now.option) }
+    ensures written { OnOk result (out.new.items ≡ out.old.items ++ long_reply (option_at option.now.option) option.now.option) }
     ensures next { IfOk result (λ next. next ≡ long_next (option_at option.now.option)) }
 {
     match option.kind() {

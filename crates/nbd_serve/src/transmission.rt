@@ -54,7 +54,7 @@ fn exchange<R: Read, W: Write, S: ByteStore>(
 ) -> Option<End>
     requires room { 16 ≤ length out.old.items }
     ensures room { 16 ≤ length out.new.items }
-    ensures step { (F : Flat) → S.represents store.old F → Steps (S.represents store.new) result (S.sizes store.old).bytes F
+    ensures step { (F : Flat) → S.represents store.old F → Steps (S.represents store.new) result S.may_refuse (S.sizes store.old).bytes F
         (R.remaining reader.old) (R.remaining reader.new) (W.contents writer.old) (W.contents writer.new) }
     ensures sizes { S.sizes store.new ≡ S.sizes store.old }
 {
@@ -86,7 +86,7 @@ pub fn transmit<R: Read, W: Write, S: ByteStore>(
     writer: &mut W,
     store: &mut S,
 ) -> End
-    ensures { (F : Flat) → S.represents store.old F → Serves (S.represents store.new) (S.sizes store.old).bytes F result
+    ensures { (F : Flat) → S.represents store.old F → Serves (S.represents store.new) S.may_refuse (S.sizes store.old).bytes F result
         (R.remaining reader.old) (R.remaining reader.new) (W.contents writer.old) (W.contents writer.new) }
 {
     let Ok(mut out) = reply_buffer(alloc) else {

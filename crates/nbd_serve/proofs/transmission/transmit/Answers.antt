@@ -5,15 +5,15 @@ use Rattle.nbd_serve.proofs.Sessions.{along_more, along_none, served, served_all
 use Rattle.nbd_serve.proofs.transmission.transmit.Goals as goal
 
 pub returns-in-Some : goal.returns-in-Some
-returns-in-Some g c = λ F stands.
-    served _ _ c.in-Some.end _ _ F _ _ _ _ _ _ (c.loop-served.invariant.along F stands)
+returns-in-Some g c = λ F represented.
+    served _ _ c.in-Some.end _ _ _ F _ _ _ _ _ _ (c.loop-served.invariant.along F represented)
     (λ G now. (rw (ap (λ (s : Sizes). s.bytes) c.loop-served.invariant.same) at (c.in-Some.ensures.step G now)))
 
 pub loop-served-preserved : goal.loop-served-preserved
 loop-served-preserved g c = record {
   room = c.exchange.ensures.room;
   same = c.exchange.ensures.sizes ∙ c.loop-served.invariant.same;
-  along = λ F stands.
-      along_more _ _ _ _ F _ _ _ _ _ _ (c.loop-served.invariant.along F stands)
+  along = λ F represented.
+      along_more _ _ _ _ _ F _ _ _ _ _ _ (c.loop-served.invariant.along F represented)
       (λ G now. (rw (ap (λ (s : Sizes). s.bytes) c.loop-served.invariant.same) at (c.in_default-exchange.ensures.step G now)));
 }
