@@ -1,7 +1,6 @@
 -- Answers to requests that the store was asked for.
-use Rattle.std.proofs.Common.{◌≡◌, ℕ, ◌+◌, List, [], ◌++◌, length, replicate, Bool, true, false, not, if◌then◌else◌, ◌⊎◌, Option, Some, None, Result, Ok, Err, refl, sym, ap, subst, ◌∙◌, inl, inr, append-nil}
+use Rattle.std.proofs.Common.{◌≡◌, ℕ, List, [], length, replicate, Bool, true, false, if◌then◌else◌, ◌⊎◌, Option, Some, None, Result, Ok, Err, refl, sym, ap, subst, ◌∙◌, inl, inr}
 use Rattle.std.specs.Prelude.{IfErr, MatchOption}
-use Rattle.std.specs.Io.KnownBytes.{Consumes}
 use Rattle.std.proofs.KnownBytes.{Consumes-nil}
 use Rattle.byte_store.specs.Flat.{Flat}
 use Rattle.byte_store.specs.Changes.{IsFlushed}
@@ -156,5 +155,5 @@ refusal_answered represents may size F r error before after reply asked represen
   read = skipped.read;
   next = F;
   represented = represented;
-  answers = refused_by may size F r skipped.bytes reply F error asked (record { reply_is = written; same = refl; });
+  answers = refused_by may size F r skipped.bytes reply F error asked (record { reply_is = written; same = refl });
 }

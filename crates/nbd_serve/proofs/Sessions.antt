@@ -1,5 +1,5 @@
 -- How exchanges follow one another.
-use Rattle.std.proofs.Common.{◌≡◌, ◌≢◌, ℕ, ◌+◌, List, [], ◌∷◌, ◌++◌, length, inr, Option, Some, None, refl, sym, ap, subst, ◌∙◌, append_assoc, append-nil}
+use Rattle.std.proofs.Common.{◌≡◌, ◌≢◌, ℕ, ◌+◌, List, [], ◌∷◌, ◌++◌, length, inr, Option, refl, sym, ap, subst, ◌∙◌, append_assoc, append-nil}
 use Rattle.std.proofs.lemmas.List.{length_push}
 use Rattle.std.specs.List.{flat_map}
 use Rattle.std.specs.Io.KnownBytes.{Appends, Consumes}
@@ -97,7 +97,7 @@ served_all represents may size n F before after held now along all = record {
   wrote = along.wrote;
   final = along.state;
   represented = along.represented;
-  stops = (along.count ∙ all, refl, record { held_is = refl; same = refl; });
+  stops = (along.count ∙ all, refl, record { held_is = refl; same = refl });
 }
 
 -- no memory for the buffers
@@ -114,7 +114,7 @@ served_none represents may size F before held represented = let none = along_non
   wrote = none.wrote;
   final = F;
   represented = represented;
-  stops = (refl, refl, record { held_is = refl; same = refl; });
+  stops = (refl, refl, record { held_is = refl; same = refl });
 }
 
 -- exchanges, and a stop
@@ -141,12 +141,12 @@ cut_of : (is : Flat → Type 0) (reason : Short) (may : StoreFault → Type 0) (
 cut_of is short.Ended may size F before after held cut represented = record {
   final = F;
   represented = represented;
-  stops = (cut, record { held_is = refl; same = refl; });
+  stops = (cut, record { held_is = refl; same = refl });
 }
 cut_of is short.Failed may size F before after held cut represented = record {
   final = F;
   represented = represented;
-  stops = (cut, record { held_is = refl; same = refl; });
+  stops = (cut, record { held_is = refl; same = refl });
 }
 
 cut_by : (is : Flat → Type 0) (reason : Short) (last : End) (may : StoreFault → Type 0) (size : ℕ) (F : Flat) (before after held : Option (List ℕ))
@@ -161,10 +161,10 @@ pub exchange_done : (is : Flat → Type 0) (may : StoreFault → Type 0) (size :
     → IsAnswered is may size F r mid after reply → wrote ≡ reply → Appends held now wrote → IsDone is may size F before after held now
 exchange_done is may size F head r before mid after held now reply wrote whole spells stays read answered same written =
     let P : List ℕ → Type 0 = λ xs. Appends held now xs in record {
-      exchange = record { head = head; request = r; carried = answered.carried; reply = reply; };
+      exchange = record { head = head; request = r; carried = answered.carried; reply = reply };
       next = answered.next;
       represented = answered.represented;
-      is = record { whole = whole; spells = spells; stays = stays; carries = answered.carries; answers = answered.answers; };
+      is = record { whole = whole; spells = spells; stays = stays; carries = answered.carries; answers = answered.answers };
       read = Consumes-trans before mid after head answered.carried read answered.read;
       wrote = subst P same written;
     }
@@ -179,8 +179,8 @@ exchange_broken is may size F head r before mid after held now reply wrote whole
       final = answered.next;
       represented = answered.represented;
       stops = record {
-        exchange = record { head = head; request = r; carried = answered.carried; reply = reply; };
-        is = record { whole = whole; spells = spells; stays = stays; carries = answered.carries; answers = answered.answers; };
+        exchange = record { head = head; request = r; carried = answered.carried; reply = reply };
+        is = record { whole = whole; spells = spells; stays = stays; carries = answered.carries; answers = answered.answers };
         read = Consumes-trans before mid after head answered.carried read answered.read;
         part = subst P same written;
       };
@@ -194,7 +194,7 @@ exchange_cut is reason last may size F head r before mid after held whole spells
     let cut : IsCutOff reason before after = record {
       part = head ++ short.part;
       read = Consumes-trans before mid after head short.part read short.read;
-      few = inr (record { head = head; whole = whole; request = r; spells = spells; carried = short.part; few = short.few; part_is = refl; });
+      few = inr (record { head = head; whole = whole; request = r; spells = spells; carried = short.part; few = short.few; part_is = refl });
       ended = short.ended;
     } in
     cut_by is reason last may size F before after held cut last_is represented

@@ -1,5 +1,5 @@
 -- Bytes that are read and written in pieces.
-use Rattle.std.proofs.Common.{◌≡◌, ℕ, ◌+◌, ◌-◌, ◌<◌, ◌≤◌, List, [], ◌++◌, length, take, drop, Bool, false, ◌==◌, Option, Some, None, rules, refl, sym, ap, subst, ◌∙◌, arith, append_assoc, take-append-drop, length-append, length-drop, length-take}
+use Rattle.std.proofs.Common.{◌≡◌, ℕ, ◌+◌, ◌-◌, ◌<◌, ◌≤◌, List, [], ◌++◌, length, take, drop, Bool, false, ◌==◌, Option, Some, None, rules, refl, sym, ap, subst, ◌∙◌, arith, append_assoc, take-append-drop, length-append, length-drop}
 use Rattle.std.specs.Io.KnownBytes.{Appends, Consumes, Keeps}
 use Rattle.std.proofs.KnownBytes.{Appends-trans, Consumes-kept, Consumes-nil, Consumes-trans}
 use Rattle.std.proofs.lemmas.List.{take_all, take_at, take-append-le, length-take-le, places}
@@ -30,7 +30,7 @@ from_place rest n = take_all _ _ (omega (arith, length-drop n rest))
 -- a failed write took nothing
 pub wrote_none : (held mid now : Option (List ℕ)) (bytes rest : List ℕ) → IsWritten held mid bytes rest → Keeps mid now
     → IsWritten held now bytes rest
-wrote_none None mid now bytes rest before kept = record { done = before.done; wrote = tt; bytes_are = before.bytes_are; }
+wrote_none None mid now bytes rest before kept = record { done = before.done; wrote = tt; bytes_are = before.bytes_are }
 wrote_none (Some xs) None now bytes rest before kept = absurd before.wrote
 wrote_none (Some xs) (Some ys) None bytes rest before kept = absurd kept
 wrote_none (Some xs) (Some ys) (Some zs) bytes rest before kept = record {
@@ -56,7 +56,7 @@ not_empty n empty written is = grind arith
 
 -- no byte was read yet
 pub skipped_none : (before : Option (List ℕ)) → Skips before before 0
-skipped_none before = record { bytes = []; read = Consumes-nil before; size = refl; }
+skipped_none before = record { bytes = []; read = Consumes-nil before; size = refl }
 
 -- more bytes were read
 pub skipped_more : (before mid after : Option (List ℕ)) (n m : ℕ) (bytes : List ℕ) → Skips before mid n → Consumes mid after bytes

@@ -1,5 +1,5 @@
 -- How options follow one another.
-use Rattle.std.proofs.Common.{◌≡◌, ℕ, ◌+◌, List, [], ◌∷◌, ◌++◌, length, Bool, Option, Some, None, Result, Ok, Err, inl, inr, refl, sym, ap, subst, ◌∙◌, append_assoc, append-nil, arith}
+use Rattle.std.proofs.Common.{◌≡◌, ℕ, ◌+◌, List, [], ◌∷◌, ◌++◌, length, Bool, Option, Some, Result, Ok, Err, inr, refl, sym, ap, subst, ◌∙◌, append_assoc, append-nil, arith}
 use Rattle.std.proofs.lemmas.List.{length_push}
 use Rattle.std.proofs.lemmas.List.Elements.{All-push}
 use Rattle.std.specs.List.{All, flat_map}
@@ -8,7 +8,7 @@ use Rattle.std.proofs.KnownBytes.{Appends-nil, Appends-trans, Consumes-nil, Cons
 use Rattle.nbd_wire.specs.declared.client.OptionHead.{OptionHead}
 use Rattle.nbd_wire.specs.declared.options.Export.{Export}
 use Rattle.nbd_wire.specs.Options.{SpellsOption}
-use Rattle.nbd_serve.specs.Streams.{IsPartWritten, IsShort, end_of}
+use Rattle.nbd_serve.specs.Streams.{IsPartWritten, IsShort}
 use Rattle.nbd_serve.specs.Options.{reply_to}
 use Rattle.nbd_serve.specs.Handshaking.{BreaksAtOption, EndsOptions, IsOptionCutOff, IsTurn, IsTurnTaken, IsTurned, IsTurnedInPart, Negotiates, OptionSteps, OptionTurn, StopsTaking, option_bytes, reply_bytes_of}
 use Rattle.nbd_serve.specs.declared.options.Next.{Next}
@@ -86,8 +86,8 @@ turn_done then e z head o before mid after held now old new wrote whole spells r
     let reply = reply_to o taken.carried e z in
     let is : wrote ≡ reply = same ∙ taken.written ∙ ap (λ xs. xs ++ reply) none in
     let P : List ℕ → Type 0 = λ xs. Appends held now xs in record {
-      turn = record { head = head; option = o; carried = taken.carried; reply = reply; };
-      is = record { whole = whole; spells = spells; carries = taken.carries; reply_is = refl; next_is = taken.next_is; };
+      turn = record { head = head; option = o; carried = taken.carried; reply = reply };
+      is = record { whole = whole; spells = spells; carries = taken.carries; reply_is = refl; next_is = taken.next_is };
       read = Consumes-trans before mid after head taken.carried read taken.read;
       wrote = subst P is written;
     }
@@ -100,9 +100,9 @@ turn_broken then e z head o before mid after held now old new wrote whole spells
     let reply = reply_to o taken.carried e z in
     let is : wrote ≡ reply = same ∙ taken.written ∙ ap (λ xs. xs ++ reply) none in
     let P : List ℕ → Type 0 = λ xs. IsPartWritten held now xs in record {
-      turn = record { head = head; option = o; carried = taken.carried; reply = reply; };
+      turn = record { head = head; option = o; carried = taken.carried; reply = reply };
       then = then;
-      is = record { whole = whole; spells = spells; carries = taken.carries; reply_is = refl; next_is = taken.next_is; };
+      is = record { whole = whole; spells = spells; carries = taken.carries; reply_is = refl; next_is = taken.next_is };
       read = Consumes-trans before mid after head taken.carried read taken.read;
       part = subst P is written;
     }
@@ -113,7 +113,7 @@ option_cut : (reason : Short) (head : List ℕ) (o : OptionHead) (before mid aft
 option_cut reason head o before mid after whole spells read short = record {
   part = head ++ short.part;
   read = Consumes-trans before mid after head short.part read short.read;
-  few = inr (record { head = head; whole = whole; option = o; spells = spells; carried = short.part; few = short.few; part_is = refl; });
+  few = inr (record { head = head; whole = whole; option = o; spells = spells; carried = short.part; few = short.few; part_is = refl });
   ended = short.ended;
 }
 
@@ -124,15 +124,18 @@ taking_stopped end.Cut e z head o before mid after held whole spells read stops 
     (option_cut short.Ended head o before mid after whole spells read stops, refl)
 taking_stopped end.ReadFault e z head o before mid after held whole spells read stops =
     (option_cut short.Failed head o before mid after whole spells read stops, refl)
-taking_stopped end.Memory e z head o before mid after held whole spells read stops = (record {
-  head = head;
-  whole = whole;
-  option = o;
-  spells = spells;
-  carried = stops.carried;
-  carries = stops.carries;
-  read = Consumes-trans before mid after head stops.carried read stops.read;
-}, refl)
+taking_stopped end.Memory e z head o before mid after held whole spells read stops = (
+  record {
+    head = head;
+    whole = whole;
+    option = o;
+    spells = spells;
+    carried = stops.carried;
+    carries = stops.carries;
+    read = Consumes-trans before mid after head stops.carried read stops.read;
+  },
+  refl,
+)
 taking_stopped end.Garbage e z head o before mid after held whole spells read stops = absurd stops
 taking_stopped end.WriteFault e z head o before mid after held whole spells read stops = absurd stops
 taking_stopped end.Aborted e z head o before mid after held whole spells read stops = absurd stops

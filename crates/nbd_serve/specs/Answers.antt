@@ -1,5 +1,5 @@
 -- What a request makes of a flat store, and the reply to it.
-use Rattle.std.specs.Prelude.{◌≡◌, ℕ, ◌+◌, ◌⊎◌, List, [], ◌++◌, length, replicate, slice_range, Bool, true, false, not, if◌then◌else◌, IsTrue, IfErr, MatchOption, Option, Some, None, Result, Ok, Err}
+use Rattle.std.specs.Prelude.{◌≡◌, ℕ, ◌+◌, ◌⊎◌, List, [], ◌++◌, replicate, slice_range, Bool, not, IsTrue, IfErr, MatchOption, Some, Result, Ok, Err}
 use Rattle.byte_store.specs.Flat.{Flat, written_over}
 use Rattle.byte_store.specs.Changes.{IsFlushed, IsTorn, IsWritten}
 use Rattle.byte_store.specs.declared.fault.StoreFault.{StoreFault}

@@ -1,9 +1,7 @@
 -- Runs of requests and their replies.
 use Rattle.std.specs.Prelude.{◌≡◌, ◌≢◌, ℕ, List, [], ◌∷◌, ◌++◌, length}
-use Rattle.std.specs.List.{flat_map}
 use Rattle.byte_store.specs.declared.fault.StoreFault.{StoreFault}
 use Rattle.byte_store.specs.Flat.{Flat}
-use Rattle.nbd_wire.specs.declared.request.Command.{Command}
 use Rattle.nbd_wire.specs.declared.request.Command.TheVariants as command
 use Rattle.nbd_wire.specs.declared.request.Request.{Request}
 use Rattle.nbd_wire.specs.Requests.{SpellsRequest, carried_len}

@@ -5,7 +5,6 @@ use Rattle.std.specs.Io.KnownBytes.{Appends, Consumes}
 use Rattle.byteorder.specs.Endian.{big_number}
 use Rattle.byte_store.specs.declared.fault.StoreFault.{StoreFault}
 use Rattle.byte_store.specs.Flat.{Flat}
-use Rattle.nbd_wire.specs.declared.request.Command.{Command}
 use Rattle.nbd_wire.specs.declared.request.Command.TheVariants as command
 use Rattle.nbd_wire.specs.declared.request.Request.{Request}
 use Rattle.nbd_wire.specs.Requests.{SpellsRequest, carried_len, request_magic}

@@ -1,5 +1,5 @@
 -- A whole session with a client: a handshake, and then requests.
-use Rattle.std.specs.Prelude.{ℕ, ◌⊎◌, List, Option, Result, Ok, Err}
+use Rattle.std.specs.Prelude.{ℕ, ◌⊎◌, List, Option, Ok, Err}
 use Rattle.byte_store.specs.declared.fault.StoreFault.{StoreFault}
 use Rattle.byte_store.specs.Flat.{Flat, Sizes}
 use Rattle.nbd_wire.specs.declared.options.Export.{Export}

@@ -6,7 +6,10 @@ ghost use Rattle.nbd_serve.specs.Handshaking.{Handshakes, IsOpened, IsTurnTaken,
 use crate::calls::{fill, skip, write_out};
 use crate::end::End;
 use crate::options::{Next, answer, answer_long};
-use nbd_wire::{CLIENT_FLAGS_LEN, Export, OPTION_HEAD_LEN, OptionHead, no_zeroes_of, put_greeting, read_option_head};
+use nbd_wire::{
+    CLIENT_FLAGS_LEN, Export, OPTION_HEAD_LEN, OptionHead, no_zeroes_of, put_greeting,
+    read_option_head,
+};
 use std::alloc::Global;
 use std::io::{Read, Write};
 
@@ -17,11 +20,7 @@ const MOST_DATA: u32 = 4096;
 const MOST_OPTIONS: u32 = 1000;
 
 // Greets the client and reads its flags. Returns whether it takes no zeroes after an export's size.
-fn open<R: Read, W: Write>(
-    reader: &mut R,
-    writer: &mut W,
-    out: &mut Vec<u8>,
-) -> Result<bool, End>
+fn open<R: Read, W: Write>(reader: &mut R, writer: &mut W, out: &mut Vec<u8>) -> Result<bool, End>
     ensures ok { IfOk result (λ no_zeroes. IsOpened no_zeroes (R.remaining reader.old) (R.remaining reader.new)
         (W.contents writer.old) (W.contents writer.new)) }
     ensures err { IfErr result (λ last. StopsOpening last (R.remaining reader.old) (R.remaining reader.new)

@@ -3,7 +3,10 @@ ghost use Rattle.std.specs.Prelude.{◌≡◌, ◌++◌, OnOk, IfOk};
 ghost use Rattle.nbd_serve.specs.Options.{answer_to, info_next, info_reply, list_reply, long_next, long_reply, next_after};
 ghost use Rattle.nbd_wire.specs.Options.{is_info, option_at};
 
-use nbd_wire::{Export, OptionHead, OptionKind, OptionReply, is_info_request, put_export, put_information, put_option_reply};
+use nbd_wire::{
+    Export, OptionHead, OptionKind, OptionReply, is_info_request, put_export, put_information,
+    put_option_reply,
+};
 use std::alloc::AllocError;
 
 /// What comes after an option.

@@ -1,4 +1,4 @@
-use Rattle.std.proofs.Common.{◌≡◌, ℕ, Option, None, sym, ap, ◌∙◌, inl, inr, refl}
+use Rattle.std.proofs.Common.{◌≡◌, ℕ, Option, None, sym, ap, ◌∙◌, inl, inr}
 use Rattle.nbd_wire.specs.declared.reply.Errno.{Errno}
 use Rattle.nbd_wire.specs.declared.request.Request.{Request}
 use Rattle.nbd_serve.specs.Refusals.{refusal_of}
@@ -32,9 +32,9 @@ returns-in-Cache-clause-ok g c = λ F represented.
     let size = (g.S.ByteStore.sizes c.args.store.now).bytes in
     let none = asked size _ c.args.request.now _ c.size.ensures.size c.refusal_of.ensures c.in_default.is in
     elim c.in-Cache.is [
-      inl is ↦ cache_answered _ _ size F c.args.request.now _ _ none is represented c.put_head-in-Cache.ensures.written
-    | inr others ↦ elim others [
-        inl is ↦ absurd (leaving_refused size c.args.request.now none is)
-      | inr is ↦ absurd (other_refused size c.args.request.now none is)
+      | inl is ↦ cache_answered _ _ size F c.args.request.now _ _ none is represented c.put_head-in-Cache.ensures.written
+      | inr others ↦ elim others [
+        | inl is ↦ absurd (leaving_refused size c.args.request.now none is)
+        | inr is ↦ absurd (other_refused size c.args.request.now none is)
       ]
     ]

@@ -1,6 +1,5 @@
-use Rattle.std.proofs.Common.{◌≡◌, ℕ, List, Option, Result, Ok, inr, subst, ap, ◌∙◌}
+use Rattle.std.proofs.Common.{◌≡◌, ℕ, List, Option, Ok, inr, subst}
 use Rattle.byte_store.specs.Flat.{Sizes}
-use Rattle.nbd_wire.specs.declared.options.Export.{Export}
 use Rattle.nbd_serve.specs.Handshaking.{Handshakes}
 use Rattle.nbd_serve.specs.Sessions.{export_of}
 use Rattle.nbd_serve.proofs.session.serve.Goals as goal

@@ -1,5 +1,4 @@
-use Rattle.std.proofs.Common.{◌≡◌, ◌≤◌, length, take, ap, ◌∙◌, arith}
-use Rattle.byte_store.specs.Flat.{Flat}
+use Rattle.std.proofs.Common.{length, take, ap, ◌∙◌, arith}
 use Rattle.nbd_serve.proofs.Streaming.{kept_room, written_back}
 use Rattle.nbd_serve.proofs.Sessions.{exchange_broken, exchange_cut, exchange_done}
 use Rattle.nbd_serve.proofs.transmission.exchange.Goals as goal

@@ -1,7 +1,6 @@
-use Rattle.std.proofs.Common.{◌≡◌, ℕ, List, Option, refl, sym, ap, subst, ◌∙◌}
-use Rattle.byte_store.specs.Flat.{Flat, Sizes}
-use Rattle.nbd_serve.specs.Stepping.{IsDone, IsStop}
-use Rattle.nbd_serve.proofs.Sessions.{along_more, along_none, served, served_all, served_none}
+use Rattle.std.proofs.Common.{ap, ◌∙◌}
+use Rattle.byte_store.specs.Flat.{Sizes}
+use Rattle.nbd_serve.proofs.Sessions.{along_more, served}
 use Rattle.nbd_serve.proofs.transmission.transmit.Goals as goal
 
 pub returns-in-Some : goal.returns-in-Some
