@@ -96,7 +96,7 @@ take_past n k front rest size room =
     length-append front (take k rest) ∙ ap (λ m. m + length (take k rest)) size ∙ ap (λ m. n + m) (length-take-le k rest room) in
     ap (take (n + k)) split ∙ take_at (front ++ take k rest) (drop k rest) (n + k) long
 
--- a read put bytes behind those that were read before
+-- a read put bytes after those that were read earlier
 pub filled_more : (before mid after : Option (List ℕ)) (buffer part : List ℕ) (done count : ℕ) → done ≤ length buffer
     → length part ≡ length buffer - done → count ≤ length part → Consumes before mid (take done buffer)
     → Consumes mid after (take count part)

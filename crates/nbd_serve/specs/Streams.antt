@@ -23,7 +23,7 @@ pub record IsShort (reason : Short) (before after : Option (List ℕ)) (wanted :
   pub few : length part < wanted
   pub ended : LeavesNone reason after
 
--- so many bytes were read
+-- `count` bytes were read
 pub record Skips (before after : Option (List ℕ)) (count : ℕ) : Type 0 where
   pub bytes : List ℕ
   pub read : Consumes before after bytes

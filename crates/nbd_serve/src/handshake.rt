@@ -133,7 +133,7 @@ fn negotiate<R: Read, W: Write>(
     Err(End::Limit)
 }
 
-/// Agrees with a client on the export. Every name of an export is taken for it.
+/// Agrees with a client on the export, which has every name.
 pub(crate) fn agree<R: Read, W: Write>(
     alloc: Global,
     reader: &mut R,

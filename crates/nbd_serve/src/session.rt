@@ -10,8 +10,8 @@ use nbd_wire::Export;
 use std::alloc::Global;
 use std::io::{Read, Write};
 
-/// Serves a store to one client: the handshake, and then requests until the client goes or the session ends otherwise. Every name of
-/// an export is taken for the store.
+/// Serves a store to one client: the handshake, and then requests until the client goes or the session ends otherwise. The store is
+/// the one export, under every name.
 pub fn serve<R: Read, W: Write, S: ByteStore>(
     alloc: Global,
     reader: &mut R,

@@ -77,10 +77,18 @@ fn spelled(alloc: Global, texts: &[&str]) -> Result<Vec<u8>, Fail> {
 fn a_session_is_answered_as_the_document_says(rt: HostRuntime) -> Result<(), Fail> {
     // The client says, the server says, the end.
     let cases: [(&[&str], &[&str], End); 9] = [
-        (&[FLAGS, GO, REQUESTS], &[GREETING, GONE, REPLIES], End::Disconnected),
+        (
+            &[FLAGS, GO, REQUESTS],
+            &[GREETING, GONE, REPLIES],
+            End::Disconnected,
+        ),
         // EXPORT_NAME with the name `disk`, without zeroes and with them.
         (
-            &[FLAGS, "49484156454f5054 00000001 00000004 6469736b", REQUESTS],
+            &[
+                FLAGS,
+                "49484156454f5054 00000001 00000004 6469736b",
+                REQUESTS,
+            ],
             &[GREETING, "0000000000001000 046d", REPLIES],
             End::Disconnected,
         ),
@@ -153,9 +161,17 @@ fn a_session_is_answered_as_the_document_says(rt: HostRuntime) -> Result<(), Fai
         ),
         // Unknown flags, and wrong magic numbers.
         (&["00000007", GO], &[GREETING], End::Garbage),
-        (&[FLAGS, "49484156454f5055 00000007 00000000"], &[GREETING], End::Garbage),
         (
-            &[FLAGS, GO, "67446698 0000 0000 0000000000000001 0000000000000000 00000001"],
+            &[FLAGS, "49484156454f5055 00000007 00000000"],
+            &[GREETING],
+            End::Garbage,
+        ),
+        (
+            &[
+                FLAGS,
+                GO,
+                "67446698 0000 0000 0000000000000001 0000000000000000 00000001",
+            ],
             &[GREETING, GONE],
             End::Garbage,
         ),
@@ -183,7 +199,10 @@ fn an_option_with_too_much_data_is_skipped(rt: HostRuntime) -> Result<(), Fail> 
     let mut out = Vec::new(rt.alloc());
     let mut reader = input.as_slice();
     assert!(rt; serve(rt.alloc(), &mut reader, &mut out, &mut store) == End::Garbage);
-    let replied = spelled(rt.alloc(), &[GREETING, "0003e889045565a9 00000063 80000009 00000000"])?;
+    let replied = spelled(
+        rt.alloc(),
+        &[GREETING, "0003e889045565a9 00000063 80000009 00000000"],
+    )?;
     assert!(rt; out.as_slice() == replied.as_slice());
     assert!(rt; reader.is_empty());
     Ok(())
@@ -191,7 +210,12 @@ fn an_option_with_too_much_data_is_skipped(rt: HostRuntime) -> Result<(), Fail> 
 
 #[test]
 fn a_preferred_size_is_a_power_of_two(rt: HostRuntime) -> Result<(), Fail> {
-    for (block, preferred) in [(8, "00000200"), (520, "00000400"), (4096, "00001000"), (65536, "00010000")] {
+    for (block, preferred) in [
+        (8, "00000200"),
+        (520, "00000400"),
+        (4096, "00001000"),
+        (65536, "00010000"),
+    ] {
         let mut store = MemStore::new(rt.alloc(), 4096, block)?;
         let mut out = Vec::new(rt.alloc());
         let input = spelled(rt.alloc(), &[FLAGS, GO])?;

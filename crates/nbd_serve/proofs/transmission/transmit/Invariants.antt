@@ -3,7 +3,7 @@ use Rattle.byte_store.specs.Flat.{Flat}
 use Rattle.nbd_serve.proofs.Sessions.{IsAlong}
 use Rattle.nbd_serve.proofs.transmission.transmit.Given as goal
 
--- so many requests were answered, and the reply's head has its room
+-- `served` requests were answered, and the buffer has room for a reply's head
 abbrev pub invariant-loop-served : goal.invariant-loop-served
 invariant-loop-served g l =
     let remaining = g.R.Read.remaining in
