@@ -18,11 +18,6 @@ use Rattle.nbd_serve.specs.Answers.{Answers, Causes, Does, IsCarriedOut, IsRefus
 use Rattle.nbd_serve.specs.Answering.{IsAnswered, IsReadReply, IsTaken}
 use Rattle.nbd_serve.proofs.Replying.{no_bytes_written}
 
--- a store's refusal has a cause
-pub caused : (may : StoreFault → Type 0) (outcome : Result (Unit {0}) StoreFault) → IfErr outcome may → Causes may outcome
-caused may (Ok u) cause = tt
-caused may (Err reason) cause = inl cause
-
 -- an answer by what the request's refusal is
 not_refused : (may : StoreFault → Type 0) (size : ℕ) (F : Flat) (r : Request) (carried reply : List ℕ) (G : Flat) → refusal_of size r ≡ None
     → IsCarriedOut may F r carried reply G → Answers may size F r carried reply G
@@ -35,6 +30,11 @@ refused_by : (may : StoreFault → Type 0) (size : ℕ) (F : Flat) (r : Request)
 refused_by may size F r carried reply G error asked out =
     let P : Option Errno → Type 0 = λ o. MatchOption o (IsCarriedOut may F r carried reply G) (λ e. IsRefused F r e reply G) in
     subst P (sym asked) out
+
+-- the cause of a command's refusal
+causes_by : (may : StoreFault → Type 0) (is : Command) (outcome : Result (Unit {0}) StoreFault) (r : Request) → r.command ≡ is
+    → Causes may is outcome → Causes may r.command outcome
+causes_by may is outcome r same cause = let P : Command → Type 0 = λ c. Causes may c outcome in subst P (sym same) cause
 
 -- what a command does, and how many bytes it carries
 does_by : (is : Command) (outcome : Result (Unit {0}) StoreFault) (F : Flat) (r : Request) (carried read : List ℕ) (G : Flat)
@@ -58,7 +58,7 @@ read_answered represents may size F r before reply asked is represented written 
   represented = represented;
   answers = not_refused may size F r [] reply F asked (record {
     outcome = written.outcome;
-    cause = written.cause;
+    cause = causes_by may command.Read written.outcome r is written.cause;
     read = bytes_read written.outcome F r;
     does = does_by command.Read written.outcome F r [] (bytes_read written.outcome F r) F is (refl, refl);
     reply_is = written.reply_is;
@@ -78,7 +78,7 @@ write_answered represents may size F r outcome before after error reply asked is
   represented = taken.represented;
   answers = not_refused may size F r taken.carried reply taken.next asked (record {
     outcome = outcome;
-    cause = taken.cause;
+    cause = causes_by may command.Write outcome r is taken.cause;
     read = [];
     does = does_by command.Write outcome F r taken.carried [] taken.next is (refl, taken.stores);
     reply_is = no_bytes_written error r.cookie outcome reply same written;
@@ -88,7 +88,7 @@ write_answered represents may size F r outcome before after error reply asked is
 -- a command that carries and reads no bytes
 quiet_answered : (is : Command) (represents : Flat → Type 0) (may : StoreFault → Type 0) (size : ℕ) (F : Flat) (r : Request) (outcome : Result (Unit {0}) StoreFault)
     (before : Option (List ℕ)) (error : Option Errno) (reply : List ℕ) (G : Flat) → refusal_of size r ≡ None → r.command ≡ is
-    → 0 ≡ carried_by is r.length → Causes may outcome → represents G → Does is outcome F r [] [] G → error ≡ error_of outcome
+    → 0 ≡ carried_by is r.length → Causes may is outcome → represents G → Does is outcome F r [] [] G → error ≡ error_of outcome
     → reply ≡ reply_bytes error r.cookie → IsAnswered represents may size F r before before reply
 quiet_answered is represents may size F r outcome before error reply G asked same none cause represented does error_is written = record {
   carried = [];
@@ -98,7 +98,7 @@ quiet_answered is represents may size F r outcome before error reply G asked sam
   represented = represented;
   answers = not_refused may size F r [] reply G asked (record {
     outcome = outcome;
-    cause = cause;
+    cause = causes_by may is outcome r same cause;
     read = [];
     does = does_by is outcome F r [] [] G same does;
     reply_is = no_bytes_written error r.cookie outcome reply error_is written;
@@ -111,9 +111,9 @@ pub trim_answered : (represents : Flat → Type 0) (may : StoreFault → Type 0)
     → IfErr outcome may → (G : Flat) × represents G × Stores outcome (is_forced r) F r.offset (replicate r.length 0) G → error ≡ error_of outcome
     → reply ≡ reply_bytes error r.cookie → IsAnswered represents may size F r before before reply
 trim_answered represents may size F r outcome before error reply asked (inl is) cause stored error_is written =
-    quiet_answered command.Trim represents may size F r outcome before error reply stored.0 asked is refl (caused may outcome cause) stored.1 (refl, stored.2) error_is written
+    quiet_answered command.Trim represents may size F r outcome before error reply stored.0 asked is refl cause stored.1 (refl, stored.2) error_is written
 trim_answered represents may size F r outcome before error reply asked (inr is) cause stored error_is written =
-    quiet_answered command.WriteZeroes represents may size F r outcome before error reply stored.0 asked is refl (caused may outcome cause) stored.1 (refl, stored.2)
+    quiet_answered command.WriteZeroes represents may size F r outcome before error reply stored.0 asked is refl cause stored.1 (refl, stored.2)
     error_is written
 
 pub flush_answered : (represents : Flat → Type 0) (may : StoreFault → Type 0) (size : ℕ) (F : Flat) (r : Request) (outcome : Result (Unit {0}) StoreFault)
@@ -121,7 +121,7 @@ pub flush_answered : (represents : Flat → Type 0) (may : StoreFault → Type 0
     → IfErr outcome may → (G : Flat) × represents G × IsFlushed outcome F G → error ≡ error_of outcome → reply ≡ reply_bytes error r.cookie
     → IsAnswered represents may size F r before before reply
 flush_answered represents may size F r outcome before error reply asked is cause flushed error_is written =
-    quiet_answered command.Flush represents may size F r outcome before error reply flushed.0 asked is refl (caused may outcome cause) flushed.1 (refl, flushed.2)
+    quiet_answered command.Flush represents may size F r outcome before error reply flushed.0 asked is refl cause flushed.1 (refl, flushed.2)
     error_is written
 
 pub cache_answered : (represents : Flat → Type 0) (may : StoreFault → Type 0) (size : ℕ) (F : Flat) (r : Request) (before : Option (List ℕ)) (reply : List ℕ)

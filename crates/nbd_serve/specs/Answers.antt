@@ -38,14 +38,16 @@ Does command.Cache outcome F r carried read G = (read ≡ []) × (outcome ≡ Ok
 Does command.Disconnect outcome F r carried read G = ⊥
 Does command.Other outcome F r carried read G = ⊥
 
--- a refusal has a cause: the store may refuse so, or there is no memory for a buffer
-abbrev pub Causes : (StoreFault → Type 0) → Result (Unit {0}) StoreFault → Type 0
-Causes may outcome = IfErr outcome (λ reason. may reason ⊎ (reason ≡ fault.Memory))
+-- a refusal has a cause: the store may refuse so. A read or a write is also refused if there is no memory for its bytes
+abbrev pub Causes : (StoreFault → Type 0) → Command → Result (Unit {0}) StoreFault → Type 0
+Causes may command.Read outcome = IfErr outcome (λ reason. may reason ⊎ (reason ≡ fault.Memory))
+Causes may command.Write outcome = IfErr outcome (λ reason. may reason ⊎ (reason ≡ fault.Memory))
+Causes may _ outcome = IfErr outcome may
 
 -- the store was asked: the reply has the request's cookie, the error of the outcome, and the bytes that were read
 pub record IsCarriedOut (may : StoreFault → Type 0) (F : Flat) (r : Request) (carried reply : List ℕ) (G : Flat) : Type 0 where
   pub outcome : Result (Unit {0}) StoreFault
-  pub cause : Causes may outcome
+  pub cause : Causes may r.command outcome
   pub read : List ℕ
   pub does : Does r.command outcome F r carried read G
   pub reply_is : reply ≡ reply_bytes (error_of outcome) r.cookie ++ read
