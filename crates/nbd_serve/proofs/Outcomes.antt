@@ -1,5 +1,5 @@
 -- Answers to requests that the store was asked for.
-use Rattle.std.proofs.Common.{◌≡◌, ℕ, List, [], length, replicate, Bool, true, false, if◌then◌else◌, ◌⊎◌, Option, Some, None, Result, Ok, Err, refl, sym, ap, subst, ◌∙◌, inl, inr}
+use Rattle.std.proofs.Common.{◌≡◌, ℕ, List, [], length, replicate, Bool, true, false, if◌then◌else◌, ◌⊎◌, Option, Some, None, Result, Ok, refl, sym, ap, subst, ◌∙◌, inl, inr}
 use Rattle.std.specs.Prelude.{IfErr, MatchOption}
 use Rattle.std.proofs.KnownBytes.{Consumes-nil}
 use Rattle.byte_store.specs.Flat.{Flat}

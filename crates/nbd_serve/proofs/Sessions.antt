@@ -8,7 +8,7 @@ use Rattle.byte_store.specs.declared.fault.StoreFault.{StoreFault}
 use Rattle.byte_store.specs.Flat.{Flat}
 use Rattle.nbd_serve.specs.Exchanges.{Exchange, IsExchange, Runs, asked_by, replied_by}
 use Rattle.nbd_serve.specs.Serving.{Breaks, IsCutOff, Serves, Stops, most_requests}
-use Rattle.nbd_serve.specs.Streams.{IsPartWritten, IsShort, end_of}
+use Rattle.nbd_serve.specs.Streams.{IsPartWritten, IsShort, end_by}
 use Rattle.nbd_serve.specs.Answering.{IsAnswered}
 use Rattle.nbd_serve.specs.declared.calls.Short.{Short}
 use Rattle.nbd_serve.specs.declared.calls.Short.TheVariants as short
@@ -136,21 +136,21 @@ served was is last may size n F before mid after held written now along step =
     }
 
 -- a stop where a request is cut off
-cut_of : (is : Flat → Type 0) (reason : Short) (may : StoreFault → Type 0) (size : ℕ) (F : Flat) (before after held : Option (List ℕ)) → IsCutOff reason before after
-    → is F → IsStop is (end_of reason) may size F before after held held
+cut_of : (is : Flat → Type 0) (reason : Short) (may : StoreFault → Type 0) (size : ℕ) (F : Flat) (before after held : Option (List ℕ)) → IsCutOff (end_by reason) before after
+    → is F → IsStop is (end_by reason) may size F before after held held
 cut_of is short.Ended may size F before after held cut represented = record {
   final = F;
   represented = represented;
   stops = (cut, record { held_is = refl; same = refl });
 }
-cut_of is short.Failed may size F before after held cut represented = record {
+cut_of is (short.Failed broke) may size F before after held cut represented = record {
   final = F;
   represented = represented;
   stops = (cut, record { held_is = refl; same = refl });
 }
 
 cut_by : (is : Flat → Type 0) (reason : Short) (last : End) (may : StoreFault → Type 0) (size : ℕ) (F : Flat) (before after held : Option (List ℕ))
-    → IsCutOff reason before after → last ≡ end_of reason → is F → IsStop is last may size F before after held held
+    → IsCutOff (end_by reason) before after → last ≡ end_by reason → is F → IsStop is last may size F before after held held
 cut_by is reason last may size F before after held cut last_is represented =
     let P : End → Type 0 = λ e. IsStop is e may size F before after held held in
     subst P (sym last_is) (cut_of is reason may size F before after held cut represented)
@@ -189,9 +189,9 @@ exchange_broken is may size F head r before mid after held now reply wrote whole
 -- a request whose bytes are not all there
 pub exchange_cut : (is : Flat → Type 0) (reason : Short) (last : End) (may : StoreFault → Type 0) (size : ℕ) (F : Flat) (head : List ℕ) (r : Request)
     (before mid after held : Option (List ℕ)) → length head ≡ 28 → SpellsRequest head r → Consumes before mid head
-    → IsShort reason mid after (carried_len r) → last ≡ end_of reason → is F → IsStop is last may size F before after held held
+    → IsShort (end_by reason) mid after (carried_len r) → last ≡ end_by reason → is F → IsStop is last may size F before after held held
 exchange_cut is reason last may size F head r before mid after held whole spells read short last_is represented =
-    let cut : IsCutOff reason before after = record {
+    let cut : IsCutOff (end_by reason) before after = record {
       part = head ++ short.part;
       read = Consumes-trans before mid after head short.part read short.read;
       few = inr (record { head = head; whole = whole; request = r; spells = spells; carried = short.part; few = short.few; part_is = refl });

@@ -1,12 +1,11 @@
 -- Bytes that are read and written in pieces.
 use Rattle.std.proofs.Common.{◌≡◌, ℕ, ◌+◌, ◌-◌, ◌<◌, ◌≤◌, List, [], ◌++◌, length, take, drop, Bool, false, ◌==◌, Option, Some, None, rules, refl, sym, ap, subst, ◌∙◌, arith, append_assoc, take-append-drop, length-append, length-drop}
 use Rattle.std.specs.Io.KnownBytes.{Appends, Consumes, Keeps}
-use Rattle.std.proofs.KnownBytes.{Appends-trans, Consumes-kept, Consumes-nil, Consumes-trans}
+use Rattle.std.proofs.KnownBytes.{Appends-trans, Consumes-nil, Consumes-trans}
 use Rattle.std.proofs.lemmas.List.{take_all, take_at, take-append-le, length-take-le, places}
 use borrow.Rule.Slice.PartMut.{put_mid, post_of}
 use Rattle.nbd_serve.specs.Streams.{IsPartWritten, IsShort, Skips}
-use Rattle.nbd_serve.specs.declared.calls.Short.{Short}
-use Rattle.nbd_serve.specs.declared.calls.Short.TheVariants as short
+use Rattle.nbd_serve.specs.declared.end.End.{End}
 
 -- what was written is a prefix of the bytes
 pub record IsWritten (held now : Option (List ℕ)) (bytes rest : List ℕ) : Type 0 where
@@ -68,23 +67,13 @@ skipped_more before mid after n m bytes first second size = record {
 }
 
 -- bytes were read, and then fewer than were wanted
-pub short_after : (reason : Short) (before mid after : Option (List ℕ)) (bytes : List ℕ) (m wanted : ℕ) → Consumes before mid bytes
-    → IsShort reason mid after m → length bytes + m ≤ wanted → IsShort reason before after wanted
-short_after reason before mid after bytes m wanted first short fits = record {
+pub short_after : (last : End) (before mid after : Option (List ℕ)) (bytes : List ℕ) (m wanted : ℕ) → Consumes before mid bytes
+    → IsShort last mid after m → length bytes + m ≤ wanted → IsShort last before after wanted
+short_after last before mid after bytes m wanted first short fits = record {
   part = bytes ++ short.part;
   read = Consumes-trans before mid after bytes short.part first short.read;
   few = let few : length short.part < m = short.few in omega (arith, length-append bytes short.part);
   ended = short.ended;
-}
-
--- a failed read took nothing
-pub short_failed : (before mid after : Option (List ℕ)) (bytes : List ℕ) (wanted : ℕ) → Consumes before mid bytes → Keeps mid after
-    → length bytes < wanted → IsShort short.Failed before after wanted
-short_failed before mid after bytes wanted first kept few = record {
-  part = bytes;
-  read = Consumes-kept before mid after bytes first kept;
-  few = few;
-  ended = tt;
 }
 
 -- the front of a list that begins with n elements

@@ -9,12 +9,13 @@ use Rattle.nbd_wire.specs.declared.client.OptionHead.{OptionHead}
 use Rattle.nbd_wire.specs.declared.options.Export.{Export}
 use Rattle.nbd_wire.specs.Options.{SpellsOption}
 use Rattle.nbd_serve.specs.Streams.{IsPartWritten, IsShort}
+use Rattle.nbd_serve.specs.Halts.{ended}
+use Rattle.nbd_serve.specs.declared.halt.Halt.{Halt}
+use Rattle.nbd_serve.specs.declared.halt.Halt.TheVariants as halt
 use Rattle.nbd_serve.specs.Options.{reply_to}
 use Rattle.nbd_serve.specs.Handshaking.{BreaksAtOption, EndsOptions, IsOptionCutOff, IsTurn, IsTurnTaken, IsTurned, IsTurnedInPart, Negotiates, OptionSteps, OptionTurn, StopsTaking, option_bytes, reply_bytes_of}
 use Rattle.nbd_serve.specs.declared.options.Next.{Next}
 use Rattle.nbd_serve.specs.declared.options.Next.TheVariants as next
-use Rattle.nbd_serve.specs.declared.calls.Short.{Short}
-use Rattle.nbd_serve.specs.declared.calls.Short.TheVariants as short
 use Rattle.nbd_serve.specs.declared.end.End.{End}
 use Rattle.nbd_serve.specs.declared.end.End.TheVariants as end
 
@@ -54,20 +55,20 @@ asked_more e z n before mid after held written now asked turned =
     }
 
 -- what a step ends with, options end with
-ends_by : (done : Result (Unit {0}) End) (n : ℕ) (e : Export) (z : Bool) (before after held now : Option (List ℕ))
-    → OptionSteps (Some done) e z before after held now → EndsOptions done n e z before after held now
+ends_by : (done : Result (Unit {0}) Halt) (n : ℕ) (e : Export) (z : Bool) (before after held now : Option (List ℕ))
+    → OptionSteps (Some done) e z before after held now → EndsOptions (ended done) n e z before after held now
 ends_by (Ok u) n e z before after held now step = step
-ends_by (Err end.Cut) n e z before after held now step = step
-ends_by (Err end.ReadFault) n e z before after held now step = step
-ends_by (Err end.Garbage) n e z before after held now step = step
-ends_by (Err end.WriteFault) n e z before after held now step = step
-ends_by (Err end.Memory) n e z before after held now step = step
-ends_by (Err end.Aborted) n e z before after held now step = step
-ends_by (Err end.Limit) n e z before after held now step = absurd step
-ends_by (Err end.Disconnected) n e z before after held now step = absurd step
+ends_by (Err halt.Cut) n e z before after held now step = step
+ends_by (Err (halt.ReadBroke broke)) n e z before after held now step = step
+ends_by (Err halt.Garbage) n e z before after held now step = step
+ends_by (Err (halt.WriteBroke broke)) n e z before after held now step = step
+ends_by (Err halt.Memory) n e z before after held now step = step
+ends_by (Err halt.Aborted) n e z before after held now step = step
+ends_by (Err halt.Limit) n e z before after held now step = absurd step
+ends_by (Err halt.Disconnected) n e z before after held now step = absurd step
 
-pub negotiated : (done : Result (Unit {0}) End) (n : ℕ) (e : Export) (z : Bool) (before mid after held written now : Option (List ℕ))
-    → IsAsked e z n before mid held written → OptionSteps (Some done) e z mid after written now → Negotiates done e z before after held now
+pub negotiated : (done : Result (Unit {0}) Halt) (n : ℕ) (e : Export) (z : Bool) (before mid after held written now : Option (List ℕ))
+    → IsAsked e z n before mid held written → OptionSteps (Some done) e z mid after written now → Negotiates (ended done) e z before after held now
 negotiated done n e z before mid after held written now asked step = record {
   turns = asked.turns;
   each = asked.each;
@@ -108,9 +109,9 @@ turn_broken then e z head o before mid after held now old new wrote whole spells
     }
 
 -- an option whose data is not all there
-option_cut : (reason : Short) (head : List ℕ) (o : OptionHead) (before mid after : Option (List ℕ)) → length head ≡ 16 → SpellsOption head o
-    → Consumes before mid head → IsShort reason mid after o.length → IsOptionCutOff reason before after
-option_cut reason head o before mid after whole spells read short = record {
+option_cut : (last : End) (head : List ℕ) (o : OptionHead) (before mid after : Option (List ℕ)) → length head ≡ 16 → SpellsOption head o
+    → Consumes before mid head → IsShort last mid after o.length → IsOptionCutOff last before after
+option_cut last head o before mid after whole spells read short = record {
   part = head ++ short.part;
   read = Consumes-trans before mid after head short.part read short.read;
   few = inr (record { head = head; whole = whole; option = o; spells = spells; carried = short.part; few = short.few; part_is = refl });
@@ -121,9 +122,9 @@ pub taking_stopped : (last : End) (e : Export) (z : Bool) (head : List ℕ) (o :
     → length head ≡ 16 → SpellsOption head o → Consumes before mid head → StopsTaking last o mid after
     → BreaksAtOption last e z before after held held
 taking_stopped end.Cut e z head o before mid after held whole spells read stops =
-    (option_cut short.Ended head o before mid after whole spells read stops, refl)
+    (option_cut end.Cut head o before mid after whole spells read stops, refl)
 taking_stopped end.ReadFault e z head o before mid after held whole spells read stops =
-    (option_cut short.Failed head o before mid after whole spells read stops, refl)
+    (option_cut end.ReadFault head o before mid after whole spells read stops, refl)
 taking_stopped end.Memory e z head o before mid after held whole spells read stops = (
   record {
     head = head;

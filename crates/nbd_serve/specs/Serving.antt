@@ -10,8 +10,6 @@ use Rattle.nbd_wire.specs.declared.request.Request.{Request}
 use Rattle.nbd_wire.specs.Requests.{SpellsRequest, carried_len, request_magic}
 use Rattle.nbd_serve.specs.Streams.{IsPartWritten, LeavesNone}
 use Rattle.nbd_serve.specs.Exchanges.{Exchange, IsExchange, Runs, asked_by, replied_by}
-use Rattle.nbd_serve.specs.declared.calls.Short.{Short}
-use Rattle.nbd_serve.specs.declared.calls.Short.TheVariants as short
 use Rattle.nbd_serve.specs.declared.end.End.{End}
 use Rattle.nbd_serve.specs.declared.end.End.TheVariants as end
 
@@ -42,11 +40,11 @@ pub record IsHeadAndPart (part : List ℕ) : Type 0 where
   pub part_is : part ≡ head ++ carried
 
 -- less than a whole request was read
-pub record IsCutOff (reason : Short) (before after : Option (List ℕ)) : Type 0 where
+pub record IsCutOff (last : End) (before after : Option (List ℕ)) : Type 0 where
   pub part : List ℕ
   pub read : Consumes before after part
   pub few : (length part < 28) ⊎ IsHeadAndPart part
-  pub ended : LeavesNone reason after
+  pub ended : LeavesNone last after
 
 -- a request was carried out, and a proper prefix of the reply was written
 pub record IsAnsweredInPart (may : StoreFault → Type 0) (size : ℕ) (F : Flat) (before after held now : Option (List ℕ)) (G : Flat) : Type 0 where
@@ -64,8 +62,8 @@ pub record IsSilent (F : Flat) (held now : Option (List ℕ)) (G : Flat) : Type 
 abbrev pub Breaks : End → (StoreFault → Type 0) → ℕ → Flat → Option (List ℕ) → Option (List ℕ) → Option (List ℕ) → Option (List ℕ) → Flat → Type 0
 Breaks end.Disconnected may size F before after held now G = IsDisconnect before after × IsSilent F held now G
 Breaks end.Garbage may size F before after held now G = IsGarbage before after × IsSilent F held now G
-Breaks end.Cut may size F before after held now G = IsCutOff short.Ended before after × IsSilent F held now G
-Breaks end.ReadFault may size F before after held now G = IsCutOff short.Failed before after × IsSilent F held now G
+Breaks end.Cut may size F before after held now G = IsCutOff end.Cut before after × IsSilent F held now G
+Breaks end.ReadFault may size F before after held now G = IsCutOff end.ReadFault before after × IsSilent F held now G
 Breaks end.WriteFault may size F before after held now G = IsAnsweredInPart may size F before after held now G
 Breaks end.Limit may size F before after held now G = ⊥
 Breaks end.Aborted may size F before after held now G = ⊥

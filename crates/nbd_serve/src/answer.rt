@@ -3,7 +3,7 @@ ghost use Rattle.std.specs.Prelude.{◌≡◌, ◌≤◌, ◌+◌, ◌++◌, len
 ghost use Rattle.byte_store.specs.Flat.{Flat};
 ghost use Rattle.nbd_wire.specs.Requests.{carried_len};
 ghost use Rattle.nbd_wire.specs.Replies.{reply_bytes};
-ghost use Rattle.nbd_serve.specs.Streams.{IsShort, Skips};
+ghost use Rattle.nbd_serve.specs.Streams.{IsShort, Skips, end_by};
 ghost use Rattle.nbd_serve.specs.Refusals.{error_of, refusal_of};
 ghost use Rattle.nbd_serve.specs.Answers.{Stores, bytes_read};
 ghost use Rattle.nbd_serve.specs.Answering.{IsAnswered, IsReadReply, IsTaken};
@@ -60,7 +60,7 @@ fn take_write<R: Read, S: ByteStore>(
     ensures ok { IfOk result (λ outcome. (F : Flat) → S.represents store.old F →
         IsTaken S.may_refuse (S.represents store.new) outcome F request.now (R.remaining reader.old) (R.remaining reader.new)) }
     ensures err { IfErr result (λ short. (store.new ≡ store.old) ×
-        IsShort short (R.remaining reader.old) (R.remaining reader.new) request.now.length) }
+        IsShort (end_by short) (R.remaining reader.old) (R.remaining reader.new) request.now.length) }
     ensures sizes { S.sizes store.new ≡ S.sizes store.old }
 {
     let length = request.length as usize;
@@ -87,7 +87,7 @@ fn refuse<R: Read>(
     ensures count { IfOk result (λ count. count ≤ length out.new) }
     ensures written { IfOk result (λ count. take count out.new ≡ reply_bytes (Some error) request.now.cookie) }
     ensures read { OnOk result (Skips (R.remaining reader.old) (R.remaining reader.new) (carried_len request.now)) }
-    ensures err { IfErr result (λ short. IsShort short (R.remaining reader.old) (R.remaining reader.new) (carried_len request.now)) }
+    ensures err { IfErr result (λ short. IsShort (end_by short) (R.remaining reader.old) (R.remaining reader.new) (carried_len request.now)) }
 {
     match skip(reader, request.carried_len()) {
         Ok(()) => Ok(put_head(out, Some(error), request)),
@@ -111,7 +111,7 @@ pub(crate) fn answer<R: Read, S: ByteStore>(
         IsAnswered (S.represents store.new) S.may_refuse (S.sizes store.old).bytes F request.now (R.remaining reader.old) (R.remaining reader.new)
         (take count out.new)) }
     ensures err { IfErr result (λ short. (store.new ≡ store.old) ×
-        IsShort short (R.remaining reader.old) (R.remaining reader.new) (carried_len request.now)) }
+        IsShort (end_by short) (R.remaining reader.old) (R.remaining reader.new) (carried_len request.now)) }
     ensures sizes { S.sizes store.new ≡ S.sizes store.old }
 {
     if let Some(error) = refusal_of(request, store.size()) {

@@ -27,6 +27,6 @@ pub fn serve<R: Read, W: Write, S: ByteStore>(
     };
     match agree(alloc, reader, writer, &export) {
         Ok(()) => transmit(alloc, reader, writer, store),
-        Err(end) => end,
+        Err(halt) => halt.end(),
     }
 }

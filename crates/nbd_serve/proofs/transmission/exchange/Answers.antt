@@ -1,6 +1,7 @@
 use Rattle.std.proofs.Common.{length, take, ap, ◌∙◌, arith}
 use Rattle.nbd_serve.proofs.Streaming.{kept_room, written_back}
 use Rattle.nbd_serve.proofs.Sessions.{exchange_broken, exchange_cut, exchange_done}
+use Rattle.nbd_serve.specs.Halts.{end_of}
 use Rattle.nbd_serve.proofs.transmission.exchange.Goals as goal
 
 pub returns-in-Ok-write_out : goal.returns-in-Ok-write_out
@@ -37,8 +38,8 @@ returns-in-Err-answer g c =
     record {
       room = kept_room c.make_room.new.out.len c.make_room.new.out.items c.answer.new.out c.make_room.new.out.ok.0 kept (omega (arith, c.requires.room, c.make_room.ensures));
       step = λ F represented.
-          exchange_cut _ c.in-Err-answer.short c.end-in-Err-answer.result _ _ F c.fill.new.buffer c.in-Some.request (remaining c.args.reader.now) _ _ _
-          c.fill.auto.buffer c.in-Some.ensures.some c.in_default.ensures.whole c.in-Err-answer.ensures.err.1 c.end-in-Err-answer.ensures
+          exchange_cut _ c.in-Err-answer.short (end_of c.halt-in-Err-answer.result) _ _ F c.fill.new.buffer c.in-Some.request (remaining c.args.reader.now) _ _ _
+          c.fill.auto.buffer c.in-Some.ensures.some c.in_default.ensures.whole c.in-Err-answer.ensures.err.1 c.halt-in-Err-answer.ensures
           (rw c.in-Err-answer.ensures.err.0 represented);
       sizes = c.answer.ensures.sizes;
     }

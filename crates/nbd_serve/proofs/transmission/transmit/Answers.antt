@@ -1,12 +1,13 @@
 use Rattle.std.proofs.Common.{ap, ◌∙◌}
 use Rattle.byte_store.specs.Flat.{Sizes}
 use Rattle.nbd_serve.proofs.Sessions.{along_more, served}
+use Rattle.nbd_serve.specs.Halts.{end_of}
 use Rattle.nbd_serve.proofs.transmission.transmit.Goals as goal
 
 pub returns-in-Some : goal.returns-in-Some
 returns-in-Some g c = λ F represented.
-    served _ _ c.in-Some.end _ _ _ F _ _ _ _ _ _ (c.loop-served.invariant.along F represented)
-    (λ G now. (rw (ap (λ (s : Sizes). s.bytes) c.loop-served.invariant.same) at (c.in-Some.ensures.step G now)))
+    rw c.end.ensures (served _ _ (end_of c.in-Some.halt) _ _ _ F _ _ _ _ _ _ (c.loop-served.invariant.along F represented)
+    (λ G now. (rw (ap (λ (s : Sizes). s.bytes) c.loop-served.invariant.same) at (c.in-Some.ensures.step G now))))
 
 pub loop-served-preserved : goal.loop-served-preserved
 loop-served-preserved g c = record {
