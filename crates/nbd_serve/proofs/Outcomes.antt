@@ -12,10 +12,9 @@ use Rattle.nbd_wire.specs.declared.request.Command.TheVariants as command
 use Rattle.nbd_wire.specs.declared.request.Request.{Request}
 use Rattle.nbd_wire.specs.Requests.{carried_by, carried_len, has_known_flags, is_forced}
 use Rattle.nbd_wire.specs.Replies.{reply_bytes}
-use Rattle.nbd_serve.specs.Streams.{Skips}
 use Rattle.nbd_serve.specs.Refusals.{error_of, refusal_by, refusal_of}
-use Rattle.nbd_serve.specs.Answers.{Answers, Causes, Does, IsCarriedOut, IsRefused, Stores, bytes_read}
-use Rattle.nbd_serve.specs.Answering.{IsAnswered, IsReadReply, IsTaken}
+use Rattle.nbd_serve.specs.Answers.{Answers, Causes, Does, IsCarriedOut, IsRefused, Stores}
+use Rattle.nbd_serve.specs.Answering.{IsAnswered, IsTaken}
 use Rattle.nbd_serve.proofs.Replying.{no_bytes_written}
 
 -- an answer by what the request's refusal is
@@ -23,12 +22,6 @@ not_refused : (may : StoreFault → Type 0) (size : ℕ) (F : Flat) (r : Request
     → IsCarriedOut may F r carried reply G → Answers may size F r carried reply G
 not_refused may size F r carried reply G asked out =
     let P : Option Errno → Type 0 = λ o. MatchOption o (IsCarriedOut may F r carried reply G) (λ error. IsRefused F r error reply G) in
-    subst P (sym asked) out
-
-refused_by : (may : StoreFault → Type 0) (size : ℕ) (F : Flat) (r : Request) (carried reply : List ℕ) (G : Flat) (error : Errno) → refusal_of size r ≡ Some error
-    → IsRefused F r error reply G → Answers may size F r carried reply G
-refused_by may size F r carried reply G error asked out =
-    let P : Option Errno → Type 0 = λ o. MatchOption o (IsCarriedOut may F r carried reply G) (λ e. IsRefused F r e reply G) in
     subst P (sym asked) out
 
 -- the cause of a command's refusal
@@ -45,25 +38,6 @@ does_by is outcome F r carried read G same does =
 carries_by : (is : Command) (r : Request) (carried : List ℕ) → r.command ≡ is → length carried ≡ carried_by is r.length
     → length carried ≡ carried_len r
 carries_by is r carried same size = size ∙ ap (λ c. carried_by c r.length) (sym same)
-
--- a read
-pub read_answered : (represents : Flat → Type 0) (may : StoreFault → Type 0) (size : ℕ) (F : Flat) (r : Request) (before : Option (List ℕ)) (reply : List ℕ)
-    → refusal_of size r ≡ None → r.command ≡ command.Read → represents F → IsReadReply may F r reply
-    → IsAnswered represents may size F r before before reply
-read_answered represents may size F r before reply asked is represented written = record {
-  carried = [];
-  carries = carries_by command.Read r [] is refl;
-  read = Consumes-nil before;
-  next = F;
-  represented = represented;
-  answers = not_refused may size F r [] reply F asked (record {
-    outcome = written.outcome;
-    cause = causes_by may command.Read written.outcome r is written.cause;
-    read = bytes_read written.outcome F r;
-    does = does_by command.Read written.outcome F r [] (bytes_read written.outcome F r) F is (refl, refl);
-    reply_is = written.reply_is;
-  });
-}
 
 -- a write
 pub write_answered : (represents : Flat → Type 0) (may : StoreFault → Type 0) (size : ℕ) (F : Flat) (r : Request) (outcome : Result (Unit {0}) StoreFault)
@@ -144,16 +118,3 @@ pub other_refused : (size : ℕ) (r : Request) → refusal_of size r ≡ None �
 other_refused size r asked is =
     let P : Command → Type 0 = λ c. (if has_known_flags r then refusal_by c size r else Some errno.Invalid) ≡ None in
     no_refusal (has_known_flags r) errno.Invalid (subst P is asked)
-
--- a refusal
-pub refusal_answered : (represents : Flat → Type 0) (may : StoreFault → Type 0) (size : ℕ) (F : Flat) (r : Request) (error : Errno) (before after : Option (List ℕ))
-    (reply : List ℕ) → refusal_of size r ≡ Some error → represents F → Skips before after (carried_len r)
-    → reply ≡ reply_bytes (Some error) r.cookie → IsAnswered represents may size F r before after reply
-refusal_answered represents may size F r error before after reply asked represented skipped written = record {
-  carried = skipped.bytes;
-  carries = skipped.size;
-  read = skipped.read;
-  next = F;
-  represented = represented;
-  answers = refused_by may size F r skipped.bytes reply F error asked (record { reply_is = written; same = refl });
-}

@@ -3,11 +3,11 @@ use Rattle.std.proofs.Common.{◌≡◌, ◌≢◌, ℕ, ◌+◌, List, [], ◌�
 use Rattle.std.proofs.lemmas.List.{length_push}
 use Rattle.std.specs.List.{flat_map}
 use Rattle.std.specs.Io.KnownBytes.{Appends, Consumes}
-use Rattle.std.proofs.KnownBytes.{Appends-nil, Appends-trans, Consumes-nil, Consumes-trans}
+use Rattle.std.proofs.KnownBytes.{Appends-trans, Consumes-trans}
 use Rattle.byte_store.specs.declared.fault.StoreFault.{StoreFault}
 use Rattle.byte_store.specs.Flat.{Flat}
 use Rattle.nbd_serve.specs.Exchanges.{Exchange, IsExchange, Runs, asked_by, replied_by}
-use Rattle.nbd_serve.specs.Serving.{Breaks, IsCutOff, Serves, Stops, most_requests}
+use Rattle.nbd_serve.specs.Serving.{Breaks, IsCutOff, Serves, Stops}
 use Rattle.nbd_serve.specs.Streams.{IsPartWritten, IsShort, end_by}
 use Rattle.nbd_serve.specs.Answering.{IsAnswered}
 use Rattle.nbd_serve.specs.declared.calls.Short.{Short}
@@ -40,19 +40,6 @@ bytes_more : (f : Exchange → List ℕ) (xs : List Exchange) (x : Exchange) →
 bytes_more f [] x = append-nil (f x)
 bytes_more f (y ∷ xs) x = ap (λ bytes. f y ++ bytes) (bytes_more f xs x) ∙ sym (append_assoc (f y) (flat_map f xs) (f x))
 
--- no exchange yet
-pub along_none : (represents : Flat → Type 0) (may : StoreFault → Type 0) (size : ℕ) (F : Flat) (before held : Option (List ℕ)) → represents F
-    → IsAlong represents may size 0 F before before held held
-along_none represents may size F before held represented = record {
-  exchanges = [];
-  count = refl;
-  state = F;
-  runs = refl;
-  represented = represented;
-  read = Consumes-nil before;
-  wrote = Appends-nil held;
-}
-
 -- one exchange after n
 pub along_more : (was is : Flat → Type 0) (may : StoreFault → Type 0) (size n : ℕ) (F : Flat) (before mid after held written now : Option (List ℕ))
     → IsAlong was may size n F before mid held written → ((G : Flat) → was G → IsDone is may size G mid after written now)
@@ -83,39 +70,6 @@ stop_at end.WriteFault n may size F before after held now G stops = stops
 stop_at end.Limit n may size F before after held now G stops = absurd stops
 stop_at end.Aborted n may size F before after held now G stops = absurd stops
 stop_at end.Memory n may size F before after held now G stops = absurd stops
-
--- the most exchanges, and no more is read
-pub served_all : (represents : Flat → Type 0) (may : StoreFault → Type 0) (size n : ℕ) (F : Flat) (before after held now : Option (List ℕ))
-    → IsAlong represents may size n F before after held now → n ≡ most_requests → Serves represents may size F end.Limit before after held now
-served_all represents may size n F before after held now along all = record {
-  exchanges = along.exchanges;
-  state = along.state;
-  runs = along.runs;
-  left = after;
-  read = along.read;
-  written = now;
-  wrote = along.wrote;
-  final = along.state;
-  represented = along.represented;
-  stops = (along.count ∙ all, refl, record { held_is = refl; same = refl });
-}
-
--- no memory for the buffers
-pub served_none : (represents : Flat → Type 0) (may : StoreFault → Type 0) (size : ℕ) (F : Flat) (before held : Option (List ℕ)) → represents F
-    → Serves represents may size F end.Memory before before held held
-unfolding along_none
-served_none represents may size F before held represented = let none = along_none represents may size F before held represented in record {
-  exchanges = [];
-  state = F;
-  runs = refl;
-  left = before;
-  read = none.read;
-  written = held;
-  wrote = none.wrote;
-  final = F;
-  represented = represented;
-  stops = (refl, refl, record { held_is = refl; same = refl });
-}
 
 -- exchanges, and a stop
 pub served : (was is : Flat → Type 0) (last : End) (may : StoreFault → Type 0) (size n : ℕ) (F : Flat) (before mid after held written now : Option (List ℕ))

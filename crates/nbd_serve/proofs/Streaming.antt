@@ -1,7 +1,7 @@
 -- Bytes that are read and written in pieces.
-use Rattle.std.proofs.Common.{◌≡◌, ℕ, ◌+◌, ◌-◌, ◌<◌, ◌≤◌, List, [], ◌++◌, length, take, drop, Bool, false, ◌==◌, Option, Some, None, rules, refl, sym, ap, subst, ◌∙◌, arith, append_assoc, take-append-drop, length-append, length-drop}
+use Rattle.std.proofs.Common.{◌≡◌, ℕ, ◌+◌, ◌-◌, ◌<◌, ◌≤◌, List, ◌++◌, length, take, drop, Bool, false, ◌==◌, Option, Some, None, rules, sym, ap, subst, ◌∙◌, arith, append_assoc, take-append-drop, length-append, length-drop}
 use Rattle.std.specs.Io.KnownBytes.{Appends, Consumes, Keeps}
-use Rattle.std.proofs.KnownBytes.{Appends-trans, Consumes-nil, Consumes-trans}
+use Rattle.std.proofs.KnownBytes.{Appends-trans, Consumes-trans}
 use Rattle.std.proofs.lemmas.List.{take_all, take_at, take-append-le, length-take-le, places}
 use borrow.Rule.Slice.PartMut.{put_mid, post_of}
 use Rattle.nbd_serve.specs.Streams.{IsPartWritten, IsShort, Skips}
@@ -52,10 +52,6 @@ part_written held now bytes rest written some = record {
 -- what isn't found empty has bytes
 pub not_empty : (n : ℕ) (empty : Bool) → empty ≡ (n == 0) → empty ≡ false → 0 < n
 not_empty n empty written is = grind arith
-
--- no byte was read yet
-pub skipped_none : (before : Option (List ℕ)) → Skips before before 0
-skipped_none before = record { bytes = []; read = Consumes-nil before; size = refl }
 
 -- more bytes were read
 pub skipped_more : (before mid after : Option (List ℕ)) (n m : ℕ) (bytes : List ℕ) → Skips before mid n → Consumes mid after bytes

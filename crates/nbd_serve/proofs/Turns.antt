@@ -1,10 +1,10 @@
 -- How options follow one another.
-use Rattle.std.proofs.Common.{◌≡◌, ℕ, ◌+◌, List, [], ◌∷◌, ◌++◌, length, Bool, Option, Some, Result, Ok, Err, inr, refl, sym, ap, subst, ◌∙◌, append_assoc, append-nil, arith}
+use Rattle.std.proofs.Common.{◌≡◌, ℕ, ◌+◌, List, [], ◌∷◌, ◌++◌, length, Bool, Option, Some, Result, Ok, Err, inr, refl, sym, ap, subst, ◌∙◌, append_assoc, append-nil}
 use Rattle.std.proofs.lemmas.List.{length_push}
 use Rattle.std.proofs.lemmas.List.Elements.{All-push}
 use Rattle.std.specs.List.{All, flat_map}
 use Rattle.std.specs.Io.KnownBytes.{Appends, Consumes}
-use Rattle.std.proofs.KnownBytes.{Appends-nil, Appends-trans, Consumes-nil, Consumes-trans}
+use Rattle.std.proofs.KnownBytes.{Appends-trans, Consumes-trans}
 use Rattle.nbd_wire.specs.declared.client.OptionHead.{OptionHead}
 use Rattle.nbd_wire.specs.declared.options.Export.{Export}
 use Rattle.nbd_wire.specs.Options.{SpellsOption}
@@ -30,16 +30,6 @@ pub record IsAsked (e : Export) (no_zeroes : Bool) (n : ℕ) (before after held 
 bytes_more : (f : OptionTurn → List ℕ) (xs : List OptionTurn) (x : OptionTurn) → flat_map f (xs ++ x ∷ []) ≡ flat_map f xs ++ f x
 bytes_more f [] x = append-nil (f x)
 bytes_more f (y ∷ xs) x = ap (λ bytes. f y ++ bytes) (bytes_more f xs x) ∙ sym (append_assoc (f y) (flat_map f xs) (f x))
-
--- no option yet
-pub asked_none : (e : Export) (z : Bool) (before held : Option (List ℕ)) → IsAsked e z 0 before before held held
-asked_none e z before held = record {
-  turns = [];
-  count = refl;
-  each = λ k d below. absurd (omega (arith, below));
-  read = Consumes-nil before;
-  wrote = Appends-nil held;
-}
 
 -- one more
 pub asked_more : (e : Export) (z : Bool) (n : ℕ) (before mid after held written now : Option (List ℕ)) → IsAsked e z n before mid held written
