@@ -1,6 +1,6 @@
 -- What a call of the array makes of the disk's bytes.
 use Rattle.std.specs.Prelude.{IfOk, OnOk, OnErr}
-use Rattle.std.proofs.Common.{rules, ◌≡◌, ◌≢◌, ℕ, List, replicate, length, Option, Some, None, Result, Ok, Err, refl, sym, ap, ◌∙◌, subst, arith}
+use Rattle.std.proofs.Common.{◌≡◌, ℕ, List, replicate, Option, Some, None, Result, Ok, Err, sym, ap, ◌∙◌, subst}
 use Rattle.flat_machine.specs.declared.refusal.Refusal.{Refusal}
 use Rattle.flat_machine.specs.Flat.{Flat, Content, bytes_of, last_write}
 use Rattle.flat_machine.specs.Steps as step
@@ -11,8 +11,7 @@ use Rattle.background.specs.Steps.{StepNoted}
 use Rattle.background.specs.Tiered.{Tiered}
 use Rattle.background.specs.Views.{TiersView}
 use Rattle.background.specs.declared.outcome.Outcome.{Outcome}
-use Rattle.background.specs.declared.outcome.Outcome.TheVariants as outcome
-use Rattle.array_store.specs.Blocks.{bytes_in, block_bytes, Shows, Holds, IsBlockOf, IsPut}
+use Rattle.array_store.specs.Blocks.{block_bytes, Shows, Holds, IsBlockOf, IsPut}
 use Rattle.array_store.proofs.Reading.{found_bytes, nothing_bytes, read_keeps}
 use Rattle.array_store.proofs.Showing.{adds_shows, keeps_shows, block_read}
 use Rattle.flat_machine.specs.Cases.{Leaves}
@@ -99,7 +98,7 @@ nothing_block t u b payload out does zeros bytes holds =
     let done = does T holds.stands in
     let size = payload_is t T holds.stands in
     let is : out ≡ block_bytes T.flat.groups.payload T.flat.writes b =
-        zeros ∙ (ap (λ n. replicate n 0) (sym size) ∙ nothing_bytes T.flat.groups.payload (last_write T.flat.writes b) done.1.1.0) in
+    zeros ∙ (ap (λ n. replicate n 0) (sym size) ∙ nothing_bytes T.flat.groups.payload (last_write T.flat.writes b) done.1.1.0) in
     subst (λ m. IsBlockOf m bytes b out) size (block_read T.flat.groups.payload T.flat.writes b bytes out holds.shows is)
 
 -- a sync leaves the bytes

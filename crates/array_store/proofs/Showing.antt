@@ -1,5 +1,5 @@
 -- A write of a block, seen in the disk's bytes.
-use Rattle.std.proofs.Common.{◌≡◌, ◌≢◌, ◌⊎◌, inl, inr, ℕ, ◌+◌, ◌-◌, ◌*◌, ◌/◌, ◌%◌, ◌<◌, ◌≤◌, List, [], ◌∷◌, ◌++◌, length, replicate, slice_index, refl, sym, ap, ◌∙◌, subst, Option, Some, None, arith}
+use Rattle.std.proofs.Common.{◌≡◌, ◌⊎◌, inl, inr, ℕ, ◌/◌, ◌%◌, ◌<◌, List, [], ◌∷◌, ◌++◌, length, slice_index, sym, ap, ◌∙◌, subst, Some, arith}
 use Rattle.std.proofs.lemmas.Bool.{cases_eq}
 use Rattle.flat_machine.specs.Flat.{Flat, Write, Content, bytes_of, last_write}
 use Rattle.flat_machine.proofs.Writes.{last_here, last_else}
@@ -37,5 +37,7 @@ keeps_shows F G bytes keeps shows =
 
 -- a block that was read, and its bytes of the disk
 pub block_read : (size : ℕ) (writes : List Write) (b : ℕ) (bytes out : List ℕ) → Shows size writes bytes → out ≡ block_bytes size writes b → IsBlockOf size bytes b out
-block_read size writes b bytes out shows is = record { each = λ i below e.
-    ap (λ xs. slice_index xs (i % size)) (is ∙ ap (block_bytes size writes) (sym e)) ∙ sym (shows.each i below) }
+block_read size writes b bytes out shows is = record {
+  each = λ i below e.
+      ap (λ xs. slice_index xs (i % size)) (is ∙ ap (block_bytes size writes) (sym e)) ∙ sym (shows.each i below);
+}

@@ -1,5 +1,5 @@
 -- What a placing makes of the last writes: a fresh content is one write more, and a copy is none.
-use Rattle.std.proofs.Common.{◌≡◌, ◌≢◌, ◌⊎◌, inl, inr, ℕ, List, [], ◌∷◌, ◌++◌, refl, sym, ap, ◌∙◌, subst, Option, Some, None}
+use Rattle.std.proofs.Common.{◌≡◌, ◌≢◌, inl, inr, ℕ, [], ◌∷◌, ◌++◌, refl, sym, ap, ◌∙◌, subst, Option, Some, None}
 use Rattle.flat_machine.specs.declared.refusal.Refusal.{Refusal}
 use Rattle.map_join.specs.declared.records.Record.{Record}
 use Rattle.flat_machine.specs.Flat.{Flat, Write, Content, Waiting}
@@ -10,7 +10,7 @@ use Rattle.flat_machine.specs.Cases.{Case, Leaves, Runs, CommitWith}
 use Rattle.flat_machine.proofs.Pairs.{put_here}
 use Rattle.step_core.proofs.Worlds.{refused_leaves}
 use Rattle.background.specs.Placing.{Put, Fresh, Again, PlaceCase, PlaceStops, put_step, put_answer, back_steps, back_answers}
-use Rattle.background.specs.Room.{RoomCase, RoomStops, AlwaysCase, AlwaysStops, AlwaysStop, GoesOut, GoesAside, AfterRoom, WritesAgain, WritesAlways, Spares, SpareCase, SpareStops}
+use Rattle.background.specs.Room.{RoomCase, AlwaysCase, AlwaysStops, AlwaysStop, GoesOut, GoesAside, AfterRoom, WritesAgain, WritesAlways, Spares, SpareCase, SpareStops}
 use Rattle.background.specs.Steps.{MovesTo, AppendsAt, WritesAt, WritesIn, PutStops}
 use Rattle.background.specs.Tiered.{Tiered}
 use Rattle.background.specs.declared.outcome.Outcome.{Outcome}

@@ -27,11 +27,7 @@ fn fault_of(refusal: Refusal) -> StoreFault
 }
 
 // Reads a block: zeros where it was never written, or was trimmed.
-fn read_block<D: Drive>(
-    tiers: &mut Tiers<D>,
-    block: u32,
-    out: &mut [u8],
-) -> Result<(), StoreFault>
+fn read_block<D: Drive>(tiers: &mut Tiers<D>, block: u32, out: &mut [u8]) -> Result<(), StoreFault>
     requires block { block < tiers.old.world.array.parts.groups.blocks }
     requires size { length out.old ≡ tiers.old.world.array.parts.groups.payload }
     ensures read { OnOk result ((bytes : List ℕ) → Holds tiers.old bytes → IsBlockOf (length out.old) bytes block out.new) }

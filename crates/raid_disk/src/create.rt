@@ -15,7 +15,11 @@ pub(crate) fn drive_bytes(plan: &Plan) -> u64 {
 // Opens a file that isn't there.
 fn make_file(rt: &HostRuntime, folder: Folder<'_>, name: Name) -> Result<File, Trouble> {
     let path = folder.path(rt.alloc(), name)?;
-    match OpenOptions::new().write(true).create_new(true).open(rt, &path) {
+    match OpenOptions::new()
+        .write(true)
+        .create_new(true)
+        .open(rt, &path)
+    {
         Ok(file) => Ok(file),
         Err(error) if error.kind() == io::ErrorKind::AlreadyExists => Err(Trouble::Exists(name)),
         Err(error) => Err(unwritten(error, name)),

@@ -142,7 +142,12 @@ fn backing_of(
 }
 
 // The drive over a backing. One without a file is lost.
-fn drive_of(alloc: Global, plan: &Plan, drive: u8, backing: DriveFile) -> Result<DiskDrive, Trouble> {
+fn drive_of(
+    alloc: Global,
+    plan: &Plan,
+    drive: u8,
+    backing: DriveFile,
+) -> Result<DiskDrive, Trouble> {
     let is_here = matches!(backing, DriveFile::Here { .. });
     let mut opened = match FileDrive::open(alloc, &plan.shape, backing) {
         Ok(opened) => opened,
@@ -218,11 +223,7 @@ fn mark_missing(file: &File, table: &Table, world: &World<DiskDrive>) -> Result<
 }
 
 /// Opens a disk.
-pub(crate) fn open_disk(
-    rt: &HostRuntime,
-    folder: Folder<'_>,
-    usage: Use,
-) -> Result<Disk, Trouble> {
+pub(crate) fn open_disk(rt: &HostRuntime, folder: Folder<'_>, usage: Use) -> Result<Disk, Trouble> {
     let alloc = rt.alloc();
     let mut file = open_table(rt, folder, usage)?;
     let table = read_table(rt, &mut file)?;

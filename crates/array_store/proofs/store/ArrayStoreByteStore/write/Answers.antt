@@ -1,5 +1,5 @@
-use Rattle.std.proofs.Common.{inr, rules, ◌≡◌, ◌+◌, ◌-◌, ◌*◌, ◌<◌, ◌≤◌, ℕ, List, length, take, drop, slice_index, true, refl, subst, sym, ap, ◌∙◌, arith}
-use Rattle.std.proofs.lemmas.List.{places, length-take-le, get_or-take, take_all, length-drop, get_or-drop}
+use Rattle.std.proofs.Common.{inr, rules, ◌≡◌, ◌+◌, ◌-◌, ◌*◌, ◌<◌, ◌≤◌, length, take, drop, true, refl, subst, sym, ap, ◌∙◌, arith}
+use Rattle.std.proofs.lemmas.List.{places, length-take-le, get_or-take, take_all, length-drop}
 use Rattle.std.proofs.lemmas.Result.{err_from_is_err_and}
 use Rattle.byte_store.specs.Flat.{written_over}
 use Rattle.array_store.specs.Blocks.{Holds}
@@ -17,7 +17,7 @@ loop-done-preserved g c =
     let count = c.piece_at-piece.ensures.count.1 in
     let within = c.requires.within in
     let at : c.piece_at-piece.result.block * length c.deref_mut.result.now + c.piece_at-piece.result.from ≡ c.args.offset + c.loop-done.done =
-        ap (λ n. c.piece_at-piece.result.block * n + c.piece_at-piece.result.from) size ∙ place in
+    ap (λ n. c.piece_at-piece.result.block * n + c.piece_at-piece.result.from) size ∙ place in
     let some = c.loop-done.invariant.some in
     let more : c.loop-done.done + c.piece_at-piece.result.count ≤ length c.args.bytes.now = omega arith in
     let room = c.in_ok-write_piece.ensures.room in
@@ -33,7 +33,7 @@ loop-done-preserved g c =
           let fits : c.args.offset + length (take (c.loop-done.done + c.piece_at-piece.result.count) c.args.bytes.now) ≤ length bytes = omega (arith, len_all, more, within, is) in
           write_more _ _ _ _ _ _ _ bytes c.args.offset (take c.loop-done.done c.args.bytes.now) (take (c.loop-done.done + c.piece_at-piece.result.count) c.args.bytes.now) c.in_ok-write_piece.ensures.put refl (c.loop-done.invariant.wrote bytes holds is) start fits
           (let part : length (take (c.loop-done.done + c.piece_at-piece.result.count - c.loop-done.done) (drop c.loop-done.done c.args.bytes.now)) ≡ c.piece_at-piece.result.count =
-              length-take-le _ _ (let rest = length-drop c.loop-done.done c.args.bytes.now in omega arith) ∙ omega arith in omega (arith, part, len_first, len_all))
+          length-take-le _ _ (let rest = length-drop c.loop-done.done c.args.bytes.now in omega arith) ∙ omega arith in omega (arith, part, len_first, len_all))
           (λ j below. let low : j < c.loop-done.done = omega (arith, len_first, below) in search (rules, places)) (λ j below. search (rules, places));
     }
 

@@ -1,5 +1,5 @@
-use Rattle.std.proofs.Common.{inr, rules, ◌≡◌, ◌+◌, ◌-◌, ◌*◌, ◌<◌, ◌≤◌, ℕ, List, length, replicate, slice_index, true, refl, subst, sym, ap, ◌∙◌, arith}
-use Rattle.std.proofs.lemmas.List.{places, length-replicate, get_or-replicate}
+use Rattle.std.proofs.Common.{inr, rules, ◌≡◌, ◌+◌, ◌*◌, ◌≤◌, ℕ, length, replicate, true, refl, subst, sym, ap, ◌∙◌, arith}
+use Rattle.std.proofs.lemmas.List.{places, length-replicate}
 use Rattle.std.proofs.lemmas.Result.{err_from_is_err_and}
 use Rattle.byte_store.specs.Flat.{written_over}
 use Rattle.array_store.specs.Blocks.{Holds}
@@ -17,7 +17,7 @@ loop-done-preserved g c =
     let count = c.piece_at-piece.ensures.count.1 in
     let within = c.requires.within in
     let at : c.piece_at-piece.result.block * length c.deref_mut.result.now + c.piece_at-piece.result.from ≡ c.args.offset + c.loop-done.done =
-        ap (λ n. c.piece_at-piece.result.block * n + c.piece_at-piece.result.from) size ∙ place in
+    ap (λ n. c.piece_at-piece.result.block * n + c.piece_at-piece.result.from) size ∙ place in
     let some = c.loop-done.invariant.some in
     let more : c.loop-done.done + c.piece_at-piece.result.count ≤ c.args.length = omega arith in
     let room = c.in_ok-zero_piece.ensures.room in
@@ -33,7 +33,7 @@ loop-done-preserved g c =
           let fits : c.args.offset + length (replicate {A = ℕ} (c.loop-done.done + c.piece_at-piece.result.count) 0) ≤ length bytes = omega (arith, len_all, more, within, is) in
           write_more _ _ _ _ _ _ _ bytes c.args.offset (replicate {A = ℕ} c.loop-done.done 0) (replicate {A = ℕ} (c.loop-done.done + c.piece_at-piece.result.count) 0) c.in_ok-zero_piece.ensures.put (sym (length-replicate c.piece_at-piece.result.count _)) (c.loop-done.invariant.wrote bytes holds is) start fits
           (let part : length (replicate {A = ℕ} c.piece_at-piece.result.count 0) ≡ c.piece_at-piece.result.count = length-replicate c.piece_at-piece.result.count _ in
-              omega (arith, part, len_first, len_all))
+          omega (arith, part, len_first, len_all))
           (λ j below. search (rules, places)) (λ j below. search (rules, places));
     }
 
