@@ -64,6 +64,5 @@ pub trait ByteStore {
     fn rest(&mut self, _alloc: Global)
         ensures kept { (F : Flat) → represents self.old F → represents self.new F }
         ensures sizes { sizes self.new ≡ sizes self.old }
-    {
-    }
+    {}
 }
