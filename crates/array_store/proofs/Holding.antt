@@ -1,5 +1,5 @@
 -- What a call of the array makes of the disk's bytes.
-use Rattle.std.proofs.Common.{rules, ◌≡◌, ◌≢◌, ℕ, List, replicate, length, Option, Some, None, Result, Ok, Err, refl, sym, ap, ◌∙◌, subst, arith}
+use Rattle.std.proofs.Common.{rules, ◌≡◌, ◌≢◌, ℕ, List, [], replicate, length, Option, Some, None, Result, Ok, Err, refl, sym, ap, ◌∙◌, subst, arith}
 use Rattle.flat_machine.specs.declared.refusal.Refusal.{Refusal}
 use Rattle.flat_machine.specs.Flat.{Flat, Content, bytes_of, last_write}
 use Rattle.flat_machine.specs.Steps as step
@@ -13,8 +13,10 @@ use Rattle.background.specs.declared.outcome.Outcome.{Outcome}
 use Rattle.background.specs.declared.outcome.Outcome.TheVariants as outcome
 use Rattle.array_store.specs.Blocks.{bytes_in, block_bytes, Shows, Holds, IsBlockOf, IsPut}
 use Rattle.array_store.proofs.Reading.{found_bytes, nothing_bytes, read_keeps}
-use Rattle.array_store.proofs.Showing.{adds_shows, keeps_shows, block_read}
+use Rattle.array_store.proofs.Showing.{adds_shows, keeps_shows, block_read, fresh_shows}
+use Rattle.std.specs.Prelude.{OnOk, OnErr}
 use Rattle.flat_machine.specs.Cases.{Leaves}
+use Rattle.flat_machine.specs.Shortened.{IsShortened}
 use Rattle.array_store.proofs.Writing.{Keeps, Adds, Wrote, keeps_left, always_wrote, always_stops_keep}
 
 -- the state's payloads are as long as the array's
@@ -111,3 +113,26 @@ synced_holds t u does bytes holds =
       stands = done.2;
       shows = keeps_shows T.flat done.0 bytes (keeps_left T.flat done.0 done.1) holds.shows;
     }
+
+-- a log that is shortened leaves the bytes
+pub shortened_holds : {E : Type 0} (t u : TiersView) (r : Result (Unit {0}) E)
+    → OnOk r ((T : Tiered) → StandsFor t T → (G : Flat) × IsShortened T.flat G × StandsFor u (record T { flat = G })) → OnErr r (u ≡ t)
+    → (bytes : List ℕ) → Holds t bytes → Holds u bytes
+shortened_holds t u (Ok x) does stays bytes holds =
+    let T = holds.state in
+    let done = does T holds.stands in
+    let keeps : Keeps T.flat done.0 = record { groups = ap (λ (z : Flat). z.groups) done.1.is; writes = ap (λ (z : Flat). z.writes) done.1.is } in
+    record {
+      state = record T { flat = done.0 };
+      stands = done.2;
+      shows = keeps_shows T.flat done.0 bytes keeps holds.shows;
+    }
+shortened_holds t u (Err e) does stays bytes holds = subst (λ v. Holds v bytes) (sym stays) holds
+
+-- an array to which nothing was written holds zeros
+pub fresh_holds : (t : TiersView) (T : Tiered) (size : ℕ) → StandsFor t T → T.flat.writes ≡ [] → Holds t (replicate size 0)
+fresh_holds t T size stands none = record {
+  state = T;
+  stands = stands;
+  shows = subst (λ ws. Shows T.flat.groups.payload ws (replicate size 0)) (sym none) (fresh_shows T.flat.groups.payload size);
+}

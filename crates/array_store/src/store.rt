@@ -1,5 +1,6 @@
 // The bytes of a disk.
-ghost use Rattle.std.specs.Prelude.{◌≡◌, ◌+◌, ◌*◌, ◌<◌, ◌≤◌, length, false, IfOk};
+ghost use Rattle.std.specs.Prelude.{◌≡◌, ◌+◌, ◌*◌, ◌<◌, ◌≤◌, ℕ, List, length, false, IfOk};
+ghost use Rattle.slot_tables.specs.Views.{SameSizes};
 ghost use Rattle.byte_store.specs.Flat.{Flat, Sizes, written_over};
 ghost use Rattle.byte_store.specs.Changes.{IsChanged, IsFlushed};
 ghost use Rattle.array_store.specs.Blocks.{Holds};
@@ -82,9 +83,10 @@ impl<D: Drive> ByteStore for ArrayStore<D> {
     }
 
     fn write(&mut self, alloc: Global, offset: u64, bytes: &[u8]) -> Result<(), StoreFault> {
+        self.unsynced = true;
+        shorten_long(alloc, &mut self.tiers);
         let shape = self.tiers.world().array().shape();
         let size = shape.payload as usize;
-        self.unsynced = true;
         let mut done = 0usize;
         while done < bytes.len() {
             let piece = piece_at(size, shape.blocks, offset + done as u64, bytes.len() - done);
@@ -97,10 +99,11 @@ impl<D: Drive> ByteStore for ArrayStore<D> {
     }
 
     fn zero(&mut self, alloc: Global, offset: u64, length: u32) -> Result<(), StoreFault> {
+        self.unsynced = true;
+        shorten_long(alloc, &mut self.tiers);
         let shape = self.tiers.world().array().shape();
         let size = shape.payload as usize;
         let length = length as usize;
-        self.unsynced = true;
         let mut done = 0usize;
         while done < length {
             let piece = piece_at(size, shape.blocks, offset + done as u64, length - done);
@@ -119,6 +122,20 @@ impl<D: Drive> ByteStore for ArrayStore<D> {
         }
         self.unsynced = false;
         Ok(())
+    }
+}
+
+/// Records of the log from which on it is shortened: it then takes 12 MiB.
+const LONG_LOG: usize = 1 << 20;
+
+// Shortens a long log to the newest record of each block.
+fn shorten_long<D: Drive>(alloc: Global, tiers: &mut Tiers<D>)
+    ensures kept { (bytes : List ℕ) → Holds tiers.old bytes → Holds tiers.new bytes }
+    ensures room { SameSizes tiers.old.world.array tiers.new.world.array }
+{
+    if tiers.world().array().record_count() >= LONG_LOG {
+        // If out of memory, the log stays as it is, and a later call tries again.
+        let _ = tiers.shorten_log(alloc);
     }
 }
 

@@ -1,6 +1,6 @@
 // The sizes of a disk's array.
 ghost use Rattle.std.specs.Prelude.{◌≡◌, ◌+◌, ◌*◌, ◌<◌, ◌≤◌, IsOk, IfOk, IfErr};
-ghost use Rattle.disk_shape.specs.Plans.{AreDiskSizes, IsFaultOf, IsPlanOf, largest_size, member_count, slots_of};
+ghost use Rattle.disk_shape.specs.Plans.{AreDiskSizes, AreWhole, IsFaultOf, IsPlanOf, largest_size, member_count, slots_of};
 
 use crate::ShapeFault;
 use crate::search::{
@@ -23,6 +23,7 @@ pub struct Plan {
     pub mirrored: u16,
     /// Extents of each drive, segments of each extent, bytes of a block, and blocks.
     pub shape: Shape,
+    pub ghost whole: { AreWhole drives members groups mirrored shape.extents },
 }
 
 // The most blocks of a disk of so many drives: one slot stays free.

@@ -46,7 +46,7 @@ returns-in_err-write_piece-clause-change g c = λ F is.
     let fits : c.args.offset + length c.args.bytes.now ≤ length F.bytes = let long = is.long in omega (arith, within, long, len_all) in
     let less : length (take c.loop-done.done c.args.bytes.now) ≤ length c.args.bytes.now = omega (arith, len_first, len_all, some) in
     let fits_first : c.args.offset + length (take c.loop-done.done c.args.bytes.now) ≤ length F.bytes = omega (arith, less, fits) in
-    let holds = c.in_err-write_piece.ensures.kept (written_over F.bytes c.args.offset (take c.loop-done.done c.args.bytes.now)) (c.loop-done.invariant.wrote F.bytes is.holds is.long) in
+    let holds = c.in_err-write_piece.ensures.kept (written_over F.bytes c.args.offset (take c.loop-done.done c.args.bytes.now)) (c.loop-done.invariant.wrote F.bytes (c.shorten_long.ensures.kept F.bytes is.holds) is.long) in
     let long = over_long F.bytes c.args.offset (take c.loop-done.done c.args.bytes.now) fits_first in
     let p = err_from_is_err_and c.from_residual.result c.from_residual.ensures.1 in
     rw p.1 (
@@ -67,7 +67,7 @@ returns-clause-change g c = λ F is.
     let done : c.loop-done.done ≡ length c.args.bytes.now = omega arith in
     let len_all : length c.args.bytes.now ≡ length c.args.bytes.now = refl in
     let fits : c.args.offset + length c.args.bytes.now ≤ length F.bytes = let long = is.long in omega (arith, within, long, len_all) in
-    let wrote = c.loop-done.invariant.wrote F.bytes is.holds is.long in
+    let wrote = c.loop-done.invariant.wrote F.bytes (c.shorten_long.ensures.kept F.bytes is.holds) is.long in
     let all : (take c.loop-done.done c.args.bytes.now) ≡ c.args.bytes.now = take_all c.loop-done.done c.args.bytes.now (omega arith) in (
       record { bytes = written_over F.bytes c.args.offset c.args.bytes.now; unsynced = true },
       record {

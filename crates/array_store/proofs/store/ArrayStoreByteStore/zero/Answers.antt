@@ -46,7 +46,7 @@ returns-in_err-zero_piece-clause-change g c = λ F is.
     let fits : c.args.offset + length (replicate {A = ℕ} c.args.length 0) ≤ length F.bytes = let long = is.long in omega (arith, within, long, len_all) in
     let less : length (replicate {A = ℕ} c.loop-done.done 0) ≤ length (replicate {A = ℕ} c.args.length 0) = omega (arith, len_first, len_all, some) in
     let fits_first : c.args.offset + length (replicate {A = ℕ} c.loop-done.done 0) ≤ length F.bytes = omega (arith, less, fits) in
-    let holds = c.in_err-zero_piece.ensures.kept (written_over F.bytes c.args.offset (replicate {A = ℕ} c.loop-done.done 0)) (c.loop-done.invariant.wrote F.bytes is.holds is.long) in
+    let holds = c.in_err-zero_piece.ensures.kept (written_over F.bytes c.args.offset (replicate {A = ℕ} c.loop-done.done 0)) (c.loop-done.invariant.wrote F.bytes (c.shorten_long.ensures.kept F.bytes is.holds) is.long) in
     let long = over_long F.bytes c.args.offset (replicate {A = ℕ} c.loop-done.done 0) fits_first in
     let p = err_from_is_err_and c.from_residual.result c.from_residual.ensures.1 in
     rw p.1 (
@@ -67,7 +67,7 @@ returns-clause-change g c = λ F is.
     let done : c.loop-done.done ≡ c.args.length = omega arith in
     let len_all : length (replicate {A = ℕ} c.args.length 0) ≡ c.args.length = length-replicate c.args.length _ in
     let fits : c.args.offset + length (replicate {A = ℕ} c.args.length 0) ≤ length F.bytes = let long = is.long in omega (arith, within, long, len_all) in
-    let wrote = c.loop-done.invariant.wrote F.bytes is.holds is.long in
+    let wrote = c.loop-done.invariant.wrote F.bytes (c.shorten_long.ensures.kept F.bytes is.holds) is.long in
     let all : (replicate {A = ℕ} c.loop-done.done 0) ≡ (replicate {A = ℕ} c.args.length 0) = ap (λ n. replicate {A = ℕ} n 0) done in (
       record { bytes = written_over F.bytes c.args.offset (replicate {A = ℕ} c.args.length 0); unsynced = true },
       record {
