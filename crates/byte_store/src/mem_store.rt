@@ -19,7 +19,9 @@ impl MemStore {
     /// A store of `size` zeros that prefers requests of `block` bytes, 8 to 65,536; refused if out of memory.
     pub fn new(alloc: Global, size: usize, block: u32) -> Result<MemStore, AllocError>
         requires block { (8 ≤ block) × (block ≤ 65536) }
-        ensures { IfOk result (λ store. (store.bytes.items ≡ replicate size 0) × (store.unsynced ≡ false)) }
+        ensures flat { IfOk result (λ store.
+            ⟦<MemStore as ByteStore>⟧.represents store (record { bytes = replicate size 0; unsynced = false })) }
+        ensures sizes { IfOk result (λ store. ⟦<MemStore as ByteStore>⟧.sizes store ≡ record { bytes = size; block = block }) }
     {
         Ok(MemStore {
             bytes: vec![in alloc; 0u8; size]?,
@@ -31,6 +33,8 @@ impl MemStore {
 
 impl ByteStore for MemStore {
     ghost represents = { λ m F. (F.bytes ≡ m.bytes.items) × (F.unsynced ≡ m.unsynced) };
+
+    ghost may_refuse = { λ _. ⊥ };
 
     ghost sizes = { λ m. record { bytes = length m.bytes.items; block = m.block } };
 

@@ -1,7 +1,8 @@
 // What a store of bytes promises.
-ghost use Rattle.std.specs.Prelude.{◌≡◌, ℕ, ◌+◌, ◌≤◌, List, length, replicate, slice_range, OnOk};
+ghost use Rattle.std.specs.Prelude.{◌≡◌, ℕ, ◌+◌, ◌≤◌, List, length, replicate, slice_range, OnOk, IfErr, ⊤};
 ghost use Rattle.byte_store.specs.Flat.{Flat, Sizes};
 ghost use Rattle.byte_store.specs.Changes.{IsChanged, IsFlushed};
+ghost use Rattle.byte_store.specs.declared.fault.StoreFault.{StoreFault};
 
 use crate::StoreFault;
 use std::alloc::Global;
@@ -13,6 +14,9 @@ pub trait ByteStore {
 
     /// The bytes of the store, and of the requests that it prefers.
     ghost sizes: { Self → Sizes };
+
+    /// The reasons for which a store of this type may refuse a call.
+    ghost may_refuse: { StoreFault → Type 0 } = { λ _. ⊤ };
 
     /// Bytes of the store.
     fn size(&self) -> u64
@@ -29,6 +33,7 @@ pub trait ByteStore {
         requires within { offset + length out.old ≤ (sizes self.old).bytes }
         ensures kept { (F : Flat) → represents self.old F → represents self.new F }
         ensures value { (F : Flat) → represents self.old F → OnOk result (out.new ≡ slice_range F.bytes offset (offset + length out.old)) }
+        ensures cause { IfErr result may_refuse }
         ensures sizes { sizes self.new ≡ sizes self.old };
 
     /// Writes bytes from an offset on. A refused write may have stopped in its middle.
@@ -36,6 +41,7 @@ pub trait ByteStore {
         requires within { offset + length bytes.now ≤ (sizes self.old).bytes }
         ensures change { (F : Flat) → represents self.old F →
             (G : Flat) × represents self.new G × IsChanged result F offset bytes.now G }
+        ensures cause { IfErr result may_refuse }
         ensures sizes { sizes self.new ≡ sizes self.old };
 
     /// Makes the bytes from an offset on zero. A refusal may have come in its middle.
@@ -43,11 +49,13 @@ pub trait ByteStore {
         requires within { offset + length ≤ (sizes self.old).bytes }
         ensures change { (F : Flat) → represents self.old F →
             (G : Flat) × represents self.new G × IsChanged result F offset (replicate length 0) G }
+        ensures cause { IfErr result may_refuse }
         ensures sizes { sizes self.new ≡ sizes self.old };
 
     /// Makes all bytes durable.
     fn flush(&mut self) -> Result<(), StoreFault>
         ensures change { (F : Flat) → represents self.old F →
             (G : Flat) × represents self.new G × IsFlushed result F G }
+        ensures cause { IfErr result may_refuse }
         ensures sizes { sizes self.new ≡ sizes self.old };
 }

@@ -1,12 +1,11 @@
 -- Bytes that are read and written in pieces.
-use Rattle.std.proofs.Common.{◌≡◌, ℕ, ◌+◌, ◌-◌, ◌<◌, ◌≤◌, List, [], ◌++◌, length, take, drop, Bool, false, ◌==◌, Option, Some, None, rules, refl, sym, ap, subst, ◌∙◌, arith, append_assoc, take-append-drop, length-append, length-drop, length-take}
+use Rattle.std.proofs.Common.{◌≡◌, ℕ, ◌+◌, ◌-◌, ◌<◌, ◌≤◌, List, ◌++◌, length, take, drop, Bool, false, ◌==◌, Option, Some, None, rules, sym, ap, subst, ◌∙◌, arith, append_assoc, take-append-drop, length-append, length-drop}
 use Rattle.std.specs.Io.KnownBytes.{Appends, Consumes, Keeps}
-use Rattle.std.proofs.KnownBytes.{Appends-trans, Consumes-kept, Consumes-nil, Consumes-trans}
+use Rattle.std.proofs.KnownBytes.{Appends-trans, Consumes-trans}
 use Rattle.std.proofs.lemmas.List.{take_all, take_at, take-append-le, length-take-le, places}
 use borrow.Rule.Slice.PartMut.{put_mid, post_of}
 use Rattle.nbd_serve.specs.Streams.{IsPartWritten, IsShort, Skips}
-use Rattle.nbd_serve.specs.declared.calls.Short.{Short}
-use Rattle.nbd_serve.specs.declared.calls.Short.TheVariants as short
+use Rattle.nbd_serve.specs.declared.end.End.{End}
 
 -- what was written is a prefix of the bytes
 pub record IsWritten (held now : Option (List ℕ)) (bytes rest : List ℕ) : Type 0 where
@@ -30,7 +29,7 @@ from_place rest n = take_all _ _ (omega (arith, length-drop n rest))
 -- a failed write took nothing
 pub wrote_none : (held mid now : Option (List ℕ)) (bytes rest : List ℕ) → IsWritten held mid bytes rest → Keeps mid now
     → IsWritten held now bytes rest
-wrote_none None mid now bytes rest before kept = record { done = before.done; wrote = tt; bytes_are = before.bytes_are; }
+wrote_none None mid now bytes rest before kept = record { done = before.done; wrote = tt; bytes_are = before.bytes_are }
 wrote_none (Some xs) None now bytes rest before kept = absurd before.wrote
 wrote_none (Some xs) (Some ys) None bytes rest before kept = absurd kept
 wrote_none (Some xs) (Some ys) (Some zs) bytes rest before kept = record {
@@ -52,11 +51,7 @@ part_written held now bytes rest written some = record {
 
 -- what isn't found empty has bytes
 pub not_empty : (n : ℕ) (empty : Bool) → empty ≡ (n == 0) → empty ≡ false → 0 < n
-not_empty n empty told is = grind arith
-
--- no byte was read yet
-pub skipped_none : (before : Option (List ℕ)) → Skips before before 0
-skipped_none before = record { bytes = []; read = Consumes-nil before; size = refl; }
+not_empty n empty written is = grind arith
 
 -- more bytes were read
 pub skipped_more : (before mid after : Option (List ℕ)) (n m : ℕ) (bytes : List ℕ) → Skips before mid n → Consumes mid after bytes
@@ -68,23 +63,13 @@ skipped_more before mid after n m bytes first second size = record {
 }
 
 -- bytes were read, and then fewer than were wanted
-pub short_after : (reason : Short) (before mid after : Option (List ℕ)) (bytes : List ℕ) (m wanted : ℕ) → Consumes before mid bytes
-    → IsShort reason mid after m → length bytes + m ≤ wanted → IsShort reason before after wanted
-short_after reason before mid after bytes m wanted first short fits = record {
+pub short_after : (last : End) (before mid after : Option (List ℕ)) (bytes : List ℕ) (m wanted : ℕ) → Consumes before mid bytes
+    → IsShort last mid after m → length bytes + m ≤ wanted → IsShort last before after wanted
+short_after last before mid after bytes m wanted first short fits = record {
   part = bytes ++ short.part;
   read = Consumes-trans before mid after bytes short.part first short.read;
   few = let few : length short.part < m = short.few in omega (arith, length-append bytes short.part);
   ended = short.ended;
-}
-
--- a failed read took nothing
-pub short_failed : (before mid after : Option (List ℕ)) (bytes : List ℕ) (wanted : ℕ) → Consumes before mid bytes → Keeps mid after
-    → length bytes < wanted → IsShort short.Failed before after wanted
-short_failed before mid after bytes wanted first kept few = record {
-  part = bytes;
-  read = Consumes-kept before mid after bytes first kept;
-  few = few;
-  ended = tt;
 }
 
 -- the front of a list that begins with n elements
@@ -96,7 +81,7 @@ take_past n k front rest size room =
     length-append front (take k rest) ∙ ap (λ m. m + length (take k rest)) size ∙ ap (λ m. n + m) (length-take-le k rest room) in
     ap (take (n + k)) split ∙ take_at (front ++ take k rest) (drop k rest) (n + k) long
 
--- a read put bytes behind those that were read before
+-- a read put bytes after those that were read earlier
 pub filled_more : (before mid after : Option (List ℕ)) (buffer part : List ℕ) (done count : ℕ) → done ≤ length buffer
     → length part ≡ length buffer - done → count ≤ length part → Consumes before mid (take done buffer)
     → Consumes mid after (take count part)

@@ -1,8 +1,9 @@
 -- What a request makes of a flat store, and the reply to it.
-use Rattle.std.specs.Prelude.{◌≡◌, ℕ, ◌+◌, ◌⊎◌, List, [], ◌++◌, length, replicate, slice_range, Bool, true, false, not, if◌then◌else◌, IsTrue, IsOk, MatchOption, Option, Some, None, Result, Ok, Err}
+use Rattle.std.specs.Prelude.{◌≡◌, ℕ, ◌+◌, ◌⊎◌, List, [], ◌++◌, replicate, slice_range, Bool, not, IsTrue, IfErr, MatchOption, Some, Result, Ok, Err}
 use Rattle.byte_store.specs.Flat.{Flat, written_over}
 use Rattle.byte_store.specs.Changes.{IsFlushed, IsTorn, IsWritten}
 use Rattle.byte_store.specs.declared.fault.StoreFault.{StoreFault}
+use Rattle.byte_store.specs.declared.fault.StoreFault.TheVariants as fault
 use Rattle.nbd_wire.specs.declared.reply.Errno.{Errno}
 use Rattle.nbd_wire.specs.declared.request.Command.{Command}
 use Rattle.nbd_wire.specs.declared.request.Command.TheVariants as command
@@ -37,9 +38,16 @@ Does command.Cache outcome F r carried read G = (read ≡ []) × (outcome ≡ Ok
 Does command.Disconnect outcome F r carried read G = ⊥
 Does command.Other outcome F r carried read G = ⊥
 
+-- a refusal has a cause: the store may refuse so. A read or a write is also refused if there is no memory for its bytes
+abbrev pub Causes : (StoreFault → Type 0) → Command → Result (Unit {0}) StoreFault → Type 0
+Causes may command.Read outcome = IfErr outcome (λ reason. may reason ⊎ (reason ≡ fault.Memory))
+Causes may command.Write outcome = IfErr outcome (λ reason. may reason ⊎ (reason ≡ fault.Memory))
+Causes may _ outcome = IfErr outcome may
+
 -- the store was asked: the reply has the request's cookie, the error of the outcome, and the bytes that were read
-pub record IsCarriedOut (F : Flat) (r : Request) (carried reply : List ℕ) (G : Flat) : Type 0 where
+pub record IsCarriedOut (may : StoreFault → Type 0) (F : Flat) (r : Request) (carried reply : List ℕ) (G : Flat) : Type 0 where
   pub outcome : Result (Unit {0}) StoreFault
+  pub cause : Causes may r.command outcome
   pub read : List ℕ
   pub does : Does r.command outcome F r carried read G
   pub reply_is : reply ≡ reply_bytes (error_of outcome) r.cookie ++ read
@@ -50,5 +58,5 @@ pub record IsRefused (F : Flat) (r : Request) (error : Errno) (reply : List ℕ)
   pub same : G ≡ F
 
 -- a store of `size` bytes in state F answers a request, and is then in state G
-abbrev pub Answers : ℕ → Flat → Request → List ℕ → List ℕ → Flat → Type 0
-Answers size F r carried reply G = MatchOption (refusal_of size r) (IsCarriedOut F r carried reply G) (λ error. IsRefused F r error reply G)
+abbrev pub Answers : (StoreFault → Type 0) → ℕ → Flat → Request → List ℕ → List ℕ → Flat → Type 0
+Answers may size F r carried reply G = MatchOption (refusal_of size r) (IsCarriedOut may F r carried reply G) (λ error. IsRefused F r error reply G)

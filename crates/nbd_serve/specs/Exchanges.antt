@@ -1,8 +1,7 @@
 -- Runs of requests and their replies.
 use Rattle.std.specs.Prelude.{◌≡◌, ◌≢◌, ℕ, List, [], ◌∷◌, ◌++◌, length}
-use Rattle.std.specs.List.{flat_map}
+use Rattle.byte_store.specs.declared.fault.StoreFault.{StoreFault}
 use Rattle.byte_store.specs.Flat.{Flat}
-use Rattle.nbd_wire.specs.declared.request.Command.{Command}
 use Rattle.nbd_wire.specs.declared.request.Command.TheVariants as command
 use Rattle.nbd_wire.specs.declared.request.Request.{Request}
 use Rattle.nbd_wire.specs.Requests.{SpellsRequest, carried_len}
@@ -16,21 +15,21 @@ pub record Exchange : Type 0 where
   pub reply : List ℕ
 
 -- a whole request, and the answer to it in state F, which leaves G
-pub record IsExchange (size : ℕ) (F : Flat) (x : Exchange) (G : Flat) : Type 0 where
+pub record IsExchange (may : StoreFault → Type 0) (size : ℕ) (F : Flat) (x : Exchange) (G : Flat) : Type 0 where
   pub whole : length x.head ≡ 28
   pub spells : SpellsRequest x.head x.request
   pub stays : x.request.command ≢ command.Disconnect
   pub carries : length x.carried ≡ carried_len x.request
-  pub answers : Answers size F x.request x.carried x.reply G
+  pub answers : Answers may size F x.request x.carried x.reply G
 
 -- exchanges, each from the state that the one before it left
-abbrev pub Runs : ℕ → Flat → List Exchange → Flat → Type 0
-Runs size F [] H = H ≡ F
-Runs size F (x ∷ xs) H = (G : Flat) × IsExchange size F x G × Runs size G xs H
+abbrev pub Runs : (StoreFault → Type 0) → ℕ → Flat → List Exchange → Flat → Type 0
+Runs may size F [] H = H ≡ F
+Runs may size F (x ∷ xs) H = (G : Flat) × IsExchange may size F x G × Runs may size G xs H
 
 -- the bytes of the requests, and those of the replies
 abbrev pub asked_by : Exchange → List ℕ
 asked_by x = x.head ++ x.carried
 
-abbrev pub told_by : Exchange → List ℕ
-told_by x = x.reply
+abbrev pub replied_by : Exchange → List ℕ
+replied_by x = x.reply

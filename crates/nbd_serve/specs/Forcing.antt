@@ -1,5 +1,5 @@
 -- A flush that is made only if FUA was set.
-use Rattle.std.specs.Prelude.{◌≡◌, Bool, true, false, if◌then◌else◌, IsTrue, Result, Ok, Err}
+use Rattle.std.specs.Prelude.{◌≡◌, Bool, false, if◌then◌else◌, IsTrue, Result, Ok, Err}
 use Rattle.byte_store.specs.Flat.{Flat}
 use Rattle.byte_store.specs.declared.fault.StoreFault.{StoreFault}
 

@@ -7,11 +7,11 @@ use Rattle.nbd_wire.specs.declared.client.OptionHead.{OptionHead}
 use Rattle.nbd_wire.specs.declared.options.Export.{Export}
 use Rattle.nbd_wire.specs.Options.{SpellsOption, greeting, no_zeroes_in, option_magic}
 use Rattle.nbd_serve.specs.Streams.{IsPartWritten, IsShort, LeavesNone}
+use Rattle.nbd_serve.specs.Halts.{end_of}
+use Rattle.nbd_serve.specs.declared.halt.Halt.{Halt}
 use Rattle.nbd_serve.specs.Options.{next_to, reply_to}
 use Rattle.nbd_serve.specs.declared.options.Next.{Next}
 use Rattle.nbd_serve.specs.declared.options.Next.TheVariants as next
-use Rattle.nbd_serve.specs.declared.calls.Short.{Short}
-use Rattle.nbd_serve.specs.declared.calls.Short.TheVariants as short
 use Rattle.nbd_serve.specs.declared.end.End.{End}
 use Rattle.nbd_serve.specs.declared.end.End.TheVariants as end
 
@@ -33,8 +33,8 @@ pub record IsUnknown (before after held now : Option (List ℕ)) : Type 0 where
 
 -- what a session stops at before the first option, by how it ends
 abbrev pub StopsOpening : End → Option (List ℕ) → Option (List ℕ) → Option (List ℕ) → Option (List ℕ) → Type 0
-StopsOpening end.Cut before after held now = IsShort short.Ended before after 4 × Appends held now greeting
-StopsOpening end.ReadFault before after held now = IsShort short.Failed before after 4 × Appends held now greeting
+StopsOpening end.Cut before after held now = IsShort end.Cut before after 4 × Appends held now greeting
+StopsOpening end.ReadFault before after held now = IsShort end.ReadFault before after 4 × Appends held now greeting
 StopsOpening end.Garbage before after held now = IsUnknown before after held now
 StopsOpening end.WriteFault before after held now = (after ≡ before) × IsPartWritten held now greeting
 StopsOpening end.Memory before after held now = (after ≡ before) × (now ≡ held)
@@ -107,16 +107,16 @@ pub record IsOptionAndPart (part : List ℕ) : Type 0 where
   pub part_is : part ≡ head ++ carried
 
 -- less than a whole option was read
-pub record IsOptionCutOff (reason : Short) (before after : Option (List ℕ)) : Type 0 where
+pub record IsOptionCutOff (last : End) (before after : Option (List ℕ)) : Type 0 where
   pub part : List ℕ
   pub read : Consumes before after part
   pub few : (length part < 16) ⊎ IsOptionAndPart part
-  pub ended : LeavesNone reason after
+  pub ended : LeavesNone last after
 
 -- what a session stops at while it reads or answers an option, by how it ends
 abbrev pub BreaksAtOption : End → Export → Bool → Option (List ℕ) → Option (List ℕ) → Option (List ℕ) → Option (List ℕ) → Type 0
-BreaksAtOption end.Cut e z before after held now = IsOptionCutOff short.Ended before after × (now ≡ held)
-BreaksAtOption end.ReadFault e z before after held now = IsOptionCutOff short.Failed before after × (now ≡ held)
+BreaksAtOption end.Cut e z before after held now = IsOptionCutOff end.Cut before after × (now ≡ held)
+BreaksAtOption end.ReadFault e z before after held now = IsOptionCutOff end.ReadFault before after × (now ≡ held)
 BreaksAtOption end.Garbage e z before after held now =
     (IsNoOption before after × (now ≡ held)) ⊎ IsTurned e z next.HangUp before after held now
 BreaksAtOption end.WriteFault e z before after held now = IsTurnedInPart e z before after held now
@@ -126,10 +126,10 @@ BreaksAtOption end.Limit e z before after held now = ⊥
 BreaksAtOption end.Disconnected e z before after held now = ⊥
 
 -- one step: an option after which another comes, one that asks for the export, or a stop
-abbrev pub OptionSteps : Option (Result (Unit {0}) End) → Export → Bool → Option (List ℕ) → Option (List ℕ) → Option (List ℕ) → Option (List ℕ) → Type 0
+abbrev pub OptionSteps : Option (Result (Unit {0}) Halt) → Export → Bool → Option (List ℕ) → Option (List ℕ) → Option (List ℕ) → Option (List ℕ) → Type 0
 OptionSteps None e z before after held now = IsTurned e z next.More before after held now
 OptionSteps (Some (Ok _)) e z before after held now = IsTurned e z next.Go before after held now
-OptionSteps (Some (Err last)) e z before after held now = BreaksAtOption last e z before after held now
+OptionSteps (Some (Err last)) e z before after held now = BreaksAtOption (end_of last) e z before after held now
 
 -- what options end with, after n of them
 abbrev pub EndsOptions : Result (Unit {0}) End → ℕ → Export → Bool → Option (List ℕ) → Option (List ℕ) → Option (List ℕ) → Option (List ℕ) → Type 0
@@ -143,17 +143,17 @@ pub record Negotiates (result : Result (Unit {0}) End) (e : Export) (no_zeroes :
   pub each : All (IsTurn e no_zeroes next.More) turns
   pub left : Option (List ℕ)
   pub read : Consumes before left (flat_map option_bytes turns)
-  pub told : Option (List ℕ)
-  pub wrote : Appends held told (flat_map reply_bytes_of turns)
-  pub ends : EndsOptions result (length turns) e no_zeroes left after told now
+  pub written : Option (List ℕ)
+  pub wrote : Appends held written (flat_map reply_bytes_of turns)
+  pub ends : EndsOptions result (length turns) e no_zeroes left after written now
 
 -- the opening, and options
 pub record IsHandshake (result : Result (Unit {0}) End) (e : Export) (before after held now : Option (List ℕ)) : Type 0 where
   pub no_zeroes : Bool
   pub left : Option (List ℕ)
-  pub told : Option (List ℕ)
-  pub opened : IsOpened no_zeroes before left held told
-  pub negotiates : Negotiates result e no_zeroes left after told now
+  pub written : Option (List ℕ)
+  pub opened : IsOpened no_zeroes before left held written
+  pub negotiates : Negotiates result e no_zeroes left after written now
 
 -- a handshake that ends with the transmission phase, or with the session
 abbrev pub Handshakes : Result (Unit {0}) End → Export → Option (List ℕ) → Option (List ℕ) → Option (List ℕ) → Option (List ℕ) → Type 0
@@ -166,7 +166,7 @@ pub record IsTurnTaken (then : Next) (e : Export) (no_zeroes : Bool) (o : Option
   pub carried : List ℕ
   pub carries : length carried ≡ o.length
   pub read : Consumes before after carried
-  pub told : new ≡ old ++ reply_to o carried e no_zeroes
+  pub written : new ≡ old ++ reply_to o carried e no_zeroes
   pub next_is : then ≡ next_to o carried
 
 -- the data of an option was read, and there was no memory for the reply
@@ -177,7 +177,7 @@ pub record IsDataTaken (o : OptionHead) (before after : Option (List ℕ)) : Typ
 
 -- what a session stops at while it reads an option's data
 abbrev pub StopsTaking : End → OptionHead → Option (List ℕ) → Option (List ℕ) → Type 0
-StopsTaking end.Cut o before after = IsShort short.Ended before after o.length
-StopsTaking end.ReadFault o before after = IsShort short.Failed before after o.length
+StopsTaking end.Cut o before after = IsShort end.Cut before after o.length
+StopsTaking end.ReadFault o before after = IsShort end.ReadFault before after o.length
 StopsTaking end.Memory o before after = IsDataTaken o before after
 StopsTaking _ o before after = ⊥

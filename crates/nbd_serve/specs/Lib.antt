@@ -1,3 +1,4 @@
+pub mod Halts
 pub mod Streams
 pub mod Refusals
 pub mod Answers

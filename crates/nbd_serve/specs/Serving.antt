@@ -3,20 +3,18 @@ use Rattle.std.specs.Prelude.{◌≡◌, ◌≢◌, ◌-◌, ◌^◌, ℕ, ◌<�
 use Rattle.std.specs.List.{flat_map}
 use Rattle.std.specs.Io.KnownBytes.{Appends, Consumes}
 use Rattle.byteorder.specs.Endian.{big_number}
+use Rattle.byte_store.specs.declared.fault.StoreFault.{StoreFault}
 use Rattle.byte_store.specs.Flat.{Flat}
-use Rattle.nbd_wire.specs.declared.request.Command.{Command}
 use Rattle.nbd_wire.specs.declared.request.Command.TheVariants as command
 use Rattle.nbd_wire.specs.declared.request.Request.{Request}
 use Rattle.nbd_wire.specs.Requests.{SpellsRequest, carried_len, request_magic}
 use Rattle.nbd_serve.specs.Streams.{IsPartWritten, LeavesNone}
-use Rattle.nbd_serve.specs.Exchanges.{Exchange, IsExchange, Runs, asked_by, told_by}
-use Rattle.nbd_serve.specs.declared.calls.Short.{Short}
-use Rattle.nbd_serve.specs.declared.calls.Short.TheVariants as short
+use Rattle.nbd_serve.specs.Exchanges.{Exchange, IsExchange, Runs, asked_by, replied_by}
 use Rattle.nbd_serve.specs.declared.end.End.{End}
 use Rattle.nbd_serve.specs.declared.end.End.TheVariants as end
 
 -- the request to disconnect was read
-pub record IsFarewell (before after : Option (List ℕ)) : Type 0 where
+pub record IsDisconnect (before after : Option (List ℕ)) : Type 0 where
   pub head : List ℕ
   pub whole : length head ≡ 28
   pub request : Request
@@ -42,16 +40,16 @@ pub record IsHeadAndPart (part : List ℕ) : Type 0 where
   pub part_is : part ≡ head ++ carried
 
 -- less than a whole request was read
-pub record IsCutOff (reason : Short) (before after : Option (List ℕ)) : Type 0 where
+pub record IsCutOff (last : End) (before after : Option (List ℕ)) : Type 0 where
   pub part : List ℕ
   pub read : Consumes before after part
   pub few : (length part < 28) ⊎ IsHeadAndPart part
-  pub ended : LeavesNone reason after
+  pub ended : LeavesNone last after
 
 -- a request was carried out, and a proper prefix of the reply was written
-pub record IsToldInPart (size : ℕ) (F : Flat) (before after held now : Option (List ℕ)) (G : Flat) : Type 0 where
+pub record IsAnsweredInPart (may : StoreFault → Type 0) (size : ℕ) (F : Flat) (before after held now : Option (List ℕ)) (G : Flat) : Type 0 where
   pub exchange : Exchange
-  pub is : IsExchange size F exchange G
+  pub is : IsExchange may size F exchange G
   pub read : Consumes before after (asked_by exchange)
   pub part : IsPartWritten held now exchange.reply
 
@@ -61,35 +59,35 @@ pub record IsSilent (F : Flat) (held now : Option (List ℕ)) (G : Flat) : Type 
   pub same : G ≡ F
 
 -- what a session stops at while it reads or answers a request, by how it ends
-abbrev pub Breaks : End → ℕ → Flat → Option (List ℕ) → Option (List ℕ) → Option (List ℕ) → Option (List ℕ) → Flat → Type 0
-Breaks end.Disconnected size F before after held now G = IsFarewell before after × IsSilent F held now G
-Breaks end.Garbage size F before after held now G = IsGarbage before after × IsSilent F held now G
-Breaks end.Cut size F before after held now G = IsCutOff short.Ended before after × IsSilent F held now G
-Breaks end.ReadFault size F before after held now G = IsCutOff short.Failed before after × IsSilent F held now G
-Breaks end.WriteFault size F before after held now G = IsToldInPart size F before after held now G
-Breaks end.Limit size F before after held now G = ⊥
-Breaks end.Aborted size F before after held now G = ⊥
-Breaks end.Memory size F before after held now G = ⊥
+abbrev pub Breaks : End → (StoreFault → Type 0) → ℕ → Flat → Option (List ℕ) → Option (List ℕ) → Option (List ℕ) → Option (List ℕ) → Flat → Type 0
+Breaks end.Disconnected may size F before after held now G = IsDisconnect before after × IsSilent F held now G
+Breaks end.Garbage may size F before after held now G = IsGarbage before after × IsSilent F held now G
+Breaks end.Cut may size F before after held now G = IsCutOff end.Cut before after × IsSilent F held now G
+Breaks end.ReadFault may size F before after held now G = IsCutOff end.ReadFault before after × IsSilent F held now G
+Breaks end.WriteFault may size F before after held now G = IsAnsweredInPart may size F before after held now G
+Breaks end.Limit may size F before after held now G = ⊥
+Breaks end.Aborted may size F before after held now G = ⊥
+Breaks end.Memory may size F before after held now G = ⊥
 
 -- after how many requests a session stops
 abbrev pub most_requests : ℕ
 most_requests = 2 ^ 64 - 1
 
 -- what a session stops at after n exchanges, by how it ends: at the limit, without memory for its buffers, or at a request
-abbrev pub Stops : End → ℕ → ℕ → Flat → Option (List ℕ) → Option (List ℕ) → Option (List ℕ) → Option (List ℕ) → Flat → Type 0
-Stops end.Limit n size F before after held now G = (n ≡ most_requests) × (after ≡ before) × IsSilent F held now G
-Stops end.Memory n size F before after held now G = (n ≡ 0) × (after ≡ before) × IsSilent F held now G
-Stops last n size F before after held now G = Breaks last size F before after held now G
+abbrev pub Stops : End → ℕ → (StoreFault → Type 0) → ℕ → Flat → Option (List ℕ) → Option (List ℕ) → Option (List ℕ) → Option (List ℕ) → Flat → Type 0
+Stops end.Limit n may size F before after held now G = (n ≡ most_requests) × (after ≡ before) × IsSilent F held now G
+Stops end.Memory n may size F before after held now G = (n ≡ 0) × (after ≡ before) × IsSilent F held now G
+Stops last n may size F before after held now G = Breaks last may size F before after held now G
 
 -- from state F on: whole exchanges, and then what the session stops at. The store represents the state at the end
-pub record Serves (represents : Flat → Type 0) (size : ℕ) (F : Flat) (last : End) (before after held now : Option (List ℕ)) : Type 0 where
+pub record Serves (represents : Flat → Type 0) (may : StoreFault → Type 0) (size : ℕ) (F : Flat) (last : End) (before after held now : Option (List ℕ)) : Type 0 where
   pub exchanges : List Exchange
   pub state : Flat
-  pub runs : Runs size F exchanges state
+  pub runs : Runs may size F exchanges state
   pub left : Option (List ℕ)
   pub read : Consumes before left (flat_map asked_by exchanges)
-  pub told : Option (List ℕ)
-  pub wrote : Appends held told (flat_map told_by exchanges)
+  pub written : Option (List ℕ)
+  pub wrote : Appends held written (flat_map replied_by exchanges)
   pub final : Flat
-  pub stands : represents final
-  pub stops : Stops last (length exchanges) size state left after told now final
+  pub represented : represents final
+  pub stops : Stops last (length exchanges) may size state left after written now final

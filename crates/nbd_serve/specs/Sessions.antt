@@ -1,5 +1,6 @@
 -- A whole session with a client: a handshake, and then requests.
-use Rattle.std.specs.Prelude.{ℕ, ◌⊎◌, List, Option, Result, Ok, Err}
+use Rattle.std.specs.Prelude.{ℕ, ◌⊎◌, List, Option, Ok, Err}
+use Rattle.byte_store.specs.declared.fault.StoreFault.{StoreFault}
 use Rattle.byte_store.specs.Flat.{Flat, Sizes}
 use Rattle.nbd_wire.specs.declared.options.Export.{Export}
 use Rattle.nbd_serve.specs.Handshaking.{Handshakes}
@@ -13,16 +14,16 @@ export_of sizes = record { size = sizes.bytes; block = sizes.block }
 -- the session ended in the handshake, and the store is as it was
 pub record IsTurnedAway (represents : Flat → Type 0) (sizes : Sizes) (F : Flat) (last : End) (before after held now : Option (List ℕ)) : Type 0 where
   pub handshakes : Handshakes (Err last) (export_of sizes) before after held now
-  pub stands : represents F
+  pub represented : represents F
 
 -- the handshake was made, and requests were answered
-pub record IsServed (represents : Flat → Type 0) (sizes : Sizes) (F : Flat) (last : End) (before after held now : Option (List ℕ)) : Type 0 where
+pub record IsServed (represents : Flat → Type 0) (may : StoreFault → Type 0) (sizes : Sizes) (F : Flat) (last : End) (before after held now : Option (List ℕ)) : Type 0 where
   pub left : Option (List ℕ)
-  pub told : Option (List ℕ)
-  pub handshakes : Handshakes (Ok tt) (export_of sizes) before left held told
-  pub serves : Serves represents sizes.bytes F last left after told now
+  pub written : Option (List ℕ)
+  pub handshakes : Handshakes (Ok tt) (export_of sizes) before left held written
+  pub serves : Serves represents may sizes.bytes F last left after written now
 
 -- what a session with a store in state F reads and writes, and what becomes of the store, by how it ends
-abbrev pub Session : (Flat → Type 0) → Sizes → Flat → End → Option (List ℕ) → Option (List ℕ) → Option (List ℕ) → Option (List ℕ) → Type 0
-Session represents sizes F last before after held now =
-    IsTurnedAway represents sizes F last before after held now ⊎ IsServed represents sizes F last before after held now
+abbrev pub Session : (Flat → Type 0) → (StoreFault → Type 0) → Sizes → Flat → End → Option (List ℕ) → Option (List ℕ) → Option (List ℕ) → Option (List ℕ) → Type 0
+Session represents may sizes F last before after held now =
+    IsTurnedAway represents sizes F last before after held now ⊎ IsServed represents may sizes F last before after held now

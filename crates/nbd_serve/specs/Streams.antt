@@ -7,23 +7,23 @@ use Rattle.nbd_serve.specs.declared.end.End.{End}
 use Rattle.nbd_serve.specs.declared.end.End.TheVariants as end
 
 -- how a session ends if too few bytes were read
-abbrev pub end_of : Short → End
-end_of short.Ended = end.Cut
-end_of short.Failed = end.ReadFault
+abbrev pub end_by : Short → End
+end_by short.Ended = end.Cut
+end_by (short.Failed broke) = end.ReadFault
 
 -- no byte is left, if the input ended
-abbrev pub LeavesNone : Short → Option (List ℕ) → Type 0
-LeavesNone short.Ended after = IsAtEnd after
-LeavesNone short.Failed after = Unit {0}
+abbrev pub LeavesNone : End → Option (List ℕ) → Type 0
+LeavesNone end.Cut after = IsAtEnd after
+LeavesNone _ after = Unit {0}
 
 -- fewer bytes were read than were wanted
-pub record IsShort (reason : Short) (before after : Option (List ℕ)) (wanted : ℕ) : Type 0 where
+pub record IsShort (last : End) (before after : Option (List ℕ)) (wanted : ℕ) : Type 0 where
   pub part : List ℕ
   pub read : Consumes before after part
   pub few : length part < wanted
-  pub ended : LeavesNone reason after
+  pub ended : LeavesNone last after
 
--- so many bytes were read
+-- `count` bytes were read
 pub record Skips (before after : Option (List ℕ)) (count : ℕ) : Type 0 where
   pub bytes : List ℕ
   pub read : Consumes before after bytes

@@ -3,10 +3,10 @@ ghost use Rattle.std.specs.Prelude.{◌≡◌, ◌≤◌, ◌+◌, ◌++◌, len
 ghost use Rattle.byte_store.specs.Flat.{Flat};
 ghost use Rattle.nbd_wire.specs.Requests.{carried_len};
 ghost use Rattle.nbd_wire.specs.Replies.{reply_bytes};
-ghost use Rattle.nbd_serve.specs.Streams.{IsShort, Skips};
+ghost use Rattle.nbd_serve.specs.Streams.{IsShort, Skips, end_by};
 ghost use Rattle.nbd_serve.specs.Refusals.{error_of, refusal_of};
 ghost use Rattle.nbd_serve.specs.Answers.{Stores, bytes_read};
-ghost use Rattle.nbd_serve.specs.Answering.{IsAnswered, IsReadTold, IsTaken};
+ghost use Rattle.nbd_serve.specs.Answering.{IsAnswered, IsReadReply, IsTaken};
 
 use crate::calls::{Short, fill, skip};
 use crate::refusal::{error_of, refusal_of};
@@ -17,10 +17,10 @@ use std::alloc::Global;
 use std::io::Read;
 
 // Writes the reply to a request, without bytes that were read. Returns its length.
-fn tell(out: &mut [u8], error: Option<Errno>, request: &Request) -> usize
+fn put_head(out: &mut [u8], error: Option<Errno>, request: &Request) -> usize
     requires room { 16 ≤ length out.old }
     ensures count { result ≤ length out.new }
-    ensures told { take result out.new ≡ reply_bytes error request.now.cookie }
+    ensures written { take result out.new ≡ reply_bytes error request.now.cookie }
 {
     put_reply(out, error, request.cookie);
     REPLY_LEN
@@ -32,19 +32,19 @@ fn answer_read<S: ByteStore>(store: &mut S, request: &Request, out: &mut [u8]) -
     requires within { request.now.offset + request.now.length ≤ (S.sizes store.old).bytes }
     ensures count { result ≤ length out.new }
     ensures kept { (F : Flat) → S.represents store.old F → S.represents store.new F }
-    ensures told { (F : Flat) → S.represents store.old F → IsReadTold F request.now (take result out.new) }
+    ensures written { (F : Flat) → S.represents store.old F → IsReadReply S.may_refuse F request.now (take result out.new) }
     ensures sizes { S.sizes store.new ≡ S.sizes store.old }
 {
     let end = REPLY_LEN + request.length as usize;
     if out.len() < end {
-        return tell(out, Some(Errno::Memory), request);
+        return put_head(out, Some(Errno::Memory), request);
     }
     match store.read(request.offset, &mut out[REPLY_LEN..end]) {
         Ok(()) => {
             put_reply(out, None, request.cookie);
             end
         }
-        Err(fault) => tell(out, error_of(Err(fault)), request),
+        Err(fault) => put_head(out, error_of(Err(fault)), request),
     }
 }
 
@@ -58,9 +58,9 @@ fn take_write<R: Read, S: ByteStore>(
 ) -> Result<Result<(), StoreFault>, Short>
     requires within { request.now.offset + request.now.length ≤ (S.sizes store.old).bytes }
     ensures ok { IfOk result (λ outcome. (F : Flat) → S.represents store.old F →
-        IsTaken (S.represents store.new) outcome F request.now (R.remaining reader.old) (R.remaining reader.new)) }
+        IsTaken S.may_refuse (S.represents store.new) outcome F request.now (R.remaining reader.old) (R.remaining reader.new)) }
     ensures err { IfErr result (λ short. (store.new ≡ store.old) ×
-        IsShort short (R.remaining reader.old) (R.remaining reader.new) request.now.length) }
+        IsShort (end_by short) (R.remaining reader.old) (R.remaining reader.new) request.now.length) }
     ensures sizes { S.sizes store.new ≡ S.sizes store.old }
 {
     let length = request.length as usize;
@@ -85,12 +85,12 @@ fn refuse<R: Read>(
 ) -> Result<usize, Short>
     requires room { 16 ≤ length out.old }
     ensures count { IfOk result (λ count. count ≤ length out.new) }
-    ensures told { IfOk result (λ count. take count out.new ≡ reply_bytes (Some error) request.now.cookie) }
+    ensures written { IfOk result (λ count. take count out.new ≡ reply_bytes (Some error) request.now.cookie) }
     ensures read { OnOk result (Skips (R.remaining reader.old) (R.remaining reader.new) (carried_len request.now)) }
-    ensures err { IfErr result (λ short. IsShort short (R.remaining reader.old) (R.remaining reader.new) (carried_len request.now)) }
+    ensures err { IfErr result (λ short. IsShort (end_by short) (R.remaining reader.old) (R.remaining reader.new) (carried_len request.now)) }
 {
     match skip(reader, request.carried_len()) {
-        Ok(()) => Ok(tell(out, Some(error), request)),
+        Ok(()) => Ok(put_head(out, Some(error), request)),
         Err(short) => Err(short),
     }
 }
@@ -108,10 +108,10 @@ pub(crate) fn answer<R: Read, S: ByteStore>(
     requires room { 16 ≤ length out.old }
     ensures count { IfOk result (λ count. count ≤ length out.new) }
     ensures ok { IfOk result (λ count. (F : Flat) → S.represents store.old F →
-        IsAnswered (S.represents store.new) (S.sizes store.old).bytes F request.now (R.remaining reader.old) (R.remaining reader.new)
+        IsAnswered (S.represents store.new) S.may_refuse (S.sizes store.old).bytes F request.now (R.remaining reader.old) (R.remaining reader.new)
         (take count out.new)) }
     ensures err { IfErr result (λ short. (store.new ≡ store.old) ×
-        IsShort short (R.remaining reader.old) (R.remaining reader.new) (carried_len request.now)) }
+        IsShort (end_by short) (R.remaining reader.old) (R.remaining reader.new) (carried_len request.now)) }
     ensures sizes { S.sizes store.new ≡ S.sizes store.old }
 {
     if let Some(error) = refusal_of(request, store.size()) {
@@ -120,18 +120,18 @@ pub(crate) fn answer<R: Read, S: ByteStore>(
     match request.command {
         Command::Read => Ok(answer_read(store, request, out)),
         Command::Write => match take_write(alloc, reader, store, request, data) {
-            Ok(outcome) => Ok(tell(out, error_of(outcome), request)),
+            Ok(outcome) => Ok(put_head(out, error_of(outcome), request)),
             Err(short) => Err(short),
         },
         Command::Trim | Command::WriteZeroes => {
             let outcome = zero(alloc, store, request);
-            Ok(tell(out, error_of(outcome), request))
+            Ok(put_head(out, error_of(outcome), request))
         }
         Command::Flush => {
             let outcome = store.flush();
-            Ok(tell(out, error_of(outcome), request))
+            Ok(put_head(out, error_of(outcome), request))
         }
         // The last two were refused.
-        Command::Cache | Command::Disconnect | Command::Other => Ok(tell(out, None, request)),
+        Command::Cache | Command::Disconnect | Command::Other => Ok(put_head(out, None, request)),
     }
 }

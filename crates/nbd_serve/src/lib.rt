@@ -4,6 +4,7 @@
 mod answer;
 mod calls;
 mod end;
+mod halt;
 mod handshake;
 mod options;
 mod refusal;

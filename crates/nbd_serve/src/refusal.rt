@@ -1,4 +1,4 @@
-// Which requests are refused before the store is asked, and the error that stands for a store's refusal.
+// Which requests are refused before the store is asked, and the error that represented for a store's refusal.
 ghost use Rattle.std.specs.Prelude.{◌≡◌, ◌+◌, Some, None, nat_le, if◌then◌else◌};
 ghost use Rattle.nbd_serve.specs.Refusals.{error_of, refusal_of, past_end, refusal_by};
 ghost use Rattle.nbd_wire.specs.declared.reply.Errno.TheVariants as errno;

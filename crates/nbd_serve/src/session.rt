@@ -10,15 +10,15 @@ use nbd_wire::Export;
 use std::alloc::Global;
 use std::io::{Read, Write};
 
-/// Serves a store to one client: the handshake, and then requests until the client goes or the session ends otherwise. Every name of
-/// an export is taken for the store.
+/// Serves a store to one client: the handshake, and then requests until the client goes or the session ends otherwise. The store is
+/// the one export, under every name.
 pub fn serve<R: Read, W: Write, S: ByteStore>(
     alloc: Global,
     reader: &mut R,
     writer: &mut W,
     store: &mut S,
 ) -> End
-    ensures { (F : Flat) → S.represents store.old F → Session (S.represents store.new) (S.sizes store.old) F result
+    ensures { (F : Flat) → S.represents store.old F → Session (S.represents store.new) S.may_refuse (S.sizes store.old) F result
         (R.remaining reader.old) (R.remaining reader.new) (W.contents writer.old) (W.contents writer.new) }
 {
     let export = Export {
@@ -27,6 +27,6 @@ pub fn serve<R: Read, W: Write, S: ByteStore>(
     };
     match agree(alloc, reader, writer, &export) {
         Ok(()) => transmit(alloc, reader, writer, store),
-        Err(end) => end,
+        Err(halt) => halt.end(),
     }
 }

@@ -1,5 +1,5 @@
 // Requests as calls of the store.
-ghost use Rattle.std.specs.Prelude.{◌≡◌, ◌≤◌, ◌+◌, ◌++◌, length, take, replicate, slice_range, OnOk, Some, None};
+ghost use Rattle.std.specs.Prelude.{◌≡◌, ◌≤◌, ◌+◌, length, replicate, IfErr};
 ghost use Rattle.byte_store.specs.Flat.{Flat};
 ghost use Rattle.nbd_wire.specs.Requests.{is_forced};
 ghost use Rattle.nbd_wire.specs.Replies.{reply_bytes};
@@ -15,6 +15,7 @@ use std::alloc::Global;
 fn force<S: ByteStore>(store: &mut S, request: &Request) -> Result<(), StoreFault>
     ensures change { (F : Flat) → S.represents store.old F →
         (G : Flat) × S.represents store.new G × Forces result (is_forced request.now) F G }
+    ensures cause { IfErr result S.may_refuse }
     ensures sizes { S.sizes store.new ≡ S.sizes store.old }
 {
     if request.is_forced() {
@@ -34,6 +35,7 @@ pub(crate) fn write<S: ByteStore>(
     requires within { request.now.offset + length bytes.now ≤ (S.sizes store.old).bytes }
     ensures change { (F : Flat) → S.represents store.old F →
         (G : Flat) × S.represents store.new G × Stores result (is_forced request.now) F request.now.offset bytes.now G }
+    ensures cause { IfErr result S.may_refuse }
     ensures sizes { S.sizes store.new ≡ S.sizes store.old }
 {
     match store.write(alloc, request.offset, bytes) {
@@ -51,6 +53,7 @@ pub(crate) fn zero<S: ByteStore>(
     requires within { request.now.offset + request.now.length ≤ (S.sizes store.old).bytes }
     ensures change { (F : Flat) → S.represents store.old F → (G : Flat) × S.represents store.new G ×
         Stores result (is_forced request.now) F request.now.offset (replicate request.now.length 0) G }
+    ensures cause { IfErr result S.may_refuse }
     ensures sizes { S.sizes store.new ≡ S.sizes store.old }
 {
     match store.zero(alloc, request.offset, request.length) {

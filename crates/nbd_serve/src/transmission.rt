@@ -7,6 +7,7 @@ ghost use Rattle.nbd_serve.specs.Stepping.{Steps};
 use crate::answer::answer;
 use crate::calls::{fill, write_out};
 use crate::end::End;
+use crate::halt::Halt;
 use crate::refusal::refusal_of;
 use byte_store::ByteStore;
 use nbd_wire::{Command, REPLY_LEN, REQUEST_LEN, Request, read_request};
@@ -51,30 +52,30 @@ fn exchange<R: Read, W: Write, S: ByteStore>(
     store: &mut S,
     out: &mut Vec<u8>,
     data: &mut Vec<u8>,
-) -> Option<End>
+) -> Option<Halt>
     requires room { 16 ≤ length out.old.items }
     ensures room { 16 ≤ length out.new.items }
-    ensures step { (F : Flat) → S.represents store.old F → Steps (S.represents store.new) result (S.sizes store.old).bytes F
+    ensures step { (F : Flat) → S.represents store.old F → Steps (S.represents store.new) result S.may_refuse (S.sizes store.old).bytes F
         (R.remaining reader.old) (R.remaining reader.new) (W.contents writer.old) (W.contents writer.new) }
     ensures sizes { S.sizes store.new ≡ S.sizes store.old }
 {
     let mut head = [0u8; REQUEST_LEN];
     if let Err(short) = fill(reader, &mut head) {
-        return Some(short.end());
+        return Some(short.halt());
     }
     let Some(request) = read_request(&head) else {
-        return Some(End::Garbage);
+        return Some(Halt::Garbage);
     };
     if let Command::Disconnect = request.command {
-        return Some(End::Disconnected);
+        return Some(Halt::Disconnected);
     }
     make_room(&request, store.size(), out, data);
     match answer(alloc, reader, store, &request, out, data) {
         Ok(count) => match write_out(writer, &out[..count]) {
             Ok(()) => None,
-            Err(_) => Some(End::WriteFault),
+            Err(broke) => Some(Halt::WriteBroke(broke)),
         },
-        Err(short) => Some(short.end()),
+        Err(short) => Some(short.halt()),
     }
 }
 
@@ -86,7 +87,7 @@ pub fn transmit<R: Read, W: Write, S: ByteStore>(
     writer: &mut W,
     store: &mut S,
 ) -> End
-    ensures { (F : Flat) → S.represents store.old F → Serves (S.represents store.new) (S.sizes store.old).bytes F result
+    ensures { (F : Flat) → S.represents store.old F → Serves (S.represents store.new) S.may_refuse (S.sizes store.old).bytes F result
         (R.remaining reader.old) (R.remaining reader.new) (W.contents writer.old) (W.contents writer.new) }
 {
     let Ok(mut out) = reply_buffer(alloc) else {
@@ -94,8 +95,8 @@ pub fn transmit<R: Read, W: Write, S: ByteStore>(
     };
     let mut data = Vec::new(alloc);
     for served in 0..u64::MAX {
-        if let Some(end) = exchange(alloc, reader, writer, store, &mut out, &mut data) {
-            return end;
+        if let Some(halt) = exchange(alloc, reader, writer, store, &mut out, &mut data) {
+            return halt.end();
         }
     }
     End::Limit

@@ -43,7 +43,7 @@ pub record SpellsOption (bytes : List ℕ) (head : OptionHead) : Type 0 where
   pub option : head.option ≡ big_number 4 (drop 8 bytes)
   pub length : head.length ≡ big_number 4 (drop 12 bytes)
 
--- the data of INFO and GO: a name's length, the name, a count, and so many information requests of 2 bytes
+-- the data of INFO and GO: a name's length, the name, a count n, and n information requests of 2 bytes each
 abbrev pub requests_fit : ℕ → List ℕ → Bool
 requests_fit name carried =
     nat_le (6 + name) (length carried) && (length carried == 6 + name + 2 * big_number 2 (drop (4 + name) carried))

@@ -8,7 +8,8 @@ mod reply;
 mod request;
 
 pub use client::{
-    CLIENT_FLAGS_LEN, OPTION_HEAD_LEN, OptionHead, OptionKind, is_info_request, no_zeroes_of, read_option_head,
+    CLIENT_FLAGS_LEN, OPTION_HEAD_LEN, OptionHead, OptionKind, is_info_request, no_zeroes_of,
+    read_option_head,
 };
 pub use options::{
     Export, OptionReply, put_export, put_greeting, put_information, put_option_reply,

@@ -33,7 +33,7 @@ const LEAST_BLOCK: u32 = 1;
 // 32 MiB.
 const MOST_BLOCK: u32 = 33_554_432;
 
-/// What a client is told of the export: its bytes, and the bytes of a request that it carries out best.
+/// An export: its size in bytes, and the bytes of a request that it carries out best.
 #[derive(Clone, Copy, Debug, PartialEq, Eq)]
 pub struct Export {
     pub size: u64,

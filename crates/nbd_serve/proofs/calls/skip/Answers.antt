@@ -1,6 +1,7 @@
-use Rattle.std.proofs.Common.{◌≡◌, ◌+◌, ◌-◌, ◌≤◌, length, take, ◌∙◌, arith}
+use Rattle.std.proofs.Common.{◌≡◌, ◌+◌, ◌≤◌, length, take, ◌∙◌, arith}
 use Rattle.std.proofs.lemmas.List.{length-take-le}
 use Rattle.nbd_serve.proofs.Streaming.{refilled, short_after, skipped_more}
+use Rattle.nbd_serve.specs.Streams.{end_by}
 use Rattle.nbd_serve.proofs.calls.skip.Goals as goal
 
 pub loop-done-preserved : goal.loop-done-preserved
@@ -23,4 +24,4 @@ returns-in-Err-clause-part g c =
     let scratch : length c.loop-done.scratch ≡ 4096 = c.loop-done.invariant.scratch in
     let part : length (take c.min-size.result c.loop-done.scratch) ≡ c.min-size.result = length-take-le _ c.loop-done.scratch (omega (arith, c.min-size.ensures, scratch)) in
     let fits : length before.bytes + length (take c.min-size.result c.loop-done.scratch) ≤ c.args.count = omega (arith, part, before.size, c.min-size.ensures, c.loop-done-test.true) in
-    short_after c.in-Err.short (remaining c.args.reader.now) _ _ before.bytes _ c.args.count before.read c.in-Err.ensures.part fits
+    short_after (end_by c.in-Err.short) (remaining c.args.reader.now) _ _ before.bytes _ c.args.count before.read c.in-Err.ensures.part fits

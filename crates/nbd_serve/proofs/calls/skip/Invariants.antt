@@ -2,7 +2,7 @@ use Rattle.std.proofs.Common.{◌≡◌, ◌-◌, ◌≤◌, length}
 use Rattle.nbd_serve.specs.Streams.{Skips}
 use Rattle.nbd_serve.proofs.calls.skip.Given as goal
 
--- so many bytes were read
+-- `done` bytes were read
 abbrev pub invariant-loop-done : goal.invariant-loop-done
 invariant-loop-done g l = let remaining = g.R.Read.remaining in record {
   scratch : length l.scratch ≡ 4096;

@@ -1,5 +1,5 @@
 use Rattle.std.proofs.Common.{◌∙◌}
-use Rattle.nbd_serve.proofs.Turns.{asked_more, asked_none, negotiated}
+use Rattle.nbd_serve.proofs.Turns.{asked_more, negotiated}
 use Rattle.nbd_serve.proofs.handshake.negotiate.Goals as goal
 
 pub returns-in-Some : goal.returns-in-Some

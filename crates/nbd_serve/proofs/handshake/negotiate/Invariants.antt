@@ -2,7 +2,7 @@ use Rattle.std.proofs.Common.{◌≡◌, length}
 use Rattle.nbd_serve.proofs.Turns.{IsAsked}
 use Rattle.nbd_serve.proofs.handshake.negotiate.Given as goal
 
--- so many options were answered
+-- `taken` options were answered
 abbrev pub invariant-loop-taken : goal.invariant-loop-taken
 invariant-loop-taken g l =
     let remaining = g.R.Read.remaining in

@@ -1,11 +1,12 @@
 use Rattle.std.proofs.Common.{inr}
 use Rattle.nbd_serve.proofs.Turns.{taking_stopped, turn_broken, turn_done}
 use Rattle.nbd_serve.specs.declared.options.Next.TheVariants as next
+use Rattle.nbd_serve.specs.Halts.{end_of}
 use Rattle.nbd_serve.proofs.handshake.option.Goals as goal
 
 pub returns-in-Err-take : goal.returns-in-Err-take
 returns-in-Err-take g c =
-    taking_stopped c.in-Err-take.end c.args.export.now c.args.no_zeroes c.fill.new.buffer c.in-Some.asked _ _ _ _ c.fill.auto.buffer
+    taking_stopped (end_of c.in-Err-take.halt) c.args.export.now c.args.no_zeroes c.fill.new.buffer c.in-Some.asked _ _ _ _ c.fill.auto.buffer
     c.in-Some.ensures.some c.in_default.ensures.whole c.in-Err-take.ensures.err
 
 pub returns-in-Err-write_out : goal.returns-in-Err-write_out

@@ -1,6 +1,5 @@
-use Rattle.std.proofs.Common.{◌≡◌, ℕ, List, Option, Result, Ok, inr, subst, ap, ◌∙◌}
+use Rattle.std.proofs.Common.{◌≡◌, ℕ, List, Option, Ok, inr, subst}
 use Rattle.byte_store.specs.Flat.{Sizes}
-use Rattle.nbd_wire.specs.declared.options.Export.{Export}
 use Rattle.nbd_serve.specs.Handshaking.{Handshakes}
 use Rattle.nbd_serve.specs.Sessions.{export_of}
 use Rattle.nbd_serve.proofs.session.serve.Goals as goal
@@ -15,9 +14,9 @@ of_sizes size block sizes before after held now size_is block_is shaken =
     subst Q block_is (subst P size_is shaken)
 
 pub returns-in-Ok : goal.returns-in-Ok
-returns-in-Ok g c = λ F stands. inr (record {
+returns-in-Ok g c = λ F represented. inr (record {
   left = _;
-  told = _;
+  written = _;
   handshakes = of_sizes c.size.result c.block_bytes.result (g.S.ByteStore.sizes c.args.store.now) _ _ _ _ c.size.ensures.size c.block_bytes.ensures.size c.in-Ok.ensures;
-  serves = c.transmit.ensures F stands;
+  serves = c.transmit.ensures F represented;
 })

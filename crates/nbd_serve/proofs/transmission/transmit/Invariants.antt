@@ -3,7 +3,7 @@ use Rattle.byte_store.specs.Flat.{Flat}
 use Rattle.nbd_serve.proofs.Sessions.{IsAlong}
 use Rattle.nbd_serve.proofs.transmission.transmit.Given as goal
 
--- so many requests were answered, and the reply's head has its room
+-- `served` requests were answered, and the buffer has room for a reply's head
 abbrev pub invariant-loop-served : goal.invariant-loop-served
 invariant-loop-served g l =
     let remaining = g.R.Read.remaining in
@@ -12,6 +12,6 @@ invariant-loop-served g l =
     let sizes = g.S.ByteStore.sizes in record {
       room : 16 ≤ length l.out.items;
       same : sizes l.store ≡ sizes l.fn.store;
-      along : (F : Flat) → represents l.fn.store F → IsAlong (represents l.store) (sizes l.fn.store).bytes l.served F
+      along : (F : Flat) → represents l.fn.store F → IsAlong (represents l.store) g.S.ByteStore.may_refuse (sizes l.fn.store).bytes l.served F
           (remaining l.fn.reader) (remaining l.reader) (contents l.fn.writer) (contents l.writer);
     }
