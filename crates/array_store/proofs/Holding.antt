@@ -1,23 +1,22 @@
 -- What a call of the array makes of the disk's bytes.
-use Rattle.std.proofs.Common.{rules, ◌≡◌, ◌≢◌, ℕ, List, [], replicate, length, Option, Some, None, Result, Ok, Err, refl, sym, ap, ◌∙◌, subst, arith}
+use Rattle.std.specs.Prelude.{IfOk, OnOk, OnErr}
+use Rattle.std.proofs.Common.{◌≡◌, ℕ, List, replicate, Option, Some, None, Result, Ok, Err, sym, ap, ◌∙◌, subst}
 use Rattle.flat_machine.specs.declared.refusal.Refusal.{Refusal}
 use Rattle.flat_machine.specs.Flat.{Flat, Content, bytes_of, last_write}
 use Rattle.flat_machine.specs.Steps as step
 use Rattle.step_core.specs.Told.{read_answer}
-use Rattle.background.specs.Room.{AlwaysCase, AlwaysStops}
+use Rattle.background.specs.Room.{AlwaysCase, AlwaysStops, SpareCase, SpareStops}
 use Rattle.background.specs.Stands.{StandsFor}
 use Rattle.background.specs.Steps.{StepNoted}
 use Rattle.background.specs.Tiered.{Tiered}
 use Rattle.background.specs.Views.{TiersView}
 use Rattle.background.specs.declared.outcome.Outcome.{Outcome}
-use Rattle.background.specs.declared.outcome.Outcome.TheVariants as outcome
-use Rattle.array_store.specs.Blocks.{bytes_in, block_bytes, Shows, Holds, IsBlockOf, IsPut}
+use Rattle.array_store.specs.Blocks.{block_bytes, Shows, Holds, IsBlockOf, IsPut}
 use Rattle.array_store.proofs.Reading.{found_bytes, nothing_bytes, read_keeps}
-use Rattle.array_store.proofs.Showing.{adds_shows, keeps_shows, block_read, fresh_shows}
-use Rattle.std.specs.Prelude.{OnOk, OnErr}
+use Rattle.array_store.proofs.Showing.{adds_shows, keeps_shows, block_read}
 use Rattle.flat_machine.specs.Cases.{Leaves}
 use Rattle.flat_machine.specs.Shortened.{IsShortened}
-use Rattle.array_store.proofs.Writing.{Keeps, Adds, Wrote, keeps_left, always_wrote, always_stops_keep}
+use Rattle.array_store.proofs.Writing.{Keeps, Adds, Wrote, keeps_left, always_wrote, always_stops_keep, spare_keeps, spare_stops_keep}
 
 -- the state's payloads are as long as the array's
 pub payload_is : (t : TiersView) (T : Tiered) → StandsFor t T → T.flat.groups.payload ≡ t.world.array.parts.groups.payload
@@ -99,7 +98,7 @@ nothing_block t u b payload out does zeros bytes holds =
     let done = does T holds.stands in
     let size = payload_is t T holds.stands in
     let is : out ≡ block_bytes T.flat.groups.payload T.flat.writes b =
-        zeros ∙ (ap (λ n. replicate n 0) (sym size) ∙ nothing_bytes T.flat.groups.payload (last_write T.flat.writes b) done.1.1.0) in
+    zeros ∙ (ap (λ n. replicate n 0) (sym size) ∙ nothing_bytes T.flat.groups.payload (last_write T.flat.writes b) done.1.1.0) in
     subst (λ m. IsBlockOf m bytes b out) size (block_read T.flat.groups.payload T.flat.writes b bytes out holds.shows is)
 
 -- a sync leaves the bytes
@@ -114,25 +113,29 @@ synced_holds t u does bytes holds =
       shows = keeps_shows T.flat done.0 bytes (keeps_left T.flat done.0 done.1) holds.shows;
     }
 
--- a log that is shortened leaves the bytes
+-- a state with the same writes shows the same bytes
+kept_holds : (t u : TiersView) (bytes : List ℕ) (holds : Holds t bytes) (U : Tiered) → Keeps holds.state.flat U.flat → StandsFor u U → Holds u bytes
+kept_holds t u bytes holds U keeps stands = record { state = U; stands = stands; shows = keeps_shows holds.state.flat U.flat bytes keeps holds.shows }
+
+-- a spare slot leaves the bytes
+pub spared_holds : {E : Type 0} (t u : TiersView) (r : Result Outcome E)
+    → ((w : ℕ) → IfOk r (λ o. (T : Tiered) → StandsFor t T → (U : Tiered) × SpareCase T w o U × StandsFor u U))
+    → ((w : ℕ) → OnErr r ((T : Tiered) → StandsFor t T → (U : Tiered) × SpareStops T w U × StandsFor u U))
+    → (bytes : List ℕ) → Holds t bytes → Holds u bytes
+spared_holds t u (Ok o) does stops bytes holds =
+    let done = does 0 holds.state holds.stands in
+    kept_holds t u bytes holds done.0 (spare_keeps holds.state done.0 0 o done.1) done.2
+spared_holds t u (Err e) does stops bytes holds =
+    let done = stops 0 holds.state holds.stands in
+    kept_holds t u bytes holds done.0 (spare_stops_keep holds.state done.0 0 done.1) done.2
+
+-- so does a shorter log
 pub shortened_holds : {E : Type 0} (t u : TiersView) (r : Result (Unit {0}) E)
     → OnOk r ((T : Tiered) → StandsFor t T → (G : Flat) × IsShortened T.flat G × StandsFor u (record T { flat = G })) → OnErr r (u ≡ t)
     → (bytes : List ℕ) → Holds t bytes → Holds u bytes
-shortened_holds t u (Ok x) does stays bytes holds =
+shortened_holds t u (Ok done) does same bytes holds =
     let T = holds.state in
-    let done = does T holds.stands in
-    let keeps : Keeps T.flat done.0 = record { groups = ap (λ (z : Flat). z.groups) done.1.is; writes = ap (λ (z : Flat). z.writes) done.1.is } in
-    record {
-      state = record T { flat = done.0 };
-      stands = done.2;
-      shows = keeps_shows T.flat done.0 bytes keeps holds.shows;
-    }
-shortened_holds t u (Err e) does stays bytes holds = subst (λ v. Holds v bytes) (sym stays) holds
-
--- an array to which nothing was written holds zeros
-pub fresh_holds : (t : TiersView) (T : Tiered) (size : ℕ) → StandsFor t T → T.flat.writes ≡ [] → Holds t (replicate size 0)
-fresh_holds t T size stands none = record {
-  state = T;
-  stands = stands;
-  shows = subst (λ ws. Shows T.flat.groups.payload ws (replicate size 0)) (sym none) (fresh_shows T.flat.groups.payload size);
-}
+    let new = does T holds.stands in
+    let keeps : Keeps T.flat new.0 = record { groups = ap (λ (x : Flat). x.groups) new.1.is; writes = ap (λ (x : Flat). x.writes) new.1.is } in
+    kept_holds t u bytes holds (record T { flat = new.0 }) keeps new.2
+shortened_holds t u (Err e) does same bytes holds = subst (λ (v : TiersView). Holds v bytes) (sym same) holds

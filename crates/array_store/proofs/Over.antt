@@ -1,6 +1,6 @@
 -- Bytes that are written over others, index by index.
-use Rattle.std.proofs.Common.{rules, ◌≡◌, ◌≢◌, ◌⊎◌, inl, inr, ℕ, ◌+◌, ◌-◌, ◌*◌, ◌/◌, ◌%◌, ◌<◌, ◌≤◌, List, length, take, drop, ◌++◌, replicate, slice_index, refl, sym, ap, ◌∙◌, arith}
-use Rattle.std.proofs.lemmas.List.{places, length-take-le, length-drop, length-append, get_or_append_left, get_or-append_right, get_or-take, get_or-drop, same_lists}
+use Rattle.std.proofs.Common.{◌≡◌, ℕ, ◌+◌, ◌-◌, ◌<◌, ◌≤◌, List, length, slice_index, arith}
+use Rattle.std.proofs.lemmas.List.{places}
 use Rattle.byte_store.specs.Flat.{written_over}
 
 pub over_long : (xs : List ℕ) (o : ℕ) (ys : List ℕ) → o + length ys ≤ length xs → length (written_over xs o ys) ≡ length xs

@@ -1,8 +1,8 @@
 -- Pieces of blocks, and where their bytes lie on the disk.
-use Rattle.std.proofs.Common.{◌≡◌, ◌≢◌, ◌⊎◌, inl, inr, ℕ, ◌+◌, ◌-◌, ◌*◌, ◌/◌, ◌%◌, ◌<◌, ◌≤◌, List, length, replicate, slice_index, refl, sym, ap, ◌∙◌, subst, arith, Result, Ok, Err}
+use Rattle.std.proofs.Common.{◌≡◌, ◌⊎◌, inl, inr, ℕ, ◌+◌, ◌-◌, ◌*◌, ◌/◌, ◌%◌, ◌<◌, ◌≤◌, List, length, replicate, slice_index, sym, ap, ◌∙◌, subst, arith, Result, Ok, Err}
 use Rattle.std.specs.Prelude.{OnOk}
 use Rattle.std.proofs.lemmas.List.{length-replicate}
-use Rattle.std.proofs.Math.Nat.{div-lt_iff_lt-mul, mod-lt, mul-add-mod_self_left, mod-eq_of_lt}
+use Rattle.std.proofs.Math.Nat.{div-lt_iff_lt-mul, mod-lt}
 use Rattle.std.proofs.lemmas.Nat.{div-mul-add, div-add-mod'}
 use Rattle.std.proofs.lemmas.Bool.{cases_lt}
 use Rattle.byte_store.specs.Flat.{written_over}
@@ -41,12 +41,14 @@ lies_in size b i from below =
 pub piece_read : (size b from : ℕ) (bytes block out : List ℕ) → IsBlockOf size bytes b block → from + length out ≤ size
     → b * size + from + length out ≤ length bytes → ((k : ℕ) → k < length out → slice_index out k ≡ slice_index block (from + k))
     → IsPiece bytes (b * size + from) out
-piece_read size b from bytes block out is fits within copied = record { each = λ k below.
-    let inside : from + k < size = omega arith in
-    let low : b * size + (from + k) < length bytes = omega arith in
-    let at : b * size + (from + k) ≡ b * size + from + k = omega arith in
-    copied k below ∙ (ap (slice_index block) (sym (place_is size b (from + k) inside))
-    ∙ (is.each (b * size + (from + k)) low (block_is size b (from + k) inside) ∙ ap (slice_index bytes) at)) }
+piece_read size b from bytes block out is fits within copied = record {
+  each = λ k below.
+      let inside : from + k < size = omega arith in
+      let low : b * size + (from + k) < length bytes = omega arith in
+      let at : b * size + (from + k) ≡ b * size + from + k = omega arith in
+      copied k below ∙ (ap (slice_index block) (sym (place_is size b (from + k) inside))
+      ∙ (is.each (b * size + (from + k)) low (block_is size b (from + k) inside) ∙ ap (slice_index bytes) at));
+}
 
 -- a part of a block that is overlaid
 pub patch_put : (size b from : ℕ) (bytes block part : List ℕ) → 0 < size → IsBlockOf size bytes b block → length block ≡ size

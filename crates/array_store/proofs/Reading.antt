@@ -1,10 +1,10 @@
 -- What a read of a block returns.
-use Rattle.std.proofs.Common.{rules, ◌≡◌, ℕ, List, replicate, Option, Some, None, Result, Ok, Err, refl, sym, ap, ◌∙◌, arith}
+use Rattle.std.proofs.Common.{◌≡◌, ℕ, List, replicate, Option, Some, None, Result, Ok, Err, refl, arith}
 use Rattle.flat_machine.specs.declared.refusal.Refusal.{Refusal}
-use Rattle.flat_machine.specs.Flat.{Flat, Write, Content, Payload, Trim, bytes_of, last_write}
+use Rattle.flat_machine.specs.Flat.{Flat, Write, Content, Payload, Trim, bytes_of}
 use Rattle.flat_machine.specs.Steps as step
 use Rattle.flat_machine.specs.Cases.{Case, found_in, found_of}
-use Rattle.step_core.specs.Told.{version_in, read_answer}
+use Rattle.step_core.specs.Told.{read_answer}
 use Rattle.step_core.proofs.Worlds.{refused_leaves}
 use Rattle.array_store.specs.Blocks.{bytes_in}
 use Rattle.array_store.proofs.Writing.{Keeps, keeps_left}

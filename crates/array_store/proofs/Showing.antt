@@ -1,7 +1,6 @@
 -- A write of a block, seen in the disk's bytes.
-use Rattle.std.proofs.Common.{◌≡◌, ◌≢◌, ◌⊎◌, inl, inr, ℕ, ◌+◌, ◌-◌, ◌*◌, ◌/◌, ◌%◌, ◌<◌, ◌≤◌, List, [], ◌∷◌, ◌++◌, length, replicate, slice_index, refl, sym, ap, ◌∙◌, subst, Option, Some, None, arith}
-use Rattle.std.proofs.lemmas.Bool.{cases_eq, cases_lt}
-use Rattle.std.proofs.lemmas.List.{get_or-replicate, get_or_past, length-replicate}
+use Rattle.std.proofs.Common.{◌≡◌, ◌⊎◌, inl, inr, ℕ, ◌/◌, ◌%◌, ◌<◌, List, [], ◌∷◌, ◌++◌, length, slice_index, sym, ap, ◌∙◌, subst, Some, arith}
+use Rattle.std.proofs.lemmas.Bool.{cases_eq}
 use Rattle.flat_machine.specs.Flat.{Flat, Write, Content, bytes_of, last_write}
 use Rattle.flat_machine.proofs.Writes.{last_here, last_else}
 use Rattle.array_store.specs.Blocks.{bytes_in, block_bytes, Shows, IsBlockOf, IsPut}
@@ -38,16 +37,7 @@ keeps_shows F G bytes keeps shows =
 
 -- a block that was read, and its bytes of the disk
 pub block_read : (size : ℕ) (writes : List Write) (b : ℕ) (bytes out : List ℕ) → Shows size writes bytes → out ≡ block_bytes size writes b → IsBlockOf size bytes b out
-block_read size writes b bytes out shows is = record { each = λ i below e.
-    ap (λ xs. slice_index xs (i % size)) (is ∙ ap (block_bytes size writes) (sym e)) ∙ sym (shows.each i below) }
-
-zero_at : (n i : ℕ) → slice_index (replicate n 0) i ≡ 0
-zero_at n i = go (cases_lt i n)
-  where
-    go : (i < n) ⊎ (n ≤ i) → slice_index (replicate n 0) i ≡ 0
-    go (inl below) = get_or-replicate n i 0 0 below
-    go (inr past) = let long : length (replicate {A = ℕ} n 0) ≤ i = subst (λ m. m ≤ i) (sym (length-replicate {A = ℕ} n 0)) past in get_or_past (replicate n 0) i 0 long
-
--- where nothing was written all bytes are zeros
-pub fresh_shows : (size n : ℕ) → Shows size [] (replicate n 0)
-fresh_shows size n = record { each = λ i below. zero_at n i ∙ sym (zero_at size (i % size)) }
+block_read size writes b bytes out shows is = record {
+  each = λ i below e.
+      ap (λ xs. slice_index xs (i % size)) (is ∙ ap (block_bytes size writes) (sym e)) ∙ sym (shows.each i below);
+}

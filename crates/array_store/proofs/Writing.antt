@@ -1,5 +1,5 @@
 -- What a placing makes of the last writes: a fresh content is one write more, and a copy is none.
-use Rattle.std.proofs.Common.{◌≡◌, ◌≢◌, ◌⊎◌, inl, inr, ℕ, List, [], ◌∷◌, ◌++◌, refl, sym, ap, ◌∙◌, subst, Option, Some, None}
+use Rattle.std.proofs.Common.{◌≡◌, ◌≢◌, inl, inr, ℕ, [], ◌∷◌, ◌++◌, refl, sym, ap, ◌∙◌, subst, Option, Some, None}
 use Rattle.flat_machine.specs.declared.refusal.Refusal.{Refusal}
 use Rattle.map_join.specs.declared.records.Record.{Record}
 use Rattle.flat_machine.specs.Flat.{Flat, Write, Content, Waiting}
@@ -10,7 +10,7 @@ use Rattle.flat_machine.specs.Cases.{Case, Leaves, Runs, CommitWith}
 use Rattle.flat_machine.proofs.Pairs.{put_here}
 use Rattle.step_core.proofs.Worlds.{refused_leaves}
 use Rattle.background.specs.Placing.{Put, Fresh, Again, PlaceCase, PlaceStops, put_step, put_answer, back_steps, back_answers}
-use Rattle.background.specs.Room.{RoomCase, RoomStops, AlwaysCase, AlwaysStops, AlwaysStop, GoesOut, GoesAside, AfterRoom, WritesAgain, WritesAlways}
+use Rattle.background.specs.Room.{RoomCase, AlwaysCase, AlwaysStops, AlwaysStop, GoesOut, GoesAside, AfterRoom, WritesAgain, WritesAlways, Spares, SpareCase, SpareStops}
 use Rattle.background.specs.Steps.{MovesTo, AppendsAt, WritesAt, WritesIn, PutStops}
 use Rattle.background.specs.Tiered.{Tiered}
 use Rattle.background.specs.declared.outcome.Outcome.{Outcome}
@@ -222,3 +222,14 @@ stop_keeps T U w b x (Some s) stops = put_stops_keep T U w (Fresh x) b s stops
 -- a write that ran out of memory leaves the writes
 pub always_stops_keep : (T U : Tiered) (w b : ℕ) (x : Content) → AlwaysStops T w b x U → Keeps T.flat U.flat
 always_stops_keep T U w b x stops = stop_keeps T U w b x stops.slot stops.stops
+
+-- nor does a spare slot change one
+pub spare_keeps : (T U : Tiered) (w : ℕ) (o : Outcome) → SpareCase T w o U → Keeps T.flat U.flat
+spare_keeps T U w o case = go case.slot case.done
+  where
+    go : (slot : Option ℕ) → Spares T w slot o U → Keeps T.flat U.flat
+    go None room = room_keeps T U w o room
+    go (Some s) stays = flat_same T U stays.same
+
+pub spare_stops_keep : (T U : Tiered) (w : ℕ) → SpareStops T w U → Keeps T.flat U.flat
+spare_stops_keep T U w stops = put_stops_keep T U w Again stops.stops.block stops.stops.slot stops.stops.stops

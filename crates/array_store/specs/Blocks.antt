@@ -1,5 +1,5 @@
 -- The bytes of a disk, by the last writes of an array's blocks.
-use Rattle.std.specs.Prelude.{◌≡◌, ◌≢◌, ℕ, ◌+◌, ◌*◌, ◌/◌, ◌%◌, ◌<◌, List, length, replicate, slice_index, Option, Some, None}
+use Rattle.std.specs.Prelude.{◌≡◌, ◌≢◌, ℕ, ◌+◌, ◌/◌, ◌%◌, ◌<◌, List, length, replicate, slice_index, Option, Some, None}
 use Rattle.flat_machine.specs.Flat.{Write, bytes_of, last_write}
 use Rattle.background.specs.Stands.{StandsFor}
 use Rattle.background.specs.Tiered.{Tiered}

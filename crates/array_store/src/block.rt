@@ -4,6 +4,7 @@ ghost use Rattle.slot_tables.specs.Views.{SameSizes};
 ghost use Rattle.flat_machine.specs.Flat.{bytes_of};
 ghost use Rattle.background.specs.Placing.{IsGivenFor, content_of};
 ghost use Rattle.array_store.specs.Blocks.{Holds, IsBlockOf, IsPiece, IsPut};
+ghost use Rattle.array_store.specs.Faults.{fault_of};
 ghost use Rattle.byte_store.specs.Flat.{written_over};
 
 use background::{Outcome, Tiers};
@@ -12,8 +13,13 @@ use extents::Drive;
 use std::alloc::Global;
 use step_core::{Given, Refusal};
 
+// A log of so many records isn't worth shortening.
+const LEAST_RECORDS: usize = 4096;
+
 // Why a write that is refused stores nothing.
-fn fault_of(refusal: Refusal) -> StoreFault {
+fn fault_of(refusal: Refusal) -> StoreFault
+    ensures { result ≡ fault_of refusal }
+{
     match refusal {
         Refusal::Gone(_) => StoreFault::Gone,
         _ => StoreFault::NoSpace,
@@ -21,11 +27,7 @@ fn fault_of(refusal: Refusal) -> StoreFault {
 }
 
 // Reads a block: zeros where it was never written, or was trimmed.
-fn read_block<D: Drive>(
-    tiers: &mut Tiers<D>,
-    block: u32,
-    out: &mut [u8],
-) -> Result<(), StoreFault>
+fn read_block<D: Drive>(tiers: &mut Tiers<D>, block: u32, out: &mut [u8]) -> Result<(), StoreFault>
     requires block { block < tiers.old.world.array.parts.groups.blocks }
     requires size { length out.old ≡ tiers.old.world.array.parts.groups.payload }
     ensures read { OnOk result ((bytes : List ℕ) → Holds tiers.old bytes → IsBlockOf (length out.old) bytes block out.new) }
@@ -64,6 +66,28 @@ fn put<D: Drive>(
         Ok(Outcome::NoRoom) => Err(StoreFault::NoSpace),
         Ok(Outcome::Nothing) => Err(StoreFault::NoSpace),
         Err(_) => Err(StoreFault::Memory),
+    }
+}
+
+/// Keeps a mirrored slot free, so that the next write needs no demotion.
+pub(crate) fn make_spare<D: Drive>(alloc: Global, tiers: &mut Tiers<D>)
+    ensures kept { (bytes : List ℕ) → Holds tiers.old bytes → Holds tiers.new bytes }
+    ensures room { SameSizes tiers.old.world.array tiers.new.world.array }
+{
+    // Where no slot can be made free, or memory is out, the next write makes room or is refused.
+    let _ = tiers.make_spare(alloc);
+}
+
+/// Shortens a log of more than four records for each block, and of some thousands at least.
+pub(crate) fn shorten_log<D: Drive>(alloc: Global, tiers: &mut Tiers<D>)
+    ensures kept { (bytes : List ℕ) → Holds tiers.old bytes → Holds tiers.new bytes }
+    ensures room { SameSizes tiers.old.world.array tiers.new.world.array }
+{
+    let array = tiers.world().array();
+    let most = array.shape().blocks as usize * 4 + LEAST_RECORDS;
+    if array.record_count() > most {
+        // If memory is out, the log goes on to grow until a later call.
+        let _ = tiers.shorten_log(alloc);
     }
 }
 

@@ -2,9 +2,7 @@
 #![tactic(auto)]
 
 mod block;
-mod laws;
 mod piece;
 mod store;
 
-pub use laws::fresh_law;
 pub use store::ArrayStore;

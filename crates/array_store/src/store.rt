@@ -1,13 +1,12 @@
 // The bytes of a disk.
-ghost use Rattle.std.specs.Prelude.{◌≡◌, ◌+◌, ◌*◌, ◌<◌, ◌≤◌, ℕ, List, length, false, IfOk};
-ghost use Rattle.slot_tables.specs.Views.{SameSizes};
+ghost use Rattle.std.specs.Prelude.{◌≡◌, ◌+◌, ◌*◌, ◌<◌, ◌≤◌, length, false, IfOk};
 ghost use Rattle.byte_store.specs.Flat.{Flat, Sizes, written_over};
 ghost use Rattle.byte_store.specs.Changes.{IsChanged, IsFlushed};
 ghost use Rattle.array_store.specs.Blocks.{Holds};
 ghost use Rattle.array_store.specs.Stores.{IsStoreOf};
 ghost use Rattle.background.specs.Views.{TiersView};
 
-use crate::block::{read_piece, write_piece, zero_piece};
+use crate::block::{make_spare, read_piece, shorten_log, write_piece, zero_piece};
 use crate::piece::{Piece, piece_at};
 use background::Tiers;
 use byte_store::{ByteStore, StoreFault};
@@ -83,10 +82,9 @@ impl<D: Drive> ByteStore for ArrayStore<D> {
     }
 
     fn write(&mut self, alloc: Global, offset: u64, bytes: &[u8]) -> Result<(), StoreFault> {
-        self.unsynced = true;
-        shorten_long(alloc, &mut self.tiers);
         let shape = self.tiers.world().array().shape();
         let size = shape.payload as usize;
+        self.unsynced = true;
         let mut done = 0usize;
         while done < bytes.len() {
             let piece = piece_at(size, shape.blocks, offset + done as u64, bytes.len() - done);
@@ -99,11 +97,10 @@ impl<D: Drive> ByteStore for ArrayStore<D> {
     }
 
     fn zero(&mut self, alloc: Global, offset: u64, length: u32) -> Result<(), StoreFault> {
-        self.unsynced = true;
-        shorten_long(alloc, &mut self.tiers);
         let shape = self.tiers.world().array().shape();
         let size = shape.payload as usize;
         let length = length as usize;
+        self.unsynced = true;
         let mut done = 0usize;
         while done < length {
             let piece = piece_at(size, shape.blocks, offset + done as u64, length - done);
@@ -123,19 +120,11 @@ impl<D: Drive> ByteStore for ArrayStore<D> {
         self.unsynced = false;
         Ok(())
     }
-}
 
-/// Records of the log from which on it is shortened: it then takes 12 MiB.
-const LONG_LOG: usize = 1 << 20;
-
-// Shortens a long log to the newest record of each block.
-fn shorten_long<D: Drive>(alloc: Global, tiers: &mut Tiers<D>)
-    ensures kept { (bytes : List ℕ) → Holds tiers.old bytes → Holds tiers.new bytes }
-    ensures room { SameSizes tiers.old.world.array tiers.new.world.array }
-{
-    if tiers.world().array().record_count() >= LONG_LOG {
-        // If out of memory, the log stays as it is, and a later call tries again.
-        let _ = tiers.shorten_log(alloc);
+    // What can be done ahead of later requests: a mirrored slot is made free, and a log that has grown is shortened.
+    fn rest(&mut self, alloc: Global) {
+        make_spare(alloc, &mut self.tiers);
+        shorten_log(alloc, &mut self.tiers);
     }
 }
 

@@ -2,12 +2,12 @@
 use Rattle.std.specs.Prelude.{◌≡◌, ℕ, ◌⊎◌, List, length, slice_get, true, false, Result, Ok, Err}
 use Rattle.byte_store.specs.Flat.{Flat, written_over}
 
--- a write stopped somewhere: each byte is the old one or the one that was to be written, so none outside of the range is changed;
--- bytes that awaited a flush still do
+-- a write stopped somewhere: each byte is the old one or the one that was to be written, so none outside of the range is changed.
+-- Nothing changed at all, or the bytes await a flush
 pub record IsTorn (F : Flat) (offset : ℕ) (bytes : List ℕ) (G : Flat) : Type 0 where
   pub size : length G.bytes ≡ length F.bytes
   pub each : (k : ℕ) → (slice_get G.bytes k ≡ slice_get F.bytes k) ⊎ (slice_get G.bytes k ≡ slice_get (written_over F.bytes offset bytes) k)
-  pub unsynced : F.unsynced ≡ true → G.unsynced ≡ true
+  pub unsynced : (G ≡ F) ⊎ (G.unsynced ≡ true)
 
 -- bytes were written over others, and await a flush
 pub record IsWritten (F : Flat) (offset : ℕ) (bytes : List ℕ) (G : Flat) : Type 0 where

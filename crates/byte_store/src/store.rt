@@ -58,4 +58,12 @@ pub trait ByteStore {
             (G : Flat) × represents self.new G × IsFlushed result F G }
         ensures cause { IfErr result may_refuse }
         ensures sizes { sizes self.new ≡ sizes self.old };
+
+    /// Called while nobody waits for the store, so that it can do ahead what later requests would wait for. The bytes stay. A
+    /// store that has nothing to do ahead leaves it as it is.
+    fn rest(&mut self, _alloc: Global)
+        ensures kept { (F : Flat) → represents self.old F → represents self.new F }
+        ensures sizes { sizes self.new ≡ sizes self.old }
+    {
+    }
 }

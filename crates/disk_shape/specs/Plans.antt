@@ -1,10 +1,8 @@
 -- The sizes of the array that keeps a disk.
 use Rattle.std.specs.Prelude.{◌≡◌, ℕ, ◌+◌, ◌-◌, ◌*◌, ◌/◌, ◌<◌, ◌≤◌, nat_le, if◌then◌else◌}
 use Rattle.extents.specs.Sizes.{IsPayloadSize}
-use Rattle.extents.specs.declared.shape.Shape.{Shape}
 use Rattle.extent_groups.specs.declared.class.Class.TheVariants.{Mirrored, Parity}
 use Rattle.extent_groups.specs.Geometry.{slot_count}
-use Rattle.disk_shape.specs.declared.plan.Plan.{Plan}
 use Rattle.disk_shape.specs.declared.refusal.ShapeFault.{ShapeFault}
 use Rattle.disk_shape.specs.declared.refusal.ShapeFault.TheVariants.{Drives, Block, Empty, TooLarge}
 
@@ -51,10 +49,3 @@ pub record AreWhole (drives members groups mirrored extents : ℕ) : Type 0 wher
   pub group_count : (2 ≤ groups) × (groups ≤ 512)
   pub mirrored_count : mirrored ≡ mirrored_of groups
   pub extent_count : groups * members ≤ extents * drives
-
--- the plan of a disk: its blocks hold the disk's bytes, with less than a block to spare, and are fewer than the slots
-pub record IsPlanOf (size block drives : ℕ) (p : Plan) : Type 0 where
-  pub given : (p.size ≡ size) × (p.drives ≡ drives) × (p.shape.payload ≡ block)
-  pub hold : size ≤ p.shape.blocks * block
-  pub tight : p.shape.blocks * block < size + block
-  pub room : p.shape.blocks + 1 ≤ slots_of p.members p.shape.segments p.groups

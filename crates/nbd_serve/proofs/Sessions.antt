@@ -29,6 +29,19 @@ pub record IsAlong (represents : Flat → Type 0) (may : StoreFault → Type 0) 
   pub read : Consumes before after (flat_map asked_by exchanges)
   pub wrote : Appends held now (flat_map replied_by exchanges)
 
+-- a store that rested represents the same
+pub along_rested : {represents rested : Flat → Type 0} {may : StoreFault → Type 0} {size n : ℕ} {F : Flat} {before after held now : Option (List ℕ)} → ((G : Flat) → represents G → rested G)
+    → IsAlong represents may size n F before after held now → IsAlong rested may size n F before after held now
+along_rested kept along = record {
+  exchanges = along.exchanges;
+  count = along.count;
+  state = along.state;
+  runs = along.runs;
+  represented = kept along.state along.represented;
+  read = along.read;
+  wrote = along.wrote;
+}
+
 -- one exchange more
 runs_more : (may : StoreFault → Type 0) (size : ℕ) (F : Flat) (xs : List Exchange) (G : Flat) (x : Exchange) (H : Flat) → Runs may size F xs G → IsExchange may size G x H
     → Runs may size F (xs ++ x ∷ []) H

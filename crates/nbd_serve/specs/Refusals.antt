@@ -21,13 +21,13 @@ error_of (Err fault.Sync) = Some errno.Io
 abbrev pub past_end : ℕ → Request → Errno → Option Errno
 past_end size r error = if nat_le (r.offset + r.length) size then None else Some error
 
--- a command's request of at most 32 MiB within the store is carried out. EINVAL represented for all that is wrong with it but a write
--- past the end, which is ENOSPC. A flush ignores offset and length
+-- a command's request of at most 32 MiB within the store is carried out. EINVAL is the error of all that is wrong with it but a write
+-- or zeroes past the end, which is ENOSPC. A flush ignores offset and length
 abbrev pub refusal_by : Command → ℕ → Request → Option Errno
 refusal_by command.Read size r = if nat_le r.length 33554432 then past_end size r errno.Invalid else Some errno.Invalid
 refusal_by command.Write size r = if nat_le r.length 33554432 then past_end size r errno.NoSpace else Some errno.Invalid
 refusal_by command.Trim size r = past_end size r errno.Invalid
-refusal_by command.WriteZeroes size r = past_end size r errno.Invalid
+refusal_by command.WriteZeroes size r = past_end size r errno.NoSpace
 refusal_by command.Cache size r = past_end size r errno.Invalid
 refusal_by command.Flush size r = None
 refusal_by command.Disconnect size r = Some errno.Invalid

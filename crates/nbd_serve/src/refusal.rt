@@ -1,4 +1,4 @@
-// Which requests are refused before the store is asked, and the error that represented for a store's refusal.
+// Which requests are refused before the store is asked, and the error that a store's refusal is answered with.
 ghost use Rattle.std.specs.Prelude.{◌≡◌, ◌+◌, Some, None, nat_le, if◌then◌else◌};
 ghost use Rattle.nbd_serve.specs.Refusals.{error_of, refusal_of, past_end, refusal_by};
 ghost use Rattle.nbd_wire.specs.declared.reply.Errno.TheVariants as errno;
@@ -53,9 +53,8 @@ pub(crate) fn refusal_of(request: &Request, size: u64) -> Option<Errno>
     match request.command {
         Command::Read => refusal_of_bytes(request, size, Errno::Invalid),
         Command::Write => refusal_of_bytes(request, size, Errno::NoSpace),
-        Command::Trim | Command::WriteZeroes | Command::Cache => {
-            past_end(request, size, Errno::Invalid)
-        }
+        Command::WriteZeroes => past_end(request, size, Errno::NoSpace),
+        Command::Trim | Command::Cache => past_end(request, size, Errno::Invalid),
         Command::Flush => None,
         Command::Disconnect | Command::Other => Some(Errno::Invalid),
     }

@@ -80,7 +80,7 @@ fn exchange<R: Read, W: Write, S: ByteStore>(
 }
 
 /// Answers requests until the client disconnects, or the session ends otherwise. Each reply is written before the next request is
-/// read. Buffers are kept between requests.
+/// read, and in between the store rests. Buffers are kept between requests.
 pub fn transmit<R: Read, W: Write, S: ByteStore>(
     alloc: Global,
     reader: &mut R,
@@ -98,6 +98,7 @@ pub fn transmit<R: Read, W: Write, S: ByteStore>(
         if let Some(halt) = exchange(alloc, reader, writer, store, &mut out, &mut data) {
             return halt.end();
         }
+        store.rest(alloc);
     }
     End::Limit
 }

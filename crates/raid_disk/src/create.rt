@@ -15,7 +15,11 @@ pub(crate) fn drive_bytes(plan: &Plan) -> u64 {
 // Opens a file that isn't there.
 fn make_file(rt: &HostRuntime, folder: Folder<'_>, name: Name) -> Result<File, Trouble> {
     let path = folder.path(rt.alloc(), name)?;
-    match OpenOptions::new().write(true).create_new(true).open(rt, &path) {
+    match OpenOptions::new()
+        .write(true)
+        .create_new(true)
+        .open(rt, &path)
+    {
         Ok(file) => Ok(file),
         Err(error) if error.kind() == io::ErrorKind::AlreadyExists => Err(Trouble::Exists(name)),
         Err(error) => Err(unwritten(error, name)),
@@ -25,15 +29,22 @@ fn make_file(rt: &HostRuntime, folder: Folder<'_>, name: Name) -> Result<File, T
 // Makes the file of a drive, all zeros, which are its blank units.
 fn make_drive(rt: &HostRuntime, folder: Folder<'_>, drive: u8, bytes: u64) -> Result<(), Trouble> {
     let name = Name::Drive(drive);
-    let file = make_file(rt, folder, name)?;
-    match sized(&file, bytes) {
+    let mut file = make_file(rt, folder, name)?;
+    match zeroed(&mut file, bytes) {
         Ok(()) => Ok(()),
         Err(error) => Err(unwritten(error, name)),
     }
 }
 
-fn sized(file: &File, bytes: u64) -> io::Result<()> {
-    file.set_len(bytes)?;
+// Writes the zeros, so that the system has room for all bytes of the drive from the start.
+fn zeroed(file: &mut File, bytes: u64) -> io::Result<()> {
+    let zeros = [0u8; 4096];
+    let mut left = bytes;
+    while left > 0 {
+        let now = left.min(4096) as usize;
+        file.write_all(&zeros[..now])?;
+        left -= now as u64;
+    }
     file.sync_all()
 }
 
@@ -96,7 +107,8 @@ fn make_table(rt: &HostRuntime, folder: Folder<'_>, plan: &Plan) -> Result<(), T
     }
 }
 
-/// Makes a disk of `size` bytes, all zero, in blocks of `block` bytes.
+/// Makes a disk of `size` bytes, all zero, in blocks of `block` bytes. What an attempt that failed or was stopped has made stays, and
+/// is in the way of the next one.
 pub(crate) fn create_disk(
     rt: &HostRuntime,
     folder: Folder<'_>,

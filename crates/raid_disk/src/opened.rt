@@ -115,7 +115,7 @@ fn test_length(file: &File, drive: u8, wants: u64) -> Result<(), Trouble> {
     }
 }
 
-// What a drive is written through to. A drive whose file isn't there is marked, before anything goes on without it.
+// What a drive is written through to.
 fn backing_of(
     rt: &HostRuntime,
     folder: Folder<'_>,
@@ -133,11 +133,6 @@ fn backing_of(
     }
     let mark = mark_of(table_file, table, drive)?;
     let Some(file) = open_file(rt, folder, drive, usage)? else {
-        if usage == Use::Serves {
-            if let Err(error) = mark.set() {
-                return Err(unwritten(error, Name::Table));
-            }
-        }
         return Ok(gone);
     };
     test_length(&file, drive, wants)?;
@@ -148,7 +143,12 @@ fn backing_of(
 }
 
 // The drive over a backing. One without a file is lost.
-fn drive_of(alloc: Global, plan: &Plan, drive: u8, backing: DriveFile) -> Result<DiskDrive, Trouble> {
+fn drive_of(
+    alloc: Global,
+    plan: &Plan,
+    drive: u8,
+    backing: DriveFile,
+) -> Result<DiskDrive, Trouble> {
     let is_here = matches!(backing, DriveFile::Here { .. });
     let mut opened = match FileDrive::open(alloc, &plan.shape, backing) {
         Ok(opened) => opened,
@@ -236,6 +236,19 @@ fn restarted(alloc: Global, parts: Parts<DiskDrive>) -> Result<Tiers<DiskDrive>,
     Ok(Tiers::new(alloc, world)?)
 }
 
+// Marks the drives that the disk goes on without. It comes after all else that an opening may refuse, so that a disk of which two
+// files are out of reach for a while is as it was.
+fn mark_missing(file: &File, table: &Table, world: &World<DiskDrive>) -> Result<(), Trouble> {
+    for drive in 0..world.array().drive_count() {
+        if world.array().is_lost(drive) && !table.lost[usize::from(drive % 16)] {
+            if let Err(error) = mark_of(file, table, drive)?.set() {
+                return Err(unwritten(error, Name::Table));
+            }
+        }
+    }
+    Ok(())
+}
+
 // The disk's bytes; refused where the array has fewer.
 fn store_of(
     alloc: Global,
@@ -250,11 +263,7 @@ fn store_of(
 }
 
 /// Opens a disk.
-pub(crate) fn open_disk(
-    rt: &HostRuntime,
-    folder: Folder<'_>,
-    usage: Use,
-) -> Result<Disk, Trouble> {
+pub(crate) fn open_disk(rt: &HostRuntime, folder: Folder<'_>, usage: Use) -> Result<Disk, Trouble> {
     let alloc = rt.alloc();
     let mut file = open_table(rt, folder, usage)?;
     let table = read_table(rt, &mut file)?;
@@ -273,9 +282,13 @@ pub(crate) fn open_disk(
         note: None,
     };
     let tiers = restarted(alloc, parts)?;
+    let store = ArrayStore::new(alloc, tiers, plan.size)?;
+    if usage == Use::Serves {
+        mark_missing(&file, &table, store.world())?;
+    }
     Ok(Disk {
         plan,
-        store: store_of(alloc, tiers, plan.size)?,
+        store,
         table: file,
     })
 }

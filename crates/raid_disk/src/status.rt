@@ -71,13 +71,19 @@ fn print(rt: &HostRuntime, disk: &Disk) -> io::Result<()> {
     }
     for (name, class) in [("mirrored", Class::Mirrored), ("parity", Class::Parity)] {
         let level = level_of(array, class);
-        let Level { groups, slots, used } = level;
+        let Level {
+            groups,
+            slots,
+            used,
+        } = level;
         println!(rt; "{name} groups {groups}: slots {slots}, used {used}")?;
     }
     let missing = missing_in(array);
     match missing {
         0 => println!(rt; "no drive is missing"),
-        1 => println!(rt; "one drive is missing: all can be read, and a second loss may not be survived"),
+        1 => println!(rt;
+            "one drive is missing: all can be read, and a second loss may not be survived"
+        ),
         _ => println!(rt; "{missing} drives are missing"),
     }
 }

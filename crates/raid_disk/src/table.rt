@@ -30,7 +30,9 @@ pub(crate) fn text_of(alloc: Global, plan: &Plan) -> Result<String, AllocError> 
     let segments = plan.shape.segments;
     let groups = plan.groups;
     let mirrored = plan.mirrored;
-    format!(in alloc; "raid_disk 1\nsize {size}\nblock {block}\ndrives {drives}\nsegments {segments}\ngroups {groups}\nmirrored {mirrored}\nlost ")
+    format!(in alloc;
+        "raid_disk 1\nsize {size}\nblock {block}\ndrives {drives}\nsegments {segments}\ngroups {groups}\nmirrored {mirrored}\nlost "
+    )
 }
 
 /// The whole table of a new disk.

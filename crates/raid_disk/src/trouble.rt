@@ -70,20 +70,32 @@ impl Trouble {
         let at = folder.name;
         match self {
             Trouble::Memory => eprintln!(rt; "raid_disk: out of memory"),
-            Trouble::Size => eprintln!(rt; "raid_disk: SIZE is a number of bytes, or a number and K, M or G"),
+            Trouble::Size => eprintln!(rt;
+                "raid_disk: SIZE is a number of bytes, or a number and K, M or G"
+            ),
             Trouble::Shape(fault) => report_shape(rt, fault),
             Trouble::NoDisk => eprintln!(rt; "raid_disk: {at} has no disk: there is no {at}/table"),
             Trouble::NoTable => eprintln!(rt; "raid_disk: {at}/table isn't the table of a disk"),
             Trouble::Busy => eprintln!(rt; "raid_disk: {at}: another process has the disk"),
-            Trouble::Words(error) => eprintln!(rt; "raid_disk: the command line can't be read: {error}"),
-            Trouble::Output(error) => eprintln!(rt; "raid_disk: standard output can't be written: {error}"),
-            Trouble::Stream(end) => eprintln!(rt; "raid_disk: {at}: the client's session ended: {end:?}"),
+            Trouble::Words(error) => eprintln!(rt;
+                "raid_disk: the command line can't be read: {error}"
+            ),
+            Trouble::Output(error) => eprintln!(rt;
+                "raid_disk: standard output can't be written: {error}"
+            ),
+            Trouble::Stream(end) => eprintln!(rt;
+                "raid_disk: {at}: the client's session ended: {end:?}"
+            ),
             Trouble::Sync => eprintln!(rt; "raid_disk: {at}: a drive's file can't be synced"),
-            Trouble::Unsound => eprintln!(rt; "raid_disk: {at}: the drives' files don't fit one another"),
+            Trouble::Unsound => eprintln!(rt;
+                "raid_disk: {at}: the drives' files don't fit one another"
+            ),
             Trouble::Gone(slot) => {
                 let group = slot / 128;
                 let index = slot % 128;
-                eprintln!(rt; "raid_disk: {at}: too many drives are missing: slot {index} of group {group} can't be read")
+                eprintln!(rt;
+                    "raid_disk: {at}: too many drives are missing: slot {index} of group {group} can't be read"
+                )
             }
             _ => self.report_file(rt, folder),
         }
@@ -94,15 +106,19 @@ impl Trouble {
         match self {
             Trouble::Exists(name) => {
                 let path = folder.path(rt.alloc(), *name)?;
-                eprintln!(rt; "raid_disk: {path} is there already: nothing was made")
+                eprintln!(rt;
+                    "raid_disk: {path} is there already: nothing was made; remove what an earlier attempt has left, or name another folder"
+                )
             }
             Trouble::Length(drive, has, wants) => {
                 let path = folder.path(rt.alloc(), Name::Drive(*drive))?;
-                eprintln!(rt; "raid_disk: {path} has {has} bytes, and a drive of this disk {wants}: without the file the drive is lost")
+                eprintln!(rt;
+                    "raid_disk: {path} has {has} bytes, and a drive of this disk {wants}: without the file the drive is lost"
+                )
             }
             Trouble::Read(name, error) => {
                 let path = folder.path(rt.alloc(), *name)?;
-                eprintln!(rt; "raid_disk: {path} can't be read: {error}")
+                eprintln!(rt; "raid_disk: {path} can't be opened or read: {error}")
             }
             Trouble::Write(name, error) => {
                 let path = folder.path(rt.alloc(), *name)?;
@@ -110,7 +126,9 @@ impl Trouble {
             }
             Trouble::Unread(drive) => {
                 let path = folder.path(rt.alloc(), Name::Drive(*drive))?;
-                eprintln!(rt; "raid_disk: {path} can't be read to its end: without the file the drive is lost")
+                eprintln!(rt;
+                    "raid_disk: {path} can't be read to its end: without the file the drive is lost"
+                )
             }
             _ => Ok(()),
         }
@@ -120,7 +138,9 @@ impl Trouble {
 fn report_shape(rt: &HostRuntime, fault: &ShapeFault) -> io::Result<()> {
     match fault {
         ShapeFault::Drives => eprintln!(rt; "raid_disk: a disk has 3 to 16 drives"),
-        ShapeFault::Block => eprintln!(rt; "raid_disk: a block has 8 to 65536 bytes, a multiple of 8"),
+        ShapeFault::Block => eprintln!(rt;
+            "raid_disk: a block has 8 to 65536 bytes, a multiple of 8"
+        ),
         ShapeFault::Empty => eprintln!(rt; "raid_disk: a disk has at least one byte"),
         ShapeFault::TooLarge(most) => {
             eprintln!(rt; "raid_disk: the largest disk of these drives and blocks has {most} bytes")

@@ -10,8 +10,8 @@ use Rattle.script_syntax.proofs.Table.{one_verb, tail_again}
 use Rattle.script_syntax.specs.Order as o
 use Rattle.script_syntax.specs.Spelling.{IsSized}
 use Rattle.script_exec.specs.declared.bench.Bench.{Bench}
-use Rattle.script_exec.specs.State.{Position, IsFit, IsWithin}
-use Rattle.script_exec.specs.Carrying.{IsCarried}
+use Rattle.script_exec.specs.State.{Position, State, IsFit, IsWithin}
+use Rattle.script_exec.specs.Carrying.{IsCarried, Stands, StandsAt}
 use Rattle.script_exec.specs.Replies.{IsUnsaid, IsReplied}
 
 -- a line has one verb
@@ -88,3 +88,8 @@ replied P bench size blocks line old new order long many read other within carri
     carried = carried;
   };
 }
+
+-- what holds of each position that a bench represents holds of each state that it does
+pub at_position : (bench : Bench) (P : State → Type 0) → ((position : Position) → StandsAt bench position → P (Some position)) → (state : State) → Stands (Some bench) state → P state
+at_position bench P holds (Some position) stands = holds position stands
+at_position bench P holds None stands = absurd stands

@@ -1,5 +1,11 @@
-//! A disk's bytes over an array in memory.
+//! A disk's bytes over drives that count their syncs, up to its last block.
 #![tactic(auto)]
 
 #[cfg(test)]
 mod bytes;
+#[cfg(test)]
+mod flushes;
+#[cfg(test)]
+mod rig;
+#[cfg(test)]
+mod room;

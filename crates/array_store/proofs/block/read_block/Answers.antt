@@ -1,5 +1,5 @@
-use Rattle.std.proofs.Common.{rules, ◌≡◌, replicate, length, subst, sym, Ok, Err, Some, None, List, ℕ}
-use Rattle.array_store.specs.Blocks.{Holds, IsBlockOf}
+use Rattle.std.proofs.Common.{rules, ◌≡◌, replicate, subst, sym, Ok, Err}
+use Rattle.array_store.specs.Blocks.{IsBlockOf}
 use Rattle.array_store.proofs.Holding.{DoesRead, read_holds, found_block, nothing_block}
 use Rattle.array_store.proofs.block.read_block.Goals as goal
 

@@ -1,4 +1,4 @@
-use Rattle.std.proofs.Common.{rules, ◌≡◌, ◌+◌, ◌*◌, ◌<◌, ◌≤◌, ℕ, length, slice_index, subst, sym, ap, arith}
+use Rattle.std.proofs.Common.{rules, ◌≡◌, ◌+◌, ◌*◌, ◌≤◌, length, slice_index, subst, ap, arith}
 use Rattle.std.proofs.lemmas.List.{places}
 use Rattle.array_store.specs.Blocks.{IsBlockOf}
 use Rattle.array_store.proofs.Pieces.{on_ok, piece_read}

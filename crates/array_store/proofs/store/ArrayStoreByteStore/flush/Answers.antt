@@ -4,7 +4,7 @@ use Rattle.array_store.proofs.store.ArrayStoreByteStore.flush.Goals as goal
 
 pub returns-clause-change : goal.returns-clause-change
 returns-clause-change g c = λ F is. (
-      record { bytes = F.bytes; unsynced = false },
-      record { holds = synced_holds c.args.self.now.tiers c.sync.new.self c.sync.ensures.flat F.bytes is.holds; long = is.long; noted = refl },
-      (refl, refl),
-    )
+  record { bytes = F.bytes; unsynced = false },
+  record { holds = synced_holds c.args.self.now.tiers c.sync.new.self c.sync.ensures.flat F.bytes is.holds; long = is.long; noted = refl },
+  (refl, refl),
+)

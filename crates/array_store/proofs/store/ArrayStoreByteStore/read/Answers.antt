@@ -1,5 +1,5 @@
-use Rattle.std.proofs.Common.{rules, ◌≡◌, ◌+◌, ◌-◌, ◌*◌, ◌<◌, ◌≤◌, ℕ, List, length, take, drop, ◌++◌, slice_index, refl, subst, sym, ap, ◌∙◌, arith}
-use Rattle.std.proofs.lemmas.List.{places, same_lists, drop-drop}
+use Rattle.std.proofs.Common.{rules, ◌≡◌, ◌+◌, ◌-◌, ◌*◌, ◌<◌, ◌≤◌, length, take, ◌++◌, slice_index, sym, ap, ◌∙◌, arith}
+use Rattle.std.proofs.lemmas.List.{places, drop-drop}
 use borrow.Rule.Slice.PartMut.{put_mid}
 use Rattle.byte_store.specs.Flat.{written_over}
 use Rattle.array_store.proofs.Loops.{read_all, read_more, read_part}
@@ -14,7 +14,7 @@ loop-done-preserved g c =
     let count = c.piece_at-piece.ensures.count.1 in
     let within = c.requires.within in
     let at : c.piece_at-piece.result.block * length c.deref_mut.result.now + c.piece_at-piece.result.from ≡ c.args.offset + c.loop-done.done =
-        ap (λ n. c.piece_at-piece.result.block * n + c.piece_at-piece.result.from) size ∙ place in
+    ap (λ n. c.piece_at-piece.result.block * n + c.piece_at-piece.result.from) size ∙ place in
     let some = c.loop-done.invariant.some in
     let same = c.loop-done.invariant.long in
     let more : c.loop-done.done + c.piece_at-piece.result.count ≤ length c.args.out.now = omega arith in
@@ -23,9 +23,9 @@ loop-done-preserved g c =
     let fits : c.loop-done.done + length c.read_piece.new.out ≤ length c.loop-done.out = omega (arith, long, more, same) in
     let cut : c.loop-done.done + c.piece_at-piece.result.count - c.loop-done.done ≡ length c.read_piece.new.out = omega (arith, long) in
     let over : put_mid c.loop-done.done (c.loop-done.done + c.piece_at-piece.result.count - c.loop-done.done) c.loop-done.out c.read_piece.new.out
-        ≡ written_over c.loop-done.out c.loop-done.done c.read_piece.new.out =
-        ap (λ n. put_mid c.loop-done.done n c.loop-done.out c.read_piece.new.out) cut
-        ∙ ap (λ ys. take c.loop-done.done c.loop-done.out ++ (c.read_piece.new.out ++ ys)) (drop-drop (length c.read_piece.new.out) c.loop-done.done c.loop-done.out) in
+    ≡ written_over c.loop-done.out c.loop-done.done c.read_piece.new.out =
+    ap (λ n. put_mid c.loop-done.done n c.loop-done.out c.read_piece.new.out) cut
+    ∙ ap (λ ys. take c.loop-done.done c.loop-done.out ++ (c.read_piece.new.out ++ ys)) (drop-drop (length c.read_piece.new.out) c.loop-done.done c.loop-done.out) in
     record {
       long = ap length over ∙ (over_long c.loop-done.out c.loop-done.done c.read_piece.new.out fits ∙ same);
       some = more;
@@ -35,7 +35,7 @@ loop-done-preserved g c =
       kept = λ bytes holds. c.in_ok-read_piece.ensures.kept bytes (c.loop-done.invariant.kept bytes holds);
       read = λ bytes holds is k below.
           let ends : c.piece_at-piece.result.block * length c.deref_mut.result.now + c.piece_at-piece.result.from + length c.read_piece.new.out ≤ length bytes =
-              omega (arith, at, long, more, within, is) in
+          omega (arith, at, long, more, within, is) in
           let piece = read_part bytes c.read_piece.new.out _ _ _ (c.in_ok-read_piece.ensures.read bytes (c.loop-done.invariant.kept bytes holds)) (sym c.read_piece.auto.out) ends in
           let lower : k < c.loop-done.done + length c.read_piece.new.out = omega (arith, long, below) in
           ap (λ xs. slice_index xs k) over ∙ read_more bytes c.loop-done.out c.read_piece.new.out c.args.offset c.loop-done.done _ fits at piece

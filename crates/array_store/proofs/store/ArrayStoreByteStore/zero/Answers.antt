@@ -1,5 +1,5 @@
-use Rattle.std.proofs.Common.{rules, ◌≡◌, ◌+◌, ◌-◌, ◌*◌, ◌<◌, ◌≤◌, ℕ, List, length, replicate, slice_index, true, refl, subst, sym, ap, ◌∙◌, arith}
-use Rattle.std.proofs.lemmas.List.{places, length-replicate, get_or-replicate}
+use Rattle.std.proofs.Common.{inr, rules, ◌≡◌, ◌+◌, ◌*◌, ◌≤◌, ℕ, length, replicate, true, refl, subst, sym, ap, ◌∙◌, arith}
+use Rattle.std.proofs.lemmas.List.{places, length-replicate}
 use Rattle.std.proofs.lemmas.Result.{err_from_is_err_and}
 use Rattle.byte_store.specs.Flat.{written_over}
 use Rattle.array_store.specs.Blocks.{Holds}
@@ -17,7 +17,7 @@ loop-done-preserved g c =
     let count = c.piece_at-piece.ensures.count.1 in
     let within = c.requires.within in
     let at : c.piece_at-piece.result.block * length c.deref_mut.result.now + c.piece_at-piece.result.from ≡ c.args.offset + c.loop-done.done =
-        ap (λ n. c.piece_at-piece.result.block * n + c.piece_at-piece.result.from) size ∙ place in
+    ap (λ n. c.piece_at-piece.result.block * n + c.piece_at-piece.result.from) size ∙ place in
     let some = c.loop-done.invariant.some in
     let more : c.loop-done.done + c.piece_at-piece.result.count ≤ c.args.length = omega arith in
     let room = c.in_ok-zero_piece.ensures.room in
@@ -33,7 +33,7 @@ loop-done-preserved g c =
           let fits : c.args.offset + length (replicate {A = ℕ} (c.loop-done.done + c.piece_at-piece.result.count) 0) ≤ length bytes = omega (arith, len_all, more, within, is) in
           write_more _ _ _ _ _ _ _ bytes c.args.offset (replicate {A = ℕ} c.loop-done.done 0) (replicate {A = ℕ} (c.loop-done.done + c.piece_at-piece.result.count) 0) c.in_ok-zero_piece.ensures.put (sym (length-replicate c.piece_at-piece.result.count _)) (c.loop-done.invariant.wrote bytes holds is) start fits
           (let part : length (replicate {A = ℕ} c.piece_at-piece.result.count 0) ≡ c.piece_at-piece.result.count = length-replicate c.piece_at-piece.result.count _ in
-              omega (arith, part, len_first, len_all))
+          omega (arith, part, len_first, len_all))
           (λ j below. search (rules, places)) (λ j below. search (rules, places));
     }
 
@@ -46,7 +46,7 @@ returns-in_err-zero_piece-clause-change g c = λ F is.
     let fits : c.args.offset + length (replicate {A = ℕ} c.args.length 0) ≤ length F.bytes = let long = is.long in omega (arith, within, long, len_all) in
     let less : length (replicate {A = ℕ} c.loop-done.done 0) ≤ length (replicate {A = ℕ} c.args.length 0) = omega (arith, len_first, len_all, some) in
     let fits_first : c.args.offset + length (replicate {A = ℕ} c.loop-done.done 0) ≤ length F.bytes = omega (arith, less, fits) in
-    let holds = c.in_err-zero_piece.ensures.kept (written_over F.bytes c.args.offset (replicate {A = ℕ} c.loop-done.done 0)) (c.loop-done.invariant.wrote F.bytes (c.shorten_long.ensures.kept F.bytes is.holds) is.long) in
+    let holds = c.in_err-zero_piece.ensures.kept (written_over F.bytes c.args.offset (replicate {A = ℕ} c.loop-done.done 0)) (c.loop-done.invariant.wrote F.bytes is.holds is.long) in
     let long = over_long F.bytes c.args.offset (replicate {A = ℕ} c.loop-done.done 0) fits_first in
     let p = err_from_is_err_and c.from_residual.result c.from_residual.ensures.1 in
     rw p.1 (
@@ -55,7 +55,7 @@ returns-in_err-zero_piece-clause-change g c = λ F is.
       record {
         size = long;
         each = torn F.bytes c.args.offset (replicate {A = ℕ} c.loop-done.done 0) (replicate {A = ℕ} c.args.length 0) fits less (λ j below. search (rules, places));
-        unsynced = λ _. refl;
+        unsynced = inr refl;
       },
     )
 
@@ -67,7 +67,7 @@ returns-clause-change g c = λ F is.
     let done : c.loop-done.done ≡ c.args.length = omega arith in
     let len_all : length (replicate {A = ℕ} c.args.length 0) ≡ c.args.length = length-replicate c.args.length _ in
     let fits : c.args.offset + length (replicate {A = ℕ} c.args.length 0) ≤ length F.bytes = let long = is.long in omega (arith, within, long, len_all) in
-    let wrote = c.loop-done.invariant.wrote F.bytes (c.shorten_long.ensures.kept F.bytes is.holds) is.long in
+    let wrote = c.loop-done.invariant.wrote F.bytes is.holds is.long in
     let all : (replicate {A = ℕ} c.loop-done.done 0) ≡ (replicate {A = ℕ} c.args.length 0) = ap (λ n. replicate {A = ℕ} n 0) done in (
       record { bytes = written_over F.bytes c.args.offset (replicate {A = ℕ} c.args.length 0); unsynced = true },
       record {

@@ -1,4 +1,4 @@
-use Rattle.std.proofs.Common.{length, replicate, ◌-◌, ◌≡◌, ◌+◌, ◌<◌, ◌≤◌, ℕ, List, true}
+use Rattle.std.proofs.Common.{length, replicate, ◌-◌, ◌≡◌, ◌≤◌, ℕ, List, true}
 use Rattle.slot_tables.specs.Views.{SameSizes}
 use Rattle.byte_store.specs.Flat.{written_over}
 use Rattle.array_store.specs.Blocks.{Holds}
