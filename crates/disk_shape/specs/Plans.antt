@@ -1,10 +1,8 @@
 -- The sizes of the array that keeps a disk.
 use Rattle.std.specs.Prelude.{◌≡◌, ℕ, ◌+◌, ◌-◌, ◌*◌, ◌/◌, ◌<◌, ◌≤◌, nat_le, if◌then◌else◌}
 use Rattle.extents.specs.Sizes.{IsPayloadSize}
-use Rattle.extents.specs.declared.shape.Shape.{Shape}
 use Rattle.extent_groups.specs.declared.class.Class.TheVariants.{Mirrored, Parity}
 use Rattle.extent_groups.specs.Geometry.{slot_count}
-use Rattle.disk_shape.specs.declared.plan.Plan.{Plan}
 use Rattle.disk_shape.specs.declared.refusal.ShapeFault.{ShapeFault}
 use Rattle.disk_shape.specs.declared.refusal.ShapeFault.TheVariants.{Drives, Block, Empty, TooLarge}
 
@@ -45,17 +43,9 @@ IsFaultOf size block drives (TooLarge most) =
     (IsDriveCount drives) × (IsPayloadSize block) × (most ≡ largest_size drives block) × (most < size)
 
 -- the sizes of a plan fit one another: each group has a member on each drive, on 8 at most, and there are extents for all of them
-pub record IsWhole (p : Plan) : Type 0 where
-  pub drives : IsDriveCount p.drives
-  pub members : p.members ≡ member_count p.drives
-  pub groups : (2 ≤ p.groups) × (p.groups ≤ 512)
-  pub mirrored : p.mirrored ≡ mirrored_of p.groups
-  pub extents : p.groups * p.members ≤ p.shape.extents * p.drives
-
--- the plan of a disk: its blocks hold the disk's bytes, with less than a block to spare, and are fewer than the slots
-pub record IsPlanOf (size block drives : ℕ) (p : Plan) : Type 0 where
-  pub given : (p.size ≡ size) × (p.drives ≡ drives) × (p.shape.payload ≡ block)
-  pub whole : IsWhole p
-  pub hold : size ≤ p.shape.blocks * block
-  pub tight : p.shape.blocks * block < size + block
-  pub room : p.shape.blocks + 1 ≤ slots_of p.members p.shape.segments p.groups
+pub record AreWhole (drives members groups mirrored extents : ℕ) : Type 0 where
+  pub drive_count : IsDriveCount drives
+  pub member_count_is : members ≡ member_count drives
+  pub group_count : (2 ≤ groups) × (groups ≤ 512)
+  pub mirrored_count : mirrored ≡ mirrored_of groups
+  pub extent_count : groups * members ≤ extents * drives

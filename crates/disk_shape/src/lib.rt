@@ -3,9 +3,11 @@
 
 mod members;
 mod plan;
+mod planning;
 mod refusal;
 mod search;
 
 pub use members::{class_of, member_at};
-pub use plan::{Plan, plan_disk};
+pub use plan::Plan;
+pub use planning::plan_disk;
 pub use refusal::ShapeFault;

@@ -1,6 +1,5 @@
 // Which extents a group has.
 ghost use Rattle.std.specs.Prelude.{◌≡◌, ◌+◌, ◌*◌, ◌/◌, ◌%◌, ◌<◌, ◌≤◌};
-ghost use Rattle.disk_shape.specs.Plans.{IsWhole};
 ghost use Rattle.extent_groups.specs.declared.class.Class.TheVariants.{Mirrored, Parity};
 
 use crate::Plan;
@@ -20,7 +19,6 @@ pub fn class_of(plan: &Plan, group: u16) -> Class
 
 /// The extent that a group has as its member of an index: the extents of all drives are dealt out in turn.
 pub fn member_at(plan: &Plan, group: u16, index: u8) -> Member
-    requires plan { IsWhole plan.now }
     requires group { group < plan.now.groups }
     requires index { index < plan.now.members }
     ensures drive { result.drive ≡ (group * plan.now.members + index) % plan.now.drives }

@@ -1,5 +1,6 @@
 //! A disk whose files are open.
-ghost use Rattle.std.specs.Prelude.{◌≡◌, None, IfOk};
+ghost use Rattle.std.specs.Prelude.{◌≡◌, ◌<◌, None, IfOk};
+ghost use Rattle.extent_groups.specs.Groups.{Agree};
 
 use crate::create::drive_bytes;
 use crate::drive_file::{DriveFile, Mark};
@@ -10,7 +11,7 @@ use array_parts::Parts;
 use array_store::ArrayStore;
 use background::Tiers;
 use disk_shape::{Plan, class_of, member_at};
-use extent_groups::{GROUPS, GroupRefusal, GroupTable, SLOTS};
+use extent_groups::{GROUPS, GroupRefusal, GroupTable, Member, SLOTS, are_there};
 use extents::{Drive, ExtentTable};
 use file_drive::{FileDrive, OnFile, OpenRefusal};
 use header_scan::{ScanFault, restart};
@@ -161,20 +162,46 @@ fn drive_of(
     Ok(opened)
 }
 
+// The extents of a group.
+fn members_of(alloc: Global, plan: &Plan, group: u16) -> Result<Vec<Member>, AllocError>
+    requires { group < plan.now.groups }
+{
+    let mut members = Vec::new(alloc);
+    for index in 0..plan.members {
+        members.push(member_at(plan, group, index))?;
+    }
+    Ok(members)
+}
+
+// Enters a group of a plan.
+fn enter(
+    alloc: Global,
+    plan: &Plan,
+    group: u16,
+    groups: &mut GroupTable,
+    extents: &mut ExtentTable,
+) -> Result<(), Trouble>
+    requires group { group < plan.now.groups }
+    requires agree { Agree groups.old extents.old }
+    ensures agree { Agree groups.new extents.new }
+{
+    let members = members_of(alloc, plan, group)?;
+    if !are_there(extents, &members) || !groups.is_free(group) {
+        return Err(Trouble::Unsound);
+    }
+    match groups.put_group(alloc, extents, group, class_of(plan, group), &members) {
+        Ok(()) => Ok(()),
+        Err(GroupRefusal::Memory) => Err(Trouble::Memory),
+        Err(_) => Err(Trouble::Unsound),
+    }
+}
+
 // The groups of a plan, and the owners of the extents.
 fn groups_of(alloc: Global, plan: &Plan) -> Result<(GroupTable, ExtentTable), Trouble> {
     let mut groups = GroupTable::new(alloc, &plan.shape)?;
     let mut extents = ExtentTable::new(alloc, plan.drives, &plan.shape)?;
     for group in 0..plan.groups {
-        let mut members = Vec::new(alloc);
-        for index in 0..plan.members {
-            members.push(member_at(plan, group, index))?;
-        }
-        match groups.put_group(alloc, &mut extents, group, class_of(plan, group), &members) {
-            Ok(()) => {}
-            Err(GroupRefusal::Memory) => return Err(Trouble::Memory),
-            Err(_) => return Err(Trouble::Unsound),
-        }
+        enter(alloc, plan, group, &mut groups, &mut extents)?;
     }
     Ok((groups, extents))
 }
@@ -220,6 +247,19 @@ fn mark_missing(file: &File, table: &Table, world: &World<DiskDrive>) -> Result<
         }
     }
     Ok(())
+}
+
+// The disk's bytes; refused where the array has fewer.
+fn store_of(
+    alloc: Global,
+    tiers: Tiers<DiskDrive>,
+    size: u64,
+) -> Result<ArrayStore<DiskDrive>, Trouble> {
+    let shape = tiers.world().array().shape();
+    if size > u64::from(shape.blocks) * u64::from(shape.payload) {
+        return Err(Trouble::Unsound);
+    }
+    Ok(ArrayStore::new(alloc, tiers, size)?)
 }
 
 /// Opens a disk.
