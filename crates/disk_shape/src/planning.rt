@@ -3,10 +3,10 @@ ghost use Rattle.std.specs.Prelude.{◌≡◌, ◌+◌, ◌*◌, ◌<◌, ◌≤
 ghost use Rattle.disk_shape.specs.Planned.{IsPlanOf};
 ghost use Rattle.disk_shape.specs.Plans.{AreDiskSizes, IsFaultOf, largest_size, member_count, slots_of};
 
-use crate::{Plan, ShapeFault};
 use crate::search::{
     MOST_GROUPS, MOST_SEGMENTS, first_groups, first_segments, mirrored_among, slot_total,
 };
+use crate::{Plan, ShapeFault};
 use extents::Shape;
 
 // The most blocks of a disk of so many drives: one slot stays free.
