@@ -282,7 +282,7 @@ pub(crate) fn open_disk(rt: &HostRuntime, folder: Folder<'_>, usage: Use) -> Res
         note: None,
     };
     let tiers = restarted(alloc, parts)?;
-    let store = ArrayStore::new(alloc, tiers, plan.size)?;
+    let store = store_of(alloc, tiers, plan.size)?;
     if usage == Use::Serves {
         mark_missing(&file, &table, store.world())?;
     }
