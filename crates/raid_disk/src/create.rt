@@ -39,12 +39,10 @@ fn make_drive(rt: &HostRuntime, folder: Folder<'_>, drive: u8, bytes: u64) -> Re
 // Writes the zeros, so that the system has room for all bytes of the drive from the start.
 fn zeroed(file: &mut File, bytes: u64) -> io::Result<()> {
     let zeros = [0u8; 4096];
-    let mut left = bytes;
-    while left > 0 {
-        let now = left.min(4096) as usize;
-        file.write_all(&zeros[..now])?;
-        left -= now as u64;
+    for _piece in 0..bytes / 4096 {
+        file.write_all(&zeros)?;
     }
+    file.write_all(&zeros[..(bytes % 4096) as usize])?;
     file.sync_all()
 }
 

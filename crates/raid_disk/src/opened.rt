@@ -200,6 +200,9 @@ fn enter(
 fn groups_of(alloc: Global, plan: &Plan) -> Result<(GroupTable, ExtentTable), Trouble> {
     let mut groups = GroupTable::new(alloc, &plan.shape)?;
     let mut extents = ExtentTable::new(alloc, plan.drives, &plan.shape)?;
+    if !groups.agrees(&extents) {
+        return Err(Trouble::Unsound);
+    }
     for group in 0..plan.groups {
         enter(alloc, plan, group, &mut groups, &mut extents)?;
     }
