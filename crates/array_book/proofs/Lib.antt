@@ -6,3 +6,8 @@ pub mod Planning
 pub mod Fresh
 pub mod Answering
 pub mod Named
+pub mod Idling
+pub mod Going
+pub mod Noting
+pub mod Idled
+pub mod Wholes

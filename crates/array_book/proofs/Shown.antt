@@ -7,7 +7,7 @@ use Rattle.map_join.specs.declared.records.Record.{Record}
 use Rattle.map_join.specs.Record.{key_of}
 use Rattle.extent_groups.specs.Groups.{Groups}
 use Rattle.flat_machine.specs.declared.refusal.Refusal.{Refusal}
-use Rattle.flat_machine.specs.declared.refusal.Refusal.TheVariants.{Memory, InUse}
+use Rattle.flat_machine.specs.declared.refusal.Refusal.TheVariants.{InUse}
 use Rattle.flat_machine.specs.Flat.{Flat, Content, Ticket, Waiting, IsKept}
 use Rattle.flat_machine.specs.Steps.{Seen, Data, Stale}
 use Rattle.flat_machine.specs.Steps as say
@@ -33,13 +33,7 @@ use Rattle.flat_machine.specs.Cases.{Case}
 use Rattle.array_book.specs.Kept as book
 use Rattle.array_book.specs.Kept.{KeptView}
 
--- a state of an array that refused
-pub refused_shown : (q : Refusal) (W : Type 0) (P : Flat → Type 0) (a b : ArrayView) (F : Flat) → ShowsArray a F → IsRefused a b q
-    → MayRefuse q W ((G : Flat) × P G × ShowsArray b G) → (G : Flat) × ShowsArray b G
-refused_shown Memory W P a b F shows same may = (F, subst (λ (x : ArrayView). ShowsArray x F) (sym same) shows)
-refused_shown _ W P a b F shows same may = (may.0, may.2)
-
--- and one that is another's equal
+-- an array that is another's equal is as still
 pub still_of : (a b c : ArrayView) → b ≡ a → IsStill b c → IsStill a c
 still_of a b c same is = subst (λ (x : ArrayView). IsStill x c) same is
 
@@ -125,12 +119,6 @@ learned_written a F G asked told content shows case written = go case.2.0 case.2
     go (Data x) learned = subst (λ (r : Record). 0 < r.version) (sym learned.0) written
     go (Stale found) learned = (shows.history.records told learned.0.0).written
 
--- what a put that was carried out, or refused, leaves shows a state
-pub put_shown : {C : Type 0} (r : Result ℕ (Refusal × C)) (claim : C) (a b : ArrayView) (F : Flat) (w s : ℕ) (what : Put) (block : ℕ) → ShowsArray a F
-    → IfErr r (λ e. (e.1 ≡ claim) × IsRefused a b e.0) → PutTells r F w what s block b → (G : Flat) × ShowsArray b G
-put_shown (Ok t) claim a b F w s what block shows err tells = (tells.0, tells.2)
-put_shown (Err e) claim a b F w s what block shows err tells = refused_shown e.0 (Unit {0}) (λ G. Case F (put_step what w s block) (say.Refused e.0) G) a b F shows err.1 tells
-
 -- a slot of which the array keeps nothing isn't in use
 in_use : (F : Flat) (w s : ℕ) (what : Put) (block : ℕ) (b : ArrayView) → (G : Flat) × Case F (put_step what w s block) (say.Refused InUse) G × ShowsArray b G → IsKept F s
 in_use F w s (Fresh x) block b y = y.1.2
@@ -150,11 +138,6 @@ DiscardTells r F w b s = MatchResult r
     (λ t. (G : Flat) × DiscardCase F w s (say.Discarded s) G × ShowsArray b G)
     (λ e. DiscardCase F w s (say.Refused e.0) F)
 
-pub discard_shown : {C : Type 0} (E D : Refusal × ℕ → Type 0) (r : Result C (Refusal × ℕ)) (a b : ArrayView) (F : Flat) (w s : ℕ) → ShowsArray a F
-    → IfErr r (λ e. E e × D e × (b ≡ a)) → DiscardTells r F w b s → (G : Flat) × ShowsArray b G
-discard_shown E D (Ok t) a b F w s shows err tells = (tells.0, tells.2)
-discard_shown E D (Err e) a b F w s shows err tells = (F, subst (λ (x : ArrayView). ShowsArray x F) (sym err.2) shows)
-
 pub discard_still : {C : Type 0} (A : C → Type 0) (E D : Refusal × ℕ → Type 0) (r : Result C (Refusal × ℕ)) (a b : ArrayView) (s : ℕ)
     → IfOk r (λ t. A t × (b ≡ discard_view a s)) → IfErr r (λ e. E e × D e × (b ≡ a)) → IsStill a b
 discard_still A E D (Ok t) a b s ok err = record { groups = ap (λ (x : ArrayView). x.parts.groups) ok.1; keys = ap (λ (x : ArrayView). x.keys) ok.1 }
@@ -164,11 +147,6 @@ abbrev pub LearnTells : Result Lesson Refusal → Flat → Record → ArrayView 
 LearnTells r F asked b = MatchResult r
     (λ l. (G : Flat) × LearnedCase F asked l.told l.content G × ShowsArray b G)
     (λ q. MayRefuse q (IsBehind F asked) ((G : Flat) × UnlearnedCase F asked q G × ShowsArray b G))
-
-pub learn_shown : (r : Result Lesson Refusal) (a b : ArrayView) (F : Flat) (asked : Record) → ShowsArray a F
-    → IfErr r (IsRefused a b) → LearnTells r F asked b → (G : Flat) × ShowsArray b G
-learn_shown (Ok l) a b F asked shows err tells = (tells.0, tells.2)
-learn_shown (Err q) a b F asked shows err tells = refused_shown q (IsBehind F asked) (λ G. UnlearnedCase F asked q G) a b F shows err tells
 
 pub learn_still : (r : Result Lesson Refusal) (a b : ArrayView) (F : Flat) (asked : Record) → b ≡ with_parts a b.parts → ShowsArray a F
     → IfErr r (IsRefused a b) → LearnTells r F asked b → IsStill a b

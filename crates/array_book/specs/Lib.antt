@@ -1,4 +1,5 @@
 pub mod Kept
+pub mod Acts
 pub mod Takes
 pub mod Planned
 pub mod Numbers
@@ -7,3 +8,4 @@ pub mod Settling
 pub mod Passes
 pub mod Running
 pub mod Outcomes
+pub mod Whole

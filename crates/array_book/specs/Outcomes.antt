@@ -1,18 +1,19 @@
--- The outcomes of the steps of a worker's call. Each was made under the lock; of the state then only the lock's invariant is
--- known.
-use Rattle.std.specs.Prelude.{◌≡◌, ◌⊎◌, ℕ, ◌<◌, List, Option, Some, None, MatchOption}
+-- What a call of a worker added to the history, and how it planned a move. A plan was made under the lock; of the state then only
+-- the lock's invariant is known.
+use Rattle.std.specs.Prelude.{◌≡◌, ◌⊎◌, ℕ, ◌<◌, List, Option, Some, None, MatchOption, Result, Ok, Err}
 use Rattle.map_join.specs.declared.records.Record.{Record}
 use Rattle.map_join.specs.Record.{key_of}
 use Rattle.map_words.specs.declared.view.View.{View}
 use Rattle.flat_machine.specs.declared.refusal.Refusal.{Refusal}
 use Rattle.flat_machine.specs.declared.refusal.Refusal.TheVariants as refusal
-use Rattle.flat_machine.specs.Flat.{Flat, Content}
-use Rattle.flat_machine.specs.Steps.{FlatStep, FlatAnswer, Fill, Copy, Commit, Discard, Filled, Copied, Committed, Discarded, Refused}
-use Rattle.flat_machine.specs.Cases.{Case}
-use Rattle.flat_machine.specs.Learning.{LearnedCase, UnlearnedCase}
+use Rattle.flat_machine.specs.Flat.{Flat}
 use Rattle.slot_tables.specs.Represents.{ShowsArray}
-use Rattle.step_core.specs.Placing.{Put, put_step, put_answer}
+use Rattle.step_core.specs.Placing.{Put, Again}
 use Rattle.step_core.specs.Told.{Lesson}
+use Rattle.history.specs.Entries.{Carried, Extends}
+use Rattle.array_book.specs.Acts.{Act, Learns, IsCourse, placed_act, unplaced_act, committed_act, refused_commit, discarded_act, undiscarded_act, refused_read}
+use Rattle.array_book.specs.declared.fault.WorkFault.{WorkFault}
+use Rattle.array_book.specs.declared.fault.WorkFault.TheVariants as fault
 use Rattle.array_book.specs.declared.plan.Plan.{Plan}
 use Rattle.array_book.specs.declared.worker.Migration.{Migration}
 use Rattle.array_book.specs.declared.worker.Migration.TheVariants.{Moved, Outrun, Idle, NoRoom}
@@ -20,48 +21,74 @@ use Rattle.array_book.specs.Kept.{KeptView, IsKept}
 use Rattle.array_book.specs.Planned.{IsPlanned, IsDone, IsNext}
 use Rattle.array_book.specs.Takes.{HasAsked, Learnt}
 
+-- the hand noted this act; up to it the history is a run
+pub record Noted (v : Carried Act) (act : Act) (w : Carried Act) : Type 0 where
+  pub extends : Extends v act w
+  pub course : IsCourse w.seen
+
+-- a commit of the slot for the block, as this record; after it the block's old place was released, if it had one
+pub record HasCommitted (v : Carried Act) (slot block : ℕ) (r : Record) (w : Carried Act) : Type 0 where
+  pub old : Option ℕ
+  pub noted : Noted v (committed_act slot block r old) w
+
+-- the ticket of the slot was given up, or there was none
+abbrev pub GaveUp : Carried Act → ℕ → Carried Act → Type 0
+GaveUp v slot w = Noted v (discarded_act slot) w ⊎ ((q : Refusal) × Noted v (undiscarded_act slot q) w)
+
+-- the commit was refused, or there was no fresh ticket to commit; then the ticket was given up
+pub record HasGivenUp (v : Carried Act) (slot block : ℕ) (q : Refusal) (w : Carried Act) : Type 0 where
+  pub between : Carried Act
+  pub refused : Noted v (refused_commit slot block q) between ⊎ ((between ≡ v) × (q ≡ refusal.NoTicket))
+  pub given_up : GaveUp between slot w
+
+-- this was put into a slot, and then that very slot was committed for the block, as this record
+pub record HasPlaced (v : Carried Act) (what : Put) (slot block : ℕ) (r : Record) (w : Carried Act) : Type 0 where
+  pub between : Carried Act
+  pub placed : Noted v (placed_act what slot block) between
+  pub committed : HasCommitted between slot block r w
+
+-- this was put into a slot, and its commit refused
+pub record HasLeft (v : Carried Act) (what : Put) (slot block : ℕ) (q : Refusal) (w : Carried Act) : Type 0 where
+  pub between : Carried Act
+  pub placed : Noted v (placed_act what slot block) between
+  pub left : HasGivenUp between slot block q w
+
+-- the outcome of a commit, of a put with its commit, and of a put that may be refused
+abbrev pub HasEnded : {D E : Type 0} → (D → Record) → (E → Refusal) → Carried Act → ℕ → ℕ → Result D E → Carried Act → Type 0
+HasEnded of why v slot block (Ok d) w = HasCommitted v slot block (of d) w
+HasEnded of why v slot block (Err e) w = HasGivenUp v slot block (why e) w
+
+abbrev pub HasPut : {D E : Type 0} → (D → Record) → (E → Refusal) → Carried Act → Put → ℕ → ℕ → Result D E → Carried Act → Type 0
+HasPut of why v what slot block (Ok d) w = HasPlaced v what slot block (of d) w
+HasPut of why v what slot block (Err e) w = HasLeft v what slot block (why e) w
+
+abbrev pub HasTried : {D E : Type 0} → (D → Record) → (E → Refusal) → Carried Act → Put → ℕ → ℕ → Result (Result D E) E → Carried Act → Type 0
+HasTried of why v what slot block (Ok ended) w = HasPut of why v what slot block ended w
+HasTried of why v what slot block (Err e) w = Noted v (unplaced_act what slot block (why e)) w
+
+-- the fault that a worker's call returns for a refusal
+abbrev pub fault_of : Refusal → WorkFault
+fault_of refusal.Memory = fault.Memory
+fault_of q = fault.Core q
+
+-- nothing was committed, for a reason that the fault tells: the put was refused, or the commit
+pub record HasFailed (v : Carried Act) (what : Put) (slot block : ℕ) (told : WorkFault) (w : Carried Act) : Type 0 where
+  pub why : Refusal
+  pub told_is : told ≡ fault_of why
+  pub noted : Noted v (unplaced_act what slot block why) w ⊎ HasLeft v what slot block why w
+
+-- a write that returned this record put what it was given into one slot and committed that very slot; one that failed had no
+-- slot, or gave it back
+abbrev pub HasWritten : Carried Act → Put → ℕ → Result Record WorkFault → Carried Act → Type 0
+HasWritten v what block (Ok r) w = (slot : ℕ) × HasPlaced v what slot block r w
+HasWritten v what block (Err told) w = ((told ≡ fault.NoRoom) × (w ≡ v)) ⊎ ((slot : ℕ) × HasFailed v what slot block told w)
+
 -- a state of the lock's value, for an array of these sizes, and a flat state that its array shows
 pub record State (blocks payload : ℕ) : Type 0 where
   pub view : KeptView
   pub kept : IsKept blocks payload view
   pub flat : Flat
   pub shows : ShowsArray view.array flat
-
--- a state in which the flat machine answers so to a step of some worker
-pub record WasAnswered (blocks payload : ℕ) (step : ℕ → FlatStep) (answer : FlatAnswer) : Type 0 where
-  pub state : State blocks payload
-  pub worker : ℕ
-  pub after : Flat
-  pub case : Case state.flat (step worker) answer after
-
--- a content, or a copy of a block, was put into a slot
-abbrev pub WasPutIn : ℕ → ℕ → ℕ → ℕ → Put → Type 0
-WasPutIn blocks payload slot block what = WasAnswered blocks payload (λ w. put_step what w slot block) (put_answer what slot)
-
--- a slot was filled with a content, or a block copied into it
-abbrev pub WasFilled : ℕ → ℕ → ℕ → Content → Type 0
-WasFilled blocks payload slot content = WasAnswered blocks payload (λ w. Fill w slot content) (Filled slot)
-
-abbrev pub WasCopied : ℕ → ℕ → ℕ → ℕ → Type 0
-WasCopied blocks payload slot block = WasAnswered blocks payload (λ w. Copy w slot block) (Copied slot)
-
--- what was put into a slot was committed for a block, or refused
-abbrev pub WasCommitted : ℕ → ℕ → ℕ → ℕ → Record → Type 0
-WasCommitted blocks payload slot block r = WasAnswered blocks payload (λ w. Commit w slot block) (Committed r)
-
-abbrev pub WasRefused : ℕ → ℕ → ℕ → ℕ → Refusal → Type 0
-WasRefused blocks payload slot block q = WasAnswered blocks payload (λ w. Commit w slot block) (Refused q)
-
--- the ticket of a slot was given up, or there was none
-abbrev pub WasGivenUp : ℕ → ℕ → ℕ → Type 0
-WasGivenUp blocks payload slot = WasAnswered blocks payload (λ w. Discard w slot) (Discarded slot)
-    ⊎ WasAnswered blocks payload (λ w. Discard w slot) (Refused refusal.NoTicket)
-
--- a slot was filled with this content, and then committed for the block, as this record
-pub record WasWritten (blocks payload block : ℕ) (content : Content) (r : Record) : Type 0 where
-  pub slot : ℕ
-  pub filled : WasFilled blocks payload slot content
-  pub committed : WasCommitted blocks payload slot block r
 
 -- a plan was made, or there was nothing to plan
 pub record WasPlanned (blocks payload : ℕ) (mirrors : List ℕ) (low : ℕ) (plan : Option Plan) : Type 0 where
@@ -78,38 +105,46 @@ abbrev pub HadNoRoom : ℕ → ℕ → Plan → Type 0
 HadNoRoom blocks payload plan = (plan.slot ≡ None)
     ⊎ ((state : State blocks payload) × (last : ℕ) × IsTried blocks payload plan last × IsNext state.view plan last None)
 
--- the plan's block was copied into one of its slots
-pub record WasPut (blocks payload : ℕ) (plan : Plan) (slot : ℕ) : Type 0 where
+-- a block and a slot that a plan chose
+pub record WasChosen (blocks payload : ℕ) (mirrors : List ℕ) (low : ℕ) (plan : Plan) (slot : ℕ) : Type 0 where
+  pub planned : WasPlanned blocks payload mirrors low (Some plan)
   pub tried : IsTried blocks payload plan slot
-  pub copied : WasCopied blocks payload slot plan.block
 
--- the outcome of a migration
-abbrev pub WentSo : ℕ → ℕ → List ℕ → ℕ → Migration → Type 0
-WentSo blocks payload mirrors low Idle = WasPlanned blocks payload mirrors low None
-WentSo blocks payload mirrors low NoRoom = (plan : Plan) × WasPlanned blocks payload mirrors low (Some plan) × HadNoRoom blocks payload plan
-WentSo blocks payload mirrors low (Moved r) = (plan : Plan) × (slot : ℕ) × WasPlanned blocks payload mirrors low (Some plan)
-    × WasPut blocks payload plan slot × WasCommitted blocks payload slot plan.block r
-WentSo blocks payload mirrors low (Outrun newer) = (plan : Plan) × (slot : ℕ) × WasPlanned blocks payload mirrors low (Some plan)
-    × WasPut blocks payload plan slot × WasRefused blocks payload slot plan.block (refusal.Outrun newer)
-
--- a read of a record learned this, or was refused
-pub record WasLearned (blocks payload : ℕ) (asked : Record) (lesson : Lesson) : Type 0 where
-  pub state : State blocks payload
-  pub after : Flat
-  pub case : LearnedCase state.flat asked lesson.told lesson.content after
-
-pub record WasUnlearned (blocks payload : ℕ) (asked : Record) (q : Refusal) : Type 0 where
-  pub state : State blocks payload
-  pub after : Flat
-  pub case : UnlearnedCase state.flat asked q after
+-- a migration copied the block of a plan into one of the plan's slots and committed that very slot; where the copy was outrun, or it
+-- failed, it gave the slot back; and without a plan or a slot it did nothing
+abbrev pub HasMoved : ℕ → ℕ → List ℕ → ℕ → Carried Act → Result Migration WorkFault → Carried Act → Type 0
+HasMoved blocks payload mirrors low v (Ok Idle) w = WasPlanned blocks payload mirrors low None × (w ≡ v)
+HasMoved blocks payload mirrors low v (Ok NoRoom) w =
+    (plan : Plan) × WasPlanned blocks payload mirrors low (Some plan) × HadNoRoom blocks payload plan × (w ≡ v)
+HasMoved blocks payload mirrors low v (Ok (Moved r)) w =
+    (plan : Plan) × (slot : ℕ) × WasChosen blocks payload mirrors low plan slot × HasPlaced v Again slot plan.block r w
+HasMoved blocks payload mirrors low v (Ok (Outrun newer)) w =
+    (plan : Plan) × (slot : ℕ) × WasChosen blocks payload mirrors low plan slot × HasFailed v Again slot plan.block (fault.Core (refusal.Outrun newer)) w
+HasMoved blocks payload mirrors low v (Err told) w =
+    (plan : Plan) × (slot : ℕ) × WasChosen blocks payload mirrors low plan slot × HasFailed v Again slot plan.block told w
 
 -- a read that returned this lesson of the block: one step of the Taker found a written record of that block, the lesson is what was
--- learned of it in some state, and where the lesson has another record a second step took that
-pub record HasRead (blocks payload : ℕ) (before : View) (block : ℕ) (lesson : Lesson) (after : View) : Type 0 where
+-- learned of it, and where the lesson has another record a second step took that
+pub record HasRead (v : Carried Act) (before : View) (block : ℕ) (lesson : Lesson) (after : View) (w : Carried Act) : Type 0 where
   pub found : Record
   pub between : View
   pub of : found.block ≡ block
   pub written : 0 < found.version
   pub asked : HasAsked before block (key_of found) between
-  pub learned : WasLearned blocks payload found lesson
+  pub learned : Noted v (Learns found lesson.told lesson.content) w
   pub learnt : Learnt lesson.told found between after
+
+-- a read that failed: one step of the Taker found a record of the block, of which nothing was learned
+pub record HasNotRead (v : Carried Act) (before : View) (block : ℕ) (told : WorkFault) (after : View) (w : Carried Act) : Type 0 where
+  pub found : Record
+  pub of : found.block ≡ block
+  pub asked : HasAsked before block (key_of found) after
+  pub why : Refusal
+  pub told_is : told ≡ fault_of why
+  pub noted : Noted v (refused_read found why) w
+
+-- what a read of a block added: a lesson; where no record of the block was known, nothing; or a failed read
+abbrev pub HasLooked : Carried Act → View → ℕ → Result (Option Lesson) WorkFault → View → Carried Act → Type 0
+HasLooked v before block (Ok (Some lesson)) after w = HasRead v before block lesson after w
+HasLooked v before block (Ok None) after w = HasAsked before block 0 after × (w ≡ v)
+HasLooked v before block (Err told) after w = HasNotRead v before block told after w

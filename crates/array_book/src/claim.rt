@@ -1,12 +1,13 @@
 // A claim of slot words, as an array keeps it, and the numbers by which a Book's array is known.
 ghost use Rattle.std.specs.Prelude.{◌≡◌, ℕ};
 
+use history::Chronicle;
 use slot_words::{Naming, SlotWords};
 use std::marker::Brand;
 use step_core::{Apart, Hold};
 
-/// Names the sizes of one array, so that they are known under its lock.
-pub trait Sizes {
+/// Names the history and the sizes of one array, so that they are known under its lock.
+pub trait Sizes: Chronicle {
     // How many blocks the array has, and how many bytes a payload.
     ghost blocks: { ℕ };
 

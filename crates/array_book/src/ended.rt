@@ -2,20 +2,26 @@
 ghost use Rattle.std.specs.Prelude.{◌≡◌, ◌+◌, ◌++◌, ◌∷◌, [], IfSome, IfNone, map};
 ghost use Rattle.array_book.specs.Settling.{taken_by, shares_of};
 ghost use Rattle.array_book.specs.Passes.{joined};
+ghost use Rattle.history.specs.Entries.{IsWhole};
+ghost use Rattle.array_book.specs.Whole.{AreWhole};
 
+use crate::claim::Sizes;
+use crate::deed::Deed;
+use history::{Hand, History, Keeper};
 use map_words::{MapWords, Taker};
 use slot_words::{Pass, SlotWords};
 
-/// What a worker returns.
+/// What a worker returns: its Pass, both Takers, and its hand of the history.
 #[derive(Drop)]
-pub struct Ended<N: slot_words::Naming, A: map_words::Naming, B: map_words::Naming> {
+pub struct Ended<N: slot_words::Naming + Sizes, A: map_words::Naming, B: map_words::Naming> {
     pub pass: Pass<N>,
     pub even: Taker<A>,
     pub odd: Taker<B>,
+    pub hand: Hand<N, Deed>,
 }
 
 /// The first that ended, and the others.
-pub fn parted<N: slot_words::Naming, A: map_words::Naming, B: map_words::Naming>(
+pub fn parted<N: slot_words::Naming + Sizes, A: map_words::Naming, B: map_words::Naming>(
     ended: Vec<Ended<N, A, B>>,
 ) -> Option<(Ended<N, A, B>, Vec<Ended<N, A, B>>)>
     ensures some { IfSome result (λ r. ended.items ≡ r.0 ∷ r.1.items) }
@@ -29,11 +35,12 @@ pub fn parted<N: slot_words::Naming, A: map_words::Naming, B: map_words::Naming>
     Some((first, rest))
 }
 
-/// Joins all that ended into the first.
-pub fn join_all<N: slot_words::Naming, A: map_words::Naming, B: map_words::Naming>(
+/// Joins all that ended into the first, but for the hands of the history, which are compared with it.
+pub fn join_all<N: slot_words::Naming + Sizes, A: map_words::Naming, B: map_words::Naming>(
     words: &SlotWords<N>,
-    even: &MapWords<A>,
-    odd: &MapWords<B>,
+    maps: (&MapWords<A>, &MapWords<B>),
+    history: &History<N, Deed>,
+    keeper: &mut Keeper<N, Deed>,
     first: &mut Ended<N, A, B>,
     rest: Vec<Ended<N, A, B>>,
 )
@@ -42,15 +49,21 @@ pub fn join_all<N: slot_words::Naming, A: map_words::Naming, B: map_words::Namin
     ensures odd { first.new.odd.taken ≡ first.old.odd.taken ++ taken_by (map (λ e. e.odd) rest.items) }
     ensures shares { (first.new.even.share ≡ first.old.even.share + shares_of (map (λ e. e.even) rest.items))
         × (first.new.odd.share ≡ first.old.odd.share + shares_of (map (λ e. e.odd) rest.items)) }
+    ensures keeper { keeper.new ≡ keeper.old }
+    ensures first { IsWhole keeper.old first.old.hand }
+    ensures whole { AreWhole keeper.old (map (λ e. e.hand) rest.items) }
 {
     for other in rest {
         let Ended {
             pass,
             even: one,
             odd: two,
+            mut hand,
         } = other;
         words.join(&mut first.pass, pass);
-        even.join(&mut first.even, one);
-        odd.join(&mut first.odd, two);
+        maps.0.join(&mut first.even, one);
+        maps.1.join(&mut first.odd, two);
+        keeper.check(history, &mut hand);
     }
+    keeper.check(history, &mut first.hand);
 }

@@ -1,9 +1,9 @@
 // Why a worker's call did nothing.
 ghost use Rattle.std.specs.Prelude.{◌≡◌, ◌≢◌};
-ghost use Rattle.flat_machine.specs.declared.refusal.Refusal.{Refusal};
 ghost use Rattle.flat_machine.specs.declared.refusal.Refusal.TheVariants as refusal;
 ghost use Rattle.array_book.specs.declared.fault.WorkFault.TheVariants.{Core};
 ghost use Rattle.array_book.specs.Numbers.{number_of};
+ghost use Rattle.array_book.specs.Outcomes.{fault_of};
 
 use flat_machine::Refusal;
 
@@ -30,9 +30,10 @@ impl WorkFault {
     }
 
     /// The fault that a refusal of the array is.
+    #[tactic(auto, using(crate::proofs::Noting::fault_else))]
     pub(crate) fn of(refused: Refusal) -> WorkFault
+        ensures same { result ≡ fault_of refused }
         ensures memory { result ≢ Core refusal.Memory }
-        ensures core { (q : Refusal) → result ≡ Core q → refused ≡ q }
     {
         match refused {
             Refusal::Memory => WorkFault::Memory,

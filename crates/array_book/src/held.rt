@@ -2,15 +2,18 @@
 ghost use Rattle.std.specs.Prelude.{◌≡◌, ◌≢◌, ◌<◌, IfOk, IfErr, OnOk, OnErr, MatchResult, Ok, true, false};
 ghost use Rattle.flat_machine.specs.declared.refusal.Refusal.TheVariants as refusal;
 ghost use Rattle.migrator.specs.Slots.{end_at};
-ghost use Rattle.step_core.specs.Placing.{IsGivenFor, IsWhatFor, block_for, content_of, put_for};
+ghost use Rattle.step_core.specs.Placing.{Fresh, Again, IsGivenFor, IsWhatFor, block_for, content_of, put_for};
+ghost use Rattle.array_book.specs.Acts.{placed_act, unplaced_act, refused_commit};
 ghost use Rattle.array_book.specs.Kept.{HasNoted};
-ghost use Rattle.array_book.specs.Outcomes.{WasPutIn, WasCopied, WasCommitted, WasRefused, WasGivenUp, WasWritten};
+ghost use Rattle.array_book.specs.Outcomes.{Noted, HasCommitted, GaveUp, HasEnded, HasTried};
 
 use crate::claim::{Claim, Sizes};
+use crate::deed::Deed;
 use crate::kept::{self, Kept, appended_in, commit_fresh_in, commit_in, discard_in};
 use crate::plan::Plan;
 use extents::Drive;
 use flat_machine::Refusal;
+use history::{Hand, History};
 use slot_words::{Naming, SlotWords};
 use std::alloc::Global;
 use step_core::{Done, Given, Ticket, What};
@@ -23,7 +26,7 @@ pub(crate) struct Refused<N: Naming> {
 
 // The ticket of a slot that was filled or copied into, or why there is none.
 fn ticket_of<N: Naming>(placed: Result<Ticket, (Refusal, Claim<N>)>) -> Result<Ticket, Refused<N>>
-    ensures { IfOk result (λ ticket. placed ≡ Ok ticket) }
+    ensures { MatchResult result (λ ticket. placed ≡ Ok ticket) (λ e. MatchResult placed (λ ticket. ⊥) (λ p. p.0 ≡ e.refusal)) }
 {
     match placed {
         Ok(ticket) => Ok(ticket),
@@ -37,27 +40,32 @@ fn ticket_of<N: Naming>(placed: Result<Ticket, (Refusal, Claim<N>)>) -> Result<T
 /// Puts a payload, a trim or a copy into a claimed slot.
 pub(crate) fn place_in<D: Drive, N: Naming + Sizes>(
     kept: &mut Kept<D, N>,
+    history: &History<N, Deed>,
+    me: &mut Hand<N, Deed>,
     words: &SlotWords<N>,
     claim: Claim<N>,
     what: What,
 ) -> Result<Ticket, Refused<N>>
     requires { IsWhatFor N.blocks N.payload what }
     ensures ticket { IfOk result (λ ticket. ticket ≡ claim.0.slot) }
-    ensures put { IfOk result (λ ticket. WasPutIn N.blocks N.payload ticket (block_for what.entry) (put_for what.entry)) }
+    ensures called { MatchResult result (λ ticket. Noted me.old (placed_act (put_for what.entry) ticket (block_for what.entry)) me.new)
+        (λ e. Noted me.old (unplaced_act (put_for what.entry) claim.0.slot (block_for what.entry) e.refusal) me.new) }
 {
-    ticket_of(kept::put_in(kept, words, claim, what))
+    ticket_of(kept::put_in(kept, history, me, words, claim, what))
 }
 
 // Gives up the ticket of a refused commit.
 fn give_up_in<D: Drive, N: Naming + Sizes>(
     kept: &mut Kept<D, N>,
+    history: &History<N, Deed>,
+    me: &mut Hand<N, Deed>,
     refusal: Refusal,
     ticket: Ticket,
 ) -> Refused<N>
     ensures refusal { result.refusal ≡ refusal }
-    ensures given_up { WasGivenUp N.blocks N.payload ticket }
+    ensures called { GaveUp me.old ticket me.new }
 {
-    let claim = match discard_in(kept, ticket) {
+    let claim = match discard_in(kept, history, me, ticket) {
         Ok(claim) => Some(claim),
         Err(_) => None,
     };
@@ -67,43 +75,46 @@ fn give_up_in<D: Drive, N: Naming + Sizes>(
 /// Commits what was filled. If that is refused, the ticket is given up.
 pub(crate) fn end_fresh_in<D: Drive, N: Naming + Sizes>(
     kept: &mut Kept<D, N>,
+    history: &History<N, Deed>,
+    me: &mut Hand<N, Deed>,
     alloc: Global,
     ticket: Ticket,
     block: u32,
 ) -> Result<Done<Claim<N>>, Refused<N>>
     requires { block < N.blocks }
     ensures ok { IfOk result (λ done. (done.emitted.block ≡ block) × (0 < done.emitted.version) × (done.emitted.hop ≡ 0)) }
-    ensures committed { IfOk result (λ done. WasCommitted N.blocks N.payload ticket block done.emitted) }
-    ensures given_up { OnErr result (WasGivenUp N.blocks N.payload ticket) }
+    ensures called { HasEnded (λ done. done.emitted) (λ e. e.refusal) me.old ticket block result me.new }
 {
-    match commit_fresh_in(kept, alloc, ticket, block) {
+    match commit_fresh_in(kept, history, me, alloc, ticket, block) {
         Ok(done) => Ok(done),
-        Err((refusal, ticket)) => Err(give_up_in(kept, refusal, ticket)),
+        Err((refusal, ticket)) => Err(give_up_in(kept, history, me, refusal, ticket)),
     }
 }
 
 /// Commits a copy, and notes where the write log goes on, if the plan appends. If the commit is refused, the ticket is given up.
 pub(crate) fn end_moved_in<D: Drive, N: Naming + Sizes>(
     kept: &mut Kept<D, N>,
+    history: &History<N, Deed>,
+    me: &mut Hand<N, Deed>,
     alloc: Global,
     ticket: Ticket,
     plan: &Plan,
 ) -> Result<Done<Claim<N>>, Refused<N>>
     requires { plan.now.block < N.blocks }
     ensures ok { IfOk result (λ done. (done.emitted.block ≡ plan.now.block) × (0 < done.emitted.version)) }
-    ensures answered { MatchResult result (λ done. WasCommitted N.blocks N.payload ticket plan.now.block done.emitted)
-        (λ e. e.refusal ≢ refusal.Memory → WasRefused N.blocks N.payload ticket plan.now.block e.refusal) }
-    ensures given_up { OnErr result (WasGivenUp N.blocks N.payload ticket) }
+    ensures called { HasEnded (λ done. done.emitted) (λ e. e.refusal) me.old ticket plan.now.block result me.new }
 {
-    match commit_and_append(kept, alloc, ticket, plan) {
+    match commit_and_append(kept, history, me, alloc, ticket, plan) {
         Ok(done) => Ok(done),
-        Err((refusal, ticket)) => Err(give_up_in(kept, refusal, ticket)),
+        Err((refusal, ticket)) => Err(give_up_in(kept, history, me, refusal, ticket)),
     }
 }
 
 /// Fills a claimed slot with what is given, and commits it.
 pub(crate) fn put_in<D: Drive, N: Naming + Sizes>(
     kept: &mut Kept<D, N>,
+    history: &History<N, Deed>,
+    me: &mut Hand<N, Deed>,
     words: &SlotWords<N>,
     alloc: Global,
     claim: Claim<N>,
@@ -113,11 +124,10 @@ pub(crate) fn put_in<D: Drive, N: Naming + Sizes>(
     requires block { block < N.blocks }
     requires given { IsGivenFor N.payload given }
     ensures ok { IfOk result (λ ended. IfOk ended (λ done. (done.emitted.block ≡ block) × (0 < done.emitted.version) × (done.emitted.hop ≡ 0))) }
-    ensures written { IfOk result (λ ended. IfOk ended (λ done. WasWritten N.blocks N.payload block (content_of given.entry) done.emitted)) }
-    ensures given_up { IfOk result (λ ended. OnErr ended (WasGivenUp N.blocks N.payload claim.0.slot)) }
+    ensures called { HasTried (λ done. done.emitted) (λ e. e.refusal) me.old (Fresh (content_of given.entry)) claim.0.slot block result me.new }
 {
-    match place_in(kept, words, claim, What::Fresh(given)) {
-        Ok(ticket) => Ok(end_fresh_in(kept, alloc, ticket, block)),
+    match place_in(kept, history, me, words, claim, What::Fresh(given)) {
+        Ok(ticket) => Ok(end_fresh_in(kept, history, me, alloc, ticket, block)),
         Err(refused) => Err(refused),
     }
 }
@@ -125,6 +135,8 @@ pub(crate) fn put_in<D: Drive, N: Naming + Sizes>(
 /// Copies a plan's block into a claimed slot, and commits it.
 pub(crate) fn move_in<D: Drive, N: Naming + Sizes>(
     kept: &mut Kept<D, N>,
+    history: &History<N, Deed>,
+    me: &mut Hand<N, Deed>,
     words: &SlotWords<N>,
     alloc: Global,
     claim: Claim<N>,
@@ -132,13 +144,10 @@ pub(crate) fn move_in<D: Drive, N: Naming + Sizes>(
 ) -> Result<Result<Done<Claim<N>>, Refused<N>>, Refused<N>>
     requires { plan.now.block < N.blocks }
     ensures ok { IfOk result (λ ended. IfOk ended (λ done. (done.emitted.block ≡ plan.now.block) × (0 < done.emitted.version))) }
-    ensures copied { OnOk result (WasCopied N.blocks N.payload claim.0.slot plan.now.block) }
-    ensures answered { IfOk result (λ ended. MatchResult ended (λ done. WasCommitted N.blocks N.payload claim.0.slot plan.now.block done.emitted)
-        (λ e. e.refusal ≢ refusal.Memory → WasRefused N.blocks N.payload claim.0.slot plan.now.block e.refusal)) }
-    ensures given_up { IfOk result (λ ended. OnErr ended (WasGivenUp N.blocks N.payload claim.0.slot)) }
+    ensures called { HasTried (λ done. done.emitted) (λ e. e.refusal) me.old Again claim.0.slot plan.now.block result me.new }
 {
-    match place_in(kept, words, claim, What::CopyOf(plan.block)) {
-        Ok(ticket) => Ok(end_moved_in(kept, alloc, ticket, plan)),
+    match place_in(kept, history, me, words, claim, What::CopyOf(plan.block)) {
+        Ok(ticket) => Ok(end_moved_in(kept, history, me, alloc, ticket, plan)),
         Err(refused) => Err(refused),
     }
 }
@@ -146,21 +155,23 @@ pub(crate) fn move_in<D: Drive, N: Naming + Sizes>(
 // Commits what a plan placed, and notes where the write log goes on, if the plan appends.
 fn commit_and_append<D: Drive, N: Naming + Sizes>(
     kept: &mut Kept<D, N>,
+    history: &History<N, Deed>,
+    me: &mut Hand<N, Deed>,
     alloc: Global,
     ticket: Ticket,
     plan: &Plan,
 ) -> Result<Done<Claim<N>>, (Refusal, Ticket)>
     requires { plan.now.block < N.blocks }
     ensures ok { IfOk result (λ done. (done.emitted.block ≡ plan.now.block) × (0 < done.emitted.version)) }
-    ensures answered { MatchResult result (λ done. WasCommitted N.blocks N.payload ticket plan.now.block done.emitted)
-        (λ e. e.0 ≢ refusal.Memory → WasRefused N.blocks N.payload ticket plan.now.block e.0) }
+    ensures called { MatchResult result (λ done. HasCommitted me.old ticket plan.now.block done.emitted me.new)
+        (λ e. Noted me.old (refused_commit ticket plan.now.block e.0) me.new) }
     ensures err { OnErr result ((kept.new.planner.end ≡ kept.old.planner.end) × (kept.new.planner.ages ≡ kept.old.planner.ages)) }
     ensures ticket { IfErr result (λ e. e.1 ≡ ticket) }
     ensures appended { IfOk result (λ done. plan.now.appends ≡ true → kept.new.planner.end ≡ end_at done.emitted.place) }
     ensures stays { plan.now.appends ≡ false → kept.new.planner.end ≡ kept.old.planner.end }
     ensures noted { IfOk result (λ done. HasNoted kept.old kept.new done.emitted) }
 {
-    match commit_in(kept, alloc, ticket, plan.block) {
+    match commit_in(kept, history, me, alloc, ticket, plan.block) {
         Ok(done) => {
             if plan.appends {
                 appended_in(kept, done.emitted.record().place);

@@ -1,5 +1,5 @@
 // What lies under a Book's lock, and the calls that borrow it.
-ghost use Rattle.std.specs.Prelude.{◌≡◌, ◌≢◌, ℕ, ◌<◌, ◌≤◌, length, IfOk, IfErr, IsErr, IsErrOf, MatchResult, true, None};
+ghost use Rattle.std.specs.Prelude.{◌≡◌, ◌≢◌, ◌⊎◌, ℕ, ◌<◌, ◌≤◌, length, IfOk, IfErr, IsErr, IsErrOf, MatchResult, true, None};
 ghost use Rattle.map_join.specs.Record.{key_of, record_at};
 ghost use Rattle.flat_machine.specs.Steps as say;
 ghost use Rattle.flat_machine.specs.Flat.{Flat, Payload, Trim, Worker, Ticket as ticket_of};
@@ -12,34 +12,39 @@ ghost use Rattle.slot_tables.specs.Views.{key_at};
 ghost use Rattle.slot_tables.specs.Represents.{ShowsArray};
 ghost use Rattle.migrator.specs.Slots.{end_at};
 ghost use Rattle.step_core.specs.Refused.{IsRefused};
+ghost use Rattle.step_core.specs.Placing.{Fresh, Again, IsWhatFor, PutTells, block_for, put_for};
+ghost use Rattle.array_book.specs.Acts.{put_act, refused_commit, discard_act, read_act};
 ghost use Rattle.array_book.specs.Kept.{IsKept, Agrees, HasNoted, OnlyArray};
-ghost use Rattle.step_core.specs.Placing.{IsWhatFor, PutTells, block_for, put_for};
-ghost use Rattle.array_book.specs.Outcomes.{WasPutIn, WasFilled, WasCopied, WasCommitted, WasRefused, WasGivenUp, WasLearned, WasUnlearned};
+ghost use Rattle.array_book.specs.Outcomes.{Noted, HasCommitted};
 
 use crate::claim::{Claim, Sizes};
+use crate::deed::{CommitFails, Commits, Deed, Discards, Puts, Reads};
 use background::Planner;
 use extents::Drive;
 use flat_machine::Refusal;
+use history::{Hand, History, Keeper};
 use map_join::Record;
 use slot_words::{Naming, SlotWords};
 use std::alloc::{AllocError, Global};
 use std::marker::Model;
-use step_core::{Array, Done, Given, Reading, Ticket, What, put};
+use step_core::{Array, Done, Given, Hold, Reading, Ticket, What, put};
 
-/// An array, and what its plans go by.
+/// An array, what its plans go by, and the keeper of the history that led to it.
 pub struct Kept<D: Drive, N: Naming + Sizes> {
     pub(crate) array: Array<D, Claim<N>>,
     pub(crate) planner: Planner,
+    pub(crate) keeper: Keeper<N, Deed>,
 }
 
 impl<D: Drive, N: Naming + Sizes> Model for Kept<D, N> {
     ghost use Rattle.array_book.specs.Kept.{KeptView, IsKept};
+    ghost use Rattle.array_book.specs.Acts.{IsTraced};
 
     ghost Value = { KeptView };
 
     ghost view = { λ k. record { array = k.array; planner = k.planner } };
 
-    ghost invariant = { λ k. IsKept N.blocks N.payload (record { array = k.array; planner = k.planner }) };
+    ghost invariant = { λ k. (is : IsKept N.blocks N.payload (record { array = k.array; planner = k.planner })) × IsTraced k.keeper.log is.flat };
 }
 
 impl<D: Drive, N: Naming + Sizes> Kept<D, N> {
@@ -65,6 +70,8 @@ impl<D: Drive, N: Naming + Sizes> Kept<D, N> {
 /// Puts a payload, a trim or a copy into a slot, as `step_core::put` does, but is never refused as `InUse`.
 pub fn put_in<D: Drive, N: Naming + Sizes>(
     kept: &mut Kept<D, N>,
+    history: &History<N, Deed>,
+    me: &mut Hand<N, Deed>,
     words: &SlotWords<N>,
     claim: Claim<N>,
     what: What,
@@ -74,18 +81,28 @@ pub fn put_in<D: Drive, N: Naming + Sizes>(
     ensures err { IfErr result (λ e. (e.1 ≡ claim) × (e.0 ≢ refusal.InUse) × IsRefused kept.old.array kept.new.array e.0) }
     ensures memory { IfErr result (λ e. e.0 ≢ refusal.Memory) }
     ensures rest { OnlyArray kept.old kept.new }
-    ensures put { IfOk result (λ ticket. WasPutIn N.blocks N.payload ticket (block_for what.entry) (put_for what.entry)) }
+    ensures called { Noted me.old (put_act (put_for what.entry) claim.0.slot (block_for what.entry) result) me.new }
     ensures flat { (F : Flat) (w : ℕ) → ShowsArray kept.old.array F → F.held claim.0.slot (Worker w) ≡ true
         → PutTells result F w (put_for what.entry) claim.0.slot (block_for what.entry) kept.new.array }
 {
     let mut claim = claim;
     kept.array.apart_from(words, &mut claim);
-    put(&mut kept.array, claim, what)
+    let slot = claim.slot();
+    let placed = put(&mut kept.array, claim, what);
+    kept.keeper
+        .note::<(u16, What, &Result<Ticket, (Refusal, Claim<N>)>), Puts>(
+            history,
+            me,
+            &(slot, what, &placed),
+        );
+    placed
 }
 
 /// Fills a mirrored slot with a fresh payload, as the array does, but is never refused as `InUse`.
 pub fn fill_in<D: Drive, N: Naming + Sizes>(
     kept: &mut Kept<D, N>,
+    history: &History<N, Deed>,
+    me: &mut Hand<N, Deed>,
     words: &SlotWords<N>,
     claim: Claim<N>,
     payload: &[u8],
@@ -95,7 +112,7 @@ pub fn fill_in<D: Drive, N: Naming + Sizes>(
     ensures err { IfErr result (λ e. (e.1 ≡ claim) × (e.0 ≢ refusal.InUse) × IsRefused kept.old.array kept.new.array e.0) }
     ensures memory { IfErr result (λ e. e.0 ≢ refusal.Memory) }
     ensures rest { OnlyArray kept.old kept.new }
-    ensures filled { IfOk result (λ ticket. WasFilled N.blocks N.payload ticket (Payload payload.now)) }
+    ensures called { Noted me.old (put_act (Fresh (Payload payload.now)) claim.0.slot 0 result) me.new }
     ensures flat { (F : Flat) (w : ℕ) → ShowsArray kept.old.array F → F.held claim.0.slot (Worker w) ≡ true
         → MatchResult result
         (λ ticket. (G : Flat) × FillCase F w ticket (Payload payload.now) (say.Filled ticket) G × ShowsArray kept.new.array G)
@@ -103,12 +120,21 @@ pub fn fill_in<D: Drive, N: Naming + Sizes>(
         (FillPasses F w claim.0.slot)
         ((G : Flat) × FillCase F w claim.0.slot (Payload payload.now) (say.Refused e.0) G × ShowsArray kept.new.array G)) }
 {
-    put_in(kept, words, claim, What::Fresh(Given::Payload(payload)))
+    put_in(
+        kept,
+        history,
+        me,
+        words,
+        claim,
+        What::Fresh(Given::Payload(payload)),
+    )
 }
 
 /// Fills a mirrored slot with a trim, as the array does, but is never refused as `InUse`.
 pub fn trim_in<D: Drive, N: Naming + Sizes>(
     kept: &mut Kept<D, N>,
+    history: &History<N, Deed>,
+    me: &mut Hand<N, Deed>,
     words: &SlotWords<N>,
     claim: Claim<N>,
 ) -> Result<Ticket, (Refusal, Claim<N>)>
@@ -116,7 +142,7 @@ pub fn trim_in<D: Drive, N: Naming + Sizes>(
     ensures err { IfErr result (λ e. (e.1 ≡ claim) × (e.0 ≢ refusal.InUse) × IsRefused kept.old.array kept.new.array e.0) }
     ensures memory { IfErr result (λ e. e.0 ≢ refusal.Memory) }
     ensures rest { OnlyArray kept.old kept.new }
-    ensures filled { IfOk result (λ ticket. WasFilled N.blocks N.payload ticket Trim) }
+    ensures called { Noted me.old (put_act (Fresh Trim) claim.0.slot 0 result) me.new }
     ensures flat { (F : Flat) (w : ℕ) → ShowsArray kept.old.array F → F.held claim.0.slot (Worker w) ≡ true
         → MatchResult result
         (λ ticket. (G : Flat) × FillCase F w ticket Trim (say.Filled ticket) G × ShowsArray kept.new.array G)
@@ -124,12 +150,14 @@ pub fn trim_in<D: Drive, N: Naming + Sizes>(
         (FillPasses F w claim.0.slot)
         ((G : Flat) × FillCase F w claim.0.slot Trim (say.Refused e.0) G × ShowsArray kept.new.array G)) }
 {
-    put_in(kept, words, claim, What::Fresh(Given::Trim))
+    put_in(kept, history, me, words, claim, What::Fresh(Given::Trim))
 }
 
 /// Copies what a block holds into a slot, as the array does, but is never refused as `InUse`.
 pub fn copy_in<D: Drive, N: Naming + Sizes>(
     kept: &mut Kept<D, N>,
+    history: &History<N, Deed>,
+    me: &mut Hand<N, Deed>,
     words: &SlotWords<N>,
     claim: Claim<N>,
     block: u32,
@@ -139,7 +167,7 @@ pub fn copy_in<D: Drive, N: Naming + Sizes>(
     ensures err { IfErr result (λ e. (e.1 ≡ claim) × (e.0 ≢ refusal.InUse) × IsRefused kept.old.array kept.new.array e.0) }
     ensures memory { IfErr result (λ e. e.0 ≢ refusal.Memory) }
     ensures rest { OnlyArray kept.old kept.new }
-    ensures copied { IfOk result (λ ticket. WasCopied N.blocks N.payload ticket block) }
+    ensures called { Noted me.old (put_act Again claim.0.slot block result) me.new }
     ensures flat { (F : Flat) (w : ℕ) → ShowsArray kept.old.array F → F.held claim.0.slot (Worker w) ≡ true
         → MatchResult result
         (λ ticket. (G : Flat) × CopyCase F w ticket block (say.Copied ticket) G × ShowsArray kept.new.array G)
@@ -147,12 +175,14 @@ pub fn copy_in<D: Drive, N: Naming + Sizes>(
         ((r : Record) × CopyPasses F w claim.0.slot block r)
         ((G : Flat) × CopyCase F w claim.0.slot block (say.Refused e.0) G × ShowsArray kept.new.array G)) }
 {
-    put_in(kept, words, claim, What::CopyOf(block))
+    put_in(kept, history, me, words, claim, What::CopyOf(block))
 }
 
 /// Commits a ticket, as the array does, and notes the write where the record has no hop.
 pub fn commit_in<D: Drive, N: Naming + Sizes>(
     kept: &mut Kept<D, N>,
+    history: &History<N, Deed>,
+    me: &mut Hand<N, Deed>,
     alloc: Global,
     ticket: Ticket,
     block: u32,
@@ -163,8 +193,8 @@ pub fn commit_in<D: Drive, N: Naming + Sizes>(
     ensures noted { IfOk result (λ done. HasNoted kept.old kept.new done.emitted) }
     ensures err { IfErr result (λ e. (e.1 ≡ ticket) × IsRefused kept.old.array kept.new.array e.0 × (kept.new.planner.ages ≡ kept.old.planner.ages)) }
     ensures end { kept.new.planner.end ≡ kept.old.planner.end }
-    ensures answered { MatchResult result (λ done. WasCommitted N.blocks N.payload ticket block done.emitted)
-        (λ e. e.0 ≢ refusal.Memory → WasRefused N.blocks N.payload ticket block e.0) }
+    ensures called { MatchResult result (λ done. HasCommitted me.old ticket block done.emitted me.new)
+        (λ e. Noted me.old (refused_commit ticket block e.0) me.new) }
     ensures flat { (F : Flat) (w : ℕ) → ShowsArray kept.old.array F → (F.tickets ticket ≢ None → F.held ticket (ticket_of w) ≡ true)
         → MatchResult result
         (λ done. (G : Flat) × CommitCase F w ticket block (say.Committed done.emitted) G × ShowsArray kept.new.array G)
@@ -172,12 +202,23 @@ pub fn commit_in<D: Drive, N: Naming + Sizes>(
         (IsWanted F (say.Commit w ticket block))
         ((G : Flat) × CommitCase F w ticket block (say.Refused e.0) G × ShowsArray kept.new.array G)) }
 {
+    let slot = ticket.slot();
     match kept.array.commit(alloc, ticket, block) {
         Ok(done) => {
             kept.planner.note(&kept.array, done.emitted.record());
+            kept.keeper
+                .note::<(u16, u32, &Done<Claim<N>>), Commits>(history, me, &(slot, block, &done));
             Ok(done)
         }
-        Err(refused) => Err(refused),
+        Err(refused) => {
+            kept.keeper
+                .note::<(u16, u32, &(Refusal, Ticket)), CommitFails>(
+                    history,
+                    me,
+                    &(slot, block, &refused),
+                );
+            Err(refused)
+        }
     }
 }
 
@@ -185,13 +226,16 @@ pub fn commit_in<D: Drive, N: Naming + Sizes>(
 #[tactic(auto, using(crate::proofs::Fresh::no_hop))]
 pub(crate) fn commit_fresh_in<D: Drive, N: Naming + Sizes>(
     kept: &mut Kept<D, N>,
+    history: &History<N, Deed>,
+    me: &mut Hand<N, Deed>,
     alloc: Global,
     ticket: Ticket,
     block: u32,
 ) -> Result<Done<Claim<N>>, (Refusal, Ticket)>
     requires { block < N.blocks }
     ensures ok { IfOk result (λ done. (done.emitted.block ≡ block) × (0 < done.emitted.version) × (done.emitted.hop ≡ 0)) }
-    ensures committed { IfOk result (λ done. WasCommitted N.blocks N.payload ticket block done.emitted) }
+    ensures called { MatchResult result (λ done. HasCommitted me.old ticket block done.emitted me.new)
+        (λ e. Noted me.old (refused_commit ticket block e.0) me.new ⊎ ((me.new ≡ me.old) × (e.0 ≡ refusal.NoTicket))) }
     ensures noted { IfOk result (λ done. HasNoted kept.old kept.new done.emitted) }
     ensures err { IfErr result (λ e. (e.1 ≡ ticket) × (kept.new.planner.ages ≡ kept.old.planner.ages)) }
     ensures end { kept.new.planner.end ≡ kept.old.planner.end }
@@ -199,30 +243,42 @@ pub(crate) fn commit_fresh_in<D: Drive, N: Naming + Sizes>(
     if !kept.array.is_fresh(&ticket) {
         return Err((Refusal::NoTicket, ticket));
     }
-    commit_in(kept, alloc, ticket, block)
+    commit_in(kept, history, me, alloc, ticket, block)
 }
 
 /// Gives up a ticket, as the array does: the claim of its slot comes back.
 pub fn discard_in<D: Drive, N: Naming + Sizes>(
     kept: &mut Kept<D, N>,
+    history: &History<N, Deed>,
+    me: &mut Hand<N, Deed>,
     ticket: Ticket,
 ) -> Result<Claim<N>, (Refusal, Ticket)>
     ensures claim { IfOk result (λ claim. claim.0.slot ≡ ticket) }
     ensures err { IfErr result (λ e. (e.1 ≡ ticket) × (kept.new ≡ kept.old)) }
     ensures rest { OnlyArray kept.old kept.new }
-    ensures given_up { WasGivenUp N.blocks N.payload ticket }
+    ensures called { Noted me.old (discard_act ticket result) me.new }
     ensures flat { (F : Flat) (w : ℕ) → ShowsArray kept.old.array F → (F.tickets ticket ≢ None → F.held ticket (ticket_of w) ≡ true)
         → MatchResult result
         (λ claim. (G : Flat) × DiscardCase F w ticket (say.Discarded ticket) G × ShowsArray kept.new.array G)
         (λ e. DiscardCase F w ticket (say.Refused e.0) F) }
 {
-    kept.array.discard(ticket)
+    let slot = ticket.slot();
+    let discarded = kept.array.discard(ticket);
+    kept.keeper
+        .note::<(u16, &Result<Claim<N>, (Refusal, Ticket)>), Discards>(
+            history,
+            me,
+            &(slot, &discarded),
+        );
+    discarded
 }
 
 /// Reads a record with its payload, or with none of a trim, or where it is stale the newest record of its block, as the array
 /// does, into memory of a payload's length that was allocated before the lock was taken.
 pub fn read_in<D: Drive, N: Naming + Sizes>(
     kept: &mut Kept<D, N>,
+    history: &History<N, Deed>,
+    me: &mut Hand<N, Deed>,
     asked: Record,
     room: Result<Vec<u8>, AllocError>,
 ) -> Result<Reading, Refusal>
@@ -233,15 +289,17 @@ pub fn read_in<D: Drive, N: Naming + Sizes>(
     ensures err { IfErr result (IsRefused kept.old.array kept.new.array) }
     ensures memory { IsErrOf result refusal.Memory → IsErr room }
     ensures rest { OnlyArray kept.old kept.new }
-    ensures answered { MatchResult result (WasLearned N.blocks N.payload «asked»)
-        (λ q. q ≢ refusal.Memory → WasUnlearned N.blocks N.payload «asked» q) }
+    ensures called { Noted me.old (read_act «asked» result) me.new }
     ensures flat { (F : Flat) → ShowsArray kept.old.array F → MatchResult result
         (λ reading. (G : Flat) × LearnedCase F «asked» reading.told reading.content G × ShowsArray kept.new.array G)
         (λ refusal. MayRefuse refusal
         (IsBehind F «asked»)
         ((G : Flat) × UnlearnedCase F «asked» refusal G × ShowsArray kept.new.array G)) }
 {
-    kept.array.read_or_learn_into(asked, room)
+    let read = kept.array.read_or_learn_into(asked, room);
+    kept.keeper
+        .note::<(Record, &Result<Reading, Refusal>), Reads>(history, me, &(asked, &read));
+    read
 }
 
 /// Notes that a slot was appended: the write log goes on after it.

@@ -5,30 +5,35 @@ ghost use Rattle.slot_tables.specs.Views.{key_at};
 ghost use Rattle.flat_machine.specs.Flat.{Flat};
 ghost use Rattle.map_join.specs.Maps.{IsMapOf};
 ghost use Rattle.map_words.specs.TakeRule.{whole};
-ghost use Rattle.array_book.specs.Settling.{taken_by, shares_of, IsUnsettled};
 ghost use Rattle.array_book.specs.Passes.{all_joined};
+ghost use Rattle.array_book.specs.Settling.{taken_by, shares_of, IsUnsettled};
+ghost use Rattle.array_book.specs.Whole.{IsHistoryOf};
 
 use crate::book::Book;
 use crate::claim::{Claim, Sizes};
 use crate::closing::close_and_compare;
+use crate::deed::Deed;
 use crate::ended::{Ended, join_all, parted};
 use crate::kept::Kept;
 use crate::settle_fault::SettleFault;
 use extents::Drive;
+use history::{History, Keeper};
 use slot_words::{Pass, SlotWords};
 use std::alloc::Global;
 use step_core::Array;
 
-/// What is left of a Book: a new one can be made around the array with these words, and claims can be released by the Pass. The
-/// Pass is none where no worker's came.
-pub struct Settled<D: Drive, N: slot_words::Naming> {
+/// What is left of a Book: a new one can be made around the array with these words and this history, and claims can be released by
+/// the Pass. The Pass is none where no worker's came.
+pub struct Settled<D: Drive, N: slot_words::Naming + Sizes> {
     pub array: Array<D, Claim<N>>,
     pub words: SlotWords<N>,
     pub pass: Option<Pass<N>>,
+    pub history: History<N, Deed>,
+    pub keeper: Keeper<N, Deed>,
 }
 
 /// Ends a Book: joins what its workers had, closes both maps of words, and tests whether what was taken, and nothing else, has
-/// made the array's map. The maps end with the Book; all else is returned, also with a fault.
+/// made the array's map. Compares each hand with the history. The maps end with the Book; all else is returned, also with a fault.
 pub fn settle<D: Drive, N: slot_words::Naming + Sizes, A: map_words::Naming, B: map_words::Naming>(
     alloc: Global,
     book: Book<D, N, A, B>,
@@ -38,6 +43,8 @@ pub fn settle<D: Drive, N: slot_words::Naming + Sizes, A: map_words::Naming, B: 
         × IsMapOf (taken_by (map (λ e. e.even) ended.items) ++ taken_by (map (λ e. e.odd) ended.items)) (key_at settled.array)) }
     ensures err { IfErr result (λ e. IsUnsettled (shares_of (map (λ e. e.even) ended.items)) (shares_of (map (λ e. e.odd) ended.items))
         (taken_by (map (λ e. e.even) ended.items) ++ taken_by (map (λ e. e.odd) ended.items)) (key_at e.1.array) e.0) }
+    ensures history { MatchResult result (λ settled. IsHistoryOf (map (λ e. e.hand) ended.items) settled.keeper settled.array)
+        (λ e. IsHistoryOf (map (λ e. e.hand) ended.items) e.1.keeper e.1.array) }
     ensures pass { MatchResult result (λ settled. settled.pass ≡ all_joined (map (λ e. e.pass) ended.items))
         (λ e. e.1.pass ≡ all_joined (map (λ e. e.pass) ended.items)) }
     ensures shows { MatchResult result (λ settled. (F : Flat) × ShowsArray settled.array F) (λ e. (F : Flat) × ShowsArray e.1.array F) }
@@ -46,6 +53,7 @@ pub fn settle<D: Drive, N: slot_words::Naming + Sizes, A: map_words::Naming, B: 
         words,
         even,
         odd,
+        history,
         kept,
         mirrors: _,
         blocks: _,
@@ -53,26 +61,42 @@ pub fn settle<D: Drive, N: slot_words::Naming + Sizes, A: map_words::Naming, B: 
     } = book;
     let kept = kept.into_inner();
     kept.stands();
-    let Kept { array, planner: _ } = kept;
+    let Kept {
+        array,
+        planner: _,
+        mut keeper,
+    } = kept;
     let Some((mut first, rest)) = parted(ended) else {
         let settled = Settled {
             array,
             words,
             pass: None,
+            history,
+            keeper,
         };
         return Err((SettleFault::NotWhole(0), settled));
     };
-    join_all(&words, &even, &odd, &mut first, rest);
+    join_all(
+        &words,
+        (&even, &odd),
+        &history,
+        &mut keeper,
+        &mut first,
+        rest,
+    );
     let Ended {
         pass,
         even: one,
         odd: other,
+        hand: _,
     } = first;
     let told = close_and_compare(alloc, (even, one), (odd, other), &array);
     let settled = Settled {
         array,
         words,
         pass: Some(pass),
+        history,
+        keeper,
     };
     match told {
         Ok(()) => Ok(settled),

@@ -1,5 +1,5 @@
 // One thread's hands on a Book.
-ghost use Rattle.std.specs.Prelude.{◌≡◌, ◌≢◌, ℕ, ◌<◌, length, IfOk, IfSome, IfNone, OnOk, OnErr, MatchOption, MatchResult, Ok, Err, Some, None};
+ghost use Rattle.std.specs.Prelude.{◌≡◌, ◌≢◌, ℕ, ◌<◌, length, IfOk, IfErr, IfSome, IfNone, OnOk, OnErr, MatchOption, MatchResult, Ok, Err, Some, None};
 ghost use Rattle.map_join.specs.declared.records.Record.{Record};
 ghost use Rattle.step_core.specs.Told.{Lesson};
 ghost use Rattle.map_words.specs.Answers.{HasFound, IsNewest, key_in};
@@ -8,15 +8,17 @@ ghost use Rattle.flat_machine.specs.Flat.{Payload, Trim};
 ghost use Rattle.flat_machine.specs.declared.refusal.Refusal.{Refusal};
 ghost use Rattle.flat_machine.specs.declared.refusal.Refusal.TheVariants as refusal;
 ghost use Rattle.slot_words.specs.Places.{slots_of};
-ghost use Rattle.step_core.specs.Placing.{content_of, IsGivenFor};
+ghost use Rattle.step_core.specs.Placing.{Fresh, Again, content_of, IsGivenFor};
+ghost use Rattle.array_book.specs.Acts.{unplaced_act};
 ghost use Rattle.array_book.specs.Takes.{controller_of, taker_of, other_of, AreSame, HasAsked, HasMigrated, Took, Learnt, IsTold};
-ghost use Rattle.array_book.specs.Outcomes.{WasCopied, WasCommitted, WasRefused, WasGivenUp, WasWritten};
-ghost use Rattle.array_book.specs.Outcomes.{WasPlanned, IsTried, HadNoRoom, WentSo, HasRead, WasUnlearned};
+ghost use Rattle.array_book.specs.Outcomes.{HasFailed, HasPut, HasWritten, fault_of};
+ghost use Rattle.array_book.specs.Outcomes.{WasPlanned, IsTried, HadNoRoom, HasMoved, HasLooked};
 ghost use Rattle.array_book.specs.declared.fault.WorkFault.TheVariants.{Core};
 
 use crate::book::Book;
 use crate::claim::{Claim, Sizes};
 use crate::controller::Controller;
+use crate::deed::Deed;
 use crate::ended::Ended;
 use crate::fault::WorkFault;
 use crate::gate::{Gate, Point};
@@ -25,6 +27,7 @@ use crate::kept::{Kept, read_in};
 use crate::plan::{Plan, plan_in, slot_after};
 use extents::Drive;
 use flat_machine::Refusal;
+use history::Hand;
 use map_join::Record;
 use map_words::Taker;
 use slot_words::{Pass, SlotWords};
@@ -32,7 +35,7 @@ use std::alloc::Global;
 use std::sync::{Mutex, Wait};
 use step_core::{Done, Emitted, Given, Reading, What};
 
-/// One thread's hands on a Book: a Pass, and a Taker of each controller.
+/// One thread's hands on a Book: a Pass, a Taker of each controller, and a hand of the history.
 #[derive(Drop)]
 pub struct Worker<
     'a,
@@ -46,6 +49,7 @@ pub struct Worker<
     pub(crate) pass: Pass<N>,
     pub(crate) even: Taker<A>,
     pub(crate) odd: Taker<B>,
+    pub(crate) hand: Hand<N, Deed>,
 }
 
 /// The outcome of a migration.
@@ -73,10 +77,11 @@ impl<
         number: u8,
         pass: Pass<N>,
         takers: (Taker<A>, Taker<B>),
+        hand: Hand<N, Deed>,
     ) -> Worker<'a, D, N, A, B>
         ensures book { (result.book.now.blocks ≡ book.now.blocks) × (result.book.now.payload ≡ book.now.payload) }
         ensures number { result.number ≡ number }
-        ensures hands { (result.pass ≡ pass) × (result.even ≡ takers.0) × (result.odd ≡ takers.1) }
+        ensures hands { (result.pass ≡ pass) × (result.even ≡ takers.0) × (result.odd ≡ takers.1) × (result.hand ≡ hand) }
     {
         let (even, odd) = takers;
         Worker {
@@ -85,6 +90,7 @@ impl<
             pass,
             even,
             odd,
+            hand,
         }
     }
 
@@ -122,7 +128,7 @@ impl<
         requires block { block < self.old.book.now.blocks }
         requires payload { length payload.now ≡ self.old.book.now.payload }
         ensures record { IfOk result (λ emitted. (emitted.block ≡ block) × (emitted.hop ≡ 0)) }
-        ensures written { IfOk result (WasWritten N.blocks N.payload block (Payload payload.now)) }
+        ensures called { HasWritten self.old.hand (Fresh (Payload payload.now)) block result self.new.hand }
         ensures taken { IfOk result (λ emitted. Took emitted (taker_of (controller_of self.old.number) self.old.even self.old.odd)
             (taker_of (controller_of self.old.number) self.new.even self.new.odd)) }
         ensures other { other_of (controller_of self.old.number) self.new.even self.new.odd
@@ -144,7 +150,7 @@ impl<
     ) -> Result<Emitted, WorkFault>
         requires { block < self.old.book.now.blocks }
         ensures record { IfOk result (λ emitted. (emitted.block ≡ block) × (emitted.hop ≡ 0)) }
-        ensures written { IfOk result (WasWritten N.blocks N.payload block Trim) }
+        ensures called { HasWritten self.old.hand (Fresh Trim) block result self.new.hand }
         ensures taken { IfOk result (λ emitted. Took emitted (taker_of (controller_of self.old.number) self.old.even self.old.odd)
             (taker_of (controller_of self.old.number) self.new.even self.new.odd)) }
         ensures other { other_of (controller_of self.old.number) self.new.even self.new.odd
@@ -168,7 +174,7 @@ impl<
         requires block { block < self.old.book.now.blocks }
         requires given { IsGivenFor self.old.book.now.payload given }
         ensures record { IfOk result (λ emitted. (emitted.block ≡ block) × (emitted.hop ≡ 0)) }
-        ensures written { IfOk result (WasWritten N.blocks N.payload block (content_of given.entry)) }
+        ensures called { HasWritten self.old.hand (Fresh (content_of given.entry)) block result self.new.hand }
         ensures taken { IfOk result (λ emitted. Took emitted (taker_of (controller_of self.old.number) self.old.even self.old.odd)
             (taker_of (controller_of self.old.number) self.new.even self.new.odd)) }
         ensures other { other_of (controller_of self.old.number) self.new.even self.new.odd
@@ -192,7 +198,7 @@ impl<
 
     // A claim of the first of these slots that can be claimed.
     fn claim(&mut self, slots: &[u16]) -> Option<slot_words::Claim<N>>
-        ensures rest { (self.new.number ≡ self.old.number) × (self.new.book ≡ self.old.book) × (self.new.even ≡ self.old.even) × (self.new.odd ≡ self.old.odd) }
+        ensures rest { (self.new.hand ≡ self.old.hand) × (self.new.number ≡ self.old.number) × (self.new.book ≡ self.old.book) × (self.new.even ≡ self.old.even) × (self.new.odd ≡ self.old.odd) }
     {
         match self.book.words.claim_first(&mut self.pass, slots) {
             Ok(claim) => Some(claim),
@@ -214,8 +220,9 @@ impl<
         requires block { block < self.old.book.now.blocks }
         requires given { IsGivenFor self.old.book.now.payload given }
         ensures ok { IfOk result (λ ended. IfOk ended (λ done. (done.emitted.block ≡ block) × (0 < done.emitted.version) × (done.emitted.hop ≡ 0))) }
-        ensures written { IfOk result (λ ended. IfOk ended (λ done. WasWritten N.blocks N.payload block (content_of given.entry) done.emitted)) }
-        ensures given_up { IfOk result (λ ended. OnErr ended (WasGivenUp N.blocks N.payload claim.slot)) }
+        ensures called { MatchResult result
+            (λ ended. HasPut (λ done. done.emitted) (λ e. e.refusal) self.old.hand (Fresh (content_of given.entry)) claim.slot block ended self.new.hand)
+            (λ e. HasFailed self.old.hand (Fresh (content_of given.entry)) claim.slot block e self.new.hand) }
         ensures fault { result ≢ Err (Core refusal.Memory) }
         ensures rest { (self.new.number ≡ self.old.number) × (self.new.book ≡ self.old.book) × (self.new.even ≡ self.old.even) × (self.new.odd ≡ self.old.odd) }
     {
@@ -224,6 +231,8 @@ impl<
         if !gate.waits() {
             let put = put_in(
                 &mut *book.kept.lock(rt),
+                &book.history,
+                &mut self.hand,
                 &book.words,
                 alloc,
                 claim,
@@ -236,22 +245,31 @@ impl<
         }
         let placed = place_in(
             &mut *book.kept.lock(rt),
+            &book.history,
+            &mut self.hand,
             &book.words,
             claim,
             What::Fresh(given),
         );
         let ticket = self.or_released(placed)?;
         gate.reach(Point::Put, rt);
-        let ended = end_fresh_in(&mut *book.kept.lock(rt), alloc, ticket, block);
+        let ended = end_fresh_in(
+            &mut *book.kept.lock(rt),
+            &book.history,
+            &mut self.hand,
+            alloc,
+            ticket,
+            block,
+        );
         Ok(ended)
     }
 
     // The outcome of a step. If the step was refused, the claim that it left is released.
     fn or_released<T>(&mut self, tried: Result<T, Refused<N>>) -> Result<T, WorkFault>
         ensures ok { IfOk result (λ done. tried ≡ Ok done) }
-        ensures refused { (q : Refusal) → result ≡ Err (Core q) → MatchResult tried (λ _. ⊥) (λ e. e.refusal ≡ q) }
+        ensures err { IfErr result (λ fault. MatchResult tried (λ done. ⊥) (λ e. fault ≡ fault_of e.refusal)) }
         ensures fault { result ≢ Err (Core refusal.Memory) }
-        ensures rest { (self.new.number ≡ self.old.number) × (self.new.book ≡ self.old.book) × (self.new.even ≡ self.old.even) × (self.new.odd ≡ self.old.odd) }
+        ensures rest { (self.new.hand ≡ self.old.hand) × (self.new.number ≡ self.old.number) × (self.new.book ≡ self.old.book) × (self.new.even ≡ self.old.even) × (self.new.odd ≡ self.old.odd) }
     {
         match tried {
             Ok(done) => Ok(done),
@@ -273,7 +291,7 @@ impl<
             (taker_of (controller_of self.old.number) self.new.even self.new.odd) }
         ensures other { other_of (controller_of self.old.number) self.new.even self.new.odd
             ≡ other_of (controller_of self.old.number) self.old.even self.old.odd }
-        ensures rest { (self.new.number ≡ self.old.number) × (self.new.book ≡ self.old.book) }
+        ensures rest { (self.new.hand ≡ self.old.hand) × (self.new.number ≡ self.old.number) × (self.new.book ≡ self.old.book) }
     {
         let Done { emitted, old } = done;
         if let Some(Claim(claim)) = old {
@@ -289,7 +307,7 @@ impl<
         requires written { 0 < «told».version }
         ensures taken { Took «told» (taker_of controller self.old.even self.old.odd) (taker_of controller self.new.even self.new.odd) }
         ensures other { other_of controller self.new.even self.new.odd ≡ other_of controller self.old.even self.old.odd }
-        ensures rest { (self.new.number ≡ self.old.number) × (self.new.book ≡ self.old.book) }
+        ensures rest { (self.new.hand ≡ self.old.hand) × (self.new.number ≡ self.old.number) × (self.new.book ≡ self.old.book) }
     {
         match controller {
             Controller::Even => {
@@ -319,7 +337,7 @@ impl<
         low: u32,
         gate: &G,
     ) -> Result<Migration, WorkFault>
-        ensures went { IfOk result (WentSo N.blocks N.payload self.old.book.now.mirrors.items low) }
+        ensures called { HasMoved N.blocks N.payload self.old.book.now.mirrors.items low self.old.hand result self.new.hand }
         ensures taken { IfOk result (HasMigrated self.old.number self.old.even self.old.odd self.new.even self.new.odd) }
         ensures err { OnErr result (AreSame self.old.even self.old.odd self.new.even self.new.odd) }
         ensures other { other_of (controller_of self.old.number) self.new.even self.new.odd
@@ -369,30 +387,46 @@ impl<
     ) -> Result<Result<Done<Claim<N>>, Refused<N>>, WorkFault>
         requires { plan.now.block < self.old.book.now.blocks }
         ensures ok { IfOk result (λ ended. IfOk ended (λ done. (done.emitted.block ≡ plan.now.block) × (0 < done.emitted.version))) }
-        ensures copied { OnOk result (WasCopied N.blocks N.payload claim.slot plan.now.block) }
-        ensures answered { IfOk result (λ ended. MatchResult ended (λ done. WasCommitted N.blocks N.payload claim.slot plan.now.block done.emitted)
-            (λ e. e.refusal ≢ refusal.Memory → WasRefused N.blocks N.payload claim.slot plan.now.block e.refusal)) }
-        ensures given_up { IfOk result (λ ended. OnErr ended (WasGivenUp N.blocks N.payload claim.slot)) }
+        ensures called { MatchResult result
+            (λ ended. HasPut (λ done. done.emitted) (λ e. e.refusal) self.old.hand Again claim.slot plan.now.block ended self.new.hand)
+            (λ e. HasFailed self.old.hand Again claim.slot plan.now.block e self.new.hand) }
         ensures fault { result ≢ Err (Core refusal.Memory) }
         ensures rest { (self.new.number ≡ self.old.number) × (self.new.book ≡ self.old.book) × (self.new.even ≡ self.old.even) × (self.new.odd ≡ self.old.odd) }
     {
         let book = self.book;
         let claim = Claim(claim);
         if !gate.waits() {
-            let moved = move_in(&mut *book.kept.lock(rt), &book.words, alloc, claim, plan);
+            let moved = move_in(
+                &mut *book.kept.lock(rt),
+                &book.history,
+                &mut self.hand,
+                &book.words,
+                alloc,
+                claim,
+                plan,
+            );
             let ended = self.or_released(moved)?;
             gate.reach(Point::Put, rt);
             return Ok(ended);
         }
         let copied = place_in(
             &mut *book.kept.lock(rt),
+            &book.history,
+            &mut self.hand,
             &book.words,
             claim,
             What::CopyOf(plan.block),
         );
         let ticket = self.or_released(copied)?;
         gate.reach(Point::Put, rt);
-        let ended = end_moved_in(&mut *book.kept.lock(rt), alloc, ticket, plan);
+        let ended = end_moved_in(
+            &mut *book.kept.lock(rt),
+            &book.history,
+            &mut self.hand,
+            alloc,
+            ticket,
+            plan,
+        );
         Ok(ended)
     }
 
@@ -408,16 +442,8 @@ impl<
         requires { block < self.old.book.now.blocks }
         ensures some { (reading : Lesson) → result ≡ Ok (Some reading)
             → IsTold (taker_of controller self.old.even self.old.odd) block (taker_of controller self.new.even self.new.odd) reading.told }
-        ensures read { (reading : Lesson) → result ≡ Ok (Some reading)
-            → HasRead N.blocks N.payload (taker_of controller self.old.even self.old.odd) block reading
-            (taker_of controller self.new.even self.new.odd) }
-        ensures none { result ≡ Ok None
-            → HasAsked (taker_of controller self.old.even self.old.odd) block 0 (taker_of controller self.new.even self.new.odd) }
-        ensures err { OnErr result ((key : ℕ)
-            × HasAsked (taker_of controller self.old.even self.old.odd) block key (taker_of controller self.new.even self.new.odd)) }
-        ensures refused { (q : Refusal) → result ≡ Err (Core q) → (found : Record) × (found.block ≡ block)
-            × HasAsked (taker_of controller self.old.even self.old.odd) block (key_of found) (taker_of controller self.new.even self.new.odd)
-            × WasUnlearned N.blocks N.payload found q }
+        ensures called { HasLooked self.old.hand (taker_of controller self.old.even self.old.odd) block result
+            (taker_of controller self.new.even self.new.odd) self.new.hand }
         ensures other { other_of controller self.new.even self.new.odd ≡ other_of controller self.old.even self.old.odd }
         ensures fault { result ≢ Err (Core refusal.Memory) }
         ensures rest { (self.new.number ≡ self.old.number) × (self.new.book ≡ self.old.book) }
@@ -427,7 +453,13 @@ impl<
         };
         // Taken before the lock is held: nothing is allocated under it.
         let room = vec![in alloc; 0; self.book.payload as usize];
-        let read = read_in(&mut *self.book.kept.lock(rt), found, room);
+        let read = read_in(
+            &mut *self.book.kept.lock(rt),
+            &self.book.history,
+            &mut self.hand,
+            found,
+            room,
+        );
         match read {
             Ok(reading) => {
                 self.learn(controller, found, reading.record());
@@ -444,7 +476,7 @@ impl<
         ensures block { MatchOption result (Unit {0}) (λ r. (r.block ≡ block) × (0 < r.version)) }
         ensures found { HasFound (taker_of controller self.old.even self.old.odd) block (key_in result) (taker_of controller self.new.even self.new.odd) }
         ensures other { other_of controller self.new.even self.new.odd ≡ other_of controller self.old.even self.old.odd }
-        ensures rest { (self.new.number ≡ self.old.number) × (self.new.book ≡ self.old.book) }
+        ensures rest { (self.new.hand ≡ self.old.hand) × (self.new.number ≡ self.old.number) × (self.new.book ≡ self.old.book) }
     {
         match controller {
             Controller::Even => self.book.even.find(&mut self.even, block),
@@ -458,16 +490,16 @@ impl<
         requires written { 0 < «told».version }
         ensures learnt { Learnt «told» «found» (taker_of controller self.old.even self.old.odd) (taker_of controller self.new.even self.new.odd) }
         ensures other { other_of controller self.new.even self.new.odd ≡ other_of controller self.old.even self.old.odd }
-        ensures rest { (self.new.number ≡ self.old.number) × (self.new.book ≡ self.old.book) }
+        ensures rest { (self.new.hand ≡ self.old.hand) × (self.new.number ≡ self.old.number) × (self.new.book ≡ self.old.book) }
     {
         if told != found {
             self.take(controller, told);
         }
     }
 
-    /// Ends the worker, and returns its Pass and both Takers.
+    /// Ends the worker, and returns its Pass, both Takers and its hand of the history.
     pub fn end(self) -> Ended<N, A, B>
-        ensures { (result.pass ≡ self.entry.pass) × (result.even ≡ self.entry.even) × (result.odd ≡ self.entry.odd) }
+        ensures { (result.pass ≡ self.entry.pass) × (result.even ≡ self.entry.even) × (result.odd ≡ self.entry.odd) × (result.hand ≡ self.entry.hand) }
     {
         let Worker {
             book: _,
@@ -475,8 +507,14 @@ impl<
             pass,
             even,
             odd,
+            hand,
         } = self;
-        Ended { pass, even, odd }
+        Ended {
+            pass,
+            even,
+            odd,
+            hand,
+        }
     }
 }
 

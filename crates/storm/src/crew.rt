@@ -1,9 +1,10 @@
 // The workers of a storm.
 use crate::outcome::{StormFault, Tally};
 use crate::rounds::Rounds;
-use array_book::{Book, Ended, RunFault, Sizes, Worker, run_workers};
+use array_book::{Book, Deed, Ended, RunFault, Sizes, Worker, run_workers};
 use extents::MemDrive;
 use flat_machine::Refusal;
+use history::Hand;
 use std::alloc::Global;
 use std::sync::Wait;
 use std::thread::Threads;
@@ -16,8 +17,8 @@ pub(crate) struct Crew {
     pub(crate) payload: u32,
 }
 
-// Runs the workers in threads, each with a part of what these hands have. Returns what all had, the hands first, and what they
-// carried out.
+// Runs the workers in threads, each with a part of what these hands have and one of the hands of the history. Returns what all
+// had, the hands first, and what they carried out.
 pub(crate) fn run_all<
     N: slot_words::Naming + Sizes + Send + Sync,
     A: map_words::Naming + Send + Sync,
@@ -27,11 +28,11 @@ pub(crate) fn run_all<
     rt: &R,
     alloc: Global,
     book: &Book<MemDrive, N, A, B>,
-    hands: Ended<N, A, B>,
+    hands: (Ended<N, A, B>, Vec<Hand<N, Deed>>),
     crew: Crew,
 ) -> Result<(Vec<Ended<N, A, B>>, Tally), StormFault> {
-    let mut hands = hands;
-    let mut hired = hire(alloc, book, &mut hands, crew.workers)?;
+    let (mut hands, parts) = hands;
+    let mut hired = hire(alloc, book, &mut hands, parts, crew.workers)?;
     let rounds = Rounds::new(crew.writes, crew.payload);
     if let Err(fault) = run_workers(rt, alloc, &mut hired, &rounds) {
         return Err(StormFault::Run(fault));
@@ -47,14 +48,27 @@ fn hire<'a, N: slot_words::Naming + Sizes, A: map_words::Naming, B: map_words::N
     alloc: Global,
     book: &'a Book<MemDrive, N, A, B>,
     hands: &mut Ended<N, A, B>,
+    parts: Vec<Hand<N, Deed>>,
     count: u8,
 ) -> Result<Vec<Worker<'a, MemDrive, N, A, B>>, StormFault> {
+    let mut parts = parts;
     let mut hired = Vec::new(alloc);
     for number in 0..count {
-        let Some(Ended { pass, even, odd }) = book.split(hands) else {
+        let Some(part) = parts.pop() else {
             return Err(StormFault::Setup(Refusal::Full));
         };
-        let worker = Worker::new(book, number, pass, (even, odd));
+        let Ok(
+            Ended {
+                pass,
+                even,
+                odd,
+                hand,
+            },
+        ) = book.split(hands, part)
+        else {
+            return Err(StormFault::Setup(Refusal::Full));
+        };
+        let worker = Worker::new(book, number, pass, (even, odd), hand);
         if hired.push(worker).is_err() {
             return Err(StormFault::Run(RunFault::Memory));
         }

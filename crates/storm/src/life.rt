@@ -6,14 +6,16 @@ ghost use Rattle.slot_tables.specs.Views.{key_at};
 ghost use Rattle.flat_machine.specs.Flat.{Flat};
 ghost use Rattle.map_words.specs.Places.{blocks_of};
 ghost use Rattle.slot_words.specs.Places.{slots_of};
+ghost use Rattle.array_book.specs.Whole.{IsHistoryOf};
 ghost use Rattle.storm.specs.Ending.{IsEnding};
 
 use crate::crew::{Crew, run_all};
 use crate::outcome::{Storm, StormFault, Tally};
 use crate::setting::{BLOCKS, PAYLOAD, release_all, storm_array};
-use array_book::{Book, Claim, Ended, SettleFault, Settled, Sizes, settle};
+use array_book::{Book, Claim, Deed, Ended, SettleFault, Settled, Sizes, begin, settle};
 use extents::MemDrive;
 use flat_machine::Refusal;
+use history::{Chronicle, Hand, History, Keeper, Opened};
 use map_words::MapWords;
 use slot_words::{Pass, SlotWords};
 use std::alloc::Global;
@@ -74,7 +76,10 @@ pub fn run_orders<R: Threads + Wait + Sync>(
     let Ok(odd) = MapWords::new(alloc, BLOCKS) else {
         return Err(wanted);
     };
-    play_out::<Brand, Brand, Brand, R>(rt, alloc, slots, even, odd, orders)
+    let Ok(opened) = Opened::new(alloc) else {
+        return Err(wanted);
+    };
+    play_out::<Brand, Brand, Brand, R>(rt, alloc, slots, (even, odd), opened, orders)
 }
 
 fn play_out<
@@ -86,31 +91,32 @@ fn play_out<
     rt: &R,
     alloc: Global,
     slots: slot_words::Unnamed,
-    even: map_words::Unnamed,
-    odd: map_words::Unnamed,
+    maps: (map_words::Unnamed, map_words::Unnamed),
+    opened: Opened<Deed>,
     orders: Orders,
 ) -> Result<Storm, StormFault>
-    requires names { (slots ≡ N.table) × (even ≡ A.table) × (odd ≡ B.table) }
+    requires names { (slots ≡ N.table) × (maps.0 ≡ A.table) × (maps.1 ≡ B.table) × (opened ≡ N.chronicle) }
     requires sizes { (N.blocks ≡ 16) × (N.payload ≡ orders.payload) }
     requires slots { slots_of slots ≡ 65536 }
-    requires blocks { (blocks_of even ≡ 16) × (blocks_of odd ≡ 16) }
+    requires blocks { (blocks_of maps.0 ≡ 16) × (blocks_of maps.1 ≡ 16) }
 {
     let (words, mut pass) = slots.named::<N>();
-    let (even, one) = even.named::<A>();
-    let (odd, other) = odd.named::<B>();
+    let (even, one) = maps.0.named::<A>();
+    let (odd, other) = maps.1.named::<B>();
     let mut spare = words.split(&mut pass);
-    let book = open(alloc, words, (even, odd), &mut spare, orders)?;
+    let (book, hand, parts) = open(alloc, words, (even, odd), &mut spare, opened, orders)?;
     let hands = Ended {
         pass,
         even: one,
         odd: other,
+        hand,
     };
     let crew = Crew {
         workers: orders.workers,
         writes: orders.writes,
         payload: orders.payload,
     };
-    match run_all(rt, alloc, &book, hands, crew) {
+    match run_all(rt, alloc, &book, (hands, parts), crew) {
         Ok((ended, tally)) => close(alloc, book, ended, tally, &mut spare),
         Err(fault) => {
             let _ = close(alloc, book, Vec::new(alloc), Tally::new(), &mut spare);
@@ -119,17 +125,19 @@ fn play_out<
     }
 }
 
-// A Book around a storm's array, of which a drive may have a fuse.
+// A Book around a storm's array, of which a drive may have a fuse, with the first hand of its history and one for each worker.
 fn open<N: slot_words::Naming + Sizes, A: map_words::Naming, B: map_words::Naming>(
     alloc: Global,
     words: SlotWords<N>,
     maps: (MapWords<A>, MapWords<B>),
     spare: &mut Pass<N>,
+    opened: Opened<Deed>,
     orders: Orders,
-) -> Result<Book<MemDrive, N, A, B>, StormFault>
+) -> Result<(Book<MemDrive, N, A, B>, Hand<N, Deed>, Vec<Hand<N, Deed>>), StormFault>
     requires sizes { (N.blocks ≡ 16) × (N.payload ≡ orders.payload) }
     requires slots { slots_of N.table ≡ 65536 }
     requires blocks { (blocks_of A.table ≡ 16) × (blocks_of B.table ≡ 16) }
+    requires name { opened ≡ N.chronicle }
 {
     let mut array = match storm_array(alloc, &words, spare, orders.payload) {
         Ok(array) => array,
@@ -139,13 +147,37 @@ fn open<N: slot_words::Naming + Sizes, A: map_words::Naming, B: map_words::Namin
         release_all(&words, spare, array);
         return Err(StormFault::Setup(Refusal::BadMember));
     }
-    match Book::new(alloc, array, words, maps) {
-        Ok(book) => Ok(book),
-        Err((array, words, _maps)) => {
+    let (history, mut keeper, hand) = begin(opened, &array);
+    let Some(parts) = hire_hands(alloc, &history, &mut keeper, orders.workers) else {
+        release_all(&words, spare, array);
+        return Err(StormFault::Setup(Refusal::Memory));
+    };
+    match Book::new(alloc, array, words, maps, (history, keeper)) {
+        Ok(book) => Ok((book, hand, parts)),
+        Err((array, words, _maps, _history)) => {
             release_all(&words, spare, array);
             Err(StormFault::Setup(Refusal::Memory))
         }
     }
+}
+
+// This many more hands of a history.
+fn hire_hands<N: Chronicle>(
+    alloc: Global,
+    history: &History<N, Deed>,
+    keeper: &mut Keeper<N, Deed>,
+    count: u8,
+) -> Option<Vec<Hand<N, Deed>>>
+    ensures { keeper.new.log ≡ keeper.old.log }
+{
+    let mut hands = Vec::new(alloc);
+    for _ in 0..count {
+        let hand = keeper.hire(history)?;
+        if hands.push(hand).is_err() {
+            return None;
+        }
+    }
+    Some(hands)
 }
 
 // Settles a Book, and releases the claims that its array kept.
@@ -161,12 +193,15 @@ fn close<N: slot_words::Naming + Sizes, A: map_words::Naming, B: map_words::Nami
         array,
         words,
         pass: _,
+        history: _,
+        keeper: _,
     } = settled;
     release_all(&words, spare, array);
     told
 }
 
-// Settles a Book: whether the map of what its workers took is that of its array.
+// Settles a Book: whether the map of what its workers took is that of its array. The array is at the end of one run of all that
+// they did.
 fn conclude<N: slot_words::Naming + Sizes, A: map_words::Naming, B: map_words::Naming>(
     alloc: Global,
     book: Book<MemDrive, N, A, B>,
@@ -175,6 +210,7 @@ fn conclude<N: slot_words::Naming + Sizes, A: map_words::Naming, B: map_words::N
 ) -> (Result<Storm, StormFault>, Settled<MemDrive, N>)
     ensures ok { IfOk result.0 (IsEnding (map (λ e. e.even) ended.items) (map (λ e. e.odd) ended.items) (key_at result.1.array)) }
     ensures err { IfErr result.0 (λ fault. (block : ℕ) → fault ≢ StormFault.Settle (settle_fault.Differs block)) }
+    ensures history { IsHistoryOf (map (λ e. e.hand) ended.items) result.1.keeper result.1.array }
 {
     match settle(alloc, book, ended) {
         Ok(settled) => {

@@ -4,9 +4,11 @@ ghost use Rattle.map_words.specs.Places.{blocks_of};
 ghost use Rattle.slot_words.specs.Places.{slots_of};
 
 use crate::rig::{
-    Layout, Story, Tables, laid_out, named, new_map, new_tables, play, released, renewed,
+    Layout, Story, Tables, laid_out, named, new_history, new_map, new_tables, play, released,
+    renewed,
 };
-use array_book::{Settled, Sizes};
+use array_book::{Deed, Settled, Sizes, begin};
+use history::Opened;
 use slot_words::{Claim, Pass, SlotWords};
 use std::alloc::Global;
 use std::marker::Brand;
@@ -62,10 +64,11 @@ pub(crate) fn one_after_other<F: Story + Sync, S: Story + Sync, R: Abort + Threa
 {
     let tables = new_tables(rt, alloc);
     let (even, odd) = (new_map(rt, alloc), new_map(rt, alloc));
+    let opened = new_history(rt, alloc);
     both::<Brand, Brand, Brand, Brand, Brand, F, S, R>(
         rt,
         alloc,
-        tables,
+        (tables, opened),
         (even, odd),
         count,
         (first, second),
@@ -84,24 +87,32 @@ fn both<
 >(
     rt: &R,
     alloc: Global,
-    tables: Tables,
+    tables: (Tables, Opened<Deed>),
     maps: (map_words::Unnamed, map_words::Unnamed),
     count: u16,
     stories: (&F, &S),
 ) -> u32
-    requires names { (tables.slots ≡ N.table) × (tables.even ≡ A.table) × (tables.odd ≡ B.table) }
+    requires names { (tables.0.slots ≡ N.table) × (tables.0.even ≡ A.table) × (tables.0.odd ≡ B.table) × (tables.1 ≡ N.chronicle) }
     requires maps { (maps.0 ≡ C.table) × (maps.1 ≡ D.table) }
     requires blocks { (blocks_of maps.0 ≡ 16) × (blocks_of maps.1 ≡ 16) }
     requires sizes { (N.blocks ≡ 16) × (N.payload ≡ 40) }
     requires count { count ≤ 48 }
 {
+    let (tables, opened) = tables;
     let mut bench = named::<N, A, B>(tables);
-    let mut spare = bench.words.split(&mut bench.hands.pass);
+    let mut spare = bench.words.split(&mut bench.shares.pass);
     let mut claims = claimed(rt, alloc, &bench.words, &mut spare, count);
     let array = laid_out(rt, alloc, Layout::Storm);
-    let (settled, left) = play(rt, alloc, array, bench, &[4], stories.0);
+    let (history, keeper, _hand) = begin(opened, &array);
+    let (settled, left) = play(rt, alloc, (array, history, keeper), bench, &[4], stories.0);
     assert!(rt; settled == Ok(()));
-    let Settled { array, words, pass } = left;
+    let Settled {
+        array,
+        words,
+        pass,
+        history,
+        keeper,
+    } = left;
     let Some(pass) = pass else {
         panic!(rt; "no Pass came back")
     };
@@ -109,12 +120,14 @@ fn both<
     let shape = array.shape();
     assert!(rt; shape.blocks == 16 && shape.payload == 40);
     let bench = renewed::<N, C, D>(words, pass, maps.0, maps.1);
-    let (settled, left) = play(rt, alloc, array, bench, &[4], stories.1);
+    let (settled, left) = play(rt, alloc, (array, history, keeper), bench, &[4], stories.1);
     assert!(rt; settled == Ok(()));
     let Settled {
         array,
         words,
         pass: _,
+        history: _,
+        keeper: _,
     } = left;
     while let Some(claim) = claims.pop() {
         words.release(&mut spare, claim);

@@ -8,10 +8,11 @@ ghost use Rattle.header_scan.specs.Restarts.{AreAllSound};
 ghost use Rattle.slot_words.specs.Places.{slots_of};
 
 use crate::calls::{payload, trim, write};
-use crate::rig::{Story, Tables, grouped, named, new_tables, play, released};
-use array_book::{Claim, NoGate, SettleFault, Settled, Sizes, WorkFault, Worker};
+use crate::rig::{Story, Tables, grouped, named, new_history, new_tables, play, released};
+use array_book::{Claim, Deed, NoGate, SettleFault, Settled, Sizes, WorkFault, Worker, begin};
 use array_parts::Parts;
 use header_scan::restart;
+use history::Opened;
 use slot_words::{Pass, SlotWords};
 use std::alloc::Global;
 use std::marker::Brand;
@@ -196,15 +197,23 @@ fn refuses<
     A: map_words::Naming + Send + Sync,
     B: map_words::Naming + Send + Sync,
     R: Abort + Threads + Wait + Sync,
->(rt: &R, alloc: Global, tables: Tables, case: &Refused)
-    requires names { (tables.slots ≡ N.table) × (tables.even ≡ A.table) × (tables.odd ≡ B.table) }
+>(rt: &R, alloc: Global, tables: (Tables, Opened<Deed>), case: &Refused)
+    requires names { (tables.0.slots ≡ N.table) × (tables.0.even ≡ A.table) × (tables.0.odd ≡ B.table) × (tables.1 ≡ N.chronicle) }
     requires sizes { (N.blocks ≡ 16) × (N.payload ≡ 40) }
 {
+    let (tables, opened) = tables;
     let mut bench = named::<N, A, B>(tables);
-    let array = restarted(rt, alloc, &bench.words, &mut bench.hands.pass, case);
-    let (settled, left) = play(rt, alloc, array, bench, &[4], case);
+    let array = restarted(rt, alloc, &bench.words, &mut bench.shares.pass, case);
+    let (history, keeper, _hand) = begin(opened, &array);
+    let (settled, left) = play(rt, alloc, (array, history, keeper), bench, &[4], case);
     assert!(rt; settled == Err(SettleFault::Differs(3)));
-    let Settled { array, words, pass } = left;
+    let Settled {
+        array,
+        words,
+        pass,
+        history: _,
+        keeper: _,
+    } = left;
     let Some(mut pass) = pass else {
         panic!(rt; "no Pass came back")
     };
@@ -228,7 +237,7 @@ fn a_call_that_is_refused_gives_its_slot_back(rt: HostRuntime) {
         Refused::of_lost_drives(Call::Trim(5)),
     ];
     for case in &cases {
-        let tables = new_tables(&rt, rt.alloc());
+        let tables = (new_tables(&rt, rt.alloc()), new_history(&rt, rt.alloc()));
         refuses::<Brand, Brand, Brand, HostRuntime>(&rt, rt.alloc(), tables, case);
     }
 }

@@ -5,13 +5,15 @@ ghost use Rattle.slot_tables.specs.Represents.{ShowsArray};
 ghost use Rattle.flat_machine.specs.Flat.{Flat};
 ghost use Rattle.map_words.specs.Places.{blocks_of};
 ghost use Rattle.slot_words.specs.Places.{slots_of};
+ghost use Rattle.array_book.specs.Acts.{IsEndOf};
 
 use array_book::{
-    Book, Claim, Ended, Job, RunFault, SettleFault, Settled, Sizes, WorkFault, Worker, run_workers,
-    settle,
+    Book, Claim, Deed, Ended, Job, RunFault, SettleFault, Settled, Sizes, WorkFault, Worker, begin,
+    run_workers, settle,
 };
+use history::{Hand, History, Keeper, Opened};
 use map_join::Record;
-use map_words::MapWords;
+use map_words::{MapWords, Taker};
 use slot_words::{Pass, SlotWords};
 use std::alloc::Global;
 use std::marker::Brand;
@@ -31,13 +33,21 @@ pub(crate) struct Tables {
     pub(crate) ghost there: { blocks_of odd ≡ 16 },
 }
 
-/// The words of a Book, and hands with all that steps on them.
+/// What steps on the words.
+#[derive(Drop)]
+pub(crate) struct Shares<N: slot_words::Naming, A: map_words::Naming, B: map_words::Naming> {
+    pub(crate) pass: Pass<N>,
+    pub(crate) even: Taker<A>,
+    pub(crate) odd: Taker<B>,
+}
+
+/// The words of a Book, and all that steps on them.
 #[derive(Drop)]
 pub(crate) struct Bench<N: slot_words::Naming, A: map_words::Naming, B: map_words::Naming> {
     pub(crate) words: SlotWords<N>,
     pub(crate) even: MapWords<A>,
     pub(crate) odd: MapWords<B>,
-    pub(crate) hands: Ended<N, A, B>,
+    pub(crate) shares: Shares<N, A, B>,
 }
 
 /// The words and the Pass that a Book left, with new maps under their names.
@@ -55,7 +65,7 @@ pub(crate) fn renewed<N: slot_words::Naming, A: map_words::Naming, B: map_words:
         words,
         even,
         odd,
-        hands: Ended {
+        shares: Shares {
             pass,
             even: one,
             odd: other,
@@ -191,7 +201,7 @@ pub(crate) fn named<N: slot_words::Naming, A: map_words::Naming, B: map_words::N
         words,
         even,
         odd,
-        hands: Ended {
+        shares: Shares {
             pass,
             even: one,
             odd: other,
@@ -272,29 +282,62 @@ pub(crate) fn laid_out<C: Hold, R: Abort>(
     }
 }
 
+/// A history without a name.
+pub(crate) fn new_history(rt: &impl Abort, alloc: Global) -> Opened<Deed> {
+    let Ok(opened) = Opened::new(alloc) else {
+        panic!(rt; "no history")
+    };
+    opened
+}
+
+// One hand more.
+fn hired<N: Sizes, R: Abort>(
+    rt: &R,
+    history: &History<N, Deed>,
+    keeper: &mut Keeper<N, Deed>,
+) -> Hand<N, Deed>
+    ensures { keeper.new.log ≡ keeper.old.log }
+{
+    let Some(hand) = keeper.hire(history) else {
+        panic!(rt; "no hand")
+    };
+    hand
+}
+
 // Hands for this many workers, or for one where there is none.
-fn parted<N: slot_words::Naming, A: map_words::Naming, B: map_words::Naming, R: Abort>(
+fn parted<N: slot_words::Naming + Sizes, A: map_words::Naming, B: map_words::Naming, R: Abort>(
     rt: &R,
     alloc: Global,
-    bench: (&SlotWords<N>, &MapWords<A>, &MapWords<B>),
-    hands: Ended<N, A, B>,
+    words: (&SlotWords<N>, &MapWords<A>, &MapWords<B>, &History<N, Deed>),
+    keeper: &mut Keeper<N, Deed>,
+    shares: Shares<N, A, B>,
     count: usize,
-) -> Vec<Ended<N, A, B>> {
-    let (words, even, odd) = bench;
-    let mut hands = hands;
+) -> Vec<Ended<N, A, B>>
+    ensures { keeper.new.log ≡ keeper.old.log }
+{
+    let (words, even, odd, history) = words;
+    let mut shares = shares;
     let mut all = Vec::new(alloc);
     for _ in 1..count {
-        let (Ok(one), Ok(other)) = (even.split(&mut hands.even), odd.split(&mut hands.odd)) else {
+        let (Ok(one), Ok(other)) = (even.split(&mut shares.even), odd.split(&mut shares.odd)) else {
             panic!(rt; "no share is left")
         };
         let part = Ended {
-            pass: words.split(&mut hands.pass),
+            pass: words.split(&mut shares.pass),
             even: one,
             odd: other,
+            hand: hired(rt, history, keeper),
         };
         assert!(rt; all.push(part).is_ok());
     }
-    assert!(rt; all.push(hands).is_ok());
+    let Shares { pass, even, odd } = shares;
+    let last = Ended {
+        pass,
+        even,
+        odd,
+        hand: hired(rt, history, keeper),
+    };
+    assert!(rt; all.push(last).is_ok());
     all
 }
 
@@ -316,10 +359,18 @@ fn played<
     let mut hands = hands;
     let mut workers = Vec::new(alloc);
     for number in numbers {
-        let Some(Ended { pass, even, odd }) = hands.pop() else {
+        let Some(
+            Ended {
+                pass,
+                even,
+                odd,
+                hand,
+            },
+        ) = hands.pop()
+        else {
             panic!(rt; "too few hands")
         };
-        let worker = Worker::new(book, *number, pass, (even, odd));
+        let worker = Worker::new(book, *number, pass, (even, odd), hand);
         assert!(rt; workers.push(worker).is_ok());
     }
     let works = Works { story };
@@ -342,26 +393,34 @@ pub(crate) fn play<
 >(
     rt: &R,
     alloc: Global,
-    array: Array<MemDrive, Claim<N>>,
+    array: (Array<MemDrive, Claim<N>>, History<N, Deed>, Keeper<N, Deed>),
     bench: Bench<N, A, B>,
     numbers: &[u8],
     story: &S,
 ) -> (Result<(), SettleFault>, Settled<MemDrive, N>)
-    requires shows { (F : Flat) × ShowsArray array F }
-    requires sizes { (array.parts.groups.blocks ≡ 16) × (array.parts.groups.payload ≡ 40) }
+    requires course { IsEndOf array.2.log array.0 }
+    requires sizes { (array.0.parts.groups.blocks ≡ 16) × (array.0.parts.groups.payload ≡ 40) }
     requires named { (N.blocks ≡ 16) × (N.payload ≡ 40) }
     requires many { slots_of N.table ≡ 65536 }
     requires blocks { (blocks_of A.table ≡ 16) × (blocks_of B.table ≡ 16) }
-    ensures shows { (F : Flat) × ShowsArray result.1.array F }
+    ensures course { IsEndOf result.1.keeper.log result.1.array }
 {
+    let (array, history, mut keeper) = array;
     let Bench {
         words,
         even,
         odd,
-        hands,
+        shares,
     } = bench;
-    let hands = parted(rt, alloc, (&words, &even, &odd), hands, numbers.len());
-    let book = match Book::new(alloc, array, words, (even, odd)) {
+    let hands = parted(
+        rt,
+        alloc,
+        (&words, &even, &odd, &history),
+        &mut keeper,
+        shares,
+        numbers.len(),
+    );
+    let book = match Book::new(alloc, array, words, (even, odd), (history, keeper)) {
         Ok(book) => book,
         Err(_back) => panic!(rt; "no book"),
     };
@@ -416,7 +475,8 @@ pub(crate) fn lived_after<S: Story + Sync, R: Abort + Threads + Wait + Sync>(
     story: &S,
 ) -> (Result<(), SettleFault>, u32) {
     let tables = new_tables(rt, alloc);
-    live::<Brand, Brand, Brand, S, R>(rt, alloc, tables, taken, numbers, story)
+    let opened = new_history(rt, alloc);
+    live::<Brand, Brand, Brand, S, R>(rt, alloc, (tables, opened), taken, numbers, story)
 }
 
 fn live<
@@ -428,26 +488,30 @@ fn live<
 >(
     rt: &R,
     alloc: Global,
-    tables: Tables,
+    tables: (Tables, Opened<Deed>),
     taken: Option<Record>,
     numbers: &[u8],
     story: &S,
 ) -> (Result<(), SettleFault>, u32)
-    requires names { (tables.slots ≡ N.table) × (tables.even ≡ A.table) × (tables.odd ≡ B.table) }
+    requires names { (tables.0.slots ≡ N.table) × (tables.0.even ≡ A.table) × (tables.0.odd ≡ B.table) × (tables.1 ≡ N.chronicle) }
     requires sizes { (N.blocks ≡ 16) × (N.payload ≡ 40) }
 {
+    let (tables, opened) = tables;
     let mut bench = named::<N, A, B>(tables);
-    let mut spare = bench.words.split(&mut bench.hands.pass);
+    let mut spare = bench.words.split(&mut bench.shares.pass);
     if let Some(record) = taken {
         assert!(rt; record.block < 16 && record.version > 0);
-        bench.even.take(&mut bench.hands.even, record);
+        bench.even.take(&mut bench.shares.even, record);
     }
     let array = laid_out(rt, alloc, story.layout());
-    let (settled, left) = play(rt, alloc, array, bench, numbers, story);
+    let (history, keeper, _hand) = begin(opened, &array);
+    let (settled, left) = play(rt, alloc, (array, history, keeper), bench, numbers, story);
     let Settled {
         array,
         words,
         pass: _,
+        history: _,
+        keeper: _,
     } = left;
     (settled, released(rt, &words, &mut spare, array))
 }

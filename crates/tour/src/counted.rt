@@ -58,6 +58,10 @@ impl<D: Drive> Drive for Counted<D> {
         self.count();
         self.drive.write_unit(at, unit)
     }
+
+    fn sync(&mut self) -> Result<(), DriveLost> {
+        self.drive.sync()
+    }
 }
 
 impl Counted<MemDrive> {

@@ -3,13 +3,13 @@ use crate::desk::Desk;
 use crate::disk::Disk;
 use crate::restarts::restarted;
 use crate::volume::Volume;
-use anyhow::{Result, bail, ensure};
+use anyhow::{Result, bail};
 use file_drive::FileDrive;
 use std::alloc::Global;
-use step_core::{Class, Drive, Shape};
+use step_core::{Class, Shape};
 
-// A drive for each of three disks of zeros.
-fn open_disks(alloc: Global, shape: &Shape) -> Result<Vec<FileDrive<Disk>>> {
+/// A drive for each of three disks of zeros.
+pub(crate) fn open_disks(alloc: Global, shape: &Shape) -> Result<Vec<FileDrive<Disk>>> {
     let bytes = shape.drive_units() as usize * shape.unit_bytes();
     let mut drives = Vec::new(alloc);
     for _made in 0..3 {
@@ -27,18 +27,6 @@ fn opened(alloc: Global, shape: &Shape, disk: Disk) -> Result<FileDrive<Disk>> {
 }
 
 impl Volume<FileDrive<Disk>> {
-    /// Makes all writes durable.
-    pub(crate) fn sync(self) -> Result<Volume<FileDrive<Disk>>> {
-        let Volume { alloc, array, desk } = self;
-        let Ok((mut parts, seats)) = array.into_parts(alloc) else {
-            bail!("no memory");
-        };
-        for drive in parts.drives.iter_mut() {
-            ensure!(drive.sync().is_ok(), "a drive is lost");
-        }
-        restarted(alloc, parts, seats, desk)
-    }
-
     /// The array that is found after a crash, by the headers of its disks.
     pub(crate) fn crash(self) -> Result<Volume<FileDrive<Disk>>> {
         let Volume { alloc, array, desk } = self;
@@ -63,7 +51,7 @@ pub(crate) fn keep(alloc: Global, shape: Shape) -> Result<(Option<[u8; 8]>, Opti
     let mut volume = Volume::new(alloc, shape, drives, Desk::new())?;
     volume.make(Class::Mirrored, [0, 1, 2], 0)?;
     volume.write(0, 3, &[7; 8])?;
-    let mut volume = volume.sync()?;
+    volume.array.sync();
     volume.write(1, 5, &[9; 8])?;
     let mut volume = volume.crash()?;
     Ok((volume.find(3)?, volume.find(5)?))

@@ -1,10 +1,12 @@
-//! A tour of the library: a disk, a drive and a claim of one's own, an array over them, a lost drive, a restart, and block maps.
+//! A tour of the library: a disk, a drive and a claim of one's own, an array and two levels over them, a lost drive, a restart,
+//! and block maps.
 #![tactic(auto)]
 
 mod counted;
 mod desk;
 mod disk;
 mod kept;
+mod levels;
 mod maps;
 mod restarts;
 mod volume;
@@ -14,6 +16,7 @@ use anyhow::Result;
 use counted::Counted;
 use desk::Desk;
 use kept::keep;
+use levels::use_levels;
 use map_join::Record;
 use maps::{backwards, map_of, merge};
 use std::alloc::Global;
@@ -38,6 +41,7 @@ fn tour(rt: &impl Print, alloc: Global) -> Result<()> {
     let (shape, drives) = new_drives(alloc)?;
     let (durable, other) = keep(alloc, shape)?;
     println!(rt; "after a crash: {durable:?}, without a sync: {other:?}")?;
+    tell(rt, "demote", use_levels(alloc, shape)?)?;
     println!(rt; "drives: {} of {} units", drives.len(), shape.drive_units())?;
     let mut volume = Volume::new(alloc, shape, drives, Desk::new())?;
     let records = use_all(rt, &mut volume)?;

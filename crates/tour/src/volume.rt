@@ -8,7 +8,7 @@ use crate::desk::{Desk, Seat};
 use anyhow::{Context, Result, bail, ensure};
 use map_join::Record;
 use std::alloc::Global;
-use step_core::{Array, Class, Drive, MemDrive, Member, Refusal, Shape, TakeBack, Ticket};
+use step_core::{Array, Class, Drive, Hold, MemDrive, Member, Refusal, Shape, TakeBack, Ticket};
 
 /// An array, and the desk that its claims come from.
 #[derive(Drop)]
@@ -44,6 +44,27 @@ fn have_units<D: Drive>(drives: &[D], units: u32) -> bool
     drives.iter().all(|drive| drive.units() == units)
 }
 
+/// An array over these drives, with no group.
+pub(crate) fn array_over<D: Drive + Drop, C: Hold>(
+    alloc: Global,
+    shape: Shape,
+    drives: Vec<D>,
+) -> Result<Array<D, C>> {
+    ensure!(3 <= drives.len() && drives.len() <= 16, "3 to 16 drives");
+    ensure!(
+        are_sized(&drives, shape.unit_bytes()),
+        "units of another size"
+    );
+    ensure!(
+        have_units(&drives, shape.drive_units()),
+        "drives of another size"
+    );
+    match Array::new(alloc, shape, drives) {
+        Ok(array) => Ok(array),
+        Err((refusal, _drives)) => Err(refusal.into()),
+    }
+}
+
 impl<D: Drive + Drop> Volume<D> {
     /// An array over these drives, with no group.
     pub(crate) fn new(
@@ -52,19 +73,8 @@ impl<D: Drive + Drop> Volume<D> {
         drives: Vec<D>,
         desk: Desk,
     ) -> Result<Volume<D>> {
-        ensure!(3 <= drives.len() && drives.len() <= 16, "3 to 16 drives");
-        ensure!(
-            are_sized(&drives, shape.unit_bytes()),
-            "units of another size"
-        );
-        ensure!(
-            have_units(&drives, shape.drive_units()),
-            "drives of another size"
-        );
-        match Array::new(alloc, shape, drives) {
-            Ok(array) => Ok(Volume { alloc, array, desk }),
-            Err((refusal, _drives)) => Err(refusal.into()),
-        }
+        let array = array_over(alloc, shape, drives)?;
+        Ok(Volume { alloc, array, desk })
     }
 
     /// Makes a group of an extent of this number on each of three drives: its number.

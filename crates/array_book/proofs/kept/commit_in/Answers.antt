@@ -1,40 +1,53 @@
-use Rattle.std.proofs.Common.{◌<◌, length, sym, ap, subst, refl}
+use Rattle.std.proofs.Common.{◌<◌, length, rules, sym, ap, subst, refl}
 use Rattle.map_join.specs.declared.records.Record.{Record}
-use Rattle.flat_machine.specs.Flat.{Flat}
-use Rattle.flat_machine.specs.Steps as say
-use Rattle.flat_machine.specs.Cases.{CommitCase, IsWanted}
 use Rattle.slot_tables.specs.Represents.{ShowsArray}
 use Rattle.slot_tables.specs.Views.{ArrayView}
 use Rattle.background.specs.Marking.{IsNoted}
+use Rattle.array_book.specs.Acts.{IsTraced, place_of}
 use Rattle.array_book.specs.Kept.{KeptView}
-use Rattle.array_book.proofs.Answering.{state_of, may_refused}
 use Rattle.step_core.proofs.Placing.{refused_still}
-use Rattle.array_book.proofs.Shown.{kept_with, kept_committed, noted_of, ticket_of_some, refused_shown, emitted_written}
+use Rattle.array_book.proofs.Going.{ticket_zero, commit_goes, refused_commit_goes, traced_note, noted_as, kept_as}
+use Rattle.array_book.proofs.Shown.{kept_with, kept_committed, noted_of, ticket_of_some, emitted_written}
 use Rattle.array_book.proofs.kept.commit_in.Goals as goal
 
 pub invariant_of-kept : goal.invariant_of-kept
 invariant_of-kept g c =
-    let k = c.kept.invariant in
-    let w = ticket_of_some k.flat c.kept.inside.array c.args.ticket k.shows in
-    let told = c.in-Ok.ensures.flat k.flat w.0 k.shows w.1 in
-    kept_committed _ _ _ _ w.0 c.args.ticket c.args.block c.in-Ok.done.emitted k c.requires c.in-Ok.ensures.done.3.rest.groups c.note.ensures.long
+    let k = c.kept.invariant.0 in
+    let a = c.kept.inside.array in
+    let w = ticket_of_some k.flat a c.args.ticket k.shows in
+    let told = c.in-Ok.ensures.flat k.flat 0 k.shows (ticket_zero k.flat c.args.ticket w.0 c.kept.invariant.1.idle w.1) in
+    let on = commit_goes (λ x. x.0.slot) a c.commit.new.self k.flat c.args.ticket c.args.block c.in-Ok.done.emitted c.in-Ok.done.old k.shows c.kept.invariant.1.idle c.in-Ok.ensures.done.2 told in
+    let same = kept_committed _ _ _ _ 0 c.args.ticket c.args.block c.in-Ok.done.emitted k c.requires c.in-Ok.ensures.done.3.rest.groups c.note.ensures.long
     (subst (λ (r : Record). r.block < length c.kept.inside.planner.ages.order → IsNoted c.commit.new.self.parts.groups c.kept.inside.planner.ages c.note.new.self.ages r)
     c.record.ensures c.note.ensures.noted)
-    told
+    told in
+    kept_as (IsTraced c.note-in-Ok.new.self.log) _ _ _ same on.flat on.shows
+    (traced_note _ _ _ _ _ _ _ c.kept.invariant.1 on (ap (λ k. k.log) c.note-in-Ok.ensures.log) (search rules))
+
+pub returns-in-Ok-clause-called : goal.returns-in-Ok-clause-called
+returns-in-Ok-clause-called g c = record {
+  old = place_of (λ x. x.0.slot) c.in-Ok.done.old;
+  noted = noted_as _ _ _ _ _ _ c.note-in-Ok.ensures.noted (search rules) c.note-in-Ok.ensures.seen (invariant_of-kept g c).1;
+}
 
 pub invariant_of-kept-in-Err : goal.invariant_of-kept-in-Err
 invariant_of-kept-in-Err g c =
-    let k = c.kept.invariant in
+    let k = c.kept.invariant.0 in
     let a = c.kept.inside.array in
     let w = ticket_of_some k.flat a c.args.ticket k.shows in
     let q = c.in-Err.refused.0 in
-    kept_with _ _ _ _ k (refused_still a c.commit.new.self q c.in-Err.ensures.err.1) refl
-    (refused_shown q (IsWanted k.flat (say.Commit w.0 c.args.ticket c.args.block)) (λ G. CommitCase k.flat w.0 c.args.ticket c.args.block (say.Refused q) G)
-    a c.commit.new.self k.flat k.shows c.in-Err.ensures.err.1 (c.in-Err.ensures.flat k.flat w.0 k.shows w.1))
+    let told = c.in-Err.ensures.flat k.flat 0 k.shows (ticket_zero k.flat c.args.ticket w.0 c.kept.invariant.1.idle w.1) in
+    let on = refused_commit_goes q a c.commit.new.self k.flat c.args.ticket c.args.block k.shows c.kept.invariant.1.idle c.in-Err.ensures.err.1 told in
+    let same = kept_with _ _ _ _ k (refused_still a c.commit.new.self q c.in-Err.ensures.err.1) refl (on.flat, on.shows) in
+    kept_as (IsTraced c.note-in-Err.new.self.log) _ _ _ same on.flat on.shows
+    (traced_note _ _ _ _ _ _ _ c.kept.invariant.1 on (ap (λ k. k.log) c.note-in-Err.ensures.log) (search rules))
+
+pub returns-in-Err-clause-called : goal.returns-in-Err-clause-called
+returns-in-Err-clause-called g c = noted_as _ _ _ _ _ _ c.note-in-Err.ensures.noted (search rules) c.note-in-Err.ensures.seen (invariant_of-kept-in-Err g c).1
 
 pub returns-in-Ok-clause-noted : goal.returns-in-Ok-clause-noted
 returns-in-Ok-clause-noted g c =
-    let k = c.kept.invariant in
+    let k = c.kept.invariant.0 in
     let groups = c.commit.new.self.parts.groups in
     let after = c.note.new.self.ages in
     let w = ticket_of_some k.flat c.kept.inside.array c.args.ticket k.shows in
@@ -45,7 +58,7 @@ returns-in-Ok-clause-noted g c =
 
 pub returns-in-Ok-clause-written : goal.returns-in-Ok-clause-written
 returns-in-Ok-clause-written g c =
-    let k = c.kept.invariant in
+    let k = c.kept.invariant.0 in
     let w = ticket_of_some k.flat c.kept.inside.array c.args.ticket k.shows in
     let told = c.in-Ok.ensures.flat k.flat w.0 k.shows w.1 in
     emitted_written c.commit.new.self told.0 c.kept.inside.array.log c.in-Ok.done.emitted told.2 (ap (λ (v : ArrayView). v.log) c.in-Ok.ensures.done.0)
@@ -53,20 +66,3 @@ returns-in-Ok-clause-written g c =
 pub returns-in-Ok-clause-flat : goal.returns-in-Ok-clause-flat
 returns-in-Ok-clause-flat g c F w shows mine =
     c.in-Ok.ensures.flat F w (subst (λ (k : KeptView). ShowsArray k.array F) (sym c.kept.view_is) shows) mine
-
-pub returns-in-Ok-clause-answered : goal.returns-in-Ok-clause-answered
-returns-in-Ok-clause-answered g c =
-    let k = c.kept.invariant in
-    let w = ticket_of_some k.flat c.kept.inside.array c.args.ticket k.shows in
-    let told = c.in-Ok.ensures.flat k.flat w.0 k.shows w.1 in
-    record { state = state_of _ _ _ k; worker = w.0; after = told.0; case = told.1 }
-
-pub returns-in-Err-clause-answered : goal.returns-in-Err-clause-answered
-returns-in-Err-clause-answered g c = λ other.
-    let k = c.kept.invariant in
-    let q = c.in-Err.refused.0 in
-    let w = ticket_of_some k.flat c.kept.inside.array c.args.ticket k.shows in
-    let told = may_refused q (IsWanted k.flat (say.Commit w.0 c.args.ticket c.args.block))
-    ((G : Flat) × CommitCase k.flat w.0 c.args.ticket c.args.block (say.Refused q) G × ShowsArray c.commit.new.self G)
-    (c.in-Err.ensures.flat k.flat w.0 k.shows w.1) other in
-    record { state = state_of _ _ _ k; worker = w.0; after = told.0; case = told.1 }

@@ -1,17 +1,19 @@
-use Rattle.std.proofs.Common.{refl}
-use Rattle.array_book.proofs.Answering.{discard_answered}
-use Rattle.array_book.proofs.Shown.{kept_with, ticket_of_some, discard_shown, discard_still}
+use Rattle.std.proofs.Common.{refl, rules, ap}
+use Rattle.array_book.specs.Acts.{IsTraced}
+use Rattle.array_book.proofs.Going.{ticket_zero, discard_goes, traced_note, noted_as, kept_as}
+use Rattle.array_book.proofs.Shown.{kept_with, ticket_of_some, discard_still}
 use Rattle.array_book.proofs.kept.discard_in.Goals as goal
 
 pub invariant_of-kept : goal.invariant_of-kept
 invariant_of-kept g c =
-    let k = c.kept.invariant in
+    let k = c.kept.invariant.0 in
     let a = c.kept.inside.array in
     let s = c.args.ticket in
     let w = ticket_of_some k.flat a s k.shows in
-    kept_with _ _ _ _ k (discard_still _ _ _ c.discard.result a c.discard.new.self s c.discard.ensures.claim c.discard.ensures.err) refl
-    (discard_shown _ _ c.discard.result a c.discard.new.self k.flat w.0 s k.shows c.discard.ensures.err (c.discard.ensures.flat k.flat w.0 k.shows w.1))
+    let told = c.discard-discarded.ensures.flat k.flat 0 k.shows (ticket_zero k.flat s w.0 c.kept.invariant.1.idle w.1) in
+    let on = discard_goes _ _ c.discard-discarded.result a c.discard-discarded.new.self k.flat s k.shows c.kept.invariant.1.idle c.discard-discarded.ensures.err told in
+    let same = kept_with _ _ _ _ k (discard_still _ _ _ c.discard-discarded.result a c.discard-discarded.new.self s c.discard-discarded.ensures.claim c.discard-discarded.ensures.err) refl (on.flat, on.shows) in
+    kept_as (IsTraced c.note.new.self.log) _ _ _ same on.flat on.shows (traced_note _ _ _ _ _ _ _ c.kept.invariant.1 on (ap (λ k. k.log) c.note.ensures.log) (search rules))
 
-pub returns-clause-given_up : goal.returns-clause-given_up
-returns-clause-given_up g c =
-    discard_answered _ _ c.discard.result _ c.discard.new.self c.args.ticket c.kept.invariant c.discard.ensures.flat
+pub returns-clause-called : goal.returns-clause-called
+returns-clause-called g c = noted_as _ _ _ _ _ _ c.note.ensures.noted (search rules) c.note.ensures.seen (invariant_of-kept g c).1

@@ -6,7 +6,7 @@ use Rattle.array_book.proofs.plan.regrouped.Goals as goal
 pub returns-in-Some-clause-block : goal.returns-in-Some-clause-block
 returns-in-Some-clause-block g c =
     let inside = c.in-Some.ensures.block in
-    let size = c.kept.invariant.blocks in
+    let size = c.kept.invariant.0.blocks in
     let told = c.moved.ensures.block in
     omega (arith, inside, size, told)
 
@@ -17,7 +17,7 @@ returns-in-Some-clause-moves g c =
 pub returns-in-Some-clean_unplugged-clause-block : goal.returns-in-Some-clean_unplugged-clause-block
 returns-in-Some-clean_unplugged-clause-block g c =
     let inside = c.in-Some-clean_unplugged.ensures.block in
-    let size = c.kept.invariant.blocks in
+    let size = c.kept.invariant.0.blocks in
     let told = c.moved-in-Some-clean_unplugged.ensures.block in
     omega (arith, inside, size, told)
 

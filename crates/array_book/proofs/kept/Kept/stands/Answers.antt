@@ -5,4 +5,4 @@ use Rattle.array_book.proofs.kept.Kept.stands.Goals as goal
 
 pub returns-clause-agrees : goal.returns-clause-agrees
 returns-clause-agrees g c =
-    subst (λ (k : KeptView). Agrees k.array) c.self.view_is (agrees_with c.self.inside.array c.self.invariant.flat c.whole.ensures c.self.invariant.shows)
+    subst (λ (k : KeptView). Agrees k.array) c.self.view_is (agrees_with c.self.inside.array c.self.invariant.0.flat c.whole.ensures c.self.invariant.0.shows)

@@ -1,0 +1,5 @@
+pub mod Chains
+pub mod Replayed
+pub mod Puts
+pub mod Marking
+pub mod Flushing

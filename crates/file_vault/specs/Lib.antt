@@ -1,0 +1,4 @@
+pub mod Folders
+pub mod Calls
+pub mod Layouts
+pub mod Journals

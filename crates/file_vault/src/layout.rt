@@ -1,0 +1,59 @@
+// Where units lie in the files.
+ghost use Rattle.std.specs.Prelude.{◌≡◌, ◌+◌, ◌*◌, ◌<◌, ◌^◌, length};
+ghost use Rattle.file_vault.specs.Layouts.{count_of, size_of, offset_of};
+
+use extent_groups::Place;
+use extents::DRIVES;
+use vault::TABLE;
+
+/// Bytes before the first unit of a drive's file, and before the first batch of the journal's.
+pub const HEADER: u64 = 4096;
+
+/// The number of the journal's file. Before it are those of the drives, and of the table.
+pub const JOURNAL: u8 = 17;
+
+/// How many units each drive has, and how long they are.
+#[derive(Clone, Copy, Debug, PartialEq, Eq)]
+pub struct Layout {
+    /// Bytes of a unit.
+    pub unit_bytes: u32,
+    /// Bytes of the table.
+    pub table_bytes: u32,
+    /// Units of each drive; 0 for a drive without a file.
+    pub counts: [u32; DRIVES],
+}
+
+impl Layout {
+    ghost use Rattle.file_vault.specs.Layouts.{count_of, size_of, offset_of};
+
+    /// Units of a drive; of the table one.
+    pub fn count(&self, drive: u8) -> u32
+        ensures { result ≡ count_of self.now.counts drive }
+    {
+        if drive == TABLE {
+            return 1;
+        }
+        match self.counts.get(drive as usize) {
+            Some(count) => *count,
+            None => 0,
+        }
+    }
+
+    /// Bytes of a unit of a drive.
+    pub fn size(&self, drive: u8) -> u32
+        ensures { result ≡ size_of self.now.unit_bytes self.now.table_bytes drive }
+    {
+        if drive == TABLE {
+            self.table_bytes
+        } else {
+            self.unit_bytes
+        }
+    }
+
+    /// The offset of a unit in its drive's file.
+    pub fn offset(&self, place: Place) -> u64
+        ensures { result ≡ offset_of (size_of self.now.unit_bytes self.now.table_bytes place.drive) place.address }
+    {
+        HEADER + place.address as u64 * self.size(place.drive) as u64
+    }
+}

@@ -1,0 +1,16 @@
+//! A vault over files, and files in memory that a stop leaves in each way that real ones may be left.
+#![tactic(auto)]
+
+mod files;
+mod header;
+mod journal;
+mod layout;
+mod mem_files;
+mod real_files;
+
+pub use files::{FileFault, Files};
+pub use header::{Header, read_header, write_header};
+pub use journal::FileVault;
+pub use layout::{HEADER, JOURNAL, Layout};
+pub use mem_files::MemFiles;
+pub use real_files::RealFiles;

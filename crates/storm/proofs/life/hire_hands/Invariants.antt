@@ -1,0 +1,6 @@
+use Rattle.std.proofs.Common.{◌≡◌}
+use Rattle.storm.proofs.life.hire_hands.Given as goal
+
+-- nothing is noted
+abbrev pub invariant-loop : goal.invariant-loop
+invariant-loop g l = l.keeper.log ≡ l.initial.keeper.log

@@ -1,0 +1,6 @@
+use Rattle.std.proofs.Common.{◌≡◌}
+use Rattle.tests_book.proofs.rig.parted.Given as goal
+
+-- nothing is noted
+abbrev pub invariant-loop : goal.invariant-loop
+invariant-loop g l = l.keeper.log ≡ l.initial.keeper.log

@@ -1,0 +1,33 @@
+// Bytes at any offset, in blocks of 64.
+use crate::model::{agree, write, zero};
+use crate::rig::{plan_of, store_of};
+use byte_store::ByteStore;
+use std::alloc::Alloc;
+use std::sync::atomic::AtomicU64;
+
+#[test]
+fn bytes_are_read_as_they_were_written(rt: HostRuntime) {
+    let syncs = AtomicU64::new(0);
+    let plan = plan_of(&rt, 1000, 64);
+    let mut store = store_of(&rt, rt.alloc(), &plan, &syncs, [false; 6]);
+    assert!(rt; store.size() == 1000);
+    assert!(rt; store.block_bytes() == 64);
+    let mut model = [0u8; 1000];
+    assert!(rt; agree(&rt, &mut store, &model));
+    for piece in [
+        (60usize, 9usize, 1u8),
+        (0, 64, 20),
+        (63, 130, 3),
+        (999, 1, 40),
+        (500, 0, 5),
+        (128, 128, 60),
+    ] {
+        write(&rt, rt.alloc(), &mut store, &mut model, piece);
+        store.rest(rt.alloc());
+    }
+    assert!(rt; agree(&rt, &mut store, &model));
+    for range in [(64usize, 64usize), (1, 2), (100, 300), (998, 2)] {
+        zero(&rt, rt.alloc(), &mut store, &mut model, range);
+    }
+    assert!(rt; agree(&rt, &mut store, &model));
+}

@@ -1,0 +1,13 @@
+//! A disk's bytes over drives that count their syncs, up to its last block.
+#![tactic(auto)]
+
+#[cfg(test)]
+mod bytes;
+#[cfg(test)]
+mod flushes;
+#[cfg(test)]
+mod model;
+#[cfg(test)]
+mod rig;
+#[cfg(test)]
+mod room;

@@ -1,0 +1,7 @@
+//! Vaults over files in memory that are killed, or lose power, at each call.
+#![tactic(auto)]
+
+#[cfg(test)]
+mod story;
+#[cfg(test)]
+mod tests;

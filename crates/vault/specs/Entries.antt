@@ -1,0 +1,16 @@
+-- The writes that a batch holds, by where their units lie among its bytes.
+use Rattle.std.specs.Prelude.{◌≤◌, ℕ, List, [], ◌∷◌, length, slice_range}
+use Rattle.extent_groups.specs.Planned.{Wanted}
+use Rattle.vault.specs.declared.batch.Entry.{Entry}
+
+abbrev pub write_in : List ℕ → Entry → Wanted
+write_in units entry = record { place = entry.place; unit = slice_range units entry.from entry.to }
+
+abbrev pub writes_in : List ℕ → List Entry → List Wanted
+writes_in units [] = []
+writes_in units (entry ∷ entries) = write_in units entry ∷ writes_in units entries
+
+-- each entry's unit lies inside the bytes
+abbrev pub AreWithin : List ℕ → List Entry → Type 0
+AreWithin units [] = Unit {0}
+AreWithin units (entry ∷ entries) = (entry.from ≤ entry.to) × (entry.to ≤ length units) × AreWithin units entries

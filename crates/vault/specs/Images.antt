@@ -1,0 +1,51 @@
+-- What lies in a vault, and which units it stands for.
+use Rattle.std.specs.Prelude.{◌≡◌, ℕ, Bool, false, Option, Some, None, List, [], ◌∷◌, ◌++◌, slice_get}
+use Rattle.extent_groups.specs.declared.place.Place.{Place}
+use Rattle.extent_groups.specs.Cells.{Cells, held}
+use Rattle.extent_groups.specs.Planned.{Wanted, with_unit, after}
+
+-- the unit at each place, and the batches of writes in the journal
+pub record Image : Type 0 where
+  pub cells : Cells
+  pub journal : List (List Wanted)
+
+-- the writes of batches, one after the other
+abbrev pub flat : List (List Wanted) → List Wanted
+flat [] = []
+flat (writes ∷ batches) = writes ++ flat batches
+
+-- the units that an image stands for: those after the writes of its journal
+abbrev pub recovered : Image → Cells
+recovered i = after i.cells (flat i.journal)
+
+abbrev pub is_on : Option Bool → Bool
+is_on None = false
+is_on (Some b) = b
+
+-- a drive is among the lost ones; one without a mark isn't
+abbrev pub is_lost : List Bool → ℕ → Bool
+is_lost lost drive = is_on (slice_get lost drive)
+
+-- the same units at each place
+abbrev pub SameUnits : Cells → Cells → Type 0
+SameUnits c d = (x : Place) → held c x ≡ held d x
+
+-- the same units at each place of a drive that isn't lost
+abbrev pub SameOn : List Bool → Cells → Cells → Type 0
+SameOn lost c d = (x : Place) → is_lost lost x.drive ≡ false → held c x ≡ held d x
+
+-- the same units, and the same journal
+pub record Alike (i j : Image) : Type 0 where
+  pub cells : SameUnits i.cells j.cells
+  pub journal : i.journal ≡ j.journal
+
+-- with a unit over that of a place, and with another journal
+abbrev pub with_write : Image → Place → List ℕ → Image
+with_write i place unit = record { cells = with_unit i.cells (record { place = place; unit = unit }); journal = i.journal }
+
+abbrev pub with_journal : Image → List (List Wanted) → Image
+with_journal i batches = record { cells = i.cells; journal = batches }
+
+-- an image stands for these units, but for those of lost drives
+abbrev pub Stands : List Bool → Cells → Image → Type 0
+Stands lost cells i = SameOn lost (recovered i) cells

@@ -1,0 +1,6 @@
+pub mod Entries
+pub mod Coding
+pub mod Images
+pub mod Moments
+pub mod Replay
+pub mod Memory

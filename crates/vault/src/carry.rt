@@ -1,0 +1,82 @@
+// The units of the journal's batches are written to their places: in a run from time to time, and at a restart first.
+ghost use Rattle.std.specs.Prelude.{◌≡◌, ◌≢◌, ◌<◌, ℕ, false, slice_get, length, Some, OnOk, IfErr};
+ghost use Rattle.extent_groups.specs.Planned.{after};
+ghost use Rattle.extent_groups.specs.declared.place.Place.{Place};
+ghost use Rattle.vault.specs.Images.{Image, SameOn, Stands, recovered, flat, is_lost as is_lost_of};
+ghost use Rattle.vault.specs.Moments.{LeavesOnly, AreLogged, IsSettled, IsKept, IsUnderway, IsTorn, IsReady, HasCause, Within};
+ghost use Rattle.vault.specs.declared.store.Stop.{Stop};
+
+use crate::batch::Batch;
+use crate::store::{Vault, VaultError};
+use extents::DRIVES;
+
+/// Writes the units of all batches to their places, but those for lost drives, and empties the journal. All batches are durable
+/// before. After a restart, when what calls find is what was left, this is the recovery. It may be stopped too, at any moment, and
+/// leaves the same units. Each batch is read into `batch`. Where a drive fails, it can be tried again without that drive.
+pub fn settle<V: Vault>(
+    vault: &mut V,
+    batch: &mut Batch,
+    lost: &[bool; DRIVES],
+) -> Result<(), VaultError>
+    requires logged { V.known vault.old → AreLogged V.seen V.may_leave lost.now vault.old }
+    ensures stays { V.known vault.old → V.known vault.new }
+    ensures settled { V.known vault.old → OnOk result (IsSettled V.seen V.may_leave lost.now vault.old vault.new) }
+    ensures kept { V.known vault.old → IfErr result (λ e. e ≢ VaultError.Journal → IsKept V.seen V.may_leave lost.now vault.old vault.new) }
+    ensures any_moment { V.known vault.old → (stop : Stop) → LeavesOnly V.moment V.left_since stop vault.old vault.new (Stands lost.now (recovered (V.seen vault.old))) }
+    ensures cause { V.known vault.old → HasCause (λ d. is_lost_of lost.now d ≡ false) (V.faults vault.old) (V.faults vault.new) result }
+{
+    write_batches(vault, batch, lost)?;
+    vault.sync_units(lost)?;
+    vault.clear()
+}
+
+// Writes the units of the journal's batches.
+fn write_batches<V: Vault>(
+    vault: &mut V,
+    batch: &mut Batch,
+    lost: &[bool; DRIVES],
+) -> Result<(), VaultError>
+    requires torn { V.known vault.old → (stop : Stop) → Within (V.may_leave vault.old stop) (IsTorn lost.now (V.seen vault.old)) }
+    ensures stays { V.known vault.old → V.known vault.new }
+    ensures underway { V.known vault.old → IsUnderway V.seen V.may_leave V.moment V.left_since lost.now vault.old vault.new }
+    ensures written { V.known vault.old → OnOk result (SameOn lost.now (Image.cells (V.seen vault.new)) (recovered (V.seen vault.old))) }
+    ensures cause { V.known vault.old → HasCause (λ d. is_lost_of lost.now d ≡ false) (V.faults vault.old) (V.faults vault.new) result }
+{
+    let count = vault.batches()?;
+    for index in 0..count {
+        vault.read_batch(index, batch)?;
+        write_units(vault, batch, lost)?;
+    }
+    Ok(())
+}
+
+// Writes the units of a batch that is in the journal.
+fn write_units<V: Vault>(
+    vault: &mut V,
+    batch: &Batch,
+    lost: &[bool; DRIVES],
+) -> Result<(), VaultError>
+    ensures stays { V.known vault.old → V.known vault.new }
+    ensures underway { V.known vault.old → IsReady V.seen V.may_leave lost.now batch.now vault.old → IsUnderway V.seen V.may_leave V.moment V.left_since lost.now vault.old vault.new }
+    ensures written { V.known vault.old → OnOk result (SameOn lost.now (Image.cells (V.seen vault.new)) (after (Image.cells (V.seen vault.old)) batch.now)) }
+    ensures cause { V.known vault.old → HasCause (λ d. is_lost_of lost.now d ≡ false) (V.faults vault.old) (V.faults vault.new) result }
+{
+    for index in 0..batch.len() {
+        let place = batch.place(index);
+        if is_lost(lost, place.drive) {
+            continue;
+        }
+        vault.write_unit(place, batch.unit(index))?;
+    }
+    Ok(())
+}
+
+// Whether a drive is among the lost ones.
+fn is_lost(lost: &[bool; DRIVES], drive: u8) -> bool
+    ensures { result ≡ is_lost_of lost.now drive }
+{
+    match lost.get(drive as usize) {
+        Some(lost) => *lost,
+        None => false,
+    }
+}

@@ -1,0 +1,15 @@
+//! Batches of unit writes that a stop of the machine leaves undone or done: each is put into a journal first.
+#![tactic(auto)]
+
+mod batch;
+mod carry;
+mod code;
+mod commit;
+mod memory;
+mod store;
+
+pub use batch::Batch;
+pub use carry::settle;
+pub use commit::{add, flush, keep};
+pub use memory::MemVault;
+pub use store::{Stop, TABLE, Vault, VaultError};
