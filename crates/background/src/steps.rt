@@ -1,5 +1,5 @@
 // The steps of a world after which its planner and its free slots are as they were.
-ghost use Rattle.std.specs.Prelude.{◌≡◌, ◌<◌, ℕ, length, IfOk, OnOk, OnErr, IsOk};
+ghost use Rattle.std.specs.Prelude.{◌≡◌, ◌<◌, ◌++◌, ℕ, length, IfOk, OnOk, OnErr, IsOk, true};
 ghost use Rattle.flat_machine.specs.Cases.{Leaves};
 ghost use Rattle.flat_machine.specs.Flat.{Flat, Payload};
 ghost use Rattle.flat_machine.specs.Shortened.{IsShortened};
@@ -14,7 +14,7 @@ ghost use Rattle.background.specs.Tiered.{Tiered};
 use crate::{Regrouped, Tiers, balance, rebuild};
 use map_join::Record;
 use std::alloc::{AllocError, Global};
-use step_core::{Answer, Drive, HotSwap, Refusal};
+use step_core::{Answer, Drive, HotSwap, Refusal, Visit};
 
 impl<D: Drive> Tiers<D> {
     /// Claims a slot that nobody holds.
@@ -75,6 +75,15 @@ impl<D: Drive> Tiers<D> {
         ensures room { SameSizes self.old.world.array self.new.world.array }
     {
         self.world.sync();
+    }
+
+    /// Shows each drive to a visitor, lost ones too, in ascending order. False where the visitor ended the walk.
+    pub fn visit_drives<V: Visit<D>>(&mut self, visitor: &mut V) -> bool
+        ensures same { self.new ≡ self.old }
+        ensures shown { result ≡ true → V.shown visitor.new ≡ V.shown visitor.old ++ self.old.world.array.parts.drives }
+        ensures leads { V.leads_to visitor.old visitor.new }
+    {
+        self.world.visit_drives(visitor)
     }
 
     /// Shortens the log to the newest record of each block, in the order of blocks. What is kept next to it stays: the order of

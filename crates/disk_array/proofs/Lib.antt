@@ -16,3 +16,4 @@ pub mod Regrouping
 pub mod Entering
 pub mod Refusing
 pub mod InHand
+pub mod Visits

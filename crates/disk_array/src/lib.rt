@@ -27,6 +27,7 @@ mod ticket;
 mod trim;
 mod units;
 mod unmake;
+mod visit;
 
 pub use apart::{Apart, claims_are_free};
 pub use array::Array;
@@ -38,3 +39,4 @@ pub use read::At;
 pub use reading::Reading;
 pub use slot_tables::{Hold, NotAdopted, Plain};
 pub use ticket::Ticket;
+pub use visit::Visit;

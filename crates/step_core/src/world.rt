@@ -1,5 +1,5 @@
 // An array with eight workers, who hold plain claims.
-ghost use Rattle.std.specs.Prelude.{◌≡◌, ◌≢◌, ◌<◌, ◌≤◌, length, nat_le, IsOk, IfOk, IfErr, OnOk, OnErr, Some};
+ghost use Rattle.std.specs.Prelude.{◌≡◌, ◌≢◌, ◌<◌, ◌≤◌, ◌++◌, length, nat_le, IsOk, IfOk, IfErr, OnOk, OnErr, Some, true};
 ghost use Rattle.map_join.specs.declared.records.Record.{Record};
 ghost use Rattle.extents.specs.Failures.{no_failures};
 ghost use Rattle.extents.specs.Shapes.{IsShapeOf};
@@ -16,7 +16,7 @@ ghost use Rattle.step_core.specs.Passed.{given_old};
 ghost use Rattle.step_core.specs.Told.{flat_answer, read_answer};
 
 use crate::step::Answer;
-use disk_array::{Array, Hands};
+use disk_array::{Array, Hands, Visit};
 use extents::{Drive, HotSwap, MemDrive, Shape};
 use flat_machine::{Class, Member, Refusal};
 use map_join::Record;
@@ -289,6 +289,15 @@ impl<D: Drive> World<D> {
         ensures room { SameSizes self.old.array self.new.array }
     {
         self.array.sync();
+    }
+
+    /// Shows each drive to a visitor, lost ones too, in ascending order. False where the visitor ended the walk.
+    pub fn visit_drives<V: Visit<D>>(&mut self, visitor: &mut V) -> bool
+        ensures same { self.new ≡ self.old }
+        ensures shown { result ≡ true → V.shown visitor.new ≡ V.shown visitor.old ++ self.old.array.parts.drives }
+        ensures leads { V.leads_to visitor.old visitor.new }
+    {
+        self.array.visit_drives(visitor)
     }
 
     /// Shortens the log to the newest record of each block, as `Array::shorten_log` does: maps joined from it are the same.

@@ -19,6 +19,17 @@ pub within_more : (units : List ℕ) (es : List Entry) (e : Entry) → AreWithin
 within_more units [] e within low high = (low, high, tt)
 within_more units (first ∷ es) e within low high = (within.0, within.1, within_more units es e within.2 low high)
 
+-- the first writes are those of the first entries
+pub writes_front : (units : List ℕ) (n : ℕ) (es : List Entry) → writes_in units (take n es) ≡ take n (writes_in units es)
+writes_front units zero es = refl
+writes_front units (suc n) [] = refl
+writes_front units (suc n) (e ∷ es) = ap (λ ws. write_in units e ∷ ws) (writes_front units n es)
+
+pub within_front : (units : List ℕ) (n : ℕ) (es : List Entry) → AreWithin units es → AreWithin units (take n es)
+within_front units zero es within = tt
+within_front units (suc n) [] within = tt
+within_front units (suc n) (e ∷ es) within = (within.0, within.1, within_front units n es within.2)
+
 pub within_longer : (units more : List ℕ) (es : List Entry) → AreWithin units es → AreWithin (units ++ more) es
 within_longer units more [] within = tt
 within_longer units more (e ∷ es) within = let high = within.1 in (within.0, omega (arith, high, length-append units more), within_longer units more es within.2)

@@ -1,5 +1,5 @@
 // A batch of unit writes.
-ghost use Rattle.std.specs.Prelude.{◌≡◌, ◌↔◌, ◌<◌, ◌≤◌, ◌+◌, ◌-◌, ◌*◌, ◌++◌, [], ◌∷◌, Some, length, IsTrue, IfOk, IfSome, IfNone, OnOk, OnErr, slice_get, option_map, slice_range};
+ghost use Rattle.std.specs.Prelude.{◌≡◌, ◌↔◌, ◌<◌, ◌≤◌, ◌+◌, ◌-◌, ◌*◌, ◌++◌, [], ◌∷◌, Some, length, take, IsTrue, IfOk, IfSome, IfNone, OnOk, OnErr, slice_get, option_map, slice_range};
 ghost use Rattle.vault.specs.Entries.{writes_in, AreWithin};
 ghost use Rattle.vault.specs.Coding.{Encodes, IsCode, decoded, entries_code, entry_code, entries_at, entry_at, AreSmall, IsSmall, AreGood, IsGoodEntry};
 
@@ -67,6 +67,14 @@ impl Batch {
     {
         self.entries.clear();
         self.units.clear();
+    }
+
+    /// Takes all writes but the first `count` away.
+    #[tactic(auto, using(crate::proofs::Held::writes_front, crate::proofs::Held::within_front))]
+    pub fn truncate(&mut self, count: usize)
+        ensures { self.new ≡ take count self.old }
+    {
+        self.entries.truncate(count);
     }
 
     #[tactic(auto, using(crate::proofs::Held::writes_len))]
