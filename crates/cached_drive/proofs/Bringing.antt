@@ -1,5 +1,5 @@
 -- Writes of a drive's changed units make its saved units those of now.
-use Rattle.std.proofs.Common.{◌≡◌, ◌≢◌, ◌<◌, ◌⊎◌, inl, inr, ℕ, zero, suc, ◌+◌, arith, Bool, false, Option, Some, None, List, [], ◌∷◌, ◌++◌, length, slice_get, get_or, refl, sym, ◌∙◌, ap, subst}
+use Rattle.std.proofs.Common.{◌≡◌, ◌≢◌, ◌<◌, ◌⊎◌, inl, inr, ℕ, zero, suc, ◌+◌, arith, Bool, false, Option, Some, None, List, [], ◌∷◌, ◌++◌, length, append_assoc, slice_get, get_or, refl, sym, ◌∙◌, ap, subst}
 use Rattle.std.specs.Prelude.{Contains, slice_index_or}
 use Rattle.std.proofs.lemmas.Option.{slice_get-get_or}
 use Rattle.std.proofs.lemmas.List.Elements.{Contains-push, Contains-push_cases, Contains-append_left}
@@ -8,7 +8,8 @@ use Rattle.extent_groups.specs.Cells.{Cells, held}
 use Rattle.extent_groups.specs.Planned.{Wanted, over, with_unit, after}
 use Rattle.extent_groups.proofs.Finishing.{write_here, write_else}
 use Rattle.extent_groups.proofs.Places.{same_or_not}
-use Rattle.cached_drive.specs.Saving.{Units, AreSaved, Brings, writes_at, upto}
+use Rattle.history.specs.declared.view.Entry.{Entry}
+use Rattle.cached_drive.specs.Saving.{Units, AreSaved, Brings, writes_at, upto, last_of}
 
 -- one of some addresses
 abbrev IsIn : List ℕ → ℕ → Type 0
@@ -125,3 +126,21 @@ all_bring drive units saved many = brings drive units saved (upto (length units)
 pub writes_more : (drive : ℕ) (units : Units) (ats : List ℕ) (at : ℕ) → writes_at drive units (ats ++ at ∷ []) ≡ writes_at drive units ats ++ writes_at drive units (at ∷ [])
 writes_more drive units [] at = refl
 writes_more drive units (a ∷ ats) at = ap (λ ws. writes_at drive units (a ∷ []) ++ ws) (writes_more drive units ats at)
+
+-- one more is put behind others
+pub put_more : (drive : ℕ) (units : Units) (old was now : List Wanted) (ats : List ℕ) (at : ℕ) → was ≡ old ++ writes_at drive units ats
+    → now ≡ was ++ writes_at drive units (at ∷ []) → now ≡ old ++ writes_at drive units (ats ++ at ∷ [])
+put_more drive units old was now ats at was_is now_is =
+    now_is ∙ ap (λ l. l ++ writes_at drive units (at ∷ [])) was_is ∙ append_assoc old (writes_at drive units ats) (writes_at drive units (at ∷ []))
+    ∙ ap (λ l. old ++ l) (sym (writes_more drive units ats at))
+
+-- the units of the last save
+pub last_is : (units : Units) (es : List (Entry Units)) (e : Entry Units) → last_of units (es ++ e ∷ []) ≡ e.what
+last_is units [] e = refl
+last_is units (f ∷ es) e = last_is f.what es e
+
+-- right after a save
+pub saved_now : (units : Units) (mine now : List (Entry Units)) (e : Entry Units) → now ≡ mine ++ e ∷ [] → e.what ≡ units → AreSaved false [] (last_of [] now) units
+saved_now units mine now e is what =
+    let same : last_of [] now ≡ units = ap (last_of []) is ∙ last_is [] mine e ∙ what in
+    record { many = ap length same; listed = λ _ at out. ap (λ us. slice_get us at) same; inside = λ at (k, low, is). absurd (omega (arith, low)) }

@@ -1,5 +1,5 @@
 // A drive in memory whose written units are listed.
-ghost use Rattle.std.specs.Prelude.{◌≡◌, ◌≢◌, ◌<◌, ◌+◌, ◌++◌, [], ◌∷◌, false, true, length, slice_get, slice_set, Some, Contains, IsTrue};
+ghost use Rattle.std.specs.Prelude.{◌≡◌, ◌≢◌, ◌<◌, ◌+◌, ◌++◌, [], ◌∷◌, ℕ, false, true, length, slice_get, slice_set, Some, Contains, IsTrue};
 ghost use Rattle.extents.specs.declared.mem_drive.Condition.TheVariants.{Present};
 ghost use Rattle.extents.specs.Failures.{Counts, StaysSteady, unsteady};
 ghost use Rattle.extents.specs.Units.{IsSized, HaveFront, HasRoom, loss, fronts};
@@ -97,8 +97,8 @@ fn answers(lost: &mut bool, doomed: bool) -> bool
 // Lists an address, of `most`. Where the list has no room for more, all count as written.
 fn list(dirty: &mut Vec<u32>, all: &mut bool, at: u32, most: u32)
     ensures listed { all.new ≡ false → Contains dirty.new.items at }
-    ensures kept { all.new ≡ false → (a : _) → Contains dirty.old.items a → Contains dirty.new.items a }
-    ensures only { (a : _) → Contains dirty.new.items a → (a ≢ at → Contains dirty.old.items a) }
+    ensures kept { all.new ≡ false → (a : ℕ) → Contains dirty.old.items a → Contains dirty.new.items a }
+    ensures only { (a : ℕ) → Contains dirty.new.items a → (a ≢ at → Contains dirty.old.items a) }
     ensures all { all.old ≡ true → all.new ≡ true }
 {
     if let Some(last) = dirty.last() {

@@ -1,10 +1,10 @@
 // The units of a drive that were written since the last save, put into a batch.
-ghost use Rattle.std.specs.Prelude.{◌≡◌, ◌<◌, ◌++◌, [], ◌∷◌, length, OnOk, OnErr, IfOk, slice_get, Some, List};
+ghost use Rattle.std.specs.Prelude.{◌≡◌, ◌<◌, ◌++◌, [], ◌∷◌, ℕ, length, OnOk, OnErr, slice_get, Some, List, Contains};
 ghost use Rattle.extents.specs.declared.mem_drive.Condition.TheVariants.{Present};
 ghost use Rattle.extents.specs.Units.{IsSized};
 ghost use Rattle.extent_groups.specs.Planned.{Wanted};
 ghost use Rattle.history.specs.Entries.{entry};
-ghost use Rattle.cached_drive.specs.Saving.{Brings, saved_by, writes_at, upto};
+ghost use Rattle.cached_drive.specs.Saving.{Units, AreSaved, Brings, saved_by, writes_at, upto};
 
 use crate::drive::CachedDrive;
 use crate::saved::{Saved, Saves};
@@ -38,10 +38,114 @@ fn put_unit(
     requires present { cache.old.condition ≡ Present }
     ensures same { cache.new ≡ cache.old }
     ensures size { length unit.new ≡ length unit.old }
-    ensures put { OnOk result (batch.new ≡ batch.old ++ writes_at drive cache.old.units (at ∷ [])) }
+    ensures ok { OnOk result (batch.new ≡ batch.old ++ writes_at drive cache.old.units (at ∷ [])) }
     ensures err { OnErr result (batch.new ≡ batch.old) }
 {
     fetch(cache, at, unit);
     let place = Place { drive, address: at };
     batch.push(place, unit)
+}
+
+// Puts the units at these addresses into a batch. If out of memory, some of them are put.
+fn put_listed(
+    cache: &mut MemDrive,
+    drive: u8,
+    addresses: &[u32],
+    unit: &mut [u8],
+    batch: &mut Batch,
+) -> Result<(), AllocError>
+    requires inside { (at : ℕ) → Contains addresses.now at → at < length cache.old.units }
+    requires size { IsSized (length unit.old) cache.old.units }
+    requires present { cache.old.condition ≡ Present }
+    ensures same { cache.new ≡ cache.old }
+    ensures size { length unit.new ≡ length unit.old }
+    ensures ok { OnOk result (batch.new ≡ batch.old ++ writes_at drive cache.old.units addresses.now) }
+    ensures more { (writes : List Wanted) × (batch.new ≡ batch.old ++ writes) }
+{
+    for at in addresses {
+        put_unit(cache, drive, *at, unit, batch)?;
+    }
+    Ok(())
+}
+
+// Puts all units into a batch. If out of memory, some of them are put.
+fn put_all(
+    cache: &mut MemDrive,
+    drive: u8,
+    unit: &mut [u8],
+    batch: &mut Batch,
+) -> Result<(), AllocError>
+    requires size { IsSized (length unit.old) cache.old.units }
+    requires present { cache.old.condition ≡ Present }
+    ensures same { cache.new ≡ cache.old }
+    ensures size { length unit.new ≡ length unit.old }
+    ensures ok { OnOk result (batch.new ≡ batch.old ++ writes_at drive cache.old.units (upto (length cache.old.units))) }
+    ensures more { (writes : List Wanted) × (batch.new ≡ batch.old ++ writes) }
+{
+    for at in 0..cache.units() {
+        put_unit(cache, drive, at, unit, batch)?;
+    }
+    Ok(())
+}
+
+// Puts the units that may have been written into a batch. If out of memory, some of them are put.
+fn put_written(
+    cache: &mut MemDrive,
+    drive: u8,
+    dirty: &[u32],
+    all: bool,
+    unit: &mut [u8],
+    batch: &mut Batch,
+) -> Result<(), AllocError>
+    requires size { IsSized (length unit.old) cache.old.units }
+    requires present { cache.old.condition ≡ Present }
+    requires inside { (at : ℕ) → Contains dirty.now at → at < length cache.old.units }
+    ensures same { cache.new ≡ cache.old }
+    ensures size { length unit.new ≡ length unit.old }
+    ensures ok { OnOk result ((saved : Units) → AreSaved all dirty.now saved cache.old.units
+        → (writes : List Wanted) × (batch.new ≡ batch.old ++ writes) × Brings drive saved cache.old.units writes) }
+    ensures more { (writes : List Wanted) × (batch.new ≡ batch.old ++ writes) }
+{
+    if all {
+        put_all(cache, drive, unit, batch)
+    } else {
+        put_listed(cache, drive, dirty, unit, batch)
+    }
+}
+
+impl<N: Chronicle> CachedDrive<N> {
+    /// Puts the units that were written since the last save into a batch, as writes of a drive, and counts them as saved. Takes a
+    /// buffer of a unit's length. If out of memory, nothing has changed.
+    pub fn save(
+        &mut self,
+        history: &History<N, Saved>,
+        keeper: &mut Keeper<N, Saved>,
+        drive: u8,
+        unit: &mut [u8],
+        batch: &mut Batch,
+    ) -> Result<(), AllocError>
+        requires size { IsSized (length unit.old) self.old.cache.units }
+        ensures units { self.new.cache.units ≡ self.old.cache.units }
+        ensures lost { self.new.lost ≡ self.old.lost }
+        ensures number { self.new.hand.number ≡ self.old.hand.number }
+        ensures size { length unit.new ≡ length unit.old }
+        ensures saved { OnOk result (keeper.new ≡ record { hired = keeper.old.hired;
+            log = keeper.old.log ++ entry self.old.hand.number self.old.cache.units ∷ [] }) }
+        ensures brings { OnOk result ((writes : List Wanted) × (batch.new ≡ batch.old ++ writes)
+            × Brings drive (saved_by self.old.hand.number keeper.old.log) self.old.cache.units writes) }
+        ensures below { OnOk result (self.old.hand.number < keeper.old.hired) }
+        ensures err { OnErr result ((batch.new ≡ batch.old) × (keeper.new ≡ keeper.old)) }
+    {
+        let before = batch.len();
+        let dirty: &[u32] = &self.dirty;
+        if let Err(error) = put_written(&mut self.cache, drive, dirty, self.all, unit, batch) {
+            batch.truncate(before);
+            return Err(error);
+        }
+        keeper.check(history, &mut self.hand);
+        keeper.note::<MemDrive, Saves>(history, &mut self.hand, &self.cache);
+        self.dirty.clear();
+        self.all = false;
+        Ok(())
+    }
 }
