@@ -53,20 +53,20 @@ no_loss false is before after same fails = subst (λ b. Counts false b before af
 still_steady : (was is : Bool) (before after : Failures) → is ≡ was → after ≡ before → StaysSteady was is before after
 still_steady was is before after same fails steady = (ap (λ (f : Failures). f.steady) fails ∙ steady, same)
 
-module _ {D C : Type 0} (units : D → List (List ℕ)) (lost : D → Bool) (failures : D → Failures) where
-  looks : D → DriveView
+module _ {D : Type 0} (units : D → List (List ℕ)) (lost : D → Bool) (failures : D → Failures) where
+  abbrev looks : D → DriveView
   looks = drive_view units lost failures
 
-  kept_drive : (x y : D) → looks y ≡ looks x → KeepsDrive units lost failures (λ at. NoPlace (record { drive = 0; address = at })) x y
-  kept_drive x y same = kept_same x y (ap drive_units same) (λ was. ap drive_lost same ∙ was)
+  kept_drive : (d : ℕ) (x y : D) → drive_view units lost failures y ≡ drive_view units lost failures x → KeepsDrive units lost failures (λ at. NoPlace (record { drive = d; address = at })) x y
+  kept_drive d x y same = kept_same x y (ap drive_units same) (λ was. ap drive_lost same ∙ was)
       (no_loss (lost x) (lost y) (failures x) (failures y) (ap drive_lost same) (ap drive_failures same))
       (still_steady (lost x) (lost y) (failures x) (failures y) (ap drive_lost same) (ap drive_failures same))
 
   -- drives that look the same are kept
   pub kept_drives : (old new : List D) → map (drive_view units lost failures) new ≡ map (drive_view units lost failures) old → KeepsDrives units lost failures NoPlace old new
-  kept_drives old new same = record { many = views_many looks old new same; each = λ d x y at_x at_y. kept_drive x y (views_at looks old new d x y same at_x at_y) }
+  kept_drives old new same = record { many = views_many looks old new same; each = λ d x y at_x at_y. kept_drive d x y (views_at looks old new d x y same at_x at_y) }
 
-  module _ (a : Inside D C) (lent new : List D) (is : lent ≡ a.parts.drives.items)
+  module _ {C : Type 0} (a : Inside D C) (lent new : List D) (is : lent ≡ a.parts.drives.items)
       (views : map (drive_view units lost failures) new ≡ map (drive_view units lost failures) lent) where
     back : (with_items a.parts.drives new).items ≡ new
     back = written_back a.parts.drives lent new is (views_many looks lent new views)

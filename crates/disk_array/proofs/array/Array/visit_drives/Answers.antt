@@ -10,9 +10,9 @@ returns-clause-same g c =
     seen_same d.units d.lost d.failures c.self.inside c.deref_mut-drives.result.now c.show_drives.new.drives c.deref_mut-drives.ensures.value c.show_drives.ensures.drives ∙ c.self.view_is
 
 pub returns-clause-shown : goal.returns-clause-shown
-returns-clause-shown g c yes =
+returns-clause-shown g c is =
     let d = g.D.Drive in
-    c.show_drives.ensures.shown yes ∙ ap (λ ds. g.V.Visit.shown c.args.visitor.now ++ ds)
+    c.show_drives.ensures.shown is ∙ ap (λ ds. g.V.Visit.shown c.args.visitor.now ++ ds)
     (ap (map (drive_view d.units d.lost d.failures)) c.deref_mut-drives.ensures.value ∙ ap (λ (v : ArrayView). v.parts.drives) c.self.view_is)
 
 pub invariant_of-self : goal.invariant_of-self
