@@ -1,5 +1,5 @@
 // The bytes of a disk.
-ghost use Rattle.std.specs.Prelude.{◌≡◌, ◌+◌, ◌*◌, ◌<◌, ◌≤◌, length, false, IfOk};
+ghost use Rattle.std.specs.Prelude.{◌≡◌, ◌+◌, ◌*◌, ◌<◌, ◌≤◌, ◌++◌, length, false, true, IfOk};
 ghost use Rattle.byte_store.specs.Flat.{Flat, Sizes, written_over};
 ghost use Rattle.byte_store.specs.Changes.{IsChanged, IsFlushed};
 ghost use Rattle.array_store.specs.Blocks.{Holds};
@@ -12,7 +12,7 @@ use background::Tiers;
 use byte_store::{ByteStore, StoreFault};
 use extents::Drive;
 use std::alloc::{AllocError, Global};
-use step_core::World;
+use step_core::{Visit, World};
 
 /// The bytes of a disk, kept by an array. The last block may have bytes past the disk's end.
 #[derive(Drop)]
@@ -51,6 +51,15 @@ impl<D: Drive + Drop> ArrayStore<D> {
         ensures { result.now ≡ self.now.tiers.world }
     {
         self.tiers.world()
+    }
+
+    /// Shows each drive to a visitor, lost ones too, in ascending order. False where the visitor ended the walk.
+    pub fn visit_drives<V: Visit<D>>(&mut self, visitor: &mut V) -> bool
+        ensures same { (self.new.tiers ≡ self.old.tiers) × (self.new.size ≡ self.old.size) × (self.new.unsynced ≡ self.old.unsynced) }
+        ensures shown { result ≡ true → V.shown visitor.new ≡ V.shown visitor.old ++ self.old.tiers.world.array.parts.drives }
+        ensures leads { V.leads_to visitor.old visitor.new }
+    {
+        self.tiers.visit_drives(visitor)
     }
 }
 

@@ -1,0 +1,46 @@
+-- When a vault's units and a batch are those of an array's drives.
+use Rattle.std.specs.Prelude.{◌≡◌, ◌<◌, ◌≤◌, ◌++◌, ℕ, zero, suc, Bool, true, false, Option, Some, List, [], ◌∷◌, map, slice_get, slice_index_or, if◌then◌else◌}
+use Rattle.std.proofs.Common.{refl, ◌∙◌}
+use Rattle.extents.specs.Failures.{unsteady}
+use Rattle.extents.specs.Units.{loss}
+use Rattle.extent_groups.specs.Cells.{Cells}
+use Rattle.extent_groups.specs.Planned.{Wanted, after}
+use Rattle.vault.specs.Images.{is_lost}
+use Rattle.history.specs.declared.view.Entry.{Entry}
+use Rattle.history.specs.Entries.{Course}
+use Rattle.array_parts.specs.Views.{DriveView}
+use Rattle.cached_drive.specs.Saving.{Units, saved_by}
+
+-- after the batch, the units of each drive are those that it saved last. Of lost drives nothing is said.
+pub record IsInStep (lost : List Bool) (k : Course Units) (batch : List Wanted) (c : Cells) : Type 0 where
+  pub each : (d at : ℕ) → d < k.hired → is_lost lost d ≡ false → after c batch d at ≡ slice_get (saved_by d k.log) at
+
+-- what visits make of it: it stays in step with units that it was in step with, and writes no more than drives' units
+pub record LeadsTo (k : Course Units) (batch : List Wanted) (now : Course Units) (more : List Wanted) : Type 0 where
+  pub hired : now.hired ≡ k.hired
+  pub step : (lost : List Bool) (c : Cells) → IsInStep lost k batch c → IsInStep lost now more c
+  pub others : (c : Cells) (d at : ℕ) → 16 ≤ d → after c more d at ≡ after c batch d at
+
+pub leads_stays : (k : Course Units) (batch : List Wanted) → LeadsTo k batch k batch
+leads_stays k batch = record { hired = refl; step = λ lost c s. s; others = λ c d at high. refl }
+
+pub leads_further : (k : Course Units) (a : List Wanted) (l : Course Units) (b : List Wanted) (m : Course Units) (e : List Wanted)
+    → LeadsTo k a l b → LeadsTo l b m e → LeadsTo k a m e
+leads_further k a l b m e one two = record {
+  hired = two.hired ∙ one.hired;
+  step = λ lost c s. two.step lost c (one.step lost c s);
+  others = λ c d at high. two.others c d at high ∙ one.others c d at high;
+}
+
+-- a drive that saved its units and is lost or not
+abbrev pub view_at : List (Entry Units) → List Bool → ℕ → DriveView
+view_at log lost d = record { units = saved_by d log; lost = slice_index_or lost d true; failures = unsteady (loss false (slice_index_or lost d true)) }
+
+-- the first drives
+abbrev pub views_to : List (Entry Units) → List Bool → ℕ → List DriveView
+views_to log lost zero = []
+views_to log lost (suc n) = views_to log lost n ++ view_at log lost n ∷ []
+
+-- each drive's units lie at its places. Of lost drives nothing is said.
+pub record HasDrives (lost : List Bool) (drives : List DriveView) (c : Cells) : Type 0 where
+  pub each : (d at : ℕ) (v : DriveView) → slice_get drives d ≡ Some v → is_lost lost d ≡ false → c d at ≡ slice_get v.units at

@@ -1,0 +1,8 @@
+//! An array's drives in step with a vault: what a call has written is one batch.
+#![tactic(auto)]
+
+mod append;
+mod changes;
+mod publish;
+
+pub use changes::Changes;

@@ -1,0 +1,74 @@
+// What a call of the array has written, kept by the vault as one batch.
+ghost use Rattle.std.specs.Prelude.{◌≡◌, ◌≢◌, ◌++◌, [], ◌∷◌, ℕ, List, Bool, length, true, OnOk, OnErr, IfErr};
+ghost use Rattle.extent_groups.specs.Cells.{Cells};
+ghost use Rattle.extent_groups.specs.Planned.{after};
+ghost use Rattle.array_parts.specs.Views.{DriveView};
+ghost use Rattle.vault.specs.Images.{Image, Stands, recovered};
+ghost use Rattle.vault.specs.Moments.{LeavesOnly, IsLogged};
+ghost use Rattle.vault.specs.declared.store.Stop.{Stop};
+ghost use Rattle.vault.specs.declared.store.Stop.TheVariants.{Killed};
+ghost use Rattle.journaled_store.specs.Steps.{HasDrives, IsInStep, LeadsTo};
+
+use crate::append::append;
+use crate::changes::Changes;
+use array_store::ArrayStore;
+use byte_store::StoreFault;
+use cached_drive::CachedDrive;
+use history::Chronicle;
+use vault::{Vault, VaultError};
+
+// What a vault's refusal means for a store.
+fn fault_of(error: VaultError) -> StoreFault
+    ensures { result ≡ StoreFault.Memory → error ≢ VaultError.Journal }
+{
+    match error {
+        VaultError::Memory | VaultError::Misfit => StoreFault::Memory,
+        VaultError::Journal | VaultError::Drive(_) => StoreFault::Sync,
+    }
+}
+
+// Puts what each drive has written since into the batch. False if out of memory: some drives' may be there.
+fn collect<N: Chronicle>(
+    store: &mut ArrayStore<CachedDrive<N>>,
+    changes: &mut Changes<N>,
+) -> bool
+    ensures same { (store.new.tiers ≡ store.old.tiers) × (store.new.size ≡ store.old.size) × (store.new.unsynced ≡ store.old.unsynced) }
+    ensures leads { LeadsTo changes.old.keeper changes.old.batch changes.new.keeper changes.new.batch }
+    ensures has { result ≡ true → (lost : List Bool) (c : Cells) → IsInStep lost changes.old.keeper changes.old.batch c
+        → HasDrives lost store.old.tiers.world.array.parts.drives (after c changes.new.batch) }
+{
+    changes.next = 0;
+    store.visit_drives(changes) && u64::from(changes.next) <= changes.keeper.hired()
+}
+
+/// Makes one batch of all that the drives have written, and appends it to the vault's journal. `Memory` if out of memory, or if the
+/// batch doesn't fit: the next call has it all. `Sync` where the journal failed.
+pub(crate) fn publish<N: Chronicle, V: Vault>(
+    store: &mut ArrayStore<CachedDrive<N>>,
+    changes: &mut Changes<N>,
+    vault: &mut V,
+) -> Result<(), StoreFault>
+    ensures stays { V.known vault.old → V.known vault.new }
+    ensures same { (store.new.tiers ≡ store.old.tiers) × (store.new.size ≡ store.old.size) × (store.new.unsynced ≡ store.old.unsynced) }
+    ensures step { V.known vault.old → (lost : List Bool) → IsInStep lost changes.old.keeper changes.old.batch (recovered (V.seen vault.old))
+        → OnOk result (IsInStep lost changes.new.keeper changes.new.batch (recovered (V.seen vault.new))) }
+
+    // A kill after Ok leaves all that the drives hold. A loss of power leaves as many batches as it left before.
+    ensures kept { V.known vault.old → (lost : List Bool) → IsInStep lost changes.old.keeper changes.old.batch (recovered (V.seen vault.old))
+        → OnOk result (HasDrives lost store.old.tiers.world.array.parts.drives (recovered (V.seen vault.new))) }
+    ensures killed { V.known vault.old → (lost : List Bool) → IsLogged V.seen V.may_leave lost Killed vault.old (length (Image.journal (V.seen vault.old)))
+        → OnOk result (IsLogged V.seen V.may_leave lost Killed vault.new (length (Image.journal (V.seen vault.new)))) }
+    ensures added { V.known vault.old → (lost : List Bool) (stop : Stop) (low : ℕ) → IsLogged V.seen V.may_leave lost stop vault.old low
+        → OnOk result (IsLogged V.seen V.may_leave lost stop vault.new low) }
+{
+    if !collect(store, changes) {
+        return Err(StoreFault::Memory);
+    }
+    if changes.batch.is_empty() {
+        return Ok(());
+    }
+    match append(changes, vault) {
+        Ok(()) => Ok(()),
+        Err(error) => Err(fault_of(error)),
+    }
+}
