@@ -129,8 +129,10 @@ impl<N: Chronicle> CachedDrive<N> {
         ensures lost { self.new.lost ≡ self.old.lost }
         ensures number { self.new.hand.number ≡ self.old.hand.number }
         ensures size { length unit.new ≡ length unit.old }
-        ensures saved { OnOk result (keeper.new ≡ record { hired = keeper.old.hired;
-            log = keeper.old.log ++ entry self.old.hand.number self.old.cache.units ∷ [] }) }
+        ensures saved { OnOk result (keeper.new ≡ record {
+          hired = keeper.old.hired;
+          log = keeper.old.log ++ entry self.old.hand.number self.old.cache.units ∷ [];
+        }) }
         ensures brings { OnOk result ((writes : List Wanted) × (batch.new ≡ batch.old ++ writes)
             × Brings drive (saved_by self.old.hand.number keeper.old.log) self.old.cache.units writes) }
         ensures below { OnOk result (self.old.hand.number < keeper.old.hired) }

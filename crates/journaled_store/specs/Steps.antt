@@ -1,11 +1,12 @@
 -- When a vault's units and a batch are those of an array's drives.
-use Rattle.std.specs.Prelude.{◌≡◌, ◌<◌, ◌≤◌, ◌++◌, ℕ, zero, suc, Bool, true, false, Option, Some, List, [], ◌∷◌, map, slice_get, slice_index_or, if◌then◌else◌}
+use Rattle.std.specs.Prelude.{◌≡◌, ◌⊎◌, ◌<◌, ◌≤◌, ◌++◌, ℕ, zero, suc, Bool, true, false, Option, Some, List, [], ◌∷◌, map, slice_get, slice_index_or, if◌then◌else◌}
 use Rattle.std.proofs.Common.{refl, ◌∙◌}
 use Rattle.extents.specs.Failures.{unsteady}
 use Rattle.extents.specs.Units.{loss}
 use Rattle.extent_groups.specs.Cells.{Cells}
 use Rattle.extent_groups.specs.Planned.{Wanted, after}
-use Rattle.vault.specs.Images.{is_lost}
+use Rattle.vault.specs.Images.{Image, Stands, is_lost}
+use Rattle.vault.specs.Moments.{StandsForSome}
 use Rattle.history.specs.declared.view.Entry.{Entry}
 use Rattle.history.specs.Entries.{Course}
 use Rattle.array_parts.specs.Views.{DriveView}
@@ -44,3 +45,33 @@ views_to log lost (suc n) = views_to log lost n ++ view_at log lost n ∷ []
 -- each drive's units lie at its places. Of lost drives nothing is said.
 pub record HasDrives (lost : List Bool) (drives : List DriveView) (c : Cells) : Type 0 where
   pub each : (d at : ℕ) (v : DriveView) → slice_get drives d ≡ Some v → is_lost lost d ≡ false → c d at ≡ slice_get v.units at
+
+-- the mark of a drive in the table: 1 if it is lost
+abbrev pub mark_of : Bool → ℕ
+mark_of false = 0
+mark_of true = 1
+
+-- after the batch, the table has these marks
+abbrev pub IsNoted : List ℕ → List Wanted → Cells → Type 0
+IsNoted marks batch c = after c batch 16 0 ≡ Some marks
+
+-- the marks say of each drive whether it is lost
+pub record HasMarks (drives : List DriveView) (marks : List ℕ) : Type 0 where
+  pub each : (d : ℕ) (v : DriveView) → slice_get drives d ≡ Some v → slice_get marks d ≡ Some (mark_of v.lost)
+
+-- a vault's units and a batch are in step with the drives' saves, and have these marks
+pub record IsLive (lost : List Bool) (k : Course Units) (marks : List ℕ) (batch : List Wanted) (c : Cells) : Type 0 where
+  pub step : IsInStep lost k batch c
+  pub noted : IsNoted marks batch c
+
+-- units of a vault that has all that an array's drives hold, and which of them are lost
+pub record IsKept (lost : List Bool) (drives : List DriveView) (c : Cells) : Type 0 where
+  pub has : HasDrives lost drives c
+  pub marks : List ℕ
+  pub noted : c 16 0 ≡ Some marks
+  pub told : HasMarks drives marks
+
+-- what a stop leaves: the units of after the first batches of a journal, `low` of them at least, or what the drives hold now
+abbrev pub IsBeforeOrNow : List Bool → Image → ℕ → List DriveView → Image → Type 0
+IsBeforeOrNow lost base low drives i = StandsForSome lost base.cells low base.journal i
+    ⊎ ((c : Cells) × Stands lost c i × IsKept lost drives c)

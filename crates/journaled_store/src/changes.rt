@@ -1,13 +1,15 @@
 // What an array's drives have that no batch of a vault has yet.
-ghost use Rattle.std.specs.Prelude.{◌≡◌, ◌≢◌, ◌≤◌, ◌<◌, ◌+◌, ◌++◌, [], ◌∷◌, ℕ, length, slice_set, true};
+ghost use Rattle.std.specs.Prelude.{◌≡◌, ◌≢◌, ◌≤◌, ◌<◌, ◌+◌, ◌++◌, ◌⊎◌, [], ◌∷◌, ℕ, length, map, slice_set, true, OnOk, OnErr};
 ghost use Rattle.array_parts.specs.Views.{DriveView, drive_view};
-ghost use Rattle.journaled_store.specs.Steps.{LeadsTo, views_to};
+ghost use Rattle.journaled_store.specs.Steps.{LeadsTo, views_to, mark_of};
 
 use cached_drive::{CachedDrive, Saved};
+use extent_groups::Place;
 use extents::{DRIVES, Drive};
 use history::{Chronicle, History, Keeper};
-use vault::Batch;
+use std::alloc::AllocError;
 use step_core::Visit;
+use vault::{Batch, TABLE};
 
 /// The units that were written since the last batch, as one batch. Each drive's are put into it as the drive is shown.
 #[derive(Drop)]
@@ -21,6 +23,49 @@ pub struct Changes<N: Chronicle> {
     pub(crate) next: u8,
     /// Which of the drives that were shown are lost.
     pub(crate) lost: [bool; DRIVES],
+    /// The table's unit after the batch: a mark for each drive.
+    pub(crate) noted: [u8; DRIVES],
+}
+
+// A drive's mark in the table.
+fn mark_of(is_lost: bool) -> u8
+    ensures { result ≡ mark_of is_lost }
+{
+    if is_lost { 1 } else { 0 }
+}
+
+// The table's unit: a mark for each drive.
+pub(crate) fn marks_of(lost: &[bool; DRIVES]) -> [u8; DRIVES]
+    ensures { result ≡ map mark_of lost.now }
+{
+    let mut marks = [0u8; DRIVES];
+    for drive in 0..DRIVES {
+        marks[drive] = mark_of(lost[drive]);
+    }
+    marks
+}
+
+/// Puts which drives are lost into the batch, if the table doesn't say so. If out of memory, nothing has changed.
+pub(crate) fn note_lost<N: Chronicle>(changes: &mut Changes<N>) -> Result<(), AllocError>
+    ensures keeper { changes.new.keeper ≡ changes.old.keeper }
+    ensures shown { (changes.new.lost ≡ changes.old.lost) × (changes.new.next ≡ changes.old.next) }
+    ensures noted { OnOk result (changes.new.noted ≡ map mark_of changes.old.lost) }
+    ensures batch { OnOk result ((changes.new.batch ≡ changes.old.batch) ⊎ (changes.new.batch
+        ≡ changes.old.batch ++ record { place = record { drive = 16; address = 0 }; unit = changes.new.noted } ∷ [])) }
+    ensures same { OnOk result (changes.new.batch ≡ changes.old.batch → changes.new.noted ≡ changes.old.noted) }
+    ensures err { OnErr result ((changes.new.batch ≡ changes.old.batch) × (changes.new.noted ≡ changes.old.noted)) }
+{
+    let marks = marks_of(&changes.lost);
+    if changes.noted[..] == marks[..] {
+        return Ok(());
+    }
+    let place = Place {
+        drive: TABLE,
+        address: 0,
+    };
+    changes.batch.push(place, &marks)?;
+    changes.noted = marks;
+    Ok(())
 }
 
 // Notes whether a drive is lost.
@@ -55,7 +100,13 @@ impl<N: Chronicle> Visit<CachedDrive<N>> for Changes<N> {
             return false;
         }
         let unit: &mut [u8] = &mut self.unit;
-        match drive.save(&self.history, &mut self.keeper, number, unit, &mut self.batch) {
+        match drive.save(
+            &self.history,
+            &mut self.keeper,
+            number,
+            unit,
+            &mut self.batch,
+        ) {
             Ok(()) => {
                 mark(&mut self.lost, number, drive.is_lost());
                 self.next += 1;

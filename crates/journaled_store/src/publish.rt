@@ -1,5 +1,5 @@
 // What a call of the array has written, kept by the vault as one batch.
-ghost use Rattle.std.specs.Prelude.{◌≡◌, ◌≢◌, ◌++◌, [], ◌∷◌, ℕ, List, Bool, length, true, OnOk, OnErr, IfErr};
+ghost use Rattle.std.specs.Prelude.{◌≡◌, ◌≢◌, ℕ, List, Bool, length, true, OnOk};
 ghost use Rattle.extent_groups.specs.Cells.{Cells};
 ghost use Rattle.extent_groups.specs.Planned.{after};
 ghost use Rattle.array_parts.specs.Views.{DriveView};
@@ -7,13 +7,14 @@ ghost use Rattle.vault.specs.Images.{Image, Stands, recovered};
 ghost use Rattle.vault.specs.Moments.{LeavesOnly, IsLogged};
 ghost use Rattle.vault.specs.declared.store.Stop.{Stop};
 ghost use Rattle.vault.specs.declared.store.Stop.TheVariants.{Killed};
-ghost use Rattle.journaled_store.specs.Steps.{HasDrives, IsInStep, LeadsTo};
+ghost use Rattle.journaled_store.specs.Steps.{HasDrives, HasMarks, IsBeforeOrNow, IsInStep, IsKept, IsLive, IsNoted};
 
 use crate::append::append;
-use crate::changes::Changes;
+use crate::changes::{Changes, note_lost};
 use array_store::ArrayStore;
 use byte_store::StoreFault;
 use cached_drive::CachedDrive;
+use extents::DRIVES;
 use history::Chronicle;
 use vault::{Vault, VaultError};
 
@@ -27,22 +28,24 @@ fn fault_of(error: VaultError) -> StoreFault
     }
 }
 
-// Puts what each drive has written since into the batch. False if out of memory: some drives' may be there.
-fn collect<N: Chronicle>(
-    store: &mut ArrayStore<CachedDrive<N>>,
-    changes: &mut Changes<N>,
-) -> bool
+// Puts what each drive has written since into the batch, and which are lost. False if out of memory: some of it may be there.
+fn collect<N: Chronicle>(store: &mut ArrayStore<CachedDrive<N>>, changes: &mut Changes<N>) -> bool
     ensures same { (store.new.tiers ≡ store.old.tiers) × (store.new.size ≡ store.old.size) × (store.new.unsynced ≡ store.old.unsynced) }
-    ensures leads { LeadsTo changes.old.keeper changes.old.batch changes.new.keeper changes.new.batch }
+    ensures step { (lost : List Bool) (c : Cells) → IsInStep lost changes.old.keeper changes.old.batch c → IsInStep lost changes.new.keeper changes.new.batch c }
+    ensures noted { (c : Cells) → IsNoted changes.old.noted changes.old.batch c → IsNoted changes.new.noted changes.new.batch c }
     ensures has { result ≡ true → (lost : List Bool) (c : Cells) → IsInStep lost changes.old.keeper changes.old.batch c
         → HasDrives lost store.old.tiers.world.array.parts.drives (after c changes.new.batch) }
+    ensures marks { result ≡ true → HasMarks store.old.tiers.world.array.parts.drives changes.new.noted }
 {
     changes.next = 0;
-    store.visit_drives(changes) && u64::from(changes.next) <= changes.keeper.hired()
+    if changes.keeper.hired() > DRIVES as u64 || !store.visit_drives(changes) {
+        return false;
+    }
+    u64::from(changes.next) <= changes.keeper.hired() && note_lost(changes).is_ok()
 }
 
-/// Makes one batch of all that the drives have written, and appends it to the vault's journal. `Memory` if out of memory, or if the
-/// batch doesn't fit: the next call has it all. `Sync` where the journal failed.
+/// Makes one batch of all that the drives have written and of which are lost, and appends it to the vault's journal. `Memory` if out
+/// of memory, or if the batch doesn't fit: the next call has it all. `Sync` where the journal failed.
 pub(crate) fn publish<N: Chronicle, V: Vault>(
     store: &mut ArrayStore<CachedDrive<N>>,
     changes: &mut Changes<N>,
@@ -50,16 +53,22 @@ pub(crate) fn publish<N: Chronicle, V: Vault>(
 ) -> Result<(), StoreFault>
     ensures stays { V.known vault.old → V.known vault.new }
     ensures same { (store.new.tiers ≡ store.old.tiers) × (store.new.size ≡ store.old.size) × (store.new.unsynced ≡ store.old.unsynced) }
-    ensures step { V.known vault.old → (lost : List Bool) → IsInStep lost changes.old.keeper changes.old.batch (recovered (V.seen vault.old))
-        → OnOk result (IsInStep lost changes.new.keeper changes.new.batch (recovered (V.seen vault.new))) }
+    ensures step { V.known vault.old → (lost : List Bool) → IsLive lost changes.old.keeper changes.old.noted changes.old.batch (recovered (V.seen vault.old))
+        → OnOk result (IsLive lost changes.new.keeper changes.new.noted changes.new.batch (recovered (V.seen vault.new))) }
 
-    // A kill after Ok leaves all that the drives hold. A loss of power leaves as many batches as it left before.
-    ensures kept { V.known vault.old → (lost : List Bool) → IsInStep lost changes.old.keeper changes.old.batch (recovered (V.seen vault.old))
-        → OnOk result (HasDrives lost store.old.tiers.world.array.parts.drives (recovered (V.seen vault.new))) }
+    // A kill after Ok leaves all that the drives hold, and which are lost. A loss of power leaves as many batches as it left before.
+    ensures kept { V.known vault.old → (lost : List Bool) → IsLive lost changes.old.keeper changes.old.noted changes.old.batch (recovered (V.seen vault.old))
+        → OnOk result (IsKept lost store.old.tiers.world.array.parts.drives (recovered (V.seen vault.new))) }
     ensures killed { V.known vault.old → (lost : List Bool) → IsLogged V.seen V.may_leave lost Killed vault.old (length (Image.journal (V.seen vault.old)))
         → OnOk result (IsLogged V.seen V.may_leave lost Killed vault.new (length (Image.journal (V.seen vault.new)))) }
     ensures added { V.known vault.old → (lost : List Bool) (stop : Stop) (low : ℕ) → IsLogged V.seen V.may_leave lost stop vault.old low
         → OnOk result (IsLogged V.seen V.may_leave lost stop vault.new low) }
+
+    // A stop at any moment leaves the units of before, or those of the drives now. By a loss of power some of the last batches may be
+    // missing, none of those of the last flush.
+    ensures any_moment { V.known vault.old → (lost : List Bool) → IsLive lost changes.old.keeper changes.old.noted changes.old.batch (recovered (V.seen vault.old))
+        → (stop : Stop) (low : ℕ) → IsLogged V.seen V.may_leave lost stop vault.old low
+        → LeavesOnly V.moment V.left_since stop vault.old vault.new (IsBeforeOrNow lost (V.seen vault.old) low store.old.tiers.world.array.parts.drives) }
 {
     if !collect(store, changes) {
         return Err(StoreFault::Memory);

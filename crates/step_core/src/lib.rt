@@ -15,8 +15,8 @@ mod world;
 pub use array_parts::Units;
 pub use claimed::{Denied, What, finish, put};
 pub use disk_array::{
-    Apart, Array, At, Done, Emitted, Hold, NotAdopted, Plain, Reading, TakeBack, Ticket,
-    Visit, claims_are_free,
+    Apart, Array, At, Done, Emitted, Hold, NotAdopted, Plain, Reading, TakeBack, Ticket, Visit,
+    claims_are_free,
 };
 pub use extent_groups::GroupTable;
 pub use extents::{Drive, DriveLost, ExtentTable, HotSwap, MemDrive, Shape, ShapeRefusal};
