@@ -25,13 +25,14 @@ pub saved_other : (d n : ℕ) (log : List (Entry Units)) (units : Units) → n �
 saved_other d n log units ne = ap (last_of []) (entries_other d log (entry n units) ne)
 
 -- a drive's save
-pub leads_by : (k now : Course Units) (batch more writes : List Wanted) (n : ℕ) (units : Units) → n < 16 → n < k.hired
+pub leads_by : (k now : Course Units) (marks : List ℕ) (batch more writes : List Wanted) (n : ℕ) (units : Units) → n < 16 → n < k.hired
     → now ≡ record { hired = k.hired; log = k.log ++ entry n units ∷ [] } → more ≡ batch ++ writes → Brings n (saved_by n k.log) units writes
-    → LeadsTo k batch now more
-leads_by k now batch more writes n units low below is put brings =
+    → LeadsTo k batch marks now more marks
+leads_by k now marks batch more writes n units low below is put brings =
     let log = k.log ++ entry n units ∷ [] in
-    subst (λ (m : Course Units). LeadsTo k batch m more) (sym is) (subst (λ ws. LeadsTo k batch (record { hired = k.hired; log = log }) ws) (sym put) (record {
+    subst (λ (m : Course Units). LeadsTo k batch marks m more marks) (sym is) (subst (λ ws. LeadsTo k batch marks (record { hired = k.hired; log = log }) ws marks) (sym put) (record {
       hired = refl;
+      noted = refl;
       step = λ lost c s. record {
         each = λ d at hired there. ap (λ (e : Cells). e d at) (after_both batch writes c) ∙ elim (same_or_not d n) [
           | inl same ↦ subst (λ x. after (after c batch) writes x at ≡ slice_get (saved_by x log) at) (sym same)
@@ -83,7 +84,7 @@ last_or_before (z ∷ xs) x y (suc d) at = ⊎_elim
     (last_or_before xs x y d at)
 
 -- a drive that was shown
-shown_at : (log : List (Entry Units)) (lost : List Bool) (n d : ℕ) (v : DriveView) → slice_get (views_to log lost n) d ≡ Some v → (d < n) × (v ≡ view_at log lost d)
+pub shown_at : (log : List (Entry Units)) (lost : List Bool) (n d : ℕ) (v : DriveView) → slice_get (views_to log lost n) d ≡ Some v → (d < n) × (v ≡ view_at log lost d)
 shown_at log lost zero d v at = absurd (none-some v at)
 shown_at log lost (suc n) d v at = ⊎_elim
     (λ (h : (d < length (views_to log lost n)) × (slice_get (views_to log lost n) d ≡ Some v)). let below = shown_at log lost n d v h.1 in let low = below.0 in (omega (arith, low), below.1))
@@ -91,9 +92,9 @@ shown_at log lost (suc n) d v at = ⊎_elim
     (last_or_before (views_to log lost n) (view_at log lost n) v d at)
 
 -- once all drives were shown, the units in step are theirs
-pub shown_has : (k now : Course Units) (batch more : List Wanted) (lost : List Bool) (n : ℕ) (drives : List DriveView) → LeadsTo k batch now more → drives ≡ views_to now.log lost n → n ≤ now.hired
+pub shown_has : (k now : Course Units) (batch more : List Wanted) (lost : List Bool) (marks left : List ℕ) (n : ℕ) (drives : List DriveView) → LeadsTo k batch marks now more left → drives ≡ views_to now.log lost n → n ≤ now.hired
     → (gone : List Bool) (c : Cells) → IsInStep gone k batch c → HasDrives gone drives (after c more)
-shown_has k now batch more lost n drives leads is few gone c step = record {
+shown_has k now batch more lost marks left n drives leads is few gone c step = record {
   each = λ d at v there on.
       let one = shown_at now.log lost n d v (ap (λ l. slice_get l d) (sym is) ∙ there) in
       let low = one.0 in

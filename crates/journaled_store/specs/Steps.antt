@@ -17,18 +17,20 @@ pub record IsInStep (lost : List Bool) (k : Course Units) (batch : List Wanted) 
   pub each : (d at : ℕ) → d < k.hired → is_lost lost d ≡ false → after c batch d at ≡ slice_get (saved_by d k.log) at
 
 -- what visits make of it: it stays in step with units that it was in step with, and writes no more than drives' units
-pub record LeadsTo (k : Course Units) (batch : List Wanted) (now : Course Units) (more : List Wanted) : Type 0 where
+pub record LeadsTo (k : Course Units) (batch : List Wanted) (marks : List ℕ) (now : Course Units) (more : List Wanted) (left : List ℕ) : Type 0 where
   pub hired : now.hired ≡ k.hired
+  pub noted : left ≡ marks
   pub step : (lost : List Bool) (c : Cells) → IsInStep lost k batch c → IsInStep lost now more c
   pub others : (c : Cells) (d at : ℕ) → 16 ≤ d → after c more d at ≡ after c batch d at
 
-pub leads_stays : (k : Course Units) (batch : List Wanted) → LeadsTo k batch k batch
-leads_stays k batch = record { hired = refl; step = λ lost c s. s; others = λ c d at high. refl }
+pub leads_stays : (k : Course Units) (batch : List Wanted) (marks : List ℕ) → LeadsTo k batch marks k batch marks
+leads_stays k batch marks = record { hired = refl; noted = refl; step = λ lost c s. s; others = λ c d at high. refl }
 
-pub leads_further : (k : Course Units) (a : List Wanted) (l : Course Units) (b : List Wanted) (m : Course Units) (e : List Wanted)
-    → LeadsTo k a l b → LeadsTo l b m e → LeadsTo k a m e
-leads_further k a l b m e one two = record {
+pub leads_further : (k : Course Units) (a : List Wanted) (x : List ℕ) (l : Course Units) (b : List Wanted) (y : List ℕ) (m : Course Units) (e : List Wanted) (z : List ℕ)
+    → LeadsTo k a x l b y → LeadsTo l b y m e z → LeadsTo k a x m e z
+leads_further k a x l b y m e z one two = record {
   hired = two.hired ∙ one.hired;
+  noted = two.noted ∙ one.noted;
   step = λ lost c s. two.step lost c (one.step lost c s);
   others = λ c d at high. two.others c d at high ∙ one.others c d at high;
 }
@@ -50,6 +52,10 @@ pub record HasDrives (lost : List Bool) (drives : List DriveView) (c : Cells) : 
 abbrev pub mark_of : Bool → ℕ
 mark_of false = 0
 mark_of true = 1
+
+-- the write of the table
+abbrev pub table_write : List ℕ → Wanted
+table_write marks = record { place = record { drive = 16; address = 0 }; unit = marks }
 
 -- after the batch, the table has these marks
 abbrev pub IsNoted : List ℕ → List Wanted → Cells → Type 0

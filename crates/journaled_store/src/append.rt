@@ -18,7 +18,7 @@ pub(crate) fn append<N: Chronicle, V: Vault>(
 ) -> Result<(), VaultError>
     ensures stays { V.known vault.old → V.known vault.new }
     ensures keeper { changes.new.keeper ≡ changes.old.keeper }
-    ensures marks { (changes.new.lost ≡ changes.old.lost) × (changes.new.next ≡ changes.old.next) }
+    ensures marks { (changes.new.lost ≡ changes.old.lost) × (changes.new.noted ≡ changes.old.noted) }
     ensures empty { OnOk result (changes.new.batch ≡ []) }
     ensures kept { OnErr result (changes.new.batch ≡ changes.old.batch) }
 

@@ -1,7 +1,7 @@
 // What an array's drives have that no batch of a vault has yet.
 ghost use Rattle.std.specs.Prelude.{◌≡◌, ◌≢◌, ◌≤◌, ◌<◌, ◌+◌, ◌++◌, ◌⊎◌, [], ◌∷◌, ℕ, length, map, slice_set, true, OnOk, OnErr};
 ghost use Rattle.array_parts.specs.Views.{DriveView, drive_view};
-ghost use Rattle.journaled_store.specs.Steps.{LeadsTo, views_to, mark_of};
+ghost use Rattle.journaled_store.specs.Steps.{LeadsTo, views_to, mark_of, table_write};
 
 use cached_drive::{CachedDrive, Saved};
 use extent_groups::Place;
@@ -50,10 +50,10 @@ pub(crate) fn note_lost<N: Chronicle>(changes: &mut Changes<N>) -> Result<(), Al
     ensures keeper { changes.new.keeper ≡ changes.old.keeper }
     ensures shown { (changes.new.lost ≡ changes.old.lost) × (changes.new.next ≡ changes.old.next) }
     ensures noted { OnOk result (changes.new.noted ≡ map mark_of changes.old.lost) }
-    ensures batch { OnOk result ((changes.new.batch ≡ changes.old.batch) ⊎ (changes.new.batch
-        ≡ changes.old.batch ++ record { place = record { drive = 16; address = 0 }; unit = changes.new.noted } ∷ [])) }
-    ensures same { OnOk result (changes.new.batch ≡ changes.old.batch → changes.new.noted ≡ changes.old.noted) }
-    ensures err { OnErr result ((changes.new.batch ≡ changes.old.batch) × (changes.new.noted ≡ changes.old.noted)) }
+    ensures batch { (changes.new.batch ≡ changes.old.batch) ⊎ (changes.new.batch ≡ changes.old.batch ++ table_write changes.new.noted ∷ []) }
+    ensures same { changes.new.batch ≡ changes.old.batch → changes.new.noted ≡ changes.old.noted }
+    ensures err { OnErr result (changes.new.batch ≡ changes.old.batch) }
+    ensures long { length changes.old.lost ≡ 16 }
 {
     let marks = marks_of(&changes.lost);
     if changes.noted[..] == marks[..] {
@@ -83,11 +83,11 @@ impl<N: Chronicle> Visit<CachedDrive<N>> for Changes<N> {
 
     ghost shown = { λ c. views_to c.keeper.log c.lost c.next };
 
-    ghost leads_to = { λ c d. LeadsTo c.keeper c.batch d.keeper d.batch };
+    ghost leads_to = { λ c d. LeadsTo c.keeper c.batch c.noted d.keeper d.batch d.noted };
 
-    ghost stays = { λ c. leads_stays c.keeper c.batch };
+    ghost stays = { λ c. leads_stays c.keeper c.batch c.noted };
 
-    ghost further = { λ c d e one two. leads_further c.keeper c.batch d.keeper d.batch e.keeper e.batch one two };
+    ghost further = { λ c d e one two. leads_further c.keeper c.batch c.noted d.keeper d.batch d.noted e.keeper e.batch e.noted one two };
 
     // A drive is saved under its own number. One of another number, or with other units, ends the walk, and so does memory that is
     // out.

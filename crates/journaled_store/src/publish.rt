@@ -38,10 +38,16 @@ fn collect<N: Chronicle>(store: &mut ArrayStore<CachedDrive<N>>, changes: &mut C
     ensures marks { result ≡ true → HasMarks store.old.tiers.world.array.parts.drives changes.new.noted }
 {
     changes.next = 0;
-    if changes.keeper.hired() > DRIVES as u64 || !store.visit_drives(changes) {
+    if changes.keeper.hired() > DRIVES as u64 {
         return false;
     }
-    u64::from(changes.next) <= changes.keeper.hired() && note_lost(changes).is_ok()
+    if !store.visit_drives(changes) {
+        return false;
+    }
+    if u64::from(changes.next) > changes.keeper.hired() {
+        return false;
+    }
+    note_lost(changes).is_ok()
 }
 
 /// Makes one batch of all that the drives have written and of which are lost, and appends it to the vault's journal. `Memory` if out

@@ -12,7 +12,7 @@ returns-in-Ok-clause-leads g c =
     let own : drive.hand.number ≡ me.next = sym c.number.ensures ∙ c.if-number-from.false ∙ c.from-else-from-ge-DRIVES.ensures in
     let low : me.next < 16 = omega (arith, c.if-from-ge-DRIVES.false, c.from.ensures) in
     let e = c.in-Ok.ensures in
-    leads_by me.keeper c.save.new.keeper me.batch c.save.new.batch e.brings.0 me.next drive.cache.units low
+    leads_by me.keeper c.save.new.keeper me.noted me.batch c.save.new.batch e.brings.0 me.next drive.cache.units low
     (subst (λ n. n < me.keeper.hired) own e.below)
     (e.saved ∙ ap (λ n. let k : Course Units = record { hired = me.keeper.hired; log = me.keeper.log ++ entry n drive.cache.units ∷ [] } in k) own)
     e.brings.1 (subst (λ n. Brings me.next (saved_by n me.keeper.log) drive.cache.units e.brings.0) own e.brings.2)

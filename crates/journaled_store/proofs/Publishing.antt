@@ -1,0 +1,53 @@
+-- What a stop leaves of a vault to which a batch is added.
+use Rattle.std.proofs.Common.{◌≡◌, ◌<◌, ◌≤◌, ◌+◌, ◌⊎◌, inl, inr, ⊎_elim, ℕ, zero, suc, arith, true, false, Bool, List, [], ◌∷◌, ◌++◌, length, length-append, take, refl, sym, ◌∙◌, ap, subst}
+use Rattle.std.specs.Prelude.{Result, Ok, Err, OnOk, is_ok, Some}
+use Rattle.std.proofs.lemmas.Bool.{true≢false}
+use Rattle.std.proofs.lemmas.List.{take_all, take-append-le}
+use Rattle.extent_groups.specs.Cells.{Cells}
+use Rattle.extent_groups.specs.Planned.{Wanted, after}
+use Rattle.vault.specs.Images.{Image, Stands, recovered, flat}
+use Rattle.vault.specs.Moments.{IsLogged, StandsForSome}
+use Rattle.vault.specs.declared.store.Stop.{Stop}
+use Rattle.vault.proofs.Writes.{after_last, front_stands}
+use Rattle.history.specs.Entries.{Course}
+use Rattle.array_parts.specs.Views.{DriveView}
+use Rattle.cached_drive.specs.Saving.{Units}
+use Rattle.journaled_store.specs.Steps.{HasDrives, HasMarks, IsBeforeOrNow, IsInStep, IsKept, IsLive, IsNoted}
+use Rattle.journaled_store.proofs.Leading.{step_same}
+
+pub when_ok : {T E P : Type 0} (r : Result T E) → is_ok r ≡ true → OnOk r P → P
+when_ok (Ok x) is p = p
+when_ok (Err e) is p = absurd (true≢false (sym is))
+
+at_most_or_all : (k n : ℕ) → k ≤ n + 1 → (k ≤ n) ⊎ (k ≡ n + 1)
+at_most_or_all zero n high = inl (omega arith)
+at_most_or_all (suc k) zero high = inr (omega (arith, high))
+at_most_or_all (suc k) (suc n) high = ⊎_elim (λ low. inl (omega (arith, low))) (λ is. inr (omega (arith, is))) (at_most_or_all k n (omega (arith, high)))
+
+-- an image that stands for some of the batches stands for some of those of before, or for all
+pub before_or_all : (lost : List Bool) (base i : Image) (low : ℕ) (writes : List Wanted) → StandsForSome lost base.cells low (base.journal ++ writes ∷ []) i
+    → StandsForSome lost base.cells low base.journal i ⊎ Stands lost (after (recovered base) writes) i
+before_or_all lost base i low writes some =
+    ⊎_elim
+    (λ few. inl (record {
+      count = some.count;
+      least = some.least;
+      most = few;
+      stands = subst (λ b. Stands lost (after base.cells (flat b)) i) (take-append-le some.count base.journal (writes ∷ []) few) some.stands;
+    }))
+    (λ all. inr (subst (λ (c : Cells). Stands lost c i) (after_last base writes)
+    (subst (λ b. Stands lost (after base.cells (flat b)) i) (take_all some.count (base.journal ++ writes ∷ []) (omega (arith, all, length-append base.journal (writes ∷ [])))) some.stands)))
+    (at_most_or_all some.count (length base.journal) (let most = some.most in omega (arith, most, length-append base.journal (writes ∷ []))))
+
+-- what a stop leaves now
+pub logged_now : {V : Type 0} (seen : V → Image) (may_leave : V → Stop → Image → Type 0) (lost : List Bool) (stop : Stop) (vault : V) (low : ℕ) (drives : List DriveView)
+    → IsLogged seen may_leave lost stop vault low → (i : Image) → may_leave vault stop i → IsBeforeOrNow lost (seen vault) low drives i
+logged_now seen may_leave lost stop vault low drives is i left = inl (front_stands lost (seen vault) i low (is.leaves i left))
+
+-- a batch that has all that the drives hold
+pub kept_by : (lost : List Bool) (drives : List DriveView) (marks : List ℕ) (c : Cells) → HasDrives lost drives c → c 16 0 ≡ Some marks → HasMarks drives marks → IsKept lost drives c
+kept_by lost drives marks c has noted told = record { has = has; marks = marks; noted = noted; told = told }
+
+pub live_same : (lost : List Bool) (k : Course Units) (marks : List ℕ) (batch : List Wanted) (c d : Cells) → ((drive at : ℕ) → d drive at ≡ after c batch drive at)
+    → IsLive lost k marks batch c → IsLive lost k marks [] d
+live_same lost k marks batch c d same live = record { step = step_same lost k batch c d same live.step; noted = same 16 0 ∙ live.noted }

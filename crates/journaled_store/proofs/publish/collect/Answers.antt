@@ -1,0 +1,50 @@
+use Rattle.std.proofs.Common.{◌≡◌, ◌≤◌, ℕ, List, [], length, arith, sym, ap, subst, ◌∙◌, refl}
+use Rattle.extent_groups.specs.Cells.{Cells}
+use Rattle.history.specs.Entries.{Course}
+use Rattle.cached_drive.specs.Saving.{Units}
+use Rattle.journaled_store.specs.Steps.{IsInStep, LeadsTo, views_to}
+use Rattle.journaled_store.proofs.Leading.{shown_has}
+use Rattle.journaled_store.proofs.Noting.{leads_noted, table_step, table_noted, table_has, shown_marks}
+use Rattle.journaled_store.proofs.Publishing.{when_ok}
+use Rattle.journaled_store.proofs.publish.collect.Goals as goal
+
+pub returns-clause-step : goal.returns-clause-step
+returns-clause-step g c lost d step =
+    let mid = c.visit_drives.new.visitor in
+    let now = c.note_lost.new.changes in
+    let leads = c.visit_drives.ensures.leads in
+    let few : mid.keeper.hired ≤ 16 = omega (arith, c.if-hired.false, c.hired.ensures, leads.hired) in
+    subst (λ (k : Course Units). IsInStep lost k now.batch d) (sym c.note_lost.ensures.keeper)
+    (table_step lost mid.keeper mid.batch now.batch now.noted d few c.note_lost.ensures.batch (leads.step lost d step))
+
+pub returns-clause-noted : goal.returns-clause-noted
+returns-clause-noted g c d noted =
+    let old = c.args.changes.now in
+    let mid = c.visit_drives.new.visitor in
+    let now = c.note_lost.new.changes in
+    table_noted mid.noted now.noted mid.batch now.batch d c.note_lost.ensures.batch c.note_lost.ensures.same
+    (leads_noted old.keeper mid.keeper old.batch mid.batch old.noted mid.noted d c.visit_drives.ensures.leads noted)
+
+pub returns-clause-has : goal.returns-clause-has
+returns-clause-has g c is lost d step =
+    let old = c.args.changes.now in
+    let mid = c.visit_drives.new.visitor in
+    let now = c.note_lost.new.changes in
+    let leads = c.visit_drives.ensures.leads in
+    let drives = c.args.store.now.tiers.world.array.parts.drives in
+    let shown = sym (c.if-not-visit_drives.ensures.shown refl) in
+    let most : mid.next ≤ mid.keeper.hired = omega (arith, c.if-from-hired.false, c.from.ensures, c.hired-2.ensures) in
+    let few : mid.next ≤ 16 = omega (arith, most, c.if-hired.false, c.hired.ensures, leads.hired) in
+    table_has mid.keeper.log mid.lost mid.next drives shown few lost mid.batch now.batch now.noted d c.note_lost.ensures.batch
+    (shown_has old.keeper mid.keeper old.batch mid.batch mid.lost old.noted mid.noted mid.next drives leads shown most lost d step)
+
+pub returns-clause-marks : goal.returns-clause-marks
+returns-clause-marks g c is =
+    let mid = c.visit_drives.new.visitor in
+    let now = c.note_lost.new.changes in
+    let leads = c.visit_drives.ensures.leads in
+    let drives = c.args.store.now.tiers.world.array.parts.drives in
+    let shown = sym (c.if-not-visit_drives.ensures.shown refl) in
+    let few : mid.next ≤ 16 = omega (arith, c.if-from-hired.false, c.from.ensures, c.hired-2.ensures, c.if-hired.false, c.hired.ensures, leads.hired) in
+    shown_marks mid.keeper.log mid.lost mid.next drives shown few now.noted c.note_lost.ensures.long
+    (when_ok c.note_lost.result (sym c.is_ok.ensures.value ∙ is) c.note_lost.ensures.noted)

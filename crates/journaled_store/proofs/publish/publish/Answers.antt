@@ -1,0 +1,68 @@
+use Rattle.std.proofs.Common.{◌≡◌, ◌++◌, ◌∷◌, ℕ, List, Bool, [], refl, sym, ap, subst, ◌∙◌, inl, inr, ⊎_elim}
+use Rattle.std.specs.Prelude.{Some}
+use Rattle.history.specs.Entries.{Course}
+use Rattle.extent_groups.specs.Cells.{Cells}
+use Rattle.extent_groups.specs.Planned.{Wanted, after}
+use Rattle.vault.specs.Images.{Image, recovered}
+use Rattle.vault.specs.Moments.{StandsForSome}
+use Rattle.vault.proofs.Runs.{started, weaker}
+use Rattle.cached_drive.specs.Saving.{Units}
+use Rattle.journaled_store.specs.Steps.{IsBeforeOrNow, IsLive}
+use Rattle.journaled_store.proofs.Publishing.{before_or_all, kept_by, live_same, logged_now}
+use Rattle.journaled_store.proofs.publish.publish.Goals as goal
+
+pub returns-then-not-collect-clause-any_moment : goal.returns-then-not-collect-clause-any_moment
+returns-then-not-collect-clause-any_moment g c known lost live stop low is =
+    let v = g.V.Vault in
+    let vault = c.args.vault.now in
+    let drives = c.args.store.now.tiers.world.array.parts.drives in
+    started v.moment v.left_since stop vault (IsBeforeOrNow lost (v.seen vault) low drives)
+    (λ i left. logged_now v.seen v.may_leave lost stop vault low drives is i (g.met.V.Vault.only_now vault known stop i left))
+
+pub returns-then-is_empty-clause-any_moment : goal.returns-then-is_empty-clause-any_moment
+returns-then-is_empty-clause-any_moment g c known lost live stop low is =
+    let v = g.V.Vault in
+    let vault = c.args.vault.now in
+    let drives = c.args.store.now.tiers.world.array.parts.drives in
+    started v.moment v.left_since stop vault (IsBeforeOrNow lost (v.seen vault) low drives)
+    (λ i left. logged_now v.seen v.may_leave lost stop vault low drives is i (g.met.V.Vault.only_now vault known stop i left))
+
+pub returns-in-Ok-clause-step : goal.returns-in-Ok-clause-step
+returns-in-Ok-clause-step g c known lost live =
+    let v = g.V.Vault in
+    let mid = c.collect.new.changes in
+    let now = c.append.new.changes in
+    let new = recovered (v.seen c.append.new.vault) in
+    let old = recovered (v.seen c.args.vault.now) in
+    let e = c.in-Ok.ensures in
+    subst (λ (k : Course Units). IsLive lost k now.noted now.batch new) (sym e.keeper)
+    (subst (λ (m : List ℕ). IsLive lost mid.keeper m now.batch new) (sym e.marks.1)
+    (subst (λ (b : List Wanted). IsLive lost mid.keeper mid.noted b new) (sym e.empty)
+    (live_same lost mid.keeper mid.noted mid.batch old new (e.ok known)
+    (record { step = c.collect.ensures.step lost old live.step; noted = c.collect.ensures.noted old live.noted }))))
+
+pub returns-in-Ok-clause-any_moment : goal.returns-in-Ok-clause-any_moment
+returns-in-Ok-clause-any_moment g c known lost live stop low is =
+    let v = g.V.Vault in
+    let vault = c.args.vault.now in
+    let mid = c.collect.new.changes in
+    let drives = c.args.store.now.tiers.world.array.parts.drives in
+    let base = v.seen vault in
+    let all = after (recovered base) mid.batch in
+    let kept = kept_by lost drives mid.noted all (c.if-not-collect.ensures.has refl lost (recovered base) live.step) (c.collect.ensures.noted (recovered base) live.noted) (c.if-not-collect.ensures.marks refl) in
+    weaker v.moment v.left_since stop vault c.append.new.vault (StandsForSome lost base.cells low (base.journal ++ mid.batch ∷ [])) (IsBeforeOrNow lost base low drives)
+    (c.append.ensures.any_moment known lost stop low is)
+    (λ i some. ⊎_elim (λ few. inl few) (λ stands. inr (all, stands, kept)) (before_or_all lost base i low mid.batch some))
+
+pub returns-in-Err-clause-any_moment : goal.returns-in-Err-clause-any_moment
+returns-in-Err-clause-any_moment g c known lost live stop low is =
+    let v = g.V.Vault in
+    let vault = c.args.vault.now in
+    let mid = c.collect.new.changes in
+    let drives = c.args.store.now.tiers.world.array.parts.drives in
+    let base = v.seen vault in
+    let all = after (recovered base) mid.batch in
+    let kept = kept_by lost drives mid.noted all (c.if-not-collect.ensures.has refl lost (recovered base) live.step) (c.collect.ensures.noted (recovered base) live.noted) (c.if-not-collect.ensures.marks refl) in
+    weaker v.moment v.left_since stop vault c.append.new.vault (StandsForSome lost base.cells low (base.journal ++ mid.batch ∷ [])) (IsBeforeOrNow lost base low drives)
+    (c.append.ensures.any_moment known lost stop low is)
+    (λ i some. ⊎_elim (λ few. inl few) (λ stands. inr (all, stands, kept)) (before_or_all lost base i low mid.batch some))
