@@ -10,3 +10,5 @@ pub mod JournalCalls
 pub mod Syncs
 pub mod Gates
 pub mod Blocks
+pub mod Recovered
+pub mod Opened

@@ -28,6 +28,9 @@ pub record SameBehind (file : ℕ) (f g : Folder) : Type 0 where
   pub behind : (k : ℕ) → 4096 ≤ k → g file k ≡ f file k
   pub others : (d : ℕ) → d ≢ file → g d ≡ f d
 
+abbrev pub behind_at : ℕ → (Folder → Type 0) → Folder → Type 0
+behind_at file outcomes g = (f : Folder) × outcomes f × SameBehind file f g
+
 -- the id of the boot in which a disk was last opened
 abbrev pub boot_in : Folder → List ℕ
 boot_in f = part (f 16) 64 16

@@ -5,7 +5,7 @@ ghost use Rattle.std.specs.Int.{w32, to_le_bytes};
 ghost use Rattle.vault.specs.Moments.{Elapses};
 ghost use Rattle.vault.specs.declared.store.Stop.{Stop};
 ghost use Rattle.file_vault.specs.Folders.{HasFault, Wrote, part};
-ghost use Rattle.file_vault.specs.Headers.{HasHeader, SameBehind, boot_in, mark as the_mark, number_at};
+ghost use Rattle.file_vault.specs.Headers.{HasHeader, SameBehind, behind_at, boot_in, mark as the_mark, number_at};
 
 use crate::files::{FileFault, Files};
 use vault::TABLE;
@@ -98,7 +98,8 @@ pub(crate) fn read_part<F: Files>(
     ensures stays { F.known files.old → F.known files.new }
     ensures bytes { F.known files.old → OnOk result (out.new ≡ part (F.seen files.old number) at (length out.old)) }
     ensures seen { F.known files.old → F.seen files.new ≡ F.seen files.old }
-    ensures time { F.known files.old → (stop : Stop) → Elapses (F.moment files.old) (F.moment files.new) (F.left_since files.old stop) (F.left_since files.new stop)
+    ensures time { F.known files.old
+        → (stop : Stop) → Elapses (F.moment files.old) (F.moment files.new) (F.left_since files.old stop) (F.left_since files.new stop)
         (F.may_leave files.old stop) (F.may_leave files.new stop) }
     ensures cause { F.known files.old → HasFault (F.faults files.old) (F.faults files.new) result }
 {
@@ -121,7 +122,8 @@ pub(crate) fn is_boot<F: Files>(files: &mut F, boot: &[u8; 16]) -> Result<bool, 
     ensures stays { F.known files.old → F.known files.new }
     ensures is { F.known files.old → IfOk result (λ same. IsTrue same ↔ (boot_in (F.seen files.old) ≡ boot.now)) }
     ensures seen { F.known files.old → F.seen files.new ≡ F.seen files.old }
-    ensures time { F.known files.old → (stop : Stop) → Elapses (F.moment files.old) (F.moment files.new) (F.left_since files.old stop) (F.left_since files.new stop)
+    ensures time { F.known files.old
+        → (stop : Stop) → Elapses (F.moment files.old) (F.moment files.new) (F.left_since files.old stop) (F.left_since files.new stop)
         (F.may_leave files.old stop) (F.may_leave files.new stop) }
     ensures cause { F.known files.old → HasFault (F.faults files.old) (F.faults files.new) result }
 {
@@ -131,7 +133,15 @@ pub(crate) fn is_boot<F: Files>(files: &mut F, boot: &[u8; 16]) -> Result<bool, 
 }
 
 // Writes the boot in which the disk is opened, and makes it durable.
-pub(crate) fn put_boot<F: Files>(files: &mut F, boot: &[u8; 16]) -> Result<(), FileFault> {
+pub(crate) fn put_boot<F: Files>(files: &mut F, boot: &[u8; 16]) -> Result<(), FileFault>
+    ensures stays { F.known files.old → F.known files.new }
+    ensures behind { F.known files.old → SameBehind 16 (F.seen files.old) (F.seen files.new) }
+    ensures time { F.known files.old
+        → (stop : Stop) → Elapses (F.moment files.old) (F.moment files.new) (F.left_since files.old stop) (F.left_since files.new stop)
+        (behind_at 16 (F.may_leave files.old stop)) (F.may_leave files.new stop) }
+    ensures cause { F.known files.old → HasFault (F.faults files.old) (F.faults files.new) result }
+    ensures long { length boot.now ≡ 16 }
+{
     files.write_at(TABLE, BOOT, boot)?;
     files.sync(TABLE)
 }

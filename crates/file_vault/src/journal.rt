@@ -4,7 +4,8 @@
 // most the last batch torn, with its gate closed. A flush syncs the journal and then makes each open gate a 2: so behind a 2 the
 // batch is durable. After a kill recovery takes each batch behind an open gate, after a loss of power those behind 2s.
 ghost use Rattle.std.specs.Prelude.{◌≡◌, ◌≤◌, ◌<◌, ◌+◌, ◌^◌, ◌-◌, ◌++◌, [], ◌∷◌, ℕ, List, length, drop, OnOk, IfOk, IfSome};
-ghost use Rattle.file_vault.specs.Journals.{IsAmong, Marks, marked_at, leaves_more, journal_of, MayPut, IsSound, IsRecord, SameUnits, leaves_all, leaves_either};
+ghost use Rattle.file_vault.specs.Journals.{IsAmong, Marks, marked_at, leaves_more, journal_of, MayPut, IsSound, IsRecord};
+ghost use Rattle.file_vault.specs.Journals.{SameUnits, leaves_all, leaves_either};
 ghost use Rattle.file_vault.specs.Folders.{HasFault, part};
 ghost use Rattle.extent_groups.specs.Planned.{Wanted};
 ghost use Rattle.vault.specs.Moments.{Elapses, Within, HasCause, no_drive};
@@ -72,7 +73,8 @@ fn mark<F: Files>(files: &mut F, gates: &[u64]) -> Result<(), FileFault>
     ensures stays { F.known files.old → F.known files.new }
     ensures seen { F.known files.old → Marks gates.now (F.seen files.old) (F.seen files.new) }
     ensures done { F.known files.old → OnOk result ((k : ℕ) → IsAmong gates.now k → F.seen files.new 17 k ≡ 2) }
-    ensures time { F.known files.old → (stop : Stop) → Elapses (F.moment files.old) (F.moment files.new) (F.left_since files.old stop) (F.left_since files.new stop)
+    ensures time { F.known files.old
+        → (stop : Stop) → Elapses (F.moment files.old) (F.moment files.new) (F.left_since files.old stop) (F.left_since files.new stop)
         (marked_at gates.now (F.may_leave files.old stop)) (F.may_leave files.new stop) }
     ensures cause { F.known files.old → HasFault (F.faults files.old) (F.faults files.new) result }
 {
@@ -107,7 +109,8 @@ pub(crate) fn close_first<F: Files>(files: &mut F) -> Result<(), FileFault>
     ensures stays { F.known files.old → F.known files.new }
     ensures others { F.known files.old → SameUnits (F.seen files.old) (F.seen files.new) }
     ensures closed { F.known files.old → OnOk result (IsSound F.seen F.may_leave files.new [] [] 4096 0) }
-    ensures time { F.known files.old → (stop : Stop) → Elapses (F.moment files.old) (F.moment files.new) (F.left_since files.old stop) (F.left_since files.new stop)
+    ensures time { F.known files.old
+        → (stop : Stop) → Elapses (F.moment files.old) (F.moment files.new) (F.left_since files.old stop) (F.left_since files.new stop)
         (leaves_either stop [] (F.may_leave files.old stop)) (F.may_leave files.new stop) }
     ensures cause { F.known files.old → HasFault (F.faults files.old) (F.faults files.new) result }
 {
@@ -125,7 +128,8 @@ pub(crate) fn read_body<F: Files>(
     ensures stays { F.known files.old → F.known files.new }
     ensures bytes { F.known files.old → OnOk result (body.new.items ≡ part (F.seen files.old 17) at length) }
     ensures seen { F.known files.old → F.seen files.new ≡ F.seen files.old }
-    ensures time { F.known files.old → (stop : Stop) → Elapses (F.moment files.old) (F.moment files.new) (F.left_since files.old stop) (F.left_since files.new stop)
+    ensures time { F.known files.old
+        → (stop : Stop) → Elapses (F.moment files.old) (F.moment files.new) (F.left_since files.old stop) (F.left_since files.new stop)
         (F.may_leave files.old stop) (F.may_leave files.new stop) }
     ensures cause { F.known files.old → HasCause no_drive (F.faults files.old) (F.faults files.new) result }
 {

@@ -1,6 +1,7 @@
 //! A vault over files, and files in memory that a stop leaves in each way that real ones may be left.
 #![tactic(auto)]
 
+mod chain;
 mod files;
 mod header;
 mod journal;

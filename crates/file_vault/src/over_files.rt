@@ -63,8 +63,9 @@ fn gate_at(gates: &[u64], end: u64, index: usize) -> u64
 }
 
 // A batch for which bytes stand.
-fn decode_into(batch: &mut Batch, bytes: &[u8]) -> Result<(), VaultError>
+pub(crate) fn decode_into(batch: &mut Batch, bytes: &[u8]) -> Result<(), VaultError>
     ensures batch { OnOk result (batch.new ≡ decoded bytes.now) }
+    ensures code { OnOk result (IsCode bytes.now) }
     ensures is { IsCode bytes.now → IfErr result (λ e. e ≡ Memory) }
     ensures why { IfErr result (λ e. (e ≡ Memory) ⊎ (e ≡ Journal)) }
 {
@@ -97,8 +98,11 @@ fn sync_drive<F: Files>(
     requires { drive < 16 }
     ensures stays { F.known files.old → F.known files.new }
     ensures seen { F.known files.old → F.seen files.new ≡ F.seen files.old }
-    ensures durable { F.known files.old → OnOk result ((stop : Stop) → is_lost lost.now drive ≡ false → get_or layout.now.counts drive 0 ≢ 0 → HasFile drive (F.seen files.old) (F.may_leave files.new stop)) }
-    ensures time { F.known files.old → (stop : Stop) → Elapses (F.moment files.old) (F.moment files.new) (F.left_since files.old stop) (F.left_since files.new stop)
+    ensures durable { F.known files.old
+        → OnOk result ((stop : Stop) → is_lost lost.now drive ≡ false → get_or layout.now.counts drive 0 ≢ 0
+        → HasFile drive (F.seen files.old) (F.may_leave files.new stop)) }
+    ensures time { F.known files.old
+        → (stop : Stop) → Elapses (F.moment files.old) (F.moment files.new) (F.left_since files.old stop) (F.left_since files.new stop)
         (F.may_leave files.old stop) (F.may_leave files.new stop) }
     ensures cause { F.known files.old → HasCause (λ d. is_lost lost.now d ≡ false) (F.faults files.old) (F.faults files.new) result }
 {
@@ -112,7 +116,7 @@ fn sync_drive<F: Files>(
 }
 
 // Makes the files of the drives that aren't lost durable.
-fn sync_drives<F: Files>(
+pub(crate) fn sync_drives<F: Files>(
     files: &mut F,
     layout: &Layout,
     lost: &[bool; DRIVES],
@@ -120,7 +124,8 @@ fn sync_drives<F: Files>(
     ensures stays { F.known files.old → F.known files.new }
     ensures seen { F.known files.old → F.seen files.new ≡ F.seen files.old }
     ensures durable { F.known files.old → OnOk result (AreSynced lost.now layout.now.counts (F.seen files.old) (F.may_leave files.new) 16) }
-    ensures time { F.known files.old → (stop : Stop) → Elapses (F.moment files.old) (F.moment files.new) (F.left_since files.old stop) (F.left_since files.new stop)
+    ensures time { F.known files.old
+        → (stop : Stop) → Elapses (F.moment files.old) (F.moment files.new) (F.left_since files.old stop) (F.left_since files.new stop)
         (F.may_leave files.old stop) (F.may_leave files.new stop) }
     ensures cause { F.known files.old → HasCause (λ d. is_lost lost.now d ≡ false) (F.faults files.old) (F.faults files.new) result }
 {
