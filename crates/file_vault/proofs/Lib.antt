@@ -3,3 +3,12 @@ pub mod Replayed
 pub mod Puts
 pub mod Marking
 pub mod Flushing
+pub mod Units
+pub mod Lifts
+pub mod UnitCalls
+pub mod JournalCalls
+pub mod Syncs
+pub mod Gates
+pub mod Blocks
+pub mod Recovered
+pub mod Opened

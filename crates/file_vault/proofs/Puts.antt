@@ -36,7 +36,7 @@ pub open_more : (stop : Stop) (f : Bytes) (gates : List ℕ) (gate : ℕ) → Ar
 open_more stop f [] gate ajar last = (last, tt)
 open_more stop f (s ∷ ss) gate ajar last = (ajar.0, open_more stop f ss gate ajar.1 last)
 
-gate_more : (gates : List ℕ) (gate end count : ℕ) → count ≤ length gates → gate_at (gates ++ gate ∷ []) end count ≡ gate_at gates gate count
+pub gate_more : (gates : List ℕ) (gate end count : ℕ) → count ≤ length gates → gate_at (gates ++ gate ∷ []) end count ≡ gate_at gates gate count
 gate_more [] gate end zero le = refl
 gate_more [] gate end (suc count) le = absurd (omega (arith, le))
 gate_more (s ∷ ss) gate end zero le = refl

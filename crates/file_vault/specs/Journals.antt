@@ -1,6 +1,6 @@
 -- The journal's file: after its header batches, each behind a gate byte: 0 closed, 1 open, 2 open and durable. Behind a gate lie
 -- the length of the batch's bytes, in eight bytes, and these bytes. Behind the last batch lies a closed gate.
-use Rattle.std.specs.Prelude.{◌≡◌, ◌≢◌, ◌⊎◌, ◌==◌, ◌++◌, ◌+◌, ◌<◌, ◌≤◌, ◌^◌, length, take, not, if◌then◌else◌, Bool, true, false, None, ℕ, zero, suc, List, [], ◌∷◌}
+use Rattle.std.specs.Prelude.{◌≡◌, ◌≢◌, ◌⊎◌, ◌==◌, ◌++◌, ◌+◌, ◌<◌, ◌≤◌, ◌^◌, length, take, not, if◌then◌else◌, Bool, true, false, ℕ, zero, suc, List, [], ◌∷◌}
 use Rattle.extent_groups.specs.Planned.{Wanted}
 use Rattle.vault.specs.declared.store.Stop.{Stop}
 use Rattle.vault.specs.declared.store.Stop.TheVariants.{Killed, PowerLost}
@@ -34,10 +34,6 @@ abbrev pub AreAt : Bytes → ℕ → List ℕ → List (List Wanted) → ℕ →
 AreAt f at [] [] end = at ≡ end
 AreAt f at (gate ∷ gates) (batch ∷ batches) end = (gate ≡ at) × IsCode (body_at f at) × (decoded (body_at f at) ≡ batch) × AreAt f (next_at f at) gates batches end
 AreAt f at gates batches end = ⊥
-
--- no unit and no batch
-abbrev pub nothing : Image
-nothing = record { cells = λ drive at. None; journal = [] }
 
 -- these gates are open
 abbrev pub AreOpen : Stop → Bytes → List ℕ → Type 0

@@ -5,7 +5,7 @@ use Rattle.file_vault.specs.Folders.{Folder, part}
 
 -- units of a drive, of the table one
 abbrev pub count_of : List ℕ → ℕ → ℕ
-count_of counts drive = if drive == 16 then 1 else get_or counts drive 0
+count_of counts drive = if drive == 16 then 1 else if nat_lt drive 16 then get_or counts drive 0 else 0
 
 -- bytes of a unit of a drive
 abbrev pub size_of : ℕ → ℕ → ℕ → ℕ

@@ -2,3 +2,6 @@ pub mod Folders
 pub mod Calls
 pub mod Layouts
 pub mod Journals
+pub mod Vaults
+pub mod Headers
+pub mod Recoveries

@@ -58,7 +58,8 @@ pub trait Files {
         ensures cause { known self.old → HasFault (faults self.old) (faults self.new) result };
 
     /// This moment is one of those since an earlier one.
-    ghost counts_now: { (files : Self) → known files → (stop : Stop) (t : ℕ) (g : Folder) → t ≤ moment files → may_leave files stop g → left_since files stop t g };
+    ghost counts_now: { (files : Self) → known files → (stop : Stop) (t : ℕ) (g : Folder)
+        → t ≤ moment files → may_leave files stop g → left_since files stop t g };
 
     /// Since this moment there is no other.
     ghost only_now: { (files : Self) → known files → (stop : Stop) (g : Folder) → left_since files stop (moment files) g → may_leave files stop g };

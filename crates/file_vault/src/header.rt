@@ -1,12 +1,19 @@
 // The first block of each file: eight bytes of a mark, the disk's identity, the file's number, and how long its units are and how
-// many, in four bytes each, the lowest first. In the journal's file the boot in which it was last opened follows at 64.
+// many, in four bytes each, the lowest first. In the table's file the boot in which the disk was last opened follows at 64.
+ghost use Rattle.std.specs.Prelude.{◌≡◌, ◌≢◌, ◌<◌, ◌^◌, ◌↔◌, ℕ, length, true, OnOk, IfOk, IfSome, IfNone, IsTrue};
+ghost use Rattle.std.specs.Int.{w32, to_le_bytes};
+ghost use Rattle.vault.specs.Moments.{Elapses};
+ghost use Rattle.vault.specs.declared.store.Stop.{Stop};
+ghost use Rattle.file_vault.specs.Folders.{HasFault, Wrote, part};
+ghost use Rattle.file_vault.specs.Headers.{HasHeader, SameBehind, behind_at, boot_in, mark as the_mark, number_at};
+
 use crate::files::{FileFault, Files};
-use crate::layout::JOURNAL;
+use vault::TABLE;
 
 /// Marks a file of a vault.
 const MARK: [u8; 8] = *b"behkuna1";
 
-/// The offset of the boot's id in the journal's file.
+/// The offset of the boot's id in the table's file.
 const BOOT: u64 = 64;
 
 /// What a file is.
@@ -23,49 +30,118 @@ pub struct Header {
 }
 
 /// Writes what a file is, and makes it durable. The mark is written last.
-pub fn write_header<F: Files>(files: &mut F, header: &Header) -> Result<(), FileFault> {
+pub fn write_header<F: Files>(files: &mut F, header: &Header) -> Result<(), FileFault>
+    ensures stays { F.known files.old → F.known files.new }
+    ensures header { F.known files.old → OnOk result (HasHeader (F.seen files.new header.now.number) header.now) }
+{
     let number = header.number;
-    files.write_at(number, 8, &header.identity)?;
+    write_identity(files, number, &header.identity)?;
     files.write_at(number, 24, &[number])?;
-    files.write_at(number, 25, &header.unit_bytes.to_le_bytes())?;
-    files.write_at(number, 29, &header.count.to_le_bytes())?;
+    write_number(files, number, 25, header.unit_bytes)?;
+    write_number(files, number, 29, header.count)?;
     files.sync(number)?;
     files.write_at(number, 0, &MARK)?;
     files.sync(number)
 }
 
+// Writes the disk's identity.
+fn write_identity<F: Files>(files: &mut F, number: u8, identity: &[u8; 16]) -> Result<(), FileFault>
+    ensures stays { F.known files.old → F.known files.new }
+    ensures wrote { F.known files.old → OnOk result (Wrote number 8 identity.now (F.seen files.old) (F.seen files.new)) }
+    ensures long { length identity.now ≡ 16 }
+{
+    files.write_at(number, 8, identity)
+}
+
+// Writes a number of four bytes.
+fn write_number<F: Files>(files: &mut F, number: u8, at: u64, value: u32) -> Result<(), FileFault>
+    ensures stays { F.known files.old → F.known files.new }
+    ensures wrote { F.known files.old → OnOk result (Wrote number at (to_le_bytes w32 value) (F.seen files.old) (F.seen files.new)) }
+    ensures small { value < 2 ^ 32 }
+{
+    files.write_at(number, at, &value.to_le_bytes())
+}
+
 /// What a file is; none if it isn't marked as a vault's.
-pub fn read_header<F: Files>(files: &mut F, number: u8) -> Result<Option<Header>, FileFault> {
+pub fn read_header<F: Files>(files: &mut F, number: u8) -> Result<Option<Header>, FileFault>
+    ensures stays { F.known files.old → F.known files.new }
+    ensures header { F.known files.old → IfOk result (λ found. IfSome found (λ header. HasHeader (F.seen files.old number) header)) }
+    ensures none { F.known files.old → IfOk result (λ found. IfNone found (part (F.seen files.old number) 0 8 ≢ the_mark)) }
+    ensures seen { F.known files.old → F.seen files.new ≡ F.seen files.old }
+{
     let mut mark = [0; 8];
     let mut identity = [0; 16];
     let mut own = [0; 1];
-    let mut unit_bytes = [0; 4];
-    let mut count = [0; 4];
-    files.read_at(number, 0, &mut mark)?;
-    files.read_at(number, 8, &mut identity)?;
-    files.read_at(number, 24, &mut own)?;
-    files.read_at(number, 25, &mut unit_bytes)?;
-    files.read_at(number, 29, &mut count)?;
+    read_part(files, number, 0, &mut mark)?;
+    read_part(files, number, 8, &mut identity)?;
+    read_part(files, number, 24, &mut own)?;
+    let unit_bytes = read_number(files, number, 25)?;
+    let count = read_number(files, number, 29)?;
     if mark != MARK {
         return Ok(None);
     }
     Ok(Some(Header {
         identity,
         number: own[0],
-        unit_bytes: u32::from_le_bytes(unit_bytes),
-        count: u32::from_le_bytes(count),
+        unit_bytes,
+        count,
     }))
 }
 
-// Whether the journal was last opened in this boot.
-pub(crate) fn is_boot<F: Files>(files: &mut F, boot: &[u8; 16]) -> Result<bool, FileFault> {
+// Reads bytes from an offset on.
+pub(crate) fn read_part<F: Files>(
+    files: &mut F,
+    number: u8,
+    at: u64,
+    out: &mut [u8],
+) -> Result<(), FileFault>
+    ensures stays { F.known files.old → F.known files.new }
+    ensures bytes { F.known files.old → OnOk result (out.new ≡ part (F.seen files.old number) at (length out.old)) }
+    ensures seen { F.known files.old → F.seen files.new ≡ F.seen files.old }
+    ensures time { F.known files.old
+        → (stop : Stop) → Elapses (F.moment files.old) (F.moment files.new) (F.left_since files.old stop) (F.left_since files.new stop)
+        (F.may_leave files.old stop) (F.may_leave files.new stop) }
+    ensures cause { F.known files.old → HasFault (F.faults files.old) (F.faults files.new) result }
+{
+    files.read_at(number, at, out)
+}
+
+// Reads a number of four bytes.
+fn read_number<F: Files>(files: &mut F, number: u8, at: u64) -> Result<u32, FileFault>
+    ensures stays { F.known files.old → F.known files.new }
+    ensures value { F.known files.old → IfOk result (λ value. value ≡ number_at (F.seen files.old number) at) }
+    ensures seen { F.known files.old → F.seen files.new ≡ F.seen files.old }
+{
+    let mut bytes = [0; 4];
+    read_part(files, number, at, &mut bytes)?;
+    Ok(u32::from_le_bytes(bytes))
+}
+
+// Whether the disk was last opened in this boot.
+pub(crate) fn is_boot<F: Files>(files: &mut F, boot: &[u8; 16]) -> Result<bool, FileFault>
+    ensures stays { F.known files.old → F.known files.new }
+    ensures is { F.known files.old → IfOk result (λ same. IsTrue same ↔ (boot_in (F.seen files.old) ≡ boot.now)) }
+    ensures seen { F.known files.old → F.seen files.new ≡ F.seen files.old }
+    ensures time { F.known files.old
+        → (stop : Stop) → Elapses (F.moment files.old) (F.moment files.new) (F.left_since files.old stop) (F.left_since files.new stop)
+        (F.may_leave files.old stop) (F.may_leave files.new stop) }
+    ensures cause { F.known files.old → HasFault (F.faults files.old) (F.faults files.new) result }
+{
     let mut last = [0; 16];
-    files.read_at(JOURNAL, BOOT, &mut last)?;
+    read_part(files, TABLE, BOOT, &mut last)?;
     Ok(last == *boot)
 }
 
-// Writes the boot in which the journal is opened, and makes it durable.
-pub(crate) fn put_boot<F: Files>(files: &mut F, boot: &[u8; 16]) -> Result<(), FileFault> {
-    files.write_at(JOURNAL, BOOT, boot)?;
-    files.sync(JOURNAL)
+// Writes the boot in which the disk is opened, and makes it durable.
+pub(crate) fn put_boot<F: Files>(files: &mut F, boot: &[u8; 16]) -> Result<(), FileFault>
+    ensures stays { F.known files.old → F.known files.new }
+    ensures behind { F.known files.old → SameBehind 16 (F.seen files.old) (F.seen files.new) }
+    ensures time { F.known files.old
+        → (stop : Stop) → Elapses (F.moment files.old) (F.moment files.new) (F.left_since files.old stop) (F.left_since files.new stop)
+        (behind_at 16 (F.may_leave files.old stop)) (F.may_leave files.new stop) }
+    ensures cause { F.known files.old → HasFault (F.faults files.old) (F.faults files.new) result }
+    ensures long { length boot.now ≡ 16 }
+{
+    files.write_at(TABLE, BOOT, boot)?;
+    files.sync(TABLE)
 }

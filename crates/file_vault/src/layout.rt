@@ -1,5 +1,5 @@
 // Where units lie in the files.
-ghost use Rattle.std.specs.Prelude.{◌≡◌, ◌+◌, ◌*◌, ◌<◌, ◌^◌, length};
+ghost use Rattle.std.specs.Prelude.{◌≡◌, ◌≤◌, ◌+◌, ◌*◌, ◌<◌, ◌^◌, length, IfSome, IfNone};
 ghost use Rattle.file_vault.specs.Layouts.{count_of, size_of, offset_of};
 
 use extent_groups::Place;
@@ -33,10 +33,10 @@ impl Layout {
         if drive == TABLE {
             return 1;
         }
-        match self.counts.get(drive as usize) {
-            Some(count) => *count,
-            None => 0,
+        if drive > TABLE {
+            return 0;
         }
+        self.counts[drive as usize]
     }
 
     /// Bytes of a unit of a drive.
@@ -47,6 +47,19 @@ impl Layout {
             self.table_bytes
         } else {
             self.unit_bytes
+        }
+    }
+
+    /// Bytes of the unit at a place; none where no unit is.
+    pub fn size_at(&self, place: Place) -> Option<usize>
+        ensures size { IfSome result (λ size. size ≡ size_of self.now.unit_bytes self.now.table_bytes place.drive) }
+        ensures there { IfSome result (λ size. (place.drive ≤ 16) × (place.address < count_of self.now.counts place.drive)) }
+        ensures none { IfNone result (count_of self.now.counts place.drive ≤ place.address) }
+    {
+        if place.address < self.count(place.drive) {
+            Some(self.size(place.drive) as usize)
+        } else {
+            None
         }
     }
 

@@ -1,16 +1,19 @@
 //! A vault over files, and files in memory that a stop leaves in each way that real ones may be left.
 #![tactic(auto)]
 
+mod chain;
 mod files;
 mod header;
 mod journal;
 mod layout;
 mod mem_files;
+mod over_files;
 mod real_files;
+mod recovery;
 
 pub use files::{FileFault, Files};
 pub use header::{Header, read_header, write_header};
-pub use journal::FileVault;
 pub use layout::{HEADER, JOURNAL, Layout};
 pub use mem_files::MemFiles;
+pub use over_files::FileVault;
 pub use real_files::RealFiles;

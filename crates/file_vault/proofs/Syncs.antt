@@ -1,0 +1,26 @@
+-- The files of drives are made durable, one after the other.
+use Rattle.std.proofs.Common.{◌≡◌, ◌≢◌, inl, inr, ℕ, ◌+◌, Bool, false, List, sym, subst, arith, get_or}
+use Rattle.vault.specs.declared.store.Stop.{Stop}
+use Rattle.vault.specs.Images.{is_lost}
+use Rattle.vault.specs.Moments.{Within}
+use Rattle.file_vault.specs.Folders.{Folder, HasFile}
+use Rattle.file_vault.specs.Vaults.{AreSynced}
+use Rattle.file_vault.proofs.Puts.{below_or}
+
+-- none yet, and fewer outcomes
+pub none_synced : (lost : List Bool) (counts : List ℕ) (f : Folder) (outcomes : Stop → Folder → Type 0) → AreSynced lost counts f outcomes 0
+none_synced lost counts f outcomes stop d low = absurd (omega (arith, low))
+
+pub fewer_synced : (lost : List Bool) (counts : List ℕ) (f : Folder) (first later : Stop → Folder → Type 0) (count : ℕ) → AreSynced lost counts f first count → ((stop : Stop) → Within (later stop) (first stop)) → AreSynced lost counts f later count
+fewer_synced lost counts f first later count so_far within stop d low live some g now = so_far stop d low live some g (within stop g now)
+
+-- one more, which was synced or needn't be
+pub synced_more : (lost : List Bool) (counts : List ℕ) (f : Folder) (first later : Stop → Folder → Type 0) (count : ℕ) → AreSynced lost counts f first count → ((stop : Stop) → Within (later stop) (first stop))
+    → ((stop : Stop) → is_lost lost count ≡ false → get_or counts count 0 ≢ 0 → HasFile count f (later stop)) → AreSynced lost counts f later (count + 1)
+synced_more lost counts f first later count so_far within now stop d low live some = elim (below_or d count) [
+  | inl under ↦ fewer_synced lost counts f first later count so_far within stop d under live some
+  | inr rest ↦ elim rest [
+    | inl e ↦ subst (λ n. HasFile n f (later stop)) (sym e) (now stop (subst (λ n. is_lost lost n ≡ false) e live) (subst (λ n. get_or counts n 0 ≢ 0) e some))
+    | inr (j, e) ↦ absurd (omega (arith, e, low))
+  ]
+]

@@ -1,0 +1,23 @@
+use Rattle.std.proofs.Common.{arith, refl, sym, []}
+use Rattle.std.proofs.lemmas.Bool.{false≢true}
+use Rattle.file_vault.specs.Vaults.{plan_of}
+use Rattle.file_vault.proofs.Flushing.{sound_seen}
+use Rattle.file_vault.proofs.Gates.{sound_as}
+use Rattle.file_vault.proofs.JournalCalls.{all_durable}
+use Rattle.file_vault.proofs.over_files.FileVault.create.Goals as goal
+
+pub returns-in-Ok-clause-known : goal.returns-in-Ok-clause-known
+returns-in-Ok-clause-known g c = λ known. record {
+  files_known = c.begin.ensures.stays known;
+  batches = λ whole. record { batches = []; sound = sound_as _ _ _ _ _ _ _ _ _ _ (c.in-Ok.ensures.kept known) (sym c.new.ensures.items) refl refl };
+  failed = λ broken. absurd (false≢true broken);
+}
+
+pub returns-in-Ok-clause-cells : goal.returns-in-Ok-clause-cells
+returns-in-Ok-clause-cells g c = λ known. c.in-Ok.ensures.cells known (plan_of c.args.layout)
+
+pub returns-in-Ok-clause-empty : goal.returns-in-Ok-clause-empty
+returns-in-Ok-clause-empty g c = λ known. sound_seen g.F.Files.seen g.F.Files.may_leave c.begin.new.files [] [] 4096 0 (c.in-Ok.ensures.kept known)
+
+pub returns-in-Ok-clause-durable : goal.returns-in-Ok-clause-durable
+returns-in-Ok-clause-durable g c = λ known. all_durable (plan_of c.args.layout) g.F.Files.seen g.F.Files.may_leave c.begin.new.files [] [] 4096 0 (c.in-Ok.ensures.kept known) (omega arith)
