@@ -1,5 +1,7 @@
 -- When hands account for a history.
-use Rattle.std.specs.Prelude.{◌≡◌, ℕ, List, [], ◌∷◌, Contains}
+use Rattle.std.specs.Prelude.{◌≡◌, ◌≢◌, ℕ, ◌==◌, ◌<◌, List, [], ◌∷◌, Bool, true, false, Option, Some, None, IfNone}
+use Rattle.std.specs.List.{list_any}
+use Rattle.history.specs.declared.view.Entry.{Entry}
 use Rattle.history.specs.Entries.{Carried, Course, IsWhole}
 use Rattle.slot_tables.specs.Views.{ArrayView}
 use Rattle.array_book.specs.Acts.{Act, IsEndOf}
@@ -17,5 +19,19 @@ pub record IsHistoryOf (hands : List (Carried Act)) (keeper : Course Act) (array
   pub whole : AreWhole keeper hands
 
 -- one of the hands has this number
-abbrev pub IsAmong : ℕ → List (Carried Act) → Type 0
-IsAmong n hands = (hand : Carried Act) × Contains hands hand × (hand.number ≡ n)
+abbrev pub has_number : List (Carried Act) → ℕ → Bool
+has_number hands n = list_any (λ hand. hand.number == n) hands
+
+-- every entry is of one of these hands
+abbrev pub AreTheirs : List (Entry Act) → List (Carried Act) → Type 0
+AreTheirs [] hands = Unit {0}
+AreTheirs (e ∷ es) hands = (has_number hands e.by ≡ true) × AreTheirs es hands
+
+-- the lowest number below `hired` that no hand has; 0 where there is no hand
+abbrev pub IsLowestMissing : ℕ → List (Carried Act) → Option ℕ → Type 0
+IsLowestMissing hired hands None = (hands ≢ []) × ((n : ℕ) → n < hired → has_number hands n ≡ true)
+IsLowestMissing hired hands (Some m) = (has_number hands m ≡ false) × ((n : ℕ) → n < m → has_number hands n ≡ true) × ((hands ≢ []) → m < hired)
+
+-- which hand that was hired isn't among these; where it is none, every entry of the history is of one of these hands
+abbrev pub IsMissing : Course Act → List (Carried Act) → Option ℕ → Type 0
+IsMissing keeper hands r = IsLowestMissing keeper.hired hands r × IfNone r (AreTheirs keeper.log hands)

@@ -100,6 +100,28 @@ impl<D: Drive, N: slot_words::Naming + Sizes, A: map_words::Naming, B: map_words
         })
     }
 
+    // What the Book was made of, once no worker is left.
+    pub(crate) fn into_parts(self) -> BookParts<D, N, A, B>
+        ensures { IsEndOf result.3.1.log result.0 }
+    {
+        let Book {
+            words,
+            even,
+            odd,
+            history,
+            kept,
+            mirrors: _,
+            blocks: _,
+            payload: _,
+        } = self;
+        let Kept {
+            array,
+            planner: _,
+            keeper,
+        } = kept.into_inner();
+        (array, words, (even, odd), (history, keeper))
+    }
+
     /// Splits what these hands have, for one worker more: half of each share goes to the new hands, with a hand of the history. That
     /// comes back where a Taker has no share left to split, and these hands keep theirs.
     #[tactic(auto, using(crate::proofs::Halves::together_again))]

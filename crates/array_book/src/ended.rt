@@ -1,9 +1,10 @@
 // What workers return when they have ended, and all of it joined.
-ghost use Rattle.std.specs.Prelude.{◌≡◌, ◌+◌, ◌++◌, ◌∷◌, [], IfSome, IfNone, map};
+ghost use Rattle.std.specs.Prelude.{◌≡◌, ◌==◌, ◌+◌, ◌++◌, ◌∷◌, [], IfSome, IfNone, map};
+ghost use Rattle.std.specs.List.{list_any};
 ghost use Rattle.array_book.specs.Settling.{taken_by, shares_of};
 ghost use Rattle.array_book.specs.Passes.{joined};
 ghost use Rattle.history.specs.Entries.{IsWhole};
-ghost use Rattle.array_book.specs.Whole.{AreWhole};
+ghost use Rattle.array_book.specs.Whole.{AreWhole, IsLowestMissing};
 
 use crate::claim::Sizes;
 use crate::deed::Deed;
@@ -66,4 +67,33 @@ pub fn join_all<N: slot_words::Naming + Sizes, A: map_words::Naming, B: map_word
         keeper.check(history, &mut hand);
     }
     keeper.check(history, &mut first.hand);
+}
+
+/// The lowest number of a hand that was hired and isn't among these, if there is one; 0 where nobody came.
+pub(crate) fn lowest_missing<
+    N: slot_words::Naming + Sizes,
+    A: map_words::Naming,
+    B: map_words::Naming,
+>(hired: u64, ended: &[Ended<N, A, B>]) -> Option<u64>
+    ensures { IsLowestMissing hired (map (λ e. e.hand) ended.now) result }
+{
+    if ended.is_empty() {
+        return Some(0);
+    }
+    for number in 0..hired {
+        if !has_hand(ended, number) {
+            return Some(number);
+        }
+    }
+    None
+}
+
+// Whether the hand of this number is among these.
+fn has_hand<N: slot_words::Naming + Sizes, A: map_words::Naming, B: map_words::Naming>(
+    ended: &[Ended<N, A, B>],
+    number: u64,
+) -> bool
+    ensures { result ≡ list_any (λ e. e.hand.number == number) ended.now }
+{
+    ended.iter().any(|one| one.hand.number() == number)
 }

@@ -1,5 +1,5 @@
 // What is left of a Book when its workers have ended.
-ghost use Rattle.std.specs.Prelude.{◌≡◌, ◌++◌, map, IfOk, IfErr, MatchResult};
+ghost use Rattle.std.specs.Prelude.{◌≡◌, ◌++◌, map, IfOk, IfErr, OnOk, MatchResult};
 ghost use Rattle.slot_tables.specs.Represents.{ShowsArray};
 ghost use Rattle.slot_tables.specs.Views.{key_at};
 ghost use Rattle.flat_machine.specs.Flat.{Flat};
@@ -7,17 +7,17 @@ ghost use Rattle.map_join.specs.Maps.{IsMapOf};
 ghost use Rattle.map_words.specs.TakeRule.{whole};
 ghost use Rattle.array_book.specs.Passes.{all_joined};
 ghost use Rattle.array_book.specs.Settling.{taken_by, shares_of, IsUnsettled};
-ghost use Rattle.array_book.specs.Whole.{IsHistoryOf};
+ghost use Rattle.array_book.specs.Whole.{AreWhole, IsHistoryOf, IsMissing};
 
 use crate::book::Book;
 use crate::claim::{Claim, Sizes};
 use crate::closing::close_and_compare;
 use crate::deed::Deed;
-use crate::ended::{Ended, join_all, parted};
-use crate::kept::Kept;
+use crate::ended::{Ended, join_all, lowest_missing, parted};
 use crate::settle_fault::SettleFault;
 use extents::Drive;
 use history::{History, Keeper};
+use map_words::MapWords;
 use slot_words::{Pass, SlotWords};
 use std::alloc::Global;
 use step_core::Array;
@@ -30,6 +30,8 @@ pub struct Settled<D: Drive, N: slot_words::Naming + Sizes> {
     pub pass: Option<Pass<N>>,
     pub history: History<N, Deed>,
     pub keeper: Keeper<N, Deed>,
+    /// The lowest number of a hand of the history that was hired and didn't come, if there is one; 0 where nobody came.
+    pub missing: Option<u64>,
 }
 
 /// Ends a Book: joins what its workers had, closes both maps of words, and tests whether what was taken, and nothing else, has
@@ -45,61 +47,57 @@ pub fn settle<D: Drive, N: slot_words::Naming + Sizes, A: map_words::Naming, B: 
         (taken_by (map (λ e. e.even) ended.items) ++ taken_by (map (λ e. e.odd) ended.items)) (key_at e.1.array) e.0) }
     ensures history { MatchResult result (λ settled. IsHistoryOf (map (λ e. e.hand) ended.items) settled.keeper settled.array)
         (λ e. IsHistoryOf (map (λ e. e.hand) ended.items) e.1.keeper e.1.array) }
+    ensures missing { MatchResult result (λ settled. IsMissing settled.keeper (map (λ e. e.hand) ended.items) settled.missing)
+        (λ e. IsMissing e.1.keeper (map (λ e. e.hand) ended.items) e.1.missing) }
     ensures pass { MatchResult result (λ settled. settled.pass ≡ all_joined (map (λ e. e.pass) ended.items))
         (λ e. e.1.pass ≡ all_joined (map (λ e. e.pass) ended.items)) }
     ensures shows { MatchResult result (λ settled. (F : Flat) × ShowsArray settled.array F) (λ e. (F : Flat) × ShowsArray e.1.array F) }
 {
-    let Book {
-        words,
-        even,
-        odd,
-        history,
-        kept,
-        mirrors: _,
-        blocks: _,
-        payload: _,
-    } = book;
-    let kept = kept.into_inner();
-    kept.stands();
-    let Kept {
-        array,
-        planner: _,
-        mut keeper,
-    } = kept;
-    let Some((mut first, rest)) = parted(ended) else {
-        let settled = Settled {
-            array,
-            words,
-            pass: None,
-            history,
-            keeper,
-        };
-        return Err((SettleFault::NotWhole(0), settled));
-    };
-    join_all(
-        &words,
-        (&even, &odd),
-        &history,
-        &mut keeper,
-        &mut first,
-        rest,
-    );
-    let Ended {
-        pass,
-        even: one,
-        odd: other,
-        hand: _,
-    } = first;
-    let told = close_and_compare(alloc, (even, one), (odd, other), &array);
+    let (array, words, maps, (history, mut keeper)) = book.into_parts();
+    let missing = lowest_missing(keeper.hired(), &ended);
+    let (told, pass) = close_all(alloc, &words, maps, &history, &mut keeper, ended, &array);
     let settled = Settled {
         array,
         words,
-        pass: Some(pass),
+        pass,
         history,
         keeper,
+        missing,
     };
     match told {
         Ok(()) => Ok(settled),
         Err(fault) => Err((fault, settled)),
     }
+}
+
+// Joins what all that ended had, compares their hands with the history, and closes both maps. The Pass is none where nobody came.
+fn close_all<D: Drive, N: slot_words::Naming + Sizes, A: map_words::Naming, B: map_words::Naming>(
+    alloc: Global,
+    words: &SlotWords<N>,
+    maps: (MapWords<A>, MapWords<B>),
+    history: &History<N, Deed>,
+    keeper: &mut Keeper<N, Deed>,
+    ended: Vec<Ended<N, A, B>>,
+    array: &Array<D, Claim<N>>,
+) -> (Result<(), SettleFault>, Option<Pass<N>>)
+    ensures ok { OnOk result.0 ((shares_of (map (λ e. e.even) ended.items) ≡ whole) × (shares_of (map (λ e. e.odd) ended.items) ≡ whole)
+        × IsMapOf (taken_by (map (λ e. e.even) ended.items) ++ taken_by (map (λ e. e.odd) ended.items)) (key_at array.now)) }
+    ensures err { IfErr result.0 (IsUnsettled (shares_of (map (λ e. e.even) ended.items)) (shares_of (map (λ e. e.odd) ended.items))
+        (taken_by (map (λ e. e.even) ended.items) ++ taken_by (map (λ e. e.odd) ended.items)) (key_at array.now)) }
+    ensures pass { result.1 ≡ all_joined (map (λ e. e.pass) ended.items) }
+    ensures keeper { keeper.new ≡ keeper.old }
+    ensures whole { AreWhole keeper.old (map (λ e. e.hand) ended.items) }
+{
+    let Some((mut first, rest)) = parted(ended) else {
+        return (Err(SettleFault::NotWhole(0)), None);
+    };
+    join_all(words, (&maps.0, &maps.1), history, keeper, &mut first, rest);
+    let Ended {
+        pass,
+        even,
+        odd,
+        hand: _,
+    } = first;
+    let told = close_and_compare(alloc, (maps.0, even), (maps.1, odd), array);
+    (told, Some(pass))
 }

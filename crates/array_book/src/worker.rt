@@ -198,7 +198,8 @@ impl<
 
     // A claim of the first of these slots that can be claimed.
     fn claim(&mut self, slots: &[u16]) -> Option<slot_words::Claim<N>>
-        ensures rest { (self.new.hand ≡ self.old.hand) × (self.new.number ≡ self.old.number) × (self.new.book ≡ self.old.book) × (self.new.even ≡ self.old.even) × (self.new.odd ≡ self.old.odd) }
+        ensures rest { (self.new.hand ≡ self.old.hand) × (self.new.number ≡ self.old.number) × (self.new.book ≡ self.old.book)
+            × (self.new.even ≡ self.old.even) × (self.new.odd ≡ self.old.odd) }
     {
         match self.book.words.claim_first(&mut self.pass, slots) {
             Ok(claim) => Some(claim),
@@ -269,7 +270,8 @@ impl<
         ensures ok { IfOk result (λ done. tried ≡ Ok done) }
         ensures err { IfErr result (λ fault. MatchResult tried (λ done. ⊥) (λ e. fault ≡ fault_of e.refusal)) }
         ensures fault { result ≢ Err (Core refusal.Memory) }
-        ensures rest { (self.new.hand ≡ self.old.hand) × (self.new.number ≡ self.old.number) × (self.new.book ≡ self.old.book) × (self.new.even ≡ self.old.even) × (self.new.odd ≡ self.old.odd) }
+        ensures rest { (self.new.hand ≡ self.old.hand) × (self.new.number ≡ self.old.number) × (self.new.book ≡ self.old.book)
+            × (self.new.even ≡ self.old.even) × (self.new.odd ≡ self.old.odd) }
     {
         match tried {
             Ok(done) => Ok(done),

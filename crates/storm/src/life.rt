@@ -6,7 +6,7 @@ ghost use Rattle.slot_tables.specs.Views.{key_at};
 ghost use Rattle.flat_machine.specs.Flat.{Flat};
 ghost use Rattle.map_words.specs.Places.{blocks_of};
 ghost use Rattle.slot_words.specs.Places.{slots_of};
-ghost use Rattle.array_book.specs.Whole.{IsHistoryOf};
+ghost use Rattle.array_book.specs.Whole.{IsHistoryOf, IsMissing};
 ghost use Rattle.storm.specs.Ending.{IsEnding};
 
 use crate::crew::{Crew, run_all};
@@ -195,6 +195,7 @@ fn close<N: slot_words::Naming + Sizes, A: map_words::Naming, B: map_words::Nami
         pass: _,
         history: _,
         keeper: _,
+        missing: _,
     } = settled;
     release_all(&words, spare, array);
     told
@@ -211,6 +212,7 @@ fn conclude<N: slot_words::Naming + Sizes, A: map_words::Naming, B: map_words::N
     ensures ok { IfOk result.0 (IsEnding (map (λ e. e.even) ended.items) (map (λ e. e.odd) ended.items) (key_at result.1.array)) }
     ensures err { IfErr result.0 (λ fault. (block : ℕ) → fault ≢ StormFault.Settle (settle_fault.Differs block)) }
     ensures history { IsHistoryOf (map (λ e. e.hand) ended.items) result.1.keeper result.1.array }
+    ensures missing { IsMissing result.1.keeper (map (λ e. e.hand) ended.items) result.1.missing }
 {
     match settle(alloc, book, ended) {
         Ok(settled) => {

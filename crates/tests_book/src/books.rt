@@ -4,8 +4,8 @@ ghost use Rattle.map_words.specs.Places.{blocks_of};
 ghost use Rattle.slot_words.specs.Places.{slots_of};
 
 use crate::rig::{
-    Layout, Story, Tables, laid_out, named, new_history, new_map, new_tables, play, released,
-    renewed,
+    Layout, Story, Tables, hired, laid_out, named, new_history, new_map, new_tables, play,
+    released, renewed,
 };
 use array_book::{Deed, Settled, Sizes, begin};
 use history::Opened;
@@ -103,16 +103,19 @@ fn both<
     let mut spare = bench.words.split(&mut bench.shares.pass);
     let mut claims = claimed(rt, alloc, &bench.words, &mut spare, count);
     let array = laid_out(rt, alloc, Layout::Storm);
-    let (history, keeper, _hand) = begin(opened, &array);
-    let (settled, left) = play(rt, alloc, (array, history, keeper), bench, &[4], stories.0);
+    let (history, keeper, hand) = begin(opened, &array);
+    let begun = (array, history, keeper, hand);
+    let (settled, left) = play(rt, alloc, begun, bench, &[4], stories.0);
     assert!(rt; settled == Ok(()));
     let Settled {
         array,
         words,
         pass,
         history,
-        keeper,
+        mut keeper,
+        missing,
     } = left;
+    assert!(rt; missing == None);
     let Some(pass) = pass else {
         panic!(rt; "no Pass came back")
     };
@@ -120,7 +123,9 @@ fn both<
     let shape = array.shape();
     assert!(rt; shape.blocks == 16 && shape.payload == 40);
     let bench = renewed::<N, C, D>(words, pass, maps.0, maps.1);
-    let (settled, left) = play(rt, alloc, (array, history, keeper), bench, &[4], stories.1);
+    let hand = hired(rt, &history, &mut keeper);
+    let begun = (array, history, keeper, hand);
+    let (settled, left) = play(rt, alloc, begun, bench, &[4], stories.1);
     assert!(rt; settled == Ok(()));
     let Settled {
         array,
@@ -128,7 +133,10 @@ fn both<
         pass: _,
         history: _,
         keeper: _,
+        missing,
     } = left;
+    // The first Book's hand ended with it.
+    assert!(rt; missing == Some(0));
     while let Some(claim) = claims.pop() {
         words.release(&mut spare, claim);
     }

@@ -204,8 +204,9 @@ fn refuses<
     let (tables, opened) = tables;
     let mut bench = named::<N, A, B>(tables);
     let array = restarted(rt, alloc, &bench.words, &mut bench.shares.pass, case);
-    let (history, keeper, _hand) = begin(opened, &array);
-    let (settled, left) = play(rt, alloc, (array, history, keeper), bench, &[4], case);
+    let (history, keeper, hand) = begin(opened, &array);
+    let begun = (array, history, keeper, hand);
+    let (settled, left) = play(rt, alloc, begun, bench, &[4], case);
     assert!(rt; settled == Err(SettleFault::Differs(3)));
     let Settled {
         array,
@@ -213,6 +214,7 @@ fn refuses<
         pass,
         history: _,
         keeper: _,
+        missing: _,
     } = left;
     let Some(mut pass) = pass else {
         panic!(rt; "no Pass came back")

@@ -290,8 +290,8 @@ pub(crate) fn new_history(rt: &impl Abort, alloc: Global) -> Opened<Deed> {
     opened
 }
 
-// One hand more.
-fn hired<N: Sizes, R: Abort>(
+/// One hand more.
+pub(crate) fn hired<N: Sizes, R: Abort>(
     rt: &R,
     history: &History<N, Deed>,
     keeper: &mut Keeper<N, Deed>,
@@ -304,12 +304,13 @@ fn hired<N: Sizes, R: Abort>(
     hand
 }
 
-// Hands for this many workers, or for one where there is none.
+// Hands for this many workers, or for one where there is none. The last has this hand of the history.
 fn parted<N: slot_words::Naming + Sizes, A: map_words::Naming, B: map_words::Naming, R: Abort>(
     rt: &R,
     alloc: Global,
     words: (&SlotWords<N>, &MapWords<A>, &MapWords<B>, &History<N, Deed>),
     keeper: &mut Keeper<N, Deed>,
+    hand: Hand<N, Deed>,
     shares: Shares<N, A, B>,
     count: usize,
 ) -> Vec<Ended<N, A, B>>
@@ -335,7 +336,7 @@ fn parted<N: slot_words::Naming + Sizes, A: map_words::Naming, B: map_words::Nam
         pass,
         even,
         odd,
-        hand: hired(rt, history, keeper),
+        hand,
     };
     assert!(rt; all.push(last).is_ok());
     all
@@ -383,6 +384,14 @@ fn played<
     ended
 }
 
+/// An array with the history that leads to it, its keeper, and a hand.
+pub(crate) type Begun<N> = (
+    Array<MemDrive, Claim<N>>,
+    History<N, Deed>,
+    Keeper<N, Deed>,
+    Hand<N, Deed>,
+);
+
 /// How a Book around an array is settled whose workers, of these numbers, played a story, and what is left of it.
 pub(crate) fn play<
     N: slot_words::Naming + Sizes + Send + Sync,
@@ -393,7 +402,7 @@ pub(crate) fn play<
 >(
     rt: &R,
     alloc: Global,
-    array: (Array<MemDrive, Claim<N>>, History<N, Deed>, Keeper<N, Deed>),
+    array: Begun<N>,
     bench: Bench<N, A, B>,
     numbers: &[u8],
     story: &S,
@@ -405,7 +414,7 @@ pub(crate) fn play<
     requires blocks { (blocks_of A.table ≡ 16) × (blocks_of B.table ≡ 16) }
     ensures course { IsEndOf result.1.keeper.log result.1.array }
 {
-    let (array, history, mut keeper) = array;
+    let (array, history, mut keeper, hand) = array;
     let Bench {
         words,
         even,
@@ -417,6 +426,7 @@ pub(crate) fn play<
         alloc,
         (&words, &even, &odd, &history),
         &mut keeper,
+        hand,
         shares,
         numbers.len(),
     );
@@ -504,14 +514,17 @@ fn live<
         bench.even.take(&mut bench.shares.even, record);
     }
     let array = laid_out(rt, alloc, story.layout());
-    let (history, keeper, _hand) = begin(opened, &array);
-    let (settled, left) = play(rt, alloc, (array, history, keeper), bench, numbers, story);
+    let (history, keeper, hand) = begin(opened, &array);
+    let begun = (array, history, keeper, hand);
+    let (settled, left) = play(rt, alloc, begun, bench, numbers, story);
     let Settled {
         array,
         words,
         pass: _,
         history: _,
         keeper: _,
+        missing,
     } = left;
+    assert!(rt; missing.is_none() != numbers.is_empty());
     (settled, released(rt, &words, &mut spare, array))
 }
