@@ -6,13 +6,15 @@ use Rattle.std.proofs.lemmas.List.{take_all, take-append-le}
 use Rattle.extent_groups.specs.Cells.{Cells}
 use Rattle.extent_groups.specs.Planned.{Wanted, after}
 use Rattle.vault.specs.Images.{Image, Stands, recovered, flat}
-use Rattle.vault.specs.Moments.{IsLogged, StandsForSome}
+use Rattle.vault.specs.Moments.{IsLogged, IsRefused, StandsForSome}
+use Rattle.vault.specs.declared.store.VaultError.{VaultError}
+use Rattle.vault.specs.declared.store.VaultError.TheVariants as error
 use Rattle.vault.specs.declared.store.Stop.{Stop}
 use Rattle.vault.proofs.Writes.{after_last, front_stands}
 use Rattle.history.specs.Entries.{Course}
 use Rattle.array_parts.specs.Views.{DriveView}
 use Rattle.cached_drive.specs.Saving.{Units}
-use Rattle.journaled_store.specs.Steps.{HasDrives, HasMarks, IsBeforeOrNow, IsInStep, IsKept, IsLive, IsNoted}
+use Rattle.journaled_store.specs.Steps.{HasDrives, HasMarks, IsBeforeOrNow, IsInStep, IsKept, IsLive, IsNoted, UnlessSync, fault_of}
 use Rattle.journaled_store.proofs.Leading.{step_same}
 
 pub when_ok : {T E P : Type 0} (r : Result T E) → is_ok r ≡ true → OnOk r P → P
@@ -51,3 +53,10 @@ kept_by lost drives marks c has noted told = record { has = has; marks = marks; 
 pub live_same : (lost : List Bool) (k : Course Units) (marks : List ℕ) (batch : List Wanted) (c d : Cells) → ((drive at : ℕ) → d drive at ≡ after c batch drive at)
     → IsLive lost k marks batch c → IsLive lost k marks [] d
 live_same lost k marks batch c d same live = record { step = step_same lost k batch c d same live.step; noted = same 16 0 ∙ live.noted }
+
+-- a refusal by memory or size leaves what holds where nothing changed
+pub unless_refused : {T : Type 0} (P : Type 0) (r : Result T VaultError) (e : VaultError) → r ≡ Err e → (IsRefused r → P) → UnlessSync (Err (fault_of e)) P
+unless_refused P r error.Memory is same = same (inl is)
+unless_refused P r error.Misfit is same = same (inr is)
+unless_refused P r error.Journal is same = tt
+unless_refused P r (error.Drive d) is same = tt

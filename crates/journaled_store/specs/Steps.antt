@@ -1,5 +1,5 @@
 -- When a vault's units and a batch are those of an array's drives.
-use Rattle.std.specs.Prelude.{◌≡◌, ◌⊎◌, ◌<◌, ◌≤◌, ◌++◌, ℕ, zero, suc, Bool, true, false, Option, Some, List, [], ◌∷◌, map, slice_get, slice_index_or, if◌then◌else◌}
+use Rattle.std.specs.Prelude.{◌≡◌, ◌⊎◌, ◌<◌, ◌≤◌, ◌++◌, ℕ, zero, suc, Bool, true, false, Option, Some, Result, Ok, Err, List, [], ◌∷◌, map, slice_get, slice_index_or, if◌then◌else◌}
 use Rattle.std.proofs.Common.{refl, ◌∙◌}
 use Rattle.extents.specs.Failures.{unsteady}
 use Rattle.extents.specs.Units.{loss}
@@ -7,6 +7,11 @@ use Rattle.extent_groups.specs.Cells.{Cells}
 use Rattle.extent_groups.specs.Planned.{Wanted, after}
 use Rattle.vault.specs.Images.{Image, Stands, is_lost}
 use Rattle.vault.specs.Moments.{StandsForSome}
+use Rattle.vault.specs.declared.store.VaultError.{VaultError}
+use Rattle.vault.specs.declared.store.VaultError.TheVariants as VaultError
+use Rattle.byte_store.specs.Flat.{Flat}
+use Rattle.byte_store.specs.declared.fault.StoreFault.{StoreFault}
+use Rattle.byte_store.specs.declared.fault.StoreFault.TheVariants as StoreFault
 use Rattle.history.specs.declared.view.Entry.{Entry}
 use Rattle.history.specs.Entries.{Course}
 use Rattle.array_parts.specs.Views.{DriveView}
@@ -81,3 +86,25 @@ pub record IsKept (lost : List Bool) (drives : List DriveView) (c : Cells) : Typ
 abbrev pub IsBeforeOrNow : List Bool → Image → ℕ → List DriveView → Image → Type 0
 IsBeforeOrNow lost base low drives i = StandsForSome lost base.cells low base.journal i
     ⊎ ((c : Cells) × Stands lost c i × IsKept lost drives c)
+
+-- what a vault's refusal means for a store
+abbrev pub fault_of : VaultError → StoreFault
+fault_of VaultError.Memory = StoreFault.Memory
+fault_of VaultError.Misfit = StoreFault.Memory
+fault_of VaultError.Journal = StoreFault.Sync
+fault_of (VaultError.Drive d) = StoreFault.Sync
+
+-- it holds, unless the journal failed
+abbrev pub UnlessSync : Result (Unit {0}) StoreFault → Type 0 → Type 0
+UnlessSync (Ok x) P = P
+UnlessSync (Err StoreFault.Sync) P = Unit {0}
+UnlessSync (Err StoreFault.NoSpace) P = P
+UnlessSync (Err StoreFault.Gone) P = P
+UnlessSync (Err StoreFault.Memory) P = P
+
+-- a store that notes itself whether bytes await a flush represents a flat store, where what it is over represents one of these bytes
+pub record Represents (inner : Flat → Type 0) (unsynced : Bool) (F : Flat) : Type 0 where
+  pub under : Flat
+  pub is : inner under
+  pub bytes : F.bytes ≡ under.bytes
+  pub noted : F.unsynced ≡ unsynced

@@ -1,5 +1,5 @@
 // What an array's drives have that no batch of a vault has yet.
-ghost use Rattle.std.specs.Prelude.{◌≡◌, ◌≢◌, ◌≤◌, ◌<◌, ◌+◌, ◌++◌, ◌⊎◌, [], ◌∷◌, ℕ, length, map, slice_set, true, OnOk, OnErr};
+ghost use Rattle.std.specs.Prelude.{◌≡◌, ◌≢◌, ◌≤◌, ◌<◌, ◌+◌, ◌++◌, ◌⊎◌, [], ◌∷◌, ℕ, length, map, slice_set, true, OnOk, OnErr, IfOk};
 ghost use Rattle.array_parts.specs.Views.{DriveView, drive_view};
 ghost use Rattle.journaled_store.specs.Steps.{LeadsTo, views_to, mark_of, table_write};
 
@@ -7,7 +7,7 @@ use cached_drive::{CachedDrive, Saved};
 use extent_groups::Place;
 use extents::{DRIVES, Drive};
 use history::{Chronicle, History, Keeper};
-use std::alloc::AllocError;
+use std::alloc::{AllocError, Global};
 use step_core::Visit;
 use vault::{Batch, TABLE};
 
@@ -25,6 +25,29 @@ pub struct Changes<N: Chronicle> {
     pub(crate) lost: [bool; DRIVES],
     /// The table's unit after the batch: a mark for each drive.
     pub(crate) noted: [u8; DRIVES],
+}
+
+impl<N: Chronicle> Changes<N> {
+    /// No changes yet, for drives with units of `unit_bytes` bytes each, where the table has these marks. Refused if out of memory.
+    pub fn new(
+        alloc: Global,
+        history: History<N, Saved>,
+        keeper: Keeper<N, Saved>,
+        unit_bytes: usize,
+        noted: [u8; DRIVES],
+    ) -> Result<Changes<N>, AllocError>
+        ensures { IfOk result (λ c. (c.keeper ≡ keeper) × (c.batch ≡ []) × (c.noted ≡ noted)) }
+    {
+        Ok(Changes {
+            history,
+            keeper,
+            batch: Batch::new(alloc),
+            unit: vec![in alloc; 0u8; unit_bytes]?,
+            next: 0,
+            lost: [false; DRIVES],
+            noted,
+        })
+    }
 }
 
 // A drive's mark in the table.

@@ -4,5 +4,7 @@
 mod append;
 mod changes;
 mod publish;
+mod store;
 
 pub use changes::Changes;
+pub use store::JournaledStore;

@@ -4,10 +4,10 @@ ghost use Rattle.extent_groups.specs.Cells.{Cells};
 ghost use Rattle.extent_groups.specs.Planned.{after};
 ghost use Rattle.array_parts.specs.Views.{DriveView};
 ghost use Rattle.vault.specs.Images.{Image, Stands, recovered};
-ghost use Rattle.vault.specs.Moments.{LeavesOnly, IsLogged};
+ghost use Rattle.vault.specs.Moments.{LeavesOnly, IsLogged, StandsForSome};
 ghost use Rattle.vault.specs.declared.store.Stop.{Stop};
 ghost use Rattle.vault.specs.declared.store.Stop.TheVariants.{Killed};
-ghost use Rattle.journaled_store.specs.Steps.{HasDrives, HasMarks, IsBeforeOrNow, IsInStep, IsKept, IsLive, IsNoted};
+ghost use Rattle.journaled_store.specs.Steps.{HasDrives, HasMarks, IsBeforeOrNow, IsInStep, IsKept, IsLive, IsNoted, UnlessSync, fault_of};
 
 use crate::append::append;
 use crate::changes::{Changes, note_lost};
@@ -16,11 +16,11 @@ use byte_store::StoreFault;
 use cached_drive::CachedDrive;
 use extents::DRIVES;
 use history::Chronicle;
-use vault::{Vault, VaultError};
+use vault::{Vault, VaultError, flush};
 
 // What a vault's refusal means for a store.
 fn fault_of(error: VaultError) -> StoreFault
-    ensures { result ≡ StoreFault.Memory → error ≢ VaultError.Journal }
+    ensures { result ≡ fault_of error }
 {
     match error {
         VaultError::Memory | VaultError::Misfit => StoreFault::Memory,
@@ -60,7 +60,7 @@ pub(crate) fn publish<N: Chronicle, V: Vault>(
     ensures stays { V.known vault.old → V.known vault.new }
     ensures same { (store.new.tiers ≡ store.old.tiers) × (store.new.size ≡ store.old.size) × (store.new.unsynced ≡ store.old.unsynced) }
     ensures step { V.known vault.old → (lost : List Bool) → IsLive lost changes.old.keeper changes.old.noted changes.old.batch (recovered (V.seen vault.old))
-        → OnOk result (IsLive lost changes.new.keeper changes.new.noted changes.new.batch (recovered (V.seen vault.new))) }
+        → UnlessSync result (IsLive lost changes.new.keeper changes.new.noted changes.new.batch (recovered (V.seen vault.new))) }
 
     // A kill after Ok leaves all that the drives hold, and which are lost. A loss of power leaves as many batches as it left before.
     ensures kept { V.known vault.old → (lost : List Bool) → IsLive lost changes.old.keeper changes.old.noted changes.old.batch (recovered (V.seen vault.old))
@@ -83,6 +83,22 @@ pub(crate) fn publish<N: Chronicle, V: Vault>(
         return Ok(());
     }
     match append(changes, vault) {
+        Ok(()) => Ok(()),
+        Err(error) => Err(fault_of(error)),
+    }
+}
+
+/// Makes all batches of the journal durable. `Sync` where that failed.
+pub(crate) fn sync<V: Vault>(vault: &mut V) -> Result<(), StoreFault>
+    ensures stays { V.known vault.old → V.known vault.new }
+    ensures seen { V.known vault.old → V.seen vault.new ≡ V.seen vault.old }
+    ensures flushed { V.known vault.old → (lost : List Bool) (stop : Stop) (low : ℕ) → IsLogged V.seen V.may_leave lost stop vault.old low
+        → OnOk result (IsLogged V.seen V.may_leave lost stop vault.new (length (Image.journal (V.seen vault.new)))) }
+    ensures any_moment { V.known vault.old → (lost : List Bool) (stop : Stop) (low : ℕ) → IsLogged V.seen V.may_leave lost stop vault.old low
+        → LeavesOnly V.moment V.left_since stop vault.old vault.new
+        (StandsForSome lost (Image.cells (V.seen vault.old)) low (Image.journal (V.seen vault.old))) }
+{
+    match flush(vault) {
         Ok(()) => Ok(()),
         Err(error) => Err(fault_of(error)),
     }

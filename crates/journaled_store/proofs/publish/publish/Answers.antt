@@ -1,5 +1,6 @@
 use Rattle.std.proofs.Common.{◌≡◌, ◌++◌, ◌∷◌, ℕ, List, Bool, [], refl, sym, ap, subst, ◌∙◌, inl, inr, ⊎_elim}
-use Rattle.std.specs.Prelude.{Some}
+use Rattle.std.specs.Prelude.{Err}
+use Rattle.byte_store.specs.declared.fault.StoreFault.{StoreFault}
 use Rattle.history.specs.Entries.{Course}
 use Rattle.extent_groups.specs.Cells.{Cells}
 use Rattle.extent_groups.specs.Planned.{Wanted, after}
@@ -7,8 +8,8 @@ use Rattle.vault.specs.Images.{Image, recovered}
 use Rattle.vault.specs.Moments.{StandsForSome}
 use Rattle.vault.proofs.Runs.{started, weaker}
 use Rattle.cached_drive.specs.Saving.{Units}
-use Rattle.journaled_store.specs.Steps.{IsBeforeOrNow, IsLive}
-use Rattle.journaled_store.proofs.Publishing.{before_or_all, kept_by, live_same, logged_now}
+use Rattle.journaled_store.specs.Steps.{IsBeforeOrNow, IsLive, UnlessSync}
+use Rattle.journaled_store.proofs.Publishing.{before_or_all, kept_by, live_same, logged_now, unless_refused}
 use Rattle.journaled_store.proofs.publish.publish.Goals as goal
 
 pub returns-then-not-collect-clause-any_moment : goal.returns-then-not-collect-clause-any_moment
@@ -40,6 +41,22 @@ returns-in-Ok-clause-step g c known lost live =
     (subst (λ (b : List Wanted). IsLive lost mid.keeper mid.noted b new) (sym e.empty)
     (live_same lost mid.keeper mid.noted mid.batch old new (e.ok known)
     (record { step = c.collect.ensures.step lost old live.step; noted = c.collect.ensures.noted old live.noted }))))
+
+pub returns-in-Err-clause-step : goal.returns-in-Err-clause-step
+returns-in-Err-clause-step g c known lost live =
+    let v = g.V.Vault in
+    let mid = c.collect.new.changes in
+    let now = c.append.new.changes in
+    let new = recovered (v.seen c.append.new.vault) in
+    let old = recovered (v.seen c.args.vault.now) in
+    let e = c.in-Err.ensures in
+    let still : IsLive lost mid.keeper mid.noted mid.batch old = record { step = c.collect.ensures.step lost old live.step; noted = c.collect.ensures.noted old live.noted } in
+    subst (λ (f : StoreFault). UnlessSync (Err f) (IsLive lost now.keeper now.noted now.batch new)) (sym c.fault_of.ensures)
+    (unless_refused (IsLive lost now.keeper now.noted now.batch new) c.append.result c.in-Err.error c.in-Err.is (λ refused.
+    subst (λ (i : Image). IsLive lost now.keeper now.noted now.batch (recovered i)) (sym (c.append.ensures.refused known refused).finds)
+    (subst (λ (k : Course Units). IsLive lost k now.noted now.batch old) (sym e.keeper)
+    (subst (λ (m : List ℕ). IsLive lost mid.keeper m now.batch old) (sym e.marks.1)
+    (subst (λ (b : List Wanted). IsLive lost mid.keeper mid.noted b old) (sym e.kept) still)))))
 
 pub returns-in-Ok-clause-any_moment : goal.returns-in-Ok-clause-any_moment
 returns-in-Ok-clause-any_moment g c known lost live stop low is =
