@@ -47,6 +47,13 @@ impl<N: Chronicle, V: Vault + Drop> JournaledStore<N, V> {
         }
     }
 
+    /// The vault, which has all that was kept.
+    pub fn into_vault(self) -> V
+        ensures { result ≡ self.vault }
+    {
+        self.vault
+    }
+
     /// Appends one batch of all that the array has written to the journal. `Memory` if out of memory, or if the batch doesn't fit: the
     /// next call has it all. `Sync` where the journal failed.
     pub fn publish(&mut self) -> Result<(), StoreFault>

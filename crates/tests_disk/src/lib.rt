@@ -6,6 +6,8 @@ mod bytes;
 #[cfg(test)]
 mod flushes;
 #[cfg(test)]
+mod journaled;
+#[cfg(test)]
 mod model;
 #[cfg(test)]
 mod rig;

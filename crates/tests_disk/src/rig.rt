@@ -135,6 +135,16 @@ pub(crate) fn store_of<'a>(
             .is_ok();
         assert!(rt; pushed);
     }
+    store_over(rt, alloc, plan, drives)
+}
+
+/// A disk of a plan over drives whose units are all zero.
+pub(crate) fn store_over<D: Drive + Drop>(
+    rt: &impl Abort,
+    alloc: Global,
+    plan: &Plan,
+    drives: Vec<D>,
+) -> ArrayStore<D> {
     let world = world_of(rt, alloc, plan.shape, drives);
     let Ok(mut tiers) = Tiers::new(alloc, world) else {
         panic!(rt; "no tiers")
