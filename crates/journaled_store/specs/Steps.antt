@@ -9,7 +9,6 @@ use Rattle.vault.specs.Images.{Image, Stands, is_lost}
 use Rattle.vault.specs.Moments.{StandsForSome}
 use Rattle.vault.specs.declared.store.VaultError.{VaultError}
 use Rattle.vault.specs.declared.store.VaultError.TheVariants as VaultError
-use Rattle.byte_store.specs.Flat.{Flat}
 use Rattle.byte_store.specs.declared.fault.StoreFault.{StoreFault}
 use Rattle.byte_store.specs.declared.fault.StoreFault.TheVariants as StoreFault
 use Rattle.history.specs.declared.view.Entry.{Entry}
@@ -101,10 +100,3 @@ UnlessSync (Err StoreFault.Sync) P = Unit {0}
 UnlessSync (Err StoreFault.NoSpace) P = P
 UnlessSync (Err StoreFault.Gone) P = P
 UnlessSync (Err StoreFault.Memory) P = P
-
--- a store that notes itself whether bytes await a flush represents a flat store, where what it is over represents one of these bytes
-pub record Represents (inner : Flat → Type 0) (unsynced : Bool) (F : Flat) : Type 0 where
-  pub under : Flat
-  pub is : inner under
-  pub bytes : F.bytes ≡ under.bytes
-  pub noted : F.unsynced ≡ unsynced

@@ -1,10 +1,9 @@
-//! An array's drives in step with a vault: what a call has written is one batch.
+//! An array's drives in step with a vault: what a call has written is one batch of its journal.
 #![tactic(auto)]
 
 mod append;
 mod changes;
 mod publish;
-mod store;
 
 pub use changes::Changes;
-pub use store::JournaledStore;
+pub use publish::{publish, sync};

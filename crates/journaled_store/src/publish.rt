@@ -52,7 +52,7 @@ fn collect<N: Chronicle>(store: &mut ArrayStore<CachedDrive<N>>, changes: &mut C
 
 /// Makes one batch of all that the drives have written and of which are lost, and appends it to the vault's journal. `Memory` if out
 /// of memory, or if the batch doesn't fit: the next call has it all. `Sync` where the journal failed.
-pub(crate) fn publish<N: Chronicle, V: Vault>(
+pub fn publish<N: Chronicle, V: Vault>(
     store: &mut ArrayStore<CachedDrive<N>>,
     changes: &mut Changes<N>,
     vault: &mut V,
@@ -89,7 +89,7 @@ pub(crate) fn publish<N: Chronicle, V: Vault>(
 }
 
 /// Makes all batches of the journal durable. `Sync` where that failed.
-pub(crate) fn sync<V: Vault>(vault: &mut V) -> Result<(), StoreFault>
+pub fn sync<V: Vault>(vault: &mut V) -> Result<(), StoreFault>
     ensures stays { V.known vault.old → V.known vault.new }
     ensures seen { V.known vault.old → V.seen vault.new ≡ V.seen vault.old }
     ensures flushed { V.known vault.old → (lost : List Bool) (stop : Stop) (low : ℕ) → IsLogged V.seen V.may_leave lost stop vault.old low

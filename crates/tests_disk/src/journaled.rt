@@ -2,14 +2,14 @@
 ghost use Rattle.std.specs.Prelude.{◌≡◌, []};
 ghost use Rattle.extents.specs.declared.mem_drive.Condition.TheVariants.{Present};
 
-use crate::model::{agree, write, zero};
+use crate::model::{agree, write};
 use crate::rig::{plan_of, store_over};
-use byte_store::ByteStore;
+use array_store::ArrayStore;
 use cached_drive::{CachedDrive, Saved};
 use disk_shape::Plan;
 use extents::{DRIVES, MemDrive};
 use history::{Chronicle, Hand, History, Keeper, Opened};
-use journaled_store::{Changes, JournaledStore};
+use journaled_store::{Changes, publish, sync};
 use std::alloc::{Alloc, Global};
 use std::marker::Brand;
 use std::process::Abort;
@@ -32,13 +32,13 @@ fn drive_of<N: Chronicle>(
     CachedDrive::new(alloc, cache, history, keeper, hand)
 }
 
-// A disk of zeros over an empty vault.
+// A disk of zeros, and what no vault has of it.
 fn disk_of<N: Chronicle>(
     rt: &impl Abort,
     alloc: Global,
     plan: &Plan,
     opened: Opened<Saved>,
-) -> JournaledStore<N, MemVault>
+) -> (ArrayStore<CachedDrive<N>>, Changes<N>)
     requires { opened ≡ N.chronicle }
 {
     let (history, mut keeper, first) = opened.named::<N>();
@@ -61,15 +61,18 @@ fn disk_of<N: Chronicle>(
     let Ok(changes) = Changes::new(alloc, history, keeper, bytes, [0; DRIVES]) else {
         panic!(rt; "no changes")
     };
-    JournaledStore::new(store, changes, MemVault::new(alloc))
+    (store, changes)
 }
 
-// Writes, zeros and reads; a flush, and what the journal has in the end: a batch for each call that wrote.
+// A batch for the groups that were made, and one for each call that wrote.
 fn write_all<N: Chronicle>(rt: &impl Abort, alloc: Global, plan: &Plan, opened: Opened<Saved>)
     requires { opened ≡ N.chronicle }
 {
-    let mut store = disk_of::<N>(rt, alloc, plan, opened);
+    let (mut store, mut changes) = disk_of::<N>(rt, alloc, plan, opened);
+    let mut vault = MemVault::new(alloc);
     let mut model = [0u8; 1000];
+    let kept = publish(&mut store, &mut changes, &mut vault);
+    assert!(rt; kept.is_ok());
     for piece in [
         (60usize, 9usize, 1u8),
         (0, 64, 20),
@@ -77,17 +80,19 @@ fn write_all<N: Chronicle>(rt: &impl Abort, alloc: Global, plan: &Plan, opened: 
         (999, 1, 40),
     ] {
         write(rt, alloc, &mut store, &mut model, piece);
+        let kept = publish(&mut store, &mut changes, &mut vault);
+        assert!(rt; kept.is_ok());
     }
-    zero(rt, alloc, &mut store, &mut model, (100, 300));
     assert!(rt; agree(rt, &mut store, &model));
-    let flushed = store.flush();
-    assert!(rt; flushed.is_ok());
-    let mut vault = store.into_vault();
+    let kept = publish(&mut store, &mut changes, &mut vault);
+    assert!(rt; kept.is_ok());
+    let synced = sync(&mut vault);
+    assert!(rt; synced.is_ok());
     assert!(rt; vault.batches() == Ok(5));
     // The first write lies in two blocks of the mirrored level, so in four units.
     let mut batch = Batch::new(alloc);
-    let read = vault.read_batch(0, &mut batch);
-    assert!(rt; read.is_ok() && batch.len() >= 4);
+    let read = vault.read_batch(1, &mut batch);
+    assert!(rt; read.is_ok() && batch.len() == 4);
 }
 
 #[test]
