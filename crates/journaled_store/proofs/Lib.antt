@@ -1,3 +1,3 @@
 pub mod Leading
 pub mod Noting
-pub mod Publishing
+pub mod Batching

@@ -3,7 +3,7 @@
 
 mod append;
 mod changes;
-mod publish;
+mod publishing;
 
 pub use changes::Changes;
-pub use publish::{publish, sync};
+pub use publishing::{publish, sync};

@@ -5,8 +5,8 @@ use Rattle.cached_drive.specs.Saving.{Units}
 use Rattle.journaled_store.specs.Steps.{IsInStep, LeadsTo, views_to}
 use Rattle.journaled_store.proofs.Leading.{shown_has}
 use Rattle.journaled_store.proofs.Noting.{leads_noted, table_step, table_noted, table_has, shown_marks}
-use Rattle.journaled_store.proofs.Publishing.{when_ok}
-use Rattle.journaled_store.proofs.publish.collect.Goals as goal
+use Rattle.journaled_store.proofs.Batching.{when_ok}
+use Rattle.journaled_store.proofs.publishing.collect.Goals as goal
 
 pub returns-clause-step : goal.returns-clause-step
 returns-clause-step g c lost d step =

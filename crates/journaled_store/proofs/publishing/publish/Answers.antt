@@ -9,8 +9,8 @@ use Rattle.vault.specs.Moments.{StandsForSome}
 use Rattle.vault.proofs.Runs.{started, weaker}
 use Rattle.cached_drive.specs.Saving.{Units}
 use Rattle.journaled_store.specs.Steps.{IsBeforeOrNow, IsLive, UnlessSync}
-use Rattle.journaled_store.proofs.Publishing.{before_or_all, kept_by, live_same, logged_now, unless_refused}
-use Rattle.journaled_store.proofs.publish.publish.Goals as goal
+use Rattle.journaled_store.proofs.Batching.{before_or_all, kept_by, live_same, logged_now, unless_refused}
+use Rattle.journaled_store.proofs.publishing.publish.Goals as goal
 
 pub returns-then-not-collect-clause-any_moment : goal.returns-then-not-collect-clause-any_moment
 returns-then-not-collect-clause-any_moment g c known lost live stop low is =
