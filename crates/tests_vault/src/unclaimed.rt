@@ -5,6 +5,7 @@ use file_vault::{FileVault, MemFiles};
 use vault::{Batch, Vault, VaultError, settle};
 
 /// A vault over files, without what its clauses say.
+#[derive(Drop)]
 struct Unclaimed<'a> {
     vault: &'a mut FileVault<MemFiles>,
 }
