@@ -1,21 +1,23 @@
 //! A new disk.
+use crate::disk_files::DiskFiles;
 use crate::folder::{Folder, Name};
-use crate::table::new_text;
+use crate::identity::{boot_of, new_identity};
+use crate::opened::{file_bytes, layout_of};
+use crate::table::text_of;
 use crate::trouble::{Trouble, unwritten};
 use disk_shape::{Plan, plan_disk};
+use file_vault::{FileVault, Header, JOURNAL, Layout, RealFiles, write_header};
 use std::fs::{self, File, OpenOptions};
 use std::io;
 use std::io::Write;
+use uuid::Uuid;
+use vault::TABLE;
 
-/// Bytes of a drive's file.
-pub(crate) fn drive_bytes(plan: &Plan) -> u64 {
-    u64::from(plan.shape.drive_units()) * plan.shape.unit_bytes() as u64
-}
-
-// Opens a file that isn't there.
+// Opens a file that isn't there, for reading too.
 fn make_file(rt: &HostRuntime, folder: Folder<'_>, name: Name) -> Result<File, Trouble> {
     let path = folder.path(rt.alloc(), name)?;
     match OpenOptions::new()
+        .read(true)
         .write(true)
         .create_new(true)
         .open(rt, &path)
@@ -26,17 +28,21 @@ fn make_file(rt: &HostRuntime, folder: Folder<'_>, name: Name) -> Result<File, T
     }
 }
 
-// Makes the file of a drive, all zeros, which are its blank units.
-fn make_drive(rt: &HostRuntime, folder: Folder<'_>, drive: u8, bytes: u64) -> Result<(), Trouble> {
-    let name = Name::Drive(drive);
+// Makes a file of zeros, which are a drive's blank units, no lost drives, and an empty journal.
+fn make_zeros(
+    rt: &HostRuntime,
+    folder: Folder<'_>,
+    name: Name,
+    bytes: u64,
+) -> Result<File, Trouble> {
     let mut file = make_file(rt, folder, name)?;
     match zeroed(&mut file, bytes) {
-        Ok(()) => Ok(()),
+        Ok(()) => Ok(file),
         Err(error) => Err(unwritten(error, name)),
     }
 }
 
-// Writes the zeros, so that the system has room for all bytes of the drive from the start.
+// Writes the zeros, so that the system has room for all bytes of the file from the start.
 fn zeroed(file: &mut File, bytes: u64) -> io::Result<()> {
     let zeros = [0u8; 4096];
     for _piece in 0..bytes / 4096 {
@@ -71,7 +77,7 @@ fn is_there(rt: &HostRuntime, folder: Folder<'_>, name: Name) -> Result<bool, Tr
 
 // Refuses a folder that has a file of a disk.
 fn look(rt: &HostRuntime, folder: Folder<'_>, drives: u8) -> Result<(), Trouble> {
-    for name in [Name::Table, Name::Fresh] {
+    for name in [Name::Table, Name::Fresh, Name::State, Name::Journal] {
         if is_there(rt, folder, name)? {
             return Err(Trouble::Exists(name));
         }
@@ -84,9 +90,51 @@ fn look(rt: &HostRuntime, folder: Folder<'_>, drives: u8) -> Result<(), Trouble>
     Ok(())
 }
 
+// Makes the files of the drives, of the state and the journal.
+fn make_files(rt: &HostRuntime, folder: Folder<'_>, layout: &Layout, plan: &Plan) -> Result<RealFiles, Trouble> {
+    let mut files = RealFiles::new(rt.alloc());
+    for drive in 0..plan.drives {
+        let bytes = file_bytes(layout, drive);
+        files.put(drive, make_zeros(rt, folder, Name::Drive(drive), bytes)?)?;
+    }
+    let bytes = file_bytes(layout, TABLE);
+    files.put(TABLE, make_zeros(rt, folder, Name::State, bytes)?)?;
+    let bytes = file_bytes(layout, JOURNAL);
+    files.put(JOURNAL, make_zeros(rt, folder, Name::Journal, bytes)?)?;
+    Ok(files)
+}
+
+// Writes into each file what it is.
+fn mark_files(
+    files: &mut DiskFiles,
+    layout: &Layout,
+    identity: Uuid,
+    drives: u8,
+) -> Result<(), Trouble> {
+    for number in 0..JOURNAL + 1 {
+        if number < drives || number >= TABLE {
+            let header = Header {
+                identity: identity.into_bytes(),
+                number,
+                unit_bytes: layout.size(number),
+                count: layout.count(number),
+            };
+            if write_header(files, &header).is_err() {
+                return Err(Trouble::Unwritten(number));
+            }
+        }
+    }
+    Ok(())
+}
+
 // Writes the table under its first name, and renames it once all else is durable.
-fn make_table(rt: &HostRuntime, folder: Folder<'_>, plan: &Plan) -> Result<(), Trouble> {
-    let text = new_text(rt.alloc(), plan)?;
+fn make_table(
+    rt: &HostRuntime,
+    folder: Folder<'_>,
+    identity: Uuid,
+    plan: &Plan,
+) -> Result<(), Trouble> {
+    let text = text_of(rt.alloc(), identity, plan)?;
     let mut file = make_file(rt, folder, Name::Fresh)?;
     if let Err(error) = written(&mut file, &text) {
         return Err(unwritten(error, Name::Fresh));
@@ -118,11 +166,19 @@ pub(crate) fn create_disk(
         Ok(plan) => plan,
         Err(fault) => return Err(Trouble::Shape(fault)),
     };
+    let boot = boot_of(rt)?;
+    let identity = new_identity(rt)?;
+    let layout = layout_of(&plan);
     make_folder(rt, folder)?;
     look(rt, folder, drives)?;
-    for drive in 0..drives {
-        make_drive(rt, folder, drive, drive_bytes(&plan))?;
+    let mut files = DiskFiles {
+        files: make_files(rt, folder, &layout, &plan)?,
+        looks: false,
+    };
+    mark_files(&mut files, &layout, identity, drives)?;
+    if let Err((error, _files)) = FileVault::create(rt.alloc(), files, layout, &boot) {
+        return Err(Trouble::Vault(error));
     }
-    make_table(rt, folder, &plan)?;
+    make_table(rt, folder, identity, &plan)?;
     Ok(0)
 }

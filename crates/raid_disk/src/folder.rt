@@ -12,6 +12,10 @@ pub(crate) enum Name {
     Table,
     /// The table until it is whole.
     Fresh,
+    /// Which drives are lost, and the boot in which the disk was last opened.
+    State,
+    /// The journal.
+    Journal,
     /// The file of a drive.
     Drive(u8),
 }
@@ -30,6 +34,8 @@ impl<'a> Folder<'a> {
             Name::Folder => format!(in alloc; "{folder}"),
             Name::Table => format!(in alloc; "{folder}/table"),
             Name::Fresh => format!(in alloc; "{folder}/table.new"),
+            Name::State => format!(in alloc; "{folder}/state"),
+            Name::Journal => format!(in alloc; "{folder}/journal"),
             Name::Drive(drive) => format!(in alloc; "{folder}/drive{drive}"),
         }
     }

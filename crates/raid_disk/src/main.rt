@@ -2,8 +2,9 @@
 #![tactic(auto)]
 
 mod create;
-mod drive_file;
+mod disk_files;
 mod folder;
+mod identity;
 mod opened;
 mod serve;
 mod size;
@@ -67,7 +68,7 @@ fn run<'w>(rt: &HostRuntime, matches: &ArgMatches<'w>) -> ExitCode {
     let folder = Folder { name };
     let done = match verb {
         "create" => create_from(rt, given, folder),
-        "serve" => serve::serve_disk(rt, folder),
+        "serve" => serve_from(rt, given, folder),
         _ => status::show(rt, folder),
     };
     ended(rt, done, folder)
@@ -85,6 +86,18 @@ fn create_from<'w>(
     let block = given.get_one::<u32>("block").unwrap_or(4096);
     let drives = given.get_one::<u8>("drives").unwrap_or(6);
     create::create_disk(rt, folder, size, block, drives)
+}
+
+// Serves the disk that the words name.
+fn serve_from<'w>(
+    rt: &HostRuntime,
+    given: &ArgMatches<'w>,
+    folder: Folder<'_>,
+) -> Result<u8, Trouble> {
+    match given.get_str("journal").and_then(size_in) {
+        Some(journal) => serve::serve_disk(rt, folder, journal),
+        None => Err(Trouble::Size),
+    }
 }
 
 // The words of the command line after the program's name.

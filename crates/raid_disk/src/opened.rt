@@ -1,45 +1,69 @@
 //! A disk whose files are open.
-ghost use Rattle.std.specs.Prelude.{◌≡◌, ◌<◌, None, IfOk};
+ghost use Rattle.std.specs.Prelude.{◌≡◌, ◌<◌};
 ghost use Rattle.extent_groups.specs.Groups.{Agree};
 
-use crate::create::drive_bytes;
-use crate::drive_file::{DriveFile, Mark};
+use crate::disk_files::DiskFiles;
 use crate::folder::{Folder, Name};
+use crate::identity::boot_of;
 use crate::table::{Table, table_in};
-use crate::trouble::{Trouble, unread, unwritten};
-use array_parts::Parts;
-use array_store::ArrayStore;
-use background::Tiers;
+use crate::trouble::{Trouble, unread};
+use array_recovery::{RecoveryFault, recover};
+use cached_drive::Saved;
 use disk_shape::{Plan, class_of, member_at};
-use extent_groups::{GROUPS, GroupRefusal, GroupTable, Member, SLOTS, are_there};
-use extents::{Drive, ExtentTable};
-use file_drive::{FileDrive, OnFile, OpenRefusal};
-use header_scan::{ScanFault, restart};
+use extent_groups::{GroupRefusal, GroupTable, Member, Place, are_there};
+use extents::{DRIVES, ExtentTable};
+use file_vault::{FileVault, JOURNAL, Layout, RealFiles, read_header};
+use history::{Chronicle, Opened};
+use journaled_store::JournaledStore;
 use std::alloc::{AllocError, Global};
 use std::fs::{File, OpenOptions, TryLockError};
 use std::io;
 use std::io::Read;
-use step_core::{Plain, World};
+use vault::TABLE;
 
-/// A drive of a disk.
-pub(crate) type DiskDrive = FileDrive<DriveFile>;
+/// The vault of a disk.
+pub(crate) type DiskVault = FileVault<DiskFiles>;
 
 /// What a command does with a disk.
 #[derive(Clone, Copy, Debug, PartialEq, Eq)]
 pub(crate) enum Use {
     /// It reads, and nothing is changed. Others may read as well.
     Looks,
-    /// It writes, and marks what is lost. No other process has the disk.
+    /// It writes. No other process has the disk.
     Serves,
 }
 
 /// A disk that is open.
 #[derive(Drop)]
-pub(crate) struct Disk {
+pub(crate) struct Disk<N: Chronicle> {
     pub(crate) plan: Plan,
-    pub(crate) store: ArrayStore<DiskDrive>,
+    pub(crate) store: JournaledStore<N, DiskVault>,
     /// The table's file, which is locked as long as it is open.
     pub(crate) table: File,
+}
+
+/// Where units lie in the files of a disk.
+pub(crate) fn layout_of(plan: &Plan) -> Layout {
+    let mut counts = [0u32; DRIVES];
+    for drive in 0..DRIVES {
+        if drive < usize::from(plan.drives) {
+            counts[drive] = plan.shape.drive_units();
+        }
+    }
+    Layout {
+        unit_bytes: plan.shape.unit_bytes() as u32,
+        table_bytes: DRIVES as u32,
+        counts,
+    }
+}
+
+/// Bytes of a new disk's file.
+pub(crate) fn file_bytes(layout: &Layout, number: u8) -> u64 {
+    let past = Place {
+        drive: number,
+        address: layout.count(number),
+    };
+    layout.offset(past)
 }
 
 // Opens the table's file, and locks it.
@@ -75,25 +99,13 @@ fn read_table(rt: &HostRuntime, file: &mut File) -> Result<Table, Trouble> {
     }
 }
 
-// The mark of a drive.
-fn mark_of(file: &File, table: &Table, drive: u8) -> Result<Mark, Trouble> {
-    match file.try_clone() {
-        Ok(table_file) => Ok(Mark {
-            table: table_file,
-            at: table.marks.saturating_add(u64::from(drive)),
-        }),
-        Err(error) => Err(unread(error, Name::Table)),
-    }
-}
-
-// Opens the file of a drive; none where there is no such file.
+// Opens a file; none where there is no such file.
 fn open_file(
     rt: &HostRuntime,
     folder: Folder<'_>,
-    drive: u8,
+    name: Name,
     usage: Use,
 ) -> Result<Option<File>, Trouble> {
-    let name = Name::Drive(drive);
     let path = folder.path(rt.alloc(), name)?;
     let opened = OpenOptions::new()
         .read(true)
@@ -106,6 +118,19 @@ fn open_file(
     }
 }
 
+// Opens a file without which there is no disk.
+fn open_needed(
+    rt: &HostRuntime,
+    folder: Folder<'_>,
+    name: Name,
+    usage: Use,
+) -> Result<File, Trouble> {
+    match open_file(rt, folder, name, usage)? {
+        Some(file) => Ok(file),
+        None => Err(Trouble::Needed(name)),
+    }
+}
+
 // Tests the length of a drive's file.
 fn test_length(file: &File, drive: u8, wants: u64) -> Result<(), Trouble> {
     match file.metadata() {
@@ -115,51 +140,68 @@ fn test_length(file: &File, drive: u8, wants: u64) -> Result<(), Trouble> {
     }
 }
 
-// What a drive is written through to.
-fn backing_of(
+// Opens the files of a disk. Says which drives have none.
+fn open_files(
     rt: &HostRuntime,
     folder: Folder<'_>,
-    table_file: &File,
-    table: &Table,
-    drive: u8,
+    plan: &Plan,
+    layout: &Layout,
     usage: Use,
-) -> Result<DriveFile, Trouble> {
-    let wants = drive_bytes(&table.plan);
-    let gone = DriveFile::Missing {
-        bytes: wants as usize,
-    };
-    if table.lost[usize::from(drive % 16)] {
-        return Ok(gone);
+) -> Result<(DiskFiles, [bool; DRIVES]), Trouble> {
+    let mut absent = [false; DRIVES];
+    let mut files = RealFiles::new(rt.alloc());
+    files.put(TABLE, open_needed(rt, folder, Name::State, usage)?)?;
+    files.put(JOURNAL, open_needed(rt, folder, Name::Journal, usage)?)?;
+    for drive in 0..plan.drives {
+        match open_file(rt, folder, Name::Drive(drive), usage)? {
+            Some(file) => {
+                test_length(&file, drive, file_bytes(layout, drive))?;
+                files.put(drive, file)?;
+            }
+            None => absent[usize::from(drive % 16)] = true,
+        }
     }
-    let mark = mark_of(table_file, table, drive)?;
-    let Some(file) = open_file(rt, folder, drive, usage)? else {
-        return Ok(gone);
-    };
-    test_length(&file, drive, wants)?;
-    Ok(DriveFile::Here {
-        file: OnFile { file },
-        mark,
-    })
+    let looks = usage == Use::Looks;
+    Ok((DiskFiles { files, looks }, absent))
 }
 
-// The drive over a backing. One without a file is lost.
-fn drive_of(
-    alloc: Global,
-    plan: &Plan,
-    drive: u8,
-    backing: DriveFile,
-) -> Result<DiskDrive, Trouble> {
-    let is_here = matches!(backing, DriveFile::Here { .. });
-    let mut opened = match FileDrive::open(alloc, &plan.shape, backing) {
-        Ok(opened) => opened,
-        Err(OpenRefusal::Memory) => return Err(Trouble::Memory),
-        Err(_) => return Err(Trouble::Unread(drive)),
+// Tests that a file is what its name says.
+fn test_header(
+    files: &mut DiskFiles,
+    layout: &Layout,
+    number: u8,
+    table: &Table,
+) -> Result<(), Trouble> {
+    let Ok(found) = read_header(files, number) else {
+        return Err(Trouble::Unread(number));
     };
-    if !is_here {
-        // What isn't there can't be synced, and that loses the drive.
-        let _ = opened.sync();
+    match found {
+        Some(header)
+            if header.identity == table.identity
+                && header.number == number
+                && header.unit_bytes == layout.size(number)
+                && header.count == layout.count(number) =>
+        {
+            Ok(())
+        }
+        _ => Err(Trouble::Foreign(number)),
     }
-    Ok(opened)
+}
+
+// Tests each file that is there.
+fn test_headers(
+    files: &mut DiskFiles,
+    layout: &Layout,
+    absent: &[bool; DRIVES],
+    table: &Table,
+) -> Result<(), Trouble> {
+    for drive in 0..table.plan.drives {
+        if !absent[usize::from(drive % 16)] {
+            test_header(files, layout, drive, table)?;
+        }
+    }
+    test_header(files, layout, TABLE, table)?;
+    test_header(files, layout, JOURNAL, table)
 }
 
 // The extents of a group.
@@ -209,89 +251,50 @@ fn groups_of(alloc: Global, plan: &Plan) -> Result<(GroupTable, ExtentTable), Tr
     Ok((groups, extents))
 }
 
-// A claim of each slot of each group.
-fn claims_of(alloc: Global, groups: &GroupTable) -> Result<Vec<Plain>, AllocError> {
-    let mut claims = Vec::new(alloc);
-    for group in 0..GROUPS as u16 {
-        for index in 0..groups.slots_of(group) {
-            let slot = (SLOTS * group).saturating_add(index);
-            claims.push(Plain { slot })?;
-        }
+// Why a disk can't be opened.
+fn trouble_of(fault: RecoveryFault) -> Trouble {
+    match fault {
+        RecoveryFault::Memory => Trouble::Memory,
+        RecoveryFault::Vault(error) => Trouble::Vault(error),
+        RecoveryFault::Missing { drive, .. } => Trouble::Unread(drive),
+        RecoveryFault::Gone(slot) => Trouble::Gone(slot),
+        _ => Trouble::Unsound,
     }
-    Ok(claims)
 }
 
-// The array that the parts hold.
-fn restarted(alloc: Global, parts: Parts<DiskDrive>) -> Result<Tiers<DiskDrive>, Trouble> {
-    if !parts.is_fit() {
-        return Err(Trouble::Unsound);
-    }
-    let claims = claims_of(alloc, &parts.groups)?;
-    let array = match restart(alloc, parts, claims) {
-        Ok((array, _free)) => array,
-        Err((ScanFault::Memory, _parts, _claims)) => return Err(Trouble::Memory),
-        Err((ScanFault::Gone(slot), _parts, _claims)) => return Err(Trouble::Gone(slot)),
-        Err((_fault, _parts, _claims)) => return Err(Trouble::Unsound),
-    };
-    let Ok(world) = World::of(alloc, array) else {
-        return Err(Trouble::Memory);
-    };
-    Ok(Tiers::new(alloc, world)?)
-}
-
-// Marks the drives that the disk goes on without. It comes after all else that an opening may refuse, so that a disk of which two
-// files are out of reach for a while is as it was.
-fn mark_missing(file: &File, table: &Table, world: &World<DiskDrive>) -> Result<(), Trouble> {
-    for drive in 0..world.array().drive_count() {
-        if world.array().is_lost(drive) && !table.lost[usize::from(drive % 16)] {
-            if let Err(error) = mark_of(file, table, drive)?.set() {
-                return Err(unwritten(error, Name::Table));
-            }
-        }
-    }
-    Ok(())
-}
-
-// The disk's bytes; refused where the array has fewer.
-fn store_of(
-    alloc: Global,
-    tiers: Tiers<DiskDrive>,
-    size: u64,
-) -> Result<ArrayStore<DiskDrive>, Trouble> {
-    let shape = tiers.world().array().shape();
-    if size > u64::from(shape.blocks) * u64::from(shape.payload) {
-        return Err(Trouble::Unsound);
-    }
-    Ok(ArrayStore::new(alloc, tiers, size)?)
-}
-
-/// Opens a disk.
-pub(crate) fn open_disk(rt: &HostRuntime, folder: Folder<'_>, usage: Use) -> Result<Disk, Trouble> {
+/// Opens a disk, with all that its journal has, which is settled from so many bytes of units on. A drive without a file is lost.
+pub(crate) fn open_disk<N: Chronicle>(
+    rt: &HostRuntime,
+    folder: Folder<'_>,
+    usage: Use,
+    journal: u64,
+    opened: Opened<Saved>,
+) -> Result<Disk<N>, Trouble>
+    requires { opened ≡ N.chronicle }
+{
     let alloc = rt.alloc();
     let mut file = open_table(rt, folder, usage)?;
     let table = read_table(rt, &mut file)?;
     let plan = table.plan;
+    let layout = layout_of(&plan);
     let (groups, extents) = groups_of(alloc, &plan)?;
-    let mut drives = Vec::new(alloc);
-    for drive in 0..plan.drives {
-        let backing = backing_of(rt, folder, &file, &table, drive, usage)?;
-        drives.push(drive_of(alloc, &plan, drive, backing)?)?;
-    }
-    let parts = Parts {
-        shape: plan.shape,
-        groups,
-        extents,
-        drives,
-        note: None,
+    let (mut files, absent) = open_files(rt, folder, &plan, &layout, usage)?;
+    test_headers(&mut files, &layout, &absent, &table)?;
+    let mut vault = match FileVault::open(alloc, files, layout, &boot_of(rt)?) {
+        Ok(vault) => vault,
+        Err((error, _files)) => return Err(Trouble::Vault(error)),
     };
-    let tiers = restarted(alloc, parts)?;
-    let store = store_of(alloc, tiers, plan.size)?;
-    if usage == Use::Serves {
-        mark_missing(&file, &table, store.world())?;
-    }
+    let recovered = recover::<N, DiskVault>(
+        alloc, &mut vault, opened, &plan.shape, groups, extents, plan.drives, plan.size, &absent,
+    );
+    let (store, changes) = match recovered {
+        Ok(recovered) => recovered,
+        Err(fault) => return Err(trouble_of(fault)),
+    };
+    let units = journal / u64::from(layout.unit_bytes.max(1));
     Ok(Disk {
         plan,
-        store,
+        store: JournaledStore::new(alloc, store, changes, vault, units),
         table: file,
     })
 }

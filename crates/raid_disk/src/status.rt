@@ -1,9 +1,14 @@
 //! What a disk has, and how full it is.
+ghost use Rattle.std.specs.Prelude.{◌≡◌};
+
 use crate::folder::Folder;
-use crate::opened::{Disk, DiskDrive, Use, open_disk};
+use crate::opened::{Disk, Use, open_disk};
 use crate::trouble::Trouble;
+use cached_drive::{CachedDrive, Saved};
 use extent_groups::{Class, GROUPS, SLOTS};
+use history::{Chronicle, Opened};
 use std::io;
+use std::marker::Brand;
 use step_core::{Array, Plain};
 
 /// Slots of a level, and those that hold a block.
@@ -15,7 +20,7 @@ struct Level {
 }
 
 // How many slots of a group hold a block.
-fn used_in(array: &Array<DiskDrive, Plain>, group: u16) -> u32 {
+fn used_in<N: Chronicle>(array: &Array<CachedDrive<N>, Plain>, group: u16) -> u32 {
     let mut used = 0u32;
     for index in 0..array.groups().slots_of(group) {
         if array.is_held((SLOTS * (group % GROUPS as u16)).saturating_add(index)) {
@@ -26,7 +31,7 @@ fn used_in(array: &Array<DiskDrive, Plain>, group: u16) -> u32 {
 }
 
 // The level of a class.
-fn level_of(array: &Array<DiskDrive, Plain>, class: Class) -> Level {
+fn level_of<N: Chronicle>(array: &Array<CachedDrive<N>, Plain>, class: Class) -> Level {
     let mut level = Level {
         groups: 0,
         slots: 0,
@@ -44,7 +49,7 @@ fn level_of(array: &Array<DiskDrive, Plain>, class: Class) -> Level {
 }
 
 // How many drives are missing.
-fn missing_in(array: &Array<DiskDrive, Plain>) -> u8 {
+fn missing_in<N: Chronicle>(array: &Array<CachedDrive<N>, Plain>) -> u8 {
     let mut missing = 0u8;
     for drive in 0..array.drive_count() {
         if array.is_lost(drive) {
@@ -54,7 +59,7 @@ fn missing_in(array: &Array<DiskDrive, Plain>) -> u8 {
     missing
 }
 
-fn print(rt: &HostRuntime, disk: &Disk) -> io::Result<()> {
+fn print<N: Chronicle>(rt: &HostRuntime, disk: &Disk<N>) -> io::Result<()> {
     let array = disk.store.world().array();
     let plan = &disk.plan;
     let size = plan.size;
@@ -88,9 +93,15 @@ fn print(rt: &HostRuntime, disk: &Disk) -> io::Result<()> {
     }
 }
 
-/// Prints a disk's sizes, drives and levels. The status is 1 where a drive is missing.
-pub(crate) fn show(rt: &HostRuntime, folder: Folder<'_>) -> Result<u8, Trouble> {
-    let disk = open_disk(rt, folder, Use::Looks)?;
+// Prints what a disk has.
+fn show_opened<N: Chronicle>(
+    rt: &HostRuntime,
+    folder: Folder<'_>,
+    opened: Opened<Saved>,
+) -> Result<u8, Trouble>
+    requires { opened ≡ N.chronicle }
+{
+    let disk = open_disk::<N>(rt, folder, Use::Looks, 0, opened)?;
     match print(rt, &disk) {
         Ok(()) => {
             let missing = missing_in(disk.store.world().array());
@@ -98,4 +109,10 @@ pub(crate) fn show(rt: &HostRuntime, folder: Folder<'_>) -> Result<u8, Trouble> 
         }
         Err(error) => Err(Trouble::Output(error)),
     }
+}
+
+/// Prints a disk's sizes, drives and levels. The status is 1 where a drive is missing.
+pub(crate) fn show(rt: &HostRuntime, folder: Folder<'_>) -> Result<u8, Trouble> {
+    let opened = Opened::new(rt.alloc())?;
+    show_opened::<Brand>(rt, folder, opened)
 }

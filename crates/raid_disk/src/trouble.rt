@@ -1,9 +1,11 @@
 //! Why the program ends early.
 use crate::folder::{Folder, Name};
 use disk_shape::ShapeFault;
+use file_vault::JOURNAL;
 use nbd_serve::End;
 use std::alloc::{AllocError, AllocFailed};
 use std::io;
+use vault::{TABLE, VaultError};
 
 /// Why a command isn't carried out, or not to its end.
 #[derive(Debug, Drop)]
@@ -30,8 +32,20 @@ pub(crate) enum Trouble {
     Words(io::Error),
     Read(Name, io::Error),
     Write(Name, io::Error),
-    /// A drive's file can't be read.
+    /// The file of this number can't be read.
     Unread(u8),
+    /// The file of this number can't be written.
+    Unwritten(u8),
+    /// The file of this number isn't one of this disk, or is another one of it.
+    Foreign(u8),
+    /// This file isn't there, and nothing can be opened without it.
+    Needed(Name),
+    /// A file of the system's can't be read.
+    System(&'static str, io::Error),
+    /// A file of the system's has no number.
+    NoNumber(&'static str),
+    /// A file failed while the journal was read.
+    Vault(VaultError),
     /// Standard output can't be written.
     Output(io::Error),
     /// The client's stream broke, or isn't the protocol.
@@ -52,12 +66,15 @@ impl Trouble {
     /// The exit status: 2 for the command line, 3 for a refusal, 4 for out of memory, 5 for input or output.
     pub(crate) fn status(&self) -> u8 {
         match self {
-            Trouble::Memory => 4,
+            Trouble::Memory | Trouble::Vault(VaultError::Memory) => 4,
             Trouble::Size => 2,
             Trouble::Words(_)
             | Trouble::Read(_, _)
             | Trouble::Write(_, _)
             | Trouble::Unread(_)
+            | Trouble::Unwritten(_)
+            | Trouble::System(_, _)
+            | Trouble::Vault(_)
             | Trouble::Output(_)
             | Trouble::Stream(_)
             | Trouble::Sync => 5,
@@ -69,7 +86,9 @@ impl Trouble {
     pub(crate) fn report(&self, rt: &HostRuntime, folder: Folder<'_>) -> io::Result<()> {
         let at = folder.name;
         match self {
-            Trouble::Memory => eprintln!(rt; "raid_disk: out of memory"),
+            Trouble::Memory | Trouble::Vault(VaultError::Memory) => {
+                eprintln!(rt; "raid_disk: out of memory")
+            }
             Trouble::Size => eprintln!(rt;
                 "raid_disk: SIZE is a number of bytes, or a number and K, M or G"
             ),
@@ -86,7 +105,11 @@ impl Trouble {
             Trouble::Stream(end) => eprintln!(rt;
                 "raid_disk: {at}: the client's session ended: {end:?}"
             ),
-            Trouble::Sync => eprintln!(rt; "raid_disk: {at}: a drive's file can't be synced"),
+            Trouble::Sync => eprintln!(rt;
+                "raid_disk: {at}: the journal can't be written or synced: what came since the last flush may be lost"
+            ),
+            Trouble::System(path, error) => eprintln!(rt; "raid_disk: {path} can't be read: {error}"),
+            Trouble::NoNumber(path) => eprintln!(rt; "raid_disk: {path} has no number"),
             Trouble::Unsound => eprintln!(rt;
                 "raid_disk: {at}: the drives' files don't fit one another"
             ),
@@ -124,14 +147,41 @@ impl Trouble {
                 let path = folder.path(rt.alloc(), *name)?;
                 eprintln!(rt; "raid_disk: {path} can't be written: {error}")
             }
-            Trouble::Unread(drive) => {
+            Trouble::Needed(name) => {
+                let path = folder.path(rt.alloc(), *name)?;
+                eprintln!(rt; "raid_disk: {path} isn't there: without it nothing can be read")
+            }
+            Trouble::Unread(number) => {
+                let path = folder.path(rt.alloc(), name_of(*number))?;
+                eprintln!(rt; "raid_disk: {path} can't be read")
+            }
+            Trouble::Unwritten(number) => {
+                let path = folder.path(rt.alloc(), name_of(*number))?;
+                eprintln!(rt; "raid_disk: {path} can't be written")
+            }
+            Trouble::Foreign(number) => {
+                let path = folder.path(rt.alloc(), name_of(*number))?;
+                eprintln!(rt; "raid_disk: {path} is of another disk, or another file of this one: without it the drive is lost")
+            }
+            Trouble::Vault(VaultError::Drive(drive)) => {
                 let path = folder.path(rt.alloc(), Name::Drive(*drive))?;
-                eprintln!(rt;
-                    "raid_disk: {path} can't be read to its end: without the file the drive is lost"
-                )
+                eprintln!(rt; "raid_disk: {path} can't be read or written")
+            }
+            Trouble::Vault(_) => {
+                let path = folder.path(rt.alloc(), Name::Journal)?;
+                eprintln!(rt; "raid_disk: {path} can't be read or written")
             }
             _ => Ok(()),
         }
+    }
+}
+
+// The file of a number.
+fn name_of(number: u8) -> Name {
+    match number {
+        TABLE => Name::State,
+        JOURNAL => Name::Journal,
+        drive => Name::Drive(drive),
     }
 }
 

@@ -38,9 +38,15 @@ fn create<'a>(alloc: Global) -> Result<Command<'a>, AllocError> {
 
 /// What the words ask for, as clap reads them.
 pub(crate) fn matches_of<'a>(alloc: Global, words: &'a [String]) -> Result<ArgMatches<'a>, Error> {
+    let journal = Arg::new(alloc, "journal")
+        .long("journal")
+        .value_name("SIZE")
+        .default_value("32M")
+        .help("bytes of units in the journal from which on they are written to their places");
     let serve = Command::new(alloc, "serve")
         .about("serves the disk to one NBD client, on standard input and output")
-        .arg(folder(alloc))?;
+        .arg(folder(alloc))?
+        .arg(journal)?;
     let status = Command::new(alloc, "status")
         .about("prints drives, groups, and how full the two levels are")
         .arg(folder(alloc))?;

@@ -1,0 +1,88 @@
+// Loaded before a program: stops it at a write, and records what it writes. Standard input, output and error are left alone.
+// STOP=N: at the N-th write or sync of a file the process is killed, before it; with HALF=1 after the first half of its bytes.
+// RECORD=FILE: each write and sync that was made is appended to FILE: a kind (1 write, 2 sync), the length of the file's name, the
+// offset and the length of the bytes, in eight bytes each; then the name and the bytes.
+// BREAK=NAME: from the N-th write or sync on, N by BREAK_AT, those of a file of that name fail with an input/output error.
+#define _GNU_SOURCE
+#include <dlfcn.h>
+#include <errno.h>
+#include <fcntl.h>
+#include <signal.h>
+#include <stdio.h>
+#include <stdlib.h>
+#include <string.h>
+#include <sys/types.h>
+#include <sys/uio.h>
+#include <unistd.h>
+
+static long count;
+
+static const char *name_of(int file, char *path, size_t size) {
+    char link[64];
+    snprintf(link, sizeof link, "/proc/self/fd/%d", file);
+    ssize_t length = readlink(link, path, size - 1);
+    path[length < 0 ? 0 : length] = 0;
+    char *slash = strrchr(path, '/');
+    return slash ? slash + 1 : path;
+}
+
+#define NEXT(name) static __typeof__(&name) next; if (!next) next = dlsym(RTLD_NEXT, #name)
+
+static ssize_t put(int file, const void *from, size_t bytes, off64_t at) {
+    static __typeof__(&pwrite64) next;
+    if (!next) next = dlsym(RTLD_NEXT, "pwrite64");
+    return next(file, from, bytes, at);
+}
+
+static void record(long kind, int file, off64_t at, const void *from, size_t bytes) {
+    const char *path = getenv("RECORD");
+    if (!path) return;
+    static int log = -1;
+    if (log < 0) log = open(path, O_WRONLY | O_APPEND | O_CREAT, 0600);
+    char place[4096];
+    const char *name = name_of(file, place, sizeof place);
+    long front[4] = { kind, strlen(name), at, bytes };
+    struct iovec parts[3] = { { front, sizeof front }, { (void *)name, strlen(name) }, { (void *)from, bytes } };
+    if (writev(log, parts, 3) < 0) abort();
+}
+
+// Kills the process, or says that the call fails.
+static int stops(int file, const void *from, size_t bytes, off64_t at) {
+    long number = ++count;
+    const char *stop = getenv("STOP"), *broken = getenv("BREAK"), *first = getenv("BREAK_AT");
+    if (stop && number == atol(stop)) {
+        if (getenv("HALF") && bytes > 1) put(file, from, bytes / 2, at);
+        kill(getpid(), SIGKILL);
+    }
+    char place[4096];
+    if (!broken || number < (first ? atol(first) : 1) || strcmp(name_of(file, place, sizeof place), broken)) return 0;
+    errno = EIO;
+    return 1;
+}
+
+ssize_t pwrite64(int file, const void *from, size_t bytes, off64_t at) {
+    if (stops(file, from, bytes, at)) return -1;
+    ssize_t done = put(file, from, bytes, at);
+    if (done > 0) record(1, file, at, from, done);
+    return done;
+}
+
+ssize_t pwrite(int file, const void *from, size_t bytes, off_t at) {
+    return pwrite64(file, from, bytes, at);
+}
+
+int fdatasync(int file) {
+    NEXT(fdatasync);
+    if (stops(file, 0, 0, 0)) return -1;
+    int done = next(file);
+    if (done == 0) record(2, file, 0, "", 0);
+    return done;
+}
+
+int fsync(int file) {
+    NEXT(fsync);
+    if (stops(file, 0, 0, 0)) return -1;
+    int done = next(file);
+    if (done == 0) record(2, file, 0, "", 0);
+    return done;
+}
