@@ -32,8 +32,8 @@ fn drive_of<N: Chronicle>(
     CachedDrive::new(alloc, cache, history, keeper, hand)
 }
 
-// A disk of zeros, and what no vault has of it.
-fn disk_of<N: Chronicle>(
+/// A disk of zeros, and what no vault has of it.
+pub(crate) fn disk_of<N: Chronicle>(
     rt: &impl Abort,
     alloc: Global,
     plan: &Plan,

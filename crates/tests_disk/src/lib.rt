@@ -10,6 +10,8 @@ mod journaled;
 #[cfg(test)]
 mod model;
 #[cfg(test)]
+mod recovered;
+#[cfg(test)]
 mod rig;
 #[cfg(test)]
 mod room;

@@ -1,0 +1,67 @@
+// An array put together from its parts.
+ghost use Rattle.std.specs.Prelude.{◌≡◌, None};
+
+use crate::fault::RecoveryFault;
+use array_parts::Parts;
+use array_store::ArrayStore;
+use background::Tiers;
+use extent_groups::{GROUPS, GroupTable, SLOTS};
+use extents::Drive;
+use header_scan::{ScanFault, restart};
+use std::alloc::{AllocError, Global};
+use step_core::{Plain, World};
+
+// A claim of each slot of each group.
+fn claims_of(alloc: Global, groups: &GroupTable) -> Result<Vec<Plain>, AllocError> {
+    let mut claims = Vec::new(alloc);
+    for group in 0..GROUPS as u16 {
+        for index in 0..groups.slots_of(group) {
+            let slot = (SLOTS * group).saturating_add(index);
+            claims.push(Plain { slot })?;
+        }
+    }
+    Ok(claims)
+}
+
+// What a scan's fault means.
+fn fault_of(fault: ScanFault) -> RecoveryFault {
+    match fault {
+        ScanFault::Memory => RecoveryFault::Memory,
+        ScanFault::Gone(slot) => RecoveryFault::Gone(slot),
+        _ => RecoveryFault::Unsound,
+    }
+}
+
+// The array that the parts hold, and what is kept next to it.
+fn tiers_of<D: Drive + Drop>(alloc: Global, parts: Parts<D>) -> Result<Tiers<D>, RecoveryFault>
+    requires note { parts.note ≡ None }
+{
+    if !parts.is_fit() {
+        return Err(RecoveryFault::Unsound);
+    }
+    let claims = claims_of(alloc, &parts.groups)?;
+    let array = match restart(alloc, parts, claims) {
+        Ok((array, _free)) => array,
+        Err((fault, _parts, _claims)) => return Err(fault_of(fault)),
+    };
+    let Ok(world) = World::of(alloc, array) else {
+        return Err(RecoveryFault::Memory);
+    };
+    Ok(Tiers::new(alloc, world)?)
+}
+
+/// The first `size` bytes of the array that the parts hold.
+pub(crate) fn rebuild<D: Drive + Drop>(
+    alloc: Global,
+    parts: Parts<D>,
+    size: u64,
+) -> Result<ArrayStore<D>, RecoveryFault>
+    requires note { parts.note ≡ None }
+{
+    let tiers = tiers_of(alloc, parts)?;
+    let shape = tiers.world().array().shape();
+    if size > u64::from(shape.blocks) * u64::from(shape.payload) {
+        return Err(RecoveryFault::Unsound);
+    }
+    Ok(ArrayStore::new(alloc, tiers, size)?)
+}
