@@ -1,8 +1,14 @@
--- When an array's store represents a flat store.
+-- A store of an array, as a caller sees it, and when it represents a flat store.
 use Rattle.std.specs.Prelude.{◌≡◌, ℕ, Bool, length}
 use Rattle.byte_store.specs.Flat.{Flat}
 use Rattle.background.specs.Views.{TiersView}
 use Rattle.array_store.specs.Blocks.{Holds}
+
+-- the array, the bytes of the disk, and whether something was written since the last flush
+pub record StoreView : Type 0 where
+  pub tiers : TiersView
+  pub size : ℕ
+  pub unsynced : Bool
 
 -- the array holds the flat store's bytes, which are all of the disk's; and the store notes whether some await a flush
 pub record IsStoreOf (tiers : TiersView) (size : ℕ) (unsynced : Bool) (F : Flat) : Type 0 where

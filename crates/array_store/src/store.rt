@@ -4,7 +4,6 @@ ghost use Rattle.byte_store.specs.Flat.{Flat, Sizes, written_over};
 ghost use Rattle.byte_store.specs.Changes.{IsChanged, IsFlushed};
 ghost use Rattle.array_store.specs.Blocks.{Holds};
 ghost use Rattle.array_store.specs.Stores.{IsStoreOf};
-ghost use Rattle.background.specs.Views.{TiersView};
 
 use crate::block::{make_spare, read_piece, shorten_log, write_piece, zero_piece};
 use crate::piece::{Piece, piece_at};
@@ -12,6 +11,7 @@ use background::Tiers;
 use byte_store::{ByteStore, StoreFault};
 use extents::Drive;
 use std::alloc::{AllocError, Global};
+use std::marker::Model;
 use step_core::{Visit, World};
 
 /// The bytes of a disk, kept by an array. The last block may have bytes past the disk's end.
@@ -24,8 +24,18 @@ pub struct ArrayStore<D: Drive> {
     buffer: Vec<u8>,
     /// Whether something was written since the last flush.
     unsynced: bool,
-    ghost within: { size ≤ tiers.world.array.parts.groups.blocks * tiers.world.array.parts.groups.payload },
-    ghost buffer_is: { length buffer.items ≡ tiers.world.array.parts.groups.payload },
+}
+
+impl<D: Drive> Model for ArrayStore<D> {
+    ghost use Rattle.std.specs.Prelude.{◌≡◌, ◌≤◌, ◌*◌, length};
+    ghost use Rattle.array_store.specs.Stores.{StoreView};
+
+    ghost Value = { StoreView };
+
+    ghost view = { λ s. record { tiers = s.tiers; size = s.size; unsynced = s.unsynced } };
+
+    ghost invariant = { λ s. (s.size ≤ s.tiers.world.array.parts.groups.blocks * s.tiers.world.array.parts.groups.payload)
+        × (length s.buffer.items ≡ s.tiers.world.array.parts.groups.payload) };
 }
 
 impl<D: Drive + Drop> ArrayStore<D> {

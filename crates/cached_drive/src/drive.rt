@@ -21,7 +21,7 @@ pub struct CachedDrive<N: Chronicle> {
     /// The list has no room: any unit may have been written.
     pub(crate) all: bool,
     lost: bool,
-    /// The next call loses the drive.
+    /// The next read, write or sync loses the drive.
     doomed: bool,
     pub(crate) hand: Hand<N, Saved>,
     ghost present: { cache.condition ≡ Present },
@@ -63,7 +63,7 @@ impl<N: Chronicle> CachedDrive<N> {
         self.hand.number()
     }
 
-    /// Makes the next call lose the drive: what it would be saved to has failed.
+    /// Makes the next read, write or sync lose the drive: what it would be saved to has failed. Until then it is as it was.
     pub fn doom(&mut self)
         ensures units { self.new.cache.units ≡ self.old.cache.units }
         ensures lost { self.new.lost ≡ self.old.lost }
@@ -195,6 +195,14 @@ impl<N: Chronicle> Drive for CachedDrive<N> {
         let most = self.cache.units();
         list(&mut self.dirty, &mut self.all, at, most);
         keep_gathered(&mut self.cache, at, front, rest, scratch);
+        Ok(())
+    }
+
+    // Nothing of it is durable before it is saved: a sync only loses a drive that is doomed.
+    fn sync(&mut self) -> Result<(), DriveLost> {
+        if !answers(&mut self.lost, self.doomed) {
+            return Err(DriveLost);
+        }
         Ok(())
     }
 }

@@ -5,8 +5,9 @@ use Rattle.extents.specs.Failures.{unsteady}
 use Rattle.extents.specs.Units.{loss}
 use Rattle.extent_groups.specs.Cells.{Cells}
 use Rattle.extent_groups.specs.Planned.{Wanted, after}
-use Rattle.vault.specs.Images.{Image, Stands, is_lost}
-use Rattle.vault.specs.Moments.{StandsForSome}
+use Rattle.vault.specs.Images.{Image, Stands, is_lost, recovered}
+use Rattle.vault.specs.Moments.{AreLogged, StandsForSome}
+use Rattle.vault.specs.declared.store.Stop.{Stop}
 use Rattle.vault.specs.declared.store.VaultError.{VaultError}
 use Rattle.vault.specs.declared.store.VaultError.TheVariants as VaultError
 use Rattle.byte_store.specs.declared.fault.StoreFault.{StoreFault}
@@ -100,3 +101,21 @@ UnlessSync (Err StoreFault.Sync) P = Unit {0}
 UnlessSync (Err StoreFault.NoSpace) P = P
 UnlessSync (Err StoreFault.Gone) P = P
 UnlessSync (Err StoreFault.Memory) P = P
+
+-- it holds as long as the journal hasn't failed
+abbrev pub UnlessFailed : Bool → Type 0 → Type 0
+UnlessFailed failed P = failed ≡ false → P
+
+-- the journal is empty, and each stop leaves all that the drives hold
+pub record IsEmptied {V : Type 0} (seen : V → Image) (may_leave : V → Stop → Image → Type 0) (lost : List Bool) (vault : V) (drives : List DriveView) : Type 0 where
+  pub empty : (seen vault).journal ≡ []
+  pub durable : AreLogged seen may_leave lost vault
+  pub kept : IsKept lost drives (recovered (seen vault))
+
+-- a call says that the journal failed
+abbrev pub is_sync : Result (Unit {0}) StoreFault → Bool
+is_sync (Ok x) = false
+is_sync (Err StoreFault.Sync) = true
+is_sync (Err StoreFault.NoSpace) = false
+is_sync (Err StoreFault.Gone) = false
+is_sync (Err StoreFault.Memory) = false

@@ -1,7 +1,7 @@
 // What drives have written becomes a batch of the vault's journal.
 ghost use Rattle.std.specs.Prelude.{◌≡◌, ◌++◌, [], ◌∷◌, ℕ, List, Bool, length, OnOk, OnErr};
 ghost use Rattle.extent_groups.specs.Planned.{after};
-ghost use Rattle.vault.specs.Images.{Image, Stands, recovered};
+ghost use Rattle.vault.specs.Images.{Image, SameUnits, recovered};
 ghost use Rattle.vault.specs.Moments.{LeavesOnly, IsLogged, StandsForSome, IsRefused, IsUnchanged, HasCause, no_drive};
 ghost use Rattle.vault.specs.declared.store.Stop.{Stop};
 ghost use Rattle.vault.specs.declared.store.Stop.TheVariants.{Killed};
@@ -22,6 +22,9 @@ pub(crate) fn append<N: Chronicle, V: Vault>(
     ensures empty { OnOk result (changes.new.batch ≡ []) }
     ensures kept { OnErr result (changes.new.batch ≡ changes.old.batch) }
 
+    ensures cells { V.known vault.old → OnOk result (SameUnits (Image.cells (V.seen vault.new)) (Image.cells (V.seen vault.old))) }
+    ensures journal { V.known vault.old → OnOk result (Image.journal (V.seen vault.new) ≡ Image.journal (V.seen vault.old) ++ changes.old.batch ∷ []) }
+
     // What the vault stands for is what it stood for after the batch.
     ensures ok { V.known vault.old → OnOk result ((d at : ℕ) → recovered (V.seen vault.new) d at ≡ after (recovered (V.seen vault.old)) changes.old.batch d at) }
 
@@ -37,6 +40,7 @@ pub(crate) fn append<N: Chronicle, V: Vault>(
     ensures cause { V.known vault.old → HasCause no_drive (V.faults vault.old) (V.faults vault.new) result }
 {
     add(vault, &changes.batch)?;
+    changes.appended = changes.appended.saturating_add(changes.batch.len() as u64);
     changes.batch.clear();
     Ok(())
 }

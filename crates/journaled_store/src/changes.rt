@@ -25,6 +25,10 @@ pub struct Changes<N: Chronicle> {
     pub(crate) lost: [bool; DRIVES],
     /// The table's unit after the batch: a mark for each drive.
     pub(crate) noted: [u8; DRIVES],
+    /// Units that were appended to the journal since it was emptied.
+    pub(crate) appended: u64,
+    /// Drives that failed the vault. Each is doomed when it is shown.
+    pub(crate) failed: [bool; DRIVES],
 }
 
 impl<N: Chronicle> Changes<N> {
@@ -46,7 +50,16 @@ impl<N: Chronicle> Changes<N> {
             next: 0,
             lost: [false; DRIVES],
             noted,
+            appended: 0,
+            failed: [false; DRIVES],
         })
+    }
+
+    /// Units that were appended to the journal since it was emptied.
+    pub fn appended(&self) -> u64
+        ensures { result ≡ self.now.appended }
+    {
+        self.appended
     }
 }
 
@@ -100,6 +113,17 @@ fn mark(lost: &mut [bool; DRIVES], number: u8, is_lost: bool)
     lost[usize::from(number)] = is_lost;
 }
 
+// Dooms a drive that failed the vault.
+fn doom_failed<N: Chronicle>(drive: &mut CachedDrive<N>, failed: bool)
+    ensures units { drive.new.cache.units ≡ drive.old.cache.units }
+    ensures lost { drive.new.lost ≡ drive.old.lost }
+    ensures hand { drive.new.hand ≡ drive.old.hand }
+{
+    if failed {
+        drive.doom();
+    }
+}
+
 impl<N: Chronicle> Visit<CachedDrive<N>> for Changes<N> {
     ghost use Rattle.std.specs.Prelude.{ℕ};
     ghost use Rattle.journaled_store.specs.Steps.{LeadsTo, views_to, leads_stays, leads_further};
@@ -131,6 +155,7 @@ impl<N: Chronicle> Visit<CachedDrive<N>> for Changes<N> {
             &mut self.batch,
         ) {
             Ok(()) => {
+                doom_failed(drive, self.failed[usize::from(number)]);
                 mark(&mut self.lost, number, drive.is_lost());
                 self.next += 1;
                 true

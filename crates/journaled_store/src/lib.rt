@@ -2,8 +2,12 @@
 #![tactic(auto)]
 
 mod append;
+mod bytes;
 mod changes;
 mod publishing;
+mod settling;
+mod store;
 
 pub use changes::Changes;
 pub use publishing::{publish, sync};
+pub use store::JournaledStore;

@@ -18,8 +18,8 @@ use extents::DRIVES;
 use history::Chronicle;
 use vault::{Vault, VaultError, flush};
 
-// What a vault's refusal means for a store.
-fn fault_of(error: VaultError) -> StoreFault
+/// What a vault's refusal means for a store.
+pub(crate) fn fault_of(error: VaultError) -> StoreFault
     ensures { result ≡ fault_of error }
 {
     match error {
@@ -28,8 +28,11 @@ fn fault_of(error: VaultError) -> StoreFault
     }
 }
 
-// Puts what each drive has written since into the batch, and which are lost. False if out of memory: some of it may be there.
-fn collect<N: Chronicle>(store: &mut ArrayStore<CachedDrive<N>>, changes: &mut Changes<N>) -> bool
+/// Puts what each drive has written since into the batch, and which are lost. False if out of memory: some of it may be there.
+pub(crate) fn collect<N: Chronicle>(
+    store: &mut ArrayStore<CachedDrive<N>>,
+    changes: &mut Changes<N>,
+) -> bool
     ensures same { (store.new.tiers ≡ store.old.tiers) × (store.new.size ≡ store.old.size) × (store.new.unsynced ≡ store.old.unsynced) }
     ensures step { (lost : List Bool) (c : Cells) → IsInStep lost changes.old.keeper changes.old.batch c → IsInStep lost changes.new.keeper changes.new.batch c }
     ensures noted { (c : Cells) → IsNoted changes.old.noted changes.old.batch c → IsNoted changes.new.noted changes.new.batch c }
@@ -66,9 +69,12 @@ pub fn publish<N: Chronicle, V: Vault>(
     ensures kept { V.known vault.old → (lost : List Bool) → IsLive lost changes.old.keeper changes.old.noted changes.old.batch (recovered (V.seen vault.old))
         → OnOk result (IsKept lost store.old.tiers.world.array.parts.drives (recovered (V.seen vault.new))) }
     ensures killed { V.known vault.old → (lost : List Bool) → IsLogged V.seen V.may_leave lost Killed vault.old (length (Image.journal (V.seen vault.old)))
-        → OnOk result (IsLogged V.seen V.may_leave lost Killed vault.new (length (Image.journal (V.seen vault.new)))) }
+        → UnlessSync result (IsLogged V.seen V.may_leave lost Killed vault.new (length (Image.journal (V.seen vault.new)))) }
     ensures added { V.known vault.old → (lost : List Bool) (stop : Stop) (low : ℕ) → IsLogged V.seen V.may_leave lost stop vault.old low
-        → OnOk result (IsLogged V.seen V.may_leave lost stop vault.new low) }
+        → UnlessSync result (IsLogged V.seen V.may_leave lost stop vault.new low) }
+    ensures batches { V.known vault.old → (lost : List Bool) → IsLive lost changes.old.keeper changes.old.noted changes.old.batch (recovered (V.seen vault.old))
+        → OnOk result ((low : ℕ) (i : Image) → StandsForSome lost (Image.cells (V.seen vault.new)) low (Image.journal (V.seen vault.new)) i
+        → IsBeforeOrNow lost (V.seen vault.old) low store.old.tiers.world.array.parts.drives i) }
 
     // A stop at any moment leaves the units of before, or those of the drives now. By a loss of power some of the last batches may be
     // missing, none of those of the last flush.

@@ -139,10 +139,18 @@ pub record IsTorn (lost : List Bool) (base i : Image) : Type 0 where
   pub cells : DifferAt lost (flat base.journal) base.cells i.cells
   pub journal : i.journal ≡ base.journal
 
+-- what a stop leaves is torn within the journal's writes
+abbrev pub AreTorn : {V : Type 0} → (V → Image) → (V → Stop → Image → Type 0) → List Bool → V → Type 0
+AreTorn seen may_leave lost vault = (stop : Stop) → Within (may_leave vault stop) (IsTorn lost (seen vault))
+
+-- a batch writes only places of the journal's writes
+abbrev pub IsAmong : List Wanted → Image → Type 0
+IsAmong batch i = (x : Place) → IsWrittenTo batch x → IsWrittenTo (flat i.journal) x
+
 -- a stop leaves what is torn within the journal's writes, and a batch writes only places of theirs
 pub record IsReady {V : Type 0} (seen : V → Image) (may_leave : V → Stop → Image → Type 0) (lost : List Bool) (batch : List Wanted) (vault : V) : Type 0 where
-  pub torn : (stop : Stop) → Within (may_leave vault stop) (IsTorn lost (seen vault))
-  pub among : (x : Place) → IsWrittenTo batch x → IsWrittenTo (flat (seen vault).journal) x
+  pub torn : AreTorn seen may_leave lost vault
+  pub among : IsAmong batch (seen vault)
 
 -- writes of the journal were made in part: what calls find is torn, and so is what a stop at any moment since old leaves
 pub record IsUnderway {V : Type 0} (seen : V → Image) (may_leave : V → Stop → Image → Type 0) (moment : V → ℕ) (left_since : V → Stop → ℕ → Image → Type 0)

@@ -3,7 +3,7 @@ ghost use Rattle.std.specs.Prelude.{◌≡◌, ◌≢◌, ◌<◌, ℕ, false, s
 ghost use Rattle.extent_groups.specs.Planned.{after};
 ghost use Rattle.extent_groups.specs.declared.place.Place.{Place};
 ghost use Rattle.vault.specs.Images.{Image, SameOn, Stands, recovered, flat, is_lost as is_lost_of};
-ghost use Rattle.vault.specs.Moments.{LeavesOnly, AreLogged, IsSettled, IsKept, IsUnderway, IsTorn, IsReady, HasCause, Within};
+ghost use Rattle.vault.specs.Moments.{LeavesOnly, AreLogged, IsSettled, IsKept, IsUnderway, AreTorn, IsTorn, IsAmong, IsReady, HasCause};
 ghost use Rattle.vault.specs.declared.store.Stop.{Stop};
 
 use crate::batch::Batch;
@@ -18,11 +18,11 @@ pub fn settle<V: Vault>(
     batch: &mut Batch,
     lost: &[bool; DRIVES],
 ) -> Result<(), VaultError>
-    requires logged { V.known vault.old → AreLogged V.seen V.may_leave lost.now vault.old }
     ensures stays { V.known vault.old → V.known vault.new }
-    ensures settled { V.known vault.old → OnOk result (IsSettled V.seen V.may_leave lost.now vault.old vault.new) }
-    ensures kept { V.known vault.old → IfErr result (λ e. e ≢ VaultError.Journal → IsKept V.seen V.may_leave lost.now vault.old vault.new) }
-    ensures any_moment { V.known vault.old → (stop : Stop) → LeavesOnly V.moment V.left_since stop vault.old vault.new (Stands lost.now (recovered (V.seen vault.old))) }
+    ensures settled { V.known vault.old → AreLogged V.seen V.may_leave lost.now vault.old → OnOk result (IsSettled V.seen V.may_leave lost.now vault.old vault.new) }
+    ensures kept { V.known vault.old → AreLogged V.seen V.may_leave lost.now vault.old → IfErr result (λ e. e ≢ VaultError.Journal → IsKept V.seen V.may_leave lost.now vault.old vault.new) }
+    ensures any_moment { V.known vault.old → AreLogged V.seen V.may_leave lost.now vault.old → (stop : Stop)
+        → LeavesOnly V.moment V.left_since stop vault.old vault.new (Stands lost.now (recovered (V.seen vault.old))) }
     ensures cause { V.known vault.old → HasCause (λ d. is_lost_of lost.now d ≡ false) (V.faults vault.old) (V.faults vault.new) result }
 {
     write_batches(vault, batch, lost)?;
@@ -36,9 +36,10 @@ fn write_batches<V: Vault>(
     batch: &mut Batch,
     lost: &[bool; DRIVES],
 ) -> Result<(), VaultError>
-    requires torn { V.known vault.old → (stop : Stop) → Within (V.may_leave vault.old stop) (IsTorn lost.now (V.seen vault.old)) }
     ensures stays { V.known vault.old → V.known vault.new }
-    ensures underway { V.known vault.old → IsUnderway V.seen V.may_leave V.moment V.left_since lost.now vault.old vault.new }
+    ensures finds { V.known vault.old → IsTorn lost.now (V.seen vault.old) (V.seen vault.new) }
+    ensures underway { V.known vault.old → AreTorn V.seen V.may_leave lost.now vault.old
+        → IsUnderway V.seen V.may_leave V.moment V.left_since lost.now vault.old vault.new }
     ensures written { V.known vault.old → OnOk result (SameOn lost.now (Image.cells (V.seen vault.new)) (recovered (V.seen vault.old))) }
     ensures cause { V.known vault.old → HasCause (λ d. is_lost_of lost.now d ≡ false) (V.faults vault.old) (V.faults vault.new) result }
 {
@@ -57,6 +58,7 @@ fn write_units<V: Vault>(
     lost: &[bool; DRIVES],
 ) -> Result<(), VaultError>
     ensures stays { V.known vault.old → V.known vault.new }
+    ensures finds { V.known vault.old → IsAmong batch.now (V.seen vault.old) → IsTorn lost.now (V.seen vault.old) (V.seen vault.new) }
     ensures underway { V.known vault.old → IsReady V.seen V.may_leave lost.now batch.now vault.old → IsUnderway V.seen V.may_leave V.moment V.left_since lost.now vault.old vault.new }
     ensures written { V.known vault.old → OnOk result (SameOn lost.now (Image.cells (V.seen vault.new)) (after (Image.cells (V.seen vault.old)) batch.now)) }
     ensures cause { V.known vault.old → HasCause (λ d. is_lost_of lost.now d ≡ false) (V.faults vault.old) (V.faults vault.new) result }

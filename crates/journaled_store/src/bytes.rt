@@ -1,0 +1,53 @@
+// A journaled store as a store of bytes.
+ghost use Rattle.std.specs.Prelude.{◌≡◌, ◌+◌, ◌≤◌, List, length, replicate, IfErr, OnOk, slice_range};
+ghost use Rattle.byte_store.specs.Flat.{Flat, Sizes};
+ghost use Rattle.byte_store.specs.Changes.{IsChanged, IsFlushed};
+ghost use Rattle.array_store.specs.Stores.{IsStoreOf};
+
+use crate::store::JournaledStore;
+use byte_store::{ByteStore, StoreFault};
+use history::Chronicle;
+use std::alloc::Global;
+use vault::Vault;
+
+impl<N: Chronicle, V: Vault + Drop> ByteStore for JournaledStore<N, V> {
+    ghost represents = { λ s. IsStoreOf s.store.tiers s.store.size s.unsynced };
+
+    ghost sizes = { λ s. record { bytes = s.store.size; block = s.store.tiers.world.array.parts.groups.payload } };
+
+    fn size(&self) -> u64 {
+        self.store.size()
+    }
+
+    fn block_bytes(&self) -> u32 {
+        self.store.block_bytes()
+    }
+
+    // A drive that is lost by it is noted in the next batch.
+    fn read(&mut self, offset: u64, out: &mut [u8]) -> Result<(), StoreFault> {
+        self.store.read(offset, out)
+    }
+
+    fn write(&mut self, alloc: Global, offset: u64, bytes: &[u8]) -> Result<(), StoreFault> {
+        self.make_room();
+        self.kept_write(alloc, offset, bytes)
+    }
+
+    fn zero(&mut self, alloc: Global, offset: u64, length: u32) -> Result<(), StoreFault> {
+        self.make_room();
+        self.kept_zero(alloc, offset, length)
+    }
+
+    fn flush(&mut self) -> Result<(), StoreFault> {
+        self.kept_flush()
+    }
+
+    // What the array does ahead is a batch too.
+    fn rest(&mut self, alloc: Global) {
+        self.store.rest(alloc);
+        let _ = self.publish();
+        if self.changes.appended >= self.settle_at {
+            let _ = self.settle();
+        }
+    }
+}

@@ -1,0 +1,260 @@
+// The bytes of a disk, each change of which is kept by a vault.
+ghost use Rattle.std.specs.Prelude.{◌≡◌, ◌+◌, ◌≤◌, ℕ, List, Bool, length, replicate, false, OnOk};
+ghost use Rattle.byte_store.specs.Flat.{Flat};
+ghost use Rattle.byte_store.specs.Changes.{IsChanged, IsFlushed};
+ghost use Rattle.array_store.specs.Stores.{IsStoreOf};
+ghost use Rattle.vault.specs.Images.{Image, recovered};
+ghost use Rattle.vault.specs.Moments.{LeavesOnly, IsLogged, StandsForSome};
+ghost use Rattle.vault.specs.declared.store.Stop.{Stop};
+ghost use Rattle.vault.specs.declared.store.Stop.TheVariants.{Killed};
+ghost use Rattle.journaled_store.specs.Steps.{IsBeforeOrNow, IsKept, IsLive, UnlessFailed, is_sync};
+
+use crate::changes::Changes;
+use crate::publishing::{publish, sync};
+use array_store::ArrayStore;
+use byte_store::{ByteStore, StoreFault};
+use cached_drive::CachedDrive;
+use history::Chronicle;
+use std::alloc::Global;
+use step_core::World;
+use vault::{Batch, Vault};
+
+// Whether the journal failed.
+fn is_sync(published: &Result<(), StoreFault>) -> bool
+    ensures { result ≡ is_sync published.now }
+{
+    matches!(published, Err(StoreFault::Sync))
+}
+
+/// The bytes of a disk. What a call has written is one batch in a vault's journal before the call returns.
+#[derive(Drop)]
+pub struct JournaledStore<N: Chronicle, V: Vault + Drop> {
+    pub(crate) store: ArrayStore<CachedDrive<N>>,
+    pub(crate) changes: Changes<N>,
+    pub(crate) vault: V,
+    /// A batch of the journal, while it is settled.
+    pub(crate) batch: Batch,
+    /// Units in the journal from which `rest` settles.
+    pub(crate) settle_at: u64,
+    /// Whether something was written since the last flush.
+    pub(crate) unsynced: bool,
+    /// Whether the journal failed. Then each change is refused.
+    pub(crate) failed: bool,
+}
+
+impl<N: Chronicle, V: Vault + Drop> JournaledStore<N, V> {
+    /// A store over a vault that stands for all that the drives hold, but for what `changes` has. Once `settle_at` units were
+    /// appended to the journal, `rest` settles it; a write does so from four times as many.
+    pub fn new(
+        alloc: Global,
+        store: ArrayStore<CachedDrive<N>>,
+        changes: Changes<N>,
+        vault: V,
+        settle_at: u64,
+    ) -> JournaledStore<N, V>
+        ensures parts { (result.store ≡ store) × (result.changes ≡ changes) × (result.vault ≡ vault) }
+        ensures flags { (result.unsynced ≡ false) × (result.failed ≡ false) }
+    {
+        JournaledStore {
+            store,
+            changes,
+            vault,
+            batch: Batch::new(alloc),
+            settle_at,
+            unsynced: false,
+            failed: false,
+        }
+    }
+
+    /// The array's world, for the calls that only read it.
+    pub fn world(&self) -> &World<CachedDrive<N>>
+        ensures { result.now ≡ self.now.store.tiers.world }
+    {
+        self.store.world()
+    }
+
+    /// Makes one batch of all that the drives have written and of which are lost, and appends it to the vault's journal. `Memory` if
+    /// out of memory, or if the batch doesn't fit: the next call has it all. `Sync` where the journal failed.
+    pub fn publish(&mut self) -> Result<(), StoreFault>
+        ensures same { (self.new.store ≡ self.old.store) × (self.new.unsynced ≡ self.old.unsynced) }
+        ensures stays { V.known self.old.vault → V.known self.new.vault }
+        ensures step { V.known self.old.vault → (lost : List Bool)
+            → UnlessFailed self.old.failed (IsLive lost self.old.changes.keeper self.old.changes.noted self.old.changes.batch (recovered (V.seen self.old.vault)))
+            → UnlessFailed self.new.failed (IsLive lost self.new.changes.keeper self.new.changes.noted self.new.changes.batch (recovered (V.seen self.new.vault))) }
+        ensures killed { V.known self.old.vault → (lost : List Bool)
+            → UnlessFailed self.old.failed (IsLogged V.seen V.may_leave lost Killed self.old.vault (length (Image.journal (V.seen self.old.vault))))
+            → UnlessFailed self.new.failed (IsLogged V.seen V.may_leave lost Killed self.new.vault (length (Image.journal (V.seen self.new.vault)))) }
+        ensures added { V.known self.old.vault → (lost : List Bool) (stop : Stop) (low : ℕ)
+            → UnlessFailed self.old.failed (IsLogged V.seen V.may_leave lost stop self.old.vault low)
+            → UnlessFailed self.new.failed (IsLogged V.seen V.may_leave lost stop self.new.vault low) }
+
+        // After Ok the vault has all that the drives hold, and which are lost.
+        ensures kept { V.known self.old.vault → (lost : List Bool)
+            → UnlessFailed self.old.failed (IsLive lost self.old.changes.keeper self.old.changes.noted self.old.changes.batch (recovered (V.seen self.old.vault)))
+            → OnOk result (IsKept lost self.new.store.tiers.world.array.parts.drives (recovered (V.seen self.new.vault))) }
+        ensures batches { V.known self.old.vault → (lost : List Bool)
+            → UnlessFailed self.old.failed (IsLive lost self.old.changes.keeper self.old.changes.noted self.old.changes.batch (recovered (V.seen self.old.vault)))
+            → OnOk result ((low : ℕ) (i : Image) → StandsForSome lost (Image.cells (V.seen self.new.vault)) low (Image.journal (V.seen self.new.vault)) i
+            → IsBeforeOrNow lost (V.seen self.old.vault) low self.old.store.tiers.world.array.parts.drives i) }
+
+        // A stop at any moment leaves the units of before, or those of the drives now.
+        ensures any_moment { V.known self.old.vault → (lost : List Bool)
+            → UnlessFailed self.old.failed (IsLive lost self.old.changes.keeper self.old.changes.noted self.old.changes.batch (recovered (V.seen self.old.vault)))
+            → (stop : Stop) (low : ℕ) → IsLogged V.seen V.may_leave lost stop self.old.vault low
+            → LeavesOnly V.moment V.left_since stop self.old.vault self.new.vault
+            (IsBeforeOrNow lost (V.seen self.old.vault) low self.new.store.tiers.world.array.parts.drives) }
+    {
+        if self.failed {
+            return Err(StoreFault::Sync);
+        }
+        let published = publish(&mut self.store, &mut self.changes, &mut self.vault);
+        self.failed = is_sync(&published);
+        published
+    }
+
+    /// Publishes, and makes all batches of the journal durable. `Sync` where that failed.
+    pub fn publish_durably(&mut self) -> Result<(), StoreFault>
+        ensures same { (self.new.store ≡ self.old.store) × (self.new.unsynced ≡ self.old.unsynced) }
+        ensures stays { V.known self.old.vault → V.known self.new.vault }
+        ensures step { V.known self.old.vault → (lost : List Bool)
+            → UnlessFailed self.old.failed (IsLive lost self.old.changes.keeper self.old.changes.noted self.old.changes.batch (recovered (V.seen self.old.vault)))
+            → UnlessFailed self.new.failed (IsLive lost self.new.changes.keeper self.new.changes.noted self.new.changes.batch (recovered (V.seen self.new.vault))) }
+
+        // After Ok each stop leaves all batches, and so all that the drives hold.
+        ensures kept { V.known self.old.vault → (lost : List Bool)
+            → UnlessFailed self.old.failed (IsLive lost self.old.changes.keeper self.old.changes.noted self.old.changes.batch (recovered (V.seen self.old.vault)))
+            → OnOk result (IsKept lost self.new.store.tiers.world.array.parts.drives (recovered (V.seen self.new.vault))) }
+        ensures flushed { V.known self.old.vault → (lost : List Bool) (stop : Stop) (low : ℕ)
+            → UnlessFailed self.old.failed (IsLogged V.seen V.may_leave lost stop self.old.vault low)
+            → OnOk result (IsLogged V.seen V.may_leave lost stop self.new.vault (length (Image.journal (V.seen self.new.vault)))) }
+        ensures logged { V.known self.old.vault → (lost : List Bool) (stop : Stop) (low : ℕ)
+            → UnlessFailed self.old.failed (IsLogged V.seen V.may_leave lost stop self.old.vault low)
+            → UnlessFailed self.new.failed ((most : ℕ) × (low ≤ most) × IsLogged V.seen V.may_leave lost stop self.new.vault most) }
+        ensures batches { V.known self.old.vault → (lost : List Bool)
+            → UnlessFailed self.old.failed (IsLive lost self.old.changes.keeper self.old.changes.noted self.old.changes.batch (recovered (V.seen self.old.vault)))
+            → OnOk result ((low : ℕ) (i : Image) → StandsForSome lost (Image.cells (V.seen self.new.vault)) low (Image.journal (V.seen self.new.vault)) i
+            → IsBeforeOrNow lost (V.seen self.old.vault) low self.old.store.tiers.world.array.parts.drives i) }
+
+        // A stop at any moment leaves the units of before, or those of the drives now.
+        ensures any_moment { V.known self.old.vault → (lost : List Bool)
+            → UnlessFailed self.old.failed (IsLive lost self.old.changes.keeper self.old.changes.noted self.old.changes.batch (recovered (V.seen self.old.vault)))
+            → (stop : Stop) (low : ℕ) → IsLogged V.seen V.may_leave lost stop self.old.vault low
+            → LeavesOnly V.moment V.left_since stop self.old.vault self.new.vault
+            (IsBeforeOrNow lost (V.seen self.old.vault) low self.new.store.tiers.world.array.parts.drives) }
+    {
+        self.publish()?;
+        let synced = sync(&mut self.vault);
+        self.failed = synced.is_err();
+        synced
+    }
+
+    /// Writes bytes from an offset on, and publishes. A refused write may have stopped in its middle.
+    pub fn kept_write(&mut self, alloc: Global, offset: u64, bytes: &[u8]) -> Result<(), StoreFault>
+        requires within { offset + length bytes.now ≤ self.old.store.size }
+        ensures change { (F : Flat) → IsStoreOf self.old.store.tiers self.old.store.size self.old.unsynced F
+            → (G : Flat) × IsStoreOf self.new.store.tiers self.new.store.size self.new.unsynced G × IsChanged result F offset bytes.now G }
+        ensures sizes { (self.new.store.size ≡ self.old.store.size)
+            × (self.new.store.tiers.world.array.parts.groups.payload ≡ self.old.store.tiers.world.array.parts.groups.payload) }
+        ensures stays { V.known self.old.vault → V.known self.new.vault }
+        ensures step { V.known self.old.vault → (lost : List Bool)
+            → UnlessFailed self.old.failed (IsLive lost self.old.changes.keeper self.old.changes.noted self.old.changes.batch (recovered (V.seen self.old.vault)))
+            → UnlessFailed self.new.failed (IsLive lost self.new.changes.keeper self.new.changes.noted self.new.changes.batch (recovered (V.seen self.new.vault))) }
+        ensures killed { V.known self.old.vault → (lost : List Bool)
+            → UnlessFailed self.old.failed (IsLogged V.seen V.may_leave lost Killed self.old.vault (length (Image.journal (V.seen self.old.vault))))
+            → UnlessFailed self.new.failed (IsLogged V.seen V.may_leave lost Killed self.new.vault (length (Image.journal (V.seen self.new.vault)))) }
+        ensures added { V.known self.old.vault → (lost : List Bool) (stop : Stop) (low : ℕ)
+            → UnlessFailed self.old.failed (IsLogged V.seen V.may_leave lost stop self.old.vault low)
+            → UnlessFailed self.new.failed (IsLogged V.seen V.may_leave lost stop self.new.vault low) }
+
+        // A kill after Ok leaves all that the drives hold, so the bytes that were written, and which drives are lost.
+        ensures kept { V.known self.old.vault → (lost : List Bool)
+            → UnlessFailed self.old.failed (IsLive lost self.old.changes.keeper self.old.changes.noted self.old.changes.batch (recovered (V.seen self.old.vault)))
+            → OnOk result (IsKept lost self.new.store.tiers.world.array.parts.drives (recovered (V.seen self.new.vault))) }
+
+        // A stop at any moment leaves the units of before, or those of the drives now. By a loss of power some of the last batches
+        // may be missing, none of those of the last flush.
+        ensures any_moment { V.known self.old.vault → (lost : List Bool)
+            → UnlessFailed self.old.failed (IsLive lost self.old.changes.keeper self.old.changes.noted self.old.changes.batch (recovered (V.seen self.old.vault)))
+            → (stop : Stop) (low : ℕ) → IsLogged V.seen V.may_leave lost stop self.old.vault low
+            → LeavesOnly V.moment V.left_since stop self.old.vault self.new.vault
+            (IsBeforeOrNow lost (V.seen self.old.vault) low self.new.store.tiers.world.array.parts.drives) }
+    {
+        self.unsynced = true;
+        let written = self.store.write(alloc, offset, bytes);
+        self.publish()?;
+        written
+    }
+
+    /// Makes the bytes from an offset on zero, and publishes. A refusal may have come in its middle.
+    pub fn kept_zero(&mut self, alloc: Global, offset: u64, count: u32) -> Result<(), StoreFault>
+        requires within { offset + count ≤ self.old.store.size }
+        ensures change { (F : Flat) → IsStoreOf self.old.store.tiers self.old.store.size self.old.unsynced F
+            → (G : Flat) × IsStoreOf self.new.store.tiers self.new.store.size self.new.unsynced G × IsChanged result F offset (replicate count 0) G }
+        ensures sizes { (self.new.store.size ≡ self.old.store.size)
+            × (self.new.store.tiers.world.array.parts.groups.payload ≡ self.old.store.tiers.world.array.parts.groups.payload) }
+        ensures stays { V.known self.old.vault → V.known self.new.vault }
+        ensures step { V.known self.old.vault → (lost : List Bool)
+            → UnlessFailed self.old.failed (IsLive lost self.old.changes.keeper self.old.changes.noted self.old.changes.batch (recovered (V.seen self.old.vault)))
+            → UnlessFailed self.new.failed (IsLive lost self.new.changes.keeper self.new.changes.noted self.new.changes.batch (recovered (V.seen self.new.vault))) }
+        ensures killed { V.known self.old.vault → (lost : List Bool)
+            → UnlessFailed self.old.failed (IsLogged V.seen V.may_leave lost Killed self.old.vault (length (Image.journal (V.seen self.old.vault))))
+            → UnlessFailed self.new.failed (IsLogged V.seen V.may_leave lost Killed self.new.vault (length (Image.journal (V.seen self.new.vault)))) }
+        ensures added { V.known self.old.vault → (lost : List Bool) (stop : Stop) (low : ℕ)
+            → UnlessFailed self.old.failed (IsLogged V.seen V.may_leave lost stop self.old.vault low)
+            → UnlessFailed self.new.failed (IsLogged V.seen V.may_leave lost stop self.new.vault low) }
+
+        // A kill after Ok leaves all that the drives hold, and which drives are lost.
+        ensures kept { V.known self.old.vault → (lost : List Bool)
+            → UnlessFailed self.old.failed (IsLive lost self.old.changes.keeper self.old.changes.noted self.old.changes.batch (recovered (V.seen self.old.vault)))
+            → OnOk result (IsKept lost self.new.store.tiers.world.array.parts.drives (recovered (V.seen self.new.vault))) }
+
+        // A stop at any moment leaves the units of before, or those of the drives now. By a loss of power some of the last batches
+        // may be missing, none of those of the last flush.
+        ensures any_moment { V.known self.old.vault → (lost : List Bool)
+            → UnlessFailed self.old.failed (IsLive lost self.old.changes.keeper self.old.changes.noted self.old.changes.batch (recovered (V.seen self.old.vault)))
+            → (stop : Stop) (low : ℕ) → IsLogged V.seen V.may_leave lost stop self.old.vault low
+            → LeavesOnly V.moment V.left_since stop self.old.vault self.new.vault
+            (IsBeforeOrNow lost (V.seen self.old.vault) low self.new.store.tiers.world.array.parts.drives) }
+    {
+        self.unsynced = true;
+        let zeroed = self.store.zero(alloc, offset, count);
+        self.publish()?;
+        zeroed
+    }
+
+    /// Makes all bytes durable. `Sync` where the journal failed, and while more than one drive is lost.
+    pub fn kept_flush(&mut self) -> Result<(), StoreFault>
+        ensures change { (F : Flat) → IsStoreOf self.old.store.tiers self.old.store.size self.old.unsynced F
+            → (G : Flat) × IsStoreOf self.new.store.tiers self.new.store.size self.new.unsynced G × IsFlushed result F G }
+        ensures sizes { (self.new.store.size ≡ self.old.store.size)
+            × (self.new.store.tiers.world.array.parts.groups.payload ≡ self.old.store.tiers.world.array.parts.groups.payload) }
+        ensures stays { V.known self.old.vault → V.known self.new.vault }
+        ensures step { V.known self.old.vault → (lost : List Bool)
+            → UnlessFailed self.old.failed (IsLive lost self.old.changes.keeper self.old.changes.noted self.old.changes.batch (recovered (V.seen self.old.vault)))
+            → UnlessFailed self.new.failed (IsLive lost self.new.changes.keeper self.new.changes.noted self.new.changes.batch (recovered (V.seen self.new.vault))) }
+
+        // Each stop after Ok leaves all that the drives hold, and which drives are lost.
+        ensures kept { V.known self.old.vault → (lost : List Bool)
+            → UnlessFailed self.old.failed (IsLive lost self.old.changes.keeper self.old.changes.noted self.old.changes.batch (recovered (V.seen self.old.vault)))
+            → OnOk result (IsKept lost self.new.store.tiers.world.array.parts.drives (recovered (V.seen self.new.vault))) }
+        ensures flushed { V.known self.old.vault → (lost : List Bool) (stop : Stop) (low : ℕ)
+            → UnlessFailed self.old.failed (IsLogged V.seen V.may_leave lost stop self.old.vault low)
+            → OnOk result (IsLogged V.seen V.may_leave lost stop self.new.vault (length (Image.journal (V.seen self.new.vault)))) }
+        ensures logged { V.known self.old.vault → (lost : List Bool) (stop : Stop) (low : ℕ)
+            → UnlessFailed self.old.failed (IsLogged V.seen V.may_leave lost stop self.old.vault low)
+            → UnlessFailed self.new.failed ((most : ℕ) × (low ≤ most) × IsLogged V.seen V.may_leave lost stop self.new.vault most) }
+
+        // A stop at any moment leaves the units of before, or those of the drives now.
+        ensures any_moment { V.known self.old.vault → (lost : List Bool)
+            → UnlessFailed self.old.failed (IsLive lost self.old.changes.keeper self.old.changes.noted self.old.changes.batch (recovered (V.seen self.old.vault)))
+            → (stop : Stop) (low : ℕ) → IsLogged V.seen V.may_leave lost stop self.old.vault low
+            → LeavesOnly V.moment V.left_since stop self.old.vault self.new.vault
+            (IsBeforeOrNow lost (V.seen self.old.vault) low self.new.store.tiers.world.array.parts.drives) }
+    {
+        let flushed = self.store.flush();
+        self.publish_durably()?;
+        flushed?;
+        self.unsynced = false;
+        Ok(())
+    }
+}
