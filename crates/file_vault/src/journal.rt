@@ -133,8 +133,10 @@ pub(crate) fn read_body<F: Files>(
         (F.may_leave files.old stop) (F.may_leave files.new stop) }
     ensures cause { F.known files.old → HasCause no_drive (F.faults files.old) (F.faults files.new) result }
 {
-    body.clear();
-    body.resize(length as usize, 0)?;
+    let length = length as usize;
+    // What is there is written over, so that no more is filled than it must grow.
+    body.truncate(length);
+    body.resize(length, 0)?;
     match read_part(files, JOURNAL, at, body) {
         Ok(()) => Ok(()),
         Err(_) => Err(VaultError::Journal),

@@ -13,6 +13,9 @@ use std::io::Write;
 use uuid::Uuid;
 use vault::TABLE;
 
+// The most bytes of batches for which a new journal has room.
+const MOST_ROOM: u64 = 64 * 1024 * 1024;
+
 // Opens a file that isn't there, for reading too.
 fn make_file(rt: &HostRuntime, folder: Folder<'_>, name: Name) -> Result<File, Trouble> {
     let path = folder.path(rt.alloc(), name)?;
@@ -90,6 +93,13 @@ fn look(rt: &HostRuntime, folder: Folder<'_>, drives: u8) -> Result<(), Trouble>
     Ok(())
 }
 
+// Bytes of batches for which a new journal has room at once, so that it need not grow at each sync: half of what the drives have, and
+// 64 MiB at most.
+fn journal_room(layout: &Layout, drives: u8) -> u64 {
+    let units = u64::from(layout.count(0)) * u64::from(drives);
+    (units * u64::from(layout.unit_bytes) / 2).min(MOST_ROOM)
+}
+
 // Makes the files of the drives, of the state and the journal.
 fn make_files(rt: &HostRuntime, folder: Folder<'_>, layout: &Layout, plan: &Plan) -> Result<RealFiles, Trouble> {
     let mut files = RealFiles::new(rt.alloc());
@@ -99,7 +109,7 @@ fn make_files(rt: &HostRuntime, folder: Folder<'_>, layout: &Layout, plan: &Plan
     }
     let bytes = file_bytes(layout, TABLE);
     files.put(TABLE, make_zeros(rt, folder, Name::State, bytes)?)?;
-    let bytes = file_bytes(layout, JOURNAL);
+    let bytes = file_bytes(layout, JOURNAL) + journal_room(layout, plan.drives);
     files.put(JOURNAL, make_zeros(rt, folder, Name::Journal, bytes)?)?;
     Ok(files)
 }

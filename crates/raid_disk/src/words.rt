@@ -41,7 +41,7 @@ pub(crate) fn matches_of<'a>(alloc: Global, words: &'a [String]) -> Result<ArgMa
     let journal = Arg::new(alloc, "journal")
         .long("journal")
         .value_name("SIZE")
-        .default_value("32M")
+        .default_value("64M")
         .help("bytes of units in the journal from which on they are written to their places");
     let serve = Command::new(alloc, "serve")
         .about("serves the disk to one NBD client, on standard input and output")
