@@ -97,7 +97,7 @@ fn look(rt: &HostRuntime, folder: Folder<'_>, drives: u8) -> Result<(), Trouble>
 // 64 MiB at most.
 fn journal_room(layout: &Layout, drives: u8) -> u64 {
     let units = u64::from(layout.count(0)) * u64::from(drives);
-    (units * u64::from(layout.unit_bytes) / 2).min(MOST_ROOM)
+    (units.saturating_mul(u64::from(layout.unit_bytes)) / 2).min(MOST_ROOM)
 }
 
 // Makes the files of the drives, of the state and the journal.
@@ -109,7 +109,7 @@ fn make_files(rt: &HostRuntime, folder: Folder<'_>, layout: &Layout, plan: &Plan
     }
     let bytes = file_bytes(layout, TABLE);
     files.put(TABLE, make_zeros(rt, folder, Name::State, bytes)?)?;
-    let bytes = file_bytes(layout, JOURNAL) + journal_room(layout, plan.drives);
+    let bytes = file_bytes(layout, JOURNAL).saturating_add(journal_room(layout, plan.drives));
     files.put(JOURNAL, make_zeros(rt, folder, Name::Journal, bytes)?)?;
     Ok(files)
 }
