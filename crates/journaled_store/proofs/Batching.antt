@@ -5,12 +5,12 @@ use Rattle.std.proofs.lemmas.Bool.{true≢false}
 use Rattle.std.proofs.lemmas.List.{take_all, take-append-le}
 use Rattle.extent_groups.specs.Cells.{Cells}
 use Rattle.extent_groups.specs.Planned.{Wanted, after}
-use Rattle.vault.specs.Images.{Image, Stands, recovered, flat}
-use Rattle.vault.specs.Moments.{IsLogged, IsRefused, StandsForSome}
+use Rattle.vault.specs.Images.{Image, SameUnits, Stands, recovered, flat}
+use Rattle.vault.specs.Moments.{IsFront, IsLogged, IsRefused, IsUnchanged, StandsForSome}
 use Rattle.vault.specs.declared.store.VaultError.{VaultError}
 use Rattle.vault.specs.declared.store.VaultError.TheVariants as error
 use Rattle.vault.specs.declared.store.Stop.{Stop}
-use Rattle.vault.proofs.Writes.{after_last, front_stands}
+use Rattle.vault.proofs.Writes.{after_last, front_stands, same_here}
 use Rattle.history.specs.Entries.{Course}
 use Rattle.array_parts.specs.Views.{DriveView}
 use Rattle.cached_drive.specs.Saving.{Units}
@@ -60,3 +60,32 @@ unless_refused P r error.Memory is same = same (inl is)
 unless_refused P r error.Misfit is same = same (inr is)
 unless_refused P r error.Journal is same = tt
 unless_refused P r (error.Drive d) is same = tt
+
+-- what some batches leave after one was appended, said of the units and batches of before
+pub some_appended : (lost : List Bool) (base new i : Image) (low : ℕ) (writes : List Wanted) → SameUnits new.cells base.cells → new.journal ≡ base.journal ++ writes ∷ []
+    → StandsForSome lost new.cells low new.journal i → StandsForSome lost base.cells low (base.journal ++ writes ∷ []) i
+some_appended lost base new i low writes same journal some = subst (λ b. StandsForSome lost base.cells low b i) journal (record {
+  count = some.count;
+  least = some.least;
+  most = some.most;
+  stands = λ x live. some.stands x live ∙ same_here (flat (take some.count new.journal)) new.cells base.cells x (same x);
+})
+
+-- with a batch that has all that the drives hold
+pub before_or_now : (lost : List Bool) (base i : Image) (low : ℕ) (writes : List Wanted) (drives : List DriveView) → IsKept lost drives (after (recovered base) writes)
+    → StandsForSome lost base.cells low (base.journal ++ writes ∷ []) i → IsBeforeOrNow lost base low drives i
+before_or_now lost base i low writes drives kept some =
+    ⊎_elim (λ few. inl few) (λ stands. inr (after (recovered base) writes, stands, kept)) (before_or_all lost base i low writes some)
+
+-- a stop leaves what it left before, where nothing changed
+pub logged_still : {V : Type 0} (seen : V → Image) (may_leave : V → Stop → Image → Type 0) (lost : List Bool) (stop : Stop) (old new : V) (low : ℕ)
+    → IsUnchanged seen may_leave old new → IsLogged seen may_leave lost stop old low → IsLogged seen may_leave lost stop new low
+logged_still seen may_leave lost stop old new low same is = record {
+  flushed = subst (λ (s : Image). low ≤ length s.journal) (sym same.finds) is.flushed;
+  leaves = λ i left. subst (λ (s : Image). IsFront lost s low i) (sym same.finds) (is.leaves i (same.leaves stop i left));
+}
+
+pub all_logged_still : {V : Type 0} (seen : V → Image) (may_leave : V → Stop → Image → Type 0) (lost : List Bool) (stop : Stop) (old new : V)
+    → IsUnchanged seen may_leave old new → IsLogged seen may_leave lost stop old (length (seen old).journal) → IsLogged seen may_leave lost stop new (length (seen new).journal)
+all_logged_still seen may_leave lost stop old new same is =
+    subst (λ (s : Image). IsLogged seen may_leave lost stop new (length s.journal)) (sym same.finds) (logged_still seen may_leave lost stop old new (length (seen old).journal) same is)

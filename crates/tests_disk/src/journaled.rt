@@ -2,14 +2,16 @@
 ghost use Rattle.std.specs.Prelude.{◌≡◌, []};
 ghost use Rattle.extents.specs.declared.mem_drive.Condition.TheVariants.{Present};
 
-use crate::model::{agree, write};
+use crate::model::{agree, write, zero};
 use crate::rig::{plan_of, store_over};
 use array_store::ArrayStore;
+use byte_store::{ByteStore, StoreFault};
 use cached_drive::{CachedDrive, Saved};
 use disk_shape::Plan;
-use extents::{DRIVES, MemDrive};
+use extents::{DRIVES, Drive, MemDrive};
+use file_vault::{FileVault, Layout, MemFiles};
 use history::{Chronicle, Hand, History, Keeper, Opened};
-use journaled_store::{Changes, publish, sync};
+use journaled_store::{Changes, JournaledStore, publish, sync};
 use std::alloc::{Alloc, Global};
 use std::marker::Brand;
 use std::process::Abort;
@@ -102,4 +104,134 @@ fn each_call_is_one_batch(rt: HostRuntime) {
     };
     let plan = plan_of(&rt, 1000, 64);
     write_all::<Brand>(&rt, rt.alloc(), &plan, opened);
+}
+
+// Writes, flushes, settles and rests, and reads it all back.
+fn keep_all<N: Chronicle>(rt: &impl Abort, alloc: Global, plan: &Plan, opened: Opened<Saved>)
+    requires { opened ≡ N.chronicle }
+{
+    let (store, changes) = disk_of::<N>(rt, alloc, plan, opened);
+    let mut disk = JournaledStore::new(alloc, store, changes, MemVault::new(alloc), 4);
+    let mut model = [0u8; 1000];
+    for piece in [
+        (60usize, 9usize, 1u8),
+        (0, 64, 20),
+        (63, 130, 3),
+        (999, 1, 40),
+    ] {
+        write(rt, alloc, &mut disk, &mut model, piece);
+        disk.rest(alloc);
+    }
+    zero(rt, alloc, &mut disk, &mut model, (70, 30));
+    let flushed = disk.flush();
+    assert!(rt; flushed.is_ok());
+    assert!(rt; agree(rt, &mut disk, &model));
+    let settled = disk.settle();
+    assert!(rt; settled.is_ok());
+    for piece in [(500usize, 100usize, 7u8), (400, 130, 9)] {
+        write(rt, alloc, &mut disk, &mut model, piece);
+    }
+    assert!(rt; agree(rt, &mut disk, &model));
+}
+
+#[test]
+fn bytes_are_read_as_they_were_kept(rt: HostRuntime) {
+    let Ok(opened) = Opened::new(rt.alloc()) else {
+        panic!(rt; "no memory")
+    };
+    let plan = plan_of(&rt, 1000, 64);
+    keep_all::<Brand>(&rt, rt.alloc(), &plan, opened);
+}
+
+// A vault over files in memory, where the file of drive 1 fails its first write.
+fn failing_vault(rt: &impl Abort, alloc: Global, plan: &Plan) -> FileVault<MemFiles> {
+    let mut counts = [0; 16];
+    for drive in 0..6usize {
+        counts[drive] = plan.shape.drive_units();
+    }
+    let layout = Layout {
+        unit_bytes: plan.shape.unit_bytes() as u32,
+        table_bytes: DRIVES as u32,
+        counts,
+    };
+    let mut empty = Vec::new(alloc);
+    for _ in 0..18 {
+        let pushed = empty.push(Vec::new(alloc)).is_ok();
+        assert!(rt; pushed);
+    }
+    let made = FileVault::create(alloc, MemFiles::new(alloc, empty), layout, &[1; 16]);
+    let Ok(vault) = made else {
+        panic!(rt; "not made")
+    };
+    let mut files = vault.into_files();
+    files.fail_file_after(1, 1);
+    let Ok(vault) = FileVault::open(alloc, files, layout, &[1; 16]) else {
+        panic!(rt; "not opened")
+    };
+    vault
+}
+
+// A drive that fails the vault is lost, and the journal is settled without it.
+fn lose_one<N: Chronicle>(rt: &impl Abort, alloc: Global, plan: &Plan, opened: Opened<Saved>)
+    requires { opened ≡ N.chronicle }
+{
+    let (store, changes) = disk_of::<N>(rt, alloc, plan, opened);
+    let vault = failing_vault(rt, alloc, plan);
+    let mut disk = JournaledStore::new(alloc, store, changes, vault, 4);
+    let mut model = [0u8; 1000];
+    write(rt, alloc, &mut disk, &mut model, (60, 130, 1));
+    let settled = disk.settle();
+    assert!(rt; settled == Err(StoreFault::Sync));
+    assert!(rt; disk.world().array().drive_count() == 6);
+    assert!(rt; disk.world().array().is_lost(1));
+    assert!(rt; !disk.world().array().is_lost(0));
+    let settled = disk.settle();
+    assert!(rt; settled.is_ok());
+    write(rt, alloc, &mut disk, &mut model, (300, 100, 5));
+    assert!(rt; agree(rt, &mut disk, &model));
+    let flushed = disk.flush();
+    assert!(rt; flushed.is_ok());
+}
+
+#[test]
+fn a_drive_that_fails_the_vault_is_lost(rt: HostRuntime) {
+    let Ok(opened) = Opened::new(rt.alloc()) else {
+        panic!(rt; "no memory")
+    };
+    let plan = plan_of(&rt, 1000, 64);
+    lose_one::<Brand>(&rt, rt.alloc(), &plan, opened);
+}
+
+// A doomed drive is lost by a sync, and by a read.
+fn lose_doomed<N: Chronicle>(rt: &impl Abort, alloc: Global, plan: &Plan, opened: Opened<Saved>)
+    requires { opened ≡ N.chronicle }
+{
+    let (history, mut keeper, first) = opened.named::<N>();
+    let mut drive = drive_of(rt, alloc, plan, &history, &mut keeper, first);
+    assert!(rt; drive.sync().is_ok());
+    drive.doom();
+    assert!(rt; !drive.is_lost());
+    assert!(rt; drive.sync().is_err());
+    assert!(rt; drive.is_lost());
+    let Some(hand) = keeper.hire(&history) else {
+        panic!(rt; "no hand")
+    };
+    let mut drive = drive_of(rt, alloc, plan, &history, &mut keeper, hand);
+    assert!(rt; drive.units() > 0);
+    let Ok(mut unit) = vec![in alloc; 0u8; drive.unit_bytes()] else {
+        panic!(rt; "no memory")
+    };
+    assert!(rt; drive.read_unit(0, &mut unit).is_ok());
+    drive.doom();
+    assert!(rt; drive.read_unit(0, &mut unit).is_err());
+    assert!(rt; drive.is_lost());
+}
+
+#[test]
+fn a_doomed_drive_is_lost_by_its_next_call(rt: HostRuntime) {
+    let Ok(opened) = Opened::new(rt.alloc()) else {
+        panic!(rt; "no memory")
+    };
+    let plan = plan_of(&rt, 1000, 64);
+    lose_doomed::<Brand>(&rt, rt.alloc(), &plan, opened);
 }

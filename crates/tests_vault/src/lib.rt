@@ -5,5 +5,3 @@
 mod story;
 #[cfg(test)]
 mod tests;
-#[cfg(test)]
-mod unclaimed;

@@ -1,10 +1,9 @@
 //! A run of a vault over three drives, and the units that are there after each of its batches.
-use crate::unclaimed::settle_now;
 use extent_groups::Place;
 use file_vault::{FileVault, Layout, MemFiles};
 use std::alloc::{AllocError, Global};
 use std::test::Fail;
-use vault::{Batch, TABLE, Vault, VaultError, add, flush};
+use vault::{Batch, TABLE, Vault, VaultError, add, flush, settle};
 
 /// Units of each drive, and their bytes; the bytes of the table.
 const UNITS: u32 = 3;
@@ -144,7 +143,7 @@ pub(crate) fn run(
             reached.flushed = number + 1;
         }
         if number == 3 {
-            settle_now(vault, &mut room, &[false; 16])?;
+            settle(vault, &mut room, &[false; 16])?;
         }
     }
     Ok(())
@@ -181,6 +180,6 @@ pub(crate) fn recover(alloc: Global, files: MemFiles, boot: u8) -> Recovered {
 
 fn settled(alloc: Global, vault: &mut FileVault<MemFiles>) -> Result<Units, VaultError> {
     let mut room = Batch::new(alloc);
-    settle_now(vault, &mut room, &[false; 16])?;
+    settle(vault, &mut room, &[false; 16])?;
     read_units(alloc, vault)
 }

@@ -2,12 +2,11 @@
 use crate::story::{
     BATCHES, Reached, empty_files, fill, layout, read_units, recover, run, units_after,
 };
-use crate::unclaimed::settle_now;
 use file_vault::{FileVault, MemFiles};
 use std::alloc::Global;
 use std::process::Abort;
 use std::test::Fail;
-use vault::{Batch, Stop, Vault, VaultError, add, flush};
+use vault::{Batch, Stop, Vault, VaultError, add, flush, settle};
 
 // A new vault.
 fn made(rt: &impl Abort, alloc: Global, files: MemFiles) -> FileVault<MemFiles> {
@@ -60,7 +59,7 @@ fn a_run_that_isnt_stopped_leaves_all(rt: HostRuntime) -> Result<(), Fail> {
     assert!(rt; run(alloc, &mut vault, &mut reached).is_ok());
     assert!(rt; reached.flushed == BATCHES);
     let mut room = Batch::new(alloc);
-    assert!(rt; settle_now(&mut vault, &mut room, &[false; 16]).is_ok());
+    assert!(rt; settle(&mut vault, &mut room, &[false; 16]).is_ok());
     let Ok(units) = read_units(alloc, &mut vault) else {
         panic!(rt; "not read");
     };
@@ -169,10 +168,10 @@ fn a_drive_that_fails_is_named_and_left_out(rt: HostRuntime) -> Result<(), Fail>
     }
     assert!(rt; flush(&mut vault).is_ok());
     let mut lost = [false; 16];
-    assert!(rt; settle_now(&mut vault, &mut room, &lost) == Err(VaultError::Drive(1)));
+    assert!(rt; settle(&mut vault, &mut room, &lost) == Err(VaultError::Drive(1)));
     assert!(rt; vault.batches() == Ok(3));
     lost[1] = true;
-    assert!(rt; settle_now(&mut vault, &mut room, &lost) == Ok(()));
+    assert!(rt; settle(&mut vault, &mut room, &lost) == Ok(()));
     let Some(units) = recover(alloc, vault.into_files().left(Stop::Killed, 1)?, 1).into_units()
     else {
         panic!(rt; "not recovered");

@@ -11,7 +11,7 @@ use Rattle.vault.specs.declared.store.Stop.{Stop}
 use Rattle.vault.specs.declared.store.VaultError.{VaultError}
 use Rattle.vault.specs.declared.store.VaultError.TheVariants.{Memory, Misfit, Journal, Drive}
 use Rattle.vault.specs.Images.{Image, SameOn, Stands, recovered, flat, is_lost}
-use Rattle.vault.specs.Moments.{Torn, IsWrittenTo, IsTorn, IsFront, IsUnderway, IsKept, IsReady, IsUnchanged, Elapses, HasCause, IsRefused, Within, torn_at}
+use Rattle.vault.specs.Moments.{Torn, IsWrittenTo, IsTorn, IsFront, IsUnderway, IsKept, AreTorn, IsAmong, IsUnchanged, Elapses, HasCause, IsRefused, Within, torn_at}
 use Rattle.vault.proofs.Runs.{started, goes_on, both_runs}
 use Rattle.vault.proofs.Writes.{torn_more, torn_on, torn_back, torn_not, torn_front, torn_stands, same_here, after_both, flat_last, take_next, in_list, in_batch}
 
@@ -111,12 +111,12 @@ after_batch lost batches k b base now next at so_far written x live =
 
 module _ {V : Type 0} (seen : V → Image) (may_leave : V → Stop → Image → Type 0) (moment : V → ℕ) (left_since : V → Stop → ℕ → Image → Type 0) (lost : List Bool) where
   -- nothing was written yet
-  pub at_start : (old : V) → ((stop : Stop) → Within (may_leave old stop) (IsTorn lost (seen old))) → ((stop : Stop) (i : Image) → left_since old stop (moment old) i → may_leave old stop i)
+  pub at_start : (old : V) → ((stop : Stop) (i : Image) → left_since old stop (moment old) i → may_leave old stop i)
       → IsUnderway seen may_leave moment left_since lost old old
-  at_start old torn only = record {
+  at_start old only = record {
     finds = torn_not lost (seen old);
-    leaves = torn;
-    moments = λ stop. started moment left_since stop old (IsTorn lost (seen old)) (λ i left. torn stop i (only stop i left));
+    leaves = λ torn. torn;
+    moments = λ torn stop. started moment left_since stop old (IsTorn lost (seen old)) (λ i left. torn stop i (only stop i left));
   }
 
   -- a write more for one of the journal's places
@@ -125,12 +125,12 @@ module _ {V : Type 0} (seen : V → Image) (may_leave : V → Stop → Image →
       → IsUnderway seen may_leave moment left_since lost old new
   one_more old mid new place so_far written torn time = record {
     finds = torn_more lost (seen old) (seen mid) (seen new) place so_far.finds written torn;
-    leaves = λ stop i now. during stop i ((time stop).ends i now);
-    moments = λ stop. goes_on moment left_since stop old mid new (IsTorn lost (seen old)) _ _ (so_far.moments stop) (time stop) (during stop);
+    leaves = λ start stop i now. during start stop i ((time stop).ends i now);
+    moments = λ start stop. goes_on moment left_since stop old mid new (IsTorn lost (seen old)) _ _ (so_far.moments start stop) (time stop) (during start stop);
   }
     where
-      during : (stop : Stop) (i : Image) → torn_at place (may_leave mid stop) i → IsTorn lost (seen old) i
-      during stop i from = torn_more lost (seen old) from.0 i place (so_far.leaves stop from.0 from.1) written from.2
+      during : AreTorn seen may_leave lost old → (stop : Stop) (i : Image) → torn_at place (may_leave mid stop) i → IsTorn lost (seen old) i
+      during start stop i from = torn_more lost (seen old) from.0 i place (so_far.leaves start stop from.0 from.1) written from.2
 
   -- a call that changes nothing
   pub same_more : (old mid new : V) → IsUnderway seen may_leave moment left_since lost old mid → seen new ≡ seen mid
@@ -138,36 +138,33 @@ module _ {V : Type 0} (seen : V → Image) (may_leave : V → Stop → Image →
       → IsUnderway seen may_leave moment left_since lost old new
   same_more old mid new so_far same time = record {
     finds = subst (IsTorn lost (seen old)) (sym same) so_far.finds;
-    leaves = λ stop i now. so_far.leaves stop i ((time stop).ends i now);
-    moments = λ stop. goes_on moment left_since stop old mid new (IsTorn lost (seen old)) _ _ (so_far.moments stop) (time stop) (so_far.leaves stop);
+    leaves = λ start stop i now. so_far.leaves start stop i ((time stop).ends i now);
+    moments = λ start stop. goes_on moment left_since stop old mid new (IsTorn lost (seen old)) _ _ (so_far.moments start stop) (time stop) (so_far.leaves start stop);
   }
 
   -- what a stop leaves is torn from what calls find meanwhile, too
-  pub torn_mid : (old mid : V) → IsUnderway seen may_leave moment left_since lost old mid → (stop : Stop) → Within (may_leave mid stop) (IsTorn lost (seen mid))
-  torn_mid old mid so_far stop i now = torn_on lost (seen mid) (seen old) i (torn_back lost (seen old) (seen mid) so_far.finds) (so_far.leaves stop i now)
+  pub torn_mid : (old mid : V) → IsUnderway seen may_leave moment left_since lost old mid → AreTorn seen may_leave lost old → AreTorn seen may_leave lost mid
+  torn_mid old mid so_far start stop i now = torn_on lost (seen mid) (seen old) i (torn_back lost (seen old) (seen mid) so_far.finds) (so_far.leaves start stop i now)
 
-  -- a batch that was read can be written
-  pub batch_ready : (old mid new : V) (k : ℕ) (batch : List Wanted) → IsUnderway seen may_leave moment left_since lost old new → seen new ≡ seen mid → slice_get (seen mid).journal k ≡ Some batch
-      → IsReady seen may_leave lost batch new
-  batch_ready old mid new k batch so_far same at = record {
-    torn = torn_mid old new so_far;
-    among = λ x written. subst (λ (s : Image). IsWrittenTo (flat s.journal) x) (sym same) (in_batch (seen mid).journal k batch x at written);
-  }
+  -- a batch that was read writes only places of the journal's writes
+  pub batch_among : (mid new : V) (k : ℕ) (batch : List Wanted) → seen new ≡ seen mid → slice_get (seen mid).journal k ≡ Some batch → IsAmong batch (seen new)
+  batch_among mid new k batch same at x written = subst (λ (s : Image). IsWrittenTo (flat s.journal) x) (sym same) (in_batch (seen mid).journal k batch x at written)
 
   -- two runs of writes
   pub both_more : (old mid new : V) → IsUnderway seen may_leave moment left_since lost old mid → IsUnderway seen may_leave moment left_since lost mid new → IsUnderway seen may_leave moment left_since lost old new
   both_more old mid new first second = record {
     finds = torn_on lost (seen old) (seen mid) (seen new) first.finds second.finds;
-    leaves = λ stop i now. torn_on lost (seen old) (seen mid) i first.finds (second.leaves stop i now);
-    moments = λ stop. both_runs moment left_since stop old mid new (IsTorn lost (seen old)) (IsTorn lost (seen mid)) (IsTorn lost (seen old)) (first.moments stop) (second.moments stop)
+    leaves = λ start stop i now. torn_on lost (seen old) (seen mid) i first.finds (second.leaves (torn_mid old mid first start) stop i now);
+    moments = λ start stop. both_runs moment left_since stop old mid new (IsTorn lost (seen old)) (IsTorn lost (seen mid)) (IsTorn lost (seen old)) (first.moments start stop)
+        (second.moments (torn_mid old mid first start) stop)
         (λ i p. p) (λ i q. torn_on lost (seen old) (seen mid) i first.finds q);
   }
 
   -- the journal is still whole, and mends all that was torn
-  pub kept : (old new : V) → IsUnderway seen may_leave moment left_since lost old new → IsKept seen may_leave lost old new
-  kept old new so_far = record {
+  pub kept : (old new : V) → IsUnderway seen may_leave moment left_since lost old new → AreTorn seen may_leave lost old → IsKept seen may_leave lost old new
+  kept old new so_far start = record {
     journal = so_far.finds.journal;
-    durable = λ stop. record { flushed = omega arith; leaves = λ i now. torn_front lost (seen new) i (torn_mid old new so_far stop i now) };
+    durable = λ stop. record { flushed = omega arith; leaves = λ i now. torn_front lost (seen new) i (torn_mid old new so_far start stop i now) };
     cells = torn_stands lost (seen old) (seen new) so_far.finds;
   }
 

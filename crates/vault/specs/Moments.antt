@@ -147,17 +147,13 @@ AreTorn seen may_leave lost vault = (stop : Stop) → Within (may_leave vault st
 abbrev pub IsAmong : List Wanted → Image → Type 0
 IsAmong batch i = (x : Place) → IsWrittenTo batch x → IsWrittenTo (flat i.journal) x
 
--- a stop leaves what is torn within the journal's writes, and a batch writes only places of theirs
-pub record IsReady {V : Type 0} (seen : V → Image) (may_leave : V → Stop → Image → Type 0) (lost : List Bool) (batch : List Wanted) (vault : V) : Type 0 where
-  pub torn : AreTorn seen may_leave lost vault
-  pub among : IsAmong batch (seen vault)
-
--- writes of the journal were made in part: what calls find is torn, and so is what a stop at any moment since old leaves
+-- Writes of the journal were made in part: what calls find is torn. If no more is torn of what a stop leaves at old, neither is
+-- of what a stop at any moment since old leaves.
 pub record IsUnderway {V : Type 0} (seen : V → Image) (may_leave : V → Stop → Image → Type 0) (moment : V → ℕ) (left_since : V → Stop → ℕ → Image → Type 0)
     (lost : List Bool) (old new : V) : Type 0 where
   pub finds : IsTorn lost (seen old) (seen new)
-  pub leaves : (stop : Stop) → Within (may_leave new stop) (IsTorn lost (seen old))
-  pub moments : (stop : Stop) → LeavesOnly moment left_since stop old new (IsTorn lost (seen old))
+  pub leaves : AreTorn seen may_leave lost old → (stop : Stop) → Within (may_leave new stop) (IsTorn lost (seen old))
+  pub moments : AreTorn seen may_leave lost old → (stop : Stop) → LeavesOnly moment left_since stop old new (IsTorn lost (seen old))
 
 -- the journal is empty, all is durable, and calls find the units that the vault stood for
 pub record IsSettled {V : Type 0} (seen : V → Image) (may_leave : V → Stop → Image → Type 0) (lost : List Bool) (old new : V) : Type 0 where

@@ -3,7 +3,7 @@ ghost use Rattle.std.specs.Prelude.{◌≡◌, ◌≢◌, ◌<◌, ℕ, false, s
 ghost use Rattle.extent_groups.specs.Planned.{after};
 ghost use Rattle.extent_groups.specs.declared.place.Place.{Place};
 ghost use Rattle.vault.specs.Images.{Image, SameOn, Stands, recovered, flat, is_lost as is_lost_of};
-ghost use Rattle.vault.specs.Moments.{LeavesOnly, AreLogged, IsSettled, IsKept, IsUnderway, AreTorn, IsTorn, IsAmong, IsReady, HasCause};
+ghost use Rattle.vault.specs.Moments.{LeavesOnly, AreLogged, IsSettled, IsKept, IsUnderway, IsAmong, HasCause};
 ghost use Rattle.vault.specs.declared.store.Stop.{Stop};
 
 use crate::batch::Batch;
@@ -37,9 +37,7 @@ fn write_batches<V: Vault>(
     lost: &[bool; DRIVES],
 ) -> Result<(), VaultError>
     ensures stays { V.known vault.old → V.known vault.new }
-    ensures finds { V.known vault.old → IsTorn lost.now (V.seen vault.old) (V.seen vault.new) }
-    ensures underway { V.known vault.old → AreTorn V.seen V.may_leave lost.now vault.old
-        → IsUnderway V.seen V.may_leave V.moment V.left_since lost.now vault.old vault.new }
+    ensures underway { V.known vault.old → IsUnderway V.seen V.may_leave V.moment V.left_since lost.now vault.old vault.new }
     ensures written { V.known vault.old → OnOk result (SameOn lost.now (Image.cells (V.seen vault.new)) (recovered (V.seen vault.old))) }
     ensures cause { V.known vault.old → HasCause (λ d. is_lost_of lost.now d ≡ false) (V.faults vault.old) (V.faults vault.new) result }
 {
@@ -58,8 +56,7 @@ fn write_units<V: Vault>(
     lost: &[bool; DRIVES],
 ) -> Result<(), VaultError>
     ensures stays { V.known vault.old → V.known vault.new }
-    ensures finds { V.known vault.old → IsAmong batch.now (V.seen vault.old) → IsTorn lost.now (V.seen vault.old) (V.seen vault.new) }
-    ensures underway { V.known vault.old → IsReady V.seen V.may_leave lost.now batch.now vault.old → IsUnderway V.seen V.may_leave V.moment V.left_since lost.now vault.old vault.new }
+    ensures underway { V.known vault.old → IsAmong batch.now (V.seen vault.old) → IsUnderway V.seen V.may_leave V.moment V.left_since lost.now vault.old vault.new }
     ensures written { V.known vault.old → OnOk result (SameOn lost.now (Image.cells (V.seen vault.new)) (after (Image.cells (V.seen vault.old)) batch.now)) }
     ensures cause { V.known vault.old → HasCause (λ d. is_lost_of lost.now d ≡ false) (V.faults vault.old) (V.faults vault.new) result }
 {

@@ -1,15 +1,16 @@
-use Rattle.std.proofs.Common.{◌≡◌, ◌++◌, ◌∷◌, ℕ, List, Bool, [], refl, sym, ap, subst, ◌∙◌, inl, inr, ⊎_elim}
+use Rattle.std.proofs.Common.{◌≡◌, ◌++◌, ◌∷◌, ℕ, List, Bool, [], length, refl, sym, ap, subst, ◌∙◌, inl}
 use Rattle.std.specs.Prelude.{Err}
 use Rattle.byte_store.specs.declared.fault.StoreFault.{StoreFault}
 use Rattle.history.specs.Entries.{Course}
 use Rattle.extent_groups.specs.Cells.{Cells}
 use Rattle.extent_groups.specs.Planned.{Wanted, after}
 use Rattle.vault.specs.Images.{Image, recovered}
-use Rattle.vault.specs.Moments.{StandsForSome}
+use Rattle.vault.specs.Moments.{IsLogged, StandsForSome}
+use Rattle.vault.specs.declared.store.Stop.TheVariants.{Killed}
 use Rattle.vault.proofs.Runs.{started, weaker}
 use Rattle.cached_drive.specs.Saving.{Units}
 use Rattle.journaled_store.specs.Steps.{IsBeforeOrNow, IsLive, UnlessSync}
-use Rattle.journaled_store.proofs.Batching.{before_or_all, kept_by, live_same, logged_now, unless_refused}
+use Rattle.journaled_store.proofs.Batching.{all_logged_still, before_or_now, kept_by, live_same, logged_now, logged_still, some_appended, unless_refused}
 use Rattle.journaled_store.proofs.publishing.publish.Goals as goal
 
 pub returns-then-not-collect-clause-any_moment : goal.returns-then-not-collect-clause-any_moment
@@ -69,7 +70,7 @@ returns-in-Ok-clause-any_moment g c known lost live stop low is =
     let kept = kept_by lost drives mid.noted all (c.if-not-collect.ensures.has refl lost (recovered base) live.step) (c.collect.ensures.noted (recovered base) live.noted) (c.if-not-collect.ensures.marks refl) in
     weaker v.moment v.left_since stop vault c.append.new.vault (StandsForSome lost base.cells low (base.journal ++ mid.batch ∷ [])) (IsBeforeOrNow lost base low drives)
     (c.append.ensures.any_moment known lost stop low is)
-    (λ i some. ⊎_elim (λ few. inl few) (λ stands. inr (all, stands, kept)) (before_or_all lost base i low mid.batch some))
+    (λ i some. before_or_now lost base i low mid.batch drives kept some)
 
 pub returns-in-Err-clause-any_moment : goal.returns-in-Err-clause-any_moment
 returns-in-Err-clause-any_moment g c known lost live stop low is =
@@ -82,4 +83,34 @@ returns-in-Err-clause-any_moment g c known lost live stop low is =
     let kept = kept_by lost drives mid.noted all (c.if-not-collect.ensures.has refl lost (recovered base) live.step) (c.collect.ensures.noted (recovered base) live.noted) (c.if-not-collect.ensures.marks refl) in
     weaker v.moment v.left_since stop vault c.append.new.vault (StandsForSome lost base.cells low (base.journal ++ mid.batch ∷ [])) (IsBeforeOrNow lost base low drives)
     (c.append.ensures.any_moment known lost stop low is)
-    (λ i some. ⊎_elim (λ few. inl few) (λ stands. inr (all, stands, kept)) (before_or_all lost base i low mid.batch some))
+    (λ i some. before_or_now lost base i low mid.batch drives kept some)
+
+pub returns-then-is_empty-clause-batches : goal.returns-then-is_empty-clause-batches
+returns-then-is_empty-clause-batches g c known lost live low i some = inl some
+
+pub returns-in-Ok-clause-batches : goal.returns-in-Ok-clause-batches
+returns-in-Ok-clause-batches g c known lost live low i some =
+    let v = g.V.Vault in
+    let mid = c.collect.new.changes in
+    let drives = c.args.store.now.tiers.world.array.parts.drives in
+    let base = v.seen c.args.vault.now in
+    let e = c.in-Ok.ensures in
+    let all = after (recovered base) mid.batch in
+    let kept = kept_by lost drives mid.noted all (c.if-not-collect.ensures.has refl lost (recovered base) live.step) (c.collect.ensures.noted (recovered base) live.noted) (c.if-not-collect.ensures.marks refl) in
+    before_or_now lost base i low mid.batch drives kept (some_appended lost base (v.seen c.append.new.vault) i low mid.batch (e.cells known) (e.journal known) some)
+
+pub returns-in-Err-clause-killed : goal.returns-in-Err-clause-killed
+returns-in-Err-clause-killed g c known lost is =
+    let v = g.V.Vault in
+    let P : Type 0 = IsLogged v.seen v.may_leave lost Killed c.append.new.vault (length (Image.journal (v.seen c.append.new.vault))) in
+    subst (λ (f : StoreFault). UnlessSync (Err f) P) (sym c.fault_of.ensures)
+    (unless_refused P c.append.result c.in-Err.error c.in-Err.is (λ refused.
+    all_logged_still v.seen v.may_leave lost Killed c.args.vault.now c.append.new.vault (c.append.ensures.refused known refused) is))
+
+pub returns-in-Err-clause-added : goal.returns-in-Err-clause-added
+returns-in-Err-clause-added g c known lost stop low is =
+    let v = g.V.Vault in
+    let P : Type 0 = IsLogged v.seen v.may_leave lost stop c.append.new.vault low in
+    subst (λ (f : StoreFault). UnlessSync (Err f) P) (sym c.fault_of.ensures)
+    (unless_refused P c.append.result c.in-Err.error c.in-Err.is (λ refused.
+    logged_still v.seen v.may_leave lost stop c.args.vault.now c.append.new.vault low (c.append.ensures.refused known refused) is))

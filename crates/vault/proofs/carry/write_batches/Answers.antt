@@ -3,7 +3,7 @@ use Rattle.std.specs.Prelude.{slice_get}
 use Rattle.extent_groups.specs.Planned.{after}
 use Rattle.extent_groups.specs.Cells.{held}
 use Rattle.vault.specs.Images.{Image, SameOn}
-use Rattle.vault.proofs.Carried.{at_start, batch_ready, same_more, both_more, after_batch, cause_later, cause_passed}
+use Rattle.vault.proofs.Carried.{at_start, batch_among, same_more, both_more, after_batch, cause_later, cause_passed}
 use Rattle.vault.proofs.carry.write_batches.Goals as goal
 
 pub returns-in_err-read_batch-clause-underway : goal.returns-in_err-read_batch-clause-underway
@@ -20,10 +20,10 @@ returns-in_err-write_units-clause-underway g c = λ known.
     omega (arith, c.loop-index-test.true, c.in_ok-count.ensures.count known, ap length journal) in
     let so_far = same_more g.V.Vault.seen g.V.Vault.may_leave g.V.Vault.moment g.V.Vault.left_since c.args.lost.now c.args.vault.now c.loop-index.vault c.read_batch.new.self (c.loop-index.invariant.underway known)
     (c.read_batch.ensures.seen now) (c.read_batch.ensures.time now) in
-    let ready = batch_ready g.V.Vault.seen g.V.Vault.may_leave g.V.Vault.moment g.V.Vault.left_since c.args.lost.now c.args.vault.now c.loop-index.vault c.read_batch.new.self c.loop-index.index c.read_batch.new.batch so_far
+    let among = batch_among g.V.Vault.seen g.V.Vault.may_leave g.V.Vault.moment g.V.Vault.left_since c.args.lost.now c.loop-index.vault c.read_batch.new.self c.loop-index.index c.read_batch.new.batch
     (c.read_batch.ensures.seen now) (c.in_ok-read_batch.ensures.batch now inside) in
     both_more g.V.Vault.seen g.V.Vault.may_leave g.V.Vault.moment g.V.Vault.left_since c.args.lost.now c.args.vault.now c.read_batch.new.self c.write_units.new.vault so_far
-    (c.write_units.ensures.underway (c.read_batch.ensures.stays now) ready)
+    (c.write_units.ensures.underway (c.read_batch.ensures.stays now) among)
 
 pub returns-in_err-write_units-clause-cause : goal.returns-in_err-write_units-clause-cause
 returns-in_err-write_units-clause-cause g c = λ known.
@@ -45,10 +45,10 @@ loop-index-preserved g c = record {
       omega (arith, c.loop-index-test.true, c.in_ok-count.ensures.count known, ap length journal) in
       let so_far = same_more g.V.Vault.seen g.V.Vault.may_leave g.V.Vault.moment g.V.Vault.left_since c.args.lost.now c.args.vault.now c.loop-index.vault c.read_batch.new.self (c.loop-index.invariant.underway known)
       (c.read_batch.ensures.seen now) (c.read_batch.ensures.time now) in
-      let ready = batch_ready g.V.Vault.seen g.V.Vault.may_leave g.V.Vault.moment g.V.Vault.left_since c.args.lost.now c.args.vault.now c.loop-index.vault c.read_batch.new.self c.loop-index.index c.read_batch.new.batch so_far
+      let among = batch_among g.V.Vault.seen g.V.Vault.may_leave g.V.Vault.moment g.V.Vault.left_since c.args.lost.now c.loop-index.vault c.read_batch.new.self c.loop-index.index c.read_batch.new.batch
       (c.read_batch.ensures.seen now) (c.in_ok-read_batch.ensures.batch now inside) in
       both_more g.V.Vault.seen g.V.Vault.may_leave g.V.Vault.moment g.V.Vault.left_since c.args.lost.now c.args.vault.now c.read_batch.new.self c.write_units.new.vault so_far
-      (c.write_units.ensures.underway (c.read_batch.ensures.stays now) ready);
+      (c.write_units.ensures.underway (c.read_batch.ensures.stays now) among);
   cells = λ known.
       let now = c.loop-index.invariant.stays known in
       let journal = (c.loop-index.invariant.underway known).finds.journal in
@@ -72,7 +72,7 @@ loop-index-preserved g c = record {
 pub returns-in_err-count-clause-underway : goal.returns-in_err-count-clause-underway
 returns-in_err-count-clause-underway g c = λ known.
     same_more g.V.Vault.seen g.V.Vault.may_leave g.V.Vault.moment g.V.Vault.left_since c.args.lost.now c.args.vault.now c.args.vault.now c.batches.new.self
-    (at_start g.V.Vault.seen g.V.Vault.may_leave g.V.Vault.moment g.V.Vault.left_since c.args.lost.now c.args.vault.now (c.requires.torn known) (λ stop. g.met.V.Vault.only_now c.args.vault.now known stop))
+    (at_start g.V.Vault.seen g.V.Vault.may_leave g.V.Vault.moment g.V.Vault.left_since c.args.lost.now c.args.vault.now (λ stop. g.met.V.Vault.only_now c.args.vault.now known stop))
     (c.batches.ensures.seen known) (c.batches.ensures.time known)
 
 pub loop-index-init : goal.loop-index-init
@@ -80,7 +80,7 @@ loop-index-init g c = record {
   stays = c.batches.ensures.stays;
   underway = λ known.
       same_more g.V.Vault.seen g.V.Vault.may_leave g.V.Vault.moment g.V.Vault.left_since c.args.lost.now c.args.vault.now c.args.vault.now c.batches.new.self
-      (at_start g.V.Vault.seen g.V.Vault.may_leave g.V.Vault.moment g.V.Vault.left_since c.args.lost.now c.args.vault.now (c.requires.torn known) (λ stop. g.met.V.Vault.only_now c.args.vault.now known stop))
+      (at_start g.V.Vault.seen g.V.Vault.may_leave g.V.Vault.moment g.V.Vault.left_since c.args.lost.now c.args.vault.now (λ stop. g.met.V.Vault.only_now c.args.vault.now known stop))
       (c.batches.ensures.seen known) (c.batches.ensures.time known);
   cells = λ known. λ x live. ap (λ (s : Image). held s.cells x) (c.batches.ensures.seen known);
   faults = λ known. (c.batches.ensures.cause known).later;

@@ -4,10 +4,10 @@ use Rattle.vault.proofs.Carried.{place_in, at_both, after_next, after_skipped, o
 use Rattle.vault.proofs.carry.write_units.Goals as goal
 
 pub returns-in_err-write_unit-clause-underway : goal.returns-in_err-write_unit-clause-underway
-returns-in_err-write_unit-clause-underway g c = λ known ready.
+returns-in_err-write_unit-clause-underway g c = λ known among.
     let now = c.loop-index.invariant.stays known in
     one_more g.V.Vault.seen g.V.Vault.may_leave g.V.Vault.moment g.V.Vault.left_since c.args.lost.now c.args.vault.now c.loop-index.vault c.write_unit.new.self c.place-place.result
-    (c.loop-index.invariant.underway known ready) (ready.among c.place-place.result (place_in c.args.batch.now c.loop-index.index c.place-place.result c.place-place.ensures))
+    (c.loop-index.invariant.underway known among) (among c.place-place.result (place_in c.args.batch.now c.loop-index.index c.place-place.result c.place-place.ensures))
     (c.write_unit.ensures.torn now) (c.write_unit.ensures.time now)
 
 pub loop-index-preserved-then-is_lost : goal.loop-index-preserved-then-is_lost
@@ -22,10 +22,10 @@ loop-index-preserved-then-is_lost g c = record {
 pub loop-index-preserved : goal.loop-index-preserved
 loop-index-preserved g c = record {
   stays = λ known. c.write_unit.ensures.stays (c.loop-index.invariant.stays known);
-  underway = λ known ready.
+  underway = λ known among.
       let now = c.loop-index.invariant.stays known in
       one_more g.V.Vault.seen g.V.Vault.may_leave g.V.Vault.moment g.V.Vault.left_since c.args.lost.now c.args.vault.now c.loop-index.vault c.write_unit.new.self c.place-place.result
-      (c.loop-index.invariant.underway known ready) (ready.among c.place-place.result (place_in c.args.batch.now c.loop-index.index c.place-place.result c.place-place.ensures))
+      (c.loop-index.invariant.underway known among) (among c.place-place.result (place_in c.args.batch.now c.loop-index.index c.place-place.result c.place-place.ensures))
       (c.write_unit.ensures.torn now) (c.write_unit.ensures.time now);
   cells = λ known.
       let now = c.loop-index.invariant.stays known in

@@ -26,7 +26,7 @@ returns-in-Ok-clause-shown g c _ =
     let e = c.in-Ok.ensures in
     let log : c.save.new.keeper.log ≡ me.keeper.log ++ entry me.next drive.cache.units ∷ [] =
     ap (λ (k : Course Units). k.log) e.saved ∙ ap (λ n. me.keeper.log ++ entry n drive.cache.units ∷ []) own in
-    let gone : c.is_lost.result ≡ drive.lost = c.is_lost.ensures ∙ e.lost in
+    let gone : c.is_lost.result ≡ drive.lost = c.is_lost.ensures ∙ c.doom_failed.ensures.lost ∙ e.lost in
     subst (λ (l : List Bool). views_to c.save.new.keeper.log l (me.next + 1) ≡ views_to me.keeper.log me.lost me.next ++ seen drive.cache.units drive.lost ∷ [])
     (sym (c.mark.ensures.marked ∙ ap (λ b. slice_set me.lost me.next b) gone))
     (seen_more me.next me.keeper.log c.save.new.keeper.log drive.cache.units me.lost drive.lost low log)
