@@ -1,0 +1,7 @@
+mod Reading
+mod Replaying
+mod Loading
+mod Seating
+mod Fading
+mod Rebuilding
+mod Reopening

@@ -1,5 +1,10 @@
 // An array put together from its parts.
-ghost use Rattle.std.specs.Prelude.{◌≡◌, None};
+ghost use Rattle.std.specs.Prelude.{◌≡◌, ℕ, List, None, false, length, IfOk};
+ghost use Rattle.array_parts.specs.Views.{view_of};
+ghost use Rattle.background.specs.Views.{TiersView};
+ghost use Rattle.array_store.specs.Blocks.{Holds};
+ghost use Rattle.array_store.specs.Stores.{IsStoreOf};
+ghost use Rattle.array_recovery.specs.Reopened.{Outlives};
 
 use crate::fault::RecoveryFault;
 use array_parts::Parts;
@@ -7,6 +12,7 @@ use array_store::ArrayStore;
 use background::Tiers;
 use extent_groups::{GROUPS, GroupTable, SLOTS};
 use extents::Drive;
+use flat_machine::restart_laws;
 use header_scan::{ScanFault, restart};
 use std::alloc::{AllocError, Global};
 use step_core::{Plain, World};
@@ -35,6 +41,8 @@ fn fault_of(fault: ScanFault) -> RecoveryFault {
 // The array that the parts hold, and what is kept next to it.
 fn tiers_of<D: Drive + Drop>(alloc: Global, parts: Parts<D>) -> Result<Tiers<D>, RecoveryFault>
     requires note { parts.note ≡ None }
+    ensures { IfOk result (λ tiers. (was : TiersView) (bytes : List ℕ) → Holds was bytes
+        → Outlives was.world.array.parts (view_of D.units D.lost D.failures parts) → Holds tiers bytes) }
 {
     if !parts.is_fit() {
         return Err(RecoveryFault::Unsound);
@@ -47,16 +55,22 @@ fn tiers_of<D: Drive + Drop>(alloc: Global, parts: Parts<D>) -> Result<Tiers<D>,
     let Ok(world) = World::of(alloc, array) else {
         return Err(RecoveryFault::Memory);
     };
+    restart_laws();
     Ok(Tiers::new(alloc, world)?)
 }
 
-/// The first `size` bytes of the array that the parts hold.
+/// The first `size` bytes of the array that the parts hold: those of an array whose groups these are, and whose drives these are,
+/// but for more that are lost.
 pub(crate) fn rebuild<D: Drive + Drop>(
     alloc: Global,
     parts: Parts<D>,
     size: u64,
 ) -> Result<ArrayStore<D>, RecoveryFault>
     requires note { parts.note ≡ None }
+    ensures bytes { IfOk result (λ s. (was : TiersView) (bytes : List ℕ) → Holds was bytes → length bytes ≡ size
+        → Outlives was.world.array.parts (view_of D.units D.lost D.failures parts)
+        → IsStoreOf s.tiers s.size s.unsynced (record { bytes = bytes; unsynced = false })) }
+    ensures size { IfOk result (λ s. s.size ≡ size) }
 {
     let tiers = tiers_of(alloc, parts)?;
     let shape = tiers.world().array().shape();

@@ -1,5 +1,12 @@
 // An array is opened from a vault.
-ghost use Rattle.std.specs.Prelude.{◌≡◌};
+ghost use Rattle.std.specs.Prelude.{◌≡◌, ◌+◌, ◌*◌, ◌≤◌, ℕ, List, Bool, false, length, IfOk};
+ghost use Rattle.extents.specs.Sizes.{extent_units};
+ghost use Rattle.extents.specs.declared.shape.TheConstants.{HEADER_BYTES};
+ghost use Rattle.vault.specs.Images.{recovered};
+ghost use Rattle.journaled_store.specs.Steps.{IsLive};
+ghost use Rattle.array_store.specs.Stores.{IsStoreOf};
+ghost use Rattle.array_recovery.specs.Found.{AreFormed, AreGone, HaveUnits, IsTable, OnlyRead};
+ghost use Rattle.array_recovery.specs.Reopened.{CoversGone, EndsAt, IsLeftOf};
 
 use crate::fault::RecoveryFault;
 use crate::load::load_drives;
@@ -18,6 +25,7 @@ use std::alloc::Global;
 use vault::{Batch, Vault};
 
 // The units of each drive after the journal, the marks of the table, and which drives are lost.
+#[derive(Drop)]
 struct Found {
     caches: Vec<MemDrive>,
     marks: [u8; DRIVES],
@@ -31,7 +39,15 @@ fn find<V: Vault>(
     shape: &Shape,
     drives: u8,
     absent: &[bool; DRIVES],
-) -> Result<Found, RecoveryFault> {
+) -> Result<Found, RecoveryFault>
+    ensures stays { V.known vault.old → V.known vault.new }
+    ensures read { V.known vault.old → OnlyRead V.seen V.may_leave V.moment V.left_since vault.old vault.new }
+    ensures table { V.known vault.old → IfOk result (λ f. IsTable f.marks (recovered (V.seen vault.old))) }
+    ensures gone { IfOk result (λ f. AreGone f.marks absent.now f.lost) }
+    ensures many { IfOk result (λ f. length f.caches.items ≡ drives) }
+    ensures formed { IfOk result (λ f. AreFormed (shape.now.extents * extent_units shape.now.segments) (HEADER_BYTES + shape.now.payload) f.caches.items) }
+    ensures units { V.known vault.old → IfOk result (λ f. HaveUnits f.lost (recovered (V.seen vault.old)) f.caches.items) }
+{
     let mut batch = Batch::new(alloc);
     let marks = read_marks(vault, &mut batch)?;
     let lost = lost_drives(&marks, absent);
@@ -58,7 +74,22 @@ pub fn recover<N: Chronicle, V: Vault>(
     absent: &[bool; DRIVES],
 ) -> Result<(ArrayStore<CachedDrive<N>>, Changes<N>), RecoveryFault>
     requires { opened ≡ N.chronicle }
+    ensures stays { V.known vault.old → V.known vault.new }
+    ensures read { V.known vault.old → OnlyRead V.seen V.may_leave V.moment V.left_since vault.old vault.new }
+
+    // An array of which the vault has all is opened with the same bytes: each block's read is its last acknowledged write.
+    ensures reopened { V.known vault.old → (bytes : List ℕ) → length bytes ≡ size → IsLeftOf bytes groups drives absent.now (recovered (V.seen vault.old))
+        → IfOk result (λ r. IsStoreOf r.0.tiers r.0.size r.0.unsynced (record { bytes = bytes; unsynced = false })) }
+    ensures size { IfOk result (λ r. r.0.size ≡ size) }
+
+    // What the first `publish` needs.
+    ensures live { V.known vault.old → (lost : List Bool) → IfOk result (λ r. CoversGone drives r.1.noted absent.now lost
+        → EndsAt lost drives (shape.now.extents * extent_units shape.now.segments) (recovered (V.seen vault.old))
+        → IsLive lost r.1.keeper r.1.noted r.1.batch (recovered (V.seen vault.old))) }
 {
+    if usize::from(drives) > DRIVES {
+        return Err(RecoveryFault::Unsound);
+    }
     let Found {
         caches,
         marks,

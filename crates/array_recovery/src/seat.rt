@@ -1,6 +1,10 @@
 // Drives in memory, each with the hand of its number.
-ghost use Rattle.std.specs.Prelude.{◌≡◌, []};
+ghost use Rattle.std.specs.Prelude.{◌≡◌, ◌++◌, [], ◌∷◌, ℕ, Some, slice_get, IfOk};
+ghost use Rattle.extents.specs.Condition.{Held};
 ghost use Rattle.extents.specs.declared.mem_drive.Condition.TheVariants.{Present};
+ghost use Rattle.history.specs.Entries.{entry};
+ghost use Rattle.vault.specs.Images.{is_lost as is_lost_of};
+ghost use Rattle.array_recovery.specs.Found.{AreSeated};
 
 use crate::fault::RecoveryFault;
 use crate::load::is_lost;
@@ -16,14 +20,16 @@ fn seat<N: Chronicle>(
     history: &History<N, Saved>,
     keeper: &mut Keeper<N, Saved>,
     hand: Hand<N, Saved>,
-    lost: &[bool; DRIVES],
+    is_lost: bool,
 ) -> CachedDrive<N>
     requires present { cache.condition ≡ Present }
     requires first { hand.mine ≡ [] }
+    ensures units { result.cache.units ≡ cache.units }
+    ensures lost { result.lost ≡ is_lost }
+    ensures keeper { keeper.new ≡ record { hired = keeper.old.hired; log = keeper.old.log ++ entry hand.number cache.units ∷ [] } }
 {
-    let number = hand.number();
     let mut drive = CachedDrive::new(alloc, cache, history, keeper, hand);
-    if number < DRIVES as u64 && is_lost(lost, number as u8) {
+    if is_lost {
         drive.lose();
     }
     drive
@@ -38,7 +44,10 @@ pub(crate) fn seat_all<N: Chronicle>(
     caches: Vec<MemDrive>,
     lost: &[bool; DRIVES],
 ) -> Result<Vec<CachedDrive<N>>, RecoveryFault>
-    requires first { first.mine ≡ [] }
+    requires keeper { keeper.old ≡ record { hired = 1; log = [] } }
+    requires first { first ≡ record { number = 0; seen = []; mine = [] } }
+    requires present { (d : ℕ) (m : Held) → slice_get caches.items d ≡ Some m → m.condition ≡ Present }
+    ensures { IfOk result (λ drives. AreSeated (λ x. x.cache.units) (λ x. x.lost) lost.now caches.items drives.items keeper.new) }
 {
     let mut caches = caches;
     let mut drives = Vec::new(alloc);
@@ -46,13 +55,22 @@ pub(crate) fn seat_all<N: Chronicle>(
         return Err(RecoveryFault::Unsound);
     }
     let cache = caches.remove(0);
-    drives.push(seat(alloc, cache, history, keeper, first, lost))?;
+    let drive = seat(alloc, cache, history, keeper, first, is_lost(lost, 0));
+    drives.push(drive)?;
     while !caches.is_empty() {
         let cache = caches.remove(0);
         let Some(hand) = keeper.hire(history) else {
-            return Err(RecoveryFault::Unsound);
+            return Err(RecoveryFault::Memory);
         };
-        drives.push(seat(alloc, cache, history, keeper, hand, lost))?;
+        let drive = seat(
+            alloc,
+            cache,
+            history,
+            keeper,
+            hand,
+            is_lost(lost, drives.len()),
+        );
+        drives.push(drive)?;
     }
     Ok(drives)
 }

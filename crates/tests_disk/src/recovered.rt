@@ -71,6 +71,7 @@ fn groups_of(rt: &impl Abort, alloc: Global, plan: &Plan) -> (GroupTable, Extent
     ) else {
         panic!(rt; "no memory")
     };
+    assert!(rt; groups.agrees(&extents));
     for group in 0..plan.groups {
         enter(rt, alloc, plan, group, &mut groups, &mut extents);
     }
@@ -131,12 +132,31 @@ fn open_again<N: Chronicle>(
     Ok(())
 }
 
-// A history, by its name.
+// A history that nobody has.
 fn opened_in(rt: &impl Abort, alloc: Global) -> Opened<Saved> {
     let Ok(opened) = Opened::new(alloc) else {
         panic!(rt; "no memory")
     };
     opened
+}
+
+// The first run of a disk.
+fn begin(rt: &impl Abort, alloc: Global, plan: &Plan, vault: &mut MemVault, model: &mut [u8]) {
+    let opened = opened_in(rt, alloc);
+    run_once::<Brand>(rt, alloc, plan, opened, vault, model);
+}
+
+// Each later run, without the drives that are named.
+fn go_on(
+    rt: &impl Abort,
+    alloc: Global,
+    plan: &Plan,
+    vault: &mut MemVault,
+    absent: &[bool; DRIVES],
+    model: &mut [u8],
+) -> Result<(), RecoveryFault> {
+    let opened = opened_in(rt, alloc);
+    open_again::<Brand>(rt, alloc, plan, opened, vault, absent, model)
 }
 
 #[test]
@@ -145,33 +165,21 @@ fn a_disk_is_opened_with_the_bytes_that_were_published(rt: HostRuntime) {
     let plan = plan_of(&rt, 1000, 64);
     let mut vault = formatted(&rt, alloc, &plan);
     let mut model = [0u8; 1000];
-    let opened = opened_in(&rt, alloc);
-    run_once::<Brand>(&rt, alloc, &plan, opened, &mut vault, &mut model);
+    begin(&rt, alloc, &plan, &mut vault, &mut model);
 
-    let mut absent = [false; DRIVES];
-    let opened = opened_in(&rt, alloc);
-    let again = open_again::<Brand>(&rt, alloc, &plan, opened, &mut vault, &absent, &mut model);
+    let all = [false; DRIVES];
+    let again = go_on(&rt, alloc, &plan, &mut vault, &all, &mut model);
     assert!(&rt; again.is_ok());
 
     // Without a drive, and then with the mark that it is lost.
+    let mut absent = all;
     absent[2] = true;
-    let opened = opened_in(&rt, alloc);
-    let again = open_again::<Brand>(&rt, alloc, &plan, opened, &mut vault, &absent, &mut model);
+    let again = go_on(&rt, alloc, &plan, &mut vault, &absent, &mut model);
     assert!(&rt; again.is_ok());
-    let opened = opened_in(&rt, alloc);
-    let again = open_again::<Brand>(
-        &rt,
-        alloc,
-        &plan,
-        opened,
-        &mut vault,
-        &[false; DRIVES],
-        &mut model,
-    );
+    let again = go_on(&rt, alloc, &plan, &mut vault, &all, &mut model);
     assert!(&rt; again.is_ok());
 
     absent[3] = true;
-    let opened = opened_in(&rt, alloc);
-    let again = open_again::<Brand>(&rt, alloc, &plan, opened, &mut vault, &absent, &mut model);
+    let again = go_on(&rt, alloc, &plan, &mut vault, &absent, &mut model);
     assert!(&rt; matches!(again, Err(RecoveryFault::Gone(_))));
 }

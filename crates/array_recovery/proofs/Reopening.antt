@@ -1,0 +1,141 @@
+-- What is found of a vault's drives outlives the array that the vault has.
+use Rattle.std.proofs.Common.{◌≡◌, ◌≢◌, ℕ, ◌<◌, ◌≤◌, ◌⊎◌, inl, inr, Bool, true, false, Option, Some, None, List, [], ◌∷◌, zero, suc, length, slice_get, refl, sym, ◌∙◌, ap, subst, arith, if◌then◌else◌}
+use Rattle.std.specs.Prelude.{◌||◌, ◌==◌, not, map, option_map, slice_index_or}
+use Rattle.std.proofs.lemmas.List.{length-map}
+use Rattle.std.proofs.lemmas.Bool.{true≢false}
+use Rattle.std.proofs.lemmas.Option.{same_Some, none-some, slice_get-map, slice_get_cases, slice_get_within, slice_get_past}
+use Rattle.extents.specs.Condition.{Held}
+use Rattle.extents.specs.Failures.{Failures}
+use Rattle.extent_groups.specs.Groups.{Groups}
+use Rattle.extent_groups.specs.Cells.{Cells, cell, held}
+use Rattle.extent_groups.specs.Calls.{Fades, FadesAt}
+use Rattle.extent_groups.specs.declared.place.Place.{Place}
+use Rattle.history.specs.Entries.{Course}
+use Rattle.array_parts.specs.Views.{DriveView, PartsView, drive_units, drive_lost, drive_view, cells_of}
+use Rattle.vault.specs.Images.{is_lost}
+use Rattle.cached_drive.specs.Saving.{Units, saved_by}
+use Rattle.journaled_store.specs.Steps.{IsLive, IsKept, mark_of}
+use Rattle.array_recovery.specs.Found.{AreFormed, AreGone, AreSeated, HaveUnits, IsTable, is_marked}
+use Rattle.array_recovery.specs.Reopened.{CoversGone, EndsAt, IsLeftOf, IsLostIn, Outlives}
+
+-- an element below the length
+pub there : {A : Type 0} (xs : List A) (i : ℕ) → i < length xs → (x : A) × (slice_get xs i ≡ Some x)
+there xs i low = elim (slice_get_cases xs i).1 [ inl is ↦ (is.0, is.2) | inr past ↦ (let high = past.0 in absurd (omega (arith, low, high))) ]
+
+or_false : (a b : Bool) → (a || b) ≡ false → (a ≡ false) × (b ≡ false)
+or_false false b e = (refl, e)
+or_false true b e = absurd (true≢false e)
+
+bool_cases : (b : Bool) → (b ≡ true) ⊎ (b ≡ false)
+bool_cases true = inl refl
+bool_cases false = inr refl
+
+-- the element of an index
+index_is : (xs : List ℕ) (i x : ℕ) → slice_get xs i ≡ Some x → slice_index_or xs i 0 ≡ x
+index_is xs i x e = elim (slice_get_cases xs i).1 [ inl is ↦ index_at xs i x e | inr past ↦ absurd (none-some x (sym past.1 ∙ e)) ]
+  where
+    index_at : (ys : List ℕ) (k y : ℕ) → slice_get ys k ≡ Some y → slice_index_or ys k 0 ≡ y
+    index_at [] k y e = absurd (none-some y e)
+    index_at (z ∷ ys) zero y e = same_Some e
+    index_at (z ∷ ys) (suc k) y e = index_at ys k y e
+
+-- a drive without a mark wasn't lost
+unmarked : (marks : List ℕ) (d : ℕ) (lost : Bool) → slice_get marks d ≡ Some (mark_of lost) → is_marked marks d ≡ false → lost ≡ false
+unmarked marks d false e is = refl
+unmarked marks d true e is = absurd (true≢false (sym (ap (λ n. not (n == 0)) (index_is marks d 1 e)) ∙ is))
+
+module _ {D : Type 0} (units : D → Units) (gone : D → Bool) (failures : D → Failures) (drives : List D) (caches : List Held) (marks : List ℕ) (absent lost : List Bool) (k : Course Units)
+    (c : Cells) (seated : AreSeated units gone lost caches drives k) (have : HaveUnits lost c caches) (are : AreGone marks absent lost) (table : IsTable marks c) where
+  -- the unit that lies at a drive's address, where the drive isn't lost
+  unit_is : (d at : ℕ) (x : D) (unit : List ℕ) → slice_get drives d ≡ Some x → gone x ≡ false → slice_get (units x) at ≡ Some unit → c d at ≡ Some unit
+  unit_is d at x unit e not is =
+      let low = slice_get_within drives d x e in
+      let many = seated.many in
+      let m = there caches d (omega (arith, low, many)) in
+      let same = seated.units_are d x m.0 e m.1 in
+      let in_cache : slice_get m.0.units at ≡ Some unit = subst (λ (u : Units). slice_get u at ≡ Some unit) same is in
+      have.each d at m.0 m.1 (sym (seated.gone_are d x e) ∙ not) (slice_get_within m.0.units at unit in_cache) ∙ in_cache
+
+  module _ (bytes : List ℕ) (groups : Groups) (count : ℕ) (is : IsLeftOf bytes groups count absent c) (many : length drives ≡ count) where
+    abbrev olds : List DriveView
+    olds = is.tiers.world.array.parts.drives
+
+    -- a drive that isn't lost now wasn't, and the vault has its units
+    was_kept : (d : ℕ) (v : DriveView) → d < count → slice_get olds d ≡ Some v → is_lost lost d ≡ false → (is_lost is.lost d ≡ false) × (v.lost ≡ false)
+    was_kept d v low e not = (covered, alive)
+      where
+        both : (is_marked marks d ≡ false) × (is_lost absent d ≡ false)
+        both = or_false (is_marked marks d) (is_lost absent d) (sym (are.each d) ∙ not)
+
+        same : marks ≡ is.kept.marks
+        same = same_Some (sym table ∙ is.kept.noted)
+
+        alive : v.lost ≡ false
+        alive = unmarked marks d v.lost (subst (λ (l : List ℕ). slice_get l d ≡ Some (mark_of v.lost)) (sym same) (is.kept.told.each d v e)) both.0
+
+        not_in : IsLostIn olds d → ⊥
+        not_in was = true≢false (sym was.2 ∙ ap (λ (w : DriveView). w.lost) (same_Some (sym was.1 ∙ e)) ∙ alive)
+
+        covered : is_lost is.lost d ≡ false
+        covered = elim (bool_cases (is_lost is.lost d)) [
+          | inr out ↦ out
+          | inl one ↦ (elim (is.excused d low one) [ inl away ↦ absurd (true≢false (sym away ∙ both.1)) | inr was ↦ absurd (not_in was) ])
+        ]
+
+    fade_unit : (d at : ℕ) (x : D) (o : Option (List ℕ)) → slice_get drives d ≡ Some x → gone x ≡ false → slice_get (units x) at ≡ o → Fades (cells_of is.tiers.world.array.parts d at) o
+    fade_unit d at x None e not at_is = inr refl
+    fade_unit d at x (Some unit) e not at_is =
+        let low : d < count = (let within = slice_get_within drives d x e in omega (arith, within, many)) in
+        let v = there olds d (let all = is.many in omega (arith, low, all)) in
+        let was = was_kept d v.0 low v.1 (sym (seated.gone_are d x e) ∙ not) in
+        inl (sym (
+          ap (λ (o : Option DriveView). cell drive_units drive_lost o at) v.1
+          ∙ ap (λ b. if b then None else slice_get v.0.units at) was.1
+          ∙ sym (is.kept.has.each d at v.0 v.1 was.0)
+          ∙ unit_is d at x unit e not at_is))
+
+    fade_drive : (d at : ℕ) (x : D) (b : Bool) → slice_get drives d ≡ Some x → gone x ≡ b → Fades (cells_of is.tiers.world.array.parts d at) (if b then None else slice_get (units x) at)
+    fade_drive d at x true e b_is = inr refl
+    fade_drive d at x false e b_is = fade_unit d at x (slice_get (units x) at) e b_is refl
+
+    fade_cell : (d at : ℕ) (o : Option D) → slice_get drives d ≡ o
+        → Fades (cells_of is.tiers.world.array.parts d at) (cell drive_units drive_lost (option_map (drive_view units gone failures) o) at)
+    fade_cell d at None e = inr refl
+    fade_cell d at (Some x) e = fade_drive d at x (gone x) e refl
+
+    fade : (d at : ℕ) → Fades (cells_of is.tiers.world.array.parts d at) (cell drive_units drive_lost (slice_get (map (drive_view units gone failures) drives) d) at)
+    fade d at =
+        subst (λ (o : Option DriveView). Fades (cells_of is.tiers.world.array.parts d at) (cell drive_units drive_lost o at))
+        (sym (slice_get-map (drive_view units gone failures) drives d)) (fade_cell d at (slice_get drives d) refl)
+
+    pub outlives : (v : PartsView) → v.groups ≡ groups → v.drives ≡ map (drive_view units gone failures) drives → Outlives is.tiers.world.array.parts v
+    outlives v groups_are drives_are = record {
+      groups = groups_are ∙ sym is.groups_are;
+      many = ap length drives_are ∙ length-map drives (drive_view units gone failures) ∙ many ∙ sym is.many;
+      fades = λ x. subst (λ (ds : List DriveView). Fades (cells_of is.tiers.world.array.parts x.drive x.address) (cell drive_units drive_lost (slice_get ds x.drive) x.address)) (sym drives_are) (fade x.drive x.address);
+    }
+
+  -- the vault is in step with the drives
+  pub live : (count size : ℕ) (unsure : List Bool) → AreFormed count size caches → CoversGone (length drives) marks absent unsure → EndsAt unsure (length drives) count c
+      → IsLive unsure k marks [] c
+  live count size unsure formed covers ends = record { step = record { each = step }; noted = table }
+    where
+      here : (d : ℕ) → d < length drives → is_lost unsure d ≡ false → is_lost lost d ≡ false
+      here d low not = elim (bool_cases (is_marked marks d || is_lost absent d)) [
+        | inl one ↦ absurd (true≢false (sym (covers d low one) ∙ not))
+        | inr none ↦ are.each d ∙ none
+      ]
+
+      step : (d at : ℕ) → d < k.hired → is_lost unsure d ≡ false → c d at ≡ slice_get (saved_by d k.log) at
+      step d at low not =
+          let many = seated.many in
+          let hired = seated.hired in
+          let m = there caches d (omega (arith, low, hired)) in
+          let below : d < length drives = omega (arith, low, hired, many) in
+          let x = there drives d below in
+          let saved : saved_by d k.log ≡ m.0.units = seated.saved d x.0 x.1 ∙ seated.units_are d x.0 m.0 x.1 m.1 in
+          let long = formed.many d m.0 m.1 in
+          (elim (slice_get_cases m.0.units at).1 [
+            | inl is ↦ have.each d at m.0 m.1 (here d below not) is.1
+            | inr past ↦ (let high = past.0 in ends d at below not (omega (arith, high, long)) ∙ sym past.1)
+          ]) ∙ ap (λ (u : Units). slice_get u at) (sym saved)

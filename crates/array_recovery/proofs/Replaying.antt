@@ -1,0 +1,57 @@
+-- Writes of batches, made one by one.
+use Rattle.std.proofs.Common.{◌≡◌, ◌≢◌, ◌<◌, ◌+◌, ◌⊎◌, inl, inr, ℕ, zero, suc, Bool, true, false, Option, Some, None, List, [], ◌∷◌, ◌++◌, length, take, slice_get, refl, sym, ◌∙◌, ap, subst, arith, eq-eqb, if◌then◌else◌}
+use Rattle.std.specs.Prelude.{◌==◌, ◌&&◌, option_map}
+use Rattle.std.proofs.lemmas.Bool.Decides.{nat_tests}
+use Rattle.std.proofs.lemmas.Option.{same_Some, none-some}
+use Rattle.extent_groups.specs.declared.place.Place.{Place}
+use Rattle.extent_groups.specs.Cells.{Cells}
+use Rattle.extent_groups.specs.Planned.{Wanted, over, with_unit, after}
+use Rattle.vault.specs.Images.{flat}
+
+-- a write, by its place and its unit
+abbrev pub write : Place → List ℕ → Wanted
+write place unit = record { place = place; unit = unit }
+
+pub write_is : (o : Option Wanted) (place : Place) (unit : List ℕ) → option_map (λ w. w.place) o ≡ Some place → option_map (λ w. w.unit) o ≡ Some unit → o ≡ Some (write place unit)
+write_is None place unit p u = absurd (none-some place p)
+write_is (Some w) place unit p u = ap (λ x. Some (write x w.unit)) (same_Some p) ∙ ap (λ x. Some (write place x)) (same_Some u)
+
+not_equal : (a b : ℕ) → a ≢ b → (a == b) ≡ false
+not_equal a b ne = grind (arith, nat_tests)
+
+and_false : (a b : Bool) → (a ≡ false) ⊎ (b ≡ false) → (a && b) ≡ false
+and_false a b (inl is) = rw is refl
+and_false true b (inr is) = is
+and_false false b (inr is) = refl
+
+-- a place that isn't the write's
+pub write_else : (c : Cells) (place : Place) (unit : List ℕ) (d at : ℕ) → (d ≢ place.drive) ⊎ (at ≢ place.address) → with_unit c (write place unit) d at ≡ c d at
+write_else c place unit d at apart =
+    ap (λ b. if b then over (c d at) unit else c d at)
+    (and_false (d == place.drive) (at == place.address) (elim apart [ inl ne ↦ inl (not_equal d place.drive ne) | inr ne ↦ inr (not_equal at place.address ne) ]))
+
+-- the write's place
+pub write_here : (c : Cells) (place : Place) (unit old : List ℕ) (d at : ℕ) → d ≡ place.drive → at ≡ place.address → c d at ≡ Some old → with_unit c (write place unit) d at ≡ Some unit
+write_here c place unit old d at e f is =
+    ap (λ b. if b && (at == place.address) then over (c d at) unit else c d at) (eq-eqb d place.drive e)
+    ∙ ap (λ b. if b then over (c d at) unit else c d at) (eq-eqb at place.address f)
+    ∙ ap (λ o. over o unit) is
+
+-- writes before others
+pub after_append : (c : Cells) (ws vs : List Wanted) → after c (ws ++ vs) ≡ after (after c ws) vs
+after_append c [] vs = refl
+after_append c (w ∷ ws) vs = after_append (with_unit c w) ws vs
+
+-- one write more
+pub after_more : (c : Cells) (ws : List Wanted) (i : ℕ) (w : Wanted) → slice_get ws i ≡ Some w → after c (take (i + 1) ws) ≡ with_unit (after c (take i ws)) w
+after_more c [] i w e = absurd (none-some w e)
+after_more c (v ∷ ws) zero w e = ap (λ x. with_unit c x) (same_Some e)
+after_more c (v ∷ ws) (suc i) w e = after_more (with_unit c v) ws i w e
+
+-- one batch more
+pub after_batch : (c : Cells) (batches : List (List Wanted)) (i : ℕ) (batch : List Wanted) → slice_get batches i ≡ Some batch
+    → after c (flat (take (i + 1) batches)) ≡ after (after c (flat (take i batches))) batch
+after_batch c [] i batch e = absurd (none-some batch e)
+after_batch c (b ∷ bs) zero batch e = after_append c b [] ∙ ap (λ x. after c x) (same_Some e)
+after_batch c (b ∷ bs) (suc i) batch e =
+    after_append c b (flat (take (i + 1) bs)) ∙ after_batch (after c b) bs i batch e ∙ ap (λ (x : Cells). after x batch) (sym (after_append c b (flat (take i bs))))

@@ -1,0 +1,58 @@
+-- Drives in memory, seated one by one.
+use Rattle.std.proofs.Common.{◌≡◌, ◌≢◌, ◌≤◌, ◌<◌, ◌+◌, ◌⊎◌, inl, inr, ℕ, Bool, Option, Some, None, List, [], ◌∷◌, ◌++◌, length, length-append, slice_get, refl, sym, ◌∙◌, ap, subst, arith}
+use Rattle.std.proofs.lemmas.Option.{same_Some, none-some}
+use Rattle.extents.specs.Condition.{Held}
+use Rattle.history.specs.declared.view.Entry.{Entry}
+use Rattle.history.specs.Entries.{Course, entry}
+use Rattle.vault.specs.Images.{is_lost}
+use Rattle.cached_drive.specs.Saving.{Units, saved_by}
+use Rattle.journaled_store.proofs.Leading.{saved_own, saved_other}
+use Rattle.array_recovery.specs.Found.{AreSeated}
+use Rattle.array_recovery.proofs.Loading.{get_more}
+
+-- the first drives are seated, as many as there are hands
+pub record AreSeatedTo {D : Type 0} (units : D → Units) (gone : D → Bool) (lost : List Bool) (caches : List Held) (drives : List D) (k : Course Units) : Type 0 where
+  pub hired : k.hired ≡ length drives
+  pub units_are : (d : ℕ) (x : D) (m : Held) → slice_get drives d ≡ Some x → slice_get caches d ≡ Some m → units x ≡ m.units
+  pub gone_are : (d : ℕ) (x : D) → slice_get drives d ≡ Some x → gone x ≡ is_lost lost d
+  pub saved : (d : ℕ) (x : D) → slice_get drives d ≡ Some x → saved_by d k.log ≡ units x
+
+module _ {D : Type 0} (units : D → Units) (gone : D → Bool) (lost : List Bool) (caches : List Held) where
+  -- no drive and no hand
+  pub seated_none : AreSeatedTo units gone lost caches [] (record { hired = 0; log = [] })
+  seated_none = record {
+    hired = refl;
+    units_are = λ d x m e f. absurd (none-some x e);
+    gone_are = λ d x e. absurd (none-some x e);
+    saved = λ d x e. absurd (none-some x e);
+  }
+
+  -- one more
+  pub seated_more : (drives : List D) (log : List (Entry Units)) (hired : ℕ) (x : D) (m : Held) → AreSeatedTo units gone lost caches drives (record { hired = hired; log = log })
+      → slice_get caches (length drives) ≡ Some m → units x ≡ m.units → gone x ≡ is_lost lost (length drives)
+      → AreSeatedTo units gone lost caches (drives ++ x ∷ []) (record { hired = hired + 1; log = log ++ entry (length drives) m.units ∷ [] })
+  seated_more drives log hired x m seated at units_is gone_is = record {
+    hired = (let was = seated.hired in omega (arith, was, length-append drives (x ∷ [])));
+    units_are = λ d y n e f. elim (get_more drives x y d e) [
+      | inl last ↦ sym (ap units last.1) ∙ units_is ∙ ap (λ (h : Held). h.units) (same_Some (sym at ∙ ap (λ k. slice_get caches k) (sym last.0) ∙ f))
+      | inr early ↦ seated.units_are d y n early.1 f
+    ];
+    gone_are = λ d y e. elim (get_more drives x y d e) [
+      | inl last ↦ sym (ap gone last.1) ∙ gone_is ∙ ap (is_lost lost) (sym last.0)
+      | inr early ↦ seated.gone_are d y early.1
+    ];
+    saved = λ d y e. elim (get_more drives x y d e) [
+      | inl last ↦ ap (λ k. saved_by k (log ++ entry (length drives) m.units ∷ [])) last.0 ∙ saved_own (length drives) log m.units ∙ sym units_is ∙ ap units last.1
+      | inr early ↦ (let low = early.0 in saved_other d (length drives) log m.units (λ is. omega (arith, low, is)) ∙ seated.saved d y early.1)
+    ];
+  }
+
+  -- all of them
+  pub seated_all : (drives : List D) (k : Course Units) → AreSeatedTo units gone lost caches drives k → length drives ≡ length caches → AreSeated units gone lost caches drives k
+  seated_all drives k seated many = record {
+    many = many;
+    hired = seated.hired ∙ many;
+    units_are = seated.units_are;
+    gone_are = seated.gone_are;
+    saved = seated.saved;
+  }

@@ -1,0 +1,65 @@
+use Rattle.std.proofs.Common.{◌≡◌, ◌<◌, Some, length, take, sym, subst, ap, arith}
+use Rattle.std.specs.Prelude.{slice_get}
+use Rattle.extent_groups.specs.Cells.{Cells}
+use Rattle.extent_groups.specs.Planned.{after}
+use Rattle.vault.specs.Images.{Image, flat}
+use Rattle.array_recovery.specs.Found.{IsTable, OnlyRead}
+use Rattle.array_recovery.proofs.Reading.{read_call, unit_found}
+use Rattle.array_recovery.proofs.Replaying.{after_batch}
+use Rattle.array_recovery.proofs.marks.read_marks.Goals as goal
+
+pub returns-in_err-read_unit-clause-read : goal.returns-in_err-read_unit-clause-read
+returns-in_err-read_unit-clause-read g c = λ known. record { finds = c.read_unit.ensures.seen known; time = c.read_unit.ensures.time known }
+
+pub returns-then-not-branch-clause-read : goal.returns-then-not-branch-clause-read
+returns-then-not-branch-clause-read g c = λ known. record { finds = c.read_unit.ensures.seen known; time = c.read_unit.ensures.time known }
+
+pub returns-in_err-count-clause-read : goal.returns-in_err-count-clause-read
+returns-in_err-count-clause-read g c = λ known.
+    let now = c.read_unit.ensures.stays known in
+    read_call g.V.Vault.seen g.V.Vault.may_leave g.V.Vault.moment g.V.Vault.left_since c.args.vault.now c.read_unit.new.self c.batches.new.self
+    (record { finds = c.read_unit.ensures.seen known; time = c.read_unit.ensures.time known }) (c.batches.ensures.seen now) (c.batches.ensures.time now)
+
+pub loop-index-init : goal.loop-index-init
+loop-index-init g c = record {
+  stays = λ known. c.batches.ensures.stays (c.read_unit.ensures.stays known);
+  read = λ known.
+      let now = c.read_unit.ensures.stays known in
+      read_call g.V.Vault.seen g.V.Vault.may_leave g.V.Vault.moment g.V.Vault.left_since c.args.vault.now c.read_unit.new.self c.batches.new.self
+      (record { finds = c.read_unit.ensures.seen known; time = c.read_unit.ensures.time known }) (c.batches.ensures.seen now) (c.batches.ensures.time now);
+  marks = λ known. unit_found (Image.cells (g.V.Vault.seen c.args.vault.now)) (record { drive = 16; address = 0 }) c.read_unit.new.out c.in_ok-read_unit.field-0 c.if-not-branch.false (c.in_ok-read_unit.ensures.found known);
+}
+
+pub returns-in_err-read_batch-clause-read : goal.returns-in_err-read_batch-clause-read
+returns-in_err-read_batch-clause-read g c = λ known.
+    let now = c.loop-index.invariant.stays known in
+    read_call g.V.Vault.seen g.V.Vault.may_leave g.V.Vault.moment g.V.Vault.left_since c.args.vault.now c.loop-index.vault c.read_batch.new.self (c.loop-index.invariant.read known)
+    (c.read_batch.ensures.seen now) (c.read_batch.ensures.time now)
+
+pub returns-in_err-mark_batch-clause-read : goal.returns-in_err-mark_batch-clause-read
+returns-in_err-mark_batch-clause-read g c = λ known.
+    let now = c.loop-index.invariant.stays known in
+    read_call g.V.Vault.seen g.V.Vault.may_leave g.V.Vault.moment g.V.Vault.left_since c.args.vault.now c.loop-index.vault c.read_batch.new.self (c.loop-index.invariant.read known)
+    (c.read_batch.ensures.seen now) (c.read_batch.ensures.time now)
+
+pub loop-index-preserved : goal.loop-index-preserved
+loop-index-preserved g c = record {
+  stays = λ known. c.read_batch.ensures.stays (c.loop-index.invariant.stays known);
+  read = λ known.
+      let now = c.loop-index.invariant.stays known in
+      read_call g.V.Vault.seen g.V.Vault.may_leave g.V.Vault.moment g.V.Vault.left_since c.args.vault.now c.loop-index.vault c.read_batch.new.self (c.loop-index.invariant.read known)
+      (c.read_batch.ensures.seen now) (c.read_batch.ensures.time now);
+  marks = λ known.
+      let now = c.loop-index.invariant.stays known in
+      let base = g.V.Vault.seen c.args.vault.now in
+      let i = c.loop-index.index in
+      let finds : g.V.Vault.seen c.loop-index.vault ≡ base = (c.loop-index.invariant.read known).finds in
+      let same = ap (λ (s : Image). length s.journal) finds in
+      let first = ap (λ (s : Image). length s.journal) (c.read_unit.ensures.seen known) in
+      let inside : i < length (Image.journal (g.V.Vault.seen c.loop-index.vault)) =
+      omega (arith, c.loop-index-test.true, c.in_ok-count.ensures.count (c.read_unit.ensures.stays known), same, first) in
+      let at : slice_get base.journal i ≡ Some c.read_batch.new.batch =
+      subst (λ (s : Image). slice_get s.journal i ≡ Some c.read_batch.new.batch) finds (c.in_ok-read_batch.ensures.batch now inside) in
+      subst (λ (e : Cells). IsTable c.mark_batch.new.marks e) (sym (after_batch base.cells base.journal i c.read_batch.new.batch at))
+      (c.in_ok-mark_batch.ensures (after base.cells (flat (take i base.journal))) (c.loop-index.invariant.marks known));
+}
