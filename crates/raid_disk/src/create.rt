@@ -101,7 +101,12 @@ fn journal_room(layout: &Layout, drives: u8) -> u64 {
 }
 
 // Makes the files of the drives, of the state and the journal.
-fn make_files(rt: &HostRuntime, folder: Folder<'_>, layout: &Layout, plan: &Plan) -> Result<RealFiles, Trouble> {
+fn make_files(
+    rt: &HostRuntime,
+    folder: Folder<'_>,
+    layout: &Layout,
+    plan: &Plan,
+) -> Result<RealFiles, Trouble> {
     let mut files = RealFiles::new(rt.alloc());
     for drive in 0..plan.drives {
         let bytes = file_bytes(layout, drive);

@@ -180,10 +180,7 @@ fn test_header(
             if header.identity == table.identity
                 && header.number == number
                 && header.unit_bytes == layout.size(number)
-                && header.count == layout.count(number) =>
-        {
-            Ok(())
-        }
+                && header.count == layout.count(number) => { Ok(()) }
         _ => Err(Trouble::Foreign(number)),
     }
 }
@@ -285,7 +282,15 @@ pub(crate) fn open_disk<N: Chronicle>(
         Err((error, _files)) => return Err(Trouble::Vault(error)),
     };
     let recovered = recover::<N, DiskVault>(
-        alloc, &mut vault, opened, &plan.shape, groups, extents, plan.drives, plan.size, &absent,
+        alloc,
+        &mut vault,
+        opened,
+        &plan.shape,
+        groups,
+        extents,
+        plan.drives,
+        plan.size,
+        &absent,
     );
     let (store, changes) = match recovered {
         Ok(recovered) => recovered,

@@ -108,7 +108,9 @@ impl Trouble {
             Trouble::Sync => eprintln!(rt;
                 "raid_disk: {at}: the journal can't be written or synced: what came since the last flush may be lost"
             ),
-            Trouble::System(path, error) => eprintln!(rt; "raid_disk: {path} can't be read: {error}"),
+            Trouble::System(path, error) => eprintln!(rt;
+                "raid_disk: {path} can't be read: {error}"
+            ),
             Trouble::NoNumber(path) => eprintln!(rt; "raid_disk: {path} has no number"),
             Trouble::Unsound => eprintln!(rt;
                 "raid_disk: {at}: the drives' files don't fit one another"
@@ -161,7 +163,9 @@ impl Trouble {
             }
             Trouble::Foreign(number) => {
                 let path = folder.path(rt.alloc(), name_of(*number))?;
-                eprintln!(rt; "raid_disk: {path} is of another disk, or another file of this one: without it the drive is lost")
+                eprintln!(rt;
+                    "raid_disk: {path} is of another disk, or another file of this one: without it the drive is lost"
+                )
             }
             Trouble::Vault(VaultError::Drive(drive)) => {
                 let path = folder.path(rt.alloc(), Name::Drive(*drive))?;
