@@ -296,7 +296,9 @@ pub(crate) fn open_disk<N: Chronicle>(
         Ok(recovered) => recovered,
         Err(fault) => return Err(trouble_of(fault)),
     };
-    let units = journal / u64::from(layout.unit_bytes.max(1));
+    let units = journal
+        .checked_div(u64::from(layout.unit_bytes))
+        .unwrap_or(0);
     Ok(Disk {
         plan,
         store: JournaledStore::new(alloc, store, changes, vault, units),
