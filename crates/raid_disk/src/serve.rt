@@ -4,7 +4,7 @@ ghost use Rattle.std.specs.Prelude.{◌≡◌};
 use crate::folder::{Folder, Name};
 use crate::opened::{Disk, Use, open_disk};
 use crate::trouble::Trouble;
-use byte_store::ByteStore;
+use byte_store::{ByteStore, StoreFault};
 use cached_drive::Saved;
 use history::{Chronicle, Opened};
 use nbd_serve::{End, serve};
@@ -40,7 +40,31 @@ fn outcome_of(end: End) -> Result<u8, Trouble> {
     }
 }
 
-// Serves a disk. At the end all is synced, and the journal is emptied.
+// How many drives are lost.
+fn lost_count<N: Chronicle>(disk: &Disk<N>) -> u8 {
+    let array = disk.store.world().array();
+    let mut count = 0u8;
+    for drive in 0..array.drive_count() {
+        if array.is_lost(drive) {
+            count = count.saturating_add(1);
+        }
+    }
+    count
+}
+
+// Makes all durable, and empties the journal. What can't be settled now is still in the journal, and the next server reads it there.
+fn finish<N: Chronicle>(disk: &mut Disk<N>) -> Result<(), Trouble> {
+    match disk.store.flush() {
+        Ok(()) => {
+            let _ = disk.store.settle();
+            Ok(())
+        }
+        Err(StoreFault::Memory) => Err(Trouble::Memory),
+        Err(_) => Err(Trouble::Sync),
+    }
+}
+
+// Serves a disk. What a server before has left in the journal is settled first, and at the end all is synced and settled.
 fn serve_opened<N: Chronicle>(
     rt: &HostRuntime,
     folder: Folder<'_>,
@@ -50,17 +74,19 @@ fn serve_opened<N: Chronicle>(
     requires { opened ≡ N.chronicle }
 {
     let mut disk = open_disk::<N>(rt, folder, Use::Serves, journal, opened)?;
+    let _ = disk.store.settle();
     // Nothing is left to do where standard error can't be written.
     let _ = name_missing(rt, folder, &disk);
+    let lost = lost_count(&disk);
     let Ok(mut reader) = BufReader::with_capacity(rt.alloc(), READ_AHEAD, rt.stdin()) else {
         return Err(Trouble::Memory);
     };
     let end = serve(rt.alloc(), &mut reader, &mut rt.stdout(), &mut disk.store);
-    if disk.store.flush().is_err() {
-        return Err(Trouble::Sync);
+    let finished = finish(&mut disk);
+    if lost_count(&disk) > lost {
+        let _ = name_missing(rt, folder, &disk);
     }
-    // What can't be settled now is still in the journal, and the next server reads it there.
-    let _ = disk.store.settle();
+    finished?;
     outcome_of(end)
 }
 
