@@ -298,7 +298,8 @@ pub(crate) fn open_disk<N: Chronicle>(
     };
     let units = journal
         .checked_div(u64::from(layout.unit_bytes))
-        .unwrap_or(0);
+        .unwrap_or(1)
+        .max(1);
     Ok(Disk {
         plan,
         store: JournaledStore::new(alloc, store, changes, vault, units),

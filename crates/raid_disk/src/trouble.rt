@@ -106,7 +106,7 @@ impl Trouble {
                 "raid_disk: {at}: the client's session ended: {end:?}"
             ),
             Trouble::Sync => eprintln!(rt;
-                "raid_disk: {at}: the journal can't be written or synced: what came since the last flush may be lost"
+                "raid_disk: {at}: the journal can't be written or synced, or two drives are lost: what came since the last flush may be lost"
             ),
             Trouble::System(path, error) => eprintln!(rt;
                 "raid_disk: {path} can't be read: {error}"
@@ -169,7 +169,7 @@ impl Trouble {
             }
             Trouble::Vault(VaultError::Drive(drive)) => {
                 let path = folder.path(rt.alloc(), Name::Drive(*drive))?;
-                eprintln!(rt; "raid_disk: {path} can't be read or written")
+                eprintln!(rt; "raid_disk: {path} can't be read: without the file the drive is lost")
             }
             Trouble::Vault(_) => {
                 let path = folder.path(rt.alloc(), Name::Journal)?;
