@@ -1,3 +1,4 @@
 pub mod Leading
 pub mod Noting
 pub mod Batching
+pub mod Failing

@@ -77,6 +77,7 @@ impl<N: Chronicle, V: Vault + Drop> JournaledStore<N, V> {
     /// out of memory, or if the batch doesn't fit: the next call has it all. `Sync` where the journal failed.
     pub fn publish(&mut self) -> Result<(), StoreFault>
         ensures same { (self.new.store ≡ self.old.store) × (self.new.unsynced ≡ self.old.unsynced) }
+        ensures works { OnOk result (self.new.failed ≡ false) }
         ensures stays { V.known self.old.vault → V.known self.new.vault }
         ensures step { V.known self.old.vault → (lost : List Bool)
             → UnlessFailed self.old.failed (IsLive lost self.old.changes.keeper self.old.changes.noted self.old.changes.batch (recovered (V.seen self.old.vault)))
@@ -115,6 +116,7 @@ impl<N: Chronicle, V: Vault + Drop> JournaledStore<N, V> {
     /// Publishes, and makes all batches of the journal durable. `Sync` where that failed.
     pub fn publish_durably(&mut self) -> Result<(), StoreFault>
         ensures same { (self.new.store ≡ self.old.store) × (self.new.unsynced ≡ self.old.unsynced) }
+        ensures works { OnOk result (self.new.failed ≡ false) }
         ensures stays { V.known self.old.vault → V.known self.new.vault }
         ensures step { V.known self.old.vault → (lost : List Bool)
             → UnlessFailed self.old.failed (IsLive lost self.old.changes.keeper self.old.changes.noted self.old.changes.batch (recovered (V.seen self.old.vault)))
