@@ -1,4 +1,5 @@
 pub mod Leading
 pub mod Noting
 pub mod Batching
-pub mod Failing
+pub mod Storing
+pub mod Settling

@@ -4,7 +4,7 @@ use Rattle.vault.specs.Moments.{StandsForSome}
 use Rattle.vault.proofs.Runs.{both_runs}
 use Rattle.array_store.specs.Stores.{StoreView}
 use Rattle.journaled_store.specs.Steps.{IsBeforeOrNow, IsLive}
-use Rattle.journaled_store.proofs.Failing.{unless_err}
+use Rattle.journaled_store.proofs.Storing.{unless_err}
 use Rattle.journaled_store.proofs.store.JournaledStore.publish_durably.Goals as goal
 
 pub returns-in_err-publish-clause-logged : goal.returns-in_err-publish-clause-logged
