@@ -2,4 +2,4 @@ pub mod Leading
 pub mod Noting
 pub mod Batching
 pub mod Storing
-pub mod Settling
+pub mod Settled

@@ -1,4 +1,4 @@
-use Rattle.journaled_store.proofs.Settling.{empty_after, logged_after, units_after}
+use Rattle.journaled_store.proofs.Settled.{empty_after, logged_after, units_after}
 use Rattle.journaled_store.proofs.settling.settle_vault.Goals as goal
 
 pub returns-clause-empty : goal.returns-clause-empty

@@ -2,7 +2,7 @@ use Rattle.std.proofs.Common.{sym, subst, ◌∙◌, ap}
 use Rattle.array_store.specs.Stores.{IsStoreOf, StoreView}
 use Rattle.byte_store.specs.Flat.{Sizes}
 use Rattle.journaled_store.proofs.Storing.{flushed_store, same_parts}
-use Rattle.journaled_store.proofs.settling.JournaledStore.lose.Goals as goal
+use Rattle.journaled_store.proofs.store.JournaledStore.lose.Goals as goal
 
 pub returns-clause-bytes : goal.returns-clause-bytes
 returns-clause-bytes g c F is =

@@ -10,8 +10,8 @@ use Rattle.vault.specs.declared.store.VaultError.TheVariants as error
 use Rattle.vault.proofs.Runs.{both_runs}
 use Rattle.array_store.specs.Stores.{IsStoreOf, StoreView}
 use Rattle.journaled_store.specs.Steps.{IsBeforeOrNow, IsKept, IsLive, UnlessFailed, UnlessJournal}
-use Rattle.journaled_store.proofs.Settling.{kept_on, live_on, not_journal}
-use Rattle.journaled_store.proofs.settling.JournaledStore.settle.Goals as goal
+use Rattle.journaled_store.proofs.Settled.{kept_on, live_on, not_journal}
+use Rattle.journaled_store.proofs.store.JournaledStore.settle.Goals as goal
 
 pub returns-in_err-publish_durably-clause-bytes : goal.returns-in_err-publish_durably-clause-bytes
 returns-in_err-publish_durably-clause-bytes g c F is =
