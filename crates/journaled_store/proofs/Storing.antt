@@ -1,5 +1,5 @@
 -- What an array's calls leave of a store that notes for itself what is unsynced.
-use Rattle.std.proofs.Common.{◌≡◌, inr, ℕ, Bool, true, false, List, Unit, length, refl, sym, ◌∙◌, ap, subst}
+use Rattle.std.proofs.Common.{◌≡◌, inr, ℕ, Bool, true, false, List, length, refl, sym, ◌∙◌, ap, subst}
 use Rattle.std.specs.Prelude.{Result, Ok, Err, OnOk, is_err, slice_get}
 use Rattle.std.proofs.lemmas.Bool.{true≢false}
 use Rattle.byte_store.specs.Flat.{Flat, Sizes}

@@ -15,7 +15,7 @@ returns-in_err-publish-clause-change g c F is =
     rw p.1 (
       made.0,
       subst (λ (s : StoreView). IsStoreOf s.tiers s.size c.publish.new.self.unsynced made.0) (sym same.0) (subst (λ (b : Bool). IsStoreOf now.tiers now.size b made.0) (sym same.1) made.1),
-      made.2.0,
+      made.2,
     )
 
 pub returns-in_err-publish-clause-sizes : goal.returns-in_err-publish-clause-sizes
@@ -31,7 +31,7 @@ returns-clause-change g c F is =
     let made = written_store c.args.self.now.store now c.args.self.now.unsynced c.write-written.result F is c.args.offset c.args.bytes.now (ap (λ (s : Sizes). s.bytes) c.write-written.ensures.sizes) c.write-written.ensures.change in (
       made.0,
       subst (λ (s : StoreView). IsStoreOf s.tiers s.size c.publish.new.self.unsynced made.0) (sym same.0) (subst (λ (b : Bool). IsStoreOf now.tiers now.size b made.0) (sym same.1) made.1),
-      made.2.1,
+      made.3,
     )
 
 pub returns-clause-sizes : goal.returns-clause-sizes

@@ -34,7 +34,7 @@ returns-in-Err-clause-bytes g c F is =
 
 pub returns-in_err-publish_durably-clause-logged : goal.returns-in_err-publish_durably-clause-logged
 returns-in_err-publish_durably-clause-logged g c known low logged works stop =
-    let more = c.publish_durably.ensures.logged known c.publish_durably.new.self.changes.lost stop (low stop) (logged stop) works in (more.0, more.2.1)
+    let more = c.publish_durably.ensures.logged known c.publish_durably.new.self.changes.lost stop (low stop) (logged stop) works in (more.0, more.2)
 
 pub returns-in_err-publish_durably-clause-any_moment : goal.returns-in_err-publish_durably-clause-any_moment
 returns-in_err-publish_durably-clause-any_moment g c known live low logged stop =
