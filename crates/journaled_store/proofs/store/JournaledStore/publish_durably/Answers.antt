@@ -39,7 +39,7 @@ returns-clause-any_moment g c known lost live stop low is =
     let mid = c.publish.new.self.vault in
     let base = v.seen old in
     let drives = c.publish.new.self.store.tiers.world.array.parts.drives in
-    let logged = c.publish.ensures.added known lost stop low is c.in_ok-publish.ensures.works in
+    let logged = c.publish.ensures.added known lost stop low (λ was. is) c.in_ok-publish.ensures.works in
     both_runs v.moment v.left_since stop old mid c.sync-synced.new.vault
     (IsBeforeOrNow lost base low drives) (StandsForSome lost (Image.cells (v.seen mid)) low (Image.journal (v.seen mid))) (IsBeforeOrNow lost base low drives)
     (c.publish.ensures.any_moment known lost live stop low is)

@@ -32,6 +32,9 @@ returns-in-Err-clause-bytes g c F is =
     (subst (λ (s : StoreView). IsStoreOf s.tiers s.size c.publish_durably.new.self.unsynced F) (sym same.0)
     (subst (λ b. IsStoreOf c.args.self.now.store.tiers c.args.self.now.store.size b F) (sym same.1) is))
 
+pub returns-in_err-publish_durably-clause-step : goal.returns-in_err-publish_durably-clause-step
+returns-in_err-publish_durably-clause-step g c known live low logged works = c.publish_durably.ensures.step known c.publish_durably.new.self.changes.lost live works
+
 pub returns-in_err-publish_durably-clause-logged : goal.returns-in_err-publish_durably-clause-logged
 returns-in_err-publish_durably-clause-logged g c known low logged works stop =
     let more = c.publish_durably.ensures.logged known c.publish_durably.new.self.changes.lost stop (low stop) (logged stop) works in (more.0, more.2)
