@@ -54,20 +54,26 @@ impl<N: Chronicle, V: Vault + Drop> JournaledStore<N, V> {
 
         // After Ok the journal is empty, and each stop leaves all that the drives hold. Of the lost drives nothing is said.
         ensures settled { V.known self.old.vault
-            → UnlessFailed self.old.failed (IsLive self.new.changes.lost self.old.changes.keeper self.old.changes.noted self.old.changes.batch (recovered (V.seen self.old.vault)))
-            → (low : Stop → ℕ) → ((stop : Stop) → UnlessFailed self.old.failed (IsLogged V.seen V.may_leave self.new.changes.lost stop self.old.vault (low stop)))
+            → UnlessFailed self.old.failed
+            (IsLive self.new.changes.lost self.old.changes.keeper self.old.changes.noted self.old.changes.batch (recovered (V.seen self.old.vault)))
+            → (low : Stop → ℕ) → ((stop : Stop) → UnlessFailed self.old.failed
+            (IsLogged V.seen V.may_leave self.new.changes.lost stop self.old.vault (low stop)))
             → OnOk result (IsEmptied V.seen V.may_leave self.new.changes.lost self.new.vault self.old.store.tiers.world.array.parts.drives) }
         ensures step { V.known self.old.vault
-            → UnlessFailed self.old.failed (IsLive self.new.changes.lost self.old.changes.keeper self.old.changes.noted self.old.changes.batch (recovered (V.seen self.old.vault)))
-            → (low : Stop → ℕ) → ((stop : Stop) → UnlessFailed self.old.failed (IsLogged V.seen V.may_leave self.new.changes.lost stop self.old.vault (low stop)))
-            → UnlessFailed self.new.failed (IsLive self.new.changes.lost self.new.changes.keeper self.new.changes.noted self.new.changes.batch (recovered (V.seen self.new.vault))) }
+            → UnlessFailed self.old.failed
+            (IsLive self.new.changes.lost self.old.changes.keeper self.old.changes.noted self.old.changes.batch (recovered (V.seen self.old.vault)))
+            → (low : Stop → ℕ) → ((stop : Stop) → UnlessFailed self.old.failed
+            (IsLogged V.seen V.may_leave self.new.changes.lost stop self.old.vault (low stop)))
+            → UnlessFailed self.new.failed
+            (IsLive self.new.changes.lost self.new.changes.keeper self.new.changes.noted self.new.changes.batch (recovered (V.seen self.new.vault))) }
         ensures logged { V.known self.old.vault → (low : Stop → ℕ)
             → ((stop : Stop) → UnlessFailed self.old.failed (IsLogged V.seen V.may_leave self.new.changes.lost stop self.old.vault (low stop)))
             → UnlessFailed self.new.failed ((stop : Stop) → (most : ℕ) × IsLogged V.seen V.may_leave self.new.changes.lost stop self.new.vault most) }
 
         // A stop at any moment leaves the units of before, or those of the drives.
         ensures any_moment { V.known self.old.vault
-            → UnlessFailed self.old.failed (IsLive self.new.changes.lost self.old.changes.keeper self.old.changes.noted self.old.changes.batch (recovered (V.seen self.old.vault)))
+            → UnlessFailed self.old.failed
+            (IsLive self.new.changes.lost self.old.changes.keeper self.old.changes.noted self.old.changes.batch (recovered (V.seen self.old.vault)))
             → (low : Stop → ℕ) → ((stop : Stop) → IsLogged V.seen V.may_leave self.new.changes.lost stop self.old.vault (low stop))
             → (stop : Stop) → LeavesOnly V.moment V.left_since stop self.old.vault self.new.vault
             (IsBeforeOrNow self.new.changes.lost (V.seen self.old.vault) (low stop) self.old.store.tiers.world.array.parts.drives) }

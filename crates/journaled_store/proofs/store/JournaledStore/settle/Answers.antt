@@ -136,7 +136,7 @@ returns-in-Err-clause-logged g c known low logged works stop =
     (subst (λ (r : Result (Unit {0}) VaultError). UnlessJournal r (AreLogged v.seen v.may_leave lost new)) c.in-Err.is (c.settle_vault.ensures.logged now all)) in (
       length (Image.journal (v.seen new)),
       subst (λ (l : List Bool). IsLogged v.seen v.may_leave l stop c.give_up.new.self.vault (length (Image.journal (v.seen new)))) (sym c.give_up.ensures.lost)
-      (subst (λ w. IsLogged v.seen v.may_leave lost stop w (length (Image.journal (v.seen new)))) (sym c.give_up.ensures.vault) (left stop)),
+          (subst (λ w. IsLogged v.seen v.may_leave lost stop w (length (Image.journal (v.seen new)))) (sym c.give_up.ensures.vault) (left stop)),
     )
 
 pub returns-in-Err-clause-any_moment : goal.returns-in-Err-clause-any_moment
