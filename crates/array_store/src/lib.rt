@@ -2,6 +2,7 @@
 #![tactic(auto)]
 
 mod block;
+mod disk;
 mod piece;
 mod store;
 

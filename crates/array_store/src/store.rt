@@ -1,12 +1,11 @@
-// The bytes of a disk.
-ghost use Rattle.std.specs.Prelude.{◌≡◌, ◌+◌, ◌*◌, ◌<◌, ◌≤◌, ◌++◌, length, false, true, IfOk};
-ghost use Rattle.byte_store.specs.Flat.{Flat, Sizes, written_over};
+// The bytes of a disk, as callers see them.
+ghost use Rattle.std.specs.Prelude.{◌≡◌, ◌+◌, ◌*◌, ◌≤◌, ◌++◌, List, length, replicate, slice_range, false, true, OnOk, IfOk, IfErr};
+ghost use Rattle.byte_store.specs.Flat.{Flat, Sizes};
 ghost use Rattle.byte_store.specs.Changes.{IsChanged, IsFlushed};
 ghost use Rattle.array_store.specs.Blocks.{Holds};
 ghost use Rattle.array_store.specs.Stores.{IsStoreOf};
 
-use crate::block::{make_spare, read_piece, shorten_log, write_piece, zero_piece};
-use crate::piece::{Piece, piece_at};
+use crate::disk::Disk;
 use background::Tiers;
 use byte_store::{ByteStore, StoreFault};
 use extents::Drive;
@@ -14,28 +13,18 @@ use std::alloc::{AllocError, Global};
 use std::marker::Model;
 use step_core::{Visit, World};
 
-/// The bytes of a disk, kept by an array. The last block may have bytes past the disk's end.
+/// The bytes of a disk, kept by an array.
 #[derive(Drop)]
 pub struct ArrayStore<D: Drive> {
-    tiers: Tiers<D>,
-    /// Bytes of the disk.
-    size: u64,
-    /// For a block of which a part is written.
-    buffer: Vec<u8>,
-    /// Whether something was written since the last flush.
-    unsynced: bool,
+    disk: Disk<D>,
 }
 
 impl<D: Drive> Model for ArrayStore<D> {
-    ghost use Rattle.std.specs.Prelude.{◌≡◌, ◌≤◌, ◌*◌, length};
     ghost use Rattle.array_store.specs.Stores.{StoreView};
 
     ghost Value = { StoreView };
 
-    ghost view = { λ s. record { tiers = s.tiers; size = s.size; unsynced = s.unsynced } };
-
-    ghost invariant = { λ s. (s.size ≤ s.tiers.world.array.parts.groups.blocks * s.tiers.world.array.parts.groups.payload)
-        × (length s.buffer.items ≡ s.tiers.world.array.parts.groups.payload) };
+    ghost view = { λ s. record { tiers = s.disk.tiers; size = s.disk.size; unsynced = s.disk.unsynced } };
 }
 
 impl<D: Drive + Drop> ArrayStore<D> {
@@ -47,20 +36,15 @@ impl<D: Drive + Drop> ArrayStore<D> {
             → IsStoreOf s.tiers s.size s.unsynced F) }
         ensures size { IfOk result (λ s. s.size ≡ size) }
     {
-        let bytes = tiers.world().array().shape().payload as usize;
-        Ok(ArrayStore {
-            tiers,
-            size,
-            buffer: vec![in alloc; 0u8; bytes]?,
-            unsynced: false,
-        })
+        let disk = Disk::new(alloc, tiers, size)?;
+        Ok(ArrayStore { disk })
     }
 
     /// The array's world, for the calls that only read it.
     pub fn world(&self) -> &World<D>
         ensures { result.now ≡ self.now.tiers.world }
     {
-        self.tiers.world()
+        self.disk.world()
     }
 
     /// Shows each drive to a visitor, lost ones too, in ascending order. False where the visitor ended the walk.
@@ -69,7 +53,7 @@ impl<D: Drive + Drop> ArrayStore<D> {
         ensures shown { result ≡ true → V.shown visitor.new ≡ V.shown visitor.old ++ self.old.tiers.world.array.parts.drives }
         ensures leads { V.leads_to visitor.old visitor.new }
     {
-        self.tiers.visit_drives(visitor)
+        self.disk.visit_drives(visitor)
     }
 }
 
@@ -79,81 +63,30 @@ impl<D: Drive> ByteStore for ArrayStore<D> {
     ghost sizes = { λ s. record { bytes = s.size; block = s.tiers.world.array.parts.groups.payload } };
 
     fn size(&self) -> u64 {
-        self.size
+        self.disk.size()
     }
 
     fn block_bytes(&self) -> u32 {
-        self.tiers.world().array().shape().payload
+        self.disk.block_bytes()
     }
 
     fn read(&mut self, offset: u64, out: &mut [u8]) -> Result<(), StoreFault> {
-        let shape = self.tiers.world().array().shape();
-        let size = shape.payload as usize;
-        let mut done = 0usize;
-        while done < out.len() {
-            let piece = piece_at(size, shape.blocks, offset + done as u64, out.len() - done);
-            let Piece { block, from, count } = piece;
-            let part = &mut out[done..done + count];
-            read_piece(&mut self.tiers, &mut self.buffer, block, from, part)?;
-            done += count;
-        }
-        Ok(())
+        self.disk.read(offset, out)
     }
 
     fn write(&mut self, alloc: Global, offset: u64, bytes: &[u8]) -> Result<(), StoreFault> {
-        let shape = self.tiers.world().array().shape();
-        let size = shape.payload as usize;
-        self.unsynced = true;
-        let mut done = 0usize;
-        while done < bytes.len() {
-            let piece = piece_at(size, shape.blocks, offset + done as u64, bytes.len() - done);
-            let Piece { block, from, count } = piece;
-            let part = &bytes[done..done + count];
-            write_piece(alloc, &mut self.tiers, &mut self.buffer, block, from, part)?;
-            done += count;
-        }
-        Ok(())
+        self.disk.write(alloc, offset, bytes)
     }
 
     fn zero(&mut self, alloc: Global, offset: u64, length: u32) -> Result<(), StoreFault> {
-        let shape = self.tiers.world().array().shape();
-        let size = shape.payload as usize;
-        let length = length as usize;
-        self.unsynced = true;
-        let mut done = 0usize;
-        while done < length {
-            let piece = piece_at(size, shape.blocks, offset + done as u64, length - done);
-            let Piece { block, from, count } = piece;
-            zero_piece(alloc, &mut self.tiers, &mut self.buffer, block, from, count)?;
-            done += count;
-        }
-        Ok(())
+        self.disk.zero(alloc, offset, length)
     }
 
-    // A drive whose sync fails is lost. As long as it is the only one, the others have all bytes.
     fn flush(&mut self) -> Result<(), StoreFault> {
-        self.tiers.sync();
-        if lost_count(self.tiers.world()) > 1 {
-            return Err(StoreFault::Sync);
-        }
-        self.unsynced = false;
-        Ok(())
+        self.disk.flush()
     }
 
-    // What can be done ahead of later requests: a mirrored slot is made free, and a log that has grown is shortened.
     fn rest(&mut self, alloc: Global) {
-        make_spare(alloc, &mut self.tiers);
-        shorten_log(alloc, &mut self.tiers);
+        self.disk.rest(alloc);
     }
-}
-
-// How many drives are lost.
-fn lost_count<D: Drive>(world: &World<D>) -> u8 {
-    let mut count = 0u8;
-    for drive in 0..world.array().drive_count() {
-        if world.array().is_lost(drive) {
-            count = count.saturating_add(1);
-        }
-    }
-    count
 }

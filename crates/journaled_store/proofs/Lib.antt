@@ -1,3 +1,5 @@
 pub mod Leading
 pub mod Noting
 pub mod Batching
+pub mod Storing
+pub mod Settled

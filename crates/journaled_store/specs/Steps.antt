@@ -119,3 +119,11 @@ is_sync (Err StoreFault.Sync) = true
 is_sync (Err StoreFault.NoSpace) = false
 is_sync (Err StoreFault.Gone) = false
 is_sync (Err StoreFault.Memory) = false
+
+-- it holds, unless a vault's journal failed
+abbrev pub UnlessJournal : Result (Unit {0}) VaultError → Type 0 → Type 0
+UnlessJournal (Ok x) P = P
+UnlessJournal (Err VaultError.Journal) P = Unit {0}
+UnlessJournal (Err VaultError.Memory) P = P
+UnlessJournal (Err VaultError.Misfit) P = P
+UnlessJournal (Err (VaultError.Drive d)) P = P

@@ -26,7 +26,8 @@ pub(crate) fn append<N: Chronicle, V: Vault>(
     ensures journal { V.known vault.old → OnOk result (Image.journal (V.seen vault.new) ≡ Image.journal (V.seen vault.old) ++ changes.old.batch ∷ []) }
 
     // What the vault stands for is what it stood for after the batch.
-    ensures ok { V.known vault.old → OnOk result ((d at : ℕ) → recovered (V.seen vault.new) d at ≡ after (recovered (V.seen vault.old)) changes.old.batch d at) }
+    ensures ok { V.known vault.old → OnOk result ((d at : ℕ) → recovered (V.seen vault.new) d at ≡ after
+        (recovered (V.seen vault.old)) changes.old.batch d at) }
 
     // A kill leaves it; a loss of power leaves at least as many batches as it left before.
     ensures killed { V.known vault.old → (lost : List Bool) → IsLogged V.seen V.may_leave lost Killed vault.old (length (Image.journal (V.seen vault.old)))

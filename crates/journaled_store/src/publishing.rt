@@ -34,7 +34,8 @@ pub(crate) fn collect<N: Chronicle>(
     changes: &mut Changes<N>,
 ) -> bool
     ensures same { (store.new.tiers ≡ store.old.tiers) × (store.new.size ≡ store.old.size) × (store.new.unsynced ≡ store.old.unsynced) }
-    ensures step { (lost : List Bool) (c : Cells) → IsInStep lost changes.old.keeper changes.old.batch c → IsInStep lost changes.new.keeper changes.new.batch c }
+    ensures step { (lost : List Bool) (c : Cells) → IsInStep lost changes.old.keeper changes.old.batch c
+        → IsInStep lost changes.new.keeper changes.new.batch c }
     ensures noted { (c : Cells) → IsNoted changes.old.noted changes.old.batch c → IsNoted changes.new.noted changes.new.batch c }
     ensures has { result ≡ true → (lost : List Bool) (c : Cells) → IsInStep lost changes.old.keeper changes.old.batch c
         → HasDrives lost store.old.tiers.world.array.parts.drives (after c changes.new.batch) }
@@ -72,13 +73,15 @@ pub fn publish<N: Chronicle, V: Vault>(
         → UnlessSync result (IsLogged V.seen V.may_leave lost Killed vault.new (length (Image.journal (V.seen vault.new)))) }
     ensures added { V.known vault.old → (lost : List Bool) (stop : Stop) (low : ℕ) → IsLogged V.seen V.may_leave lost stop vault.old low
         → UnlessSync result (IsLogged V.seen V.may_leave lost stop vault.new low) }
-    ensures batches { V.known vault.old → (lost : List Bool) → IsLive lost changes.old.keeper changes.old.noted changes.old.batch (recovered (V.seen vault.old))
+    ensures batches { V.known vault.old → (lost : List Bool) → IsLive lost changes.old.keeper changes.old.noted changes.old.batch
+        (recovered (V.seen vault.old))
         → OnOk result ((low : ℕ) (i : Image) → StandsForSome lost (Image.cells (V.seen vault.new)) low (Image.journal (V.seen vault.new)) i
         → IsBeforeOrNow lost (V.seen vault.old) low store.old.tiers.world.array.parts.drives i) }
 
     // A stop at any moment leaves the units of before, or those of the drives now. By a loss of power some of the last batches may be
     // missing, none of those of the last flush.
-    ensures any_moment { V.known vault.old → (lost : List Bool) → IsLive lost changes.old.keeper changes.old.noted changes.old.batch (recovered (V.seen vault.old))
+    ensures any_moment { V.known vault.old → (lost : List Bool) → IsLive lost changes.old.keeper changes.old.noted changes.old.batch
+        (recovered (V.seen vault.old))
         → (stop : Stop) (low : ℕ) → IsLogged V.seen V.may_leave lost stop vault.old low
         → LeavesOnly V.moment V.left_since stop vault.old vault.new (IsBeforeOrNow lost (V.seen vault.old) low store.old.tiers.world.array.parts.drives) }
 {

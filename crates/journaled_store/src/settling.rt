@@ -1,18 +1,46 @@
 // The journal of a store is emptied.
-ghost use Rattle.std.specs.Prelude.{◌≡◌, ◌≤◌, ℕ, List, Bool, OnOk};
+ghost use Rattle.std.specs.Prelude.{◌≡◌, ◌≤◌, [], ℕ, List, Bool, length, true, OnOk};
+ghost use Rattle.extent_groups.specs.Cells.{Cells};
 ghost use Rattle.byte_store.specs.Flat.{Flat};
 ghost use Rattle.array_store.specs.Stores.{IsStoreOf};
-ghost use Rattle.vault.specs.Images.{recovered};
-ghost use Rattle.vault.specs.Moments.{LeavesOnly, IsLogged};
+ghost use Rattle.vault.specs.Images.{Image, SameOn, Stands, recovered};
+ghost use Rattle.vault.specs.Moments.{AreLogged, LeavesOnly, IsLogged};
 ghost use Rattle.vault.specs.declared.store.Stop.{Stop};
-ghost use Rattle.journaled_store.specs.Steps.{IsBeforeOrNow, IsEmptied, IsKept, IsLive, UnlessFailed};
+ghost use Rattle.journaled_store.specs.Steps.{IsBeforeOrNow, IsEmptied, IsKept, IsLive, UnlessFailed, UnlessJournal};
 
 use crate::publishing::{collect, fault_of};
 use crate::store::JournaledStore;
 use byte_store::{ByteStore, StoreFault};
 use extents::DRIVES;
 use history::Chronicle;
-use vault::{Vault, VaultError, settle};
+use vault::{Batch, Vault, VaultError, settle};
+
+// Notes that a drive failed. Of a number past the last drive's there is nothing to note.
+fn note_failed(failed: &mut [bool; DRIVES], drive: u8) {
+    let drive = usize::from(drive);
+    if drive < DRIVES {
+        failed[drive] = true;
+    }
+}
+
+// Settles a vault, all batches of which are durable, without the drives that are lost. Unless the journal failed, its units stay.
+fn settle_vault<V: Vault>(
+    vault: &mut V,
+    batch: &mut Batch,
+    lost: &[bool; DRIVES],
+) -> Result<(), VaultError>
+    ensures stays { V.known vault.old → V.known vault.new }
+    ensures long { length lost.now ≡ 16 }
+    ensures empty { V.known vault.old → AreLogged V.seen V.may_leave lost.now vault.old → OnOk result (Image.journal (V.seen vault.new) ≡ []) }
+    ensures units { V.known vault.old → AreLogged V.seen V.may_leave lost.now vault.old
+        → UnlessJournal result (SameOn lost.now (recovered (V.seen vault.new)) (recovered (V.seen vault.old))) }
+    ensures logged { V.known vault.old → AreLogged V.seen V.may_leave lost.now vault.old
+        → UnlessJournal result (AreLogged V.seen V.may_leave lost.now vault.new) }
+    ensures any_moment { V.known vault.old → AreLogged V.seen V.may_leave lost.now vault.old → (stop : Stop)
+        → LeavesOnly V.moment V.left_since stop vault.old vault.new (Stands lost.now (recovered (V.seen vault.old))) }
+{
+    settle(vault, batch, lost)
+}
 
 impl<N: Chronicle, V: Vault + Drop> JournaledStore<N, V> {
     /// Publishes, makes all batches durable, writes their units to their places, and empties the journal. The bytes stay. `Sync`
@@ -26,46 +54,77 @@ impl<N: Chronicle, V: Vault + Drop> JournaledStore<N, V> {
 
         // After Ok the journal is empty, and each stop leaves all that the drives hold. Of the lost drives nothing is said.
         ensures settled { V.known self.old.vault
-            → UnlessFailed self.old.failed (IsLive self.new.changes.lost self.old.changes.keeper self.old.changes.noted self.old.changes.batch (recovered (V.seen self.old.vault)))
-            → (low : Stop → ℕ) → ((stop : Stop) → UnlessFailed self.old.failed (IsLogged V.seen V.may_leave self.new.changes.lost stop self.old.vault (low stop)))
+            → UnlessFailed self.old.failed
+            (IsLive self.new.changes.lost self.old.changes.keeper self.old.changes.noted self.old.changes.batch (recovered (V.seen self.old.vault)))
+            → (low : Stop → ℕ) → ((stop : Stop) → UnlessFailed self.old.failed
+            (IsLogged V.seen V.may_leave self.new.changes.lost stop self.old.vault (low stop)))
             → OnOk result (IsEmptied V.seen V.may_leave self.new.changes.lost self.new.vault self.old.store.tiers.world.array.parts.drives) }
         ensures step { V.known self.old.vault
-            → UnlessFailed self.old.failed (IsLive self.new.changes.lost self.old.changes.keeper self.old.changes.noted self.old.changes.batch (recovered (V.seen self.old.vault)))
-            → (low : Stop → ℕ) → ((stop : Stop) → UnlessFailed self.old.failed (IsLogged V.seen V.may_leave self.new.changes.lost stop self.old.vault (low stop)))
-            → UnlessFailed self.new.failed (IsLive self.new.changes.lost self.new.changes.keeper self.new.changes.noted self.new.changes.batch (recovered (V.seen self.new.vault))) }
+            → UnlessFailed self.old.failed
+            (IsLive self.new.changes.lost self.old.changes.keeper self.old.changes.noted self.old.changes.batch (recovered (V.seen self.old.vault)))
+            → (low : Stop → ℕ) → ((stop : Stop) → UnlessFailed self.old.failed
+            (IsLogged V.seen V.may_leave self.new.changes.lost stop self.old.vault (low stop)))
+            → UnlessFailed self.new.failed
+            (IsLive self.new.changes.lost self.new.changes.keeper self.new.changes.noted self.new.changes.batch (recovered (V.seen self.new.vault))) }
         ensures logged { V.known self.old.vault → (low : Stop → ℕ)
             → ((stop : Stop) → UnlessFailed self.old.failed (IsLogged V.seen V.may_leave self.new.changes.lost stop self.old.vault (low stop)))
             → UnlessFailed self.new.failed ((stop : Stop) → (most : ℕ) × IsLogged V.seen V.may_leave self.new.changes.lost stop self.new.vault most) }
 
         // A stop at any moment leaves the units of before, or those of the drives.
         ensures any_moment { V.known self.old.vault
-            → UnlessFailed self.old.failed (IsLive self.new.changes.lost self.old.changes.keeper self.old.changes.noted self.old.changes.batch (recovered (V.seen self.old.vault)))
+            → UnlessFailed self.old.failed
+            (IsLive self.new.changes.lost self.old.changes.keeper self.old.changes.noted self.old.changes.batch (recovered (V.seen self.old.vault)))
             → (low : Stop → ℕ) → ((stop : Stop) → IsLogged V.seen V.may_leave self.new.changes.lost stop self.old.vault (low stop))
             → (stop : Stop) → LeavesOnly V.moment V.left_since stop self.old.vault self.new.vault
             (IsBeforeOrNow self.new.changes.lost (V.seen self.old.vault) (low stop) self.old.store.tiers.world.array.parts.drives) }
     {
         self.publish_durably()?;
-        match settle(&mut self.vault, &mut self.batch, &self.changes.lost) {
+        match settle_vault(&mut self.vault, &mut self.batch, &self.changes.lost) {
             Ok(()) => {
                 self.changes.appended = 0;
                 Ok(())
             }
             Err(error) => {
-                self.failed = error == VaultError::Journal;
-                if let VaultError::Drive(drive) = error {
-                    self.lose(drive);
-                }
+                self.give_up(error);
                 Err(fault_of(error))
             }
         }
     }
 
-    // A drive that failed the vault is lost.
-    fn lose(&mut self, drive: u8) {
-        if usize::from(drive) < DRIVES {
-            self.changes.failed[usize::from(drive)] = true;
+    // What is done where the vault isn't settled: the journal has failed, or a drive is lost.
+    fn give_up(&mut self, error: VaultError)
+        ensures bytes { (F : Flat) → IsStoreOf self.old.store.tiers self.old.store.size self.old.unsynced F
+            → IsStoreOf self.new.store.tiers self.new.store.size self.new.unsynced F }
+        ensures sizes { (self.new.store.size ≡ self.old.store.size)
+            × (self.new.store.tiers.world.array.parts.groups.payload ≡ self.old.store.tiers.world.array.parts.groups.payload) }
+        ensures vault { self.new.vault ≡ self.old.vault }
+        ensures lost { self.new.changes.lost ≡ self.old.changes.lost }
+        ensures step { (lost : List Bool) (c : Cells) → IsLive lost self.old.changes.keeper self.old.changes.noted self.old.changes.batch c
+            → IsLive lost self.new.changes.keeper self.new.changes.noted self.new.changes.batch c }
+        ensures failed { error ≡ VaultError.Journal → self.new.failed ≡ true }
+    {
+        match error {
+            VaultError::Journal => self.failed = true,
+            VaultError::Drive(drive) => self.lose(drive),
+            VaultError::Memory | VaultError::Misfit => {}
         }
+    }
+
+    // A drive that failed the vault is lost. In which drives were shown as lost nothing changes before the next batch.
+    fn lose(&mut self, drive: u8)
+        ensures bytes { (F : Flat) → IsStoreOf self.old.store.tiers self.old.store.size self.old.unsynced F
+            → IsStoreOf self.new.store.tiers self.new.store.size self.new.unsynced F }
+        ensures sizes { (self.new.store.size ≡ self.old.store.size)
+            × (self.new.store.tiers.world.array.parts.groups.payload ≡ self.old.store.tiers.world.array.parts.groups.payload) }
+        ensures vault { self.new.vault ≡ self.old.vault }
+        ensures lost { self.new.changes.lost ≡ self.old.changes.lost }
+        ensures step { (lost : List Bool) (c : Cells) → IsLive lost self.old.changes.keeper self.old.changes.noted self.old.changes.batch c
+            → IsLive lost self.new.changes.keeper self.new.changes.noted self.new.changes.batch c }
+    {
+        note_failed(&mut self.changes.failed, drive);
+        let lost = self.changes.lost;
         let _ = collect(&mut self.store, &mut self.changes);
+        self.changes.lost = lost;
         let _ = self.store.flush();
     }
 

@@ -77,10 +77,13 @@ impl<N: Chronicle, V: Vault + Drop> JournaledStore<N, V> {
     /// out of memory, or if the batch doesn't fit: the next call has it all. `Sync` where the journal failed.
     pub fn publish(&mut self) -> Result<(), StoreFault>
         ensures same { (self.new.store ≡ self.old.store) × (self.new.unsynced ≡ self.old.unsynced) }
+        ensures works { OnOk result (self.new.failed ≡ false) }
         ensures stays { V.known self.old.vault → V.known self.new.vault }
         ensures step { V.known self.old.vault → (lost : List Bool)
-            → UnlessFailed self.old.failed (IsLive lost self.old.changes.keeper self.old.changes.noted self.old.changes.batch (recovered (V.seen self.old.vault)))
-            → UnlessFailed self.new.failed (IsLive lost self.new.changes.keeper self.new.changes.noted self.new.changes.batch (recovered (V.seen self.new.vault))) }
+            → UnlessFailed self.old.failed (IsLive lost self.old.changes.keeper self.old.changes.noted self.old.changes.batch
+            (recovered (V.seen self.old.vault)))
+            → UnlessFailed self.new.failed (IsLive lost self.new.changes.keeper self.new.changes.noted self.new.changes.batch
+            (recovered (V.seen self.new.vault))) }
         ensures killed { V.known self.old.vault → (lost : List Bool)
             → UnlessFailed self.old.failed (IsLogged V.seen V.may_leave lost Killed self.old.vault (length (Image.journal (V.seen self.old.vault))))
             → UnlessFailed self.new.failed (IsLogged V.seen V.may_leave lost Killed self.new.vault (length (Image.journal (V.seen self.new.vault)))) }
@@ -90,16 +93,19 @@ impl<N: Chronicle, V: Vault + Drop> JournaledStore<N, V> {
 
         // After Ok the vault has all that the drives hold, and which are lost.
         ensures kept { V.known self.old.vault → (lost : List Bool)
-            → UnlessFailed self.old.failed (IsLive lost self.old.changes.keeper self.old.changes.noted self.old.changes.batch (recovered (V.seen self.old.vault)))
+            → UnlessFailed self.old.failed (IsLive lost self.old.changes.keeper self.old.changes.noted self.old.changes.batch
+            (recovered (V.seen self.old.vault)))
             → OnOk result (IsKept lost self.new.store.tiers.world.array.parts.drives (recovered (V.seen self.new.vault))) }
         ensures batches { V.known self.old.vault → (lost : List Bool)
-            → UnlessFailed self.old.failed (IsLive lost self.old.changes.keeper self.old.changes.noted self.old.changes.batch (recovered (V.seen self.old.vault)))
+            → UnlessFailed self.old.failed (IsLive lost self.old.changes.keeper self.old.changes.noted self.old.changes.batch
+            (recovered (V.seen self.old.vault)))
             → OnOk result ((low : ℕ) (i : Image) → StandsForSome lost (Image.cells (V.seen self.new.vault)) low (Image.journal (V.seen self.new.vault)) i
             → IsBeforeOrNow lost (V.seen self.old.vault) low self.old.store.tiers.world.array.parts.drives i) }
 
         // A stop at any moment leaves the units of before, or those of the drives now.
         ensures any_moment { V.known self.old.vault → (lost : List Bool)
-            → UnlessFailed self.old.failed (IsLive lost self.old.changes.keeper self.old.changes.noted self.old.changes.batch (recovered (V.seen self.old.vault)))
+            → UnlessFailed self.old.failed (IsLive lost self.old.changes.keeper self.old.changes.noted self.old.changes.batch
+            (recovered (V.seen self.old.vault)))
             → (stop : Stop) (low : ℕ) → IsLogged V.seen V.may_leave lost stop self.old.vault low
             → LeavesOnly V.moment V.left_since stop self.old.vault self.new.vault
             (IsBeforeOrNow lost (V.seen self.old.vault) low self.new.store.tiers.world.array.parts.drives) }
@@ -115,14 +121,18 @@ impl<N: Chronicle, V: Vault + Drop> JournaledStore<N, V> {
     /// Publishes, and makes all batches of the journal durable. `Sync` where that failed.
     pub fn publish_durably(&mut self) -> Result<(), StoreFault>
         ensures same { (self.new.store ≡ self.old.store) × (self.new.unsynced ≡ self.old.unsynced) }
+        ensures works { OnOk result (self.new.failed ≡ false) }
         ensures stays { V.known self.old.vault → V.known self.new.vault }
         ensures step { V.known self.old.vault → (lost : List Bool)
-            → UnlessFailed self.old.failed (IsLive lost self.old.changes.keeper self.old.changes.noted self.old.changes.batch (recovered (V.seen self.old.vault)))
-            → UnlessFailed self.new.failed (IsLive lost self.new.changes.keeper self.new.changes.noted self.new.changes.batch (recovered (V.seen self.new.vault))) }
+            → UnlessFailed self.old.failed (IsLive lost self.old.changes.keeper self.old.changes.noted self.old.changes.batch
+            (recovered (V.seen self.old.vault)))
+            → UnlessFailed self.new.failed (IsLive lost self.new.changes.keeper self.new.changes.noted self.new.changes.batch
+            (recovered (V.seen self.new.vault))) }
 
         // After Ok each stop leaves all batches, and so all that the drives hold.
         ensures kept { V.known self.old.vault → (lost : List Bool)
-            → UnlessFailed self.old.failed (IsLive lost self.old.changes.keeper self.old.changes.noted self.old.changes.batch (recovered (V.seen self.old.vault)))
+            → UnlessFailed self.old.failed (IsLive lost self.old.changes.keeper self.old.changes.noted self.old.changes.batch
+            (recovered (V.seen self.old.vault)))
             → OnOk result (IsKept lost self.new.store.tiers.world.array.parts.drives (recovered (V.seen self.new.vault))) }
         ensures flushed { V.known self.old.vault → (lost : List Bool) (stop : Stop) (low : ℕ)
             → UnlessFailed self.old.failed (IsLogged V.seen V.may_leave lost stop self.old.vault low)
@@ -131,13 +141,15 @@ impl<N: Chronicle, V: Vault + Drop> JournaledStore<N, V> {
             → UnlessFailed self.old.failed (IsLogged V.seen V.may_leave lost stop self.old.vault low)
             → UnlessFailed self.new.failed ((most : ℕ) × (low ≤ most) × IsLogged V.seen V.may_leave lost stop self.new.vault most) }
         ensures batches { V.known self.old.vault → (lost : List Bool)
-            → UnlessFailed self.old.failed (IsLive lost self.old.changes.keeper self.old.changes.noted self.old.changes.batch (recovered (V.seen self.old.vault)))
+            → UnlessFailed self.old.failed (IsLive lost self.old.changes.keeper self.old.changes.noted self.old.changes.batch
+            (recovered (V.seen self.old.vault)))
             → OnOk result ((low : ℕ) (i : Image) → StandsForSome lost (Image.cells (V.seen self.new.vault)) low (Image.journal (V.seen self.new.vault)) i
             → IsBeforeOrNow lost (V.seen self.old.vault) low self.old.store.tiers.world.array.parts.drives i) }
 
         // A stop at any moment leaves the units of before, or those of the drives now.
         ensures any_moment { V.known self.old.vault → (lost : List Bool)
-            → UnlessFailed self.old.failed (IsLive lost self.old.changes.keeper self.old.changes.noted self.old.changes.batch (recovered (V.seen self.old.vault)))
+            → UnlessFailed self.old.failed (IsLive lost self.old.changes.keeper self.old.changes.noted self.old.changes.batch
+            (recovered (V.seen self.old.vault)))
             → (stop : Stop) (low : ℕ) → IsLogged V.seen V.may_leave lost stop self.old.vault low
             → LeavesOnly V.moment V.left_since stop self.old.vault self.new.vault
             (IsBeforeOrNow lost (V.seen self.old.vault) low self.new.store.tiers.world.array.parts.drives) }
@@ -157,8 +169,10 @@ impl<N: Chronicle, V: Vault + Drop> JournaledStore<N, V> {
             × (self.new.store.tiers.world.array.parts.groups.payload ≡ self.old.store.tiers.world.array.parts.groups.payload) }
         ensures stays { V.known self.old.vault → V.known self.new.vault }
         ensures step { V.known self.old.vault → (lost : List Bool)
-            → UnlessFailed self.old.failed (IsLive lost self.old.changes.keeper self.old.changes.noted self.old.changes.batch (recovered (V.seen self.old.vault)))
-            → UnlessFailed self.new.failed (IsLive lost self.new.changes.keeper self.new.changes.noted self.new.changes.batch (recovered (V.seen self.new.vault))) }
+            → UnlessFailed self.old.failed (IsLive lost self.old.changes.keeper self.old.changes.noted self.old.changes.batch
+            (recovered (V.seen self.old.vault)))
+            → UnlessFailed self.new.failed (IsLive lost self.new.changes.keeper self.new.changes.noted self.new.changes.batch
+            (recovered (V.seen self.new.vault))) }
         ensures killed { V.known self.old.vault → (lost : List Bool)
             → UnlessFailed self.old.failed (IsLogged V.seen V.may_leave lost Killed self.old.vault (length (Image.journal (V.seen self.old.vault))))
             → UnlessFailed self.new.failed (IsLogged V.seen V.may_leave lost Killed self.new.vault (length (Image.journal (V.seen self.new.vault)))) }
@@ -168,13 +182,15 @@ impl<N: Chronicle, V: Vault + Drop> JournaledStore<N, V> {
 
         // A kill after Ok leaves all that the drives hold, so the bytes that were written, and which drives are lost.
         ensures kept { V.known self.old.vault → (lost : List Bool)
-            → UnlessFailed self.old.failed (IsLive lost self.old.changes.keeper self.old.changes.noted self.old.changes.batch (recovered (V.seen self.old.vault)))
+            → UnlessFailed self.old.failed (IsLive lost self.old.changes.keeper self.old.changes.noted self.old.changes.batch
+            (recovered (V.seen self.old.vault)))
             → OnOk result (IsKept lost self.new.store.tiers.world.array.parts.drives (recovered (V.seen self.new.vault))) }
 
         // A stop at any moment leaves the units of before, or those of the drives now. By a loss of power some of the last batches
         // may be missing, none of those of the last flush.
         ensures any_moment { V.known self.old.vault → (lost : List Bool)
-            → UnlessFailed self.old.failed (IsLive lost self.old.changes.keeper self.old.changes.noted self.old.changes.batch (recovered (V.seen self.old.vault)))
+            → UnlessFailed self.old.failed (IsLive lost self.old.changes.keeper self.old.changes.noted self.old.changes.batch
+            (recovered (V.seen self.old.vault)))
             → (stop : Stop) (low : ℕ) → IsLogged V.seen V.may_leave lost stop self.old.vault low
             → LeavesOnly V.moment V.left_since stop self.old.vault self.new.vault
             (IsBeforeOrNow lost (V.seen self.old.vault) low self.new.store.tiers.world.array.parts.drives) }
@@ -194,8 +210,10 @@ impl<N: Chronicle, V: Vault + Drop> JournaledStore<N, V> {
             × (self.new.store.tiers.world.array.parts.groups.payload ≡ self.old.store.tiers.world.array.parts.groups.payload) }
         ensures stays { V.known self.old.vault → V.known self.new.vault }
         ensures step { V.known self.old.vault → (lost : List Bool)
-            → UnlessFailed self.old.failed (IsLive lost self.old.changes.keeper self.old.changes.noted self.old.changes.batch (recovered (V.seen self.old.vault)))
-            → UnlessFailed self.new.failed (IsLive lost self.new.changes.keeper self.new.changes.noted self.new.changes.batch (recovered (V.seen self.new.vault))) }
+            → UnlessFailed self.old.failed (IsLive lost self.old.changes.keeper self.old.changes.noted self.old.changes.batch
+            (recovered (V.seen self.old.vault)))
+            → UnlessFailed self.new.failed (IsLive lost self.new.changes.keeper self.new.changes.noted self.new.changes.batch
+            (recovered (V.seen self.new.vault))) }
         ensures killed { V.known self.old.vault → (lost : List Bool)
             → UnlessFailed self.old.failed (IsLogged V.seen V.may_leave lost Killed self.old.vault (length (Image.journal (V.seen self.old.vault))))
             → UnlessFailed self.new.failed (IsLogged V.seen V.may_leave lost Killed self.new.vault (length (Image.journal (V.seen self.new.vault)))) }
@@ -205,13 +223,15 @@ impl<N: Chronicle, V: Vault + Drop> JournaledStore<N, V> {
 
         // A kill after Ok leaves all that the drives hold, and which drives are lost.
         ensures kept { V.known self.old.vault → (lost : List Bool)
-            → UnlessFailed self.old.failed (IsLive lost self.old.changes.keeper self.old.changes.noted self.old.changes.batch (recovered (V.seen self.old.vault)))
+            → UnlessFailed self.old.failed (IsLive lost self.old.changes.keeper self.old.changes.noted self.old.changes.batch
+            (recovered (V.seen self.old.vault)))
             → OnOk result (IsKept lost self.new.store.tiers.world.array.parts.drives (recovered (V.seen self.new.vault))) }
 
         // A stop at any moment leaves the units of before, or those of the drives now. By a loss of power some of the last batches
         // may be missing, none of those of the last flush.
         ensures any_moment { V.known self.old.vault → (lost : List Bool)
-            → UnlessFailed self.old.failed (IsLive lost self.old.changes.keeper self.old.changes.noted self.old.changes.batch (recovered (V.seen self.old.vault)))
+            → UnlessFailed self.old.failed (IsLive lost self.old.changes.keeper self.old.changes.noted self.old.changes.batch
+            (recovered (V.seen self.old.vault)))
             → (stop : Stop) (low : ℕ) → IsLogged V.seen V.may_leave lost stop self.old.vault low
             → LeavesOnly V.moment V.left_since stop self.old.vault self.new.vault
             (IsBeforeOrNow lost (V.seen self.old.vault) low self.new.store.tiers.world.array.parts.drives) }
@@ -230,12 +250,15 @@ impl<N: Chronicle, V: Vault + Drop> JournaledStore<N, V> {
             × (self.new.store.tiers.world.array.parts.groups.payload ≡ self.old.store.tiers.world.array.parts.groups.payload) }
         ensures stays { V.known self.old.vault → V.known self.new.vault }
         ensures step { V.known self.old.vault → (lost : List Bool)
-            → UnlessFailed self.old.failed (IsLive lost self.old.changes.keeper self.old.changes.noted self.old.changes.batch (recovered (V.seen self.old.vault)))
-            → UnlessFailed self.new.failed (IsLive lost self.new.changes.keeper self.new.changes.noted self.new.changes.batch (recovered (V.seen self.new.vault))) }
+            → UnlessFailed self.old.failed (IsLive lost self.old.changes.keeper self.old.changes.noted self.old.changes.batch
+            (recovered (V.seen self.old.vault)))
+            → UnlessFailed self.new.failed (IsLive lost self.new.changes.keeper self.new.changes.noted self.new.changes.batch
+            (recovered (V.seen self.new.vault))) }
 
         // Each stop after Ok leaves all that the drives hold, and which drives are lost.
         ensures kept { V.known self.old.vault → (lost : List Bool)
-            → UnlessFailed self.old.failed (IsLive lost self.old.changes.keeper self.old.changes.noted self.old.changes.batch (recovered (V.seen self.old.vault)))
+            → UnlessFailed self.old.failed (IsLive lost self.old.changes.keeper self.old.changes.noted self.old.changes.batch
+            (recovered (V.seen self.old.vault)))
             → OnOk result (IsKept lost self.new.store.tiers.world.array.parts.drives (recovered (V.seen self.new.vault))) }
         ensures flushed { V.known self.old.vault → (lost : List Bool) (stop : Stop) (low : ℕ)
             → UnlessFailed self.old.failed (IsLogged V.seen V.may_leave lost stop self.old.vault low)
@@ -246,7 +269,8 @@ impl<N: Chronicle, V: Vault + Drop> JournaledStore<N, V> {
 
         // A stop at any moment leaves the units of before, or those of the drives now.
         ensures any_moment { V.known self.old.vault → (lost : List Bool)
-            → UnlessFailed self.old.failed (IsLive lost self.old.changes.keeper self.old.changes.noted self.old.changes.batch (recovered (V.seen self.old.vault)))
+            → UnlessFailed self.old.failed (IsLive lost self.old.changes.keeper self.old.changes.noted self.old.changes.batch
+            (recovered (V.seen self.old.vault)))
             → (stop : Stop) (low : ℕ) → IsLogged V.seen V.may_leave lost stop self.old.vault low
             → LeavesOnly V.moment V.left_since stop self.old.vault self.new.vault
             (IsBeforeOrNow lost (V.seen self.old.vault) low self.new.store.tiers.world.array.parts.drives) }

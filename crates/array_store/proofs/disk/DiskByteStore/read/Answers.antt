@@ -4,7 +4,7 @@ use borrow.Rule.Slice.PartMut.{put_mid}
 use Rattle.byte_store.specs.Flat.{written_over}
 use Rattle.array_store.proofs.Loops.{read_all, read_more, read_part}
 use Rattle.array_store.proofs.Over.{over_long}
-use Rattle.array_store.proofs.store.ArrayStoreByteStore.read.Goals as goal
+use Rattle.array_store.proofs.disk.DiskByteStore.read.Goals as goal
 
 pub loop-done-preserved : goal.loop-done-preserved
 loop-done-preserved g c =

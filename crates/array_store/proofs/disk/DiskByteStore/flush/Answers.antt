@@ -1,6 +1,6 @@
 use Rattle.std.proofs.Common.{refl, false}
 use Rattle.array_store.proofs.Holding.{synced_holds}
-use Rattle.array_store.proofs.store.ArrayStoreByteStore.flush.Goals as goal
+use Rattle.array_store.proofs.disk.DiskByteStore.flush.Goals as goal
 
 pub returns-clause-change : goal.returns-clause-change
 returns-clause-change g c = λ F is. (

@@ -1,4 +1,4 @@
-use Rattle.array_store.proofs.store.ArrayStoreByteStore.rest.Goals as goal
+use Rattle.array_store.proofs.disk.DiskByteStore.rest.Goals as goal
 
 pub returns-clause-kept : goal.returns-clause-kept
 returns-clause-kept g c = λ F is. record {

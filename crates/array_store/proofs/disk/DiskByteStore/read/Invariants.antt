@@ -1,7 +1,7 @@
 use Rattle.std.proofs.Common.{length, slice_index, ◌-◌, ◌≡◌, ◌+◌, ◌<◌, ◌≤◌, ℕ, List}
 use Rattle.slot_tables.specs.Views.{SameSizes}
 use Rattle.array_store.specs.Blocks.{Holds}
-use Rattle.array_store.proofs.store.ArrayStoreByteStore.read.Given as goal
+use Rattle.array_store.proofs.disk.DiskByteStore.read.Given as goal
 
 -- so many bytes are read, and the disk's bytes are as before
 abbrev pub invariant-loop-done : goal.invariant-loop-done

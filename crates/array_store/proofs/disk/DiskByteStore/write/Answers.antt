@@ -5,7 +5,7 @@ use Rattle.byte_store.specs.Flat.{written_over}
 use Rattle.array_store.specs.Blocks.{Holds}
 use Rattle.array_store.proofs.Loops.{write_more, torn}
 use Rattle.array_store.proofs.Over.{over_long}
-use Rattle.array_store.proofs.store.ArrayStoreByteStore.write.Goals as goal
+use Rattle.array_store.proofs.disk.DiskByteStore.write.Goals as goal
 
 pub loop-done-preserved : goal.loop-done-preserved
 loop-done-preserved g c =

@@ -1,0 +1,75 @@
+-- What the vault stands for once its journal is settled, but for lost drives.
+use Rattle.std.proofs.Common.{◌≡◌, ◌≢◌, ◌≤◌, ℕ, zero, suc, arith, Bool, true, false, List, [], ◌∷◌, length, refl, sym, ◌∙◌, subst}
+use Rattle.std.specs.Prelude.{Result, Ok, Err, OnOk, IfErr, slice_get}
+use Rattle.extent_groups.specs.declared.place.Place.{Place}
+use Rattle.extent_groups.specs.Cells.{Cells}
+use Rattle.extent_groups.specs.Planned.{Wanted, after}
+use Rattle.vault.specs.Images.{Image, SameOn, flat, is_lost, is_on, recovered}
+use Rattle.vault.specs.Moments.{AreLogged, IsSettled, IsKept as Still}
+use Rattle.vault.specs.declared.store.Stop.{Stop}
+use Rattle.vault.specs.declared.store.VaultError.{VaultError}
+use Rattle.vault.specs.declared.store.VaultError.TheVariants as error
+use Rattle.vault.proofs.Writes.{same_here}
+use Rattle.history.specs.Entries.{Course}
+use Rattle.array_parts.specs.Views.{DriveView}
+use Rattle.cached_drive.specs.Saving.{Units}
+use Rattle.journaled_store.specs.Steps.{IsKept, IsLive, UnlessJournal}
+
+no_mark : (marks : List Bool) (n : ℕ) → length marks ≤ n → is_on (slice_get marks n) ≡ false
+no_mark [] n le = refl
+no_mark (m ∷ marks) zero le = absurd (omega (arith, le))
+no_mark (m ∷ marks) (suc n) le = no_mark marks n (omega (arith, le))
+
+-- the table is on no lost drive
+table_there : (lost : List Bool) → length lost ≡ 16 → is_lost lost 16 ≡ false
+table_there lost long = no_mark lost 16 (omega (arith, long))
+
+abbrev place_at : ℕ → ℕ → Place
+place_at drive address = record { drive = drive; address = address }
+
+pub live_on : (lost : List Bool) (k : Course Units) (marks : List ℕ) (batch : List Wanted) (c d : Cells) → length lost ≡ 16 → SameOn lost d c
+    → IsLive lost k marks batch c → IsLive lost k marks batch d
+live_on lost k marks batch c d long same live = record {
+  step = record { each = λ n at low on. same_here batch d c (place_at n at) (same (place_at n at) on) ∙ live.step.each n at low on };
+  noted = same_here batch d c (place_at 16 0) (same (place_at 16 0) (table_there lost long)) ∙ live.noted;
+}
+
+pub kept_on : (lost : List Bool) (drives : List DriveView) (c d : Cells) → length lost ≡ 16 → SameOn lost d c → IsKept lost drives c → IsKept lost drives d
+kept_on lost drives c d long same kept = record {
+  has = record { each = λ n at v there on. same (place_at n at) on ∙ kept.has.each n at v there on };
+  marks = kept.marks;
+  noted = same (place_at 16 0) (table_there lost long) ∙ kept.noted;
+  told = kept.told;
+}
+
+-- another failure than the journal's
+pub not_journal : (e : VaultError) (P : Type 0) → (e ≡ error.Journal → ⊥) → UnlessJournal (Err e) P → P
+not_journal error.Journal P never p = absurd (never refl)
+not_journal error.Memory P never p = p
+not_journal error.Misfit P never p = p
+not_journal (error.Drive d) P never p = p
+
+-- what a vault's settling says, by its outcome
+module _ {V : Type 0} (seen : V → Image) (may_leave : V → Stop → Image → Type 0) (lost : List Bool) (old new : V) where
+  pub empty_after : (r : Result (Unit {0}) VaultError) → OnOk r (IsSettled seen may_leave lost old new) → OnOk r ((seen new).journal ≡ [])
+  empty_after (Ok x) settled = settled.empty
+  empty_after (Err e) settled = tt
+
+  emptied_units : IsSettled seen may_leave lost old new → SameOn lost (recovered (seen new)) (recovered (seen old))
+  emptied_units settled = subst (λ b. SameOn lost (after (seen new).cells (flat b)) (recovered (seen old))) (sym settled.empty) settled.cells
+
+  pub units_after : (r : Result (Unit {0}) VaultError) → OnOk r (IsSettled seen may_leave lost old new) → IfErr r (λ e. e ≢ error.Journal → Still seen may_leave lost old new)
+      → UnlessJournal r (SameOn lost (recovered (seen new)) (recovered (seen old)))
+  units_after (Ok x) settled kept = emptied_units settled
+  units_after (Err error.Journal) settled kept = tt
+  units_after (Err error.Memory) settled kept = (kept (λ e. cc)).cells
+  units_after (Err error.Misfit) settled kept = (kept (λ e. cc)).cells
+  units_after (Err (error.Drive d)) settled kept = (kept (λ e. cc)).cells
+
+  pub logged_after : (r : Result (Unit {0}) VaultError) → OnOk r (IsSettled seen may_leave lost old new) → IfErr r (λ e. e ≢ error.Journal → Still seen may_leave lost old new)
+      → UnlessJournal r (AreLogged seen may_leave lost new)
+  logged_after (Ok x) settled kept = settled.durable
+  logged_after (Err error.Journal) settled kept = tt
+  logged_after (Err error.Memory) settled kept = (kept (λ e. cc)).durable
+  logged_after (Err error.Misfit) settled kept = (kept (λ e. cc)).durable
+  logged_after (Err (error.Drive d)) settled kept = (kept (λ e. cc)).durable

@@ -1,0 +1,76 @@
+-- What an array's calls leave of a store that notes for itself what is unsynced.
+use Rattle.std.proofs.Common.{◌≡◌, inr, ℕ, Bool, true, false, List, length, refl, sym, ◌∙◌, ap, subst}
+use Rattle.std.specs.Prelude.{Result, Ok, Err, OnOk, is_err, slice_get}
+use Rattle.std.proofs.lemmas.Bool.{true≢false}
+use Rattle.byte_store.specs.Flat.{Flat, Sizes}
+use Rattle.byte_store.specs.Changes.{IsChanged, IsFlushed, IsTorn}
+use Rattle.array_store.specs.Blocks.{Holds}
+use Rattle.array_store.specs.Stores.{IsStoreOf, StoreView}
+
+-- a result that is no error
+pub unless_err : {T E P : Type 0} (r : Result T E) → is_err r ≡ false → OnOk r P → P
+unless_err (Ok x) is p = p
+unless_err (Err e) is p = absurd (true≢false is)
+
+-- the flat store with the note that a store has
+abbrev pub noting : Bool → Flat → Flat
+noting unsynced F = record { bytes = F.bytes; unsynced = unsynced }
+
+-- a write of an array that isn't published is one that stopped somewhere
+pub torn_over : {E : Type 0} (r : Result (Unit {0}) E) (F G : Flat) (was : Bool) (offset : ℕ) (bytes : List ℕ) → length G.bytes ≡ length F.bytes
+    → IsChanged r (noting was F) offset bytes G → IsTorn F offset bytes (noting true G)
+torn_over (Ok x) F G was offset bytes long written = record { size = long; each = λ k. inr (ap (λ xs. slice_get xs k) written.bytes_are); unsynced = inr refl }
+torn_over (Err e) F G was offset bytes long torn = record { size = long; each = torn.each; unsynced = inr refl }
+
+-- one that is published is what the array made of it
+pub changed_over : {E : Type 0} (r : Result (Unit {0}) E) (F G : Flat) (was : Bool) (offset : ℕ) (bytes : List ℕ) → length G.bytes ≡ length F.bytes
+    → IsChanged r (noting was F) offset bytes G → IsChanged r F offset bytes (noting true G)
+changed_over (Ok x) F G was offset bytes long written = record { bytes_are = written.bytes_are; unsynced = refl }
+changed_over (Err e) F G was offset bytes long torn = torn_over (Err e) F G was offset bytes long torn
+
+-- a flush leaves the bytes
+pub flushed_bytes : {E : Type 0} (r : Result (Unit {0}) E) (F G : Flat) → IsFlushed r F G → G.bytes ≡ F.bytes
+flushed_bytes (Ok x) F G flushed = flushed.0
+flushed_bytes (Err e) F G same = ap (λ (f : Flat). f.bytes) same
+
+-- a store with another note
+pub with_note : (s : StoreView) (unsynced : Bool) (F : Flat) → IsStoreOf s.tiers s.size unsynced F → IsStoreOf s.tiers s.size s.unsynced (noting s.unsynced F)
+with_note s unsynced F is = record { holds = is.holds; long = is.long; noted = refl }
+
+pub own_note : (s : StoreView) (was unsynced : Bool) (F : Flat) → F.unsynced ≡ unsynced → IsStoreOf s.tiers s.size s.unsynced (noting was F) → IsStoreOf s.tiers s.size unsynced F
+own_note s was unsynced F noted is = record { holds = is.holds; long = is.long; noted = noted }
+
+module _ {E : Type 0} (was now : StoreView) (unsynced : Bool) (r : Result (Unit {0}) E) (F : Flat) (is : IsStoreOf was.tiers was.size unsynced F) where
+  pub flushed_store : ((H : Flat) → IsStoreOf was.tiers was.size was.unsynced H → (G : Flat) × IsStoreOf now.tiers now.size now.unsynced G × IsFlushed r H G)
+      → IsStoreOf now.tiers now.size unsynced F
+  flushed_store change =
+      let made = change (noting was.unsynced F) (with_note was unsynced F is) in
+      let same : made.0.bytes ≡ F.bytes = flushed_bytes r (noting was.unsynced F) made.0 made.2 in
+      record { holds = subst (λ bs. Holds now.tiers bs) same made.1.holds; long = ap length (sym same) ∙ made.1.long; noted = is.noted }
+
+  -- the bytes after a write, also where it isn't published
+  pub written_store : (offset : ℕ) (bytes : List ℕ) → now.size ≡ was.size
+      → ((H : Flat) → IsStoreOf was.tiers was.size was.unsynced H → (G : Flat) × IsStoreOf now.tiers now.size now.unsynced G × IsChanged r H offset bytes G)
+      → (G : Flat) × IsStoreOf now.tiers now.size true G × IsTorn F offset bytes G × IsChanged r F offset bytes G
+  written_store offset bytes size change =
+      let made = change (noting was.unsynced F) (with_note was unsynced F is) in
+      let long : length made.0.bytes ≡ length F.bytes = made.1.long ∙ size ∙ sym is.long in (
+        noting true made.0,
+        record { holds = made.1.holds; long = made.1.long; noted = refl },
+        torn_over r F made.0 was.unsynced offset bytes long made.2,
+        changed_over r F made.0 was.unsynced offset bytes long made.2,
+      )
+
+-- stores that are the same in each part
+pub same_parts : (was now : StoreView) → (now.tiers ≡ was.tiers) × (now.size ≡ was.size) × (now.unsynced ≡ was.unsynced) → now ≡ was
+same_parts was now same =
+    ap (λ t. let s : StoreView = record { tiers = t; size = now.size; unsynced = now.unsynced } in s) same.0
+    ∙ ap (λ n. let s : StoreView = record { tiers = was.tiers; size = n; unsynced = now.unsynced } in s) same.1
+    ∙ ap (λ u. let s : StoreView = record { tiers = was.tiers; size = was.size; unsynced = u } in s) same.2
+
+-- the sizes of stores whose parts are the same
+pub same_sizes : (was now : StoreView) → (now.size ≡ was.size) × (now.tiers.world.array.parts.groups.payload ≡ was.tiers.world.array.parts.groups.payload)
+    → ◌≡◌ {A = Sizes} (record { bytes = now.size; block = now.tiers.world.array.parts.groups.payload }) (record { bytes = was.size; block = was.tiers.world.array.parts.groups.payload })
+same_sizes was now same =
+    ap (λ n. let s : Sizes = record { bytes = n; block = now.tiers.world.array.parts.groups.payload } in s) same.0
+    ∙ ap (λ n. let s : Sizes = record { bytes = was.size; block = n } in s) same.1

@@ -1,0 +1,23 @@
+use Rattle.std.proofs.Common.{sym, subst}
+use Rattle.vault.specs.Moments.{LeavesOnly}
+use Rattle.background.specs.Views.{TiersView}
+use Rattle.vault.proofs.Runs.{started}
+use Rattle.journaled_store.specs.Steps.{IsBeforeOrNow}
+use Rattle.journaled_store.proofs.Batching.{logged_now}
+use Rattle.journaled_store.proofs.store.JournaledStore.publish.Goals as goal
+
+pub returns-then-self-clause-any_moment : goal.returns-then-self-clause-any_moment
+returns-then-self-clause-any_moment g c known lost live stop low is =
+    let v = g.V.Vault in
+    let vault = c.args.self.now.vault in
+    let drives = c.args.self.now.store.tiers.world.array.parts.drives in
+    started v.moment v.left_since stop vault (IsBeforeOrNow lost (v.seen vault) low drives)
+    (λ i left. logged_now v.seen v.may_leave lost stop vault low drives is i (g.met.V.Vault.only_now vault known stop i left))
+
+pub returns-clause-any_moment : goal.returns-clause-any_moment
+returns-clause-any_moment g c known lost live stop low is =
+    let v = g.V.Vault in
+    let vault = c.args.self.now.vault in
+    subst (λ (t : TiersView). LeavesOnly v.moment v.left_since stop vault c.publish-published.new.vault (IsBeforeOrNow lost (v.seen vault) low t.world.array.parts.drives))
+    (sym c.publish-published.ensures.same.0)
+    (c.publish-published.ensures.any_moment known lost (live c.if-self.false) stop low is)
