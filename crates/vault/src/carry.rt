@@ -19,10 +19,8 @@ pub fn settle<V: Vault>(
     lost: &[bool; DRIVES],
 ) -> Result<(), VaultError>
     ensures stays { V.known vault.old → V.known vault.new }
-    ensures settled { V.known vault.old → AreLogged V.seen V.may_leave lost.now vault.old
-        → OnOk result (IsSettled V.seen V.may_leave lost.now vault.old vault.new) }
-    ensures kept { V.known vault.old → AreLogged V.seen V.may_leave lost.now vault.old
-        → IfErr result (λ e. e ≢ VaultError.Journal → IsKept V.seen V.may_leave lost.now vault.old vault.new) }
+    ensures settled { V.known vault.old → AreLogged V.seen V.may_leave lost.now vault.old → OnOk result (IsSettled V.seen V.may_leave lost.now vault.old vault.new) }
+    ensures kept { V.known vault.old → AreLogged V.seen V.may_leave lost.now vault.old → IfErr result (λ e. e ≢ VaultError.Journal → IsKept V.seen V.may_leave lost.now vault.old vault.new) }
     ensures any_moment { V.known vault.old → AreLogged V.seen V.may_leave lost.now vault.old → (stop : Stop)
         → LeavesOnly V.moment V.left_since stop vault.old vault.new (Stands lost.now (recovered (V.seen vault.old))) }
     ensures cause { V.known vault.old → HasCause (λ d. is_lost_of lost.now d ≡ false) (V.faults vault.old) (V.faults vault.new) result }
@@ -58,8 +56,7 @@ fn write_units<V: Vault>(
     lost: &[bool; DRIVES],
 ) -> Result<(), VaultError>
     ensures stays { V.known vault.old → V.known vault.new }
-    ensures underway { V.known vault.old → IsAmong batch.now (V.seen vault.old)
-        → IsUnderway V.seen V.may_leave V.moment V.left_since lost.now vault.old vault.new }
+    ensures underway { V.known vault.old → IsAmong batch.now (V.seen vault.old) → IsUnderway V.seen V.may_leave V.moment V.left_since lost.now vault.old vault.new }
     ensures written { V.known vault.old → OnOk result (SameOn lost.now (Image.cells (V.seen vault.new)) (after (Image.cells (V.seen vault.old)) batch.now)) }
     ensures cause { V.known vault.old → HasCause (λ d. is_lost_of lost.now d ≡ false) (V.faults vault.old) (V.faults vault.new) result }
 {
