@@ -1,5 +1,6 @@
 // The journal of a store is emptied.
-ghost use Rattle.std.specs.Prelude.{◌≡◌, ◌≤◌, [], ℕ, List, Bool, length, true, OnOk};
+ghost use Rattle.std.specs.Prelude.{◌≡◌, ◌≤◌, ◌<◌, [], ℕ, List, Bool, length, slice_index_or, true, OnOk};
+ghost use Rattle.array_parts.specs.Views.{lost_of};
 ghost use Rattle.extent_groups.specs.Cells.{Cells};
 ghost use Rattle.byte_store.specs.Flat.{Flat};
 ghost use Rattle.array_store.specs.Stores.{IsStoreOf};
@@ -52,7 +53,10 @@ impl<N: Chronicle, V: Vault + Drop> JournaledStore<N, V> {
             × (self.new.store.tiers.world.array.parts.groups.payload ≡ self.old.store.tiers.world.array.parts.groups.payload) }
         ensures stays { V.known self.old.vault → V.known self.new.vault }
 
-        // After Ok the journal is empty, and each stop leaves all that the drives hold. Of the lost drives nothing is said.
+        // The drives of which nothing is said: the lost ones, and those past the last.
+        ensures lost { (d : ℕ) → d < 16 → slice_index_or self.new.changes.lost d true ≡ lost_of self.old.store.tiers.world.array.parts d }
+
+        // After Ok the journal is empty, and each stop leaves all that the drives hold.
         ensures settled { V.known self.old.vault
             → UnlessFailed self.old.failed
             (IsLive self.new.changes.lost self.old.changes.keeper self.old.changes.noted self.old.changes.batch (recovered (V.seen self.old.vault)))
@@ -78,7 +82,10 @@ impl<N: Chronicle, V: Vault + Drop> JournaledStore<N, V> {
             → (stop : Stop) → LeavesOnly V.moment V.left_since stop self.old.vault self.new.vault
             (IsBeforeOrNow self.new.changes.lost (V.seen self.old.vault) (low stop) self.old.store.tiers.world.array.parts.drives) }
     {
-        self.publish_durably()?;
+        let lost = self.store.world().array().lost();
+        let published = self.publish_durably();
+        self.changes.lost = lost;
+        published?;
         match settle_vault(&mut self.vault, &mut self.batch, &self.changes.lost) {
             Ok(()) => {
                 self.changes.appended = 0;

@@ -14,10 +14,23 @@ use crate::publishing::{publish, sync};
 use array_store::ArrayStore;
 use byte_store::{ByteStore, StoreFault};
 use cached_drive::CachedDrive;
+use extents::Drive;
 use history::Chronicle;
 use std::alloc::Global;
 use step_core::World;
 use vault::{Batch, Vault};
+
+// Whether more than one drive is lost. Then the array may not have all that was answered, but the vault has it.
+fn has_lost_two<D: Drive>(world: &World<D>) -> bool {
+    let lost = world.array().lost();
+    let mut count = 0u8;
+    for drive in 0..world.array().drive_count() {
+        if lost[usize::from(drive % 16)] {
+            count = count.saturating_add(1);
+        }
+    }
+    count > 1
+}
 
 // Whether the journal failed.
 fn is_sync(published: &Result<(), StoreFault>) -> bool
@@ -74,7 +87,8 @@ impl<N: Chronicle, V: Vault + Drop> JournaledStore<N, V> {
     }
 
     /// Makes one batch of all that the drives have written and of which are lost, and appends it to the vault's journal. `Memory` if
-    /// out of memory, or if the batch doesn't fit: the next call has it all. `Sync` where the journal failed.
+    /// out of memory, or if the batch doesn't fit: the next call has it all. `Sync` where the journal failed; and where more than one
+    /// drive is lost, so that the vault keeps what it has.
     pub fn publish(&mut self) -> Result<(), StoreFault>
         ensures same { (self.new.store ≡ self.old.store) × (self.new.unsynced ≡ self.old.unsynced) }
         ensures works { OnOk result (self.new.failed ≡ false) }
@@ -111,6 +125,9 @@ impl<N: Chronicle, V: Vault + Drop> JournaledStore<N, V> {
             (IsBeforeOrNow lost (V.seen self.old.vault) low self.new.store.tiers.world.array.parts.drives) }
     {
         if self.failed {
+            return Err(StoreFault::Sync);
+        }
+        if has_lost_two(self.store.world()) {
             return Err(StoreFault::Sync);
         }
         let published = publish(&mut self.store, &mut self.changes, &mut self.vault);

@@ -14,6 +14,14 @@ returns-then-self-clause-any_moment g c known lost live stop low is =
     started v.moment v.left_since stop vault (IsBeforeOrNow lost (v.seen vault) low drives)
     (λ i left. logged_now v.seen v.may_leave lost stop vault low drives is i (g.met.V.Vault.only_now vault known stop i left))
 
+pub returns-then-has_lost_two-clause-any_moment : goal.returns-then-has_lost_two-clause-any_moment
+returns-then-has_lost_two-clause-any_moment g c known lost live stop low is =
+    let v = g.V.Vault in
+    let vault = c.args.self.now.vault in
+    let drives = c.args.self.now.store.tiers.world.array.parts.drives in
+    started v.moment v.left_since stop vault (IsBeforeOrNow lost (v.seen vault) low drives)
+    (λ i left. logged_now v.seen v.may_leave lost stop vault low drives is i (g.met.V.Vault.only_now vault known stop i left))
+
 pub returns-clause-any_moment : goal.returns-clause-any_moment
 returns-clause-any_moment g c known lost live stop low is =
     let v = g.V.Vault in
