@@ -13,87 +13,87 @@ use Rattle.journaled_store.specs.Steps.{IsBeforeOrNow, IsKept, IsLive, UnlessFai
 use Rattle.journaled_store.proofs.Settled.{kept_on, live_on, not_journal}
 use Rattle.journaled_store.proofs.store.JournaledStore.settle.Goals as goal
 
-pub returns-in_err-publish_durably-clause-bytes : goal.returns-in_err-publish_durably-clause-bytes
-returns-in_err-publish_durably-clause-bytes g c F is =
-    let same = c.publish_durably.ensures.same in
-    subst (λ (s : StoreView). IsStoreOf s.tiers s.size c.publish_durably.new.self.unsynced F) (sym same.0)
+pub returns-in_err-published-clause-bytes : goal.returns-in_err-published-clause-bytes
+returns-in_err-published-clause-bytes g c F is =
+    let same = c.publish_durably-published.ensures.same in
+    subst (λ (s : StoreView). IsStoreOf s.tiers s.size c.publish_durably-published.new.self.unsynced F) (sym same.0)
     (subst (λ b. IsStoreOf c.args.self.now.store.tiers c.args.self.now.store.size b F) (sym same.1) is)
 
 pub returns-in-Ok-clause-bytes : goal.returns-in-Ok-clause-bytes
 returns-in-Ok-clause-bytes g c F is =
-    let same = c.publish_durably.ensures.same in
-    subst (λ (s : StoreView). IsStoreOf s.tiers s.size c.publish_durably.new.self.unsynced F) (sym same.0)
+    let same = c.publish_durably-published.ensures.same in
+    subst (λ (s : StoreView). IsStoreOf s.tiers s.size c.publish_durably-published.new.self.unsynced F) (sym same.0)
     (subst (λ b. IsStoreOf c.args.self.now.store.tiers c.args.self.now.store.size b F) (sym same.1) is)
 
 pub returns-in-Err-clause-bytes : goal.returns-in-Err-clause-bytes
 returns-in-Err-clause-bytes g c F is =
-    let same = c.publish_durably.ensures.same in
+    let same = c.publish_durably-published.ensures.same in
     c.give_up.ensures.bytes F
-    (subst (λ (s : StoreView). IsStoreOf s.tiers s.size c.publish_durably.new.self.unsynced F) (sym same.0)
+    (subst (λ (s : StoreView). IsStoreOf s.tiers s.size c.publish_durably-published.new.self.unsynced F) (sym same.0)
     (subst (λ b. IsStoreOf c.args.self.now.store.tiers c.args.self.now.store.size b F) (sym same.1) is))
 
-pub returns-in_err-publish_durably-clause-step : goal.returns-in_err-publish_durably-clause-step
-returns-in_err-publish_durably-clause-step g c known live low logged works = c.publish_durably.ensures.step known c.publish_durably.new.self.changes.lost live works
+pub returns-in_err-published-clause-step : goal.returns-in_err-published-clause-step
+returns-in_err-published-clause-step g c known live low logged works = c.publish_durably-published.ensures.step known c.lost-lost.result live works
 
-pub returns-in_err-publish_durably-clause-logged : goal.returns-in_err-publish_durably-clause-logged
-returns-in_err-publish_durably-clause-logged g c known low logged works stop =
-    let more = c.publish_durably.ensures.logged known c.publish_durably.new.self.changes.lost stop (low stop) (logged stop) works in (more.0, more.2)
+pub returns-in_err-published-clause-logged : goal.returns-in_err-published-clause-logged
+returns-in_err-published-clause-logged g c known low logged works stop =
+    let more = c.publish_durably-published.ensures.logged known c.lost-lost.result stop (low stop) (logged stop) works in (more.0, more.2)
 
-pub returns-in_err-publish_durably-clause-any_moment : goal.returns-in_err-publish_durably-clause-any_moment
-returns-in_err-publish_durably-clause-any_moment g c known live low logged stop =
+pub returns-in_err-published-clause-any_moment : goal.returns-in_err-published-clause-any_moment
+returns-in_err-published-clause-any_moment g c known live low logged stop =
     let v = g.V.Vault in
-    let lost = c.publish_durably.new.self.changes.lost in
-    subst (λ (s : StoreView). LeavesOnly v.moment v.left_since stop c.args.self.now.vault c.publish_durably.new.self.vault
-    (IsBeforeOrNow lost (v.seen c.args.self.now.vault) (low stop) s.tiers.world.array.parts.drives)) c.publish_durably.ensures.same.0
-    (c.publish_durably.ensures.any_moment known lost live stop (low stop) (logged stop))
+    let lost = c.lost-lost.result in
+    subst (λ (s : StoreView). LeavesOnly v.moment v.left_since stop c.args.self.now.vault c.publish_durably-published.new.self.vault
+    (IsBeforeOrNow lost (v.seen c.args.self.now.vault) (low stop) s.tiers.world.array.parts.drives)) c.publish_durably-published.ensures.same.0
+    (c.publish_durably-published.ensures.any_moment known lost live stop (low stop) (logged stop))
 
 pub returns-in-Ok-clause-settled : goal.returns-in-Ok-clause-settled
 returns-in-Ok-clause-settled g c known live low logged =
     let v = g.V.Vault in
-    let lost = c.publish_durably.new.self.changes.lost in
-    let mid = recovered (v.seen c.publish_durably.new.self.vault) in
-    let now = c.publish_durably.ensures.stays known in
-    let all : AreLogged v.seen v.may_leave lost c.publish_durably.new.self.vault = λ stop. c.in_ok-publish_durably.ensures.flushed known lost stop (low stop) (logged stop) in
+    let lost = c.lost-lost.result in
+    let mid = recovered (v.seen c.publish_durably-published.new.self.vault) in
+    let now = c.publish_durably-published.ensures.stays known in
+    let all : AreLogged v.seen v.may_leave lost c.publish_durably-published.new.self.vault = λ stop. c.in_ok-published.ensures.flushed known lost stop (low stop) (logged stop) in
     record {
       empty = c.in-Ok.ensures.empty now all;
       durable = c.in-Ok.ensures.logged now all;
-      kept = subst (λ (s : StoreView). IsKept lost s.tiers.world.array.parts.drives (recovered (v.seen c.settle_vault.new.vault))) c.publish_durably.ensures.same.0
-          (kept_on lost c.publish_durably.new.self.store.tiers.world.array.parts.drives mid (recovered (v.seen c.settle_vault.new.vault)) c.settle_vault.ensures.long
-          (c.in-Ok.ensures.units now all) (c.in_ok-publish_durably.ensures.kept known lost live));
+      kept = subst (λ (s : StoreView). IsKept lost s.tiers.world.array.parts.drives (recovered (v.seen c.settle_vault.new.vault))) c.publish_durably-published.ensures.same.0
+          (kept_on lost c.publish_durably-published.new.self.store.tiers.world.array.parts.drives mid (recovered (v.seen c.settle_vault.new.vault)) c.settle_vault.ensures.long
+          (c.in-Ok.ensures.units now all) (c.in_ok-published.ensures.kept known lost live));
     }
 
 pub returns-in-Ok-clause-step : goal.returns-in-Ok-clause-step
 returns-in-Ok-clause-step g c known live low logged works =
     let v = g.V.Vault in
-    let changes = c.publish_durably.new.self.changes in
-    let lost = changes.lost in
-    let now = c.publish_durably.ensures.stays known in
-    let all : AreLogged v.seen v.may_leave lost c.publish_durably.new.self.vault = λ stop. c.in_ok-publish_durably.ensures.flushed known lost stop (low stop) (logged stop) in
-    live_on lost changes.keeper changes.noted changes.batch (recovered (v.seen c.publish_durably.new.self.vault)) (recovered (v.seen c.settle_vault.new.vault)) c.settle_vault.ensures.long
-    (c.in-Ok.ensures.units now all) (c.publish_durably.ensures.step known lost live works)
+    let changes = c.publish_durably-published.new.self.changes in
+    let lost = c.lost-lost.result in
+    let now = c.publish_durably-published.ensures.stays known in
+    let all : AreLogged v.seen v.may_leave lost c.publish_durably-published.new.self.vault = λ stop. c.in_ok-published.ensures.flushed known lost stop (low stop) (logged stop) in
+    live_on lost changes.keeper changes.noted changes.batch (recovered (v.seen c.publish_durably-published.new.self.vault)) (recovered (v.seen c.settle_vault.new.vault)) c.settle_vault.ensures.long
+    (c.in-Ok.ensures.units now all) (c.publish_durably-published.ensures.step known lost live works)
 
 pub returns-in-Ok-clause-logged : goal.returns-in-Ok-clause-logged
 returns-in-Ok-clause-logged g c known low logged works stop =
     let v = g.V.Vault in
-    let lost = c.publish_durably.new.self.changes.lost in
-    let now = c.publish_durably.ensures.stays known in
-    let all : AreLogged v.seen v.may_leave lost c.publish_durably.new.self.vault = λ s. c.in_ok-publish_durably.ensures.flushed known lost s (low s) (logged s) in
+    let lost = c.lost-lost.result in
+    let now = c.publish_durably-published.ensures.stays known in
+    let all : AreLogged v.seen v.may_leave lost c.publish_durably-published.new.self.vault = λ s. c.in_ok-published.ensures.flushed known lost s (low s) (logged s) in
     (length (Image.journal (v.seen c.settle_vault.new.vault)), c.in-Ok.ensures.logged now all stop)
 
 pub returns-in-Ok-clause-any_moment : goal.returns-in-Ok-clause-any_moment
 returns-in-Ok-clause-any_moment g c known live low logged stop =
     let v = g.V.Vault in
     let old = c.args.self.now.vault in
-    let mid = c.publish_durably.new.self.vault in
-    let lost = c.publish_durably.new.self.changes.lost in
-    let all : AreLogged v.seen v.may_leave lost mid = λ s. c.in_ok-publish_durably.ensures.flushed known lost s (low s) (λ works. logged s) in
-    let here : Image → Type 0 = IsBeforeOrNow lost (v.seen old) (low stop) c.publish_durably.new.self.store.tiers.world.array.parts.drives in
-    subst (λ (s : StoreView). LeavesOnly v.moment v.left_since stop old c.settle_vault.new.vault (IsBeforeOrNow lost (v.seen old) (low stop) s.tiers.world.array.parts.drives)) c.publish_durably.ensures.same.0
+    let mid = c.publish_durably-published.new.self.vault in
+    let lost = c.lost-lost.result in
+    let all : AreLogged v.seen v.may_leave lost mid = λ s. c.in_ok-published.ensures.flushed known lost s (low s) (λ works. logged s) in
+    let here : Image → Type 0 = IsBeforeOrNow lost (v.seen old) (low stop) c.publish_durably-published.new.self.store.tiers.world.array.parts.drives in
+    subst (λ (s : StoreView). LeavesOnly v.moment v.left_since stop old c.settle_vault.new.vault (IsBeforeOrNow lost (v.seen old) (low stop) s.tiers.world.array.parts.drives)) c.publish_durably-published.ensures.same.0
     (both_runs v.moment v.left_since stop old mid c.settle_vault.new.vault here (Stands lost (recovered (v.seen mid))) here
-    (c.publish_durably.ensures.any_moment known lost live stop (low stop) (logged stop))
-    (c.settle_vault.ensures.any_moment (c.publish_durably.ensures.stays known) all stop)
+    (c.publish_durably-published.ensures.any_moment known lost live stop (low stop) (logged stop))
+    (c.settle_vault.ensures.any_moment (c.publish_durably-published.ensures.stays known) all stop)
     (λ i now. now)
-    (λ i stands. inr (recovered (v.seen mid), stands, c.in_ok-publish_durably.ensures.kept known lost live)))
+    (λ i stands. inr (recovered (v.seen mid), stands, c.in_ok-published.ensures.kept known lost live)))
 
 pub returns-in-Err-clause-step : goal.returns-in-Err-clause-step
 returns-in-Err-clause-step g c known live low logged works =
@@ -101,14 +101,14 @@ returns-in-Err-clause-step g c known live low logged works =
     let f = c.args.self.now.failed in
     let was = c.args.self.now.changes in
     let old = c.args.self.now.vault in
-    let changes = c.publish_durably.new.self.changes in
-    let lost = changes.lost in
-    let mid = c.publish_durably.new.self.vault in
+    let changes = c.publish_durably-published.new.self.changes in
+    let lost = c.lost-lost.result in
+    let mid = c.publish_durably-published.new.self.vault in
     let new = c.settle_vault.new.vault in
-    let now = c.publish_durably.ensures.stays known in
+    let now = c.publish_durably-published.ensures.stays known in
     let live_now : UnlessFailed f (IsLive lost was.keeper was.noted was.batch (recovered (v.seen old))) =
     subst (λ (l : List Bool). UnlessFailed f (IsLive l was.keeper was.noted was.batch (recovered (v.seen old)))) c.give_up.ensures.lost live in
-    let all : AreLogged v.seen v.may_leave lost mid = λ stop. c.in_ok-publish_durably.ensures.flushed known lost stop (low stop)
+    let all : AreLogged v.seen v.may_leave lost mid = λ stop. c.in_ok-published.ensures.flushed known lost stop (low stop)
     (subst (λ (l : List Bool). UnlessFailed f (IsLogged v.seen v.may_leave l stop old (low stop))) c.give_up.ensures.lost (logged stop)) in
     let never : c.in-Err.error ≢ error.Journal = λ e. true≢false (sym (c.give_up.ensures.failed e) ∙ works) in
     let units : SameOn lost (recovered (v.seen new)) (recovered (v.seen mid)) = not_journal c.in-Err.error (SameOn lost (recovered (v.seen new)) (recovered (v.seen mid))) never
@@ -116,7 +116,7 @@ returns-in-Err-clause-step g c known live low logged works =
     let left : IsLive lost c.give_up.new.self.changes.keeper c.give_up.new.self.changes.noted c.give_up.new.self.changes.batch (recovered (v.seen new)) =
     c.give_up.ensures.step lost (recovered (v.seen new))
     (live_on lost changes.keeper changes.noted changes.batch (recovered (v.seen mid)) (recovered (v.seen new)) c.settle_vault.ensures.long units
-    (c.publish_durably.ensures.step known lost live_now c.in_ok-publish_durably.ensures.works)) in
+    (c.publish_durably-published.ensures.step known lost live_now c.in_ok-published.ensures.works)) in
     subst (λ (l : List Bool). IsLive l c.give_up.new.self.changes.keeper c.give_up.new.self.changes.noted c.give_up.new.self.changes.batch (recovered (v.seen c.give_up.new.self.vault))) (sym c.give_up.ensures.lost)
     (subst (λ w. IsLive lost c.give_up.new.self.changes.keeper c.give_up.new.self.changes.noted c.give_up.new.self.changes.batch (recovered (v.seen w))) (sym c.give_up.ensures.vault) left)
 
@@ -125,11 +125,11 @@ returns-in-Err-clause-logged g c known low logged works stop =
     let v = g.V.Vault in
     let f = c.args.self.now.failed in
     let old = c.args.self.now.vault in
-    let lost = c.publish_durably.new.self.changes.lost in
-    let mid = c.publish_durably.new.self.vault in
+    let lost = c.lost-lost.result in
+    let mid = c.publish_durably-published.new.self.vault in
     let new = c.settle_vault.new.vault in
-    let now = c.publish_durably.ensures.stays known in
-    let all : AreLogged v.seen v.may_leave lost mid = λ s. c.in_ok-publish_durably.ensures.flushed known lost s (low s)
+    let now = c.publish_durably-published.ensures.stays known in
+    let all : AreLogged v.seen v.may_leave lost mid = λ s. c.in_ok-published.ensures.flushed known lost s (low s)
     (subst (λ (l : List Bool). UnlessFailed f (IsLogged v.seen v.may_leave l s old (low s))) c.give_up.ensures.lost (logged s)) in
     let never : c.in-Err.error ≢ error.Journal = λ e. true≢false (sym (c.give_up.ensures.failed e) ∙ works) in
     let left : AreLogged v.seen v.may_leave lost new = not_journal c.in-Err.error (AreLogged v.seen v.may_leave lost new) never
@@ -145,18 +145,18 @@ returns-in-Err-clause-any_moment g c known live low logged stop =
     let f = c.args.self.now.failed in
     let was = c.args.self.now.changes in
     let old = c.args.self.now.vault in
-    let mid = c.publish_durably.new.self.vault in
-    let lost = c.publish_durably.new.self.changes.lost in
+    let mid = c.publish_durably-published.new.self.vault in
+    let lost = c.lost-lost.result in
     let live_now : UnlessFailed f (IsLive lost was.keeper was.noted was.batch (recovered (v.seen old))) =
     subst (λ (l : List Bool). UnlessFailed f (IsLive l was.keeper was.noted was.batch (recovered (v.seen old)))) c.give_up.ensures.lost live in
     let logged_now : (s : Stop) → IsLogged v.seen v.may_leave lost s old (low s) = λ s. subst (λ (l : List Bool). IsLogged v.seen v.may_leave l s old (low s)) c.give_up.ensures.lost (logged s) in
-    let all : AreLogged v.seen v.may_leave lost mid = λ s. c.in_ok-publish_durably.ensures.flushed known lost s (low s) (λ works. logged_now s) in
-    let here : Image → Type 0 = IsBeforeOrNow lost (v.seen old) (low stop) c.publish_durably.new.self.store.tiers.world.array.parts.drives in
+    let all : AreLogged v.seen v.may_leave lost mid = λ s. c.in_ok-published.ensures.flushed known lost s (low s) (λ works. logged_now s) in
+    let here : Image → Type 0 = IsBeforeOrNow lost (v.seen old) (low stop) c.publish_durably-published.new.self.store.tiers.world.array.parts.drives in
     let run : LeavesOnly v.moment v.left_since stop old c.settle_vault.new.vault here = both_runs v.moment v.left_since stop old mid c.settle_vault.new.vault here (Stands lost (recovered (v.seen mid))) here
-    (c.publish_durably.ensures.any_moment known lost live_now stop (low stop) (logged_now stop))
-    (c.settle_vault.ensures.any_moment (c.publish_durably.ensures.stays known) all stop)
+    (c.publish_durably-published.ensures.any_moment known lost live_now stop (low stop) (logged_now stop))
+    (c.settle_vault.ensures.any_moment (c.publish_durably-published.ensures.stays known) all stop)
     (λ i now. now)
-    (λ i stands. inr (recovered (v.seen mid), stands, c.in_ok-publish_durably.ensures.kept known lost live_now)) in
+    (λ i stands. inr (recovered (v.seen mid), stands, c.in_ok-published.ensures.kept known lost live_now)) in
     subst (λ (l : List Bool). LeavesOnly v.moment v.left_since stop old c.give_up.new.self.vault (IsBeforeOrNow l (v.seen old) (low stop) c.args.self.now.store.tiers.world.array.parts.drives)) (sym c.give_up.ensures.lost)
     (subst (λ w. LeavesOnly v.moment v.left_since stop old w (IsBeforeOrNow lost (v.seen old) (low stop) c.args.self.now.store.tiers.world.array.parts.drives)) (sym c.give_up.ensures.vault)
-    (subst (λ (s : StoreView). LeavesOnly v.moment v.left_since stop old c.settle_vault.new.vault (IsBeforeOrNow lost (v.seen old) (low stop) s.tiers.world.array.parts.drives)) c.publish_durably.ensures.same.0 run))
+    (subst (λ (s : StoreView). LeavesOnly v.moment v.left_since stop old c.settle_vault.new.vault (IsBeforeOrNow lost (v.seen old) (low stop) s.tiers.world.array.parts.drives)) c.publish_durably-published.ensures.same.0 run))
