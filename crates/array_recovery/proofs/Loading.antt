@@ -16,7 +16,7 @@ use Rattle.array_recovery.proofs.Replaying.{write, write_here, write_else}
 
 -- an element of a list with one more
 pub get_more : {A : Type 0} (xs : List A) (x y : A) (i : ℕ) → slice_get (xs ++ x ∷ []) i ≡ Some y → ((i ≡ length xs) × (x ≡ y)) ⊎ ((i < length xs) × (slice_get xs i ≡ Some y))
-get_more [] x y zero e = inl (refl, same_Some e)
+get_more [] x y zero e = inl (refl, same_Some _ _ e)
 get_more [] x y (suc i) e = absurd (none-some y e)
 get_more (z ∷ xs) x y zero e = inr (omega arith, e)
 get_more (z ∷ xs) x y (suc i) e = elim (get_more xs x y i e) [
@@ -27,7 +27,7 @@ get_more (z ∷ xs) x y (suc i) e = elim (get_more xs x y i e) [
 -- an element of a list with one element changed
 pub get_set : {A : Type 0} (xs : List A) (i : ℕ) (x : A) (j : ℕ) (y : A) → i < length xs → slice_get (slice_set xs i x) j ≡ Some y → ((j ≡ i) × (x ≡ y)) ⊎ ((j ≢ i) × (slice_get xs j ≡ Some y))
 get_set xs i x j y low e = elim (same_or_not j i) [
-  | inl is ↦ inl (is, same_Some (sym (get-set_same xs i x low) ∙ ap (λ k. slice_get (slice_set xs i x) k) (sym is) ∙ e))
+  | inl is ↦ inl (is, same_Some _ _ (sym (get-set_same xs i x low) ∙ ap (λ k. slice_get (slice_set xs i x) k) (sym is) ∙ e))
   | inr ne ↦ inr (ne, sym (get-set_other xs i j x ne) ∙ e)
 ]
 
@@ -36,6 +36,13 @@ sized_set size units i unit low sized long at u e = elim (get_set units i unit a
 
 pub long_set : (units : List (List ℕ)) (i : ℕ) (unit : List ℕ) → length (slice_set units i unit) ≡ length units
 long_set units i unit = length-set units i unit
+
+-- units of one size are of the length that one of them has
+pub unit_size : (size long at : ℕ) (units : List (List ℕ)) → at < length units → IsSized size units → IsSized long units → long ≡ size
+unit_size size long at units low sized same = elim (slice_get_cases units at).1 [
+  | inl is ↦ sym (same at is.0 is.2) ∙ sized at is.0 is.2
+  | inr past ↦ (let high = past.0 in absurd (omega (arith, high, low)))
+]
 
 -- one unit more is filled in
 pub filled_more : (c : Cells) (d i : ℕ) (units : List (List ℕ)) (unit : List ℕ) → i < length units → ((at : ℕ) → at < i → c d at ≡ slice_get units at) → c d i ≡ Some unit
