@@ -1,7 +1,7 @@
 -- Units of drives in memory.
-use Rattle.std.proofs.Common.{◌≡◌, ◌≢◌, ◌≤◌, ◌<◌, ◌+◌, ◌⊎◌, inl, inr, ℕ, zero, suc, Bool, true, false, Option, Some, None, List, [], ◌∷◌, ◌++◌, length, slice_get, slice_set, refl, sym, ◌∙◌, ap, subst, arith}
+use Rattle.std.proofs.Common.{◌≡◌, ◌≢◌, ◌≤◌, ◌<◌, ◌+◌, ◌⊎◌, inl, inr, ℕ, zero, suc, Bool, true, false, Option, Some, None, List, [], ◌∷◌, ◌++◌, length, get_or, slice_get, slice_set, refl, sym, ◌∙◌, ap, subst, arith}
 use Rattle.std.proofs.lemmas.Bool.{true≢false}
-use Rattle.std.proofs.lemmas.Option.{same_Some, none-some, slice_get_within, slice_get_cases}
+use Rattle.std.proofs.lemmas.Option.{same_Some, none-some, slice_get_within, slice_get_cases, slice_get-get_or}
 use Rattle.std.proofs.lemmas.List.{length-set}
 use Rattle.extents.specs.Condition.{Held}
 use Rattle.extents.specs.Units.{IsSized}
@@ -23,6 +23,10 @@ get_more (z ∷ xs) x y (suc i) e = elim (get_more xs x y i e) [
   | inl last ↦ (let is = last.0 in inl (omega (arith, is), last.1))
   | inr early ↦ (let low = early.0 in inr (omega (arith, low), early.1))
 ]
+
+-- what a list has at an index, whatever it is asked to have past its end
+pub get_is : {A : Type 0} (xs : List A) (i : ℕ) (past x : A) → slice_get xs i ≡ Some x → get_or xs i past ≡ x
+get_is xs i past x e = same_Some _ _ (sym (slice_get-get_or xs i past (slice_get_within xs i x e)) ∙ e)
 
 -- an element of a list with one element changed
 pub get_set : {A : Type 0} (xs : List A) (i : ℕ) (x : A) (j : ℕ) (y : A) → i < length xs → slice_get (slice_set xs i x) j ≡ Some y → ((j ≡ i) × (x ≡ y)) ⊎ ((j ≢ i) × (slice_get xs j ≡ Some y))

@@ -14,7 +14,7 @@ empty_not : {A : Type 0} (x : A) (xs : List A) → [] ≡ x ∷ xs → ⊥
 empty_not x xs e = let none = ap length e in omega (arith, none)
 
 -- what is left of a list, and the element that was taken of it
-pub drop_first : {A : Type 0} (xs : List A) (n : ℕ) (x : A) (rest : List A) → drop n xs ≡ x ∷ rest → (slice_get xs n ≡ Some x) × (drop (n + 1) xs ≡ rest) × (n < length xs)
+pub drop_first : {A : Type 0} (xs : List A) (n : ℕ) (x : A) (rest : List A) → drop n xs ≡ x ∷ rest → (slice_get xs n ≡ Some x) × (drop (suc n) xs ≡ rest) × (n < length xs)
 drop_first [] zero x rest e = absurd (empty_not x rest e)
 drop_first [] (suc n) x rest e = absurd (empty_not x rest e)
 drop_first (y ∷ ys) zero x rest e = (ap (λ l. slice_get l 0) e, ap (λ l. drop 1 l) e, omega arith)
