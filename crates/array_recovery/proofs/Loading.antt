@@ -1,8 +1,9 @@
 -- Units of drives in memory.
-use Rattle.std.proofs.Common.{◌≡◌, ◌≢◌, ◌≤◌, ◌<◌, ◌+◌, ◌⊎◌, inl, inr, ℕ, zero, suc, Bool, true, false, Option, Some, None, List, [], ◌∷◌, ◌++◌, length, get_or, slice_get, slice_set, refl, sym, ◌∙◌, ap, subst, arith}
+use Rattle.std.proofs.Common.{◌≡◌, ◌≢◌, ◌≤◌, ◌<◌, ◌+◌, ◌⊎◌, inl, inr, ℕ, zero, suc, Bool, true, false, Option, Some, None, List, [], ◌∷◌, ◌++◌, length, take, drop, get_or, slice_get, slice_set, refl, sym, ◌∙◌, ap, subst, arith}
 use Rattle.std.proofs.lemmas.Bool.{true≢false}
 use Rattle.std.proofs.lemmas.Option.{same_Some, none-some, slice_get_within, slice_get_cases, slice_get-get_or}
 use Rattle.std.proofs.lemmas.List.{length-set}
+use Rattle.std.proofs.Math.Seq.{take-append_seam}
 use Rattle.extents.specs.Condition.{Held}
 use Rattle.extents.specs.Units.{IsSized}
 use Rattle.extents.specs.declared.mem_drive.Condition.TheVariants.{Present}
@@ -75,6 +76,10 @@ units_more lost c caches m have own = record {
     | inr early ↦ have.each d at x early.1 not low
   ];
 }
+
+-- what is lent as a slice comes back
+pub written_back : {A : Type 0} (len : ℕ) (new items : List A) → length new ≡ length items → len ≡ length items → take len (new ++ drop (length new) items) ≡ new
+written_back len new items same is = ap (λ n. take n (new ++ drop (length new) items)) (is ∙ sym same) ∙ take-append_seam new (drop (length new) items)
 
 -- no drive
 pub formed_none : (count size : ℕ) → AreFormed count size []

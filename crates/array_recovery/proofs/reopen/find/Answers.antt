@@ -1,9 +1,10 @@
-use Rattle.std.proofs.Common.{◌≡◌, List, length, take, drop, ◌++◌, sym, ◌∙◌, ap, subst, arith}
+use Rattle.std.proofs.Common.{◌≡◌, ◌+◌, ◌*◌, List, sym, ◌∙◌, subst, arith}
 use Rattle.extents.specs.Condition.{Held}
 use Rattle.extents.specs.Sizes.{extent_units}
 use Rattle.extents.specs.declared.shape.TheConstants.{HEADER_BYTES}
 use Rattle.vault.specs.Images.{Image, recovered}
-use Rattle.array_recovery.specs.Found.{HaveUnits}
+use Rattle.array_recovery.specs.Found.{AreFormed, HaveUnits}
+use Rattle.array_recovery.proofs.Loading.{written_back}
 use Rattle.array_recovery.proofs.Reading.{read_more}
 use Rattle.array_recovery.proofs.reopen.find.Goals as goal
 
@@ -29,7 +30,26 @@ returns-clause-read g c = λ known.
     (c.replay.ensures.read (c.load_drives.ensures.stays marked))
 
 pub returns-clause-found : goal.returns-clause-found
-returns-clause-found g c = ?
+returns-clause-found g c = λ known.
+    let marked = c.read_marks.ensures.stays known in
+    let loaded = c.load_drives.ensures.stays marked in
+    let lost = c.lost_drives-lost.result in
+    let items = c.in_ok-caches.caches.items in
+    let here = (c.load_drives.ensures.read marked).finds in
+    let finds : g.V.Vault.seen c.load_drives.new.vault ≡ g.V.Vault.seen c.args.vault.now = here ∙ (c.read_marks.ensures.read known).finds in
+    let before : HaveUnits lost (Image.cells (g.V.Vault.seen c.load_drives.new.vault)) items =
+    subst (λ (s : Image). HaveUnits lost s.cells items) (sym here) (c.in_ok-caches.ensures.units marked) in
+    let now = c.in_ok-replay.ensures.units loaded _ _ c.in_ok-caches.ensures.formed before in
+    let back = written_back c.in_ok-caches.caches.len c.replay.new.caches items c.replay.auto.caches (omega (arith, c.in_ok-caches.caches.ok)) in
+    record {
+      table = c.in_ok-marks.ensures.marks known;
+      gone = c.lost_drives-lost.ensures;
+      units = subst (λ (l : List Held). HaveUnits lost (recovered (g.V.Vault.seen c.args.vault.now)) l) (sym back)
+          (subst (λ (s : Image). HaveUnits lost (recovered s) c.replay.new.caches) finds now);
+    }
 
 pub returns-clause-formed : goal.returns-clause-formed
-returns-clause-formed g c = ?
+returns-clause-formed g c =
+    let back = written_back c.in_ok-caches.caches.len c.replay.new.caches c.in_ok-caches.caches.items c.replay.auto.caches (omega (arith, c.in_ok-caches.caches.ok)) in
+    subst (λ (l : List Held). AreFormed (c.args.shape.now.extents * extent_units c.args.shape.now.segments) (HEADER_BYTES + c.args.shape.now.payload) l) (sym back)
+    (c.replay.ensures.formed _ _ c.in_ok-caches.ensures.formed)
