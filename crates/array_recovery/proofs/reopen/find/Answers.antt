@@ -1,4 +1,4 @@
-use Rattle.std.proofs.Common.{◌≡◌, ◌+◌, ◌*◌, List, sym, ◌∙◌, subst, arith}
+use Rattle.std.proofs.Common.{◌≡◌, ◌+◌, ◌*◌, List, length, sym, ◌∙◌, ap, subst, arith}
 use Rattle.extents.specs.Condition.{Held}
 use Rattle.extents.specs.Sizes.{extent_units}
 use Rattle.extents.specs.declared.shape.TheConstants.{HEADER_BYTES}
@@ -39,8 +39,12 @@ returns-clause-found g c = λ known.
     let finds : g.V.Vault.seen c.load_drives.new.vault ≡ g.V.Vault.seen c.args.vault.now = here ∙ (c.read_marks.ensures.read known).finds in
     let before : HaveUnits lost (Image.cells (g.V.Vault.seen c.load_drives.new.vault)) items =
     subst (λ (s : Image). HaveUnits lost s.cells items) (sym here) (c.in_ok-caches.ensures.units marked) in
-    let now = c.in_ok-replay.ensures.units loaded _ _ c.in_ok-caches.ensures.formed before in
-    let back = written_back c.in_ok-caches.caches.len c.replay.new.caches items c.replay.auto.caches (omega (arith, c.in_ok-caches.caches.ok)) in
+    let lent : c.deref_mut.result.now ≡ items = c.deref_mut.ensures.value in
+    let formed = subst (λ (l : List Held). AreFormed (c.args.shape.now.extents * extent_units c.args.shape.now.segments) (HEADER_BYTES + c.args.shape.now.payload) l) (sym lent)
+    c.in_ok-caches.ensures.formed in
+    let now = c.in_ok-replay.ensures.units loaded _ _ formed
+    (subst (λ (l : List Held). HaveUnits lost (Image.cells (g.V.Vault.seen c.load_drives.new.vault)) l) (sym lent) before) in
+    let back = written_back c.in_ok-caches.caches.len c.replay.new.caches items (c.replay.auto.caches ∙ ap length lent) (omega (arith, c.in_ok-caches.caches.ok)) in
     record {
       table = c.in_ok-marks.ensures.marks known;
       gone = c.lost_drives-lost.ensures;
@@ -50,6 +54,9 @@ returns-clause-found g c = λ known.
 
 pub returns-clause-formed : goal.returns-clause-formed
 returns-clause-formed g c =
-    let back = written_back c.in_ok-caches.caches.len c.replay.new.caches c.in_ok-caches.caches.items c.replay.auto.caches (omega (arith, c.in_ok-caches.caches.ok)) in
+    let lent : c.deref_mut.result.now ≡ c.in_ok-caches.caches.items = c.deref_mut.ensures.value in
+    let formed = subst (λ (l : List Held). AreFormed (c.args.shape.now.extents * extent_units c.args.shape.now.segments) (HEADER_BYTES + c.args.shape.now.payload) l) (sym lent)
+    c.in_ok-caches.ensures.formed in
+    let back = written_back c.in_ok-caches.caches.len c.replay.new.caches c.in_ok-caches.caches.items (c.replay.auto.caches ∙ ap length lent) (omega (arith, c.in_ok-caches.caches.ok)) in
     subst (λ (l : List Held). AreFormed (c.args.shape.now.extents * extent_units c.args.shape.now.segments) (HEADER_BYTES + c.args.shape.now.payload) l) (sym back)
-    (c.replay.ensures.formed _ _ c.in_ok-caches.ensures.formed)
+    (c.replay.ensures.formed _ _ formed)
