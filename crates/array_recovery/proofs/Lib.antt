@@ -1,6 +1,7 @@
 mod Reading
 mod Replaying
 mod Loading
+mod Marking
 mod Seating
 mod Fading
 mod Rebuilding

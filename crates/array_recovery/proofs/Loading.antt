@@ -1,8 +1,9 @@
 -- Units of drives in memory.
-use Rattle.std.proofs.Common.{◌≡◌, ◌≢◌, ◌≤◌, ◌<◌, ◌+◌, ◌⊎◌, inl, inr, ℕ, zero, suc, Bool, true, false, Option, Some, None, List, [], ◌∷◌, ◌++◌, length, slice_get, slice_set, refl, sym, ◌∙◌, ap, subst, arith}
+use Rattle.std.proofs.Common.{◌≡◌, ◌≢◌, ◌≤◌, ◌<◌, ◌+◌, ◌⊎◌, inl, inr, ℕ, zero, suc, Bool, true, false, Option, Some, None, List, [], ◌∷◌, ◌++◌, length, take, drop, get_or, slice_get, slice_set, refl, sym, ◌∙◌, ap, subst, arith}
 use Rattle.std.proofs.lemmas.Bool.{true≢false}
-use Rattle.std.proofs.lemmas.Option.{same_Some, none-some, slice_get_within, slice_get_cases}
+use Rattle.std.proofs.lemmas.Option.{same_Some, none-some, slice_get_within, slice_get_cases, slice_get-get_or}
 use Rattle.std.proofs.lemmas.List.{length-set}
+use Rattle.std.proofs.Math.Seq.{take-append_seam}
 use Rattle.extents.specs.Condition.{Held}
 use Rattle.extents.specs.Units.{IsSized}
 use Rattle.extents.specs.declared.mem_drive.Condition.TheVariants.{Present}
@@ -16,7 +17,7 @@ use Rattle.array_recovery.proofs.Replaying.{write, write_here, write_else}
 
 -- an element of a list with one more
 pub get_more : {A : Type 0} (xs : List A) (x y : A) (i : ℕ) → slice_get (xs ++ x ∷ []) i ≡ Some y → ((i ≡ length xs) × (x ≡ y)) ⊎ ((i < length xs) × (slice_get xs i ≡ Some y))
-get_more [] x y zero e = inl (refl, same_Some e)
+get_more [] x y zero e = inl (refl, same_Some _ _ e)
 get_more [] x y (suc i) e = absurd (none-some y e)
 get_more (z ∷ xs) x y zero e = inr (omega arith, e)
 get_more (z ∷ xs) x y (suc i) e = elim (get_more xs x y i e) [
@@ -24,10 +25,14 @@ get_more (z ∷ xs) x y (suc i) e = elim (get_more xs x y i e) [
   | inr early ↦ (let low = early.0 in inr (omega (arith, low), early.1))
 ]
 
+-- what a list has at an index, whatever it is asked to have past its end
+pub get_is : {A : Type 0} (xs : List A) (i : ℕ) (past x : A) → slice_get xs i ≡ Some x → get_or xs i past ≡ x
+get_is xs i past x e = same_Some _ _ (sym (slice_get-get_or xs i past (slice_get_within xs i x e)) ∙ e)
+
 -- an element of a list with one element changed
 pub get_set : {A : Type 0} (xs : List A) (i : ℕ) (x : A) (j : ℕ) (y : A) → i < length xs → slice_get (slice_set xs i x) j ≡ Some y → ((j ≡ i) × (x ≡ y)) ⊎ ((j ≢ i) × (slice_get xs j ≡ Some y))
 get_set xs i x j y low e = elim (same_or_not j i) [
-  | inl is ↦ inl (is, same_Some (sym (get-set_same xs i x low) ∙ ap (λ k. slice_get (slice_set xs i x) k) (sym is) ∙ e))
+  | inl is ↦ inl (is, same_Some _ _ (sym (get-set_same xs i x low) ∙ ap (λ k. slice_get (slice_set xs i x) k) (sym is) ∙ e))
   | inr ne ↦ inr (ne, sym (get-set_other xs i j x ne) ∙ e)
 ]
 
@@ -36,6 +41,13 @@ sized_set size units i unit low sized long at u e = elim (get_set units i unit a
 
 pub long_set : (units : List (List ℕ)) (i : ℕ) (unit : List ℕ) → length (slice_set units i unit) ≡ length units
 long_set units i unit = length-set units i unit
+
+-- units of one size are of the length that one of them has
+pub unit_size : (size long at : ℕ) (units : List (List ℕ)) → at < length units → IsSized size units → IsSized long units → long ≡ size
+unit_size size long at units low sized same = elim (slice_get_cases units at).1 [
+  | inl is ↦ sym (same at is.0 is.2) ∙ sized at is.0 is.2
+  | inr past ↦ (let high = past.0 in absurd (omega (arith, high, low)))
+]
 
 -- one unit more is filled in
 pub filled_more : (c : Cells) (d i : ℕ) (units : List (List ℕ)) (unit : List ℕ) → i < length units → ((at : ℕ) → at < i → c d at ≡ slice_get units at) → c d i ≡ Some unit
@@ -64,6 +76,10 @@ units_more lost c caches m have own = record {
     | inr early ↦ have.each d at x early.1 not low
   ];
 }
+
+-- what is lent as a slice comes back
+pub written_back : {A : Type 0} (len : ℕ) (new items : List A) → length new ≡ length items → len ≡ length items → take len (new ++ drop (length new) items) ≡ new
+written_back len new items same is = ap (λ n. take n (new ++ drop (length new) items)) (is ∙ sym same) ∙ take-append_seam new (drop (length new) items)
 
 -- no drive
 pub formed_none : (count size : ℕ) → AreFormed count size []

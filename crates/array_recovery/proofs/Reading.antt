@@ -1,7 +1,6 @@
 -- Calls that only read a vault, one after the other.
-use Rattle.std.proofs.Common.{◌≡◌, ◌≤◌, ◌⊎◌, inl, inr, ℕ, refl, sym, ◌∙◌, arith}
-use Rattle.std.specs.Prelude.{Bool, true, false, not, Some, List}
-use Rattle.std.proofs.lemmas.Bool.{true≢false}
+use Rattle.std.proofs.Common.{◌≡◌, ◌≤◌, ◌⊎◌, inl, inr, ℕ, refl, sym, ◌∙◌, subst, arith}
+use Rattle.std.specs.Prelude.{Bool, true, Some, List}
 use Rattle.extent_groups.specs.Cells.{Cells, held}
 use Rattle.extent_groups.specs.declared.place.Place.{Place}
 use Rattle.vault.specs.Images.{Image}
@@ -10,9 +9,8 @@ use Rattle.vault.specs.declared.store.Stop.{Stop}
 use Rattle.array_recovery.specs.Found.{OnlyRead}
 
 -- a unit that is there
-pub unit_found : (c : Cells) (place : Place) (out : List ℕ) (there : Bool) → not there ≡ false → IsUnitAt c place out there → held c place ≡ Some out
-unit_found c place out true is at = at
-unit_found c place out false is at = absurd (true≢false is)
+pub unit_found : (c : Cells) (place : Place) (out : List ℕ) (there : Bool) → there ≡ true → IsUnitAt c place out there → held c place ≡ Some out
+unit_found c place out there is at = subst (λ b. IsUnitAt c place out b) is at
 
 module _ {V : Type 0} (seen : V → Image) (may_leave : V → Stop → Image → Type 0) (moment : V → ℕ) (left_since : V → Stop → ℕ → Image → Type 0) where
   -- no call

@@ -1,6 +1,6 @@
 -- What is found of a vault's drives outlives the array that the vault has.
-use Rattle.std.proofs.Common.{◌≡◌, ◌≢◌, ℕ, ◌<◌, ◌≤◌, ◌⊎◌, inl, inr, Bool, true, false, Option, Some, None, List, [], ◌∷◌, zero, suc, length, slice_get, refl, sym, ◌∙◌, ap, subst, arith, if◌then◌else◌}
-use Rattle.std.specs.Prelude.{◌||◌, ◌==◌, not, map, option_map, slice_index_or}
+use Rattle.std.proofs.Common.{◌≡◌, ◌≢◌, ℕ, ◌<◌, ◌≤◌, ◌⊎◌, inl, inr, Bool, true, false, Option, Some, None, List, [], length, slice_get, refl, sym, ◌∙◌, ap, subst, arith, if◌then◌else◌}
+use Rattle.std.specs.Prelude.{◌||◌, ◌==◌, not, map, option_map}
 use Rattle.std.proofs.lemmas.List.{length-map}
 use Rattle.std.proofs.lemmas.Bool.{true≢false}
 use Rattle.std.proofs.lemmas.Option.{same_Some, none-some, slice_get-map, slice_get_cases, slice_get_within, slice_get_past}
@@ -10,12 +10,14 @@ use Rattle.extent_groups.specs.Groups.{Groups}
 use Rattle.extent_groups.specs.Cells.{Cells, cell, held}
 use Rattle.extent_groups.specs.Calls.{Fades, FadesAt}
 use Rattle.extent_groups.specs.declared.place.Place.{Place}
+use Rattle.extent_groups.specs.Planned.{Wanted}
 use Rattle.history.specs.Entries.{Course}
 use Rattle.array_parts.specs.Views.{DriveView, PartsView, drive_units, drive_lost, drive_view, cells_of}
 use Rattle.vault.specs.Images.{is_lost}
 use Rattle.cached_drive.specs.Saving.{Units, saved_by}
 use Rattle.journaled_store.specs.Steps.{IsLive, IsKept, mark_of}
 use Rattle.array_recovery.specs.Found.{AreFormed, AreGone, AreSeated, HaveUnits, IsTable, is_marked}
+use Rattle.array_recovery.proofs.Marking.{index_is}
 use Rattle.array_recovery.specs.Reopened.{CoversGone, EndsAt, IsLeftOf, IsLostIn, Outlives}
 
 -- an element below the length
@@ -29,15 +31,6 @@ or_false true b e = absurd (true≢false e)
 bool_cases : (b : Bool) → (b ≡ true) ⊎ (b ≡ false)
 bool_cases true = inl refl
 bool_cases false = inr refl
-
--- the element of an index
-index_is : (xs : List ℕ) (i x : ℕ) → slice_get xs i ≡ Some x → slice_index_or xs i 0 ≡ x
-index_is xs i x e = elim (slice_get_cases xs i).1 [ inl is ↦ index_at xs i x e | inr past ↦ absurd (none-some x (sym past.1 ∙ e)) ]
-  where
-    index_at : (ys : List ℕ) (k y : ℕ) → slice_get ys k ≡ Some y → slice_index_or ys k 0 ≡ y
-    index_at [] k y e = absurd (none-some y e)
-    index_at (z ∷ ys) zero y e = same_Some e
-    index_at (z ∷ ys) (suc k) y e = index_at ys k y e
 
 -- a drive without a mark wasn't lost
 unmarked : (marks : List ℕ) (d : ℕ) (lost : Bool) → slice_get marks d ≡ Some (mark_of lost) → is_marked marks d ≡ false → lost ≡ false
@@ -68,13 +61,13 @@ module _ {D : Type 0} (units : D → Units) (gone : D → Bool) (failures : D �
         both = or_false (is_marked marks d) (is_lost absent d) (sym (are.each d) ∙ not)
 
         same : marks ≡ is.kept.marks
-        same = same_Some (sym table ∙ is.kept.noted)
+        same = same_Some _ _ (sym table ∙ is.kept.noted)
 
         alive : v.lost ≡ false
         alive = unmarked marks d v.lost (subst (λ (l : List ℕ). slice_get l d ≡ Some (mark_of v.lost)) (sym same) (is.kept.told.each d v e)) both.0
 
         not_in : IsLostIn olds d → ⊥
-        not_in was = true≢false (sym was.2 ∙ ap (λ (w : DriveView). w.lost) (same_Some (sym was.1 ∙ e)) ∙ alive)
+        not_in was = true≢false (sym was.2 ∙ ap (λ (w : DriveView). w.lost) (same_Some _ _ (sym was.1 ∙ e)) ∙ alive)
 
         covered : is_lost is.lost d ≡ false
         covered = elim (bool_cases (is_lost is.lost d)) [
@@ -89,10 +82,10 @@ module _ {D : Type 0} (units : D → Units) (gone : D → Bool) (failures : D �
         let v = there olds d (let all = is.many in omega (arith, low, all)) in
         let was = was_kept d v.0 low v.1 (sym (seated.gone_are d x e) ∙ not) in
         inl (sym (
-          ap (λ (o : Option DriveView). cell drive_units drive_lost o at) v.1
-          ∙ ap (λ b. if b then None else slice_get v.0.units at) was.1
-          ∙ sym (is.kept.has.each d at v.0 v.1 was.0)
-          ∙ unit_is d at x unit e not at_is))
+        ap (λ (o : Option DriveView). cell drive_units drive_lost o at) v.1
+        ∙ ap (λ b. if b then None else slice_get v.0.units at) was.1
+        ∙ sym (is.kept.has.each d at v.0 v.1 was.0)
+        ∙ unit_is d at x unit e not at_is))
 
     fade_drive : (d at : ℕ) (x : D) (b : Bool) → slice_get drives d ≡ Some x → gone x ≡ b → Fades (cells_of is.tiers.world.array.parts d at) (if b then None else slice_get (units x) at)
     fade_drive d at x true e b_is = inr refl
@@ -139,3 +132,14 @@ module _ {D : Type 0} (units : D → Units) (gone : D → Bool) (failures : D �
             | inl is ↦ have.each d at m.0 m.1 (here d below not) is.1
             | inr past ↦ (let high = past.0 in ends d at below not (omega (arith, high, long)) ∙ sym past.1)
           ]) ∙ ap (λ (u : Units). slice_get u at) (sym saved)
+
+  -- and with what is kept of its changes
+  pub live_now : (count size : ℕ) (unsure : List Bool) (keeper : Course Units) (noted : List ℕ) (batch : List Wanted) → keeper ≡ k → batch ≡ [] → noted ≡ marks → AreFormed count size caches
+      → CoversGone (length caches) noted absent unsure → EndsAt unsure (length caches) count c → IsLive unsure keeper noted batch c
+  live_now count size unsure keeper noted batch same none told formed covers ends =
+      subst (λ (x : Course Units). IsLive unsure x noted batch c) (sym same)
+      (subst (λ (ws : List Wanted). IsLive unsure k noted ws c) (sym none)
+      (subst (λ (l : List ℕ). IsLive unsure k l [] c) (sym told)
+      (live count size unsure formed
+      (subst (λ n. CoversGone n marks absent unsure) (sym seated.many) (subst (λ (l : List ℕ). CoversGone (length caches) l absent unsure) told covers))
+      (subst (λ n. EndsAt unsure n count c) (sym seated.many) ends))))

@@ -1,5 +1,5 @@
 -- Drives in memory, seated one by one.
-use Rattle.std.proofs.Common.{◌≡◌, ◌≢◌, ◌≤◌, ◌<◌, ◌+◌, ◌⊎◌, inl, inr, ℕ, Bool, Option, Some, None, List, [], ◌∷◌, ◌++◌, length, length-append, slice_get, refl, sym, ◌∙◌, ap, subst, arith}
+use Rattle.std.proofs.Common.{◌≡◌, ◌≢◌, ◌≤◌, ◌<◌, ◌+◌, ◌⊎◌, inl, inr, ℕ, zero, suc, Bool, Option, Some, None, List, [], ◌∷◌, ◌++◌, length, length-append, slice_get, drop, refl, sym, ◌∙◌, ap, subst, arith}
 use Rattle.std.proofs.lemmas.Option.{same_Some, none-some}
 use Rattle.extents.specs.Condition.{Held}
 use Rattle.history.specs.declared.view.Entry.{Entry}
@@ -9,6 +9,22 @@ use Rattle.cached_drive.specs.Saving.{Units, saved_by}
 use Rattle.journaled_store.proofs.Leading.{saved_own, saved_other}
 use Rattle.array_recovery.specs.Found.{AreSeated}
 use Rattle.array_recovery.proofs.Loading.{get_more}
+
+empty_not : {A : Type 0} (x : A) (xs : List A) → [] ≡ x ∷ xs → ⊥
+empty_not x xs e = let none = ap length e in omega (arith, none)
+
+-- what is left of a list, and the element that was taken of it
+pub drop_first : {A : Type 0} (xs : List A) (n : ℕ) (x : A) (rest : List A) → drop n xs ≡ x ∷ rest → (slice_get xs n ≡ Some x) × (drop (suc n) xs ≡ rest) × (n < length xs)
+drop_first [] zero x rest e = absurd (empty_not x rest e)
+drop_first [] (suc n) x rest e = absurd (empty_not x rest e)
+drop_first (y ∷ ys) zero x rest e = (ap (λ l. slice_get l 0) e, ap (λ l. drop 1 l) e, omega arith)
+drop_first (y ∷ ys) (suc n) x rest e = let more = drop_first ys n x rest e in let low = more.2 in (more.0, more.1, omega (arith, low))
+
+-- nothing is left
+pub drop_none : {A : Type 0} (xs : List A) (n : ℕ) → drop n xs ≡ [] → length xs ≤ n
+drop_none [] n e = omega arith
+drop_none (x ∷ xs) zero e = absurd (empty_not x xs (sym e))
+drop_none (x ∷ xs) (suc n) e = let low = drop_none xs n e in omega (arith, low)
 
 -- the first drives are seated, as many as there are hands
 pub record AreSeatedTo {D : Type 0} (units : D → Units) (gone : D → Bool) (lost : List Bool) (caches : List Held) (drives : List D) (k : Course Units) : Type 0 where
@@ -34,7 +50,7 @@ module _ {D : Type 0} (units : D → Units) (gone : D → Bool) (lost : List Boo
   seated_more drives log hired x m seated at units_is gone_is = record {
     hired = (let was = seated.hired in omega (arith, was, length-append drives (x ∷ [])));
     units_are = λ d y n e f. elim (get_more drives x y d e) [
-      | inl last ↦ sym (ap units last.1) ∙ units_is ∙ ap (λ (h : Held). h.units) (same_Some (sym at ∙ ap (λ k. slice_get caches k) (sym last.0) ∙ f))
+      | inl last ↦ sym (ap units last.1) ∙ units_is ∙ ap (λ (h : Held). h.units) (same_Some _ _ (sym at ∙ ap (λ k. slice_get caches k) (sym last.0) ∙ f))
       | inr early ↦ seated.units_are d y n early.1 f
     ];
     gone_are = λ d y e. elim (get_more drives x y d e) [

@@ -37,6 +37,12 @@ pub record AreFormed (count size : ℕ) (caches : List Held) : Type 0 where
 pub record HaveUnits (lost : List Bool) (c : Cells) (caches : List Held) : Type 0 where
   pub each : (d at : ℕ) (m : Held) → slice_get caches d ≡ Some m → is_lost lost d ≡ false → at < length m.units → c d at ≡ slice_get m.units at
 
+-- what was found of a vault's units: the table's marks, which drives are lost, and the units of the others
+pub record IsFoundIn (c : Cells) (absent : List Bool) (marks : List ℕ) (lost : List Bool) (caches : List Held) : Type 0 where
+  pub table : IsTable marks c
+  pub gone : AreGone marks absent lost
+  pub units : HaveUnits lost c caches
+
 -- Each drive has the units of that number in memory, is lost or not as it is said, and its units are those that its hand saved last.
 -- There is one hand for each.
 pub record AreSeated {D : Type 0} (units : D → Units) (gone : D → Bool) (lost : List Bool) (caches : List Held) (drives : List D) (k : Course Units) : Type 0 where

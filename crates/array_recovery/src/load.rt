@@ -79,9 +79,10 @@ fn load<V: Vault>(
         → Image.cells (V.seen vault.old) drive at ≡ slice_get m.units at) }
 {
     let mut cache = MemDrive::new(alloc, shape)?;
-    if !is_lost {
-        fill(vault, &mut cache, drive, unit)?;
+    if is_lost {
+        return Ok(cache);
     }
+    fill(vault, &mut cache, drive, unit)?;
     Ok(cache)
 }
 
@@ -99,11 +100,12 @@ pub(crate) fn load_drives<V: Vault>(
     ensures formed { IfOk result (λ caches. AreFormed (shape.now.extents * extent_units shape.now.segments) (HEADER_BYTES + shape.now.payload) caches.items) }
     ensures units { V.known vault.old → IfOk result (λ caches. HaveUnits lost.now (Image.cells (V.seen vault.old)) caches.items) }
 {
-    let mut unit = vec![in alloc; 0u8; shape.unit_bytes()]?;
+    let mut buffer = vec![in alloc; 0u8; shape.unit_bytes()]?;
+    let unit: &mut [u8] = &mut buffer;
     let mut caches = Vec::new(alloc);
     for drive in 0..drives {
         let is_lost = is_lost(lost, usize::from(drive));
-        let cache = load(alloc, vault, shape, drive, is_lost, &mut unit)?;
+        let cache = load(alloc, vault, shape, drive, is_lost, unit)?;
         caches.push(cache)?;
     }
     Ok(caches)

@@ -1,11 +1,14 @@
 // An array is opened from a vault.
-ghost use Rattle.std.specs.Prelude.{◌≡◌, ◌+◌, ◌*◌, ◌≤◌, ℕ, List, Bool, false, length, IfOk};
+ghost use Rattle.std.specs.Prelude.{◌≡◌, ◌+◌, ◌*◌, ℕ, List, Bool, Some, false, length, slice_get, IfOk};
+ghost use Rattle.extents.specs.Condition.{Held};
 ghost use Rattle.extents.specs.Sizes.{extent_units};
+ghost use Rattle.extents.specs.declared.mem_drive.Condition.TheVariants.{Present};
 ghost use Rattle.extents.specs.declared.shape.TheConstants.{HEADER_BYTES};
+ghost use Rattle.extent_groups.specs.Cells.{Cells};
 ghost use Rattle.vault.specs.Images.{recovered};
 ghost use Rattle.journaled_store.specs.Steps.{IsLive};
 ghost use Rattle.array_store.specs.Stores.{IsStoreOf};
-ghost use Rattle.array_recovery.specs.Found.{AreFormed, AreGone, HaveUnits, IsTable, OnlyRead};
+ghost use Rattle.array_recovery.specs.Found.{AreFormed, IsFoundIn, OnlyRead};
 ghost use Rattle.array_recovery.specs.Reopened.{CoversGone, EndsAt, IsLeftOf};
 
 use crate::fault::RecoveryFault;
@@ -42,11 +45,9 @@ fn find<V: Vault>(
 ) -> Result<Found, RecoveryFault>
     ensures stays { V.known vault.old → V.known vault.new }
     ensures read { V.known vault.old → OnlyRead V.seen V.may_leave V.moment V.left_since vault.old vault.new }
-    ensures table { V.known vault.old → IfOk result (λ f. IsTable f.marks (recovered (V.seen vault.old))) }
-    ensures gone { IfOk result (λ f. AreGone f.marks absent.now f.lost) }
+    ensures found { V.known vault.old → IfOk result (λ f. IsFoundIn (recovered (V.seen vault.old)) absent.now f.marks f.lost f.caches.items) }
     ensures many { IfOk result (λ f. length f.caches.items ≡ drives) }
     ensures formed { IfOk result (λ f. AreFormed (shape.now.extents * extent_units shape.now.segments) (HEADER_BYTES + shape.now.payload) f.caches.items) }
-    ensures units { V.known vault.old → IfOk result (λ f. HaveUnits f.lost (recovered (V.seen vault.old)) f.caches.items) }
 {
     let mut batch = Batch::new(alloc);
     let marks = read_marks(vault, &mut batch)?;
@@ -58,6 +59,47 @@ fn find<V: Vault>(
         marks,
         lost,
     })
+}
+
+// The array of what was found, and the changes that the vault has not.
+fn open_found<N: Chronicle>(
+    alloc: Global,
+    opened: Opened<Saved>,
+    shape: &Shape,
+    groups: GroupTable,
+    extents: ExtentTable,
+    size: u64,
+    found: Found,
+) -> Result<(ArrayStore<CachedDrive<N>>, Changes<N>), RecoveryFault>
+    requires opened { opened ≡ N.chronicle }
+    requires present { (d : ℕ) (m : Held) → slice_get found.caches.items d ≡ Some m → m.condition ≡ Present }
+    ensures reopened { IfOk result (λ r. (c : Cells) (absent : List Bool) (bytes : List ℕ) → IsFoundIn c absent found.marks found.lost found.caches.items
+        → length bytes ≡ size → IsLeftOf bytes groups (length found.caches.items) absent c
+        → IsStoreOf r.0.tiers r.0.size r.0.unsynced (record { bytes = bytes; unsynced = false })) }
+    ensures size { IfOk result (λ r. r.0.size ≡ size) }
+    ensures live { IfOk result (λ r. (c : Cells) (absent lost : List Bool) (count size : ℕ) → IsFoundIn c absent found.marks found.lost found.caches.items
+        → AreFormed count size found.caches.items → CoversGone (length found.caches.items) r.1.noted absent lost
+        → EndsAt lost (length found.caches.items) count c → IsLive lost r.1.keeper r.1.noted r.1.batch c) }
+{
+    let (history, mut keeper, first) = opened.named::<N>();
+    let seated = seat_all(
+        alloc,
+        &history,
+        &mut keeper,
+        first,
+        found.caches,
+        &found.lost,
+    )?;
+    let parts = Parts {
+        shape: *shape,
+        groups,
+        extents,
+        drives: seated,
+        note: None,
+    };
+    let store = rebuild(alloc, parts, size)?;
+    let changes = Changes::new(alloc, history, keeper, shape.unit_bytes(), found.marks)?;
+    Ok((store, changes))
 }
 
 /// Opens an array of `drives` drives and `size` bytes from what outlived a stop. The vault is only read. Drives that the table
@@ -90,21 +132,6 @@ pub fn recover<N: Chronicle, V: Vault>(
     if usize::from(drives) > DRIVES {
         return Err(RecoveryFault::Unsound);
     }
-    let Found {
-        caches,
-        marks,
-        lost,
-    } = find(alloc, vault, shape, drives, absent)?;
-    let (history, mut keeper, first) = opened.named::<N>();
-    let seated = seat_all(alloc, &history, &mut keeper, first, caches, &lost)?;
-    let parts = Parts {
-        shape: *shape,
-        groups,
-        extents,
-        drives: seated,
-        note: None,
-    };
-    let store = rebuild(alloc, parts, size)?;
-    let changes = Changes::new(alloc, history, keeper, shape.unit_bytes(), marks)?;
-    Ok((store, changes))
+    let found = find(alloc, vault, shape, drives, absent)?;
+    open_found::<N>(alloc, opened, shape, groups, extents, size, found)
 }

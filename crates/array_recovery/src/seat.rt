@@ -1,5 +1,5 @@
 // Drives in memory, each with the hand of its number.
-ghost use Rattle.std.specs.Prelude.{◌≡◌, ◌++◌, [], ◌∷◌, ℕ, Some, slice_get, IfOk};
+ghost use Rattle.std.specs.Prelude.{◌≡◌, ◌++◌, [], ◌∷◌, ℕ, Some, slice_get, IfOk, IfSome, IfNone};
 ghost use Rattle.extents.specs.Condition.{Held};
 ghost use Rattle.extents.specs.declared.mem_drive.Condition.TheVariants.{Present};
 ghost use Rattle.history.specs.Entries.{entry};
@@ -35,6 +35,17 @@ fn seat<N: Chronicle>(
     drive
 }
 
+// Takes the first away.
+fn take_first(caches: &mut Vec<MemDrive>) -> Option<MemDrive>
+    ensures some { IfSome result (λ m. caches.old.items ≡ m ∷ caches.new.items) }
+    ensures none { IfNone result (caches.old.items ≡ []) }
+{
+    if caches.is_empty() {
+        return None;
+    }
+    Some(caches.remove(0))
+}
+
 /// A drive for each of those in memory, in their order, with the hands of the numbers from 0 on.
 pub(crate) fn seat_all<N: Chronicle>(
     alloc: Global,
@@ -51,25 +62,20 @@ pub(crate) fn seat_all<N: Chronicle>(
 {
     let mut caches = caches;
     let mut drives = Vec::new(alloc);
-    if caches.is_empty() {
+    let Some(cache) = take_first(&mut caches) else {
         return Err(RecoveryFault::Unsound);
-    }
-    let cache = caches.remove(0);
+    };
     let drive = seat(alloc, cache, history, keeper, first, is_lost(lost, 0));
     drives.push(drive)?;
     while !caches.is_empty() {
-        let cache = caches.remove(0);
+        let Some(cache) = take_first(&mut caches) else {
+            return Err(RecoveryFault::Unsound);
+        };
         let Some(hand) = keeper.hire(history) else {
             return Err(RecoveryFault::Memory);
         };
-        let drive = seat(
-            alloc,
-            cache,
-            history,
-            keeper,
-            hand,
-            is_lost(lost, drives.len()),
-        );
+        let is_lost = is_lost(lost, drives.len());
+        let drive = seat(alloc, cache, history, keeper, hand, is_lost);
         drives.push(drive)?;
     }
     Ok(drives)

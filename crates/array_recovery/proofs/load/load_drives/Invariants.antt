@@ -10,7 +10,7 @@ abbrev pub invariant-loop-drive : goal.invariant-loop-drive
 invariant-loop-drive g l = record {
   stays : g.V.Vault.known l.fn.vault → g.V.Vault.known l.vault;
   read : g.V.Vault.known l.fn.vault → OnlyRead g.V.Vault.seen g.V.Vault.may_leave g.V.Vault.moment g.V.Vault.left_since l.fn.vault l.vault;
-  long : length l.unit.items ≡ HEADER_BYTES + l.shape.payload;
+  long : length l.unit ≡ HEADER_BYTES + l.shape.payload;
   many : length l.caches.items ≡ l.drive;
   formed : AreFormed (l.shape.extents * extent_units l.shape.segments) (HEADER_BYTES + l.shape.payload) l.caches.items;
   units : g.V.Vault.known l.fn.vault → HaveUnits l.lost (Image.cells (g.V.Vault.seen l.fn.vault)) l.caches.items;
