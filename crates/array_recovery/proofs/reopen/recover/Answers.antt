@@ -1,4 +1,5 @@
-use Rattle.std.proofs.Common.{sym, subst}
+use Rattle.std.proofs.Common.{◌*◌, sym, subst}
+use Rattle.extents.specs.Sizes.{extent_units}
 use Rattle.std.proofs.lemmas.Result.{IfOk-weaker}
 use Rattle.vault.specs.Images.{recovered}
 use Rattle.array_recovery.specs.Reopened.{CoversGone, EndsAt, IsLeftOf}
@@ -17,4 +18,4 @@ returns-clause-live g c = λ known lost.
     let told = c.in_ok-found.ensures in
     IfOk-weaker c.open_found.result _ _
     (λ r h covers ends. h cells c.args.absent.now lost _ _ (told.found known) told.formed (subst (λ n. CoversGone n r.1.noted c.args.absent.now lost) (sym told.many) covers)
-    (subst (λ n. EndsAt lost n _ cells) (sym told.many) ends)) c.open_found.ensures.live
+    (subst (λ n. EndsAt lost n (c.args.shape.now.extents * extent_units c.args.shape.now.segments) cells) (sym told.many) ends)) c.open_found.ensures.live
