@@ -63,6 +63,16 @@ module _ {D : Type 0} (units : D → Units) (gone : D → Bool) (lost : List Boo
     ];
   }
 
+  -- one more, and what was hired and noted for it
+  pub seated_next : (drives more : List D) (k now : Course Units) (x : D) (m : Held) → AreSeatedTo units gone lost caches drives k
+      → more ≡ drives ++ x ∷ [] → now ≡ record { hired = k.hired + 1; log = k.log ++ entry (length drives) m.units ∷ [] }
+      → slice_get caches (length drives) ≡ Some m → units x ≡ m.units → gone x ≡ is_lost lost (length drives)
+      → AreSeatedTo units gone lost caches more now
+  seated_next drives more k now x m seated pushed next at units_is gone_is =
+      subst (λ (ds : List D). AreSeatedTo units gone lost caches ds now) (sym pushed)
+      (subst (λ (l : Course Units). AreSeatedTo units gone lost caches (drives ++ x ∷ []) l) (sym next)
+      (seated_more drives k.log k.hired x m seated at units_is gone_is))
+
   -- all of them
   pub seated_all : (drives : List D) (k : Course Units) → AreSeatedTo units gone lost caches drives k → length drives ≡ length caches → AreSeated units gone lost caches drives k
   seated_all drives k seated many = record {

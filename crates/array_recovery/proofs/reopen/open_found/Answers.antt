@@ -1,4 +1,4 @@
-use Rattle.std.proofs.Common.{refl, length}
+use Rattle.std.proofs.Common.{false, refl, length}
 use Rattle.extents.specs.Failures.{unsteady}
 use Rattle.extents.specs.Units.{loss}
 use Rattle.array_parts.specs.Views.{view_of}

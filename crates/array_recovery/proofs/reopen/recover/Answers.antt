@@ -1,0 +1,21 @@
+use Rattle.std.proofs.Common.{◌*◌, sym, subst}
+use Rattle.extents.specs.Sizes.{extent_units}
+use Rattle.std.proofs.lemmas.Result.{IfOk-weaker}
+use Rattle.vault.specs.Images.{recovered}
+use Rattle.array_recovery.specs.Reopened.{CoversGone, EndsAt, IsLeftOf}
+use Rattle.array_recovery.proofs.reopen.recover.Goals as goal
+
+pub returns-clause-reopened : goal.returns-clause-reopened
+returns-clause-reopened g c = λ known bytes long left.
+    let cells = recovered (g.V.Vault.seen c.args.vault.now) in
+    let told = c.in_ok-found.ensures in
+    IfOk-weaker c.open_found.result _ _
+    (λ r h. h cells c.args.absent.now bytes (told.found known) long (subst (λ n. IsLeftOf bytes c.args.groups n c.args.absent.now cells) (sym told.many) left)) c.open_found.ensures.reopened
+
+pub returns-clause-live : goal.returns-clause-live
+returns-clause-live g c = λ known lost.
+    let cells = recovered (g.V.Vault.seen c.args.vault.now) in
+    let told = c.in_ok-found.ensures in
+    IfOk-weaker c.open_found.result _ _
+    (λ r h covers ends. h cells c.args.absent.now lost _ _ (told.found known) told.formed (subst (λ n. CoversGone n r.1.noted c.args.absent.now lost) (sym told.many) covers)
+    (subst (λ n. EndsAt lost n (c.args.shape.now.extents * extent_units c.args.shape.now.segments) cells) (sym told.many) ends)) c.open_found.ensures.live
