@@ -182,7 +182,8 @@ pub(crate) fn create_disk(
         Err(fault) => return Err(Trouble::Shape(fault)),
     };
     let boot = boot_of(rt)?;
-    let identity = new_identity(rt)?;
+    let number = new_identity(rt)?;
+    let identity = Uuid::from_bytes(number);
     let layout = layout_of(&plan);
     make_folder(rt, folder)?;
     look(rt, folder, drives)?;

@@ -18,6 +18,20 @@ pub(crate) enum Name {
     Journal,
     /// The file of a drive.
     Drive(u8),
+    /// The system's file with the boot's number.
+    Boot,
+    /// The system's file with another number at each read.
+    Random,
+}
+
+impl Name {
+    /// The path of a file of the system's.
+    pub(crate) fn system_path(&self) -> &'static str {
+        match self {
+            Name::Boot => "/proc/sys/kernel/random/boot_id",
+            _ => "/proc/sys/kernel/random/uuid",
+        }
+    }
 }
 
 /// The folder of a disk.
@@ -37,6 +51,10 @@ impl<'a> Folder<'a> {
             Name::State => format!(in alloc; "{folder}/state"),
             Name::Journal => format!(in alloc; "{folder}/journal"),
             Name::Drive(drive) => format!(in alloc; "{folder}/drive{drive}"),
+            Name::Boot | Name::Random => {
+                let path = name.system_path();
+                format!(in alloc; "{path}")
+            }
         }
     }
 

@@ -1,37 +1,36 @@
 //! Numbers that the system gives: the boot's, and one for a new disk.
-use crate::trouble::Trouble;
+use crate::folder::Name;
+use crate::trouble::{Trouble, unread};
 use std::fs::File;
 use std::io::Read;
 use uuid::Uuid;
 
-// The same until the machine starts again.
-const BOOT: &str = "/proc/sys/kernel/random/boot_id";
-
-// Another one with each read.
-const RANDOM: &str = "/proc/sys/kernel/random/uuid";
-
 // Reads a number.
-fn read_uuid(rt: &HostRuntime, path: &'static str) -> Result<Uuid, Trouble> {
+fn read_number(rt: &HostRuntime, name: Name) -> Result<[u8; 16], Trouble> {
+    let path = name.system_path();
     let mut text = String::new(rt.alloc());
     let read = match File::open(rt, path) {
         Ok(mut file) => file.read_to_string(&mut text),
         Err(error) => Err(error),
     };
     if let Err(error) = read {
-        return Err(Trouble::System(path, error));
+        return Err(unread(error, name));
     }
     match Uuid::parse_str(text.trim_end()) {
-        Ok(uuid) => Ok(uuid),
-        Err(_) => Err(Trouble::NoNumber(path)),
+        Ok(uuid) => {
+            let bytes = uuid.into_bytes();
+            Ok(bytes)
+        }
+        Err(_) => Err(Trouble::NoNumber(name)),
     }
 }
 
-/// The boot's number.
+/// The boot's number, which is the same until the machine starts again.
 pub(crate) fn boot_of(rt: &HostRuntime) -> Result<[u8; 16], Trouble> {
-    Ok(read_uuid(rt, BOOT)?.into_bytes())
+    read_number(rt, Name::Boot)
 }
 
 /// A number that no other disk has.
-pub(crate) fn new_identity(rt: &HostRuntime) -> Result<Uuid, Trouble> {
-    read_uuid(rt, RANDOM)
+pub(crate) fn new_identity(rt: &HostRuntime) -> Result<[u8; 16], Trouble> {
+    read_number(rt, Name::Random)
 }

@@ -12,7 +12,7 @@ use cached_drive::Saved;
 use disk_shape::{Plan, class_of, member_at};
 use extent_groups::{GroupRefusal, GroupTable, Member, Place, are_there};
 use extents::{DRIVES, ExtentTable};
-use file_vault::{FileVault, JOURNAL, Layout, RealFiles, read_header};
+use file_vault::{FileVault, Header, JOURNAL, Layout, RealFiles, read_header};
 use history::{Chronicle, Opened};
 use journaled_store::JournaledStore;
 use std::alloc::{AllocError, Global};
@@ -165,6 +165,16 @@ fn open_files(
     Ok((DiskFiles { files, looks }, absent))
 }
 
+// Whether a header is that of a file of this disk.
+fn is_right(header: &Header, layout: &Layout, number: u8, table: &Table) -> bool {
+    let has = header.identity;
+    let wants = table.identity;
+    has == wants
+        && header.number == number
+        && header.unit_bytes == layout.size(number)
+        && header.count == layout.count(number)
+}
+
 // Tests that a file is what its name says.
 fn test_header(
     files: &mut DiskFiles,
@@ -175,13 +185,14 @@ fn test_header(
     let Ok(found) = read_header(files, number) else {
         return Err(Trouble::Unread(number));
     };
-    match found {
-        Some(header)
-            if header.identity == table.identity
-                && header.number == number
-                && header.unit_bytes == layout.size(number)
-                && header.count == layout.count(number) => { Ok(()) }
-        _ => Err(Trouble::Foreign(number)),
+    let is_right = match &found {
+        Some(header) => is_right(header, layout, number, table),
+        None => false,
+    };
+    if is_right {
+        Ok(())
+    } else {
+        Err(Trouble::Foreign(number))
     }
 }
 

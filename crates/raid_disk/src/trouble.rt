@@ -40,10 +40,8 @@ pub(crate) enum Trouble {
     Foreign(u8),
     /// This file isn't there, and nothing can be opened without it.
     Needed(Name),
-    /// A file of the system's can't be read.
-    System(&'static str, io::Error),
-    /// A file of the system's has no number.
-    NoNumber(&'static str),
+    /// This file of the system's has no number.
+    NoNumber(Name),
     /// A file failed while the journal was read.
     Vault(VaultError),
     /// Standard output can't be written.
@@ -73,7 +71,6 @@ impl Trouble {
             | Trouble::Write(_, _)
             | Trouble::Unread(_)
             | Trouble::Unwritten(_)
-            | Trouble::System(_, _)
             | Trouble::Vault(_)
             | Trouble::Output(_)
             | Trouble::Stream(_)
@@ -108,10 +105,6 @@ impl Trouble {
             Trouble::Sync => eprintln!(rt;
                 "raid_disk: {at}: the journal can't be written or synced, or two drives are lost: what came since the last flush may be lost"
             ),
-            Trouble::System(path, error) => eprintln!(rt;
-                "raid_disk: {path} can't be read: {error}"
-            ),
-            Trouble::NoNumber(path) => eprintln!(rt; "raid_disk: {path} has no number"),
             Trouble::Unsound => eprintln!(rt;
                 "raid_disk: {at}: the drives' files don't fit one another"
             ),
@@ -152,6 +145,10 @@ impl Trouble {
             Trouble::Needed(name) => {
                 let path = folder.path(rt.alloc(), *name)?;
                 eprintln!(rt; "raid_disk: {path} isn't there: without it nothing can be read")
+            }
+            Trouble::NoNumber(name) => {
+                let path = folder.path(rt.alloc(), *name)?;
+                eprintln!(rt; "raid_disk: {path} has no number")
             }
             Trouble::Unread(number) => {
                 let path = folder.path(rt.alloc(), name_of(*number))?;
