@@ -2,4 +2,4 @@ use Rattle.raid_disk.proofs.serve.serve_disk.Given as goal
 
 -- the history that was made has its name
 abbrev pub ghosts-serve_opened : goal.ghosts-serve_opened
-ghosts-serve_opened g a = record { chronicle = a.opened }
+ghosts-serve_opened a = record { chronicle = a.opened }
