@@ -70,6 +70,8 @@ impl ByteStore for MemStore {
         self.unsynced = false;
         Ok(())
     }
+
+    fn rest(&mut self, _alloc: Global) {}
 }
 
 // Writes bytes over others.

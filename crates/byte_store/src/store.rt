@@ -2,6 +2,7 @@
 ghost use Rattle.std.specs.Prelude.{◌≡◌, ℕ, ◌+◌, ◌≤◌, List, length, replicate, slice_range, OnOk, IfErr, ⊤};
 ghost use Rattle.byte_store.specs.Flat.{Flat, Sizes};
 ghost use Rattle.byte_store.specs.Changes.{IsChanged, IsFlushed};
+ghost use Rattle.byte_store.specs.Lasting.{Acknowledges, Flushes, Lasts};
 ghost use Rattle.byte_store.specs.declared.fault.StoreFault.{StoreFault};
 
 use crate::StoreFault;
@@ -17,6 +18,19 @@ pub trait ByteStore {
 
     /// The reasons for which a store of this type may refuse a call.
     ghost may_refuse: { StoreFault → Type 0 } = { λ _. ⊤ };
+
+    /// What each call leaves as it is, beside the sizes.
+    ghost stays: { Self → Self → Type 0 } = { λ old new. ⊤ };
+
+    /// What a stop at this moment leaves: opened again, the store has bytes of the first list if the process was killed, and of the
+    /// second if the machine lost power. Where nothing is known of it, as by default, the clauses of it say nothing.
+    ghost outlasts: { Self → List (List ℕ) → List (List ℕ) → Type 0 } = { λ store killed cut. ⊥ };
+
+    /// The moment, as a number that doesn't fall.
+    ghost moment: { Self → ℕ } = { λ store. 0 };
+
+    /// What a stop at some moment from that one on leaves, during a call or between two.
+    ghost outlasts_since: { Self → ℕ → List (List ℕ) → List (List ℕ) → Type 0 } = { λ store t killed cut. ⊥ };
 
     /// Bytes of the store.
     fn size(&self) -> u64
@@ -34,7 +48,9 @@ pub trait ByteStore {
         ensures kept { (F : Flat) → represents self.old F → represents self.new F }
         ensures value { (F : Flat) → represents self.old F → OnOk result (out.new ≡ slice_range F.bytes offset (offset + length out.old)) }
         ensures cause { IfErr result may_refuse }
-        ensures sizes { sizes self.new ≡ sizes self.old };
+        ensures sizes { sizes self.new ≡ sizes self.old }
+        ensures stays { (F : Flat) → represents self.old F → stays self.old self.new }
+        ensures lasts { (F : Flat) → represents self.old F → Lasts outlasts moment outlasts_since F.bytes F.bytes self.old self.new };
 
     /// Writes bytes from an offset on. A refused write may have stopped in its middle.
     fn write(&mut self, alloc: Global, offset: u64, bytes: &[u8]) -> Result<(), StoreFault>
@@ -42,7 +58,12 @@ pub trait ByteStore {
         ensures change { (F : Flat) → represents self.old F →
             (G : Flat) × represents self.new G × IsChanged result F offset bytes.now G }
         ensures cause { IfErr result may_refuse }
-        ensures sizes { sizes self.new ≡ sizes self.old };
+        ensures sizes { sizes self.new ≡ sizes self.old }
+        ensures stays { (F : Flat) → represents self.old F → stays self.old self.new }
+        ensures lasts { (F G : Flat) → represents self.old F → represents self.new G
+            → Lasts outlasts moment outlasts_since F.bytes G.bytes self.old self.new }
+        ensures acknowledged { (F G : Flat) → represents self.old F → represents self.new G
+            → OnOk result (Acknowledges outlasts F.bytes G.bytes self.old self.new) };
 
     /// Makes the bytes from an offset on zero. A refusal may have come in its middle.
     fn zero(&mut self, alloc: Global, offset: u64, length: u32) -> Result<(), StoreFault>
@@ -50,19 +71,28 @@ pub trait ByteStore {
         ensures change { (F : Flat) → represents self.old F →
             (G : Flat) × represents self.new G × IsChanged result F offset (replicate length 0) G }
         ensures cause { IfErr result may_refuse }
-        ensures sizes { sizes self.new ≡ sizes self.old };
+        ensures sizes { sizes self.new ≡ sizes self.old }
+        ensures stays { (F : Flat) → represents self.old F → stays self.old self.new }
+        ensures lasts { (F G : Flat) → represents self.old F → represents self.new G
+            → Lasts outlasts moment outlasts_since F.bytes G.bytes self.old self.new }
+        ensures acknowledged { (F G : Flat) → represents self.old F → represents self.new G
+            → OnOk result (Acknowledges outlasts F.bytes G.bytes self.old self.new) };
 
     /// Makes all bytes durable.
     fn flush(&mut self) -> Result<(), StoreFault>
         ensures change { (F : Flat) → represents self.old F →
             (G : Flat) × represents self.new G × IsFlushed result F G }
         ensures cause { IfErr result may_refuse }
-        ensures sizes { sizes self.new ≡ sizes self.old };
+        ensures sizes { sizes self.new ≡ sizes self.old }
+        ensures stays { (F : Flat) → represents self.old F → stays self.old self.new }
+        ensures lasts { (F : Flat) → represents self.old F → Lasts outlasts moment outlasts_since F.bytes F.bytes self.old self.new }
+        ensures flushed { (F : Flat) → represents self.old F → OnOk result (Flushes outlasts F.bytes self.old self.new) };
 
     /// Called while nobody waits for the store, so that it can do ahead what later requests would wait for. The bytes stay. A
     /// store that has nothing to do ahead leaves it as it is.
     fn rest(&mut self, _alloc: Global)
         ensures kept { (F : Flat) → represents self.old F → represents self.new F }
         ensures sizes { sizes self.new ≡ sizes self.old }
-    {}
+        ensures stays { (F : Flat) → represents self.old F → stays self.old self.new }
+        ensures lasts { (F : Flat) → represents self.old F → Lasts outlasts moment outlasts_since F.bytes F.bytes self.old self.new };
 }

@@ -1,0 +1,36 @@
+-- What stops leave of a store, as the bytes that it has when it is opened again.
+use Rattle.std.specs.Prelude.{◌≤◌, ℕ, List, [], ◌∷◌, Contains}
+
+-- a list has all bytes of another, and those of before and after a call
+pub record Covers (more some : List (List ℕ)) (before now : List ℕ) : Type 0 where
+  pub each : (b : List ℕ) → Contains some b → Contains more b
+  pub has_before : Contains more before
+  pub has_now : Contains more now
+
+-- a list has all bytes of two others
+pub record Joins (more one two : List (List ℕ)) : Type 0 where
+  pub first : (b : List ℕ) → Contains one b → Contains more b
+  pub second : (b : List ℕ) → Contains two b → Contains more b
+
+-- A call is there whole or not at all: after a stop during it or behind it the store has the bytes that a stop before it would have
+-- left, or those of before the call, or those of after it.
+pub record Lasts {S : Type 0} (outlasts : S → List (List ℕ) → List (List ℕ) → Type 0) (moment : S → ℕ) (outlasts_since : S → ℕ → List (List ℕ) → List (List ℕ) → Type 0)
+    (before now : List ℕ) (old new : S) : Type 0 where
+  pub later : moment old ≤ moment new
+  pub behind : (killed cut more_killed more_cut : List (List ℕ)) → outlasts old killed cut → Covers more_killed killed before now → Covers more_cut cut before now
+      → outlasts new more_killed more_cut
+  pub during : (killed cut more_killed more_cut : List (List ℕ)) → outlasts old killed cut → Covers more_killed killed before now → Covers more_cut cut before now
+      → outlasts_since new (moment old) more_killed more_cut
+  -- for a run that began earlier
+  pub earlier : (t : ℕ) (killed cut since_killed since_cut more_killed more_cut : List (List ℕ)) → t ≤ moment old
+      → outlasts_since old t killed cut → outlasts_since new (moment old) since_killed since_cut
+      → Joins more_killed killed since_killed → Joins more_cut cut since_cut → outlasts_since new t more_killed more_cut
+
+-- after a kill the store has the bytes of now; after a loss of power it may have those of before
+abbrev pub Acknowledges : {S : Type 0} → (S → List (List ℕ) → List (List ℕ) → Type 0) → List ℕ → List ℕ → S → S → Type 0
+Acknowledges outlasts before now old new =
+    (killed cut more_cut : List (List ℕ)) → outlasts old killed cut → Covers more_cut cut before now → outlasts new (now ∷ []) more_cut
+
+-- after any stop the store has the bytes of now
+abbrev pub Flushes : {S : Type 0} → (S → List (List ℕ) → List (List ℕ) → Type 0) → List ℕ → S → S → Type 0
+Flushes outlasts now old new = (killed cut : List (List ℕ)) → outlasts old killed cut → outlasts new (now ∷ []) (now ∷ [])
