@@ -1,16 +1,15 @@
 -- What stops leave of a store, as the bytes that it has when it is opened again.
 use Rattle.std.specs.Prelude.{◌≤◌, ℕ, List, [], ◌∷◌, Contains}
 
+-- a list has all bytes of another
+abbrev pub Within : List (List ℕ) → List (List ℕ) → Type 0
+Within some more = (b : List ℕ) → Contains some b → Contains more b
+
 -- a list has all bytes of another, and those of before and after a call
 pub record Covers (more some : List (List ℕ)) (before now : List ℕ) : Type 0 where
-  pub each : (b : List ℕ) → Contains some b → Contains more b
+  pub each : Within some more
   pub has_before : Contains more before
   pub has_now : Contains more now
-
--- a list has all bytes of two others
-pub record Joins (more one two : List (List ℕ)) : Type 0 where
-  pub first : (b : List ℕ) → Contains one b → Contains more b
-  pub second : (b : List ℕ) → Contains two b → Contains more b
 
 -- A call is there whole or not at all: after a stop during it or behind it the store has the bytes that a stop before it would have
 -- left, or those of before the call, or those of after it.
@@ -22,9 +21,10 @@ pub record Lasts {S : Type 0} (outlasts : S → List (List ℕ) → List (List �
   pub during : (killed cut more_killed more_cut : List (List ℕ)) → outlasts old killed cut → Covers more_killed killed before now → Covers more_cut cut before now
       → outlasts_since new (moment old) more_killed more_cut
   -- for a run that began earlier
-  pub earlier : (t : ℕ) (killed cut since_killed since_cut more_killed more_cut : List (List ℕ)) → t ≤ moment old
-      → outlasts_since old t killed cut → outlasts_since new (moment old) since_killed since_cut
-      → Joins more_killed killed since_killed → Joins more_cut cut since_cut → outlasts_since new t more_killed more_cut
+  pub earlier : (t : ℕ) (since_killed since_cut killed cut more_killed more_cut : List (List ℕ)) → t ≤ moment old
+      → outlasts_since old t since_killed since_cut → outlasts old killed cut
+      → Within since_killed more_killed → Within since_cut more_cut → Covers more_killed killed before now → Covers more_cut cut before now
+      → outlasts_since new t more_killed more_cut
 
 -- after a kill the store has the bytes of now; after a loss of power it may have those of before
 abbrev pub Acknowledges : {S : Type 0} → (S → List (List ℕ) → List (List ℕ) → Type 0) → List ℕ → List ℕ → S → S → Type 0
