@@ -18,7 +18,8 @@ use Rattle.cached_drive.specs.Saving.{Units, saved_by}
 use Rattle.journaled_store.specs.Steps.{IsLive, IsKept, mark_of}
 use Rattle.array_recovery.specs.Found.{AreFormed, AreGone, AreSeated, HaveUnits, IsTable, is_marked}
 use Rattle.array_recovery.proofs.Marking.{index_is}
-use Rattle.array_recovery.specs.Reopened.{CoversGone, EndsAt, IsLeftOf, IsLostIn, Outlives}
+use Rattle.journaled_store.specs.Left.{IsLeftOf, IsLostIn}
+use Rattle.array_recovery.specs.Reopened.{CoversGone, EndsAt, Outlives}
 
 -- an element below the length
 pub there : {A : Type 0} (xs : List A) (i : ℕ) → i < length xs → (x : A) × (slice_get xs i ≡ Some x)

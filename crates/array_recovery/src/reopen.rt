@@ -9,7 +9,8 @@ ghost use Rattle.vault.specs.Images.{recovered};
 ghost use Rattle.journaled_store.specs.Steps.{IsLive};
 ghost use Rattle.array_store.specs.Stores.{IsStoreOf};
 ghost use Rattle.array_recovery.specs.Found.{AreFormed, IsFoundIn, OnlyRead};
-ghost use Rattle.array_recovery.specs.Reopened.{CoversGone, EndsAt, IsLeftOf};
+ghost use Rattle.journaled_store.specs.Left.{IsLeftOf};
+ghost use Rattle.array_recovery.specs.Reopened.{CoversGone, EndsAt};
 
 use crate::fault::RecoveryFault;
 use crate::load::load_drives;

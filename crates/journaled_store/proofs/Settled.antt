@@ -15,30 +15,31 @@ use Rattle.array_parts.specs.Views.{DriveView}
 use Rattle.cached_drive.specs.Saving.{Units}
 use Rattle.journaled_store.specs.Steps.{IsKept, IsLive, UnlessJournal}
 
-no_mark : (marks : List Bool) (n : ℕ) → length marks ≤ n → is_on (slice_get marks n) ≡ false
+-- past the last mark there is none
+pub no_mark : (marks : List Bool) (n : ℕ) → length marks ≤ n → is_on (slice_get marks n) ≡ false
 no_mark [] n le = refl
 no_mark (m ∷ marks) zero le = absurd (omega (arith, le))
 no_mark (m ∷ marks) (suc n) le = no_mark marks n (omega (arith, le))
 
 -- the table is on no lost drive
-table_there : (lost : List Bool) → length lost ≡ 16 → is_lost lost 16 ≡ false
+pub table_there : (lost : List Bool) → length lost ≡ 16 → is_lost lost 16 ≡ false
 table_there lost long = no_mark lost 16 (omega (arith, long))
 
 abbrev place_at : ℕ → ℕ → Place
 place_at drive address = record { drive = drive; address = address }
 
-pub live_on : (lost : List Bool) (k : Course Units) (marks : List ℕ) (batch : List Wanted) (c d : Cells) → length lost ≡ 16 → SameOn lost d c
+pub live_on : (lost : List Bool) (k : Course Units) (marks : List ℕ) (batch : List Wanted) (c d : Cells) → is_lost lost 16 ≡ false → SameOn lost d c
     → IsLive lost k marks batch c → IsLive lost k marks batch d
-live_on lost k marks batch c d long same live = record {
+live_on lost k marks batch c d table same live = record {
   step = record { each = λ n at low on. same_here batch d c (place_at n at) (same (place_at n at) on) ∙ live.step.each n at low on };
-  noted = same_here batch d c (place_at 16 0) (same (place_at 16 0) (table_there lost long)) ∙ live.noted;
+  noted = same_here batch d c (place_at 16 0) (same (place_at 16 0) table) ∙ live.noted;
 }
 
-pub kept_on : (lost : List Bool) (drives : List DriveView) (c d : Cells) → length lost ≡ 16 → SameOn lost d c → IsKept lost drives c → IsKept lost drives d
-kept_on lost drives c d long same kept = record {
+pub kept_on : (lost : List Bool) (drives : List DriveView) (c d : Cells) → is_lost lost 16 ≡ false → SameOn lost d c → IsKept lost drives c → IsKept lost drives d
+kept_on lost drives c d table same kept = record {
   has = record { each = λ n at v there on. same (place_at n at) on ∙ kept.has.each n at v there on };
   marks = kept.marks;
-  noted = same (place_at 16 0) (table_there lost long) ∙ kept.noted;
+  noted = same (place_at 16 0) table ∙ kept.noted;
   told = kept.told;
 }
 

@@ -2,7 +2,9 @@
 ghost use Rattle.std.specs.Prelude.{◌≡◌, ◌+◌, ◌≤◌, List, length, replicate, IfErr, OnOk, slice_range};
 ghost use Rattle.byte_store.specs.Flat.{Flat, Sizes};
 ghost use Rattle.byte_store.specs.Changes.{IsChanged, IsFlushed};
-ghost use Rattle.array_store.specs.Stores.{IsStoreOf};
+ghost use Rattle.byte_store.specs.Lasting.{Acknowledges, Flushes, Lasts};
+ghost use Rattle.array_store.specs.Stores.{Follows, IsStoreOf};
+ghost use Rattle.journaled_store.specs.Outlasting.{Outlasts, OutlastsSince, point};
 
 use crate::store::JournaledStore;
 use byte_store::{ByteStore, StoreFault};
@@ -14,6 +16,14 @@ impl<N: Chronicle, V: Vault + Drop> ByteStore for JournaledStore<N, V> {
     ghost represents = { λ s. IsStoreOf s.store.tiers s.store.size s.unsynced };
 
     ghost sizes = { λ s. record { bytes = s.store.size; block = s.store.tiers.world.array.parts.groups.payload } };
+
+    ghost stays = { λ s t. Follows s.store.tiers t.store.tiers };
+
+    ghost outlasts = { λ s. Outlasts V.known V.seen V.may_leave (point s) };
+
+    ghost moment = { λ s. V.moment s.vault };
+
+    ghost outlasts_since = { λ s. OutlastsSince V.left_since (point s) };
 
     fn size(&self) -> u64 {
         self.store.size()

@@ -75,7 +75,7 @@ pub fn publish<N: Chronicle, V: Vault>(
         → UnlessSync result (IsLogged V.seen V.may_leave lost stop vault.new low) }
     ensures batches { V.known vault.old → (lost : List Bool) → IsLive lost changes.old.keeper changes.old.noted changes.old.batch
         (recovered (V.seen vault.old))
-        → OnOk result ((low : ℕ) (i : Image) → StandsForSome lost (Image.cells (V.seen vault.new)) low (Image.journal (V.seen vault.new)) i
+        → UnlessSync result ((low : ℕ) (i : Image) → StandsForSome lost (Image.cells (V.seen vault.new)) low (Image.journal (V.seen vault.new)) i
         → IsBeforeOrNow lost (V.seen vault.old) low store.old.tiers.world.array.parts.drives i) }
 
     // A stop at any moment leaves the units of before, or those of the drives now. By a loss of power some of the last batches may be

@@ -3,11 +3,13 @@ ghost use Rattle.std.specs.Prelude.{◌≡◌, ◌≤◌, ◌<◌, [], ℕ, List
 ghost use Rattle.array_parts.specs.Views.{lost_of};
 ghost use Rattle.extent_groups.specs.Cells.{Cells};
 ghost use Rattle.byte_store.specs.Flat.{Flat};
-ghost use Rattle.array_store.specs.Stores.{IsStoreOf};
+ghost use Rattle.byte_store.specs.Lasting.{Lasts};
+ghost use Rattle.array_store.specs.Stores.{Follows, IsStoreOf};
 ghost use Rattle.vault.specs.Images.{Image, SameOn, Stands, recovered};
 ghost use Rattle.vault.specs.Moments.{AreLogged, LeavesOnly, IsLogged};
 ghost use Rattle.vault.specs.declared.store.Stop.{Stop};
 ghost use Rattle.journaled_store.specs.Steps.{IsBeforeOrNow, IsEmptied, IsKept, IsLive, UnlessFailed, UnlessJournal};
+ghost use Rattle.journaled_store.specs.Outlasting.{Outlasts, OutlastsSince, point};
 
 use crate::publishing::{collect, fault_of};
 use crate::store::JournaledStore;
@@ -81,6 +83,11 @@ impl<N: Chronicle, V: Vault + Drop> JournaledStore<N, V> {
             → (low : Stop → ℕ) → ((stop : Stop) → IsLogged V.seen V.may_leave self.new.changes.lost stop self.old.vault (low stop))
             → (stop : Stop) → LeavesOnly V.moment V.left_since stop self.old.vault self.new.vault
             (IsBeforeOrNow self.new.changes.lost (V.seen self.old.vault) (low stop) self.old.store.tiers.world.array.parts.drives) }
+
+        // A stop leaves the bytes, with all groups and drives.
+        ensures follows { (F : Flat) → IsStoreOf self.old.store.tiers self.old.store.size self.old.unsynced F → Follows self.old.store.tiers self.new.store.tiers }
+        ensures lasts { (F : Flat) → IsStoreOf self.old.store.tiers self.old.store.size self.old.unsynced F
+            → Lasts (Outlasts V.known V.seen V.may_leave) (λ p. V.moment p.vault) (OutlastsSince V.left_since) F.bytes F.bytes (point self.old) (point self.new) }
     {
         let lost = self.store.world().array().lost();
         let published = self.publish_durably();
@@ -108,7 +115,9 @@ impl<N: Chronicle, V: Vault + Drop> JournaledStore<N, V> {
         ensures lost { self.new.changes.lost ≡ self.old.changes.lost }
         ensures step { (lost : List Bool) (c : Cells) → IsLive lost self.old.changes.keeper self.old.changes.noted self.old.changes.batch c
             → IsLive lost self.new.changes.keeper self.new.changes.noted self.new.changes.batch c }
+        ensures stays { self.old.failed ≡ true → self.new.failed ≡ true }
         ensures failed { error ≡ VaultError.Journal → self.new.failed ≡ true }
+        ensures follows { (F : Flat) → IsStoreOf self.old.store.tiers self.old.store.size self.old.unsynced F → Follows self.old.store.tiers self.new.store.tiers }
     {
         match error {
             VaultError::Journal => self.failed = true,
@@ -127,6 +136,8 @@ impl<N: Chronicle, V: Vault + Drop> JournaledStore<N, V> {
         ensures lost { self.new.changes.lost ≡ self.old.changes.lost }
         ensures step { (lost : List Bool) (c : Cells) → IsLive lost self.old.changes.keeper self.old.changes.noted self.old.changes.batch c
             → IsLive lost self.new.changes.keeper self.new.changes.noted self.new.changes.batch c }
+        ensures follows { (F : Flat) → IsStoreOf self.old.store.tiers self.old.store.size self.old.unsynced F → Follows self.old.store.tiers self.new.store.tiers }
+        ensures failed { self.new.failed ≡ self.old.failed }
     {
         note_failed(&mut self.changes.failed, drive);
         let lost = self.changes.lost;
@@ -141,6 +152,11 @@ impl<N: Chronicle, V: Vault + Drop> JournaledStore<N, V> {
             → IsStoreOf self.new.store.tiers self.new.store.size self.new.unsynced F }
         ensures sizes { (self.new.store.size ≡ self.old.store.size)
             × (self.new.store.tiers.world.array.parts.groups.payload ≡ self.old.store.tiers.world.array.parts.groups.payload) }
+
+        // A stop leaves the bytes, with all groups and drives.
+        ensures follows { (F : Flat) → IsStoreOf self.old.store.tiers self.old.store.size self.old.unsynced F → Follows self.old.store.tiers self.new.store.tiers }
+        ensures lasts { (F : Flat) → IsStoreOf self.old.store.tiers self.old.store.size self.old.unsynced F
+            → Lasts (Outlasts V.known V.seen V.may_leave) (λ p. V.moment p.vault) (OutlastsSince V.left_since) F.bytes F.bytes (point self.old) (point self.new) }
     {
         if self.changes.appended >= self.settle_at.saturating_mul(4) {
             let _ = self.settle();

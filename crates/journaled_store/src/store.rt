@@ -2,12 +2,14 @@
 ghost use Rattle.std.specs.Prelude.{◌≡◌, ◌+◌, ◌≤◌, ℕ, List, Bool, length, replicate, false, OnOk};
 ghost use Rattle.byte_store.specs.Flat.{Flat};
 ghost use Rattle.byte_store.specs.Changes.{IsChanged, IsFlushed};
-ghost use Rattle.array_store.specs.Stores.{IsStoreOf};
+ghost use Rattle.byte_store.specs.Lasting.{Acknowledges, Flushes, Lasts};
+ghost use Rattle.array_store.specs.Stores.{Follows, IsStoreOf};
 ghost use Rattle.vault.specs.Images.{Image, recovered};
 ghost use Rattle.vault.specs.Moments.{LeavesOnly, IsLogged, StandsForSome};
 ghost use Rattle.vault.specs.declared.store.Stop.{Stop};
 ghost use Rattle.vault.specs.declared.store.Stop.TheVariants.{Killed};
 ghost use Rattle.journaled_store.specs.Steps.{IsBeforeOrNow, IsKept, IsLive, UnlessFailed, is_sync};
+ghost use Rattle.journaled_store.specs.Outlasting.{Outlasts, OutlastsSince, point};
 
 use crate::changes::Changes;
 use crate::publishing::{publish, sync};
@@ -92,6 +94,7 @@ impl<N: Chronicle, V: Vault + Drop> JournaledStore<N, V> {
     pub fn publish(&mut self) -> Result<(), StoreFault>
         ensures same { (self.new.store ≡ self.old.store) × (self.new.unsynced ≡ self.old.unsynced) }
         ensures works { OnOk result (self.new.failed ≡ false) }
+        ensures still { self.old.failed ≡ true → (self.new.vault ≡ self.old.vault) × (self.new.failed ≡ true) }
         ensures stays { V.known self.old.vault → V.known self.new.vault }
         ensures step { V.known self.old.vault → (lost : List Bool)
             → UnlessFailed self.old.failed (IsLive lost self.old.changes.keeper self.old.changes.noted self.old.changes.batch
@@ -113,7 +116,7 @@ impl<N: Chronicle, V: Vault + Drop> JournaledStore<N, V> {
         ensures batches { V.known self.old.vault → (lost : List Bool)
             → UnlessFailed self.old.failed (IsLive lost self.old.changes.keeper self.old.changes.noted self.old.changes.batch
             (recovered (V.seen self.old.vault)))
-            → OnOk result ((low : ℕ) (i : Image) → StandsForSome lost (Image.cells (V.seen self.new.vault)) low (Image.journal (V.seen self.new.vault)) i
+            → UnlessFailed self.new.failed ((low : ℕ) (i : Image) → StandsForSome lost (Image.cells (V.seen self.new.vault)) low (Image.journal (V.seen self.new.vault)) i
             → IsBeforeOrNow lost (V.seen self.old.vault) low self.old.store.tiers.world.array.parts.drives i) }
 
         // A stop at any moment leaves the units of before, or those of the drives now.
@@ -123,6 +126,12 @@ impl<N: Chronicle, V: Vault + Drop> JournaledStore<N, V> {
             → (stop : Stop) (low : ℕ) → IsLogged V.seen V.may_leave lost stop self.old.vault low
             → LeavesOnly V.moment V.left_since stop self.old.vault self.new.vault
             (IsBeforeOrNow lost (V.seen self.old.vault) low self.new.store.tiers.world.array.parts.drives) }
+
+        // Opened again, the store has the bytes that a stop before would have left, or those of now.
+        ensures lasts { (F : Flat) → IsStoreOf self.old.store.tiers self.old.store.size self.old.unsynced F
+            → Lasts (Outlasts V.known V.seen V.may_leave) (λ p. V.moment p.vault) (OutlastsSince V.left_since) F.bytes F.bytes (point self.old) (point self.new) }
+        ensures acknowledged { (F : Flat) → IsStoreOf self.old.store.tiers self.old.store.size self.old.unsynced F
+            → OnOk result (Acknowledges (Outlasts V.known V.seen V.may_leave) F.bytes F.bytes (point self.old) (point self.new)) }
     {
         if self.failed {
             return Err(StoreFault::Sync);
@@ -139,12 +148,16 @@ impl<N: Chronicle, V: Vault + Drop> JournaledStore<N, V> {
     pub fn publish_durably(&mut self) -> Result<(), StoreFault>
         ensures same { (self.new.store ≡ self.old.store) × (self.new.unsynced ≡ self.old.unsynced) }
         ensures works { OnOk result (self.new.failed ≡ false) }
+        ensures still { self.old.failed ≡ true → (self.new.vault ≡ self.old.vault) × (self.new.failed ≡ true) }
         ensures stays { V.known self.old.vault → V.known self.new.vault }
         ensures step { V.known self.old.vault → (lost : List Bool)
             → UnlessFailed self.old.failed (IsLive lost self.old.changes.keeper self.old.changes.noted self.old.changes.batch
             (recovered (V.seen self.old.vault)))
             → UnlessFailed self.new.failed (IsLive lost self.new.changes.keeper self.new.changes.noted self.new.changes.batch
             (recovered (V.seen self.new.vault))) }
+        ensures killed { V.known self.old.vault → (lost : List Bool)
+            → UnlessFailed self.old.failed (IsLogged V.seen V.may_leave lost Killed self.old.vault (length (Image.journal (V.seen self.old.vault))))
+            → UnlessFailed self.new.failed (IsLogged V.seen V.may_leave lost Killed self.new.vault (length (Image.journal (V.seen self.new.vault)))) }
 
         // After Ok each stop leaves all batches, and so all that the drives hold.
         ensures kept { V.known self.old.vault → (lost : List Bool)
@@ -160,7 +173,7 @@ impl<N: Chronicle, V: Vault + Drop> JournaledStore<N, V> {
         ensures batches { V.known self.old.vault → (lost : List Bool)
             → UnlessFailed self.old.failed (IsLive lost self.old.changes.keeper self.old.changes.noted self.old.changes.batch
             (recovered (V.seen self.old.vault)))
-            → OnOk result ((low : ℕ) (i : Image) → StandsForSome lost (Image.cells (V.seen self.new.vault)) low (Image.journal (V.seen self.new.vault)) i
+            → UnlessFailed self.new.failed ((low : ℕ) (i : Image) → StandsForSome lost (Image.cells (V.seen self.new.vault)) low (Image.journal (V.seen self.new.vault)) i
             → IsBeforeOrNow lost (V.seen self.old.vault) low self.old.store.tiers.world.array.parts.drives i) }
 
         // A stop at any moment leaves the units of before, or those of the drives now.
@@ -170,6 +183,11 @@ impl<N: Chronicle, V: Vault + Drop> JournaledStore<N, V> {
             → (stop : Stop) (low : ℕ) → IsLogged V.seen V.may_leave lost stop self.old.vault low
             → LeavesOnly V.moment V.left_since stop self.old.vault self.new.vault
             (IsBeforeOrNow lost (V.seen self.old.vault) low self.new.store.tiers.world.array.parts.drives) }
+
+        // Opened again, the store has the bytes that a stop before would have left, or those of now; after Ok those of now.
+        ensures lasts { (F : Flat) → IsStoreOf self.old.store.tiers self.old.store.size self.old.unsynced F
+            → Lasts (Outlasts V.known V.seen V.may_leave) (λ p. V.moment p.vault) (OutlastsSince V.left_since) F.bytes F.bytes (point self.old) (point self.new)
+            × OnOk result (Flushes (Outlasts V.known V.seen V.may_leave) F.bytes (point self.old) (point self.new)) }
     {
         self.publish()?;
         let synced = sync(&mut self.vault);
@@ -211,6 +229,15 @@ impl<N: Chronicle, V: Vault + Drop> JournaledStore<N, V> {
             → (stop : Stop) (low : ℕ) → IsLogged V.seen V.may_leave lost stop self.old.vault low
             → LeavesOnly V.moment V.left_since stop self.old.vault self.new.vault
             (IsBeforeOrNow lost (V.seen self.old.vault) low self.new.store.tiers.world.array.parts.drives) }
+
+        // A stop leaves the bytes of before or of now, with all groups and drives.
+        ensures follows { (F : Flat) → IsStoreOf self.old.store.tiers self.old.store.size self.old.unsynced F → Follows self.old.store.tiers self.new.store.tiers }
+        ensures lasts { (F G : Flat) → IsStoreOf self.old.store.tiers self.old.store.size self.old.unsynced F
+            → IsStoreOf self.new.store.tiers self.new.store.size self.new.unsynced G
+            → Lasts (Outlasts V.known V.seen V.may_leave) (λ p. V.moment p.vault) (OutlastsSince V.left_since) F.bytes G.bytes (point self.old) (point self.new) }
+        ensures acknowledged { (F G : Flat) → IsStoreOf self.old.store.tiers self.old.store.size self.old.unsynced F
+            → IsStoreOf self.new.store.tiers self.new.store.size self.new.unsynced G
+            → OnOk result (Acknowledges (Outlasts V.known V.seen V.may_leave) F.bytes G.bytes (point self.old) (point self.new)) }
     {
         self.unsynced = true;
         let written = self.store.write(alloc, offset, bytes);
@@ -252,6 +279,15 @@ impl<N: Chronicle, V: Vault + Drop> JournaledStore<N, V> {
             → (stop : Stop) (low : ℕ) → IsLogged V.seen V.may_leave lost stop self.old.vault low
             → LeavesOnly V.moment V.left_since stop self.old.vault self.new.vault
             (IsBeforeOrNow lost (V.seen self.old.vault) low self.new.store.tiers.world.array.parts.drives) }
+
+        // A stop leaves the bytes of before or of now, with all groups and drives.
+        ensures follows { (F : Flat) → IsStoreOf self.old.store.tiers self.old.store.size self.old.unsynced F → Follows self.old.store.tiers self.new.store.tiers }
+        ensures lasts { (F G : Flat) → IsStoreOf self.old.store.tiers self.old.store.size self.old.unsynced F
+            → IsStoreOf self.new.store.tiers self.new.store.size self.new.unsynced G
+            → Lasts (Outlasts V.known V.seen V.may_leave) (λ p. V.moment p.vault) (OutlastsSince V.left_since) F.bytes G.bytes (point self.old) (point self.new) }
+        ensures acknowledged { (F G : Flat) → IsStoreOf self.old.store.tiers self.old.store.size self.old.unsynced F
+            → IsStoreOf self.new.store.tiers self.new.store.size self.new.unsynced G
+            → OnOk result (Acknowledges (Outlasts V.known V.seen V.may_leave) F.bytes G.bytes (point self.old) (point self.new)) }
     {
         self.unsynced = true;
         let zeroed = self.store.zero(alloc, offset, count);
@@ -291,6 +327,13 @@ impl<N: Chronicle, V: Vault + Drop> JournaledStore<N, V> {
             → (stop : Stop) (low : ℕ) → IsLogged V.seen V.may_leave lost stop self.old.vault low
             → LeavesOnly V.moment V.left_since stop self.old.vault self.new.vault
             (IsBeforeOrNow lost (V.seen self.old.vault) low self.new.store.tiers.world.array.parts.drives) }
+
+        // A stop leaves the bytes, with all groups and drives.
+        ensures follows { (F : Flat) → IsStoreOf self.old.store.tiers self.old.store.size self.old.unsynced F → Follows self.old.store.tiers self.new.store.tiers }
+        ensures lasts { (F : Flat) → IsStoreOf self.old.store.tiers self.old.store.size self.old.unsynced F
+            → Lasts (Outlasts V.known V.seen V.may_leave) (λ p. V.moment p.vault) (OutlastsSince V.left_since) F.bytes F.bytes (point self.old) (point self.new) }
+        ensures durable { (F : Flat) → IsStoreOf self.old.store.tiers self.old.store.size self.old.unsynced F
+            → OnOk result (Flushes (Outlasts V.known V.seen V.may_leave) F.bytes (point self.old) (point self.new)) }
     {
         let flushed = self.store.flush();
         self.publish_durably()?;

@@ -2,7 +2,8 @@ use Rattle.std.proofs.Common.{◌*◌, sym, subst}
 use Rattle.extents.specs.Sizes.{extent_units}
 use Rattle.std.proofs.lemmas.Result.{IfOk-weaker}
 use Rattle.vault.specs.Images.{recovered}
-use Rattle.array_recovery.specs.Reopened.{CoversGone, EndsAt, IsLeftOf}
+use Rattle.journaled_store.specs.Left.{IsLeftOf}
+use Rattle.array_recovery.specs.Reopened.{CoversGone, EndsAt}
 use Rattle.array_recovery.proofs.reopen.recover.Goals as goal
 
 pub returns-clause-reopened : goal.returns-clause-reopened

@@ -1,9 +1,12 @@
-use Rattle.std.proofs.Common.{sym, subst}
+use Rattle.std.proofs.Common.{◌≡◌, false, refl, arith, sym, ap, subst, ◌∙◌}
 use Rattle.vault.specs.Moments.{LeavesOnly}
 use Rattle.background.specs.Views.{TiersView}
 use Rattle.vault.proofs.Runs.{started}
 use Rattle.journaled_store.specs.Steps.{IsBeforeOrNow}
+use Rattle.array_store.specs.Stores.{StoreView}
+use Rattle.journaled_store.specs.Outlasting.{Point}
 use Rattle.journaled_store.proofs.Batching.{logged_now}
+use Rattle.journaled_store.proofs.Lasting.{Published, follows_same, moved_lasts, ok_works, published_acknowledges, published_lasts, unless_sync}
 use Rattle.journaled_store.proofs.store.JournaledStore.publish.Goals as goal
 
 pub returns-then-self-clause-any_moment : goal.returns-then-self-clause-any_moment
@@ -29,3 +32,21 @@ returns-clause-any_moment g c known lost live stop low is =
     subst (λ (t : TiersView). LeavesOnly v.moment v.left_since stop vault c.publish-published.new.vault (IsBeforeOrNow lost (v.seen vault) low t.world.array.parts.drives))
     (sym c.publish-published.ensures.same.0)
     (c.publish-published.ensures.any_moment known lost (live c.if-self.false) stop low is)
+
+pub returns-then-self-clause-lasts : goal.returns-then-self-clause-lasts
+returns-then-self-clause-lasts g c F is =
+    let v = g.V.Vault in
+    let p = point c.args.self.now in
+    moved_lasts v.known v.seen v.may_leave v.moment v.left_since g.met.V.Vault.counts_now g.met.V.Vault.only_now p p refl (follows_same p.tiers) (λ on. on) (λ lost cells live. live) F.bytes F.bytes
+
+pub returns-then-has_lost_two-clause-lasts : goal.returns-then-has_lost_two-clause-lasts
+returns-then-has_lost_two-clause-lasts g c F is =
+    let v = g.V.Vault in
+    let p = point c.args.self.now in
+    moved_lasts v.known v.seen v.may_leave v.moment v.left_since g.met.V.Vault.counts_now g.met.V.Vault.only_now p p refl (follows_same p.tiers) (λ on. on) (λ lost cells live. live) F.bytes F.bytes
+
+pub returns-clause-lasts : goal.returns-clause-lasts
+returns-clause-lasts g c F is =
+    let v = g.V.Vault in
+    let p = point c.args.self.now in
+    published_lasts v.known v.seen v.may_leave v.moment v.left_since g.met.V.Vault.counts_now g.met.V.Vault.only_now p _ F.bytes is.holds (published g c)

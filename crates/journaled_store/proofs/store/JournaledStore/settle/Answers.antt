@@ -10,7 +10,7 @@ use Rattle.vault.specs.declared.store.VaultError.TheVariants as error
 use Rattle.vault.proofs.Runs.{both_runs}
 use Rattle.array_store.specs.Stores.{IsStoreOf, StoreView}
 use Rattle.journaled_store.specs.Steps.{IsBeforeOrNow, IsKept, IsLive, UnlessFailed, UnlessJournal}
-use Rattle.journaled_store.proofs.Settled.{kept_on, live_on, not_journal}
+use Rattle.journaled_store.proofs.Settled.{kept_on, live_on, not_journal, table_there}
 use Rattle.journaled_store.proofs.store.JournaledStore.settle.Goals as goal
 
 pub returns-in_err-published-clause-bytes : goal.returns-in_err-published-clause-bytes
@@ -58,7 +58,7 @@ returns-in-Ok-clause-settled g c known live low logged =
       empty = c.in-Ok.ensures.empty now all;
       durable = c.in-Ok.ensures.logged now all;
       kept = subst (λ (s : StoreView). IsKept lost s.tiers.world.array.parts.drives (recovered (v.seen c.settle_vault.new.vault))) c.publish_durably-published.ensures.same.0
-          (kept_on lost c.publish_durably-published.new.self.store.tiers.world.array.parts.drives mid (recovered (v.seen c.settle_vault.new.vault)) c.settle_vault.ensures.long
+          (kept_on lost c.publish_durably-published.new.self.store.tiers.world.array.parts.drives mid (recovered (v.seen c.settle_vault.new.vault)) (table_there lost c.settle_vault.ensures.long)
           (c.in-Ok.ensures.units now all) (c.in_ok-published.ensures.kept known lost live));
     }
 
@@ -69,7 +69,7 @@ returns-in-Ok-clause-step g c known live low logged works =
     let lost = c.lost-lost.result in
     let now = c.publish_durably-published.ensures.stays known in
     let all : AreLogged v.seen v.may_leave lost c.publish_durably-published.new.self.vault = λ stop. c.in_ok-published.ensures.flushed known lost stop (low stop) (logged stop) in
-    live_on lost changes.keeper changes.noted changes.batch (recovered (v.seen c.publish_durably-published.new.self.vault)) (recovered (v.seen c.settle_vault.new.vault)) c.settle_vault.ensures.long
+    live_on lost changes.keeper changes.noted changes.batch (recovered (v.seen c.publish_durably-published.new.self.vault)) (recovered (v.seen c.settle_vault.new.vault)) (table_there lost c.settle_vault.ensures.long)
     (c.in-Ok.ensures.units now all) (c.publish_durably-published.ensures.step known lost live works)
 
 pub returns-in-Ok-clause-logged : goal.returns-in-Ok-clause-logged
@@ -115,7 +115,7 @@ returns-in-Err-clause-step g c known live low logged works =
     (subst (λ (r : Result (Unit {0}) VaultError). UnlessJournal r (SameOn lost (recovered (v.seen new)) (recovered (v.seen mid)))) c.in-Err.is (c.settle_vault.ensures.units now all)) in
     let left : IsLive lost c.give_up.new.self.changes.keeper c.give_up.new.self.changes.noted c.give_up.new.self.changes.batch (recovered (v.seen new)) =
     c.give_up.ensures.step lost (recovered (v.seen new))
-    (live_on lost changes.keeper changes.noted changes.batch (recovered (v.seen mid)) (recovered (v.seen new)) c.settle_vault.ensures.long units
+    (live_on lost changes.keeper changes.noted changes.batch (recovered (v.seen mid)) (recovered (v.seen new)) (table_there lost c.settle_vault.ensures.long) units
     (c.publish_durably-published.ensures.step known lost live_now c.in_ok-published.ensures.works)) in
     subst (λ (l : List Bool). IsLive l c.give_up.new.self.changes.keeper c.give_up.new.self.changes.noted c.give_up.new.self.changes.batch (recovered (v.seen c.give_up.new.self.vault))) (sym c.give_up.ensures.lost)
     (subst (λ w. IsLive lost c.give_up.new.self.changes.keeper c.give_up.new.self.changes.noted c.give_up.new.self.changes.batch (recovered (v.seen w))) (sym c.give_up.ensures.vault) left)

@@ -1,0 +1,377 @@
+-- What a stop leaves after a store's calls.
+use Rattle.std.proofs.Common.{◌≡◌, ◌<◌, ◌≤◌, ◌⊎◌, inl, inr, ⊎_elim, ℕ, arith, Bool, true, false, List, [], ◌∷◌, ◌++◌, length, take, refl, sym, ◌∙◌, ap, subst}
+use Rattle.std.specs.Prelude.{Contains}
+use Rattle.std.proofs.lemmas.Bool.{true≢false}
+use Rattle.std.proofs.lemmas.List.{take_all}
+use Rattle.extent_groups.specs.Groups.{Groups}
+use Rattle.extent_groups.specs.Cells.{Cells}
+use Rattle.extent_groups.specs.Planned.{Wanted, after}
+use Rattle.history.specs.Entries.{Course}
+use Rattle.cached_drive.specs.Saving.{Units}
+use Rattle.background.specs.Views.{TiersView}
+use Rattle.array_store.specs.Blocks.{Holds}
+use Rattle.array_store.specs.Stores.{Follows}
+use Rattle.byte_store.specs.Lasting.{Acknowledges, Covers, Flushes, Lasts, Within}
+use Rattle.byte_store.proofs.Lasts.{covering}
+use Rattle.vault.specs.Images.{Image, flat, is_lost, recovered}
+use Rattle.vault.specs.Moments.{IsLogged, LeavesOnly, StandsForSome}
+use Rattle.vault.specs.declared.store.Stop.{Stop}
+use Rattle.vault.specs.declared.store.Stop.TheVariants.{Killed, PowerLost}
+use Rattle.vault.proofs.Runs.{weaker}
+use Rattle.array_parts.specs.Views.{DriveView, lost_of}
+use Rattle.journaled_store.specs.Steps.{IsBeforeOrNow, IsKept, IsLive, UnlessFailed}
+use Rattle.journaled_store.specs.Outlasting.{OpensAs, OpensBut, Outlasts, OutlastsSince, Point, Works, allowed, parts_of}
+use Rattle.journaled_store.proofs.Opening.{alone, one_of, opens_as, opens_either, opens_left, opens_more, opens_now, opens_on}
+
+pub either : (b : Bool) → (b ≡ true) ⊎ (b ≡ false)
+either true = inl refl
+either false = inr refl
+
+pub allowed_within : (stop : Stop) (killed cut more_killed more_cut : List (List ℕ)) → Within killed more_killed → Within cut more_cut → Within (allowed stop killed cut) (allowed stop more_killed more_cut)
+allowed_within Killed killed cut more_killed more_cut k c = k
+allowed_within PowerLost killed cut more_killed more_cut k c = c
+
+pub allowed_has : (stop : Stop) (killed cut : List (List ℕ)) (b : List ℕ) → Contains killed b → Contains cut b → Contains (allowed stop killed cut) b
+allowed_has Killed killed cut b k c = k
+allowed_has PowerLost killed cut b k c = c
+
+-- how many batches a stop leaves at least, where a kill leaves all
+least : ℕ → ℕ → Stop → ℕ
+least all cut Killed = all
+least all cut PowerLost = cut
+
+-- what one batch more says of a store
+pub record Published {V : Type 0} (known : V → Type 0) (seen : V → Image) (may_leave : V → Stop → Image → Type 0) (moment : V → ℕ) (left_since : V → Stop → ℕ → Image → Type 0)
+    (p q : Point V) : Type 0 where
+  pub tiers : q.tiers ≡ p.tiers
+  pub stays : known p.vault → known q.vault
+  pub still : p.failed ≡ true → (q.vault ≡ p.vault) × (q.failed ≡ true)
+  pub step : known p.vault → (lost : List Bool) → UnlessFailed p.failed (IsLive lost p.keeper p.noted p.batch (recovered (seen p.vault)))
+      → UnlessFailed q.failed (IsLive lost q.keeper q.noted q.batch (recovered (seen q.vault)))
+  pub killed : known p.vault → (lost : List Bool) → UnlessFailed p.failed (IsLogged seen may_leave lost Killed p.vault (length (seen p.vault).journal))
+      → UnlessFailed q.failed (IsLogged seen may_leave lost Killed q.vault (length (seen q.vault).journal))
+  pub logged : known p.vault → (lost : List Bool) (stop : Stop) (low : ℕ) → UnlessFailed p.failed (IsLogged seen may_leave lost stop p.vault low)
+      → UnlessFailed q.failed ((most : ℕ) × (low ≤ most) × IsLogged seen may_leave lost stop q.vault most)
+  pub batches : known p.vault → (lost : List Bool) → UnlessFailed p.failed (IsLive lost p.keeper p.noted p.batch (recovered (seen p.vault)))
+      → UnlessFailed q.failed ((low : ℕ) (i : Image) → StandsForSome lost (seen q.vault).cells low (seen q.vault).journal i → IsBeforeOrNow lost (seen p.vault) low (parts_of p.tiers).drives i)
+  pub any_moment : known p.vault → (lost : List Bool) → UnlessFailed p.failed (IsLive lost p.keeper p.noted p.batch (recovered (seen p.vault)))
+      → (stop : Stop) (low : ℕ) → IsLogged seen may_leave lost stop p.vault low
+      → LeavesOnly moment left_since stop p.vault q.vault (IsBeforeOrNow lost (seen p.vault) low (parts_of p.tiers).drives)
+
+module _ {V : Type 0} (known : V → Type 0) (seen : V → Image) (may_leave : V → Stop → Image → Type 0) (moment : V → ℕ) (left_since : V → Stop → ℕ → Image → Type 0)
+    (counts_now : (vault : V) → known vault → (stop : Stop) (t : ℕ) (i : Image) → t ≤ moment vault → may_leave vault stop i → left_since vault stop t i)
+    (only_now : (vault : V) → known vault → (stop : Stop) (i : Image) → left_since vault stop (moment vault) i → may_leave vault stop i) where
+
+  pub table : (p : Point V) (killed cut : List (List ℕ)) (w : Works seen may_leave p killed cut) → is_lost w.lost 16 ≡ false
+  table p killed cut w = w.few 16 (omega arith)
+
+  -- the vault is as it was
+  module _ (p q : Point V) (vault : q.vault ≡ p.vault) (follows : Follows p.tiers q.tiers) (works : q.failed ≡ false → p.failed ≡ false)
+      (step : (lost : List Bool) (c : Cells) → IsLive lost p.keeper p.noted p.batch c → IsLive lost q.keeper q.noted q.batch c) where
+    as_then : (list more : List (List ℕ)) (c : Cells) → Within list more → OpensAs list (parts_of p.tiers).groups (length (parts_of p.tiers).drives) c
+        → OpensAs more (parts_of q.tiers).groups (length (parts_of q.tiers).drives) c
+    as_then list more c within o =
+        subst (λ n. OpensAs more (parts_of q.tiers).groups n c) (sym follows.many)
+        (subst (λ g. OpensAs more g (length (parts_of p.tiers).drives) c) (sym follows.groups) (record { bytes = o.bytes; listed = within o.bytes o.listed; left = o.left }))
+
+    but_then : (lost : List Bool) → is_lost lost 16 ≡ false → (list more : List (List ℕ)) (c : Cells) → Within list more
+        → OpensBut lost list (parts_of p.tiers).groups (length (parts_of p.tiers).drives) c → OpensBut lost more (parts_of q.tiers).groups (length (parts_of q.tiers).drives) c
+    but_then lost there list more c within o =
+        subst (λ n. OpensBut lost more (parts_of q.tiers).groups n c) (sym follows.many)
+        (subst (λ g. OpensBut lost more g (length (parts_of p.tiers).drives) c) (sym follows.groups)
+        (opens_more lost there (parts_of p.tiers).groups (length (parts_of p.tiers).drives) list more c within o))
+
+    module _ (killed cut more_killed more_cut : List (List ℕ)) (out : Outlasts known seen may_leave p killed cut) (k : Within killed more_killed) (c : Within cut more_cut) where
+      with_vault : (v : V) → v ≡ p.vault → Outlasts known seen may_leave (record { keeper = q.keeper; noted = q.noted; batch = q.batch; failed = q.failed; tiers = q.tiers; vault = v }) more_killed more_cut
+      with_vault v same = subst (λ u. Outlasts known seen may_leave (record { keeper = q.keeper; noted = q.noted; batch = q.batch; failed = q.failed; tiers = q.tiers; vault = u }) more_killed more_cut)
+          (sym same) (record {
+        is_known = out.is_known;
+        leaves = λ stop i may. as_then (allowed stop killed cut) (allowed stop more_killed more_cut) (recovered i) (allowed_within stop killed cut more_killed more_cut k c) (out.leaves stop i may);
+        works = λ is. let w = out.works (works is) in record {
+          lost = w.lost;
+          few = w.few;
+          gone = λ d one. follows.lost d (w.gone d one);
+          live = step w.lost (recovered (seen p.vault)) w.live;
+          low = w.low;
+          logged = w.logged;
+          all = w.all;
+          opens = λ stop n least most. but_then w.lost (table p killed cut w) (allowed stop killed cut) (allowed stop more_killed more_cut) _ (allowed_within stop killed cut more_killed more_cut k c) (w.opens stop n least most);
+        };
+      })
+
+      pub moved : Outlasts known seen may_leave q more_killed more_cut
+      moved = with_vault q.vault vault
+
+    moved_since : (t : ℕ) (since_killed since_cut more_killed more_cut : List (List ℕ)) → Within since_killed more_killed → Within since_cut more_cut
+        → OutlastsSince left_since p t since_killed since_cut → OutlastsSince left_since q t more_killed more_cut
+    moved_since t since_killed since_cut more_killed more_cut k c since stop i left =
+        as_then (allowed stop since_killed since_cut) (allowed stop more_killed more_cut) (recovered i) (allowed_within stop since_killed since_cut more_killed more_cut k c)
+        (since stop i (subst (λ v. left_since v stop t i) vault left))
+
+    pub moved_lasts : (before now : List ℕ) → Lasts (Outlasts known seen may_leave) (λ (r : Point V). moment r.vault) (OutlastsSince left_since) before now p q
+    moved_lasts before now = record {
+      later = λ killed cut out. subst (λ v. moment p.vault ≤ moment v) (sym vault) (omega arith);
+      behind = λ killed cut more_killed more_cut out k c. moved killed cut more_killed more_cut out k.each c.each;
+      during = λ killed cut more_killed more_cut out k c. moved_since (moment p.vault) killed cut more_killed more_cut k.each c.each
+          (λ stop i left. out.leaves stop i (only_now p.vault out.is_known stop i left));
+      earlier = λ t since_killed since_cut killed cut more_killed more_cut le since out wk wc k c. moved_since t since_killed since_cut more_killed more_cut wk wc since;
+    }
+
+  -- a store that has all that its drives hold
+  module _ (q : Point V) (now : List ℕ) (holds : Holds q.tiers now) (killed cut : List (List ℕ)) (is_known : known q.vault) (w : Works seen may_leave q killed cut)
+      (kept : IsKept w.lost (parts_of q.tiers).drives (recovered (seen q.vault))) where
+    abbrev groups_now : Groups
+    groups_now = (parts_of q.tiers).groups
+
+    abbrev many_now : ℕ
+    many_now = length (parts_of q.tiers).drives
+
+    -- all batches stand for the bytes of now
+    all_opens : (n : ℕ) → length (seen q.vault).journal ≤ n → n ≤ length (seen q.vault).journal
+        → OpensBut w.lost (now ∷ []) groups_now many_now (after (seen q.vault).cells (flat (take n (seen q.vault).journal)))
+    all_opens n least most =
+        subst (λ b. OpensBut w.lost (now ∷ []) groups_now many_now (after (seen q.vault).cells (flat b))) (sym (take_all n (seen q.vault).journal least))
+        (opens_now w.lost (table q killed cut w) groups_now many_now (now ∷ []) q.tiers now (recovered (seen q.vault)) refl refl w.gone holds (alone now) kept)
+
+    all_left : (stop : Stop) (i : Image) → IsLogged seen may_leave w.lost stop q.vault (length (seen q.vault).journal) → may_leave q.vault stop i
+        → OpensAs (now ∷ []) groups_now many_now (recovered i)
+    all_left stop i logged may =
+        opens_as w.lost (table q killed cut w) groups_now many_now (now ∷ []) (recovered i)
+        (opens_left w.lost (table q killed cut w) groups_now many_now seen may_leave (now ∷ []) stop q.vault (length (seen q.vault).journal) i logged may all_opens)
+
+    pub acknowledged : ((i : Image) → may_leave q.vault PowerLost i → OpensAs cut groups_now many_now (recovered i)) → Outlasts known seen may_leave q (now ∷ []) cut
+    acknowledged cuts = record { is_known = is_known; leaves = leaves_now; works = λ on. works_now }
+      where
+        leaves_now : (stop : Stop) (i : Image) → may_leave q.vault stop i → OpensAs (allowed stop (now ∷ []) cut) groups_now many_now (recovered i)
+        leaves_now Killed i may = all_left Killed i (subst (λ n. IsLogged seen may_leave w.lost Killed q.vault n) w.all (w.logged Killed)) may
+        leaves_now PowerLost i may = cuts i may
+
+        opens_then : (stop : Stop) (n : ℕ) → w.low stop ≤ n → n ≤ length (seen q.vault).journal
+            → OpensBut w.lost (allowed stop (now ∷ []) cut) groups_now many_now (after (seen q.vault).cells (flat (take n (seen q.vault).journal)))
+        opens_then Killed n least most = all_opens n (let all = w.all in omega (arith, least, all)) most
+        opens_then PowerLost n least most = w.opens PowerLost n least most
+
+        works_now : Works seen may_leave q (now ∷ []) cut
+        works_now = record { lost = w.lost; few = w.few; gone = w.gone; live = w.live; low = w.low; logged = w.logged; all = w.all; opens = opens_then }
+
+  -- one batch more
+  module _ (p q : Point V) (now : List ℕ) (holds : Holds p.tiers now) (f : Published known seen may_leave moment left_since p q) where
+    as_new : (list : List (List ℕ)) (c : Cells) → OpensAs list (parts_of p.tiers).groups (length (parts_of p.tiers).drives) c → OpensAs list (parts_of q.tiers).groups (length (parts_of q.tiers).drives) c
+    as_new list c o = subst (λ (t : TiersView). OpensAs list (parts_of t).groups (length (parts_of t).drives) c) (sym f.tiers) o
+
+    module _ (killed cut more_killed more_cut : List (List ℕ)) (out : Outlasts known seen may_leave p killed cut)
+        (kc : Covers more_killed killed now now) (cc : Covers more_cut cut now now) where
+      in_more : (stop : Stop) → Within (allowed stop killed cut) (allowed stop more_killed more_cut)
+      in_more stop = allowed_within stop killed cut more_killed more_cut kc.each cc.each
+
+      has_now : (stop : Stop) → Contains (allowed stop more_killed more_cut) now
+      has_now stop = allowed_has stop more_killed more_cut now kc.has_now cc.has_now
+
+      module _ (works : p.failed ≡ false) where
+        abbrev w : Works seen may_leave p killed cut
+        w = out.works works
+
+        pub run : (stop : Stop) → LeavesOnly moment left_since stop p.vault q.vault (IsBeforeOrNow w.lost (seen p.vault) (w.low stop) (parts_of p.tiers).drives)
+        run stop = f.any_moment out.is_known w.lost (λ is. w.live) stop (w.low stop) (w.logged stop)
+
+        now_opens : (stop : Stop) (c : Cells) → IsKept w.lost (parts_of p.tiers).drives c
+            → OpensBut w.lost (allowed stop more_killed more_cut) (parts_of p.tiers).groups (length (parts_of p.tiers).drives) c
+        now_opens stop c kept =
+            opens_now w.lost (table p killed cut w) (parts_of p.tiers).groups (length (parts_of p.tiers).drives) (allowed stop more_killed more_cut) p.tiers now c refl refl w.gone holds (has_now stop) kept
+
+        old_opens : (stop : Stop) (n : ℕ) → w.low stop ≤ n → n ≤ length (seen p.vault).journal
+            → OpensBut w.lost (allowed stop more_killed more_cut) (parts_of p.tiers).groups (length (parts_of p.tiers).drives) (after (seen p.vault).cells (flat (take n (seen p.vault).journal)))
+        old_opens stop n low most =
+            opens_more w.lost (table p killed cut w) (parts_of p.tiers).groups (length (parts_of p.tiers).drives) (allowed stop killed cut) (allowed stop more_killed more_cut) _ (in_more stop) (w.opens stop n low most)
+
+        either_opens : (stop : Stop) (i : Image) → IsBeforeOrNow w.lost (seen p.vault) (w.low stop) (parts_of p.tiers).drives i
+            → OpensBut w.lost (allowed stop more_killed more_cut) (parts_of p.tiers).groups (length (parts_of p.tiers).drives) (recovered i)
+        either_opens stop i is =
+            opens_either w.lost (table p killed cut w) (parts_of p.tiers).groups (length (parts_of p.tiers).drives) (allowed stop more_killed more_cut) (seen p.vault) (w.low stop) (parts_of p.tiers).drives i
+            (old_opens stop) (now_opens stop) is
+
+        pub at_moment : (stop : Stop) (i : Image) → IsBeforeOrNow w.lost (seen p.vault) (w.low stop) (parts_of p.tiers).drives i
+            → OpensAs (allowed stop more_killed more_cut) (parts_of q.tiers).groups (length (parts_of q.tiers).drives) (recovered i)
+        at_moment stop i is =
+            as_new (allowed stop more_killed more_cut) (recovered i)
+            (opens_as w.lost (table p killed cut w) (parts_of p.tiers).groups (length (parts_of p.tiers).drives) (allowed stop more_killed more_cut) (recovered i) (either_opens stop i is))
+
+        works_on : q.failed ≡ false → Works seen may_leave q more_killed more_cut
+        works_on on = record {
+          lost = w.lost;
+          few = w.few;
+          gone = subst (λ (t : TiersView). (d : ℕ) → is_lost w.lost d ≡ true → lost_of (parts_of t) d ≡ true) (sym f.tiers) w.gone;
+          live = f.step out.is_known w.lost (λ is. w.live) on;
+          low = low_now;
+          logged = logged_now;
+          all = refl;
+          opens = opens_then;
+        }
+          where
+            cut_now : (most : ℕ) × (w.low PowerLost ≤ most) × IsLogged seen may_leave w.lost PowerLost q.vault most
+            cut_now = f.logged out.is_known w.lost PowerLost (w.low PowerLost) (λ is. w.logged PowerLost) on
+
+            all_was : IsLogged seen may_leave w.lost Killed p.vault (length (seen p.vault).journal)
+            all_was = subst (λ n. IsLogged seen may_leave w.lost Killed p.vault n) w.all (w.logged Killed)
+
+            all_now : IsLogged seen may_leave w.lost Killed q.vault (length (seen q.vault).journal)
+            all_now = f.killed out.is_known w.lost (λ is. all_was) on
+
+            grown : w.low Killed ≤ length (seen q.vault).journal
+            grown = let more = f.logged out.is_known w.lost Killed (w.low Killed) (λ is. w.logged Killed) on in
+                let a = more.1 in let b = more.2.flushed in omega (arith, a, b)
+
+            low_now : Stop → ℕ
+            low_now stop = least (length (seen q.vault).journal) cut_now.0 stop
+
+            logged_now : (stop : Stop) → IsLogged seen may_leave w.lost stop q.vault (low_now stop)
+            logged_now Killed = all_now
+            logged_now PowerLost = cut_now.2
+
+            low_then : (stop : Stop) (n : ℕ) → low_now stop ≤ n → w.low stop ≤ n
+            low_then Killed n low = omega (arith, low, grown)
+            low_then PowerLost n low = (let few = cut_now.1 in omega (arith, low, few))
+
+            opens_then : (stop : Stop) (n : ℕ) → low_now stop ≤ n → n ≤ length (seen q.vault).journal
+                → OpensBut w.lost (allowed stop more_killed more_cut) (parts_of q.tiers).groups (length (parts_of q.tiers).drives) (after (seen q.vault).cells (flat (take n (seen q.vault).journal)))
+            opens_then stop n low most =
+                subst (λ (t : TiersView). OpensBut w.lost (allowed stop more_killed more_cut) (parts_of t).groups (length (parts_of t).drives) (after (seen q.vault).cells (flat (take n (seen q.vault).journal)))) (sym f.tiers)
+                (either_opens stop (record { cells = (seen q.vault).cells; journal = take n (seen q.vault).journal })
+                (f.batches out.is_known w.lost (λ is. w.live) on (w.low stop) (record { cells = (seen q.vault).cells; journal = take n (seen q.vault).journal })
+                (record { count = n; least = low_then stop n low; most = most; stands = λ x live. refl })))
+
+      left_at : (t : ℕ) → t ≤ moment p.vault → (stop : Stop) (i : Image) → left_since q.vault stop t i
+          → (left_since p.vault stop t i → OpensAs (allowed stop more_killed more_cut) (parts_of q.tiers).groups (length (parts_of q.tiers).drives) (recovered i))
+          → OpensAs (allowed stop more_killed more_cut) (parts_of q.tiers).groups (length (parts_of q.tiers).drives) (recovered i)
+      left_at t le stop i left was = elim (either p.failed) [
+        | inl failed ↦ was (subst (λ v. left_since v stop t i) (f.still failed).0 left)
+        | inr works ↦ (elim ((run works stop).before t i le left) [ inl before ↦ was before | inr is ↦ at_moment works stop i is ])
+      ]
+
+      pub later_by : moment p.vault ≤ moment q.vault
+      later_by = elim (either p.failed) [
+        | inl failed ↦ subst (λ v. moment p.vault ≤ moment v) (sym (f.still failed).0) (omega arith)
+        | inr works ↦ (run works Killed).later
+      ]
+
+      pub old_as : (stop : Stop) (i : Image) → may_leave p.vault stop i → OpensAs (allowed stop more_killed more_cut) (parts_of q.tiers).groups (length (parts_of q.tiers).drives) (recovered i)
+      old_as stop i may = let o = out.leaves stop i may in
+          as_new (allowed stop more_killed more_cut) (recovered i) (record { bytes = o.bytes; listed = in_more stop o.bytes o.listed; left = o.left })
+
+      pub during_by : OutlastsSince left_since q (moment p.vault) more_killed more_cut
+      during_by stop i left = left_at (moment p.vault) (omega arith) stop i left (λ was. old_as stop i (only_now p.vault out.is_known stop i was))
+
+      pub behind_by : Outlasts known seen may_leave q more_killed more_cut
+      behind_by = record {
+        is_known = f.stays out.is_known;
+        leaves = λ stop i may. during_by stop i (counts_now q.vault (f.stays out.is_known) stop (moment p.vault) i later_by may);
+        works = λ on. elim (either p.failed) [
+          | inl failed ↦ absurd (true≢false (sym (f.still failed).1 ∙ on))
+          | inr works ↦ works_on works on
+        ];
+      }
+
+      pub earlier_by : (t : ℕ) (since_killed since_cut : List (List ℕ)) → t ≤ moment p.vault → OutlastsSince left_since p t since_killed since_cut
+          → Within since_killed more_killed → Within since_cut more_cut → OutlastsSince left_since q t more_killed more_cut
+      earlier_by t since_killed since_cut le since k c stop i left = left_at t le stop i left (λ was. let o = since stop i was in
+          as_new (allowed stop more_killed more_cut) (recovered i)
+          (record { bytes = o.bytes; listed = allowed_within stop since_killed since_cut more_killed more_cut k c o.bytes o.listed; left = o.left }))
+
+    pub works_before : q.failed ≡ false → p.failed ≡ false
+    works_before on = elim (either p.failed) [ inl failed ↦ absurd (true≢false (sym (f.still failed).1 ∙ on)) | inr works ↦ works ]
+
+    module _ (on : q.failed ≡ false) (kept : known p.vault → (lost : List Bool) → UnlessFailed p.failed (IsLive lost p.keeper p.noted p.batch (recovered (seen p.vault)))
+        → IsKept lost (parts_of q.tiers).drives (recovered (seen q.vault))) where
+      holds_now : Holds q.tiers now
+      holds_now = subst (λ (t : TiersView). Holds t now) (sym f.tiers) holds
+
+      pub published_acknowledges : (killed cut more_cut : List (List ℕ)) → Outlasts known seen may_leave p killed cut → Covers more_cut cut now now
+          → Outlasts known seen may_leave q (now ∷ []) more_cut
+      published_acknowledges killed cut more_cut out c =
+          let works = works_before on in
+          acknowledged q now holds_now (killed ++ now ∷ now ∷ []) more_cut (f.stays out.is_known)
+          (works_on killed cut (killed ++ now ∷ now ∷ []) more_cut out (covering killed now now) c works on)
+          (kept out.is_known (out.works works).lost (λ is. (out.works works).live))
+          (λ i may. (behind_by killed cut (killed ++ now ∷ now ∷ []) more_cut out (covering killed now now) c).leaves PowerLost i may)
+
+    pub published_lasts : Lasts (Outlasts known seen may_leave) (λ (r : Point V). moment r.vault) (OutlastsSince left_since) now now p q
+    published_lasts = record {
+      later = λ killed cut out. later_by killed cut (killed ++ now ∷ now ∷ []) (cut ++ now ∷ now ∷ []) out (covering killed now now) (covering cut now now);
+      behind = λ killed cut more_killed more_cut out k c. behind_by killed cut more_killed more_cut out k c;
+      during = λ killed cut more_killed more_cut out k c. during_by killed cut more_killed more_cut out k c;
+      earlier = λ t since_killed since_cut killed cut more_killed more_cut le since out wk wc k c. earlier_by killed cut more_killed more_cut out k c t since_killed since_cut le since wk wc;
+    }
+
+  -- the journal was made durable: a loss of power leaves what a kill leaves
+  module _ (m q : Point V) (on : m.failed ≡ false) (keeper : q.keeper ≡ m.keeper) (noted : q.noted ≡ m.noted) (batch : q.batch ≡ m.batch) (tiers : q.tiers ≡ m.tiers)
+      (stays : known m.vault → known q.vault) (same : known m.vault → seen q.vault ≡ seen m.vault)
+      (durable : q.failed ≡ false → known m.vault → (lost : List Bool) (stop : Stop) (low : ℕ) → IsLogged seen may_leave lost stop m.vault low
+          → IsLogged seen may_leave lost stop q.vault (length (seen q.vault).journal))
+      (any_moment : known m.vault → (lost : List Bool) (stop : Stop) (low : ℕ) → IsLogged seen may_leave lost stop m.vault low
+          → LeavesOnly moment left_since stop m.vault q.vault (StandsForSome lost (seen m.vault).cells low (seen m.vault).journal)) where
+    live_at : (lost : List Bool) (c : Cells) → IsLive lost m.keeper m.noted m.batch c → IsLive lost q.keeper q.noted q.batch c
+    live_at lost c live =
+        subst (λ (k : Course Units). IsLive lost k q.noted q.batch c) (sym keeper)
+        (subst (λ (n : List ℕ). IsLive lost m.keeper n q.batch c) (sym noted) (subst (λ (b : List Wanted). IsLive lost m.keeper m.noted b c) (sym batch) live))
+
+    pub synced : Published known seen may_leave moment left_since m q
+    synced = record {
+      tiers = tiers;
+      stays = stays;
+      still = λ failed. absurd (true≢false (sym failed ∙ on));
+      step = λ is lost live ok. subst (λ (i : Image). IsLive lost q.keeper q.noted q.batch (recovered i)) (sym (same is)) (live_at lost (recovered (seen m.vault)) (live on));
+      killed = λ is lost logged ok. durable ok is lost Killed (length (seen m.vault).journal) (logged on);
+      logged = λ is lost stop low logged ok. (
+        length (seen q.vault).journal,
+        (let all = (logged on).flushed in omega (arith, all, ap (λ (i : Image). length i.journal) (same is))),
+        durable ok is lost stop low (logged on),
+      );
+      batches = λ is lost live ok low i some. inl (subst (λ (s : Image). StandsForSome lost s.cells low s.journal i) (same is) some);
+      any_moment = λ is lost live stop low logged. weaker moment left_since stop m.vault q.vault (StandsForSome lost (seen m.vault).cells low (seen m.vault).journal)
+          (IsBeforeOrNow lost (seen m.vault) low (parts_of m.tiers).drives) (any_moment is lost stop low logged) (λ i some. inl some);
+    }
+
+    pub synced_outlasts : q.failed ≡ false → (killed cut : List (List ℕ)) → Outlasts known seen may_leave m killed cut → Outlasts known seen may_leave q killed killed
+    synced_outlasts ok killed cut out = record {
+      is_known = stays out.is_known;
+      leaves = λ stop i may. one_list stop i (all_left stop i may);
+      works = λ is. record {
+        lost = w.lost;
+        few = w.few;
+        gone = subst (λ (t : TiersView). (d : ℕ) → is_lost w.lost d ≡ true → lost_of (parts_of t) d ≡ true) (sym tiers) w.gone;
+        live = subst (λ (i : Image). IsLive w.lost q.keeper q.noted q.batch (recovered i)) (sym (same out.is_known)) (live_at w.lost (recovered (seen m.vault)) w.live);
+        low = λ stop. length (seen q.vault).journal;
+        logged = λ stop. all stop;
+        all = refl;
+        opens = λ stop n least most. one_opens stop n (all_opens n least most);
+      };
+    }
+      where
+        abbrev w : Works seen may_leave m killed cut
+        w = out.works on
+
+        all : (stop : Stop) → IsLogged seen may_leave w.lost stop q.vault (length (seen q.vault).journal)
+        all stop = durable ok out.is_known w.lost stop (w.low stop) (w.logged stop)
+
+        all_opens : (n : ℕ) → length (seen q.vault).journal ≤ n → n ≤ length (seen q.vault).journal
+            → OpensBut w.lost killed (parts_of q.tiers).groups (length (parts_of q.tiers).drives) (after (seen q.vault).cells (flat (take n (seen q.vault).journal)))
+        all_opens n least most =
+            subst (λ (t : TiersView). OpensBut w.lost killed (parts_of t).groups (length (parts_of t).drives) (after (seen q.vault).cells (flat (take n (seen q.vault).journal)))) (sym tiers)
+            (subst (λ (s : Image). OpensBut w.lost killed (parts_of m.tiers).groups (length (parts_of m.tiers).drives) (after s.cells (flat (take n s.journal)))) (sym (same out.is_known))
+            (w.opens Killed n (let long = ap (λ (i : Image). length i.journal) (same out.is_known) in let a = w.all in omega (arith, a, least, long))
+            (let long = ap (λ (i : Image). length i.journal) (same out.is_known) in omega (arith, most, long))))
+
+        all_left : (stop : Stop) (i : Image) → may_leave q.vault stop i → OpensAs killed (parts_of q.tiers).groups (length (parts_of q.tiers).drives) (recovered i)
+        all_left stop i may =
+            opens_as w.lost (table m killed cut w) (parts_of q.tiers).groups (length (parts_of q.tiers).drives) killed (recovered i)
+            (opens_left w.lost (table m killed cut w) (parts_of q.tiers).groups (length (parts_of q.tiers).drives) seen may_leave killed stop q.vault (length (seen q.vault).journal) i (all stop) may all_opens)
+
+        one_list : (stop : Stop) (i : Image) → OpensAs killed (parts_of q.tiers).groups (length (parts_of q.tiers).drives) (recovered i)
+            → OpensAs (allowed stop killed killed) (parts_of q.tiers).groups (length (parts_of q.tiers).drives) (recovered i)
+        one_list Killed i o = o
+        one_list PowerLost i o = o
+
+        one_opens : (stop : Stop) (n : ℕ) → OpensBut w.lost killed (parts_of q.tiers).groups (length (parts_of q.tiers).drives) (after (seen q.vault).cells (flat (take n (seen q.vault).journal)))
+            → OpensBut w.lost (allowed stop killed killed) (parts_of q.tiers).groups (length (parts_of q.tiers).drives) (after (seen q.vault).cells (flat (take n (seen q.vault).journal)))
+        one_opens Killed n o = o
+        one_opens PowerLost n o = o

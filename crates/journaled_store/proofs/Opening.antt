@@ -1,0 +1,119 @@
+-- Of which units an array is opened with which bytes.
+use Rattle.std.proofs.Common.{◌≡◌, ◌<◌, ◌≤◌, inl, inr, ⊎_elim, ℕ, zero, suc, arith, Bool, true, false, Option, Some, List, [], ◌∷◌, length, take, slice_get, refl, sym, ◌∙◌, ap, subst}
+use Rattle.std.specs.Prelude.{Contains, slice_index_or}
+use Rattle.std.proofs.lemmas.Bool.{true≢false}
+use Rattle.std.proofs.lemmas.List.{take_all}
+use Rattle.std.proofs.lemmas.Option.{slice_get_cases}
+use Rattle.extent_groups.specs.Groups.{Groups}
+use Rattle.extent_groups.specs.Missing.{is_missing}
+use Rattle.extent_groups.specs.Cells.{Cells}
+use Rattle.extent_groups.specs.Planned.{Wanted, after}
+use Rattle.array_parts.specs.Views.{DriveView, PartsView, drive_lost, lost_of}
+use Rattle.background.specs.Views.{TiersView}
+use Rattle.array_store.specs.Blocks.{Holds}
+use Rattle.byte_store.specs.Lasting.{Within}
+use Rattle.vault.specs.Images.{Image, SameOn, flat, is_lost, recovered}
+use Rattle.vault.specs.Moments.{IsLogged, StandsForSome}
+use Rattle.vault.specs.declared.store.Stop.{Stop}
+use Rattle.vault.specs.declared.store.Stop.TheVariants.{Killed, PowerLost}
+use Rattle.vault.proofs.Writes.{front_stands}
+use Rattle.journaled_store.specs.Steps.{IsBeforeOrNow, IsKept}
+use Rattle.journaled_store.specs.Left.{IsLostIn}
+use Rattle.journaled_store.specs.Outlasting.{OpensAs, OpensBut, allowed, parts_of}
+use Rattle.journaled_store.proofs.Settled.{kept_on}
+
+-- a list of one has that one alone
+pub alone : (b : List ℕ) → Contains (b ∷ []) b
+alone b = (0, omega arith, refl)
+
+pub one_of : (b : List ℕ) (more : List (List ℕ)) → Contains more b → Within (b ∷ []) more
+one_of b more has x (zero, low, is) = subst (λ (y : List ℕ). Contains more y) is has
+one_of b more has x (suc k, low, is) = absurd (omega (arith, low))
+
+-- a drive of that number that is lost
+lost_in : (o : Option DriveView) → is_missing drive_lost o ≡ true → ((v : DriveView) × (o ≡ Some v)) → (v : DriveView) × (o ≡ Some v) × (v.lost ≡ true)
+lost_in o gone (v, is) = (v, is, ap (is_missing drive_lost) (sym is) ∙ gone)
+
+there : (drives : List DriveView) (d : ℕ) → d < length drives → (v : DriveView) × (slice_get drives d ≡ Some v)
+there drives d low = elim (slice_get_cases drives d).1 [ inl is ↦ (is.0, is.2) | inr past ↦ (let high = past.0 in absurd (omega (arith, low, high))) ]
+
+pub is_lost_in : (v : PartsView) (d : ℕ) → d < length v.drives → lost_of v d ≡ true → IsLostIn v.drives d
+is_lost_in v d low gone = lost_in (slice_get v.drives d) gone (there v.drives d low)
+
+module _ (lost : List Bool) (table : is_lost lost 16 ≡ false) (groups : Groups) (count : ℕ) where
+  -- with more bytes in the list
+  pub opens_more : (some more : List (List ℕ)) (c : Cells) → Within some more → OpensBut lost some groups count c → OpensBut lost more groups count c
+  opens_more some more c within o = record {
+    bytes = o.bytes;
+    listed = within o.bytes o.listed;
+    tiers = o.tiers;
+    holds = o.holds;
+    groups_are = o.groups_are;
+    many = o.many;
+    kept = o.kept;
+    gone = o.gone;
+  }
+
+  -- of the same units, but for lost drives
+  pub opens_on : (list : List (List ℕ)) (c d : Cells) → SameOn lost d c → OpensBut lost list groups count c → OpensBut lost list groups count d
+  opens_on list c d same o = record {
+    bytes = o.bytes;
+    listed = o.listed;
+    tiers = o.tiers;
+    holds = o.holds;
+    groups_are = o.groups_are;
+    many = o.many;
+    kept = kept_on lost (parts_of o.tiers).drives c d table same o.kept;
+    gone = o.gone;
+  }
+
+  pub opens_as : (list : List (List ℕ)) (c : Cells) → OpensBut lost list groups count c → OpensAs list groups count c
+  opens_as list c o = record {
+    bytes = o.bytes;
+    listed = o.listed;
+    left = record {
+      tiers = o.tiers;
+      holds = o.holds;
+      groups_are = o.groups_are;
+      many = o.many;
+      lost = lost;
+      kept = o.kept;
+      excused = λ d low is. inr (o.gone d low is);
+    };
+  }
+
+  -- of the units that the drives hold now
+  pub opens_now : (list : List (List ℕ)) (t : TiersView) (now : List ℕ) (c : Cells) → (parts_of t).groups ≡ groups → length (parts_of t).drives ≡ count
+      → ((d : ℕ) → is_lost lost d ≡ true → lost_of (parts_of t) d ≡ true) → Holds t now → Contains list now → IsKept lost (parts_of t).drives c → OpensBut lost list groups count c
+  opens_now list t now c groups_are many gone holds listed kept = record {
+    bytes = now;
+    listed = listed;
+    tiers = t;
+    holds = holds;
+    groups_are = groups_are;
+    many = many;
+    kept = kept;
+    gone = λ d low is. is_lost_in (parts_of t) d (omega (arith, low, many)) (gone d is);
+  }
+
+  -- of an image that stands for some of a journal's batches, or for what the drives hold now
+  pub opens_some : (list : List (List ℕ)) (cells : Cells) (journal : List (List Wanted)) (low : ℕ) (i : Image)
+      → ((n : ℕ) → low ≤ n → n ≤ length journal → OpensBut lost list groups count (after cells (flat (take n journal))))
+      → StandsForSome lost cells low journal i → OpensBut lost list groups count (recovered i)
+  opens_some list cells journal low i old some =
+      opens_on list (after cells (flat (take some.count journal))) (recovered i) some.stands (old some.count some.least some.most)
+
+  pub opens_either : (list : List (List ℕ)) (base : Image) (low : ℕ) (drives : List DriveView) (i : Image)
+      → ((n : ℕ) → low ≤ n → n ≤ length base.journal → OpensBut lost list groups count (after base.cells (flat (take n base.journal))))
+      → ((c : Cells) → IsKept lost drives c → OpensBut lost list groups count c)
+      → IsBeforeOrNow lost base low drives i → OpensBut lost list groups count (recovered i)
+  opens_either list base low drives i old now (inl some) = opens_some list base.cells base.journal low i old some
+  opens_either list base low drives i old now (inr (c, stands, kept)) = opens_on list c (recovered i) stands (now c kept)
+
+  -- of what a stop leaves
+  pub opens_left : {V : Type 0} (seen : V → Image) (may_leave : V → Stop → Image → Type 0) (list : List (List ℕ)) (stop : Stop) (vault : V) (low : ℕ) (i : Image)
+      → IsLogged seen may_leave lost stop vault low → may_leave vault stop i
+      → ((n : ℕ) → low ≤ n → n ≤ length (seen vault).journal → OpensBut lost list groups count (after (seen vault).cells (flat (take n (seen vault).journal))))
+      → OpensBut lost list groups count (recovered i)
+  opens_left seen may_leave list stop vault low i logged left old =
+      opens_some list (seen vault).cells (seen vault).journal low i old (front_stands lost (seen vault) i low (logged.leaves i left))

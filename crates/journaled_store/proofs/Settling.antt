@@ -1,0 +1,174 @@
+-- What a stop leaves of a store whose journal is settled.
+use Rattle.std.proofs.Common.{◌≡◌, ◌<◌, ◌≤◌, inl, inr, ℕ, arith, Bool, true, false, List, [], ◌∷◌, ◌++◌, length, take, slice_get, refl, sym, ◌∙◌, ap, subst}
+use Rattle.std.specs.Prelude.{Contains, slice_index_or}
+use Rattle.std.proofs.lemmas.Bool.{true≢false}
+use Rattle.std.proofs.lemmas.List.{take_all}
+use Rattle.std.proofs.lemmas.Option.{slice_get-get_or, slice_get_cases}
+use Rattle.extent_groups.specs.Cells.{Cells}
+use Rattle.extent_groups.specs.Planned.{Wanted, after}
+use Rattle.array_parts.specs.Views.{DriveView, lost_of}
+use Rattle.background.specs.Views.{TiersView}
+use Rattle.array_store.specs.Blocks.{Holds}
+use Rattle.byte_store.specs.Lasting.{Covers, Lasts, Within}
+use Rattle.byte_store.proofs.Lasts.{covering}
+use Rattle.history.specs.Entries.{Course}
+use Rattle.cached_drive.specs.Saving.{Units}
+use Rattle.vault.specs.Images.{Image, SameOn, Stands, flat, is_lost, is_on, recovered}
+use Rattle.vault.specs.Moments.{AreLogged, IsLogged, LeavesOnly}
+use Rattle.vault.specs.declared.store.Stop.{Stop}
+use Rattle.vault.specs.declared.store.Stop.TheVariants.{Killed}
+use Rattle.journaled_store.specs.Steps.{IsKept, IsLive, UnlessFailed}
+use Rattle.journaled_store.specs.Outlasting.{OpensAs, OpensBut, Outlasts, OutlastsSince, Point, Works, allowed, parts_of}
+use Rattle.journaled_store.proofs.Lasting.{Published, allowed_has, allowed_within, at_moment, either, old_as, run, works_before}
+use Rattle.journaled_store.proofs.Opening.{opens_as, opens_now, opens_on}
+use Rattle.journaled_store.proofs.Settled.{kept_on, live_on, no_mark}
+
+-- of fewer drives less is said
+module _ (lost more : List Bool) (sub : (d : ℕ) → is_lost more d ≡ false → is_lost lost d ≡ false) where
+  live_wider : (k : Course Units) (marks : List ℕ) (batch : List Wanted) (c : Cells) → IsLive lost k marks batch c → IsLive more k marks batch c
+  live_wider k marks batch c live = record { step = record { each = λ d at low on. live.step.each d at low (sub d on) }; noted = live.noted }
+
+  kept_wider : (drives : List DriveView) (c : Cells) → IsKept lost drives c → IsKept more drives c
+  kept_wider drives c kept = record { has = record { each = λ d at v there on. kept.has.each d at v there (sub d on) }; marks = kept.marks; noted = kept.noted; told = kept.told }
+
+  logged_wider : {V : Type 0} (seen : V → Image) (may_leave : V → Stop → Image → Type 0) (stop : Stop) (vault : V) (low : ℕ)
+      → IsLogged seen may_leave lost stop vault low → IsLogged seen may_leave more stop vault low
+  logged_wider seen may_leave stop vault low logged = record {
+    flushed = logged.flushed;
+    leaves = λ i may. let front = logged.leaves i may in record {
+      cells = record { there = λ x on. front.cells.there x (sub x.drive on); elsewhere = λ x on. front.cells.elsewhere x (sub x.drive on) };
+      count = front.count;
+      least = front.least;
+      most = front.most;
+      journal = front.journal;
+    };
+  }
+
+-- marks of lost drives
+module _ (marks : List Bool) (long : length marks ≡ 16) (gone : ℕ → Bool) (are : (d : ℕ) → d < 16 → slice_index_or marks d true ≡ gone d) where
+  marked : (d : ℕ) → d < 16 → is_lost marks d ≡ gone d
+  marked d low = ap is_on (slice_get-get_or marks d true (omega (arith, low, long))) ∙ are d low
+
+  past_all : (d : ℕ) → 16 ≤ d → is_lost marks d ≡ false
+  past_all d high = no_mark marks d (omega (arith, high, long))
+
+  gone_are : (d : ℕ) → is_lost marks d ≡ true → gone d ≡ true
+  gone_are d is = elim (slice_get_cases marks d).1 [
+    | inl there ↦ (let low = there.1 in sym (marked d (omega (arith, low, long))) ∙ is)
+    | inr past ↦ (let high = past.0 in absurd (true≢false (sym is ∙ past_all d (omega (arith, high, long)))))
+  ]
+
+  subset : (lost : List Bool) → ((d : ℕ) → 16 ≤ d → is_lost lost d ≡ false) → ((d : ℕ) → is_lost lost d ≡ true → gone d ≡ true) → (d : ℕ) → is_lost marks d ≡ false → is_lost lost d ≡ false
+  subset lost few was d not = elim (either (is_lost lost d)) [
+    | inr no ↦ no
+    | inl yes ↦ (elim (slice_get_cases marks d).1 [
+      | inl there ↦ (let low = there.1 in absurd (true≢false (sym (marked d (omega (arith, low, long)) ∙ was d yes) ∙ not)))
+      | inr past ↦ (let high = past.0 in few d (omega (arith, high, long)))
+    ])
+  ]
+
+module _ {V : Type 0} (known : V → Type 0) (seen : V → Image) (may_leave : V → Stop → Image → Type 0) (moment : V → ℕ) (left_since : V → Stop → ℕ → Image → Type 0)
+    (counts_now : (vault : V) → known vault → (stop : Stop) (t : ℕ) (i : Image) → t ≤ moment vault → may_leave vault stop i → left_since vault stop t i)
+    (only_now : (vault : V) → known vault → (stop : Stop) (i : Image) → left_since vault stop (moment vault) i → may_leave vault stop i)
+    (p m : Point V) (now : List ℕ) (holds : Holds p.tiers now) (f : Published known seen may_leave moment left_since p m) (on : m.failed ≡ false)
+    (kept : known p.vault → (lost : List Bool) → UnlessFailed p.failed (IsLive lost p.keeper p.noted p.batch (recovered (seen p.vault))) → IsKept lost (parts_of m.tiers).drives (recovered (seen m.vault)))
+    (durable : known p.vault → (lost : List Bool) (stop : Stop) (low : ℕ) → UnlessFailed p.failed (IsLogged seen may_leave lost stop p.vault low)
+        → IsLogged seen may_leave lost stop m.vault (length (seen m.vault).journal))
+    (marks : List Bool) (long : length marks ≡ 16) (are : (d : ℕ) → d < 16 → slice_index_or marks d true ≡ lost_of (parts_of m.tiers) d)
+    (vault : V) (failed : Bool) (stays : known m.vault → known vault)
+    (units : known m.vault → AreLogged seen may_leave marks m.vault → failed ≡ false → SameOn marks (recovered (seen vault)) (recovered (seen m.vault)))
+    (logged : known m.vault → AreLogged seen may_leave marks m.vault → failed ≡ false → AreLogged seen may_leave marks vault)
+    (any_moment : known m.vault → AreLogged seen may_leave marks m.vault → (stop : Stop) → LeavesOnly moment left_since stop m.vault vault (Stands marks (recovered (seen m.vault)))) where
+  abbrev q : Point V
+  q = record { keeper = m.keeper; noted = m.noted; batch = m.batch; failed = failed; tiers = m.tiers; vault = vault }
+
+  abbrev groups_now = (parts_of m.tiers).groups
+
+  abbrev many_now = length (parts_of m.tiers).drives
+
+  module _ (killed cut more_killed more_cut : List (List ℕ)) (out : Outlasts known seen may_leave p killed cut)
+      (kc : Covers more_killed killed now now) (cc : Covers more_cut cut now now) where
+    works : p.failed ≡ false
+    works = works_before known seen may_leave moment left_since counts_now only_now p m now holds f on
+
+    abbrev w : Works seen may_leave p killed cut
+    w = out.works works
+
+    sub : (d : ℕ) → is_lost marks d ≡ false → is_lost w.lost d ≡ false
+    sub = subset marks long (lost_of (parts_of m.tiers)) are w.lost w.few
+        (subst (λ (t : TiersView). (d : ℕ) → is_lost w.lost d ≡ true → lost_of (parts_of t) d ≡ true) (sym f.tiers) w.gone)
+
+    table_at : is_lost marks 16 ≡ false
+    table_at = past_all marks long (lost_of (parts_of m.tiers)) are 16 (omega arith)
+
+    known_mid : known m.vault
+    known_mid = f.stays out.is_known
+
+    all_mid : AreLogged seen may_leave marks m.vault
+    all_mid stop = logged_wider w.lost marks sub seen may_leave stop m.vault (length (seen m.vault).journal) (durable out.is_known w.lost stop (w.low stop) (λ is. w.logged stop))
+
+    kept_mid : IsKept marks (parts_of m.tiers).drives (recovered (seen m.vault))
+    kept_mid = kept_wider w.lost marks sub (parts_of m.tiers).drives (recovered (seen m.vault)) (kept out.is_known w.lost (λ is. w.live))
+
+    now_opens : (stop : Stop) (c : Cells) → IsKept marks (parts_of m.tiers).drives c → OpensBut marks (allowed stop more_killed more_cut) groups_now many_now c
+    now_opens stop c has =
+        opens_now marks table_at groups_now many_now (allowed stop more_killed more_cut) m.tiers now c refl refl (gone_are marks long (lost_of (parts_of m.tiers)) are)
+        (subst (λ (t : TiersView). Holds t now) (sym f.tiers) holds) (allowed_has stop more_killed more_cut now kc.has_now cc.has_now) has
+
+    stands_as : (stop : Stop) (i : Image) → Stands marks (recovered (seen m.vault)) i → OpensAs (allowed stop more_killed more_cut) groups_now many_now (recovered i)
+    stands_as stop i stands =
+        opens_as marks table_at groups_now many_now (allowed stop more_killed more_cut) (recovered i)
+        (opens_on marks table_at groups_now many_now (allowed stop more_killed more_cut) (recovered (seen m.vault)) (recovered i) stands (now_opens stop (recovered (seen m.vault)) kept_mid))
+
+    first : (stop : Stop) → LeavesOnly moment left_since stop p.vault m.vault _
+    first stop = run known seen may_leave moment left_since counts_now only_now p m now holds f killed cut more_killed more_cut out kc cc works stop
+
+    left_at : (t : ℕ) → t ≤ moment p.vault → (stop : Stop) (i : Image) → left_since vault stop t i
+        → (left_since p.vault stop t i → OpensAs (allowed stop more_killed more_cut) groups_now many_now (recovered i)) → OpensAs (allowed stop more_killed more_cut) groups_now many_now (recovered i)
+    left_at t le stop i left was = elim ((any_moment known_mid all_mid stop).before t i (let mid = (first stop).later in omega (arith, le, mid)) left) [
+      | inr stands ↦ stands_as stop i stands
+      | inl mid ↦ (elim ((first stop).before t i le mid) [
+        | inl before ↦ was before
+        | inr is ↦ at_moment known seen may_leave moment left_since counts_now only_now p m now holds f killed cut more_killed more_cut out kc cc works stop i is
+      ])
+    ]
+
+    later_by : moment p.vault ≤ moment vault
+    later_by = let one = (first Killed).later in let two = (any_moment known_mid all_mid Killed).later in omega (arith, one, two)
+
+    during_by : OutlastsSince left_since q (moment p.vault) more_killed more_cut
+    during_by stop i left = left_at (moment p.vault) (omega arith) stop i left (λ was.
+        old_as known seen may_leave moment left_since counts_now only_now p m now holds f killed cut more_killed more_cut out kc cc stop i (only_now p.vault out.is_known stop i was))
+
+    pub settled_outlasts : Outlasts known seen may_leave q more_killed more_cut
+    settled_outlasts = record {
+      is_known = stays known_mid;
+      leaves = λ stop i may. during_by stop i (counts_now vault (stays known_mid) stop (moment p.vault) i later_by may);
+      works = λ ok. record {
+        lost = marks;
+        few = past_all marks long (lost_of (parts_of m.tiers)) are;
+        gone = gone_are marks long (lost_of (parts_of m.tiers)) are;
+        live = live_on marks m.keeper m.noted m.batch (recovered (seen m.vault)) (recovered (seen vault)) table_at (units known_mid all_mid ok)
+            (live_wider w.lost marks sub m.keeper m.noted m.batch (recovered (seen m.vault)) (f.step out.is_known w.lost (λ is. w.live) on));
+        low = λ stop. length (seen vault).journal;
+        logged = logged known_mid all_mid ok;
+        all = refl;
+        opens = λ stop n least most. subst (λ b. OpensBut marks (allowed stop more_killed more_cut) groups_now many_now (after (seen vault).cells (flat b))) (sym (take_all n (seen vault).journal least))
+            (now_opens stop (recovered (seen vault))
+            (kept_on marks (parts_of m.tiers).drives (recovered (seen m.vault)) (recovered (seen vault)) table_at (units known_mid all_mid ok) kept_mid));
+      };
+    }
+
+    earlier_by : (t : ℕ) (since_killed since_cut : List (List ℕ)) → t ≤ moment p.vault → OutlastsSince left_since p t since_killed since_cut
+        → Within since_killed more_killed → Within since_cut more_cut → OutlastsSince left_since q t more_killed more_cut
+    earlier_by t since_killed since_cut le since k c stop i left = left_at t le stop i left (λ was. let o = since stop i was in
+        subst (λ (t : TiersView). OpensAs (allowed stop more_killed more_cut) (parts_of t).groups (length (parts_of t).drives) (recovered i)) (sym f.tiers)
+        (record { bytes = o.bytes; listed = allowed_within stop since_killed since_cut more_killed more_cut k c o.bytes o.listed; left = o.left }))
+
+  pub settled_lasts : Lasts (Outlasts known seen may_leave) (λ (r : Point V). moment r.vault) (OutlastsSince left_since) now now p q
+  settled_lasts = record {
+    later = λ killed cut out. later_by killed cut (killed ++ now ∷ now ∷ []) (cut ++ now ∷ now ∷ []) out (covering killed now now) (covering cut now now);
+    behind = λ killed cut more_killed more_cut out k c. settled_outlasts killed cut more_killed more_cut out k c;
+    during = λ killed cut more_killed more_cut out k c. during_by killed cut more_killed more_cut out k c;
+    earlier = λ t since_killed since_cut killed cut more_killed more_cut le since out wk wc k c. earlier_by killed cut more_killed more_cut out k c t since_killed since_cut le since wk wc;
+  }

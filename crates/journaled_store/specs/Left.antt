@@ -1,0 +1,24 @@
+-- What is left of an array in a vault.
+use Rattle.std.specs.Prelude.{◌≡◌, ◌⊎◌, ◌<◌, ℕ, Bool, true, Some, List, length, slice_get}
+use Rattle.extent_groups.specs.Groups.{Groups}
+use Rattle.extent_groups.specs.Cells.{Cells}
+use Rattle.array_parts.specs.Views.{DriveView}
+use Rattle.background.specs.Views.{TiersView}
+use Rattle.array_store.specs.Blocks.{Holds}
+use Rattle.vault.specs.Images.{is_lost}
+use Rattle.journaled_store.specs.Steps.{IsKept}
+
+-- a drive of an array is lost
+abbrev pub IsLostIn : List DriveView → ℕ → Type 0
+IsLostIn drives d = (v : DriveView) × (slice_get drives d ≡ Some v) × (v.lost ≡ true)
+
+-- The units of a vault are those of an array that held these bytes, with these groups and as many drives. Of some drives the vault
+-- may have other units, and each of these is absent now or was lost.
+pub record IsLeftOf (bytes : List ℕ) (groups : Groups) (count : ℕ) (absent : List Bool) (c : Cells) : Type 0 where
+  pub tiers : TiersView
+  pub holds : Holds tiers bytes
+  pub groups_are : tiers.world.array.parts.groups ≡ groups
+  pub many : length tiers.world.array.parts.drives ≡ count
+  pub lost : List Bool
+  pub kept : IsKept lost tiers.world.array.parts.drives c
+  pub excused : (d : ℕ) → d < count → is_lost lost d ≡ true → (is_lost absent d ≡ true) ⊎ IsLostIn tiers.world.array.parts.drives d
