@@ -28,12 +28,12 @@ pub adds_shows : (F G : Flat) (b : ℕ) (x : Content) (old new : List ℕ) → A
 adds_shows F G b x old new adds shows put =
     let pushed = push_shows F.groups.payload F.writes (record { block = b; version = adds.version; content = x }) old new shows put in
     let here : Shows F.groups.payload G.writes new = subst (λ ws. Shows F.groups.payload ws new) (sym adds.writes) pushed in
-    subst (λ n. Shows n G.writes new) (sym (ap (λ g. g.payload) adds.groups)) here
+    subst (λ n. Shows n G.writes new) (sym (ap (λ g. g.payload) adds.drives.groups)) here
 
 pub keeps_shows : (F G : Flat) (bytes : List ℕ) → Keeps F G → Shows F.groups.payload F.writes bytes → Shows G.groups.payload G.writes bytes
 keeps_shows F G bytes keeps shows =
     let here : Shows F.groups.payload G.writes bytes = subst (λ ws. Shows F.groups.payload ws bytes) (sym keeps.writes) shows in
-    subst (λ n. Shows n G.writes bytes) (sym (ap (λ g. g.payload) keeps.groups)) here
+    subst (λ n. Shows n G.writes bytes) (sym (ap (λ g. g.payload) keeps.drives.groups)) here
 
 -- a block that was read, and its bytes of the disk
 pub block_read : (size : ℕ) (writes : List Write) (b : ℕ) (bytes out : List ℕ) → Shows size writes bytes → out ≡ block_bytes size writes b → IsBlockOf size bytes b out

@@ -1,5 +1,5 @@
 -- What a placing makes of the last writes: a fresh content is one write more, and a copy is none.
-use Rattle.std.proofs.Common.{◌≡◌, ◌≢◌, inl, inr, ℕ, [], ◌∷◌, ◌++◌, refl, sym, ap, ◌∙◌, subst, Option, Some, None}
+use Rattle.std.proofs.Common.{◌≡◌, ◌≢◌, inl, inr, ℕ, true, List, [], ◌∷◌, ◌++◌, refl, sym, ap, ◌∙◌, subst, Option, Some, None}
 use Rattle.flat_machine.specs.declared.refusal.Refusal.{Refusal}
 use Rattle.map_join.specs.declared.records.Record.{Record}
 use Rattle.flat_machine.specs.Flat.{Flat, Write, Content, Waiting}
@@ -7,6 +7,7 @@ use Rattle.flat_machine.specs.Flat as waiting
 use Rattle.flat_machine.specs.Steps.{FlatStep, Refused, Released}
 use Rattle.flat_machine.specs.Steps as step
 use Rattle.flat_machine.specs.Cases.{Case, Leaves, Runs, CommitWith}
+use Rattle.flat_machine.specs.Shortened.{IsShortened}
 use Rattle.flat_machine.proofs.Pairs.{put_here}
 use Rattle.step_core.proofs.Worlds.{refused_leaves}
 use Rattle.background.specs.Placing.{Put, Fresh, Again, PlaceCase, PlaceStops, put_step, put_answer, back_steps, back_answers}
@@ -16,38 +17,68 @@ use Rattle.background.specs.Tiered.{Tiered}
 use Rattle.background.specs.declared.outcome.Outcome.{Outcome}
 use Rattle.background.specs.declared.outcome.Outcome.TheVariants as outcome
 
--- two states with the same groups and writes
-pub record Keeps (F G : Flat) : Type 0 where
+-- the same groups and as many drives, and a drive that was lost is lost
+pub record KeepsDrives (F G : Flat) : Type 0 where
   pub groups : G.groups ≡ F.groups
+  pub many : G.drives ≡ F.drives
+  pub lost : (d : ℕ) → F.lost d ≡ true → G.lost d ≡ true
+
+-- two states with the same groups, drives and writes
+pub record Keeps (F G : Flat) : Type 0 where
+  pub drives : KeepsDrives F G
   pub writes : G.writes ≡ F.writes
 
 -- the second state has one write more
 pub record Adds (F G : Flat) (b : ℕ) (x : Content) : Type 0 where
-  pub groups : G.groups ≡ F.groups
+  pub drives : KeepsDrives F G
   pub version : ℕ
   pub writes : G.writes ≡ F.writes ++ record { block = b; version = version; content = x } ∷ []
 
-keeps_more : (F M G : Flat) → Keeps F M → Keeps M G → Keeps F G
-keeps_more F M G a b = record { groups = b.groups ∙ a.groups; writes = b.writes ∙ a.writes }
+drives_more : (F M G : Flat) → KeepsDrives F M → KeepsDrives M G → KeepsDrives F G
+drives_more F M G a b = record { groups = b.groups ∙ a.groups; many = b.many ∙ a.many; lost = λ d was. b.lost d (a.lost d was) }
 
-keeps_same : (F G : Flat) → G ≡ F → Keeps F G
-keeps_same F G same = record { groups = ap (λ (x : Flat). x.groups) same; writes = ap (λ (x : Flat). x.writes) same }
+keeps_more : (F M G : Flat) → Keeps F M → Keeps M G → Keeps F G
+keeps_more F M G a b = record { drives = drives_more F M G a.drives b.drives; writes = b.writes ∙ a.writes }
+
+-- M has the groups and drives of F, and G is M but for drives that failed
+drives_left : (F M G : Flat) → Leaves M G → M.groups ≡ F.groups → M.drives ≡ F.drives → M.lost ≡ F.lost → KeepsDrives F G
+drives_left F M G leaves groups many lost = record {
+  groups = ap (λ (x : Flat). x.groups) leaves.same ∙ groups;
+  many = ap (λ (x : Flat). x.drives) leaves.same ∙ many;
+  lost = λ d was. (leaves.drives d).stays (ap (λ f. f d) lost ∙ was);
+}
+
+keeps_from : (F M G : Flat) → Leaves M G → M.groups ≡ F.groups → M.drives ≡ F.drives → M.lost ≡ F.lost → M.writes ≡ F.writes → Keeps F G
+keeps_from F M G leaves groups many lost writes = record {
+  drives = drives_left F M G leaves groups many lost;
+  writes = ap (λ (x : Flat). x.writes) leaves.same ∙ writes;
+}
 
 pub keeps_left : (F G : Flat) → Leaves F G → Keeps F G
-keeps_left F G leaves = record { groups = ap (λ (x : Flat). x.groups) leaves.same; writes = ap (λ (x : Flat). x.writes) leaves.same }
+keeps_left F G leaves = keeps_from F F G leaves refl refl refl refl
+
+-- a state with another log
+keeps_logged : (F : Flat) (log : List Record) → Keeps F (record F { emitted = log })
+keeps_logged F log = record { drives = record { groups = refl; many = refl; lost = λ d was. was }; writes = refl }
+
+pub keeps_shortened : (F G : Flat) → IsShortened F G → Keeps F G
+keeps_shortened F G short = subst (Keeps F) (sym short.is) (keeps_logged F G.emitted)
+
+pub keeps_same : (F G : Flat) → G ≡ F → Keeps F G
+keeps_same F G same = subst (Keeps F) (sym same) (keeps_logged F F.emitted)
 
 keeps_claimed : (F G : Flat) (w s t : ℕ) → Case F (step.Claim w s) (step.Claimed t) G → Keeps F G
-keeps_claimed F G w s t case = record { groups = ap (λ (x : Flat). x.groups) case.2.same; writes = ap (λ (x : Flat). x.writes) case.2.same }
+keeps_claimed F G w s t case = keeps_from F _ G case.2 refl refl refl refl
 
 keeps_released : (F G : Flat) (w s t : ℕ) → Case F (step.Release w s) (Released t) G → Keeps F G
-keeps_released F G w s t case = record { groups = ap (λ (x : Flat). x.groups) case.2.same; writes = ap (λ (x : Flat). x.writes) case.2.same }
+keeps_released F G w s t case = keeps_from F _ G case.2 refl refl refl refl
 
 keeps_discarded : (F G : Flat) (w s t : ℕ) → Case F (step.Discard w s) (step.Discarded t) G → Keeps F G
-keeps_discarded F G w s t case = record { groups = ap (λ (x : Flat). x.groups) case.2.same; writes = ap (λ (x : Flat). x.writes) case.2.same }
+keeps_discarded F G w s t case = keeps_from F _ G case.2 refl refl refl refl
 
 keeps_put : (F G : Flat) (what : Put) (w s b : ℕ) → Case F (put_step what w s b) (put_answer what s) G → Keeps F G
-keeps_put F G (Fresh x) w s b case = record { groups = ap (λ (x : Flat). x.groups) case.3.same; writes = ap (λ (x : Flat). x.writes) case.3.same }
-keeps_put F G Again w s b case = record { groups = ap (λ (x : Flat). x.groups) case.1.6.same; writes = ap (λ (x : Flat). x.writes) case.1.6.same }
+keeps_put F G (Fresh x) w s b case = keeps_from F _ G case.3 refl refl refl refl
+keeps_put F G Again w s b case = keeps_from F _ G case.1.6 refl refl refl refl
 
 keeps_refused : (F G : Flat) (taken : FlatStep) (k : Refusal) → Case F taken (Refused k) G → Keeps F G
 keeps_refused F G taken k case = keeps_left F G (refused_leaves F G taken k case)
@@ -63,14 +94,14 @@ keeps_back F G w (Some old) run = keeps_given F G w old.place run
 commit_adds : (F G : Flat) (w s b : ℕ) (r : Record) (x : Content) → F.tickets s ≡ Some (waiting.Fresh x) → Case F (step.Commit w s b) (step.Committed r) G → Adds F G b x
 commit_adds F G w s b r x at case =
     let with = subst (λ c. CommitWith F w s b case.2.0 c (step.Committed r) G) at case.2.2 in
-    record { groups = ap (λ (x : Flat). x.groups) with.4.same; version = _; writes = ap (λ (x : Flat). x.writes) with.4.same }
+    record { drives = drives_left F _ G with.4 refl refl refl; version = _; writes = ap (λ (x : Flat). x.writes) with.4.same }
 
 -- a commit of a copy is none
 commit_keeps : (F G : Flat) (w s b : ℕ) (r : Record) (c v h : ℕ) (x : Content) → F.tickets s ≡ Some (waiting.Moved c v h x) → Case F (step.Commit w s b) (step.Committed r) G
     → Keeps F G
 commit_keeps F G w s b r c v h x at case =
     let with = subst (λ o. CommitWith F w s b case.2.0 o (step.Committed r) G) at case.2.2 in
-    record { groups = ap (λ (x : Flat). x.groups) with.4.same; writes = ap (λ (x : Flat). x.writes) with.4.same }
+    keeps_from F _ G with.4 refl refl refl refl
 
 -- what waits at a slot after a fill, and after a copy
 fill_waits : (F G : Flat) (w s : ℕ) (x : Content) → Case F (step.Fill w s x) (step.Filled s) G → G.tickets s ≡ Some (waiting.Fresh x)
@@ -107,7 +138,7 @@ refused_keeps F G w s b what k (inr run) =
 -- a write that lies between states that keep the writes
 adds_between : (F H I G : Flat) (b : ℕ) (x : Content) → Keeps F H → Adds H I b x → Keeps I G → Adds F G b x
 adds_between F H I G b x before is after = record {
-  groups = after.groups ∙ is.groups ∙ before.groups;
+  drives = drives_more F I G (drives_more F H I before.drives is.drives) after.drives;
   version = is.version;
   writes = after.writes ∙ is.writes ∙ ap (λ ws. ws ++ record { block = b; version = is.version; content = x } ∷ []) before.writes;
 }
@@ -142,6 +173,12 @@ again_keeps F G w s b outcome.Nothing case = absurd case
 abbrev pub Wrote : Outcome → Flat → Flat → ℕ → Content → Type 0
 Wrote (outcome.Placed r) F G b x = Adds F G b x
 Wrote _ F G b x = Keeps F G
+
+pub wrote_drives : (o : Outcome) (F G : Flat) (b : ℕ) (x : Content) → Wrote o F G b x → KeepsDrives F G
+wrote_drives (outcome.Placed r) F G b x is = is.drives
+wrote_drives (outcome.Refused k) F G b x is = is.drives
+wrote_drives outcome.NoRoom F G b x is = is.drives
+wrote_drives outcome.Nothing F G b x is = is.drives
 
 wrote_after : (o : Outcome) (F M G : Flat) (b : ℕ) (x : Content) → Keeps F M → Wrote o M G b x → Wrote o F G b x
 wrote_after (outcome.Placed r) F M G b x before is = adds_between F M G G b x before is (keeps_same G G refl)

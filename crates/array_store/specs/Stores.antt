@@ -1,5 +1,6 @@
 -- A store of an array, as a caller sees it, and when it represents a flat store.
-use Rattle.std.specs.Prelude.{◌≡◌, ℕ, Bool, length}
+use Rattle.std.specs.Prelude.{◌≡◌, ℕ, Bool, true, length}
+use Rattle.array_parts.specs.Views.{lost_of}
 use Rattle.byte_store.specs.Flat.{Flat}
 use Rattle.background.specs.Views.{TiersView}
 use Rattle.array_store.specs.Blocks.{Holds}
@@ -15,3 +16,9 @@ pub record IsStoreOf (tiers : TiersView) (size : ℕ) (unsynced : Bool) (F : Fla
   pub holds : Holds tiers F.bytes
   pub long : length F.bytes ≡ size
   pub noted : F.unsynced ≡ unsynced
+
+-- what each call leaves as it is: the same groups and as many drives, and a drive that was lost is lost
+pub record Follows (old new : TiersView) : Type 0 where
+  pub groups : new.world.array.parts.groups ≡ old.world.array.parts.groups
+  pub many : length new.world.array.parts.drives ≡ length old.world.array.parts.drives
+  pub lost : (d : ℕ) → lost_of old.world.array.parts d ≡ true → lost_of new.world.array.parts d ≡ true

@@ -5,6 +5,7 @@ ghost use Rattle.flat_machine.specs.Flat.{bytes_of};
 ghost use Rattle.background.specs.Placing.{IsGivenFor, content_of};
 ghost use Rattle.array_store.specs.Blocks.{Holds, IsBlockOf, IsPiece, IsPut};
 ghost use Rattle.array_store.specs.Faults.{fault_of};
+ghost use Rattle.array_store.specs.Stores.{Follows};
 ghost use Rattle.byte_store.specs.Flat.{written_over};
 
 use background::{Outcome, Tiers};
@@ -33,6 +34,7 @@ fn read_block<D: Drive>(tiers: &mut Tiers<D>, block: u32, out: &mut [u8]) -> Res
     ensures read { OnOk result ((bytes : List ℕ) → Holds tiers.old bytes → IsBlockOf (length out.old) bytes block out.new) }
     ensures kept { (bytes : List ℕ) → Holds tiers.old bytes → Holds tiers.new bytes }
     ensures room { SameSizes tiers.old.world.array tiers.new.world.array }
+    ensures stays { (bytes : List ℕ) → Holds tiers.old bytes → Follows tiers.old tiers.new }
 {
     match tiers.read_into(block, out) {
         Ok(Some(_version)) => Ok(()),
@@ -59,6 +61,7 @@ fn put<D: Drive>(
         → Holds tiers.new new) }
     ensures kept { OnErr result ((bytes : List ℕ) → Holds tiers.old bytes → Holds tiers.new bytes) }
     ensures room { SameSizes tiers.old.world.array tiers.new.world.array }
+    ensures stays { (bytes : List ℕ) → Holds tiers.old bytes → Follows tiers.old tiers.new }
 {
     match tiers.write_always(alloc, block, given) {
         Ok(Outcome::Placed(_record)) => Ok(()),
@@ -73,6 +76,7 @@ fn put<D: Drive>(
 pub(crate) fn make_spare<D: Drive>(alloc: Global, tiers: &mut Tiers<D>)
     ensures kept { (bytes : List ℕ) → Holds tiers.old bytes → Holds tiers.new bytes }
     ensures room { SameSizes tiers.old.world.array tiers.new.world.array }
+    ensures stays { (bytes : List ℕ) → Holds tiers.old bytes → Follows tiers.old tiers.new }
 {
     // Where no slot can be made free, or memory is out, the next write makes room or is refused.
     let _ = tiers.make_spare(alloc);
@@ -82,6 +86,7 @@ pub(crate) fn make_spare<D: Drive>(alloc: Global, tiers: &mut Tiers<D>)
 pub(crate) fn shorten_log<D: Drive>(alloc: Global, tiers: &mut Tiers<D>)
     ensures kept { (bytes : List ℕ) → Holds tiers.old bytes → Holds tiers.new bytes }
     ensures room { SameSizes tiers.old.world.array tiers.new.world.array }
+    ensures stays { (bytes : List ℕ) → Holds tiers.old bytes → Follows tiers.old tiers.new }
 {
     let array = tiers.world().array();
     let most = array.shape().blocks as usize * 4 + LEAST_RECORDS;
@@ -108,6 +113,7 @@ pub(crate) fn read_piece<D: Drive>(
         → IsPiece bytes (block * length buffer.old + from) out.new) }
     ensures kept { (bytes : List ℕ) → Holds tiers.old bytes → Holds tiers.new bytes }
     ensures room { SameSizes tiers.old.world.array tiers.new.world.array }
+    ensures stays { (bytes : List ℕ) → Holds tiers.old bytes → Follows tiers.old tiers.new }
 {
     let count = out.len();
     if count == buffer.len() {
@@ -136,6 +142,7 @@ pub(crate) fn write_piece<D: Drive>(
         → Holds tiers.new (written_over bytes (block * length buffer.old + from) part.now)) }
     ensures kept { OnErr result ((bytes : List ℕ) → Holds tiers.old bytes → Holds tiers.new bytes) }
     ensures room { SameSizes tiers.old.world.array tiers.new.world.array }
+    ensures stays { (bytes : List ℕ) → Holds tiers.old bytes → Follows tiers.old tiers.new }
 {
     if part.len() == buffer.len() {
         return put(alloc, tiers, block, Given::Payload(part));
@@ -163,6 +170,7 @@ pub(crate) fn zero_piece<D: Drive>(
         → Holds tiers.new (written_over bytes (block * length buffer.old + from) (replicate count 0))) }
     ensures kept { OnErr result ((bytes : List ℕ) → Holds tiers.old bytes → Holds tiers.new bytes) }
     ensures room { SameSizes tiers.old.world.array tiers.new.world.array }
+    ensures stays { (bytes : List ℕ) → Holds tiers.old bytes → Follows tiers.old tiers.new }
 {
     if count == buffer.len() {
         return put(alloc, tiers, block, Given::Trim);

@@ -3,7 +3,7 @@ ghost use Rattle.std.specs.Prelude.{◌≡◌, ◌+◌, ◌*◌, ◌<◌, ◌≤
 ghost use Rattle.byte_store.specs.Flat.{Flat, Sizes, written_over};
 ghost use Rattle.byte_store.specs.Changes.{IsChanged, IsFlushed};
 ghost use Rattle.array_store.specs.Blocks.{Holds};
-ghost use Rattle.array_store.specs.Stores.{IsStoreOf};
+ghost use Rattle.array_store.specs.Stores.{Follows, IsStoreOf};
 ghost use Rattle.background.specs.Views.{TiersView};
 
 use crate::block::{make_spare, read_piece, shorten_log, write_piece, zero_piece};
@@ -67,6 +67,8 @@ impl<D: Drive> ByteStore for Disk<D> {
     ghost represents = { λ s. IsStoreOf s.tiers s.size s.unsynced };
 
     ghost sizes = { λ s. record { bytes = s.size; block = s.tiers.world.array.parts.groups.payload } };
+
+    ghost stays = { λ s t. Follows s.tiers t.tiers };
 
     fn size(&self) -> u64 {
         self.size

@@ -2,6 +2,7 @@ use Rattle.std.proofs.Common.{◌≡◌, ◌+◌, ◌*◌, ◌≤◌, ℕ, lengt
 use Rattle.std.proofs.lemmas.List.{length-replicate}
 use Rattle.byte_store.specs.Flat.{written_over}
 use Rattle.array_store.specs.Blocks.{IsPut}
+use Rattle.array_store.proofs.Holding.{follows_more}
 use Rattle.array_store.proofs.Pieces.{on_ok, patch_put, zero_put}
 use Rattle.array_store.proofs.block.zero_piece.Goals as goal
 
@@ -32,3 +33,7 @@ returns-clause-put g c =
     let patched = patch_put (length a.buffer.now) a.block a.from bytes block (replicate a.count 0) c.requires.some (c.in_ok-read_block.ensures.read bytes holds) same fits ends in
     let held : IsPut (length a.buffer.now) bytes a.block c.clear.new.held new = subst (λ h. IsPut (length a.buffer.now) bytes a.block h new) (sym c.clear.ensures) patched in
     put bytes new (c.in_ok-read_block.ensures.kept bytes holds) (subst (λ n. IsPut n bytes a.block c.clear.new.held new) payload held)) c.put-2.ensures.put
+
+pub returns-clause-stays : goal.returns-clause-stays
+returns-clause-stays g c = λ bytes holds.
+    follows_more _ _ _ (c.in_ok-read_block.ensures.stays bytes holds) (c.put-2.ensures.stays bytes (c.in_ok-read_block.ensures.kept bytes holds))

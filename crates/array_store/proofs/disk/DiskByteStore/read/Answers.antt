@@ -2,6 +2,7 @@ use Rattle.std.proofs.Common.{rules, ◌≡◌, ◌+◌, ◌-◌, ◌*◌, ◌<�
 use Rattle.std.proofs.lemmas.List.{places, drop-drop}
 use borrow.Rule.Slice.PartMut.{put_mid}
 use Rattle.byte_store.specs.Flat.{written_over}
+use Rattle.array_store.proofs.Holding.{follows_more}
 use Rattle.array_store.proofs.Loops.{read_all, read_more, read_part}
 use Rattle.array_store.proofs.Over.{over_long}
 use Rattle.array_store.proofs.disk.DiskByteStore.read.Goals as goal
@@ -40,6 +41,8 @@ loop-done-preserved g c =
           let lower : k < c.loop-done.done + length c.read_piece.new.out = omega (arith, long, below) in
           ap (λ xs. slice_index xs k) over ∙ read_more bytes c.loop-done.out c.read_piece.new.out c.args.offset c.loop-done.done _ fits at piece
           (c.loop-done.invariant.read bytes holds is) k lower;
+      stays = λ bytes holds.
+          follows_more _ _ _ (c.loop-done.invariant.stays bytes holds) (c.in_ok-read_piece.ensures.stays bytes (c.loop-done.invariant.kept bytes holds));
     }
 
 pub returns-clause-value : goal.returns-clause-value
@@ -53,3 +56,10 @@ returns-clause-value g c = λ F is.
     let read = c.loop-done.invariant.read F.bytes is.holds is.long in
     read_all F.bytes c.loop-done.out c.args.offset (length c.args.out.now) same (omega (arith, within, bytes))
     (λ k below. let low : k < c.loop-done.done = omega (arith, done, below) in read k low)
+
+pub returns-in_err-read_piece-clause-stays : goal.returns-in_err-read_piece-clause-stays
+returns-in_err-read_piece-clause-stays g c = λ F is.
+    follows_more _ _ _ (c.loop-done.invariant.stays F.bytes is.holds) (c.in_err-read_piece.ensures.stays _ (c.loop-done.invariant.kept F.bytes is.holds))
+
+pub returns-clause-stays : goal.returns-clause-stays
+returns-clause-stays g c = λ F is. c.loop-done.invariant.stays F.bytes is.holds

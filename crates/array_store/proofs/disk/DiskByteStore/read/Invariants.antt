@@ -1,6 +1,7 @@
 use Rattle.std.proofs.Common.{length, slice_index, ◌-◌, ◌≡◌, ◌+◌, ◌<◌, ◌≤◌, ℕ, List}
 use Rattle.slot_tables.specs.Views.{SameSizes}
 use Rattle.array_store.specs.Blocks.{Holds}
+use Rattle.array_store.specs.Stores.{Follows}
 use Rattle.array_store.proofs.disk.DiskByteStore.read.Given as goal
 
 -- so many bytes are read, and the disk's bytes are as before
@@ -14,6 +15,7 @@ invariant-loop-done g l = record {
   kept : (bytes : List ℕ) → Holds l.initial.self.tiers bytes → Holds l.self.tiers bytes;
   read : (bytes : List ℕ) → Holds l.initial.self.tiers bytes → length bytes ≡ l.initial.self.size
       → (k : ℕ) → k < l.done → slice_index l.out k ≡ slice_index bytes (l.offset + k);
+  stays : (bytes : List ℕ) → Holds l.initial.self.tiers bytes → Follows l.initial.self.tiers l.self.tiers;
 }
 
 abbrev pub decreases-loop-done : goal.decreases-loop-done

@@ -1,3 +1,4 @@
+use Rattle.array_store.proofs.Holding.{follows_more}
 use Rattle.array_store.proofs.disk.DiskByteStore.rest.Goals as goal
 
 pub returns-clause-kept : goal.returns-clause-kept
@@ -6,3 +7,7 @@ returns-clause-kept g c = λ F is. record {
   long = is.long;
   noted = is.noted;
 }
+
+pub returns-clause-stays : goal.returns-clause-stays
+returns-clause-stays g c = λ F is.
+    follows_more _ _ _ (c.make_spare.ensures.stays F.bytes is.holds) (c.shorten_log.ensures.stays F.bytes (c.make_spare.ensures.kept F.bytes is.holds))

@@ -3,6 +3,7 @@ use Rattle.std.proofs.lemmas.List.{places, length-take-le, get_or-take, take_all
 use Rattle.std.proofs.lemmas.Result.{err_from_is_err_and}
 use Rattle.byte_store.specs.Flat.{written_over}
 use Rattle.array_store.specs.Blocks.{Holds}
+use Rattle.array_store.proofs.Holding.{follows_more}
 use Rattle.array_store.proofs.Loops.{write_more, torn}
 use Rattle.array_store.proofs.Over.{over_long}
 use Rattle.array_store.proofs.disk.DiskByteStore.write.Goals as goal
@@ -35,6 +36,8 @@ loop-done-preserved g c =
           (let part : length (take (c.loop-done.done + c.piece_at-piece.result.count - c.loop-done.done) (drop c.loop-done.done c.args.bytes.now)) ≡ c.piece_at-piece.result.count =
           length-take-le _ _ (let rest = length-drop c.loop-done.done c.args.bytes.now in omega arith) ∙ omega arith in omega (arith, part, len_first, len_all))
           (λ j below. let low : j < c.loop-done.done = omega (arith, len_first, below) in search (rules, places)) (λ j below. search (rules, places));
+      stays = λ bytes holds is.
+          follows_more _ _ _ (c.loop-done.invariant.stays bytes holds is) (c.in_ok-write_piece.ensures.stays _ (c.loop-done.invariant.wrote bytes holds is));
     }
 
 pub returns-in_err-write_piece-clause-change : goal.returns-in_err-write_piece-clause-change
@@ -77,3 +80,7 @@ returns-clause-change g c = λ F is.
       },
       record { bytes_are = refl; unsynced = refl },
     )
+
+pub returns-in_err-write_piece-clause-stays : goal.returns-in_err-write_piece-clause-stays
+returns-in_err-write_piece-clause-stays g c = λ F is.
+    follows_more _ _ _ (c.loop-done.invariant.stays F.bytes is.holds is.long) (c.in_err-write_piece.ensures.stays _ (c.loop-done.invariant.wrote F.bytes is.holds is.long))

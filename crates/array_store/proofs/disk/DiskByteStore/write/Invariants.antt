@@ -2,6 +2,7 @@ use Rattle.std.proofs.Common.{length, take, ◌-◌, ◌≡◌, ◌≤◌, ℕ, 
 use Rattle.slot_tables.specs.Views.{SameSizes}
 use Rattle.byte_store.specs.Flat.{written_over}
 use Rattle.array_store.specs.Blocks.{Holds}
+use Rattle.array_store.specs.Stores.{Follows}
 use Rattle.array_store.proofs.disk.DiskByteStore.write.Given as goal
 
 -- so many bytes are written
@@ -13,6 +14,7 @@ invariant-loop-done g l = record {
   noted : l.self.unsynced ≡ true;
   wrote : (bytes : List ℕ) → Holds l.initial.self.tiers bytes → length bytes ≡ l.initial.self.size
       → Holds l.self.tiers (written_over bytes l.offset (take l.done l.bytes));
+  stays : (bytes : List ℕ) → Holds l.initial.self.tiers bytes → length bytes ≡ l.initial.self.size → Follows l.initial.self.tiers l.self.tiers;
 }
 
 abbrev pub decreases-loop-done : goal.decreases-loop-done

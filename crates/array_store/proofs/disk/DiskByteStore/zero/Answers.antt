@@ -3,6 +3,7 @@ use Rattle.std.proofs.lemmas.List.{places, length-replicate}
 use Rattle.std.proofs.lemmas.Result.{err_from_is_err_and}
 use Rattle.byte_store.specs.Flat.{written_over}
 use Rattle.array_store.specs.Blocks.{Holds}
+use Rattle.array_store.proofs.Holding.{follows_more}
 use Rattle.array_store.proofs.Loops.{write_more, torn}
 use Rattle.array_store.proofs.Over.{over_long}
 use Rattle.array_store.proofs.disk.DiskByteStore.zero.Goals as goal
@@ -35,6 +36,8 @@ loop-done-preserved g c =
           (let part : length (replicate {A = ℕ} c.piece_at-piece.result.count 0) ≡ c.piece_at-piece.result.count = length-replicate c.piece_at-piece.result.count _ in
           omega (arith, part, len_first, len_all))
           (λ j below. search (rules, places)) (λ j below. search (rules, places));
+      stays = λ bytes holds is.
+          follows_more _ _ _ (c.loop-done.invariant.stays bytes holds is) (c.in_ok-zero_piece.ensures.stays _ (c.loop-done.invariant.wrote bytes holds is));
     }
 
 pub returns-in_err-zero_piece-clause-change : goal.returns-in_err-zero_piece-clause-change
@@ -77,3 +80,7 @@ returns-clause-change g c = λ F is.
       },
       record { bytes_are = refl; unsynced = refl },
     )
+
+pub returns-in_err-zero_piece-clause-stays : goal.returns-in_err-zero_piece-clause-stays
+returns-in_err-zero_piece-clause-stays g c = λ F is.
+    follows_more _ _ _ (c.loop-done.invariant.stays F.bytes is.holds is.long) (c.in_err-zero_piece.ensures.stays _ (c.loop-done.invariant.wrote F.bytes is.holds is.long))
