@@ -1,6 +1,8 @@
 -- What a stop leaves after a store's calls.
 use Rattle.std.proofs.Common.{◌≡◌, ◌<◌, ◌≤◌, ◌⊎◌, inl, inr, ⊎_elim, ℕ, arith, Bool, true, false, List, [], ◌∷◌, ◌++◌, length, take, refl, sym, ◌∙◌, ap, subst}
-use Rattle.std.specs.Prelude.{Contains}
+use Rattle.std.specs.Prelude.{Contains, Result, Ok, Err, OnOk, is_err, is_ok}
+use Rattle.byte_store.specs.declared.fault.StoreFault.{StoreFault}
+use Rattle.byte_store.specs.declared.fault.StoreFault.TheVariants as StoreFault
 use Rattle.std.proofs.lemmas.Bool.{true≢false}
 use Rattle.std.proofs.lemmas.List.{take_all}
 use Rattle.extent_groups.specs.Groups.{Groups}
@@ -12,14 +14,14 @@ use Rattle.background.specs.Views.{TiersView}
 use Rattle.array_store.specs.Blocks.{Holds}
 use Rattle.array_store.specs.Stores.{Follows}
 use Rattle.byte_store.specs.Lasting.{Acknowledges, Covers, Flushes, Lasts, Within}
-use Rattle.byte_store.proofs.Lasts.{covering}
+use Rattle.byte_store.proofs.Lasts.{covering, lasts_ahead}
 use Rattle.vault.specs.Images.{Image, flat, is_lost, recovered}
 use Rattle.vault.specs.Moments.{IsLogged, LeavesOnly, StandsForSome}
 use Rattle.vault.specs.declared.store.Stop.{Stop}
 use Rattle.vault.specs.declared.store.Stop.TheVariants.{Killed, PowerLost}
 use Rattle.vault.proofs.Runs.{weaker}
 use Rattle.array_parts.specs.Views.{DriveView, lost_of}
-use Rattle.journaled_store.specs.Steps.{IsBeforeOrNow, IsKept, IsLive, UnlessFailed}
+use Rattle.journaled_store.specs.Steps.{IsBeforeOrNow, IsKept, IsLive, UnlessFailed, UnlessSync, is_sync}
 use Rattle.journaled_store.specs.Outlasting.{OpensAs, OpensBut, Outlasts, OutlastsSince, Point, Works, allowed, parts_of}
 use Rattle.journaled_store.proofs.Opening.{alone, one_of, opens_as, opens_either, opens_left, opens_more, opens_now, opens_on}
 
@@ -36,9 +38,32 @@ allowed_has Killed killed cut b k c = k
 allowed_has PowerLost killed cut b k c = c
 
 -- how many batches a stop leaves at least, where a kill leaves all
-least : ℕ → ℕ → Stop → ℕ
+abbrev least : ℕ → ℕ → Stop → ℕ
 least all cut Killed = all
 least all cut PowerLost = cut
+
+pub follows_same : (t : TiersView) → Follows t t
+follows_same t = record { groups = refl; many = refl; lost = λ d is. is }
+
+-- a call by whether its journal failed
+pub unless_sync : (r : Result (Unit {0}) StoreFault) (P : Type 0) → UnlessSync r P → is_sync r ≡ false → P
+unless_sync (Ok x) P p not = p
+unless_sync (Err StoreFault.Sync) P p not = absurd (true≢false not)
+unless_sync (Err StoreFault.NoSpace) P p not = p
+unless_sync (Err StoreFault.Gone) P p not = p
+unless_sync (Err StoreFault.Memory) P p not = p
+
+pub ok_not_sync : (r : Result (Unit {0}) StoreFault) → is_ok r ≡ true → is_sync r ≡ false
+ok_not_sync (Ok x) is = refl
+ok_not_sync (Err e) is = absurd (true≢false (sym is))
+
+pub ok_not_err : {T E : Type 0} (r : Result T E) → is_ok r ≡ true → is_err r ≡ false
+ok_not_err (Ok x) is = refl
+ok_not_err (Err e) is = absurd (true≢false (sym is))
+
+pub on_ok_by : {T E P : Type 0} (r : Result T E) → (is_ok r ≡ true → P) → OnOk r P
+on_ok_by (Ok x) p = p refl
+on_ok_by (Err e) p = tt
 
 -- what one batch more says of a store
 pub record Published {V : Type 0} (known : V → Type 0) (seen : V → Image) (may_leave : V → Stop → Image → Type 0) (moment : V → ℕ) (left_since : V → Stop → ℕ → Image → Type 0)
@@ -116,6 +141,28 @@ module _ {V : Type 0} (known : V → Type 0) (seen : V → Image) (may_leave : V
           (λ stop i left. out.leaves stop i (only_now p.vault out.is_known stop i left));
       earlier = λ t since_killed since_cut killed cut more_killed more_cut le since out wk wc k c. moved_since t since_killed since_cut more_killed more_cut wk wc since;
     }
+
+  -- the array was called, and then something else
+  abbrev pub with_tiers : Point V → TiersView → Point V
+  with_tiers p t = record { keeper = p.keeper; noted = p.noted; batch = p.batch; failed = p.failed; tiers = t; vault = p.vault }
+
+  pub array_lasts : (p : Point V) (t : TiersView) (q : Point V) (before now : List ℕ) → Follows p.tiers t
+      → Lasts (Outlasts known seen may_leave) (λ (r : Point V). moment r.vault) (OutlastsSince left_since) now now (with_tiers p t) q
+      → Lasts (Outlasts known seen may_leave) (λ (r : Point V). moment r.vault) (OutlastsSince left_since) before now p q
+  array_lasts p t q before now follows lasts =
+      lasts_ahead (Outlasts known seen may_leave) (λ (r : Point V). moment r.vault) (OutlastsSince left_since) before now p (with_tiers p t) q
+      (moved_lasts p (with_tiers p t) refl follows (λ on. on) (λ lost cells live. live) before now) lasts
+
+  pub array_acknowledges : (p : Point V) (t : TiersView) (q : Point V) (before now : List ℕ) → Follows p.tiers t
+      → Acknowledges (Outlasts known seen may_leave) now now (with_tiers p t) q → Acknowledges (Outlasts known seen may_leave) before now p q
+  array_acknowledges p t q before now follows acknowledges killed cut more_cut out c =
+      acknowledges killed cut more_cut (moved p (with_tiers p t) refl follows (λ on. on) (λ lost cells live. live) killed cut killed cut out (λ b has. has) (λ b has. has))
+      (record { each = c.each; has_before = c.has_now; has_now = c.has_now })
+
+  pub array_flushes : (p : Point V) (t : TiersView) (q : Point V) (now : List ℕ) → Follows p.tiers t
+      → Flushes (Outlasts known seen may_leave) now (with_tiers p t) q → Flushes (Outlasts known seen may_leave) now p q
+  array_flushes p t q now follows flushes killed cut out =
+      flushes killed cut (moved p (with_tiers p t) refl follows (λ on. on) (λ lost cells live. live) killed cut killed cut out (λ b has. has) (λ b has. has))
 
   -- a store that has all that its drives hold
   module _ (q : Point V) (now : List ℕ) (holds : Holds q.tiers now) (killed cut : List (List ℕ)) (is_known : known q.vault) (w : Works seen may_leave q killed cut)
@@ -287,6 +334,7 @@ module _ {V : Type 0} (known : V → Type 0) (seen : V → Image) (may_leave : V
 
       pub published_acknowledges : (killed cut more_cut : List (List ℕ)) → Outlasts known seen may_leave p killed cut → Covers more_cut cut now now
           → Outlasts known seen may_leave q (now ∷ []) more_cut
+      unfolding works_on
       published_acknowledges killed cut more_cut out c =
           let works = works_before on in
           acknowledged q now holds_now (killed ++ now ∷ now ∷ []) more_cut (f.stays out.is_known)
@@ -347,7 +395,7 @@ module _ {V : Type 0} (known : V → Type 0) (seen : V → Image) (may_leave : V
       };
     }
       where
-        abbrev w : Works seen may_leave m killed cut
+        w : Works seen may_leave m killed cut
         w = out.works on
 
         all : (stop : Stop) → IsLogged seen may_leave w.lost stop q.vault (length (seen q.vault).journal)

@@ -5,4 +5,4 @@ pub mod Storing
 pub mod Settled
 pub mod Opening
 pub mod Lasting
-pub mod Settling
+pub mod SettledLasting

@@ -61,6 +61,10 @@ module _ {E : Type 0} (was now : StoreView) (unsynced : Bool) (r : Result (Unit 
         changed_over r F made.0 was.unsynced offset bytes long made.2,
       )
 
+-- what a store is that was published, and before it
+pub published_store : (was now : StoreView) (u w : Bool) (F : Flat) → now ≡ was → w ≡ u → IsStoreOf now.tiers now.size w F → IsStoreOf was.tiers was.size u F
+published_store was now u w F same note is = subst (λ (s : StoreView). IsStoreOf s.tiers s.size u F) same (subst (λ b. IsStoreOf now.tiers now.size b F) note is)
+
 -- stores that are the same in each part
 pub same_parts : (was now : StoreView) → (now.tiers ≡ was.tiers) × (now.size ≡ was.size) × (now.unsynced ≡ was.unsynced) → now ≡ was
 same_parts was now same =

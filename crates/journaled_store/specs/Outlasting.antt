@@ -6,6 +6,7 @@ use Rattle.extent_groups.specs.Planned.{Wanted, after}
 use Rattle.array_parts.specs.Views.{PartsView, lost_of}
 use Rattle.background.specs.Views.{TiersView}
 use Rattle.history.specs.Entries.{Course}
+use Rattle.history.specs.declared.naming.Chronicle.{Ghosts}
 use Rattle.cached_drive.specs.Saving.{Units}
 use Rattle.array_store.specs.Blocks.{Holds}
 use Rattle.vault.specs.Images.{Image, flat, is_lost, recovered}
@@ -47,7 +48,7 @@ pub record Point (V : Type 0) : Type 0 where
   pub tiers : TiersView
   pub vault : V
 
-abbrev pub point : {N V : Type 0} → JournaledStore N V → Point V
+abbrev pub point : {N V : Type 0} {names : Ghosts N} → JournaledStore N V names → Point V
 point s = record { keeper = s.changes.keeper; noted = s.changes.noted; batch = s.changes.batch; failed = s.failed; tiers = s.store.tiers; vault = s.vault }
 
 abbrev pub parts_of : TiersView → PartsView

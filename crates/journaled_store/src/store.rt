@@ -1,5 +1,5 @@
 // The bytes of a disk, each change of which is kept by a vault.
-ghost use Rattle.std.specs.Prelude.{◌≡◌, ◌+◌, ◌≤◌, ℕ, List, Bool, length, replicate, false, OnOk};
+ghost use Rattle.std.specs.Prelude.{◌≡◌, ◌+◌, ◌≤◌, ℕ, List, Bool, length, replicate, false, true, OnOk};
 ghost use Rattle.byte_store.specs.Flat.{Flat};
 ghost use Rattle.byte_store.specs.Changes.{IsChanged, IsFlushed};
 ghost use Rattle.byte_store.specs.Lasting.{Acknowledges, Flushes, Lasts};

@@ -88,6 +88,20 @@ returns-in-Err-clause-any_moment g c known lost live stop low is =
 pub returns-then-is_empty-clause-batches : goal.returns-then-is_empty-clause-batches
 returns-then-is_empty-clause-batches g c known lost live low i some = inl some
 
+pub returns-then-not-collect-clause-batches : goal.returns-then-not-collect-clause-batches
+returns-then-not-collect-clause-batches g c known lost live low i some = inl some
+
+pub returns-in-Err-clause-batches : goal.returns-in-Err-clause-batches
+returns-in-Err-clause-batches g c known lost live =
+    let v = g.V.Vault in
+    let base = v.seen c.args.vault.now in
+    let now = v.seen c.append.new.vault in
+    let drives = c.args.store.now.tiers.world.array.parts.drives in
+    let P : Type 0 = (low : ℕ) (i : Image) → StandsForSome lost now.cells low now.journal i → IsBeforeOrNow lost base low drives i in
+    subst (λ (f : StoreFault). UnlessSync (Err f) P) (sym c.fault_of.ensures)
+    (unless_refused P c.append.result c.in-Err.error c.in-Err.is (λ refused low i some.
+    inl (subst (λ (s : Image). StandsForSome lost s.cells low s.journal i) (c.append.ensures.refused known refused).finds some)))
+
 pub returns-in-Ok-clause-batches : goal.returns-in-Ok-clause-batches
 returns-in-Ok-clause-batches g c known lost live low i some =
     let v = g.V.Vault in

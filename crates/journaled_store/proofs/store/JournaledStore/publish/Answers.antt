@@ -1,12 +1,14 @@
-use Rattle.std.proofs.Common.{◌≡◌, false, refl, arith, sym, ap, subst, ◌∙◌}
+use Rattle.std.proofs.Common.{refl, arith, sym, subst, ◌∙◌}
+use Rattle.std.proofs.lemmas.Bool.{true≢false}
 use Rattle.vault.specs.Moments.{LeavesOnly}
 use Rattle.background.specs.Views.{TiersView}
 use Rattle.vault.proofs.Runs.{started}
-use Rattle.journaled_store.specs.Steps.{IsBeforeOrNow}
+use Rattle.vault.specs.Images.{recovered}
+use Rattle.journaled_store.specs.Steps.{IsBeforeOrNow, IsKept}
 use Rattle.array_store.specs.Stores.{StoreView}
-use Rattle.journaled_store.specs.Outlasting.{Point}
-use Rattle.journaled_store.proofs.Batching.{logged_now}
-use Rattle.journaled_store.proofs.Lasting.{Published, follows_same, moved_lasts, ok_works, published_acknowledges, published_lasts, unless_sync}
+use Rattle.journaled_store.specs.Outlasting.{point}
+use Rattle.journaled_store.proofs.Batching.{logged_now, when_ok}
+use Rattle.journaled_store.proofs.Lasting.{follows_same, moved_lasts, ok_not_sync, on_ok_by, published_acknowledges, published_lasts, unless_sync}
 use Rattle.journaled_store.proofs.store.JournaledStore.publish.Goals as goal
 
 pub returns-then-self-clause-any_moment : goal.returns-then-self-clause-any_moment
@@ -48,5 +50,34 @@ returns-then-has_lost_two-clause-lasts g c F is =
 pub returns-clause-lasts : goal.returns-clause-lasts
 returns-clause-lasts g c F is =
     let v = g.V.Vault in
-    let p = point c.args.self.now in
-    published_lasts v.known v.seen v.may_leave v.moment v.left_since g.met.V.Vault.counts_now g.met.V.Vault.only_now p _ F.bytes is.holds (published g c)
+    let e = c.publish-published.ensures in
+    let r = c.publish-published.result in
+    let works = c.if-self.false in
+    published_lasts v.known v.seen v.may_leave v.moment v.left_since g.met.V.Vault.counts_now g.met.V.Vault.only_now (point c.args.self.now) _ F.bytes is.holds (record {
+      tiers = e.same.0;
+      stays = e.stays;
+      still = λ failed. absurd (true≢false (sym failed ∙ works));
+      step = λ known lost live on. unless_sync r _ (e.step known lost (live works)) (sym c.is_sync-self.ensures ∙ on);
+      killed = λ known lost logged on. unless_sync r _ (e.killed known lost (logged works)) (sym c.is_sync-self.ensures ∙ on);
+      logged = λ known lost stop low logged on. (low, omega arith, unless_sync r _ (e.added known lost stop low (logged works)) (sym c.is_sync-self.ensures ∙ on));
+      batches = λ known lost live on. unless_sync r _ (e.batches known lost (live works)) (sym c.is_sync-self.ensures ∙ on);
+      any_moment = λ known lost live stop low logged. e.any_moment known lost (live works) stop low logged;
+    })
+
+pub returns-clause-acknowledged : goal.returns-clause-acknowledged
+returns-clause-acknowledged g c F is = on_ok_by c.publish-published.result (λ ok.
+    let v = g.V.Vault in
+    let e = c.publish-published.ensures in
+    let r = c.publish-published.result in
+    let works = c.if-self.false in
+    published_acknowledges v.known v.seen v.may_leave v.moment v.left_since g.met.V.Vault.counts_now g.met.V.Vault.only_now (point c.args.self.now) _ F.bytes is.holds (record {
+      tiers = e.same.0;
+      stays = e.stays;
+      still = λ failed. absurd (true≢false (sym failed ∙ works));
+      step = λ known lost live on. unless_sync r _ (e.step known lost (live works)) (sym c.is_sync-self.ensures ∙ on);
+      killed = λ known lost logged on. unless_sync r _ (e.killed known lost (logged works)) (sym c.is_sync-self.ensures ∙ on);
+      logged = λ known lost stop low logged on. (low, omega arith, unless_sync r _ (e.added known lost stop low (logged works)) (sym c.is_sync-self.ensures ∙ on));
+      batches = λ known lost live on. unless_sync r _ (e.batches known lost (live works)) (sym c.is_sync-self.ensures ∙ on);
+      any_moment = λ known lost live stop low logged. e.any_moment known lost (live works) stop low logged;
+    }) (c.is_sync-self.ensures ∙ ok_not_sync r ok)
+    (λ known lost live. subst (λ (t : TiersView). IsKept lost t.world.array.parts.drives (recovered (v.seen c.publish-published.new.vault))) (sym e.same.0) (when_ok r ok (e.kept known lost (live works)))))

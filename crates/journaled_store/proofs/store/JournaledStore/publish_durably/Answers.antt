@@ -1,9 +1,15 @@
-use Rattle.std.proofs.Common.{ℕ, List, Bool, length, arith, ap, sym, subst, ◌∙◌}
+use Rattle.std.proofs.Common.{ℕ, List, Bool, [], ◌∷◌, ◌++◌, length, refl, arith, ap, sym, subst, ◌∙◌}
+use Rattle.std.proofs.lemmas.Result.{err_from_is_err_and}
+use Rattle.byte_store.proofs.Lasts.{covering, lasts_after}
 use Rattle.vault.specs.Images.{Image, recovered}
 use Rattle.vault.specs.Moments.{StandsForSome}
+use Rattle.vault.specs.declared.store.Stop.TheVariants.{Killed}
 use Rattle.vault.proofs.Runs.{both_runs}
+use Rattle.array_store.specs.Blocks.{Holds}
 use Rattle.array_store.specs.Stores.{StoreView}
 use Rattle.journaled_store.specs.Steps.{IsBeforeOrNow, IsLive}
+use Rattle.journaled_store.specs.Outlasting.{Outlasts, OutlastsSince, Point, point}
+use Rattle.journaled_store.proofs.Lasting.{ok_not_err, on_ok_by, published_lasts, synced, synced_outlasts}
 use Rattle.journaled_store.proofs.Storing.{unless_err}
 use Rattle.journaled_store.proofs.store.JournaledStore.publish_durably.Goals as goal
 
@@ -46,4 +52,36 @@ returns-clause-any_moment g c known lost live stop low is =
     (c.sync-synced.ensures.any_moment (c.publish.ensures.stays known) lost stop low logged)
     (λ i now. now)
     (λ i some. subst (λ (s : StoreView). IsBeforeOrNow lost base low s.tiers.world.array.parts.drives i) (sym c.publish.ensures.same.0)
-    (c.in_ok-publish.ensures.batches known lost live low i some))
+    (c.publish.ensures.batches known lost live c.in_ok-publish.ensures.works low i some))
+
+pub returns-clause-killed : goal.returns-clause-killed
+returns-clause-killed g c known lost logged works =
+    let v = g.V.Vault in
+    unless_err c.sync-synced.result (sym c.is_err-self.ensures.value ∙ works) (c.sync-synced.ensures.flushed (c.publish.ensures.stays known) lost Killed
+    (length (Image.journal (v.seen c.publish.new.self.vault))) (c.publish.ensures.killed known lost logged c.in_ok-publish.ensures.works))
+
+pub returns-in_err-publish-clause-lasts : goal.returns-in_err-publish-clause-lasts
+returns-in_err-publish-clause-lasts g c F is =
+    let p = err_from_is_err_and c.from_residual.result c.from_residual.ensures.1 in
+    rw p.1 (c.publish.ensures.lasts F is, tt)
+
+pub returns-clause-lasts : goal.returns-clause-lasts
+returns-clause-lasts g c F is =
+    let v = g.V.Vault in
+    let m = point c.publish.new.self in
+    let e = c.sync-synced.ensures in
+    let q : Point _ = record { keeper = m.keeper; noted = m.noted; batch = m.batch; failed = c.is_err-self.result; tiers = m.tiers; vault = c.sync-synced.new.vault } in
+    let holds : Holds m.tiers F.bytes = subst (λ (s : StoreView). Holds s.tiers F.bytes) (sym c.publish.ensures.same.0) is.holds in
+    (
+      lasts_after (Outlasts v.known v.seen v.may_leave) (λ r. v.moment r.vault) (OutlastsSince v.left_since) F.bytes F.bytes (point c.args.self.now) m q (c.publish.ensures.lasts F is)
+      (published_lasts v.known v.seen v.may_leave v.moment v.left_since g.met.V.Vault.counts_now g.met.V.Vault.only_now m q F.bytes holds
+      (synced v.known v.seen v.may_leave v.moment v.left_since g.met.V.Vault.counts_now g.met.V.Vault.only_now m q c.in_ok-publish.ensures.works refl refl refl refl e.stays e.seen
+      (λ on known lost stop low logged. unless_err c.sync-synced.result (sym c.is_err-self.ensures.value ∙ on) (e.flushed known lost stop low logged))
+      e.any_moment)),
+      on_ok_by c.sync-synced.result (λ ok killed cut out.
+      synced_outlasts v.known v.seen v.may_leave v.moment v.left_since g.met.V.Vault.counts_now g.met.V.Vault.only_now m q c.in_ok-publish.ensures.works refl refl refl refl e.stays e.seen
+      (λ on known lost stop low logged. unless_err c.sync-synced.result (sym c.is_err-self.ensures.value ∙ on) (e.flushed known lost stop low logged))
+      e.any_moment
+      (c.is_err-self.ensures.value ∙ ok_not_err c.sync-synced.result ok) (F.bytes ∷ []) (cut ++ F.bytes ∷ F.bytes ∷ [])
+      (c.in_ok-publish.ensures.acknowledged F is killed cut (cut ++ F.bytes ∷ F.bytes ∷ []) out (covering cut F.bytes F.bytes))),
+    )
