@@ -1,12 +1,13 @@
 -- How exchanges follow one another.
-use Rattle.std.proofs.Common.{◌≡◌, ◌≢◌, ℕ, ◌+◌, List, [], ◌∷◌, ◌++◌, length, inr, Option, refl, sym, ap, subst, ◌∙◌, append_assoc, append-nil}
+use Rattle.std.proofs.Common.{◌≡◌, ◌≢◌, ℕ, ◌+◌, List, [], ◌∷◌, ◌++◌, length, inl, inr, Option, refl, sym, ap, subst, ◌∙◌, append_assoc, append-nil}
 use Rattle.std.proofs.lemmas.List.{length_push}
 use Rattle.std.specs.List.{flat_map}
 use Rattle.std.specs.Io.KnownBytes.{Appends, Consumes}
-use Rattle.std.proofs.KnownBytes.{Appends-trans, Consumes-trans}
+use Rattle.std.proofs.KnownBytes.{Appends-nil, Appends-trans, Consumes-nil, Consumes-trans}
 use Rattle.byte_store.specs.declared.fault.StoreFault.{StoreFault}
 use Rattle.byte_store.specs.Flat.{Flat}
-use Rattle.nbd_serve.specs.Exchanges.{Exchange, IsExchange, Runs, asked_by, replied_by}
+use Rattle.byte_store.specs.Lasting.{Lasts}
+use Rattle.nbd_serve.specs.Exchanges.{Exchange, Runs, asked_by, replied_by}
 use Rattle.nbd_serve.specs.Serving.{Breaks, IsCutOff, Serves, Stops}
 use Rattle.nbd_serve.specs.Streams.{IsPartWritten, IsShort, end_by}
 use Rattle.nbd_serve.specs.Answering.{IsAnswered}
@@ -16,48 +17,52 @@ use Rattle.nbd_wire.specs.declared.request.Command.TheVariants as command
 use Rattle.nbd_wire.specs.declared.request.Request.{Request}
 use Rattle.nbd_wire.specs.Requests.{SpellsRequest, carried_len}
 use Rattle.nbd_serve.specs.Stepping.{IsDone, IsStop}
+use Rattle.nbd_serve.specs.Stopping.{Leaves, LeavesBy, Outlasting, OutlastingSince}
+use Rattle.nbd_serve.specs.Enduring.{Endures}
+use Rattle.nbd_serve.proofs.Enduring.{endures_last, endures_more, endures_none, runs_more}
 use Rattle.nbd_serve.specs.declared.end.End.{End}
 use Rattle.nbd_serve.specs.declared.end.End.TheVariants as end
 
--- n exchanges were made
-pub record IsAlong (represents : Flat → Type 0) (may : StoreFault → Type 0) (size n : ℕ) (F : Flat) (before after held now : Option (List ℕ)) : Type 0 where
+-- n exchanges were made, and the store rested after each
+pub record IsAlong {S : Type 0} (represents : S → Flat → Type 0) (outlasts : Outlasting S) (moment : S → ℕ) (outlasts_since : OutlastingSince S)
+    (may : StoreFault → Type 0) (size n : ℕ) (F : Flat) (old new : S) (before after held now : Option (List ℕ)) : Type 0 where
   pub exchanges : List Exchange
   pub count : length exchanges ≡ n
   pub state : Flat
   pub runs : Runs may size F exchanges state
-  pub represented : represents state
+  pub represented : represents new state
   pub read : Consumes before after (flat_map asked_by exchanges)
   pub wrote : Appends held now (flat_map replied_by exchanges)
+  pub endures : Endures outlasts moment outlasts_since may size F exchanges state runs state.bytes old new
 
--- a store that rested represents the same
-pub along_rested : {represents rested : Flat → Type 0} {may : StoreFault → Type 0} {size n : ℕ} {F : Flat} {before after held now : Option (List ℕ)} → ((G : Flat) → represents G → rested G)
-    → IsAlong represents may size n F before after held now → IsAlong rested may size n F before after held now
-along_rested kept along = record {
-  exchanges = along.exchanges;
-  count = along.count;
-  state = along.state;
-  runs = along.runs;
-  represented = kept along.state along.represented;
-  read = along.read;
-  wrote = along.wrote;
+-- none was made
+pub along_none : {S : Type 0} (represents : S → Flat → Type 0) (outlasts : Outlasting S) (moment : S → ℕ) (outlasts_since : OutlastingSince S)
+    (may : StoreFault → Type 0) (size : ℕ) (F : Flat) (store : S) (before held : Option (List ℕ)) → represents store F
+    → IsAlong represents outlasts moment outlasts_since may size 0 F store store before before held held
+along_none represents outlasts moment outlasts_since may size F store before held represented = record {
+  exchanges = [];
+  count = refl;
+  state = F;
+  runs = refl;
+  represented = represented;
+  read = Consumes-nil before;
+  wrote = Appends-nil held;
+  endures = endures_none outlasts moment outlasts_since may size F store;
 }
-
--- one exchange more
-runs_more : (may : StoreFault → Type 0) (size : ℕ) (F : Flat) (xs : List Exchange) (G : Flat) (x : Exchange) (H : Flat) → Runs may size F xs G → IsExchange may size G x H
-    → Runs may size F (xs ++ x ∷ []) H
-runs_more may size F [] G x H runs is = (H, (let P : Flat → Type 0 = λ S. IsExchange may size S x H in subst P runs is), refl)
-runs_more may size F (y ∷ xs) G x H runs is = (runs.0, runs.1, runs_more may size runs.0 xs G x H runs.2 is)
 
 -- the bytes of one more
 bytes_more : (f : Exchange → List ℕ) (xs : List Exchange) (x : Exchange) → flat_map f (xs ++ x ∷ []) ≡ flat_map f xs ++ f x
 bytes_more f [] x = append-nil (f x)
 bytes_more f (y ∷ xs) x = ap (λ bytes. f y ++ bytes) (bytes_more f xs x) ∙ sym (append_assoc (f y) (flat_map f xs) (f x))
 
--- one exchange after n
-pub along_more : (was is : Flat → Type 0) (may : StoreFault → Type 0) (size n : ℕ) (F : Flat) (before mid after held written now : Option (List ℕ))
-    → IsAlong was may size n F before mid held written → ((G : Flat) → was G → IsDone is may size G mid after written now)
-    → IsAlong is may size (n + 1) F before after held now
-along_more was is may size n F before mid after held written now along step =
+-- one exchange after n, after which the store rested
+pub along_more : {S : Type 0} (represents : S → Flat → Type 0) (outlasts : Outlasting S) (moment : S → ℕ) (outlasts_since : OutlastingSince S)
+    (may : StoreFault → Type 0) (size n : ℕ) (F : Flat) (old store rests new : S) (before mid after held written now : Option (List ℕ))
+    → IsAlong represents outlasts moment outlasts_since may size n F old store before mid held written
+    → ((G : Flat) → represents store G → IsDone (LeavesBy represents outlasts moment outlasts_since G store rests) may size G mid after written now)
+    → ((G : Flat) → represents rests G → represents new G) → ((G : Flat) → represents rests G → Lasts outlasts moment outlasts_since G.bytes G.bytes rests new)
+    → IsAlong represents outlasts moment outlasts_since may size (n + 1) F old new before after held now
+along_more represents outlasts moment outlasts_since may size n F old store rests new before mid after held written now along step kept lasts =
     let done = step along.state along.represented in
     let asked = bytes_more asked_by along.exchanges done.exchange in
     let replied = bytes_more replied_by along.exchanges done.exchange in
@@ -67,9 +72,11 @@ along_more was is may size n F before mid after held written now along step =
       count = length_push along.exchanges done.exchange ∙ ap (λ k. k + 1) along.count;
       state = done.next;
       runs = runs_more may size F along.exchanges along.state done.exchange done.next along.runs done.is;
-      represented = done.represented;
+      represented = kept done.next done.next_is.represented;
       read = subst P (sym asked) (Consumes-trans before mid after _ _ along.read done.read);
       wrote = subst Q (sym replied) (Appends-trans held written now _ _ along.wrote done.wrote);
+      endures = endures_more outlasts moment outlasts_since represents may size F along.exchanges along.state done.exchange done.next along.runs done.is
+          old store rests new along.endures done.next_is (lasts done.next done.next_is.represented);
     }
 
 -- a stop at a request
@@ -85,10 +92,12 @@ stop_at end.Aborted n may size F before after held now G stops = absurd stops
 stop_at end.Memory n may size F before after held now G stops = absurd stops
 
 -- exchanges, and a stop
-pub served : (was is : Flat → Type 0) (last : End) (may : StoreFault → Type 0) (size n : ℕ) (F : Flat) (before mid after held written now : Option (List ℕ))
-    → IsAlong was may size n F before mid held written → ((G : Flat) → was G → IsStop is last may size G mid after written now)
-    → Serves is may size F last before after held now
-served was is last may size n F before mid after held written now along step =
+pub served : {S : Type 0} (represents : S → Flat → Type 0) (outlasts : Outlasting S) (moment : S → ℕ) (outlasts_since : OutlastingSince S) (last : End)
+    (may : StoreFault → Type 0) (size n : ℕ) (F : Flat) (old store new : S) (before mid after held written now : Option (List ℕ))
+    → IsAlong represents outlasts moment outlasts_since may size n F old store before mid held written
+    → ((G : Flat) → represents store G → IsStop (Leaves represents outlasts moment outlasts_since ⊥ ⊥ G store new) last may size G mid after written now)
+    → Serves represents outlasts moment outlasts_since may size F old new last before after held now
+served represents outlasts moment outlasts_since last may size n F old store new before mid after held written now along step =
     let stop = step along.state along.represented in record {
       exchanges = along.exchanges;
       state = along.state;
@@ -98,53 +107,96 @@ served was is last may size n F before mid after held written now along step =
       written = written;
       wrote = along.wrote;
       final = stop.final;
-      represented = stop.represented;
+      represented = stop.final_is.represented;
       stops = stop_at last (length along.exchanges) may size along.state mid after written now stop.final stop.stops;
+      endures = endures_last outlasts moment outlasts_since may size F along.exchanges along.state along.runs stop.final.bytes old store new along.endures
+          stop.final_is.survives;
     }
 
--- a stop where a request is cut off
-cut_of : (is : Flat → Type 0) (reason : Short) (may : StoreFault → Type 0) (size : ℕ) (F : Flat) (before after held : Option (List ℕ)) → IsCutOff (end_by reason) before after
-    → is F → IsStop is (end_by reason) may size F before after held held
-cut_of is short.Ended may size F before after held cut represented = record {
+-- no exchange, where there is no memory
+pub served_none : {S : Type 0} (represents : S → Flat → Type 0) (outlasts : Outlasting S) (moment : S → ℕ) (outlasts_since : OutlastingSince S)
+    (may : StoreFault → Type 0) (size : ℕ) (F : Flat) (store : S) (before held : Option (List ℕ)) → represents store F
+    → Serves represents outlasts moment outlasts_since may size F store store end.Memory before before held held
+served_none represents outlasts moment outlasts_since may size F store before held represented = record {
+  exchanges = [];
+  state = F;
+  runs = refl;
+  left = before;
+  read = Consumes-nil before;
+  written = held;
+  wrote = Appends-nil held;
   final = F;
   represented = represented;
+  stops = (refl, refl, record { held_is = refl; same = refl });
+  endures = endures_none outlasts moment outlasts_since may size F store;
+}
+
+-- a stop where a request is cut off
+cut_of : (ends : Flat → Type 0) (reason : Short) (may : StoreFault → Type 0) (size : ℕ) (F : Flat) (before after held : Option (List ℕ)) → IsCutOff (end_by reason) before after
+    → ends F → IsStop ends (end_by reason) may size F before after held held
+cut_of ends short.Ended may size F before after held cut represented = record {
+  final = F;
+  final_is = represented;
   stops = (cut, record { held_is = refl; same = refl });
 }
-cut_of is (short.Failed broke) may size F before after held cut represented = record {
+cut_of ends (short.Failed broke) may size F before after held cut represented = record {
   final = F;
-  represented = represented;
+  final_is = represented;
   stops = (cut, record { held_is = refl; same = refl });
 }
 
-cut_by : (is : Flat → Type 0) (reason : Short) (last : End) (may : StoreFault → Type 0) (size : ℕ) (F : Flat) (before after held : Option (List ℕ))
-    → IsCutOff (end_by reason) before after → last ≡ end_by reason → is F → IsStop is last may size F before after held held
-cut_by is reason last may size F before after held cut last_is represented =
-    let P : End → Type 0 = λ e. IsStop is e may size F before after held held in
-    subst P (sym last_is) (cut_of is reason may size F before after held cut represented)
+cut_by : (ends : Flat → Type 0) (reason : Short) (last : End) (may : StoreFault → Type 0) (size : ℕ) (F : Flat) (before after held : Option (List ℕ))
+    → IsCutOff (end_by reason) before after → last ≡ end_by reason → ends F → IsStop ends last may size F before after held held
+cut_by ends reason last may size F before after held cut last_is represented =
+    let P : End → Type 0 = λ e. IsStop ends e may size F before after held held in
+    subst P (sym last_is) (cut_of ends reason may size F before after held cut represented)
+
+-- the store is the one before
+pub untouched : {S : Type 0} (represents : S → Flat → Type 0) (outlasts : Outlasting S) (moment : S → ℕ) (outlasts_since : OutlastingSince S) (F : Flat) (old new : S)
+    → new ≡ old → represents old F → Leaves represents outlasts moment outlasts_since ⊥ ⊥ F old new F
+untouched {S} represents outlasts moment outlasts_since F old new same represented =
+    let P : S → Type 0 = λ s. represents s F in record {
+      represented = subst P (sym same) represented;
+      survives = inl (same, refl);
+      acknowledged = λ never. absurd never;
+      flushed = λ never. absurd never;
+    }
+
+-- a reply that wasn't whole says nothing
+pub unsaid : {S : Type 0} (represents : S → Flat → Type 0) (outlasts : Outlasting S) (moment : S → ℕ) (outlasts_since : OutlastingSince S) (F : Flat) (old new : S)
+    (r : Request) (reply : List ℕ) (G : Flat) → LeavesBy represents outlasts moment outlasts_since F old new r reply G
+    → Leaves represents outlasts moment outlasts_since ⊥ ⊥ F old new G
+unsaid represents outlasts moment outlasts_since F old new r reply G left = record {
+  represented = left.represented;
+  survives = left.survives;
+  acknowledged = λ never. absurd never;
+  flushed = λ never. absurd never;
+}
 
 -- a reply that is whole
-pub exchange_done : (is : Flat → Type 0) (may : StoreFault → Type 0) (size : ℕ) (F : Flat) (head : List ℕ) (r : Request) (before mid after held now : Option (List ℕ))
+pub exchange_done : (leaves : Request → List ℕ → Flat → Type 0) (may : StoreFault → Type 0) (size : ℕ) (F : Flat) (head : List ℕ) (r : Request) (before mid after held now : Option (List ℕ))
     (reply wrote : List ℕ) → length head ≡ 28 → SpellsRequest head r → r.command ≢ command.Disconnect → Consumes before mid head
-    → IsAnswered is may size F r mid after reply → wrote ≡ reply → Appends held now wrote → IsDone is may size F before after held now
-exchange_done is may size F head r before mid after held now reply wrote whole spells stays read answered same written =
+    → IsAnswered leaves may size F r mid after reply → wrote ≡ reply → Appends held now wrote → IsDone leaves may size F before after held now
+exchange_done leaves may size F head r before mid after held now reply wrote whole spells stays read answered same written =
     let P : List ℕ → Type 0 = λ xs. Appends held now xs in record {
       exchange = record { head = head; request = r; carried = answered.carried; reply = reply };
       next = answered.next;
-      represented = answered.represented;
+      next_is = answered.next_is;
       is = record { whole = whole; spells = spells; stays = stays; carries = answered.carries; answers = answered.answers };
       read = Consumes-trans before mid after head answered.carried read answered.read;
       wrote = subst P same written;
     }
 
 -- one that was written in part
-pub exchange_broken : (is : Flat → Type 0) (may : StoreFault → Type 0) (size : ℕ) (F : Flat) (head : List ℕ) (r : Request) (before mid after held now : Option (List ℕ))
+pub exchange_broken : (leaves : Request → List ℕ → Flat → Type 0) (ends : Flat → Type 0) (may : StoreFault → Type 0) (size : ℕ) (F : Flat) (head : List ℕ) (r : Request) (before mid after held now : Option (List ℕ))
     (reply wrote : List ℕ) → length head ≡ 28 → SpellsRequest head r → r.command ≢ command.Disconnect → Consumes before mid head
-    → IsAnswered is may size F r mid after reply → wrote ≡ reply → IsPartWritten held now wrote
-    → IsStop is end.WriteFault may size F before after held now
-exchange_broken is may size F head r before mid after held now reply wrote whole spells stays read answered same written =
+    → IsAnswered leaves may size F r mid after reply → wrote ≡ reply → IsPartWritten held now wrote
+    → ((G : Flat) → leaves r reply G → ends G)
+    → IsStop ends end.WriteFault may size F before after held now
+exchange_broken leaves ends may size F head r before mid after held now reply wrote whole spells stays read answered same written breaks =
     let P : List ℕ → Type 0 = λ xs. IsPartWritten held now xs in record {
       final = answered.next;
-      represented = answered.represented;
+      final_is = breaks answered.next answered.next_is;
       stops = record {
         exchange = record { head = head; request = r; carried = answered.carried; reply = reply };
         is = record { whole = whole; spells = spells; stays = stays; carries = answered.carries; answers = answered.answers };
@@ -154,14 +206,14 @@ exchange_broken is may size F head r before mid after held now reply wrote whole
     }
 
 -- a request whose bytes are not all there
-pub exchange_cut : (is : Flat → Type 0) (reason : Short) (last : End) (may : StoreFault → Type 0) (size : ℕ) (F : Flat) (head : List ℕ) (r : Request)
+pub exchange_cut : (ends : Flat → Type 0) (reason : Short) (last : End) (may : StoreFault → Type 0) (size : ℕ) (F : Flat) (head : List ℕ) (r : Request)
     (before mid after held : Option (List ℕ)) → length head ≡ 28 → SpellsRequest head r → Consumes before mid head
-    → IsShort (end_by reason) mid after (carried_len r) → last ≡ end_by reason → is F → IsStop is last may size F before after held held
-exchange_cut is reason last may size F head r before mid after held whole spells read short last_is represented =
+    → IsShort (end_by reason) mid after (carried_len r) → last ≡ end_by reason → ends F → IsStop ends last may size F before after held held
+exchange_cut ends reason last may size F head r before mid after held whole spells read short last_is represented =
     let cut : IsCutOff (end_by reason) before after = record {
       part = head ++ short.part;
       read = Consumes-trans before mid after head short.part read short.read;
       few = inr (record { head = head; whole = whole; request = r; spells = spells; carried = short.part; few = short.few; part_is = refl });
       ended = short.ended;
     } in
-    cut_by is reason last may size F before after held cut last_is represented
+    cut_by ends reason last may size F before after held cut last_is represented

@@ -16,21 +16,21 @@ pub record IsReadReply (may : StoreFault → Type 0) (F : Flat) (r : Request) (r
   pub cause : Causes may command.Read outcome
   pub reply_is : reply ≡ reply_bytes (error_of outcome) r.cookie ++ bytes_read outcome F r
 
--- the bytes that a write carries were read, and were written to the store with an outcome
-pub record IsTaken (may : StoreFault → Type 0) (represents : Flat → Type 0) (outcome : Result (Unit {0}) StoreFault) (F : Flat) (r : Request) (before after : Option (List ℕ)) : Type 0 where
+-- the bytes that a write carries were read, and were written to the store with an outcome. `leaves` says more of the next state
+pub record IsTaken (may : StoreFault → Type 0) (leaves : Flat → Type 0) (outcome : Result (Unit {0}) StoreFault) (F : Flat) (r : Request) (before after : Option (List ℕ)) : Type 0 where
   pub carried : List ℕ
   pub size : length carried ≡ r.length
   pub read : Consumes before after carried
   pub cause : Causes may command.Write outcome
   pub next : Flat
-  pub represented : represents next
+  pub next_is : leaves next
   pub stores : Stores outcome (is_forced r) F r.offset carried next
 
--- the bytes that a request carries were read, and it was answered
-pub record IsAnswered (represents : Flat → Type 0) (may : StoreFault → Type 0) (size : ℕ) (F : Flat) (r : Request) (before after : Option (List ℕ)) (reply : List ℕ) : Type 0 where
+-- the bytes that a request carries were read, and it was answered. `leaves` says more of the next state, by the request and the reply
+pub record IsAnswered (leaves : Request → List ℕ → Flat → Type 0) (may : StoreFault → Type 0) (size : ℕ) (F : Flat) (r : Request) (before after : Option (List ℕ)) (reply : List ℕ) : Type 0 where
   pub carried : List ℕ
   pub carries : length carried ≡ carried_len r
   pub read : Consumes before after carried
   pub next : Flat
-  pub represented : represents next
+  pub next_is : leaves r reply next
   pub answers : Answers may size F r carried reply next

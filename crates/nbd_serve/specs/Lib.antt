@@ -4,7 +4,9 @@ pub mod Refusals
 pub mod Answers
 pub mod Answering
 pub mod Forcing
+pub mod Stopping
 pub mod Exchanges
+pub mod Enduring
 pub mod Serving
 pub mod Stepping
 pub mod Options

@@ -10,6 +10,8 @@ use Rattle.nbd_wire.specs.declared.request.Request.{Request}
 use Rattle.nbd_wire.specs.Requests.{SpellsRequest, carried_len, request_magic}
 use Rattle.nbd_serve.specs.Streams.{IsPartWritten, LeavesNone}
 use Rattle.nbd_serve.specs.Exchanges.{Exchange, IsExchange, Runs, asked_by, replied_by}
+use Rattle.nbd_serve.specs.Stopping.{Outlasting, OutlastingSince}
+use Rattle.nbd_serve.specs.Enduring.{Endures}
 use Rattle.nbd_serve.specs.declared.end.End.{End}
 use Rattle.nbd_serve.specs.declared.end.End.TheVariants as end
 
@@ -80,7 +82,8 @@ Stops end.Memory n may size F before after held now G = (n ≡ 0) × (after ≡ 
 Stops last n may size F before after held now G = Breaks last may size F before after held now G
 
 -- from state F on: whole exchanges, and then what the session stops at. The store represents the state at the end
-pub record Serves (represents : Flat → Type 0) (may : StoreFault → Type 0) (size : ℕ) (F : Flat) (last : End) (before after held now : Option (List ℕ)) : Type 0 where
+pub record Serves {S : Type 0} (represents : S → Flat → Type 0) (outlasts : Outlasting S) (moment : S → ℕ) (outlasts_since : OutlastingSince S)
+    (may : StoreFault → Type 0) (size : ℕ) (F : Flat) (old new : S) (last : End) (before after held now : Option (List ℕ)) : Type 0 where
   pub exchanges : List Exchange
   pub state : Flat
   pub runs : Runs may size F exchanges state
@@ -89,5 +92,6 @@ pub record Serves (represents : Flat → Type 0) (may : StoreFault → Type 0) (
   pub written : Option (List ℕ)
   pub wrote : Appends held written (flat_map replied_by exchanges)
   pub final : Flat
-  pub represented : represents final
+  pub represented : represents new final
   pub stops : Stops last (length exchanges) may size state left after written now final
+  pub endures : Endures outlasts moment outlasts_since may size F exchanges state runs final.bytes old new

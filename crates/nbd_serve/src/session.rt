@@ -18,7 +18,8 @@ pub fn serve<R: Read, W: Write, S: ByteStore>(
     writer: &mut W,
     store: &mut S,
 ) -> End
-    ensures { (F : Flat) → S.represents store.old F → Session (S.represents store.new) S.may_refuse (S.sizes store.old) F result
+    ensures { (F : Flat) → S.represents store.old F →
+        Session S.represents S.outlasts S.moment S.outlasts_since S.may_refuse (S.sizes store.old) F store.old store.new result
         (R.remaining reader.old) (R.remaining reader.new) (W.contents writer.old) (W.contents writer.new) }
 {
     let export = Export {

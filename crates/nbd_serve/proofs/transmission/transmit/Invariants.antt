@@ -8,10 +8,10 @@ abbrev pub invariant-loop-served : goal.invariant-loop-served
 invariant-loop-served g l =
     let remaining = g.R.Read.remaining in
     let contents = g.W.Write.contents in
-    let represents = g.S.ByteStore.represents in
-    let sizes = g.S.ByteStore.sizes in record {
+    let store = g.S.ByteStore in record {
       room : 16 ≤ length l.out.items;
-      same : sizes l.store ≡ sizes l.fn.store;
-      along : (F : Flat) → represents l.fn.store F → IsAlong (represents l.store) g.S.ByteStore.may_refuse (sizes l.fn.store).bytes l.served F
-          (remaining l.fn.reader) (remaining l.reader) (contents l.fn.writer) (contents l.writer);
+      same : store.sizes l.store ≡ store.sizes l.fn.store;
+      along : (F : Flat) → store.represents l.fn.store F
+          → IsAlong store.represents store.outlasts store.moment store.outlasts_since store.may_refuse (store.sizes l.fn.store).bytes l.served F
+          l.fn.store l.store (remaining l.fn.reader) (remaining l.reader) (contents l.fn.writer) (contents l.writer);
     }

@@ -1,0 +1,65 @@
+-- What a kill or a loss of power leaves of a store during a session and behind it.
+use Rattle.std.specs.Prelude.{◌≡◌, ℕ, ◌≤◌, ◌⊎◌, List, [], ◌∷◌, ◌++◌}
+use Rattle.byte_store.specs.Flat.{Flat}
+use Rattle.byte_store.specs.Lasting.{Within}
+use Rattle.byte_store.specs.declared.fault.StoreFault.{StoreFault}
+use Rattle.nbd_serve.specs.Exchanges.{Exchange, Runs}
+use Rattle.nbd_serve.specs.Stopping.{Outlasting, OutlastingSince, SaysChanged, SaysDurable}
+
+-- the bytes of the states that exchanges went through, the first and the last included
+abbrev pub passed : (may : StoreFault → Type 0) (size : ℕ) (F : Flat) (xs : List Exchange) (H : Flat) → Runs may size F xs H → List (List ℕ)
+passed may size F [] H run = F.bytes ∷ []
+passed may size F (x ∷ xs) H run = F.bytes ∷ passed may size run.0 xs H run.2
+
+-- a list has all bytes of two others
+pub record Joins (more one two : List (List ℕ)) : Type 0 where
+  pub first : Within one more
+  pub second : Within two more
+
+-- Each of some calls is there whole or not at all: after a stop during them or behind them the store has the bytes that a stop before
+-- them would have left, or those of a state that was passed.
+pub record LastsThrough {S : Type 0} (outlasts : Outlasting S) (moment : S → ℕ) (outlasts_since : OutlastingSince S) (states : List (List ℕ)) (old new : S) : Type 0 where
+  pub later : (killed cut : List (List ℕ)) → outlasts old killed cut → moment old ≤ moment new
+  pub behind : (killed cut more_killed more_cut : List (List ℕ)) → outlasts old killed cut → Joins more_killed killed states → Joins more_cut cut states
+      → outlasts new more_killed more_cut
+  pub during : (killed cut more_killed more_cut : List (List ℕ)) → outlasts old killed cut → Joins more_killed killed states → Joins more_cut cut states
+      → outlasts_since new (moment old) more_killed more_cut
+  -- for a run that began earlier
+  pub earlier : (t : ℕ) (since_killed since_cut killed cut more_killed more_cut : List (List ℕ)) → t ≤ moment old
+      → outlasts_since old t since_killed since_cut → outlasts old killed cut
+      → Within since_killed more_killed → Within since_cut more_cut → Joins more_killed killed states → Joins more_cut cut states
+      → outlasts_since new t more_killed more_cut
+
+-- moments that don't fall
+abbrev pub Rise : ℕ → List ℕ → ℕ → Type 0
+Rise first [] last = first ≤ last
+Rise first (t ∷ ts) last = (first ≤ t) × Rise t ts last
+
+-- a stop now, and one at some moment from t on, leave bytes of these lists
+pub record StandsSince {S : Type 0} (outlasts : Outlasting S) (outlasts_since : OutlastingSince S) (store : S) (t : ℕ) (killed cut : List (List ℕ)) : Type 0 where
+  pub now : outlasts store killed cut
+  pub since : outlasts_since store t killed cut
+
+-- what a reply says holds: after a kill the store has bytes of a later state, and so it has after any stop if they are durable
+pub record IsKept (stands : List (List ℕ) → List (List ℕ) → Type 0) (x : Exchange) (later all : List (List ℕ)) : Type 0 where
+  pub changed : SaysChanged x.request x.reply → stands later all
+  pub durable : SaysDurable x.request x.reply → stands later later
+
+-- of each exchange, from its moment on. The later states are the one that it left and those after it
+abbrev pub AreKept : (stands : ℕ → List (List ℕ) → List (List ℕ) → Type 0) (all : List (List ℕ)) (final : List ℕ) (may : StoreFault → Type 0) (size : ℕ) (F : Flat) (xs : List Exchange) (H : Flat)
+    → Runs may size F xs H → List ℕ → Type 0
+AreKept stands all final may size F [] H run [] = Unit {0}
+AreKept stands all final may size F (x ∷ xs) H run (t ∷ ts) =
+    IsKept (stands t) x (final ∷ passed may size run.0 xs H run.2) all × AreKept stands all final may size run.0 xs H run.2 ts
+AreKept stands all final may size F [] H run (t ∷ ts) = ⊥
+AreKept stands all final may size F (x ∷ xs) H run [] = ⊥
+
+-- What stops leave of a session that made exchanges and then left the bytes `final`. The store is the one before, or was called, and
+-- each exchange has a moment, the first of them not before the session's.
+pub record Endures {S : Type 0} (outlasts : Outlasting S) (moment : S → ℕ) (outlasts_since : OutlastingSince S) (may : StoreFault → Type 0) (size : ℕ) (F : Flat) (xs : List Exchange) (H : Flat)
+    (run : Runs may size F xs H) (final : List ℕ) (old new : S) : Type 0 where
+  pub lasts : ((new ≡ old) × (final ≡ F.bytes)) ⊎ LastsThrough outlasts moment outlasts_since (final ∷ passed may size F xs H run) old new
+  pub moments : List ℕ
+  pub rise : (killed cut : List (List ℕ)) → outlasts old killed cut → Rise (moment old) moments (moment new)
+  pub kept : (killed cut : List (List ℕ)) → outlasts old killed cut
+      → AreKept (StandsSince outlasts outlasts_since new) (cut ++ final ∷ passed may size F xs H run) final may size F xs H run moments
