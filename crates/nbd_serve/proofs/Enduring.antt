@@ -7,7 +7,7 @@ use Rattle.byte_store.specs.Lasting.{Covers, Lasts, Within}
 use Rattle.byte_store.specs.declared.fault.StoreFault.{StoreFault}
 use Rattle.nbd_serve.specs.Exchanges.{Exchange, IsExchange, Runs}
 use Rattle.nbd_serve.specs.Stopping.{LeavesBy, Outlasting, OutlastingSince, Survives}
-use Rattle.nbd_serve.specs.Enduring.{AreKept, Endures, IsKept, Joins, LastsThrough, Rise, StandsSince, passed}
+use Rattle.nbd_serve.specs.Enduring.{AreKept, Endures, IsKept, Joins, LastsThrough, Rise, HoldsSince, passed}
 use Rattle.nbd_serve.proofs.Stopping.{covering, has_head, has_rest, lasts_on}
 
 -- one exchange more
@@ -122,29 +122,29 @@ module _ {S : Type 0} (outlasts : Outlasting S) (moment : S → ℕ) (outlasts_s
             (λ b has. has) (λ b has. has) (covers more_killed killed joins) (covers more_cut cut joins_cut);
       }
 
-  -- what stands since a moment does so after one call more, with the bytes of before and after it
-  stands_more : (t : ℕ) (killed cut more_killed more_cut : List (List ℕ)) (before now : List ℕ) (old new : S) → t ≤ moment old
+  -- what holds since a moment does so after one call more, with the bytes of before and after it
+  since_more : (t : ℕ) (killed cut more_killed more_cut : List (List ℕ)) (before now : List ℕ) (old new : S) → t ≤ moment old
       → Lasts outlasts moment outlasts_since before now old new → Covers more_killed killed before now → Covers more_cut cut before now
-      → StandsSince outlasts outlasts_since old t killed cut → StandsSince outlasts outlasts_since new t more_killed more_cut
-  stands_more t killed cut more_killed more_cut before now old new early lasts covers covers_cut stands = record {
-    now = lasts.behind killed cut more_killed more_cut stands.now covers covers_cut;
-    since = lasts.earlier t killed cut killed cut more_killed more_cut early stands.since stands.now covers.each covers_cut.each covers covers_cut;
+      → HoldsSince outlasts outlasts_since old t killed cut → HoldsSince outlasts outlasts_since new t more_killed more_cut
+  since_more t killed cut more_killed more_cut before now old new early lasts covers covers_cut was = record {
+    now = lasts.behind killed cut more_killed more_cut was.now covers covers_cut;
+    since = lasts.earlier t killed cut killed cut more_killed more_cut early was.since was.now covers.each covers_cut.each covers covers_cut;
   }
 
   kept_on : (t : ℕ) (x : Exchange) (later all more more_all : List (List ℕ)) (before now : List ℕ) (old new : S) → t ≤ moment old
       → Lasts outlasts moment outlasts_since before now old new → Covers more later before now → Covers more_all all before now
-      → IsKept (StandsSince outlasts outlasts_since old t) x later all → IsKept (StandsSince outlasts outlasts_since new t) x more more_all
+      → IsKept (HoldsSince outlasts outlasts_since old t) x later all → IsKept (HoldsSince outlasts outlasts_since new t) x more more_all
   kept_on t x later all more more_all before now old new early lasts covers covers_all kept = record {
-    changed = λ says. stands_more t later all more more_all before now old new early lasts covers covers_all (kept.changed says);
-    durable = λ says. stands_more t later later more more before now old new early lasts covers covers (kept.durable says);
+    changed = λ says. since_more t later all more more_all before now old new early lasts covers covers_all (kept.changed says);
+    durable = λ says. since_more t later later more more before now old new early lasts covers covers (kept.durable says);
   }
 
   -- the exchanges made, after one more
   kept_more : (may : StoreFault → Type 0) (size : ℕ) (F : Flat) (xs : List Exchange) (G : Flat) (x : Exchange) (H : Flat) (run : Runs may size F xs G) (is : IsExchange may size G x H)
       (all more_all : List (List ℕ)) (first : ℕ) (ts : List ℕ) (t : ℕ) (old new : S) → Rise first ts (moment old) → Lasts outlasts moment outlasts_since G.bytes H.bytes old new
-      → Covers more_all all G.bytes H.bytes → IsKept (StandsSince outlasts outlasts_since new t) x (H.bytes ∷ H.bytes ∷ []) more_all
-      → AreKept (StandsSince outlasts outlasts_since old) all G.bytes may size F xs G run ts
-      → AreKept (StandsSince outlasts outlasts_since new) more_all H.bytes may size F (xs ++ x ∷ []) H (runs_more may size F xs G x H run is) (ts ++ t ∷ [])
+      → Covers more_all all G.bytes H.bytes → IsKept (HoldsSince outlasts outlasts_since new t) x (H.bytes ∷ H.bytes ∷ []) more_all
+      → AreKept (HoldsSince outlasts outlasts_since old) all G.bytes may size F xs G run ts
+      → AreKept (HoldsSince outlasts outlasts_since new) more_all H.bytes may size F (xs ++ x ∷ []) H (runs_more may size F xs G x H run is) (ts ++ t ∷ [])
   kept_more may size F [] G x H run is all more_all first [] t old new rise lasts covers last kept = (last, tt)
   kept_more may size F [] G x H run is all more_all first (u ∷ ts) t old new rise lasts covers last kept = absurd kept
   kept_more may size F (y ∷ xs) G x H run is all more_all first [] t old new rise lasts covers last kept = absurd kept
@@ -161,8 +161,8 @@ module _ {S : Type 0} (outlasts : Outlasting S) (moment : S → ℕ) (outlasts_s
   -- and after what the session stops at
   kept_last : (may : StoreFault → Type 0) (size : ℕ) (F : Flat) (xs : List Exchange) (G : Flat) (run : Runs may size F xs G) (final : List ℕ)
       (all more_all : List (List ℕ)) (first : ℕ) (ts : List ℕ) (old new : S) → Rise first ts (moment old) → Lasts outlasts moment outlasts_since G.bytes final old new
-      → Covers more_all all G.bytes final → AreKept (StandsSince outlasts outlasts_since old) all G.bytes may size F xs G run ts
-      → AreKept (StandsSince outlasts outlasts_since new) more_all final may size F xs G run ts
+      → Covers more_all all G.bytes final → AreKept (HoldsSince outlasts outlasts_since old) all G.bytes may size F xs G run ts
+      → AreKept (HoldsSince outlasts outlasts_since new) more_all final may size F xs G run ts
   kept_last may size F [] G run final all more_all first [] old new rise lasts covers kept = tt
   kept_last may size F [] G run final all more_all first (u ∷ ts) old new rise lasts covers kept = absurd kept
   kept_last may size F (y ∷ xs) G run final all more_all first [] old new rise lasts covers kept = absurd kept
@@ -230,7 +230,7 @@ module _ {S : Type 0} (outlasts : Outlasting S) (moment : S → ℕ) (outlasts_s
   kept_new : (represents : S → Flat → Type 0) (G H : Flat) (x : Exchange) (all : List (List ℕ)) (old mid new : S)
       → LeavesBy represents outlasts moment outlasts_since G old mid x.request x.reply H → Lasts outlasts moment outlasts_since H.bytes H.bytes mid new
       → Contains all G.bytes → Contains all H.bytes → Outlasted all old
-      → IsKept (StandsSince outlasts outlasts_since new (moment mid)) x (H.bytes ∷ H.bytes ∷ []) all
+      → IsKept (HoldsSince outlasts outlasts_since new (moment mid)) x (H.bytes ∷ H.bytes ∷ []) all
   kept_new represents G H x all old mid new left rested has_before has_now there =
       let later = H.bytes ∷ H.bytes ∷ [] in
       let one = H.bytes ∷ [] in

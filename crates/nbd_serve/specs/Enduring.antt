@@ -1,4 +1,4 @@
--- What a kill or a loss of power leaves of a store during a session and behind it.
+-- What a kill or a loss of power leaves of a store, during a session and after it.
 use Rattle.std.specs.Prelude.{◌≡◌, ℕ, ◌≤◌, ◌⊎◌, List, [], ◌∷◌, ◌++◌}
 use Rattle.byte_store.specs.Flat.{Flat}
 use Rattle.byte_store.specs.Lasting.{Within}
@@ -16,8 +16,8 @@ pub record Joins (more one two : List (List ℕ)) : Type 0 where
   pub first : Within one more
   pub second : Within two more
 
--- Each of some calls is there whole or not at all: after a stop during them or behind them the store has the bytes that a stop before
--- them would have left, or those of a state that was passed.
+-- Each of some calls is there whole or not at all: a stop during them or after them leaves the bytes that a stop before them would have
+-- left, or those of a state that was passed.
 pub record LastsThrough {S : Type 0} (outlasts : Outlasting S) (moment : S → ℕ) (outlasts_since : OutlastingSince S) (states : List (List ℕ)) (old new : S) : Type 0 where
   pub later : (killed cut : List (List ℕ)) → outlasts old killed cut → moment old ≤ moment new
   pub behind : (killed cut more_killed more_cut : List (List ℕ)) → outlasts old killed cut → Joins more_killed killed states → Joins more_cut cut states
@@ -36,30 +36,31 @@ Rise first [] last = first ≤ last
 Rise first (t ∷ ts) last = (first ≤ t) × Rise t ts last
 
 -- a stop now, and one at some moment from t on, leave bytes of these lists
-pub record StandsSince {S : Type 0} (outlasts : Outlasting S) (outlasts_since : OutlastingSince S) (store : S) (t : ℕ) (killed cut : List (List ℕ)) : Type 0 where
+pub record HoldsSince {S : Type 0} (outlasts : Outlasting S) (outlasts_since : OutlastingSince S) (store : S) (t : ℕ) (killed cut : List (List ℕ)) : Type 0 where
   pub now : outlasts store killed cut
   pub since : outlasts_since store t killed cut
 
--- what a reply says holds: after a kill the store has bytes of a later state, and so it has after any stop if they are durable
-pub record IsKept (stands : List (List ℕ) → List (List ℕ) → Type 0) (x : Exchange) (later all : List (List ℕ)) : Type 0 where
-  pub changed : SaysChanged x.request x.reply → stands later all
-  pub durable : SaysDurable x.request x.reply → stands later later
+-- What the reply to an exchange says holds: a kill leaves bytes of a later state, and so does any stop if the reply says that all is
+-- durable. Else a loss of power may leave bytes of any state.
+pub record IsKept (holds : List (List ℕ) → List (List ℕ) → Type 0) (x : Exchange) (later all : List (List ℕ)) : Type 0 where
+  pub changed : SaysChanged x.request x.reply → holds later all
+  pub durable : SaysDurable x.request x.reply → holds later later
 
--- of each exchange, from its moment on. The later states are the one that it left and those after it
-abbrev pub AreKept : (stands : ℕ → List (List ℕ) → List (List ℕ) → Type 0) (all : List (List ℕ)) (final : List ℕ) (may : StoreFault → Type 0) (size : ℕ) (F : Flat) (xs : List Exchange) (H : Flat)
+-- Each exchange has a moment since which that is so. Its later states are the one that it left, and those after it.
+abbrev pub AreKept : (holds : ℕ → List (List ℕ) → List (List ℕ) → Type 0) (all : List (List ℕ)) (final : List ℕ) (may : StoreFault → Type 0) (size : ℕ) (F : Flat) (xs : List Exchange) (H : Flat)
     → Runs may size F xs H → List ℕ → Type 0
-AreKept stands all final may size F [] H run [] = Unit {0}
-AreKept stands all final may size F (x ∷ xs) H run (t ∷ ts) =
-    IsKept (stands t) x (final ∷ passed may size run.0 xs H run.2) all × AreKept stands all final may size run.0 xs H run.2 ts
-AreKept stands all final may size F [] H run (t ∷ ts) = ⊥
-AreKept stands all final may size F (x ∷ xs) H run [] = ⊥
+AreKept holds all final may size F [] H run [] = Unit {0}
+AreKept holds all final may size F (x ∷ xs) H run (t ∷ ts) =
+    IsKept (holds t) x (final ∷ passed may size run.0 xs H run.2) all × AreKept holds all final may size run.0 xs H run.2 ts
+AreKept holds all final may size F [] H run (t ∷ ts) = ⊥
+AreKept holds all final may size F (x ∷ xs) H run [] = ⊥
 
--- What stops leave of a session that made exchanges and then left the bytes `final`. The store is the one before, or was called, and
--- each exchange has a moment, the first of them not before the session's.
+-- What stops leave of a session that made exchanges and ended with the bytes `final`. Either the store is the one before, or it was
+-- called. The moments of the exchanges rise from that of the store before to that of the store after.
 pub record Endures {S : Type 0} (outlasts : Outlasting S) (moment : S → ℕ) (outlasts_since : OutlastingSince S) (may : StoreFault → Type 0) (size : ℕ) (F : Flat) (xs : List Exchange) (H : Flat)
     (run : Runs may size F xs H) (final : List ℕ) (old new : S) : Type 0 where
   pub lasts : ((new ≡ old) × (final ≡ F.bytes)) ⊎ LastsThrough outlasts moment outlasts_since (final ∷ passed may size F xs H run) old new
   pub moments : List ℕ
   pub rise : (killed cut : List (List ℕ)) → outlasts old killed cut → Rise (moment old) moments (moment new)
   pub kept : (killed cut : List (List ℕ)) → outlasts old killed cut
-      → AreKept (StandsSince outlasts outlasts_since new) (cut ++ final ∷ passed may size F xs H run) final may size F xs H run moments
+      → AreKept (HoldsSince outlasts outlasts_since new) (cut ++ final ∷ passed may size F xs H run) final may size F xs H run moments

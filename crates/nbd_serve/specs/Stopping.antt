@@ -8,20 +8,20 @@ use Rattle.nbd_wire.specs.declared.request.Request.{Request}
 use Rattle.nbd_wire.specs.Requests.{is_forced}
 use Rattle.nbd_wire.specs.Replies.{reply_bytes}
 
--- what a stop leaves of a store of type S, at a moment and since a moment: the bytes after a kill, and those after a loss of power
+-- what a stop now, or at some moment since t, leaves of a store of type S: bytes of the first list after a kill, and of the second after
+-- a loss of power
 abbrev pub Outlasting : Type 0 → Type 1
 Outlasting S = S → List (List ℕ) → List (List ℕ) → Type 0
 
 abbrev pub OutlastingSince : Type 0 → Type 1
 OutlastingSince S = S → ℕ → List (List ℕ) → List (List ℕ) → Type 0
 
--- the store is the one before, or what it was called for is there whole or not at all
+-- the store is the one before, or it was called, and the change is there whole or not at all
 abbrev pub Survives : {S : Type 0} → Outlasting S → (S → ℕ) → OutlastingSince S → List ℕ → List ℕ → S → S → Type 0
 Survives outlasts moment outlasts_since before now old new =
     ((new ≡ old) × (now ≡ before)) ⊎ Lasts outlasts moment outlasts_since before now old new
 
--- A request in state F left the store in state G. Bytes that were changed are there after a kill, and after any stop if they were made
--- durable
+-- A request in state F left the store in state G. If it changed bytes, a kill leaves those of G; if it made all durable, any stop does.
 pub record Leaves {S : Type 0} (represents : S → Flat → Type 0) (outlasts : Outlasting S) (moment : S → ℕ) (outlasts_since : OutlastingSince S)
     (changed durable : Type 0) (F : Flat) (old new : S) (G : Flat) : Type 0 where
   pub represented : represents new G
