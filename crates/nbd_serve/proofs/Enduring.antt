@@ -4,11 +4,12 @@ use Rattle.std.specs.Prelude.{Contains}
 use Rattle.std.proofs.lemmas.List.Elements.{All-cons, All-contains, All-nil, Contains-append_cases, Contains-append_left, Contains-append_right}
 use Rattle.byte_store.specs.Flat.{Flat}
 use Rattle.byte_store.specs.Lasting.{Covers, Lasts, Within}
+use Rattle.byte_store.proofs.Lasts.{covering, lasts_ahead}
 use Rattle.byte_store.specs.declared.fault.StoreFault.{StoreFault}
 use Rattle.nbd_serve.specs.Exchanges.{Exchange, IsExchange, Runs}
 use Rattle.nbd_serve.specs.Stopping.{LeavesBy, Outlasting, OutlastingSince, Survives}
 use Rattle.nbd_serve.specs.Enduring.{AreKept, Endures, IsKept, Joins, LastsThrough, Rise, HoldsSince, passed}
-use Rattle.nbd_serve.proofs.Stopping.{covering, has_head, has_rest, lasts_on}
+use Rattle.nbd_serve.proofs.Stopping.{has_head, has_rest}
 
 -- one exchange more
 abbrev pub runs_more : (may : StoreFault → Type 0) (size : ℕ) (F : Flat) (xs : List Exchange) (G : Flat) (x : Exchange) (H : Flat) → Runs may size F xs G → IsExchange may size G x H
@@ -178,7 +179,7 @@ module _ {S : Type 0} (outlasts : Outlasting S) (moment : S → ℕ) (outlasts_s
   -- no exchange was made
   pub endures_none : (may : StoreFault → Type 0) (size : ℕ) (F : Flat) (store : S) → Endures outlasts moment outlasts_since may size F [] F refl F.bytes store store
   endures_none may size F store = record {
-    lasts = inl (refl, refl);
+    lasts = inl (refl, refl, refl);
     moments = [];
     rise = λ killed cut holds. omega arith;
     kept = λ killed cut holds. tt;
@@ -191,16 +192,16 @@ module _ {S : Type 0} (outlasts : Outlasting S) (moment : S → ℕ) (outlasts_s
     holds : outlasts store killed cut
     within : Within cut all_cut
 
-  outlasted : (states killed cut : List (List ℕ)) (old store : S) (P : Type 0) → ((store ≡ old) × P) ⊎ LastsThrough outlasts moment outlasts_since states old store
+  outlasted : (states killed cut : List (List ℕ)) (old store : S) (P : Type 0) → (P → store ≡ old) → P ⊎ LastsThrough outlasts moment outlasts_since states old store
       → outlasts old killed cut → Outlasted (cut ++ states) store
-  outlasted states killed cut old store P (inl still) holds =
+  outlasted states killed cut old store P same (inl still) holds =
       let Q : S → Type 0 = λ s. outlasts s killed cut in record {
         killed = killed;
         cut = cut;
-        holds = subst Q (sym still.0) holds;
+        holds = subst Q (sym (same still)) holds;
         within = λ b has. Contains-append_left cut states b has;
       }
-  outlasted states killed cut old store P (inr through) holds = record {
+  outlasted states killed cut old store P same (inr through) holds = record {
     killed = killed ++ states;
     cut = cut ++ states;
     holds = through.behind killed cut (killed ++ states) (cut ++ states) holds (joining killed states) (joining cut states);
@@ -213,7 +214,7 @@ module _ {S : Type 0} (outlasts : Outlasting S) (moment : S → ℕ) (outlasts_s
   survived_on before now old mid new (inl still) rested =
       let P : S → Type 0 = λ s. Lasts outlasts moment outlasts_since now now s new in
       let Q : List ℕ → Type 0 = λ b. Lasts outlasts moment outlasts_since b now old new in subst Q still.1 (subst P still.0 rested)
-  survived_on before now old mid new (inr first) rested = lasts_on outlasts moment outlasts_since before now old mid new first rested
+  survived_on before now old mid new (inr first) rested = lasts_ahead outlasts moment outlasts_since before now old mid new first rested
 
   later_by : (before now : List ℕ) (killed cut : List (List ℕ)) (old mid : S) → Survives outlasts moment outlasts_since before now old mid → outlasts old killed cut
       → moment old ≤ moment mid
@@ -224,7 +225,7 @@ module _ {S : Type 0} (outlasts : Outlasting S) (moment : S → ℕ) (outlasts_s
       → (more : List (List ℕ)) × (more_cut : List (List ℕ)) × outlasts mid more more_cut
   held_by before now killed cut old mid (inl still) holds = let P : S → Type 0 = λ s. outlasts s killed cut in (killed, cut, subst P (sym still.0) holds)
   held_by before now killed cut old mid (inr first) holds =
-      (before ∷ now ∷ killed, before ∷ now ∷ cut, first.behind killed cut (before ∷ now ∷ killed) (before ∷ now ∷ cut) holds (covering before now killed) (covering before now cut))
+      (killed ++ before ∷ now ∷ [], cut ++ before ∷ now ∷ [], first.behind killed cut (killed ++ before ∷ now ∷ []) (cut ++ before ∷ now ∷ []) holds (covering killed before now) (covering cut before now))
 
   -- what an exchange's reply says holds from the moment when it was answered
   kept_new : (represents : S → Flat → Type 0) (G H : Flat) (x : Exchange) (all : List (List ℕ)) (old mid new : S)
@@ -267,11 +268,11 @@ module _ {S : Type 0} (outlasts : Outlasting S) (moment : S → ℕ) (outlasts_s
       let has_now = has_head H.bytes more in
       let lasts = survived_on G.bytes H.bytes store mid new left.survives rested in
       let there : (killed cut : List (List ℕ)) → outlasts old killed cut → Outlasted (cut ++ G.bytes ∷ some) store =
-      λ killed cut holds. outlasted (G.bytes ∷ some) killed cut old store (G.bytes ≡ F.bytes) before.lasts holds in record {
+      λ killed cut holds. outlasted (G.bytes ∷ some) killed cut old store _ (λ still. still.1) before.lasts holds in record {
         lasts = inr (elim before.lasts [
           | inl still ↦
               let P : S → Type 0 = λ s. Lasts outlasts moment outlasts_since G.bytes H.bytes s new in
-              through_one (H.bytes ∷ more) G.bytes H.bytes old new (subst P still.0 lasts) has_before has_now
+              through_one (H.bytes ∷ more) G.bytes H.bytes old new (subst P still.1 lasts) has_before has_now
           | inr through ↦ through_more (G.bytes ∷ some) (H.bytes ∷ more) G.bytes H.bytes old store new through lasts within has_before has_now
         ]);
         moments = before.moments ++ moment mid ∷ [];
@@ -309,12 +310,12 @@ module _ {S : Type 0} (outlasts : Outlasting S) (moment : S → ℕ) (outlasts_s
         lasts = inr (elim before.lasts [
           | inl still ↦
               let P : S → Type 0 = λ s. Lasts outlasts moment outlasts_since G.bytes final s new in
-              through_one (final ∷ some) G.bytes final old new (subst P still.0 lasts) has_before has_now
+              through_one (final ∷ some) G.bytes final old new (subst P still.1 lasts) has_before has_now
           | inr through ↦ through_more (G.bytes ∷ some) (final ∷ some) G.bytes final old store new through lasts within has_before has_now
         ]);
         moments = before.moments;
         rise = λ killed cut holds.
-            let now = outlasted (G.bytes ∷ some) killed cut old store (G.bytes ≡ F.bytes) before.lasts holds in
+            let now = outlasted (G.bytes ∷ some) killed cut old store _ (λ still. still.1) before.lasts holds in
             rise_later (moment old) before.moments (moment store) (moment new) (before.rise killed cut holds) (lasts.later now.killed now.cut now.holds);
         kept = λ killed cut holds.
             let covers : Covers (cut ++ final ∷ some) (cut ++ G.bytes ∷ some) G.bytes final = record {

@@ -1,9 +1,10 @@
 -- What stops leave of a store after one call, and then after another.
-use Rattle.std.proofs.Common.{◌≡◌, ℕ, List, [], ◌∷◌, Bool, true, false, if◌then◌else◌, Result, Ok, Err, inl, inr, refl, sym, ap, subst, ◌∙◌, arith}
+use Rattle.std.proofs.Common.{◌≡◌, ℕ, List, [], ◌∷◌, ◌++◌, Bool, true, false, if◌then◌else◌, Result, Ok, Err, inl, inr, refl, sym, ap, subst, ◌∙◌, arith}
 use Rattle.std.specs.Prelude.{Contains, not}
 use Rattle.std.proofs.lemmas.List.Elements.{Contains-append_right, Contains-get_or}
 use Rattle.byte_store.specs.Flat.{Flat}
 use Rattle.byte_store.specs.Lasting.{Acknowledges, Covers, Flushes, Lasts}
+use Rattle.byte_store.proofs.Lasts.{covering, lasts_ahead}
 use Rattle.byte_store.specs.declared.fault.StoreFault.{StoreFault}
 use Rattle.byte_store.specs.Changes.{IsWritten}
 use Rattle.nbd_serve.specs.Answers.{Stores}
@@ -17,41 +18,9 @@ has_head x xs = Contains-get_or (x ∷ xs) 0 x (omega arith)
 pub has_rest : (x b : List ℕ) (xs : List (List ℕ)) → Contains xs b → Contains (x ∷ xs) b
 has_rest x b xs has = Contains-append_right (x ∷ []) xs b has
 
--- a list with those of before and after
-pub covering : (before now : List ℕ) (some : List (List ℕ)) → Covers (before ∷ now ∷ some) some before now
-covering before now some = record {
-  each = λ b has. has_rest before b (now ∷ some) (has_rest now b some has);
-  has_before = has_head before (now ∷ some);
-  has_now = has_rest before now (now ∷ some) (has_head now some);
-}
-
 -- a list covers itself
 pub covers_itself : (more some : List (List ℕ)) (before now : List ℕ) → Covers more some before now → Covers more more now now
 covers_itself more some before now covers = record { each = λ b has. has; has_before = covers.has_now; has_now = covers.has_now }
-
--- a call after which the bytes stay
-pub lasts_on : {S : Type 0} (outlasts : Outlasting S) (moment : S → ℕ) (outlasts_since : OutlastingSince S) (before now : List ℕ) (old mid new : S)
-    → Lasts outlasts moment outlasts_since before now old mid → Lasts outlasts moment outlasts_since now now mid new
-    → Lasts outlasts moment outlasts_since before now old new
-lasts_on outlasts moment outlasts_since before now old mid new first second = record {
-  later = λ killed cut holds.
-      let there = first.behind killed cut (before ∷ now ∷ killed) (before ∷ now ∷ cut) holds (covering before now killed) (covering before now cut) in
-      let one = first.later killed cut holds in
-      let two = second.later (before ∷ now ∷ killed) (before ∷ now ∷ cut) there in omega (arith, one, two);
-  behind = λ killed cut more_killed more_cut holds covers covers_cut.
-      second.behind more_killed more_cut more_killed more_cut (first.behind killed cut more_killed more_cut holds covers covers_cut)
-      (covers_itself more_killed killed before now covers) (covers_itself more_cut cut before now covers_cut);
-  during = λ killed cut more_killed more_cut holds covers covers_cut.
-      second.earlier (moment old) more_killed more_cut more_killed more_cut more_killed more_cut (first.later killed cut holds)
-      (first.during killed cut more_killed more_cut holds covers covers_cut) (first.behind killed cut more_killed more_cut holds covers covers_cut)
-      (λ b has. has) (λ b has. has) (covers_itself more_killed killed before now covers) (covers_itself more_cut cut before now covers_cut);
-  earlier = λ t since_killed since_cut killed cut more_killed more_cut early since holds within within_cut covers covers_cut.
-      let one = first.later killed cut holds in
-      second.earlier t more_killed more_cut more_killed more_cut more_killed more_cut (omega (arith, early, one))
-      (first.earlier t since_killed since_cut killed cut more_killed more_cut early since holds within within_cut covers covers_cut)
-      (first.behind killed cut more_killed more_cut holds covers covers_cut)
-      (λ b has. has) (λ b has. has) (covers_itself more_killed killed before now covers) (covers_itself more_cut cut before now covers_cut);
-}
 
 -- what a kill leaves, after one more call
 pub acknowledges_on : {S : Type 0} (outlasts : Outlasting S) (moment : S → ℕ) (outlasts_since : OutlastingSince S) (before now : List ℕ) (old mid new : S)
@@ -71,7 +40,7 @@ survives_on {S} outlasts moment outlasts_since before now last old mid new same 
 survives_on {S} outlasts moment outlasts_since before now last old mid new same first (inr second) =
     let P : List ℕ → Type 0 = λ b. Lasts outlasts moment outlasts_since before b old new in
     let Q : List ℕ → Type 0 = λ b. Lasts outlasts moment outlasts_since now b mid new in
-    subst P (sym same) (lasts_on outlasts moment outlasts_since before now old mid new first (subst Q same second))
+    subst P (sym same) (lasts_ahead outlasts moment outlasts_since before now old mid new first (subst Q same second))
 
 -- what a kill leaves, after none or one more
 pub acknowledged_on : {S : Type 0} (outlasts : Outlasting S) (moment : S → ℕ) (outlasts_since : OutlastingSince S) (before now last : List ℕ) (old mid new : S)
@@ -90,8 +59,8 @@ acknowledged_on {S} outlasts moment outlasts_since before now last old mid new s
 pub flushed_on : {S : Type 0} (outlasts : Outlasting S) (moment : S → ℕ) (outlasts_since : OutlastingSince S) (before now last : List ℕ) (old mid new : S)
     → Lasts outlasts moment outlasts_since before now old mid → Flushes outlasts last mid new → Flushes outlasts last old new
 flushed_on outlasts moment outlasts_since before now last old mid new first second = λ killed cut holds.
-    second (before ∷ now ∷ killed) (before ∷ now ∷ cut)
-    (first.behind killed cut (before ∷ now ∷ killed) (before ∷ now ∷ cut) holds (covering before now killed) (covering before now cut))
+    second (killed ++ before ∷ now ∷ []) (cut ++ before ∷ now ∷ [])
+    (first.behind killed cut (killed ++ before ∷ now ∷ []) (cut ++ before ∷ now ∷ []) holds (covering killed before now) (covering cut before now))
 
 -- bytes that were changed, and then made durable if that was asked for
 pub leaves_on : {S : Type 0} (represents : S → Flat → Type 0) (outlasts : Outlasting S) (moment : S → ℕ) (outlasts_since : OutlastingSince S) (changed durable : Type 0)

@@ -55,11 +55,11 @@ AreKept holds all final may size F (x ∷ xs) H run (t ∷ ts) =
 AreKept holds all final may size F [] H run (t ∷ ts) = ⊥
 AreKept holds all final may size F (x ∷ xs) H run [] = ⊥
 
--- What stops leave of a session that made exchanges and ended with the bytes `final`. Either the store is the one before, or it was
--- called. The moments of the exchanges rise from that of the store before to that of the store after.
+-- What stops leave of a session that made exchanges and ended with the bytes `final`. Either none was made, and the store is the one
+-- before, or the store was called. The exchanges' moments rise from that of the store before to that of the store after.
 pub record Endures {S : Type 0} (outlasts : Outlasting S) (moment : S → ℕ) (outlasts_since : OutlastingSince S) (may : StoreFault → Type 0) (size : ℕ) (F : Flat) (xs : List Exchange) (H : Flat)
     (run : Runs may size F xs H) (final : List ℕ) (old new : S) : Type 0 where
-  pub lasts : ((new ≡ old) × (final ≡ F.bytes)) ⊎ LastsThrough outlasts moment outlasts_since (final ∷ passed may size F xs H run) old new
+  pub lasts : ((xs ≡ []) × (new ≡ old) × (final ≡ F.bytes)) ⊎ LastsThrough outlasts moment outlasts_since (final ∷ passed may size F xs H run) old new
   pub moments : List ℕ
   pub rise : (killed cut : List (List ℕ)) → outlasts old killed cut → Rise (moment old) moments (moment new)
   pub kept : (killed cut : List (List ℕ)) → outlasts old killed cut
