@@ -1,7 +1,7 @@
 -- Calls of a store one after another, and what stops leave of them.
 use Rattle.std.proofs.Common.{ℕ, arith, List, [], ◌∷◌, ◌++◌, refl}
 use Rattle.std.proofs.lemmas.List.Elements.{Contains-append_left, Contains-append_right}
-use Rattle.byte_store.specs.Lasting.{Covers, Lasts}
+use Rattle.byte_store.specs.Lasting.{Acknowledges, Covers, Lasts}
 
 -- a list with the bytes of before and after a call
 pub covering : (list : List (List ℕ)) (before now : List ℕ) → Covers (list ++ before ∷ now ∷ []) list before now
@@ -53,3 +53,11 @@ module _ {S : Type 0} (outlasts : S → List (List ℕ) → List (List ℕ) → 
       → Lasts outlasts moment outlasts_since before now old mid → Lasts outlasts moment outlasts_since now now mid new → Lasts outlasts moment outlasts_since before now old new
   lasts_ahead before now old mid new one two =
       lasts_both before now now now before now old mid new (λ more some c. c) (λ more some c. record { each = c.each; has_before = c.has_now; has_now = c.has_now }) one two
+
+-- a call that leaves the bytes, and then one that is acknowledged
+pub acknowledges_after : {S : Type 0} (outlasts : S → List (List ℕ) → List (List ℕ) → Type 0) (moment : S → ℕ) (outlasts_since : S → ℕ → List (List ℕ) → List (List ℕ) → Type 0)
+    (before now : List ℕ) (old mid new : S) → Lasts outlasts moment outlasts_since before before old mid → Acknowledges outlasts before now mid new → Acknowledges outlasts before now old new
+acknowledges_after outlasts moment outlasts_since before now old mid new lasts acknowledges killed cut more_cut out c =
+    acknowledges (killed ++ before ∷ before ∷ []) more_cut more_cut
+    (lasts.behind killed cut (killed ++ before ∷ before ∷ []) more_cut out (covering killed before before) (record { each = c.each; has_before = c.has_before; has_now = c.has_before }))
+    (covers_own more_cut cut before now c)

@@ -1,5 +1,5 @@
 -- What a stop leaves of a vault to which a batch is added.
-use Rattle.std.proofs.Common.{◌≡◌, ◌<◌, ◌≤◌, ◌+◌, ◌⊎◌, inl, inr, ⊎_elim, ℕ, zero, suc, arith, true, false, Bool, List, [], ◌∷◌, ◌++◌, length, length-append, take, refl, sym, ◌∙◌, ap, subst}
+use Rattle.std.proofs.Common.{◌≡◌, ◌≤◌, ◌+◌, ◌⊎◌, inl, inr, ⊎_elim, ℕ, zero, suc, arith, true, Bool, List, [], ◌∷◌, ◌++◌, length, length-append, take, sym, ◌∙◌, subst}
 use Rattle.std.specs.Prelude.{Result, Ok, Err, OnOk, is_ok, Some}
 use Rattle.std.proofs.lemmas.Bool.{true≢false}
 use Rattle.std.proofs.lemmas.List.{take_all, take-append-le}
@@ -14,7 +14,7 @@ use Rattle.vault.proofs.Writes.{after_last, front_stands, same_here}
 use Rattle.history.specs.Entries.{Course}
 use Rattle.array_parts.specs.Views.{DriveView}
 use Rattle.cached_drive.specs.Saving.{Units}
-use Rattle.journaled_store.specs.Steps.{HasDrives, HasMarks, IsBeforeOrNow, IsInStep, IsKept, IsLive, IsNoted, UnlessSync, fault_of}
+use Rattle.journaled_store.specs.Steps.{HasDrives, HasMarks, IsBeforeOrNow, IsKept, IsLive, UnlessSync, fault_of}
 use Rattle.journaled_store.proofs.Leading.{step_same}
 
 pub when_ok : {T E P : Type 0} (r : Result T E) → is_ok r ≡ true → OnOk r P → P

@@ -1,8 +1,7 @@
 -- What a stop leaves after a store's calls.
-use Rattle.std.proofs.Common.{◌≡◌, ◌<◌, ◌≤◌, ◌⊎◌, inl, inr, ⊎_elim, ℕ, arith, Bool, true, false, List, [], ◌∷◌, ◌++◌, length, take, refl, sym, ◌∙◌, ap, subst}
+use Rattle.std.proofs.Common.{◌≡◌, ◌≤◌, ◌⊎◌, inl, inr, ℕ, arith, Bool, true, false, List, [], ◌∷◌, ◌++◌, length, take, refl, sym, ◌∙◌, ap, subst}
 use Rattle.std.specs.Prelude.{Contains, Result, Ok, Err, OnOk, is_err, is_ok}
 use Rattle.byte_store.specs.declared.fault.StoreFault.{StoreFault}
-use Rattle.byte_store.specs.declared.fault.StoreFault.TheVariants as StoreFault
 use Rattle.std.proofs.lemmas.Bool.{true≢false}
 use Rattle.std.proofs.lemmas.List.{take_all}
 use Rattle.extent_groups.specs.Groups.{Groups}
@@ -20,10 +19,10 @@ use Rattle.vault.specs.Moments.{IsLogged, LeavesOnly, StandsForSome}
 use Rattle.vault.specs.declared.store.Stop.{Stop}
 use Rattle.vault.specs.declared.store.Stop.TheVariants.{Killed, PowerLost}
 use Rattle.vault.proofs.Runs.{weaker}
-use Rattle.array_parts.specs.Views.{DriveView, lost_of}
+use Rattle.array_parts.specs.Views.{lost_of}
 use Rattle.journaled_store.specs.Steps.{IsBeforeOrNow, IsKept, IsLive, UnlessFailed, UnlessSync, is_sync}
 use Rattle.journaled_store.specs.Outlasting.{OpensAs, OpensBut, Outlasts, OutlastsSince, Point, Works, allowed, parts_of}
-use Rattle.journaled_store.proofs.Opening.{alone, one_of, opens_as, opens_either, opens_left, opens_more, opens_now, opens_on}
+use Rattle.journaled_store.proofs.Opening.{alone, opens_as, opens_either, opens_left, opens_more, opens_now}
 
 pub either : (b : Bool) → (b ≡ true) ⊎ (b ≡ false)
 either true = inl refl
@@ -61,9 +60,19 @@ pub ok_not_err : {T E : Type 0} (r : Result T E) → is_ok r ≡ true → is_err
 ok_not_err (Ok x) is = refl
 ok_not_err (Err e) is = absurd (true≢false (sym is))
 
+pub on_ok_map : {T E P Q : Type 0} (r : Result T E) → (P → Q) → OnOk r P → OnOk r Q
+on_ok_map (Ok x) to p = to p
+on_ok_map (Err e) to p = tt
+
 pub on_ok_by : {T E P : Type 0} (r : Result T E) → (is_ok r ≡ true → P) → OnOk r P
 on_ok_by (Ok x) p = p refl
 on_ok_by (Err e) p = tt
+
+-- said of what has a place in a store
+pub lasts_at : {S P : Type 0} (at : S → P) (outlasts : P → List (List ℕ) → List (List ℕ) → Type 0) (moment : P → ℕ) (outlasts_since : P → ℕ → List (List ℕ) → List (List ℕ) → Type 0)
+    (before now : List ℕ) (old new : S) → Lasts outlasts moment outlasts_since before now (at old) (at new)
+    → Lasts (λ s. outlasts (at s)) (λ s. moment (at s)) (λ s. outlasts_since (at s)) before now old new
+lasts_at at outlasts moment outlasts_since before now old new lasts = record { later = lasts.later; behind = lasts.behind; during = lasts.during; earlier = lasts.earlier }
 
 -- what one batch more says of a store
 pub record Published {V : Type 0} (known : V → Type 0) (seen : V → Image) (may_leave : V → Stop → Image → Type 0) (moment : V → ℕ) (left_since : V → Stop → ℕ → Image → Type 0)

@@ -1,8 +1,6 @@
 -- Of which units an array is opened with which bytes.
-use Rattle.std.proofs.Common.{◌≡◌, ◌<◌, ◌≤◌, inl, inr, ⊎_elim, ℕ, zero, suc, arith, Bool, true, false, Option, Some, List, [], ◌∷◌, length, take, slice_get, refl, sym, ◌∙◌, ap, subst}
-use Rattle.std.specs.Prelude.{Contains, slice_index_or}
-use Rattle.std.proofs.lemmas.Bool.{true≢false}
-use Rattle.std.proofs.lemmas.List.{take_all}
+use Rattle.std.proofs.Common.{◌≡◌, ◌<◌, ◌≤◌, inl, inr, ℕ, zero, suc, arith, Bool, true, false, Option, Some, List, [], ◌∷◌, length, take, slice_get, refl, sym, ◌∙◌, ap, subst}
+use Rattle.std.specs.Prelude.{Contains}
 use Rattle.std.proofs.lemmas.Option.{slice_get_cases}
 use Rattle.extent_groups.specs.Groups.{Groups}
 use Rattle.extent_groups.specs.Missing.{is_missing}
@@ -15,11 +13,10 @@ use Rattle.byte_store.specs.Lasting.{Within}
 use Rattle.vault.specs.Images.{Image, SameOn, flat, is_lost, recovered}
 use Rattle.vault.specs.Moments.{IsLogged, StandsForSome}
 use Rattle.vault.specs.declared.store.Stop.{Stop}
-use Rattle.vault.specs.declared.store.Stop.TheVariants.{Killed, PowerLost}
 use Rattle.vault.proofs.Writes.{front_stands}
 use Rattle.journaled_store.specs.Steps.{IsBeforeOrNow, IsKept}
 use Rattle.journaled_store.specs.Left.{IsLostIn}
-use Rattle.journaled_store.specs.Outlasting.{OpensAs, OpensBut, allowed, parts_of}
+use Rattle.journaled_store.specs.Outlasting.{OpensAs, OpensBut, parts_of}
 use Rattle.journaled_store.proofs.Settled.{kept_on}
 
 -- a list of one has that one alone

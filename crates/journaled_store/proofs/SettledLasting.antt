@@ -1,9 +1,10 @@
 -- What a stop leaves of a store whose journal is settled.
-use Rattle.std.proofs.Common.{◌≡◌, ◌<◌, ◌≤◌, inl, inr, ℕ, arith, Bool, true, false, List, [], ◌∷◌, ◌++◌, length, take, slice_get, refl, sym, ◌∙◌, ap, subst}
-use Rattle.std.specs.Prelude.{Contains, slice_index_or}
+use Rattle.std.proofs.Common.{◌≡◌, ◌<◌, ◌≤◌, inl, inr, ℕ, arith, Bool, true, false, List, [], ◌∷◌, ◌++◌, length, refl, sym, ◌∙◌, ap, subst}
+use Rattle.std.specs.Prelude.{slice_index_or}
 use Rattle.std.proofs.lemmas.Bool.{true≢false}
 use Rattle.std.proofs.lemmas.List.{take_all}
 use Rattle.std.proofs.lemmas.Option.{slice_get-get_or, slice_get_cases}
+use Rattle.extent_groups.specs.Groups.{Groups}
 use Rattle.extent_groups.specs.Cells.{Cells}
 use Rattle.extent_groups.specs.Planned.{Wanted, after}
 use Rattle.array_parts.specs.Views.{DriveView, lost_of}
@@ -17,7 +18,7 @@ use Rattle.vault.specs.Images.{Image, SameOn, Stands, flat, is_lost, is_on, reco
 use Rattle.vault.specs.Moments.{AreLogged, IsLogged, LeavesOnly}
 use Rattle.vault.specs.declared.store.Stop.{Stop}
 use Rattle.vault.specs.declared.store.Stop.TheVariants.{Killed}
-use Rattle.journaled_store.specs.Steps.{IsKept, IsLive, UnlessFailed}
+use Rattle.journaled_store.specs.Steps.{IsBeforeOrNow, IsKept, IsLive, UnlessFailed}
 use Rattle.journaled_store.specs.Outlasting.{OpensAs, OpensBut, Outlasts, OutlastsSince, Point, Works, allowed, parts_of}
 use Rattle.journaled_store.proofs.Lasting.{Published, allowed_has, allowed_within, at_moment, either, old_as, run, works_before}
 use Rattle.journaled_store.proofs.Opening.{opens_as, opens_now, opens_on}
@@ -60,9 +61,9 @@ module _ (marks : List Bool) (long : length marks ≡ 16) (gone : ℕ → Bool) 
 
   subset : (lost : List Bool) → ((d : ℕ) → 16 ≤ d → is_lost lost d ≡ false) → ((d : ℕ) → is_lost lost d ≡ true → gone d ≡ true) → (d : ℕ) → is_lost marks d ≡ false → is_lost lost d ≡ false
   subset lost few was d not = elim (either (is_lost lost d)) [
-    | inr no ↦ no
-    | inl yes ↦ (elim (slice_get_cases marks d).1 [
-      | inl there ↦ (let low = there.1 in absurd (true≢false (sym (marked d (omega (arith, low, long)) ∙ was d yes) ∙ not)))
+    | inr off ↦ off
+    | inl on ↦ (elim (slice_get_cases marks d).1 [
+      | inl there ↦ (let low = there.1 in absurd (true≢false (sym (marked d (omega (arith, low, long)) ∙ was d on) ∙ not)))
       | inr past ↦ (let high = past.0 in few d (omega (arith, high, long)))
     ])
   ]
@@ -82,9 +83,11 @@ module _ {V : Type 0} (known : V → Type 0) (seen : V → Image) (may_leave : V
   abbrev q : Point V
   q = record { keeper = m.keeper; noted = m.noted; batch = m.batch; failed = failed; tiers = m.tiers; vault = vault }
 
-  abbrev groups_now = (parts_of m.tiers).groups
+  abbrev groups_now : Groups
+  groups_now = (parts_of m.tiers).groups
 
-  abbrev many_now = length (parts_of m.tiers).drives
+  abbrev many_now : ℕ
+  many_now = length (parts_of m.tiers).drives
 
   module _ (killed cut more_killed more_cut : List (List ℕ)) (out : Outlasts known seen may_leave p killed cut)
       (kc : Covers more_killed killed now now) (cc : Covers more_cut cut now now) where
@@ -120,7 +123,7 @@ module _ {V : Type 0} (known : V → Type 0) (seen : V → Image) (may_leave : V
         opens_as marks table_at groups_now many_now (allowed stop more_killed more_cut) (recovered i)
         (opens_on marks table_at groups_now many_now (allowed stop more_killed more_cut) (recovered (seen m.vault)) (recovered i) stands (now_opens stop (recovered (seen m.vault)) kept_mid))
 
-    first : (stop : Stop) → LeavesOnly moment left_since stop p.vault m.vault _
+    first : (stop : Stop) → LeavesOnly moment left_since stop p.vault m.vault (IsBeforeOrNow w.lost (seen p.vault) (w.low stop) (parts_of p.tiers).drives)
     first stop = run known seen may_leave moment left_since counts_now only_now p m now holds f killed cut more_killed more_cut out kc cc works stop
 
     left_at : (t : ℕ) → t ≤ moment p.vault → (stop : Stop) (i : Image) → left_since vault stop t i

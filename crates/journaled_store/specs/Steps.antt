@@ -1,5 +1,5 @@
 -- When a vault's units and a batch are those of an array's drives.
-use Rattle.std.specs.Prelude.{◌≡◌, ◌⊎◌, ◌<◌, ◌≤◌, ◌++◌, ℕ, zero, suc, Bool, true, false, Option, Some, Result, Ok, Err, List, [], ◌∷◌, map, slice_get, slice_index_or, if◌then◌else◌}
+use Rattle.std.specs.Prelude.{◌≡◌, ◌⊎◌, ◌<◌, ◌≤◌, ◌++◌, ℕ, zero, suc, Bool, true, false, Some, Result, Ok, Err, List, [], ◌∷◌, slice_get, slice_index_or}
 use Rattle.std.proofs.Common.{refl, ◌∙◌}
 use Rattle.extents.specs.Failures.{unsteady}
 use Rattle.extents.specs.Units.{loss}
@@ -9,9 +9,7 @@ use Rattle.vault.specs.Images.{Image, Stands, is_lost, recovered}
 use Rattle.vault.specs.Moments.{AreLogged, StandsForSome}
 use Rattle.vault.specs.declared.store.Stop.{Stop}
 use Rattle.vault.specs.declared.store.VaultError.{VaultError}
-use Rattle.vault.specs.declared.store.VaultError.TheVariants as VaultError
 use Rattle.byte_store.specs.declared.fault.StoreFault.{StoreFault}
-use Rattle.byte_store.specs.declared.fault.StoreFault.TheVariants as StoreFault
 use Rattle.history.specs.declared.view.Entry.{Entry}
 use Rattle.history.specs.Entries.{Course}
 use Rattle.array_parts.specs.Views.{DriveView}

@@ -1,8 +1,7 @@
-use Rattle.std.proofs.Common.{◌≡◌, ◌≤◌, ℕ, List, [], length, arith, sym, ap, subst, ◌∙◌, refl}
-use Rattle.extent_groups.specs.Cells.{Cells}
+use Rattle.std.proofs.Common.{◌≤◌, arith, sym, subst, ◌∙◌, refl}
 use Rattle.history.specs.Entries.{Course}
 use Rattle.cached_drive.specs.Saving.{Units}
-use Rattle.journaled_store.specs.Steps.{IsInStep, LeadsTo, views_to}
+use Rattle.journaled_store.specs.Steps.{IsInStep}
 use Rattle.journaled_store.proofs.Leading.{shown_has}
 use Rattle.journaled_store.proofs.Noting.{leads_noted, table_step, table_noted, table_has, shown_marks}
 use Rattle.journaled_store.proofs.Batching.{when_ok}

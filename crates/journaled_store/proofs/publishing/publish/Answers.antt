@@ -1,8 +1,7 @@
-use Rattle.std.proofs.Common.{◌≡◌, ◌++◌, ◌∷◌, ℕ, List, Bool, [], length, refl, sym, ap, subst, ◌∙◌, inl}
+use Rattle.std.proofs.Common.{◌++◌, ◌∷◌, ℕ, List, [], length, refl, sym, subst, inl}
 use Rattle.std.specs.Prelude.{Err}
 use Rattle.byte_store.specs.declared.fault.StoreFault.{StoreFault}
 use Rattle.history.specs.Entries.{Course}
-use Rattle.extent_groups.specs.Cells.{Cells}
 use Rattle.extent_groups.specs.Planned.{Wanted, after}
 use Rattle.vault.specs.Images.{Image, recovered}
 use Rattle.vault.specs.Moments.{IsLogged, StandsForSome}

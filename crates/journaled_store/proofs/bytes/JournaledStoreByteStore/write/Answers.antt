@@ -1,4 +1,7 @@
 use Rattle.std.proofs.Common.{◌∙◌}
+use Rattle.byte_store.proofs.Lasts.{acknowledges_after, lasts_after}
+use Rattle.journaled_store.specs.Outlasting.{Outlasts, OutlastsSince, point}
+use Rattle.journaled_store.proofs.Lasting.{lasts_at, on_ok_map}
 use Rattle.journaled_store.proofs.Storing.{same_sizes}
 use Rattle.journaled_store.proofs.bytes.JournaledStoreByteStore.write.Goals as goal
 
@@ -10,3 +13,17 @@ returns-clause-sizes g c =
     let mid = c.make_room.ensures.sizes in
     let sizes = c.kept_write.ensures.sizes in
     same_sizes c.args.self.now.store c.kept_write.new.self.store (sizes.0 ∙ mid.0, sizes.1 ∙ mid.1)
+
+pub returns-clause-lasts : goal.returns-clause-lasts
+returns-clause-lasts g c F G is made =
+    let v = g.V.Vault in
+    lasts_at point (Outlasts v.known v.seen v.may_leave) (λ r. v.moment r.vault) (OutlastsSince v.left_since) F.bytes G.bytes c.args.self.now c.kept_write.new.self
+    (lasts_after (Outlasts v.known v.seen v.may_leave) (λ r. v.moment r.vault) (OutlastsSince v.left_since) F.bytes G.bytes (point c.args.self.now) (point c.make_room.new.self) (point c.kept_write.new.self)
+    (c.make_room.ensures.lasts F is) (c.kept_write.ensures.lasts F G (c.make_room.ensures.bytes F is) made))
+
+pub returns-clause-acknowledged : goal.returns-clause-acknowledged
+returns-clause-acknowledged g c F G is made =
+    let v = g.V.Vault in
+    on_ok_map c.kept_write.result (λ acknowledges killed cut more_cut out covers.
+    acknowledges_after (Outlasts v.known v.seen v.may_leave) (λ r. v.moment r.vault) (OutlastsSince v.left_since) F.bytes G.bytes (point c.args.self.now) (point c.make_room.new.self) (point c.kept_write.new.self)
+    (c.make_room.ensures.lasts F is) acknowledges killed cut more_cut out covers) (c.kept_write.ensures.acknowledged F G (c.make_room.ensures.bytes F is) made)

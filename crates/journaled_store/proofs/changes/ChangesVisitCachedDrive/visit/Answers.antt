@@ -1,7 +1,7 @@
-use Rattle.std.proofs.Common.{◌≡◌, ◌<◌, ◌+◌, ◌++◌, ◌∷◌, [], ℕ, List, Bool, length, true, false, arith, slice_set, ap, sym, subst, ◌∙◌}
+use Rattle.std.proofs.Common.{◌≡◌, ◌<◌, ◌+◌, ◌++◌, ◌∷◌, [], List, Bool, length, arith, slice_set, ap, sym, subst, ◌∙◌}
 use Rattle.history.specs.Entries.{Course, entry}
 use Rattle.cached_drive.specs.Saving.{Units, Brings, saved_by}
-use Rattle.journaled_store.specs.Steps.{LeadsTo, views_to}
+use Rattle.journaled_store.specs.Steps.{views_to}
 use Rattle.journaled_store.proofs.Leading.{leads_by, seen, seen_more}
 use Rattle.journaled_store.proofs.changes.ChangesVisitCachedDrive.visit.Goals as goal
 

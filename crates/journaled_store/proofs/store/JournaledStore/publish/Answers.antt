@@ -5,7 +5,6 @@ use Rattle.background.specs.Views.{TiersView}
 use Rattle.vault.proofs.Runs.{started}
 use Rattle.vault.specs.Images.{recovered}
 use Rattle.journaled_store.specs.Steps.{IsBeforeOrNow, IsKept}
-use Rattle.array_store.specs.Stores.{StoreView}
 use Rattle.journaled_store.specs.Outlasting.{point}
 use Rattle.journaled_store.proofs.Batching.{logged_now, when_ok}
 use Rattle.journaled_store.proofs.Lasting.{follows_same, moved_lasts, ok_not_sync, on_ok_by, published_acknowledges, published_lasts, unless_sync}

@@ -1,4 +1,4 @@
-use Rattle.std.proofs.Common.{ℕ, List, Bool, [], ◌∷◌, ◌++◌, length, refl, arith, ap, sym, subst, ◌∙◌}
+use Rattle.std.proofs.Common.{[], ◌∷◌, ◌++◌, length, refl, arith, ap, sym, subst, ◌∙◌}
 use Rattle.std.proofs.lemmas.Result.{err_from_is_err_and}
 use Rattle.byte_store.proofs.Lasts.{covering, lasts_after}
 use Rattle.vault.specs.Images.{Image, recovered}

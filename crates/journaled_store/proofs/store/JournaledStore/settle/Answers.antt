@@ -1,14 +1,18 @@
-use Rattle.std.proofs.Common.{◌≡◌, ◌≢◌, inr, ℕ, List, Bool, true, false, length, ap, sym, subst, ◌∙◌}
-use Rattle.std.specs.Prelude.{Result, Ok, Err}
+use Rattle.std.proofs.Common.{rules, ◌≡◌, ◌≢◌, ◌<◌, slice_index_or, inr, ℕ, List, Bool, true, length, ap, sym, subst, ◌∙◌}
+use Rattle.std.specs.Prelude.{Result}
 use Rattle.std.proofs.lemmas.Bool.{true≢false}
-use Rattle.byte_store.specs.Flat.{Flat}
 use Rattle.vault.specs.Images.{Image, SameOn, Stands, recovered}
 use Rattle.vault.specs.Moments.{AreLogged, IsLogged, LeavesOnly}
 use Rattle.vault.specs.declared.store.Stop.{Stop}
 use Rattle.vault.specs.declared.store.VaultError.{VaultError}
 use Rattle.vault.specs.declared.store.VaultError.TheVariants as error
 use Rattle.vault.proofs.Runs.{both_runs}
-use Rattle.array_store.specs.Stores.{IsStoreOf, StoreView}
+use Rattle.array_parts.specs.Views.{lost_of}
+use Rattle.array_store.specs.Stores.{Follows, IsStoreOf, StoreView}
+use Rattle.byte_store.proofs.Lasts.{lasts_after}
+use Rattle.journaled_store.specs.Outlasting.{Outlasts, OutlastsSince, Point, point}
+use Rattle.journaled_store.proofs.Lasting.{follows_same, moved_lasts}
+use Rattle.journaled_store.proofs.SettledLasting.{settled_lasts}
 use Rattle.journaled_store.specs.Steps.{IsBeforeOrNow, IsKept, IsLive, UnlessFailed, UnlessJournal}
 use Rattle.journaled_store.proofs.Settled.{kept_on, live_on, not_journal, table_there}
 use Rattle.journaled_store.proofs.store.JournaledStore.settle.Goals as goal
@@ -160,3 +164,84 @@ returns-in-Err-clause-any_moment g c known live low logged stop =
     subst (λ (l : List Bool). LeavesOnly v.moment v.left_since stop old c.give_up.new.self.vault (IsBeforeOrNow l (v.seen old) (low stop) c.args.self.now.store.tiers.world.array.parts.drives)) (sym c.give_up.ensures.lost)
     (subst (λ w. LeavesOnly v.moment v.left_since stop old w (IsBeforeOrNow lost (v.seen old) (low stop) c.args.self.now.store.tiers.world.array.parts.drives)) (sym c.give_up.ensures.vault)
     (subst (λ (s : StoreView). LeavesOnly v.moment v.left_since stop old c.settle_vault.new.vault (IsBeforeOrNow lost (v.seen old) (low stop) s.tiers.world.array.parts.drives)) c.publish_durably-published.ensures.same.0 run))
+
+pub returns-in_err-published-clause-follows : goal.returns-in_err-published-clause-follows
+returns-in_err-published-clause-follows g c F is =
+    let was = c.args.self.now.store in
+    subst (λ (s : StoreView). Follows was.tiers s.tiers) (sym c.publish_durably-published.ensures.same.0) (follows_same was.tiers)
+
+pub returns-in_err-published-clause-lasts : goal.returns-in_err-published-clause-lasts
+returns-in_err-published-clause-lasts g c F is = (c.publish_durably-published.ensures.lasts F is).0
+
+pub returns-in-Ok-clause-follows : goal.returns-in-Ok-clause-follows
+returns-in-Ok-clause-follows g c F is =
+    let was = c.args.self.now.store in
+    subst (λ (s : StoreView). Follows was.tiers s.tiers) (sym c.publish_durably-published.ensures.same.0) (follows_same was.tiers)
+
+pub returns-in-Ok-clause-lasts : goal.returns-in-Ok-clause-lasts
+returns-in-Ok-clause-lasts g c F is =
+    let v = g.V.Vault in
+    let e = c.publish_durably-published.ensures in
+    let same = e.same.0 in
+    let o = c.in_ok-published.ensures in
+    let n = c.settle_vault.ensures in
+    let p = point c.args.self.now in
+    let m = point c.publish_durably-published.new.self in
+    let are : (d : ℕ) → d < 16 → slice_index_or c.lost-lost.result d true ≡ lost_of c.args.self.now.store.tiers.world.array.parts d = search rules in
+    settled_lasts v.known v.seen v.may_leave v.moment v.left_since g.met.V.Vault.counts_now g.met.V.Vault.only_now p m F.bytes is.holds (record {
+      tiers = ap (λ (s : StoreView). s.tiers) same;
+      stays = e.stays;
+      still = e.still;
+      step = e.step;
+      killed = e.killed;
+      logged = e.logged;
+      batches = e.batches;
+      any_moment = λ known lost live stop low logged. subst (λ (s : StoreView). LeavesOnly v.moment v.left_since stop c.args.self.now.vault c.publish_durably-published.new.self.vault
+          (IsBeforeOrNow lost (v.seen c.args.self.now.vault) low s.tiers.world.array.parts.drives)) same (e.any_moment known lost live stop low logged);
+    }) o.works o.kept o.flushed c.lost-lost.result n.long
+    (λ d low. subst (λ (s : StoreView). slice_index_or c.lost-lost.result d true ≡ lost_of s.tiers.world.array.parts d) (sym same) (are d low))
+    c.settle_vault.new.vault m.failed n.stays (λ known all on. c.in-Ok.ensures.units known all) (λ known all on. c.in-Ok.ensures.logged known all) n.any_moment
+
+pub returns-in-Err-clause-follows : goal.returns-in-Err-clause-follows
+returns-in-Err-clause-follows g c F is =
+    let was = c.args.self.now.store in
+    let same = c.publish_durably-published.ensures.same in
+    subst (λ (s : StoreView). Follows s.tiers c.give_up.new.self.store.tiers) same.0
+    (c.give_up.ensures.follows F (subst (λ (s : StoreView). IsStoreOf s.tiers s.size c.publish_durably-published.new.self.unsynced F) (sym same.0)
+    (subst (λ b. IsStoreOf was.tiers was.size b F) (sym same.1) is)))
+
+pub returns-in-Err-clause-lasts : goal.returns-in-Err-clause-lasts
+returns-in-Err-clause-lasts g c F is =
+    let v = g.V.Vault in
+    let e = c.publish_durably-published.ensures in
+    let same = e.same.0 in
+    let o = c.in_ok-published.ensures in
+    let n = c.settle_vault.ensures in
+    let p = point c.args.self.now in
+    let m = point c.publish_durably-published.new.self in
+    let q = point c.give_up.new.self in
+    let mid : Point _ = record { keeper = m.keeper; noted = m.noted; batch = m.batch; failed = q.failed; tiers = m.tiers; vault = c.settle_vault.new.vault } in
+    let was = c.args.self.now.store in
+    let are : (d : ℕ) → d < 16 → slice_index_or c.lost-lost.result d true ≡ lost_of c.args.self.now.store.tiers.world.array.parts d = search rules in
+    let follows : Follows m.tiers q.tiers = c.give_up.ensures.follows F (subst (λ (s : StoreView). IsStoreOf s.tiers s.size c.publish_durably-published.new.self.unsynced F) (sym same)
+    (subst (λ b. IsStoreOf was.tiers was.size b F) (sym e.same.1) is)) in
+    lasts_after (Outlasts v.known v.seen v.may_leave) (λ r. v.moment r.vault) (OutlastsSince v.left_since) F.bytes F.bytes p mid q
+    (settled_lasts v.known v.seen v.may_leave v.moment v.left_since g.met.V.Vault.counts_now g.met.V.Vault.only_now p m F.bytes is.holds (record {
+      tiers = ap (λ (s : StoreView). s.tiers) same;
+      stays = e.stays;
+      still = e.still;
+      step = e.step;
+      killed = e.killed;
+      logged = e.logged;
+      batches = e.batches;
+      any_moment = λ known lost live stop low logged. subst (λ (s : StoreView). LeavesOnly v.moment v.left_since stop c.args.self.now.vault c.publish_durably-published.new.self.vault
+          (IsBeforeOrNow lost (v.seen c.args.self.now.vault) low s.tiers.world.array.parts.drives)) same (e.any_moment known lost live stop low logged);
+    }) o.works o.kept o.flushed c.lost-lost.result n.long
+    (λ d low. subst (λ (s : StoreView). slice_index_or c.lost-lost.result d true ≡ lost_of s.tiers.world.array.parts d) (sym same) (are d low))
+    c.settle_vault.new.vault q.failed n.stays
+    (λ known all on. not_journal c.in-Err.error _ (λ j. true≢false (sym (c.give_up.ensures.failed j) ∙ on))
+    (subst (λ (r : Result (Unit {0}) VaultError). UnlessJournal r (SameOn c.lost-lost.result (recovered (v.seen c.settle_vault.new.vault)) (recovered (v.seen m.vault)))) c.in-Err.is (n.units known all)))
+    (λ known all on. not_journal c.in-Err.error _ (λ j. true≢false (sym (c.give_up.ensures.failed j) ∙ on))
+    (subst (λ (r : Result (Unit {0}) VaultError). UnlessJournal r (AreLogged v.seen v.may_leave c.lost-lost.result c.settle_vault.new.vault)) c.in-Err.is (n.logged known all)))
+    n.any_moment)
+    (moved_lasts v.known v.seen v.may_leave v.moment v.left_since g.met.V.Vault.counts_now g.met.V.Vault.only_now mid q c.give_up.ensures.vault follows (λ on. on) c.give_up.ensures.step F.bytes F.bytes)
