@@ -95,7 +95,6 @@ pub record Published {V : Type 0} (known : V → Type 0) (seen : V → Image) (m
 module _ {V : Type 0} (known : V → Type 0) (seen : V → Image) (may_leave : V → Stop → Image → Type 0) (moment : V → ℕ) (left_since : V → Stop → ℕ → Image → Type 0)
     (counts_now : (vault : V) → known vault → (stop : Stop) (t : ℕ) (i : Image) → t ≤ moment vault → may_leave vault stop i → left_since vault stop t i)
     (only_now : (vault : V) → known vault → (stop : Stop) (i : Image) → left_since vault stop (moment vault) i → may_leave vault stop i) where
-
   pub table : (p : Point V) (killed cut : List (List ℕ)) (w : Works seen may_leave p killed cut) → is_lost w.lost 16 ≡ false
   table p killed cut w = w.few 16 (omega arith)
 
@@ -119,19 +118,19 @@ module _ {V : Type 0} (known : V → Type 0) (seen : V → Image) (may_leave : V
       with_vault : (v : V) → v ≡ p.vault → Outlasts known seen may_leave (record { keeper = q.keeper; noted = q.noted; batch = q.batch; failed = q.failed; tiers = q.tiers; vault = v }) more_killed more_cut
       with_vault v same = subst (λ u. Outlasts known seen may_leave (record { keeper = q.keeper; noted = q.noted; batch = q.batch; failed = q.failed; tiers = q.tiers; vault = u }) more_killed more_cut)
           (sym same) (record {
-        is_known = out.is_known;
-        leaves = λ stop i may. as_then (allowed stop killed cut) (allowed stop more_killed more_cut) (recovered i) (allowed_within stop killed cut more_killed more_cut k c) (out.leaves stop i may);
-        works = λ is. let w = out.works (works is) in record {
-          lost = w.lost;
-          few = w.few;
-          gone = λ d one. follows.lost d (w.gone d one);
-          live = step w.lost (recovered (seen p.vault)) w.live;
-          low = w.low;
-          logged = w.logged;
-          all = w.all;
-          opens = λ stop n least most. but_then w.lost (table p killed cut w) (allowed stop killed cut) (allowed stop more_killed more_cut) _ (allowed_within stop killed cut more_killed more_cut k c) (w.opens stop n least most);
-        };
-      })
+            is_known = out.is_known;
+            leaves = λ stop i may. as_then (allowed stop killed cut) (allowed stop more_killed more_cut) (recovered i) (allowed_within stop killed cut more_killed more_cut k c) (out.leaves stop i may);
+            works = λ is. let w = out.works (works is) in record {
+              lost = w.lost;
+              few = w.few;
+              gone = λ d one. follows.lost d (w.gone d one);
+              live = step w.lost (recovered (seen p.vault)) w.live;
+              low = w.low;
+              logged = w.logged;
+              all = w.all;
+              opens = λ stop n least most. but_then w.lost (table p killed cut w) (allowed stop killed cut) (allowed stop more_killed more_cut) _ (allowed_within stop killed cut more_killed more_cut k c) (w.opens stop n least most);
+            };
+          })
 
       pub moved : Outlasts known seen may_leave q more_killed more_cut
       moved = with_vault q.vault vault
@@ -150,6 +149,16 @@ module _ {V : Type 0} (known : V → Type 0) (seen : V → Image) (may_leave : V
           (λ stop i left. out.leaves stop i (only_now p.vault out.is_known stop i left));
       earlier = λ t since_killed since_cut killed cut more_killed more_cut le since out wk wc k c. moved_since t since_killed since_cut more_killed more_cut wk wc since;
     }
+
+  -- what a store that works leaves
+  pub begun : (p : Point V) (killed cut : List (List ℕ)) → known p.vault → Works seen may_leave p killed cut → Outlasts known seen may_leave p killed cut
+  begun p killed cut is_known w = record {
+    is_known = is_known;
+    leaves = λ stop i may. opens_as w.lost (table p killed cut w) (parts_of p.tiers).groups (length (parts_of p.tiers).drives) (allowed stop killed cut) (recovered i)
+        (opens_left w.lost (table p killed cut w) (parts_of p.tiers).groups (length (parts_of p.tiers).drives) seen may_leave (allowed stop killed cut) stop p.vault (w.low stop) i
+        (w.logged stop) may (w.opens stop));
+    works = λ on. w;
+  }
 
   -- the array was called, and then something else
   abbrev pub with_tiers : Point V → TiersView → Point V
@@ -363,9 +372,9 @@ module _ {V : Type 0} (known : V → Type 0) (seen : V → Image) (may_leave : V
   module _ (m q : Point V) (on : m.failed ≡ false) (keeper : q.keeper ≡ m.keeper) (noted : q.noted ≡ m.noted) (batch : q.batch ≡ m.batch) (tiers : q.tiers ≡ m.tiers)
       (stays : known m.vault → known q.vault) (same : known m.vault → seen q.vault ≡ seen m.vault)
       (durable : q.failed ≡ false → known m.vault → (lost : List Bool) (stop : Stop) (low : ℕ) → IsLogged seen may_leave lost stop m.vault low
-          → IsLogged seen may_leave lost stop q.vault (length (seen q.vault).journal))
+      → IsLogged seen may_leave lost stop q.vault (length (seen q.vault).journal))
       (any_moment : known m.vault → (lost : List Bool) (stop : Stop) (low : ℕ) → IsLogged seen may_leave lost stop m.vault low
-          → LeavesOnly moment left_since stop m.vault q.vault (StandsForSome lost (seen m.vault).cells low (seen m.vault).journal)) where
+      → LeavesOnly moment left_since stop m.vault q.vault (StandsForSome lost (seen m.vault).cells low (seen m.vault).journal)) where
     live_at : (lost : List Bool) (c : Cells) → IsLive lost m.keeper m.noted m.batch c → IsLive lost q.keeper q.noted q.batch c
     live_at lost c live =
         subst (λ (k : Course Units). IsLive lost k q.noted q.batch c) (sym keeper)

@@ -74,7 +74,7 @@ module _ {V : Type 0} (known : V → Type 0) (seen : V → Image) (may_leave : V
     (p m : Point V) (now : List ℕ) (holds : Holds p.tiers now) (f : Published known seen may_leave moment left_since p m) (on : m.failed ≡ false)
     (kept : known p.vault → (lost : List Bool) → UnlessFailed p.failed (IsLive lost p.keeper p.noted p.batch (recovered (seen p.vault))) → IsKept lost (parts_of m.tiers).drives (recovered (seen m.vault)))
     (durable : known p.vault → (lost : List Bool) (stop : Stop) (low : ℕ) → UnlessFailed p.failed (IsLogged seen may_leave lost stop p.vault low)
-        → IsLogged seen may_leave lost stop m.vault (length (seen m.vault).journal))
+    → IsLogged seen may_leave lost stop m.vault (length (seen m.vault).journal))
     (marks : List Bool) (long : length marks ≡ 16) (are : (d : ℕ) → d < 16 → slice_index_or marks d true ≡ lost_of (parts_of m.tiers) d)
     (vault : V) (failed : Bool) (stays : known m.vault → known vault)
     (units : known m.vault → AreLogged seen may_leave marks m.vault → failed ≡ false → SameOn marks (recovered (seen vault)) (recovered (seen m.vault)))

@@ -9,7 +9,7 @@ ghost use Rattle.vault.specs.Moments.{LeavesOnly, IsLogged, StandsForSome};
 ghost use Rattle.vault.specs.declared.store.Stop.{Stop};
 ghost use Rattle.vault.specs.declared.store.Stop.TheVariants.{Killed};
 ghost use Rattle.journaled_store.specs.Steps.{IsBeforeOrNow, IsKept, IsLive, UnlessFailed, is_sync};
-ghost use Rattle.journaled_store.specs.Outlasting.{Outlasts, OutlastsSince, point};
+ghost use Rattle.journaled_store.specs.Outlasting.{Outlasts, OutlastsSince, Works, point};
 
 use crate::changes::Changes;
 use crate::publishing::{publish, sync};
@@ -69,6 +69,8 @@ impl<N: Chronicle, V: Vault + Drop> JournaledStore<N, V> {
     ) -> JournaledStore<N, V>
         ensures parts { (result.store ≡ store) × (result.changes ≡ changes) × (result.vault ≡ vault) }
         ensures flags { (result.unsynced ≡ false) × (result.failed ≡ false) }
+        ensures lasts { V.known vault → (killed cut : List (List ℕ)) → Works V.seen V.may_leave (point result) killed cut
+            → Outlasts V.known V.seen V.may_leave (point result) killed cut }
     {
         JournaledStore {
             store,

@@ -80,4 +80,6 @@ impl ByteStore for Refusing {
     fn flush(&mut self) -> Result<(), StoreFault> {
         Err(self.fault)
     }
+
+    fn rest(&mut self, _alloc: Global) {}
 }

@@ -71,17 +71,16 @@ returns-clause-lasts g c F is =
     let m = point c.publish.new.self in
     let e = c.sync-synced.ensures in
     let q : Point _ = record { keeper = m.keeper; noted = m.noted; batch = m.batch; failed = c.is_err-self.result; tiers = m.tiers; vault = c.sync-synced.new.vault } in
-    let holds : Holds m.tiers F.bytes = subst (λ (s : StoreView). Holds s.tiers F.bytes) (sym c.publish.ensures.same.0) is.holds in
-    (
+    let holds : Holds m.tiers F.bytes = subst (λ (s : StoreView). Holds s.tiers F.bytes) (sym c.publish.ensures.same.0) is.holds in (
       lasts_after (Outlasts v.known v.seen v.may_leave) (λ r. v.moment r.vault) (OutlastsSince v.left_since) F.bytes F.bytes (point c.args.self.now) m q (c.publish.ensures.lasts F is)
-      (published_lasts v.known v.seen v.may_leave v.moment v.left_since g.met.V.Vault.counts_now g.met.V.Vault.only_now m q F.bytes holds
-      (synced v.known v.seen v.may_leave v.moment v.left_since g.met.V.Vault.counts_now g.met.V.Vault.only_now m q c.in_ok-publish.ensures.works refl refl refl refl e.stays e.seen
-      (λ on known lost stop low logged. unless_err c.sync-synced.result (sym c.is_err-self.ensures.value ∙ on) (e.flushed known lost stop low logged))
-      e.any_moment)),
+          (published_lasts v.known v.seen v.may_leave v.moment v.left_since g.met.V.Vault.counts_now g.met.V.Vault.only_now m q F.bytes holds
+          (synced v.known v.seen v.may_leave v.moment v.left_since g.met.V.Vault.counts_now g.met.V.Vault.only_now m q c.in_ok-publish.ensures.works refl refl refl refl e.stays e.seen
+          (λ on known lost stop low logged. unless_err c.sync-synced.result (sym c.is_err-self.ensures.value ∙ on) (e.flushed known lost stop low logged))
+          e.any_moment)),
       on_ok_by c.sync-synced.result (λ ok killed cut out.
-      synced_outlasts v.known v.seen v.may_leave v.moment v.left_since g.met.V.Vault.counts_now g.met.V.Vault.only_now m q c.in_ok-publish.ensures.works refl refl refl refl e.stays e.seen
-      (λ on known lost stop low logged. unless_err c.sync-synced.result (sym c.is_err-self.ensures.value ∙ on) (e.flushed known lost stop low logged))
-      e.any_moment
-      (c.is_err-self.ensures.value ∙ ok_not_err c.sync-synced.result ok) (F.bytes ∷ []) (cut ++ F.bytes ∷ F.bytes ∷ [])
-      (c.in_ok-publish.ensures.acknowledged F is killed cut (cut ++ F.bytes ∷ F.bytes ∷ []) out (covering cut F.bytes F.bytes))),
+          synced_outlasts v.known v.seen v.may_leave v.moment v.left_since g.met.V.Vault.counts_now g.met.V.Vault.only_now m q c.in_ok-publish.ensures.works refl refl refl refl e.stays e.seen
+          (λ on known lost stop low logged. unless_err c.sync-synced.result (sym c.is_err-self.ensures.value ∙ on) (e.flushed known lost stop low logged))
+          e.any_moment
+          (c.is_err-self.ensures.value ∙ ok_not_err c.sync-synced.result ok) (F.bytes ∷ []) (cut ++ F.bytes ∷ F.bytes ∷ [])
+          (c.in_ok-publish.ensures.acknowledged F is killed cut (cut ++ F.bytes ∷ F.bytes ∷ []) out (covering cut F.bytes F.bytes))),
     )

@@ -1,0 +1,8 @@
+use Rattle.journaled_store.specs.Outlasting.{point}
+use Rattle.journaled_store.proofs.Lasting.{begun}
+use Rattle.journaled_store.proofs.store.JournaledStore.new.Goals as goal
+
+pub returns-clause-lasts : goal.returns-clause-lasts
+returns-clause-lasts g c known killed cut works =
+    let v = g.V.Vault in
+    begun v.known v.seen v.may_leave v.moment v.left_since g.met.V.Vault.counts_now g.met.V.Vault.only_now _ killed cut known works
